@@ -67,8 +67,10 @@ impl Source for MemSource {
     fn read(&mut self, buf: &mut [u8]) -> Result<usize, Failed>
         requires { 0 < length buf.old }
         ensures count { IfOk result (λ n. n ≡ min (min self.old.piece (length buf.old)) (length self.old.rest)) }
-        ensures bytes { IfOk result (λ n. take n buf.new ≡ take n self.old.rest) }
-        ensures rest { MatchResult result (λ n. self.new.rest ≡ drop n self.old.rest) (λ _. self.new.rest ≡ self.old.rest) }
+        ensures bound { IfOk result (λ n. n ≤ length buf.new) }
+        ensures bytes { IfOk result (λ n. self.old.rest ≡ take n buf.new ++ self.new.rest) }
+        ensures end { IfOk result (λ n. n ≡ 0 → self.old.rest ≡ []) }
+        ensures same { OnErr result (self.new.rest ≡ self.old.rest) }
 
         ensures fails { IsErr result ↔ IsDue self.old.plan }
         ensures called { self.new.plan ≡ after_call self.old.plan }
