@@ -3,7 +3,7 @@ ghost use Rattle.std.specs.Prelude.{◌≡◌, ◌≤◌, ◌++◌, ◌↔◌, �
 ghost use Rattle.std.specs.Option.{option_copied};
 ghost use Rattle.std.specs.FinMap.{empty, get, insert};
 ghost use Rattle.fri_outside.specs.Outside.{WhenTold, Held, found, SaysOf, with_file, with_piece, bytes_at, NoneFell, ReadRaises, WriteRaises};
-ghost use Rattle.fri_outside.specs.Memory.{no_failures, IsDue, after_call, with_failure, after_read, after_write, grown, half};
+ghost use Rattle.fri_outside.specs.Memory.{no_failures, IsDue, after_call, with_failure, after_read, after_write, grown, half, SameFaults};
 
 use crate::plan::FailurePlan;
 use crate::shelf::Shelf;
@@ -97,6 +97,7 @@ impl Files for MemFiles {
         ensures called { self.new.plan ≡ after_call self.old.plan }
         ensures counted { self.new.counts ≡ after_read self.old.counts result }
         ensures counts { NoneFell self.old.counts self.new.counts }
+        ensures quiet { self.old.plan.failing ≡ [] → SameFaults self.old.counts self.new.counts }
     {
         if self.plan.count_call() {
             self.read_faults = self.read_faults.saturating_add(1);
@@ -124,6 +125,7 @@ impl Files for MemFiles {
         ensures called { self.new.plan ≡ after_call self.old.plan }
         ensures counted { self.new.counts ≡ after_write self.old.counts result }
         ensures counts { NoneFell self.old.counts self.new.counts }
+        ensures quiet { self.old.plan.failing ≡ [] → SameFaults self.old.counts self.new.counts }
     {
         if self.plan.count_call() {
             self.write_faults = self.write_faults.saturating_add(1);
@@ -145,6 +147,7 @@ impl Files for MemFiles {
         ensures called { self.new.plan ≡ after_call self.old.plan }
         ensures counted { self.new.counts ≡ after_write self.old.counts result }
         ensures counts { NoneFell self.old.counts self.new.counts }
+        ensures quiet { self.old.plan.failing ≡ [] → SameFaults self.old.counts self.new.counts }
     {
         if self.plan.count_call() {
             let half = piece.len() / 2;

@@ -76,6 +76,7 @@ impl Source for MemSource {
         ensures called { self.new.plan ≡ after_call self.old.plan }
         ensures counted { self.new.faults ≡ after_source_read self.old.faults result }
         ensures later { self.old.faults ≤ self.new.faults }
+        ensures quiet { self.old.plan.failing ≡ [] → self.new.faults ≡ self.old.faults }
         ensures piece { self.new.piece ≡ self.old.piece }
     {
         if self.plan.count_call() {
@@ -150,6 +151,7 @@ impl Sink for MemSink {
         ensures called { self.new.plan ≡ after_call self.old.plan }
         ensures counted { self.new.faults ≡ after_sink_write self.old.faults result }
         ensures later { self.old.faults ≤ self.new.faults }
+        ensures quiet { self.old.plan.failing ≡ [] → self.new.faults ≡ self.old.faults }
     {
         if self.plan.count_call() {
             self.faults = self.faults.saturating_add(1);

@@ -46,6 +46,22 @@ impl<'a, R: rt::Files> RealFiles<'a, R> {
     }
 }
 
+fn read_error(error: &io::Error) -> FileError {
+    match error.kind() {
+        ErrorKind::NotFound => FileError::Absent,
+        ErrorKind::OutOfMemory => FileError::NoMemory,
+        _ => FileError::Failed,
+    }
+}
+
+// The error of a call that changed no file.
+fn open_error(error: &io::Error) -> WriteError {
+    match error.kind() {
+        ErrorKind::OutOfMemory => WriteError::NoMemory,
+        _ => WriteError::Failed,
+    }
+}
+
 // The bytes of a file, and one more than the limit of a file that is longer.
 fn read_up_to<R: rt::Files>(
     rt: &R,
@@ -63,14 +79,34 @@ fn read_up_to<R: rt::Files>(
     Ok(bytes)
 }
 
-fn create_file<R: rt::Files>(rt: &R, name: &str) -> io::Result<()> {
-    fs::create(rt, name)?;
+fn read_file<R: rt::Files>(
+    rt: &R,
+    alloc: Global,
+    name: &str,
+    limit: usize,
+) -> Result<Vec<u8>, FileError>
+    ensures within { IfOk result (λ bytes. vec_len bytes ≤ limit) }
+{
+    let bytes = read_up_to(rt, alloc, name, limit).map_err(|error| read_error(&error))?;
+    if bytes.len() > limit {
+        return Err(FileError::TooLarge);
+    }
+    Ok(bytes)
+}
+
+fn create_file<R: rt::Files>(rt: &R, name: &str) -> Result<(), WriteError> {
+    fs::create(rt, name).map_err(|error| open_error(&error))?;
     Ok(())
 }
 
-fn append_to_file<R: rt::Files>(rt: &R, name: &str, piece: &[u8]) -> io::Result<()> {
-    let mut file = OpenOptions::new().append(true).create(true).open(rt, name)?;
-    file.write_all(piece)
+// A write that fails may have written a part, so it is a fault whatever its error says.
+fn append_to_file<R: rt::Files>(rt: &R, name: &str, piece: &[u8]) -> Result<(), WriteError> {
+    let mut file = OpenOptions::new()
+        .append(true)
+        .create(true)
+        .open(rt, name)
+        .map_err(|error| open_error(&error))?;
+    file.write_all(piece).map_err(|_| WriteError::Failed)
 }
 
 impl<'a, R: rt::Files> Files for RealFiles<'a, R> {
@@ -83,45 +119,38 @@ impl<'a, R: rt::Files> Files for RealFiles<'a, R> {
         ensures counts { NoneFell self.old self.new }
         ensures counted { self.new ≡ after_read self.old result }
     {
-        match read_up_to(self.rt, alloc, name, limit) {
-            Ok(bytes) if bytes.len() <= limit => Ok(bytes),
-            Ok(_) => {
+        let outcome = read_file(self.rt, alloc, name, limit);
+        match outcome {
+            Err(FileError::Absent | FileError::TooLarge) => {
                 self.misses = self.misses.saturating_add(1);
-                Err(FileError::TooLarge)
             }
-            Err(e) => match e.kind() {
-                ErrorKind::NotFound => {
-                    self.misses = self.misses.saturating_add(1);
-                    Err(FileError::Absent)
-                }
-                ErrorKind::OutOfMemory => Err(FileError::NoMemory),
-                _ => {
-                    self.read_faults = self.read_faults.saturating_add(1);
-                    Err(FileError::Failed)
-                }
-            },
+            Err(FileError::Failed) => {
+                self.read_faults = self.read_faults.saturating_add(1);
+            }
+            Ok(_) | Err(FileError::NoMemory) => {}
         }
+        outcome
     }
 
     fn create(&mut self, name: &str) -> Result<(), WriteError>
         ensures counts { NoneFell self.old self.new }
         ensures counted { self.new ≡ after_write self.old result }
     {
-        if create_file(self.rt, name).is_err() {
+        let outcome = create_file(self.rt, name);
+        if outcome == Err(WriteError::Failed) {
             self.write_faults = self.write_faults.saturating_add(1);
-            return Err(WriteError::Failed);
         }
-        Ok(())
+        outcome
     }
 
     fn append(&mut self, name: &str, piece: &[u8]) -> Result<(), WriteError>
         ensures counts { NoneFell self.old self.new }
         ensures counted { self.new ≡ after_write self.old result }
     {
-        if append_to_file(self.rt, name, piece).is_err() {
+        let outcome = append_to_file(self.rt, name, piece);
+        if outcome == Err(WriteError::Failed) {
             self.write_faults = self.write_faults.saturating_add(1);
-            return Err(WriteError::Failed);
         }
-        Ok(())
+        outcome
     }
 }

@@ -3,7 +3,7 @@ ghost use Rattle.std.specs.Prelude.{◌≡◌, ◌<◌, ◌≤◌, None, length,
 ghost use Rattle.fri_outside.specs.Memory.{after_source_read, after_sink_write};
 
 use crate::{Failed, Sink, Source, WriteError};
-use std::io::{Read, Write};
+use std::io::{ErrorKind, Read, Write};
 use std::marker::Model;
 
 /// A source over any reader. Each error of the reader is a fault, also one that says that the call was
@@ -51,7 +51,8 @@ impl<R: Read + Drop> Source for ReaderSource<R> {
     }
 }
 
-/// A sink over any writer. Each error of the writer is a fault, and so is a write of 0 bytes.
+/// A sink over any writer. Each error of the writer but want of memory is a fault, and so is a write of
+/// 0 bytes.
 #[derive(Drop)]
 pub struct WriterSink<W: Write + Drop> {
     writer: W,
@@ -88,6 +89,7 @@ impl<W: Write + Drop> Sink for WriterSink<W> {
     {
         match self.writer.write(piece) {
             Ok(count) if count > 0 => Ok(count),
+            Err(error) if error.kind() == ErrorKind::OutOfMemory => Err(WriteError::NoMemory),
             _ => {
                 self.faults = self.faults.saturating_add(1);
                 Err(WriteError::Failed)
