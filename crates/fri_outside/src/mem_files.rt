@@ -1,0 +1,161 @@
+// Files in memory, of which chosen calls fail.
+ghost use Rattle.std.specs.Prelude.{◌≡◌, ◌≤◌, ◌++◌, ◌↔◌, ◌⊎◌, [], Some, vec_len, take, IfOk, OnOk, OnErr, IsErrOf, MatchResult};
+ghost use Rattle.std.specs.Option.{option_copied};
+ghost use Rattle.std.specs.FinMap.{empty, get, insert};
+ghost use Rattle.fri_outside.specs.Outside.{WhenTold, Held, found, SaysOf, with_file, with_piece, bytes_at, NoneFell, ReadRaises, WriteRaises};
+ghost use Rattle.fri_outside.specs.Memory.{no_failures, IsDue, after_call, with_failure, after_read, after_write, grown, half, SameFaults};
+
+use crate::plan::FailurePlan;
+use crate::shelf::Shelf;
+use crate::{FileError, Files, WriteError};
+use std::alloc::{AllocError, Global};
+use std::marker::Model;
+
+/// Files in memory, for tests. They tell what they hold.
+#[derive(Drop)]
+pub struct MemFiles {
+    alloc: Global,
+    shelf: Shelf,
+    plan: FailurePlan,
+    read_faults: u64,
+    write_faults: u64,
+    misses: u64,
+}
+
+impl Model for MemFiles {
+    ghost use Rattle.fri_outside.specs.Memory.{FilesInMemory, files_code};
+
+    ghost Value = { FilesInMemory };
+
+    ghost coded = { files_code };
+
+    ghost view = { λ files. record {
+      store = files.shelf;
+      plan = files.plan;
+      counts = record { reads = files.read_faults; writes = files.write_faults; misses = files.misses };
+    } };
+}
+
+impl MemFiles {
+    /// No files, of which no call fails.
+    pub fn new(alloc: Global) -> Self
+        ensures { result ≡ record {
+          store = empty;
+          plan = no_failures;
+          counts = record { reads = 0; writes = 0; misses = 0 };
+        } }
+    {
+        MemFiles {
+            alloc,
+            shelf: Shelf::new(alloc),
+            plan: FailurePlan::new(alloc),
+            read_faults: 0,
+            write_faults: 0,
+            misses: 0,
+        }
+    }
+
+    /// Sets the bytes of a name. It counts as no call.
+    pub fn put(&mut self, name: &str, bytes: &[u8]) -> Result<(), AllocError>
+        ensures ok { OnOk result (self.new ≡ record self.old { store = insert self.old.store name.now bytes.now }) }
+        ensures err { OnErr result (self.new ≡ self.old) }
+    {
+        let bytes = Vec::from_slice(self.alloc, bytes)?;
+        self.shelf.put(self.alloc, name, bytes)
+    }
+
+    /// The bytes of a name, where it is there.
+    pub fn bytes(&self, name: &str) -> Option<&[u8]>
+        ensures { option_copied result ≡ get self.now.store name.now }
+    {
+        self.shelf.get(name)
+    }
+
+    /// Lets the call of this number fail, where the first call of `read`, `create` or `append` has the
+    /// number 1.
+    pub fn fail_at(&mut self, call: u64) -> Result<(), AllocError>
+        ensures ok { OnOk result (self.new ≡ record self.old { plan = with_failure call self.old.plan }) }
+        ensures err { OnErr result (self.new ≡ self.old) }
+    {
+        self.plan.fail_at(call)
+    }
+}
+
+impl Files for MemFiles {
+    ghost told = { λ files. Some files.store };
+
+    ghost counts = { λ files. files.counts };
+
+    /// Answers `Failed` where the call is to fail, before the name is looked at.
+    fn read(&mut self, alloc: Global, name: &str, limit: usize) -> Result<Vec<u8>, FileError>
+        ensures answer { MatchResult result
+            (λ bytes. found self.old.store name.now limit ≡ Held bytes.items)
+            (SaysOf (found self.old.store name.now limit)) }
+        ensures same { self.new.store ≡ self.old.store }
+
+        ensures fails { IsErrOf result FileError.Failed ↔ IsDue self.old.plan }
+        ensures called { self.new.plan ≡ after_call self.old.plan }
+        ensures counted { self.new.counts ≡ after_read self.old.counts result }
+        ensures counts { NoneFell self.old.counts self.new.counts }
+        ensures quiet { self.old.plan.failing ≡ [] → SameFaults self.old.counts self.new.counts }
+    {
+        if self.plan.count_call() {
+            self.read_faults = self.read_faults.saturating_add(1);
+            return Err(FileError::Failed);
+        }
+        match self.shelf.get(name) {
+            None => {
+                self.misses = self.misses.saturating_add(1);
+                Err(FileError::Absent)
+            }
+            Some(bytes) if bytes.len() > limit => {
+                self.misses = self.misses.saturating_add(1);
+                Err(FileError::TooLarge)
+            }
+            Some(bytes) => Ok(Vec::from_slice(alloc, bytes)?),
+        }
+    }
+
+    /// A call that is to fail changes no file.
+    fn create(&mut self, name: &str) -> Result<(), WriteError>
+        ensures ok { OnOk result (self.new.store ≡ insert self.old.store name.now []) }
+        ensures err { OnErr result (self.new.store ≡ self.old.store) }
+
+        ensures fails { IsErrOf result WriteError.Failed ↔ IsDue self.old.plan }
+        ensures called { self.new.plan ≡ after_call self.old.plan }
+        ensures counted { self.new.counts ≡ after_write self.old.counts result }
+        ensures counts { NoneFell self.old.counts self.new.counts }
+        ensures quiet { self.old.plan.failing ≡ [] → SameFaults self.old.counts self.new.counts }
+    {
+        if self.plan.count_call() {
+            self.write_faults = self.write_faults.saturating_add(1);
+            return Err(WriteError::Failed);
+        }
+        self.shelf.put(self.alloc, name, Vec::new(self.alloc))?;
+        Ok(())
+    }
+
+    /// A call that is to fail writes the first half of the piece, rounded down, or answers `NoMemory`
+    /// where there is no room for that.
+    fn append(&mut self, name: &str, piece: &[u8]) -> Result<(), WriteError>
+        ensures ok { OnOk result (self.new.store ≡ grown name.now piece.now self.old.store) }
+        ensures failed { IsErrOf result WriteError.Failed → self.new.store ≡ grown name.now (half piece.now) self.old.store }
+        ensures no_memory { IsErrOf result WriteError.NoMemory → self.new.store ≡ self.old.store }
+
+        ensures fails { IsErrOf result WriteError.Failed → IsDue self.old.plan }
+        ensures passes { OnOk result (¬ IsDue self.old.plan) }
+        ensures called { self.new.plan ≡ after_call self.old.plan }
+        ensures counted { self.new.counts ≡ after_write self.old.counts result }
+        ensures counts { NoneFell self.old.counts self.new.counts }
+        ensures quiet { self.old.plan.failing ≡ [] → SameFaults self.old.counts self.new.counts }
+    {
+        if self.plan.count_call() {
+            let half = piece.len() / 2;
+            self.shelf.append(self.alloc, name, &piece[..half])?;
+            self.write_faults = self.write_faults.saturating_add(1);
+            return Err(WriteError::Failed);
+        }
+        self.shelf.append(self.alloc, name, piece)?;
+        Ok(())
+    }
+}
