@@ -2,7 +2,7 @@
 ghost use Rattle.std.specs.Prelude.{◌≡◌, ◌+◌, ◌^◌, ◌<◌, ◌≤◌, pos, IfSome, IfNone, option_map};
 ghost use Rattle.std.specs.Int.{w16, w32, w64};
 ghost use Rattle.fri_bytes.specs.Leb.{IsUnsigned, IsSigned, unsigned_at, signed_at};
-ghost use Rattle.fri_bytes.specs.Reading.{Takes, Begins, NoneBegins, byte_at, piece_at, le_at};
+ghost use Rattle.fri_bytes.specs.Reading.{Takes, Begins, OnlyBegins, NoneBegins, byte_at, piece_at, le_at};
 
 use crate::leb::{signed, unsigned};
 use byteorder::{ByteOrder, LittleEndian};
@@ -101,6 +101,7 @@ impl<'a> Cursor<'a> {
     pub fn leb_u32(&mut self) -> Option<u32>
         ensures taken { Takes self.old self.new result (unsigned_at (2 ^ 32) self.old.left) }
         ensures spelled { IfSome result (λ n. Begins (IsUnsigned (2 ^ 32)) self.old.left n self.new.left) }
+        ensures only { IfSome result (λ n. OnlyBegins (IsUnsigned (2 ^ 32)) self.old.left n self.new.left) }
         ensures none { IfNone result (NoneBegins (IsUnsigned (2 ^ 32)) self.old.left) }
     {
         let (number, rest) = unsigned(self.rest, 1 << 32)?;
@@ -113,6 +114,7 @@ impl<'a> Cursor<'a> {
     pub fn leb_s32(&mut self) -> Option<i32>
         ensures taken { Takes self.old self.new result (signed_at (2 ^ 31) self.old.left) }
         ensures spelled { IfSome result (λ z. Begins (IsSigned (2 ^ 31)) self.old.left z self.new.left) }
+        ensures only { IfSome result (λ z. OnlyBegins (IsSigned (2 ^ 31)) self.old.left z self.new.left) }
         ensures none { IfNone result (NoneBegins (IsSigned (2 ^ 31)) self.old.left) }
     {
         let (number, rest) = signed(self.rest, 1 << 31)?;
@@ -125,6 +127,7 @@ impl<'a> Cursor<'a> {
     pub fn leb_s64(&mut self) -> Option<i64>
         ensures taken { Takes self.old self.new result (signed_at (2 ^ 63) self.old.left) }
         ensures spelled { IfSome result (λ z. Begins (IsSigned (2 ^ 63)) self.old.left z self.new.left) }
+        ensures only { IfSome result (λ z. OnlyBegins (IsSigned (2 ^ 63)) self.old.left z self.new.left) }
         ensures none { IfNone result (NoneBegins (IsSigned (2 ^ 63)) self.old.left) }
     {
         let (number, rest) = signed(self.rest, 1 << 63)?;
