@@ -2,7 +2,7 @@
 ghost use Rattle.std.specs.Prelude.{◌≡◌, ◌+◌, ◌^◌, ◌<◌, ◌≤◌, pos, IfSome, IfNone, option_map};
 ghost use Rattle.std.specs.Int.{w16, w32, w64};
 ghost use Rattle.fri_bytes.specs.Leb.{IsUnsigned, IsSigned, unsigned_at, signed_at};
-ghost use Rattle.fri_bytes.specs.Reading.{Takes, Begins, NoneBegins, byte_at, piece_at, le_at};
+ghost use Rattle.fri_bytes.specs.Reading.{Takes, Begins, OnlyBegins, NoneBegins, byte_at, piece_at, le_at};
 
 use crate::leb::{signed, unsigned};
 use byteorder::{ByteOrder, LittleEndian};
@@ -54,10 +54,7 @@ impl<'a> Cursor<'a> {
     pub fn take(&mut self, n: usize) -> Option<&'a [u8]>
         ensures { Takes self.old self.new (option_map (λ x. x.now) result) (piece_at n self.old.left) }
     {
-        if n > self.rest.len() {
-            return None;
-        }
-        let (piece, rest) = self.rest.split_at(n);
+        let (piece, rest) = self.rest.split_at_checked(n)?;
         self.rest = rest;
         self.at += n;
         Some(piece)
@@ -97,10 +94,13 @@ impl<'a> Cursor<'a> {
         Some(LittleEndian::read_u64(piece))
     }
 
-    /// The next number of 32 bits.
+    /// The next number of 32 bits in LEB128, as the WebAssembly standard has it (version 1.0, section
+    /// 5.2.2): at most 5 bytes, which may be more than the number needs. None where no such spelling
+    /// stands at the front.
     pub fn leb_u32(&mut self) -> Option<u32>
         ensures taken { Takes self.old self.new result (unsigned_at (2 ^ 32) self.old.left) }
         ensures spelled { IfSome result (λ n. Begins (IsUnsigned (2 ^ 32)) self.old.left n self.new.left) }
+        ensures only { IfSome result (λ n. OnlyBegins (IsUnsigned (2 ^ 32)) self.old.left n self.new.left) }
         ensures none { IfNone result (NoneBegins (IsUnsigned (2 ^ 32)) self.old.left) }
     {
         let (number, rest) = unsigned(self.rest, 1 << 32)?;
@@ -109,10 +109,11 @@ impl<'a> Cursor<'a> {
         Some(number)
     }
 
-    /// The next signed number of 32 bits.
+    /// The next signed number of 32 bits in LEB128 (section 5.2.2): at most 5 bytes.
     pub fn leb_s32(&mut self) -> Option<i32>
         ensures taken { Takes self.old self.new result (signed_at (2 ^ 31) self.old.left) }
         ensures spelled { IfSome result (λ z. Begins (IsSigned (2 ^ 31)) self.old.left z self.new.left) }
+        ensures only { IfSome result (λ z. OnlyBegins (IsSigned (2 ^ 31)) self.old.left z self.new.left) }
         ensures none { IfNone result (NoneBegins (IsSigned (2 ^ 31)) self.old.left) }
     {
         let (number, rest) = signed(self.rest, 1 << 31)?;
@@ -121,10 +122,11 @@ impl<'a> Cursor<'a> {
         Some(number as i32)
     }
 
-    /// The next signed number of 64 bits.
+    /// The next signed number of 64 bits in LEB128 (section 5.2.2): at most 10 bytes.
     pub fn leb_s64(&mut self) -> Option<i64>
         ensures taken { Takes self.old self.new result (signed_at (2 ^ 63) self.old.left) }
         ensures spelled { IfSome result (λ z. Begins (IsSigned (2 ^ 63)) self.old.left z self.new.left) }
+        ensures only { IfSome result (λ z. OnlyBegins (IsSigned (2 ^ 63)) self.old.left z self.new.left) }
         ensures none { IfNone result (NoneBegins (IsSigned (2 ^ 63)) self.old.left) }
     {
         let (number, rest) = signed(self.rest, 1 << 63)?;

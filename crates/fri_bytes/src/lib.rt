@@ -1,10 +1,13 @@
-// Bytes: a list of them, a cursor that reads them from the front, and the calls that write numbers.
+//! Bytes: an owned list of them, a cursor that reads from their front, and the calls that append
+//! numbers to them.
 #![tactic(auto)]
 
-pub mod bytes;
-pub mod cursor;
+mod bytes;
+mod cursor;
 mod leb;
-pub mod put;
+mod put;
+#[cfg(test)]
+mod tests;
 
 pub use bytes::Bytes;
 pub use cursor::Cursor;
