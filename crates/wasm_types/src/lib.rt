@@ -1,0 +1,16 @@
+// WebAssembly 1.0's modules, instructions, values and traps: the types that the other crates share.
+#![tactic(auto)]
+
+mod code;
+mod modules;
+mod traps;
+
+pub use code::{Instr, ValType, Value};
+pub use modules::{
+    Elem, Export, ExportDesc, Func, FuncType, GlobalDef, Import, ImportDesc, Limits, Module,
+    Segment,
+};
+pub use traps::Trap;
+
+#[cfg(test)]
+mod tests;
