@@ -1,0 +1,138 @@
+// A cursor, which reads bytes from the front of a slice.
+ghost use Rattle.std.specs.Prelude.{◌≡◌, ◌+◌, ◌^◌, ◌<◌, ◌≤◌, pos, IfSome, IfNone, option_map};
+ghost use Rattle.std.specs.Int.{w16, w32, w64};
+ghost use Rattle.fri_bytes.specs.Leb.{IsUnsigned, IsSigned, unsigned_at, signed_at};
+ghost use Rattle.fri_bytes.specs.Reading.{Takes, Begins, OnlyBegins, NoneBegins, byte_at, piece_at, le_at};
+
+use crate::leb::{signed, unsigned};
+use byteorder::{ByteOrder, LittleEndian};
+use std::marker::Model;
+
+/// A place in some bytes, from which they are read. Contracts see the bytes that are left and the
+/// count of those that were taken. A reader that answers None leaves the cursor as it was.
+#[derive(Debug, Drop)]
+pub struct Cursor<'a> {
+    rest: &'a [u8],
+    at: usize,
+}
+
+impl<'a> Model for Cursor<'a> {
+    ghost use Rattle.std.specs.Prelude.{◌+◌, ◌^◌, ◌<◌, length};
+    ghost use Rattle.fri_bytes.specs.Reading.{Reading};
+
+    ghost Value = { Reading };
+
+    ghost view = { λ c. record { left = c.rest.now; at = c.at } };
+
+    ghost invariant = { λ c. c.at + length c.rest.now < 2 ^ 64 };
+}
+
+impl<'a> Cursor<'a> {
+    /// A cursor at the front of the bytes.
+    pub fn new(bytes: &'a [u8]) -> Cursor<'a>
+        ensures left { result.left ≡ bytes.now }
+        ensures at { result.at ≡ 0 }
+    {
+        Cursor { rest: bytes, at: 0 }
+    }
+
+    /// The bytes that are left.
+    pub fn rest(&self) -> &'a [u8]
+        ensures { result.now ≡ self.now.left }
+    {
+        self.rest
+    }
+
+    /// How many bytes were taken.
+    pub fn at(&self) -> usize
+        ensures { result ≡ self.now.at }
+    {
+        self.at
+    }
+
+    /// The next `n` bytes, a piece of the slice that is read.
+    pub fn take(&mut self, n: usize) -> Option<&'a [u8]>
+        ensures { Takes self.old self.new (option_map (λ x. x.now) result) (piece_at n self.old.left) }
+    {
+        if n > self.rest.len() {
+            return None;
+        }
+        let (piece, rest) = self.rest.split_at(n);
+        self.rest = rest;
+        self.at += n;
+        Some(piece)
+    }
+
+    /// The next byte.
+    pub fn byte(&mut self) -> Option<u8>
+        ensures { Takes self.old self.new result (byte_at self.old.left) }
+    {
+        let (first, rest) = self.rest.split_first()?;
+        self.rest = rest;
+        self.at += 1;
+        Some(*first)
+    }
+
+    /// The next 2 bytes as a number, the lowest first.
+    pub fn u16_le(&mut self) -> Option<u16>
+        ensures { Takes self.old self.new result (le_at w16 self.old.left) }
+    {
+        let piece = self.take(2)?;
+        Some(LittleEndian::read_u16(piece))
+    }
+
+    /// The next 4 bytes as a number, the lowest first.
+    pub fn u32_le(&mut self) -> Option<u32>
+        ensures { Takes self.old self.new result (le_at w32 self.old.left) }
+    {
+        let piece = self.take(4)?;
+        Some(LittleEndian::read_u32(piece))
+    }
+
+    /// The next 8 bytes as a number, the lowest first.
+    pub fn u64_le(&mut self) -> Option<u64>
+        ensures { Takes self.old self.new result (le_at w64 self.old.left) }
+    {
+        let piece = self.take(8)?;
+        Some(LittleEndian::read_u64(piece))
+    }
+
+    /// The next number of 32 bits.
+    pub fn leb_u32(&mut self) -> Option<u32>
+        ensures taken { Takes self.old self.new result (unsigned_at (2 ^ 32) self.old.left) }
+        ensures spelled { IfSome result (λ n. Begins (IsUnsigned (2 ^ 32)) self.old.left n self.new.left) }
+        ensures only { IfSome result (λ n. OnlyBegins (IsUnsigned (2 ^ 32)) self.old.left n self.new.left) }
+        ensures none { IfNone result (NoneBegins (IsUnsigned (2 ^ 32)) self.old.left) }
+    {
+        let (number, rest) = unsigned(self.rest, 1 << 32)?;
+        self.at += self.rest.len() - rest.len();
+        self.rest = rest;
+        Some(number)
+    }
+
+    /// The next signed number of 32 bits.
+    pub fn leb_s32(&mut self) -> Option<i32>
+        ensures taken { Takes self.old self.new result (signed_at (2 ^ 31) self.old.left) }
+        ensures spelled { IfSome result (λ z. Begins (IsSigned (2 ^ 31)) self.old.left z self.new.left) }
+        ensures only { IfSome result (λ z. OnlyBegins (IsSigned (2 ^ 31)) self.old.left z self.new.left) }
+        ensures none { IfNone result (NoneBegins (IsSigned (2 ^ 31)) self.old.left) }
+    {
+        let (number, rest) = signed(self.rest, 1 << 31)?;
+        self.at += self.rest.len() - rest.len();
+        self.rest = rest;
+        Some(number as i32)
+    }
+
+    /// The next signed number of 64 bits.
+    pub fn leb_s64(&mut self) -> Option<i64>
+        ensures taken { Takes self.old self.new result (signed_at (2 ^ 63) self.old.left) }
+        ensures spelled { IfSome result (λ z. Begins (IsSigned (2 ^ 63)) self.old.left z self.new.left) }
+        ensures only { IfSome result (λ z. OnlyBegins (IsSigned (2 ^ 63)) self.old.left z self.new.left) }
+        ensures none { IfNone result (NoneBegins (IsSigned (2 ^ 63)) self.old.left) }
+    {
+        let (number, rest) = signed(self.rest, 1 << 63)?;
+        self.at += self.rest.len() - rest.len();
+        self.rest = rest;
+        Some(number)
+    }
+}
