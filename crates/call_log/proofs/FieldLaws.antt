@@ -1,0 +1,1 @@
+-- Each field of an entry is read as it is written.

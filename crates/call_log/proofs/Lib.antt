@@ -1,0 +1,4 @@
+pub mod FieldLaws
+pub mod EntryLaws
+pub mod HeadLaws
+pub mod Entries
