@@ -1,6 +1,6 @@
 // An entry of a log.
-ghost use Rattle.std.specs.Prelude.{◌≡◌, option_map};
-ghost use Rattle.call_log.specs.Entry.{entry_of};
+ghost use Rattle.std.specs.Prelude.{◌≡◌, ◌++◌, IfSome, IfNone, option_map};
+ghost use Rattle.call_log.specs.Entry.{BeginsNoEntry, IsShaped, encoding, entry_of};
 ghost use Rattle.call_log.specs.Reading.{Gives, body_at, read_entry as entry_read};
 
 use crate::fields::{has_incoming, has_outgoing, has_tag, is_built, read_call, read_string_if, read_tag_if};
@@ -32,9 +32,20 @@ pub struct EntryView<'a> {
     pub tag: Option<Tag>,
 }
 
+// The entry at the front of the bytes, and the bytes behind it.
+pub(crate) fn read_entry(bytes: &[u8]) -> Option<(EntryView<'_>, &[u8])>
+    ensures shaped { IfSome result (λ r. IsShaped (entry_of r.0)) }
+    ensures spelled { IfSome result (λ r. bytes.now ≡ encoding (entry_of r.0) ++ r.1.now) }
+    ensures none { IfNone result (BeginsNoEntry bytes.now) }
+{
+    let mut cursor = Cursor::new(bytes);
+    let entry = read_framed(&mut cursor)?;
+    Some((entry, cursor.rest()))
+}
+
 // The entry behind its length.
 #[tactic(auto, unfolding(crate::specs::Reading::read_entry))]
-pub(crate) fn read_entry<'a>(cursor: &mut Cursor<'a>) -> Option<EntryView<'a>>
+fn read_framed<'a>(cursor: &mut Cursor<'a>) -> Option<EntryView<'a>>
     ensures { Gives (option_map entry_of result) cursor.new (entry_read cursor.old.left) }
 {
     let size = cursor.u32_le()?;

@@ -1,6 +1,7 @@
 // The head of a log.
-ghost use Rattle.std.specs.Prelude.{◌≡◌, ◌∷◌, [], option_map};
-ghost use Rattle.call_log.specs.Head.{head_of, is_name as is_name_of, is_name_byte};
+ghost use Rattle.std.specs.Prelude.{◌≡◌, ◌++◌, IfSome, IfNone, option_map};
+ghost use Rattle.std.specs.List.{list_all};
+ghost use Rattle.call_log.specs.Head.{BeginsNoHead, IsHead, head_bytes, head_of, is_name as is_name_of, is_name_byte as is_name_byte_of};
 ghost use Rattle.call_log.specs.Reading.{Gives, name_at, read_head as head_read};
 
 use fri_bytes::Cursor;
@@ -19,9 +20,20 @@ pub struct LogHead<'a> {
 #[derive(Clone, Copy, Debug, PartialEq, Eq)]
 pub struct BadHead;
 
-// The head at the front.
+// The head at the front of the bytes, and the bytes behind it.
+pub(crate) fn read_head(bytes: &[u8]) -> Option<(LogHead<'_>, &[u8])>
+    ensures head { IfSome result (λ r. IsHead (head_of r.0)) }
+    ensures spelled { IfSome result (λ r. bytes.now ≡ head_bytes (head_of r.0) ++ r.1.now) }
+    ensures none { IfNone result (BeginsNoHead bytes.now) }
+{
+    let mut cursor = Cursor::new(bytes);
+    let head = read_fields(&mut cursor)?;
+    Some((head, cursor.rest()))
+}
+
+// The fields of a head, one after the other.
 #[tactic(auto, unfolding(crate::specs::Reading::read_head))]
-pub(crate) fn read_head<'a>(cursor: &mut Cursor<'a>) -> Option<LogHead<'a>>
+fn read_fields<'a>(cursor: &mut Cursor<'a>) -> Option<LogHead<'a>>
     ensures { Gives (option_map head_of result) cursor.new (head_read cursor.old.left) }
 {
     if cursor.take(4)? != MAGIC {
@@ -60,12 +72,17 @@ fn read_name<'a>(cursor: &mut Cursor<'a>) -> Option<&'a [u8]>
 fn is_name(name: &[u8]) -> bool
     ensures { result ≡ is_name_of name.now }
 {
-    1 <= name.len() && name.len() <= 32 && name.iter().all(|byte| is_of_name(*byte))
+    1 <= name.len() && name.len() <= 32 && are_name_bytes(name)
 }
 
-// Whether the byte may stand in a name.
-fn is_of_name(byte: u8) -> bool
-    ensures { result ≡ is_name_byte byte }
+fn are_name_bytes(name: &[u8]) -> bool
+    ensures { result ≡ list_all is_name_byte_of name.now }
+{
+    name.iter().all(|byte| is_name_byte(*byte))
+}
+
+fn is_name_byte(byte: u8) -> bool
+    ensures { result ≡ is_name_byte_of byte }
 {
     byte.is_ascii_lowercase() || byte.is_ascii_digit() || byte == b'_'
 }

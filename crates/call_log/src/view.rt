@@ -7,7 +7,6 @@ ghost use Rattle.call_log.specs.Log.{head_at, stops_at_unbuilt as stops_at_unbui
 use crate::entry::{EntryView, read_entry};
 use crate::fields::is_built;
 use crate::head::{BadHead, LogHead, read_head};
-use fri_bytes::Cursor;
 use std::marker::Model;
 
 /// A log that is read from its front.
@@ -35,12 +34,10 @@ impl<'a> LogView<'a> {
         ensures found { IfOk result (λ log. head_at bytes.now ≡ Some (log.head, log.left)) }
         ensures missing { OnErr result (head_at bytes.now ≡ None) }
     {
-        let mut cursor = Cursor::new(bytes);
-        let head = read_head(&mut cursor).ok_or(BadHead)?;
-        Ok(LogView {
-            head,
-            rest: cursor.rest(),
-        })
+        let Some((head, rest)) = read_head(bytes) else {
+            return Err(BadHead);
+        };
+        Ok(LogView { head, rest })
     }
 
     /// The head.
@@ -60,9 +57,8 @@ impl<'a> LogView<'a> {
         ensures unchanged { IfNone result (self.new ≡ self.old) }
         ensures head { self.new.head ≡ self.old.head }
     {
-        let mut cursor = Cursor::new(self.rest);
-        let entry = read_entry(&mut cursor)?;
-        self.rest = cursor.rest();
+        let (entry, rest) = read_entry(self.rest)?;
+        self.rest = rest;
         Some(entry)
     }
 
