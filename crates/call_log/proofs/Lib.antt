@@ -1,0 +1,5 @@
+pub mod FieldLaws
+pub mod Shapes
+pub mod EntryLaws
+pub mod HeadLaws
+pub mod Entries
