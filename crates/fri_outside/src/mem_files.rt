@@ -1,8 +1,8 @@
 // Files in memory, of which chosen calls fail.
-ghost use Rattle.std.specs.Prelude.{◌≡◌, ◌≤◌, ◌++◌, ◌↔◌, ◌⊎◌, [], Some, vec_len, take, IfOk, OnOk, OnErr, IsErrOf, MatchResult};
+ghost use Rattle.std.specs.Prelude.{◌≡◌, ◌↔◌, [], Some, OnOk, OnErr, IsErrOf, MatchResult};
 ghost use Rattle.std.specs.Option.{option_copied};
 ghost use Rattle.std.specs.FinMap.{empty, get, insert};
-ghost use Rattle.fri_outside.specs.Outside.{WhenTold, Held, found, SaysOf, with_file, with_piece, bytes_at, NoneFell, ReadRaises, WriteRaises};
+ghost use Rattle.fri_outside.specs.Outside.{Held, found, SaysOf, NoneFell};
 ghost use Rattle.fri_outside.specs.Memory.{no_failures, IsDue, after_call, with_failure, after_read, after_write, grown, half, SameFaults};
 
 use crate::plan::FailurePlan;

@@ -1,6 +1,6 @@
 // A source and a sink in memory, of which chosen calls fail.
 ghost use Rattle.std.specs.Prelude.{◌≡◌, ◌<◌, ◌≤◌, ◌++◌, ◌↔◌, [], Some, min, length, take, drop, IsErr, IfOk, IsErrOf, OnOk, OnErr, MatchResult};
-ghost use Rattle.fri_outside.specs.Memory.{no_failures, raised, IsDue, after_call, with_failure, after_source_read, after_sink_write};
+ghost use Rattle.fri_outside.specs.Memory.{no_failures, IsDue, after_call, with_failure, after_source_read, after_sink_write};
 
 use crate::plan::FailurePlan;
 use crate::{Failed, Sink, Source, WriteError};
