@@ -79,7 +79,7 @@ fn lines(rt: HostRuntime) {
         assert_eq!(rt; next_line(&mut cursor).unwrap_or(b"none"), line);
     }
     assert!(rt; next_line(&mut cursor).is_none());
-    assert_eq!(rt; cursor.at(), 21);
+    assert_eq!(rt; cursor.at(), 20);
 }
 
 #[test]
