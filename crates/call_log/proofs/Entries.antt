@@ -4,7 +4,8 @@ use Rattle.std.specs.Prelude.{All}
 use Rattle.std.proofs.lemmas.List.Elements.{All-nil, All-cons, All-head, All-tail}
 use Rattle.call_log.specs.Entry.{Entry, IsShaped, BeginsNoEntry, encoding, encodings}
 use Rattle.call_log.specs.Log.{Holds, entry_at, entry_then, entries_of, entries_within, rest_of, rest_then, rest_within}
-use Rattle.call_log.proofs.EntryLaws.{entry_at-begins, entry_at-found, entry_at-none, length-encoding}
+use Rattle.call_log.proofs.EntryLaws.{entry_at-begins, entry_at-found, entry_at-none}
+use Rattle.call_log.proofs.Sizes.{length-encoding}
 
 -- each entry takes bytes
 pub shorter : (bytes : List ℕ) (e : Entry) (rest : List ℕ) → bytes ≡ encoding e ++ rest → length rest + 24 ≤ length bytes

@@ -15,6 +15,7 @@ use Rattle.call_log.specs.Kind.{is_built, argument_count, has_outgoing, has_inco
 use Rattle.call_log.specs.Entry.{Entry, IsShaped, BeginsNoEntry, body, encoding, argument_bytes, IsStringIf, number_if, string_if, tag_if}
 use Rattle.call_log.specs.Reading.{read_entry, body_at, call_at, string_if_at, tag_if_at}
 use Rattle.call_log.specs.Log.{entry_at, entry_in}
+use Rattle.call_log.proofs.Sizes.{length-body_lt}
 use Rattle.call_log.proofs.Shapes.{and_true, both_true, is_shaped-from, shaped_from_test}
 use Rattle.call_log.proofs.FieldLaws.{AreBytes, ReadsBack, bytes_after, onto, parts_onto, concat-append, next, when_true, kept, number_field, byte_field, string_if_field, tag_if_field, call_at-kind, call_field}
 
@@ -191,65 +192,6 @@ body_at-found bytes e are found =
     let steps = steps_from bytes e found in
     let at : Steps steps.0 bytes e = steps.1 in
     shaped_from bytes e are (subst (λ (k : ℕ). Steps k bytes e) (sym at.kind_is) at)
-
--- ---- how long an entry is
-
-abbrev total_length : List (List ℕ) → ℕ
-total_length [] = 0
-total_length (part ∷ parts) = length part + total_length parts
-
-length-concat : (parts : List (List ℕ)) → length (concat parts) ≡ total_length parts
-length-concat [] = refl
-length-concat (part ∷ parts) = length-append part (concat parts) ∙ ap (λ (n : ℕ). length part + n) (length-concat parts)
-
-length-number_if : (has : Bool) (n : ℕ) → length (number_if has n) ≤ 8
-length-number_if true n = lit≤ tt
-length-number_if false n = lit≤ tt
-
-length-tag_if : (has : Bool) (tag : Option Tag) → length (tag_if has tag) ≤ 13
-length-tag_if true None = lit≤ tt
-length-tag_if true (Some tag) = lit≤ tt
-length-tag_if false tag = lit≤ tt
-
-length-string_if : (has : Bool) (s : List ℕ) → IsStringIf has s → length (string_if has s) ≤ cond has 2147483652 0
-length-string_if true s few = omega (arith, length-append (to_le_bytes w32 (length s)) s)
-length-string_if false s none = lit≤ tt
-
-at_most_24 : (a b c n : ℕ) → a ≤ 8 → b ≤ 8 → c ≤ 8 → n ≡ a + (b + (c + 0)) → n ≤ 24
-at_most_24 a b c n p q r e = omega arith
-
-length-argument_bytes : (call : Call) → length (argument_bytes call) ≤ 24
-unfolding argument_bytes
-length-argument_bytes call =
-    let has : ℕ → Bool = λ k. nat_lt k (argument_count call.kind) in
-    at_most_24 _ _ _ _ (length-number_if (has 0) call.a0) (length-number_if (has 1) call.a1) (length-number_if (has 2) call.a2)
-    (length-concat (number_if (has 0) call.a0 ∷ number_if (has 1) call.a1 ∷ number_if (has 2) call.a2 ∷ []))
-
--- no kind has both byte strings
-one_string : (kind : ℕ) → cond (has_outgoing kind) 2147483652 0 + cond (has_incoming kind) 2147483652 0 ≤ 2147483652
-unfolding has_outgoing has_incoming
-one_string kind = grind (arith, nat_tests)
-
-length-body : (e : Entry) → length (body e) ≡ 8 + (2 + (1 + (1 + (length (argument_bytes e.call) + (8 + (length (string_if (has_outgoing e.call.kind) e.outgoing) + (length (string_if (has_incoming e.call.kind) e.incoming) + (length (tag_if (has_tag e.call.kind) e.tag) + 0))))))))
-unfolding body
-length-body e = length-concat (
-    to_le_bytes w64 e.clock ∷ to_le_bytes w16 e.thread ∷ (e.call.kind ∷ []) ∷ (e.signal ∷ []) ∷ argument_bytes e.call ∷ to_le_bytes w64 e.reply
-    ∷ string_if (has_outgoing e.call.kind) e.outgoing ∷ string_if (has_incoming e.call.kind) e.incoming ∷ tag_if (has_tag e.call.kind) e.tag ∷ [])
-
-body_fits : (n a o i t x y : ℕ) → a ≤ 24 → o ≤ x → i ≤ y → x + y ≤ 2147483652 → t ≤ 13 → n ≡ 8 + (2 + (1 + (1 + (a + (8 + (o + (i + (t + 0)))))))) → n < 2 ^ 32
-body_fits n a o i t x y p q r s u e = omega arith
-
-length-body_lt : (e : Entry) → IsShaped e → length (body e) < 2 ^ 32
-length-body_lt e shaped =
-    body_fits _ _ _ _ _ _ _ (length-argument_bytes e.call) (length-string_if _ e.outgoing shaped.outgoing) (length-string_if _ e.incoming shaped.incoming) (one_string e.call.kind) (length-tag_if _ e.tag) (length-body e)
-
-at_least_24 : (n m a o i t : ℕ) → n ≡ 4 + m → m ≡ 8 + (2 + (1 + (1 + (a + (8 + (o + (i + (t + 0)))))))) → 24 ≤ n
-at_least_24 n m a o i t p q = omega arith
-
--- an entry has at least 24 bytes
-pub length-encoding : (e : Entry) → 24 ≤ length (encoding e)
-unfolding encoding
-length-encoding e = at_least_24 _ _ _ _ _ _ (length-append (to_le_bytes w32 (length (body e))) (body e)) (length-body e)
 
 -- ---- an entry behind its length
 

@@ -1,5 +1,5 @@
 -- Each field of an entry is read exactly as it is written.
-use Rattle.std.proofs.Common.{inl, inr, ◌≡◌, ℕ, ◌+◌, ◌^◌, ◌<◌, ◌≤◌, Bool, true, false, cond, eqb, ltb, List, [], ◌∷◌, ◌++◌, length, take, drop, slice_index, Option, Some, None, refl, sym, ap, ◌∙◌, subst, arith, length-append, append_assoc}
+use Rattle.std.proofs.Common.{OnOk, Result, Ok, Err, inl, inr, ◌≡◌, ℕ, ◌+◌, ◌^◌, ◌<◌, ◌≤◌, Bool, true, false, cond, eqb, ltb, List, [], ◌∷◌, ◌++◌, length, take, drop, slice_index, Option, Some, None, refl, sym, ap, ◌∙◌, subst, arith, length-append, append_assoc}
 use Rattle.std.specs.Prelude.{nat_lt, option_and_then}
 use Rattle.std.specs.List.{concat}
 use Rattle.std.specs.Int.{Width, w32, w64, byte_len, to_le_bytes}
@@ -42,6 +42,11 @@ parts_onto (part ∷ parts) rest = part ++ parts_onto parts rest
 pub concat-append : (parts : List (List ℕ)) (rest : List ℕ) → concat parts ++ rest ≡ parts_onto parts rest
 concat-append [] rest = refl
 concat-append (part ∷ parts) rest = append_assoc part (concat parts) rest ∙ onto part (concat-append parts rest)
+
+-- what follows of a success
+pub on_ok : {T E : Type 0} (r : Result T E) {P Q : Type 0} → (P → Q) → OnOk r P → OnOk r Q
+on_ok (Ok x) f p = f p
+on_ok (Err e) f p = tt
 
 -- a step that gave something, and the next one
 pub next : {A B : Type 0} (o : Option A) (f : A → Option B) (x : A) (y : Option B) → o ≡ Some x → f x ≡ y → option_and_then f o ≡ y

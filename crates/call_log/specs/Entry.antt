@@ -109,6 +109,14 @@ encoding e = to_le_bytes w32 (length (body e)) ++ body e
 abbrev pub encodings : List Entry → List ℕ
 encodings entries = flat_map encoding entries
 
+-- the bytes of an entry in front of its arguments
+unfoldable pub front_bytes : Entry → List ℕ
+front_bytes e = concat (to_le_bytes w32 (length (body e)) ∷ to_le_bytes w64 e.clock ∷ to_le_bytes w16 e.thread ∷ (e.call.kind ∷ e.signal ∷ []) ∷ [])
+
+-- those behind its arguments and in front of its tag
+unfoldable pub reply_bytes : Entry → List ℕ
+reply_bytes e = to_le_bytes w64 e.reply ++ (string_if (has_outgoing e.call.kind) e.outgoing ++ string_if (has_incoming e.call.kind) e.incoming)
+
 -- no entry stands at the front of the bytes
 abbrev pub BeginsNoEntry : List ℕ → Type 0
 BeginsNoEntry bytes = (e : Entry) (rest : List ℕ) → IsShaped e → bytes ≡ encoding e ++ rest → ⊥

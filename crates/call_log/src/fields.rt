@@ -17,7 +17,7 @@ pub(crate) fn is_built(kind: u8) -> bool
 
 // How many arguments the calls of the kind have.
 #[tactic(auto, unfolding(crate::specs::Kind::argument_count))]
-fn argument_count(kind: u8) -> u8
+pub(crate) fn argument_count(kind: u8) -> u8
     ensures { result ≡ argument_count_of kind }
 {
     match kind {

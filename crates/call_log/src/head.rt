@@ -6,7 +6,11 @@ ghost use Rattle.call_log.specs.Reading.{Gives, name_at, read_head as head_read}
 
 use fri_bytes::Cursor;
 
-const MAGIC: &[u8] = b"LLOG";
+// The bytes that a log begins with.
+pub(crate) const MAGIC: &[u8] = b"LLOG";
+
+// The version of the format.
+pub(crate) const VERSION: u32 = 1;
 
 /// The head of a log: the number of processes in the group, the process's number and its name.
 #[derive(Clone, Copy, Debug, PartialEq, Eq)]
@@ -36,14 +40,14 @@ pub(crate) fn read_head(bytes: &[u8]) -> Option<(LogHead<'_>, &[u8])>
 fn read_fields<'a>(cursor: &mut Cursor<'a>) -> Option<LogHead<'a>>
     ensures { Gives (option_map head_of result) cursor.new (head_read cursor.old.left) }
 {
-    if cursor.take(4)? != MAGIC {
+    if cursor.take(MAGIC.len())? != MAGIC {
         return None;
     }
     let version = cursor.u32_le()?;
     let count = cursor.u32_le()?;
     let process = cursor.u32_le()?;
     let name = read_name(cursor)?;
-    if version == 1 && 1 <= count && count <= 16 && process < count {
+    if version == VERSION && 1 <= count && count <= 16 && process < count {
         Some(LogHead {
             count,
             process,

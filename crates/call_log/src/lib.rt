@@ -1,11 +1,13 @@
-//! The log of one process: its head, and an entry for each event, read without a copy.
+//! The log of one process: its head, and an entry for each event. It is read without a copy.
 #![tactic(auto)]
 
 mod entry;
 mod fields;
 mod head;
+mod put;
 mod view;
 
 pub use entry::{Call, EntryView};
 pub use head::{BadHead, LogHead};
+pub use put::{entry_length, put_entry, put_head};
 pub use view::{LogView, stops_at_unbuilt};
