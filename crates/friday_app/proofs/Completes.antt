@@ -1,0 +1,71 @@
+-- Valid words and files have an outcome that is work, and where no fault comes the work is done.
+use Rattle.std.proofs.Common.{◌≡◌, ◌⊎◌, ◌++◌, ℕ, List, Bool, false, cond, Option, Some, None, option_map, Result, Ok, Err, refl, sym, ap, inl, inr, ◌∙◌, subst}
+use Rattle.fri_outside.specs.Outside.{Store, found_within}
+use Rattle.fri_outside.proofs.Stored.{within_held}
+use Rattle.wasm_types.specs.Code.{Trees}
+use Rattle.call_log.specs.Head.{Head, head_bytes}
+use Rattle.call_log.specs.Log.{head_at, rest_of, stops_at_unbuilt}
+use Rattle.call_log.proofs.Entries.{holds_once}
+use Rattle.call_log.proofs.HeadLaws.{head_at-begins}
+use Rattle.friday_app.specs.declared.status.Status.{Status}
+use Rattle.friday_app.specs.declared.status.Status.TheVariants as ends
+use Rattle.friday_app.specs.declared.refusal.Reason.TheVariants as reason
+use Rattle.friday_app.specs.Command.{Command, Replay}
+use Rattle.friday_app.specs.Form.{form_of}
+use Rattle.friday_app.specs.Outcome.{Outcome, Work, Stop, and_then, file_of, given, refuses, status_of}
+use Rattle.friday_app.specs.Expected.{expected, module_of, log_of, body_or, head_or}
+use Rattle.friday_app.specs.Report.{replay_work}
+use Rattle.friday_app.specs.Call.{IsAnswer}
+use Rattle.friday_app.specs.Run.{Outside, Run, NoFault, Works}
+use Rattle.friday_app.specs.Valid.{IsValid, IsModuleFile, IsLogFile, Stands}
+use Rattle.friday_app.proofs.FormLaws.{form_again}
+
+stands_given : (store : Store) (name : List ℕ) (limit : ℕ) (bytes : List ℕ) → Stands store name limit bytes → file_of store name limit ≡ Ok bytes
+stands_given store name limit bytes h = ap (given name) (ap (found_within limit) h.held ∙ within_held limit bytes h.within)
+
+module_stands : (store : Store) (name : List ℕ) (h : IsModuleFile store name) → module_of store name ≡ Ok h.body
+module_stands store name h =
+    ap (λ (r : Result (List ℕ) Stop). and_then r (λ bytes. body_or name (form_of bytes))) (stands_given store name 4194304 h.bytes h.stands)
+    ∙ ap (body_or name) (form_again h.bytes h.body h.form)
+
+log_stands : (store : Store) (name : List ℕ) (h : IsLogFile store name) → log_of store name ≡ Ok (h.head, h.left)
+log_stands store name h =
+    let built : stops_at_unbuilt (rest_of h.left) ≡ false = ap stops_at_unbuilt (sym (holds_once h.left h.entries h.rest h.holds).1) ∙ h.built in
+    ap (λ (r : Result (List ℕ) Stop). and_then r (λ bytes. head_or name (head_at bytes))) (stands_given store name 33554432 (head_bytes h.head ++ h.left) h.stands)
+    ∙ ap (head_or name) (head_at-begins (head_bytes h.head ++ h.left) h.head h.left h.in_range refl)
+    ∙ ap (λ (b : Bool). cond b (Err (refuses name reason.LogNotBuilt)) (Ok (h.head, h.left))) built
+
+valid_works : (command : Command) (store : Store) (left : Option (List ℕ)) → IsValid (Some command) store left → (work : Work) × (expected (Some command) (Some store) left ≡ Some (Ok work))
+valid_works (Replay module_name log_name) store left (m, l) = (
+  replay_work m.body l.head l.left,
+  ap Some (ap (λ (r : Result Trees Stop). and_then r (λ body. and_then (log_of store log_name) (λ log. Ok (replay_work body log.0 log.1)))) (module_stands store module_name m)
+      ∙ ap (λ (r : Result (Head × List ℕ) Stop). and_then r (λ log. Ok (replay_work m.body log.0 log.1))) (log_stands store log_name l)),
+)
+
+settled : (answer wanted : Status) → (IsAnswer answer → answer ≡ wanted) → (answer ≡ ends.ReadFault → ⊥) → (answer ≡ ends.WriteFault → ⊥) → (answer ≡ wanted) ⊎ (answer ≡ ends.NoMemory)
+settled ends.ReadFault wanted answers reads writes = absurd (reads refl)
+settled ends.WriteFault wanted answers reads writes = absurd (writes refl)
+settled ends.NoMemory wanted answers reads writes = inr refl
+settled ends.Done wanted answers reads writes = inl (answers tt)
+settled ends.Diverged wanted answers reads writes = inl (answers tt)
+settled ends.Usage wanted answers reads writes = inl (answers tt)
+settled ends.Refused wanted answers reads writes = inl (answers tt)
+settled ends.Absent wanted answers reads writes = inl (answers tt)
+
+either : {A B : Type 0} → A ⊎ B → (A → ⊥) → (B → ⊥) → ⊥
+either (inl a) f g = f a
+either (inr b) f g = g b
+
+-- valid words and files, and no fault: the command does its work
+pub run_completes : (command : Option Command) (old new : Outside) (answer : Status) (store : Store) → Run command old new answer → old.told ≡ Some store → IsValid command store old.left → NoFault old new
+    → Works command old.told old.left answer
+run_completes None old new answer store run told valid quiet = absurd valid
+run_completes (Some command) old new answer store run told valid quiet =
+    let w = valid_works command store old.left valid in
+    let is = ap (λ t. expected (Some command) t old.left) told ∙ w.1 in
+    record {
+      work = w.0;
+      is_expected = is;
+      status = settled answer _ (run.status (Ok w.0) is)
+          (λ e. either (run.read_fault e) quiet.reads quiet.input) (λ e. either (run.write_fault e) quiet.writes quiet.out);
+    }

@@ -1,0 +1,158 @@
+-- What a command's result comes to.
+use Rattle.std.proofs.Common.{◌≡◌, ◌++◌, ℕ, List, [], Option, Some, None, Result, Ok, Err, IfSome, IfNone, refl, sym, ap, subst, ◌∙◌, inl, inr, append-nil, IfErr, arith, cond, string_bytes}
+use Rattle.std.specs.Io.KnownBytes.{append_known}
+use Rattle.std.proofs.lemmas.Grind.{common_steps}
+use Rattle.std.proofs.lemmas.Option.{same_Some}
+use Rattle.fri_outside.specs.Outside.{Store, Counts, Rose}
+use Rattle.friday_app.specs.declared.status.Status.{Status}
+use Rattle.friday_app.specs.declared.status.Status.TheVariants as ends
+use Rattle.friday_app.specs.declared.refusal.Answer.{Answer}
+use Rattle.friday_app.specs.declared.refusal.Answer.TheVariants as answered
+use Rattle.friday_app.specs.declared.refusal.Reason.TheVariants as reason
+use Rattle.friday_app.specs.declared.refusal.Refusal.{Refusal}
+use Rattle.friday_app.specs.declared.refusal.Refusal.TheVariants as refusal
+use Rattle.friday_app.specs.Command.{Command}
+use Rattle.friday_app.specs.Outcome.{Outcome, Refuses, Lacks, refused_line, absent_line, usage_line, status_of, text_of, writes_of, with_files}
+use Rattle.friday_app.specs.Expected.{expected, written_by}
+use Rattle.friday_app.specs.Run.{Outside, Run}
+use Rattle.friday_app.specs.Call.{Prints, PrintsRefusal, DivergesOnlyIn, Leaves, IsAnswer, IsIdle, Tells, Makes, Keeps, Raises, FaultStatus, answer_of, OthersStay, Finishes}
+use Rattle.friday_app.proofs.Made.{same_changes, all_changes, same_others}
+
+nothing_more : (o : Option (List ℕ)) → o ≡ append_known o []
+nothing_more None = refl
+nothing_more (Some xs) = ap Some (sym (append-nil xs))
+
+-- nothing was printed, at a status that is no answer
+prints_none : (answer : Status) (text : List ℕ) (before after : Option (List ℕ)) → (IsAnswer answer → ⊥) → after ≡ before → Prints answer text before after
+prints_none answer text before after none e = record { whole = λ is. absurd (none is); part = (0, e ∙ nothing_more before) }
+
+text_ends : (ended : Result Answer Refusal) (answer : Status) (outcome : Outcome) (before after : Option (List ℕ))
+    → Tells outcome ended
+    → IfSome (answer_of ended) (λ a. Prints answer a.1 before after)
+    → IfNone (answer_of ended) (after ≡ before)
+    → FaultStatus ended answer
+    → Prints answer (text_of outcome) before after
+text_ends (Ok (answered.Done text)) answer outcome before after (work, is, same, diverged) prints silent fault =
+    subst (λ t. Prints answer t before after) (same ∙ sym (ap text_of is)) prints
+text_ends (Ok (answered.Diverged text)) answer outcome before after (work, is, same, diverged) prints silent fault =
+    subst (λ t. Prints answer t before after) (same ∙ sym (ap text_of is)) prints
+text_ends (Err (refusal.Refused file why)) answer outcome before after (done, is, none) prints silent fault =
+    subst (λ t. Prints answer t before after) (ap (λ t. t ++ refused_line (string_bytes file) why) (sym none) ∙ sym (ap text_of is)) prints
+text_ends (Err (refusal.Absent file)) answer outcome before after is prints silent fault =
+    subst (λ o. Prints answer (text_of o) before after) (sym is) prints
+text_ends (Err refusal.ReadFault) answer outcome before after is prints silent fault =
+    prints_none answer _ before after (λ h. subst IsAnswer fault h) silent
+text_ends (Err refusal.WriteFault) answer outcome before after is prints silent fault =
+    prints_none answer _ before after (λ h. subst IsAnswer fault h) silent
+text_ends (Err refusal.NoMemory) answer outcome before after is prints silent fault =
+    prints_none answer _ before after (λ h. subst IsAnswer fault h) silent
+
+-- the files, where none of them was made and none was to be made
+none_left : (answer : Status) (outcome : Outcome) (before after : Option Store) → writes_of outcome ≡ [] → after ≡ before → Leaves answer (writes_of outcome) before after
+none_left answer outcome before after none same = record {
+  whole = λ _. same ∙ ap (λ w. with_files w before) (sym none);
+  part = same_changes before after (writes_of outcome) same;
+}
+
+files_end : (ended : Result Answer Refusal) (answer : Status) (files : List (List ℕ × List ℕ)) (before after : Option Store)
+    → Makes ended files before after
+    → FaultStatus ended answer
+    → Leaves answer files before after
+files_end (Ok given) answer files before after makes fault = record { whole = λ _. makes; part = all_changes files before after makes }
+files_end (Err (refusal.Refused file why)) answer files before after makes fault = record { whole = λ _. makes; part = all_changes files before after makes }
+files_end (Err (refusal.Absent file)) answer files before after makes fault = record { whole = λ _. makes; part = all_changes files before after makes }
+files_end (Err refusal.ReadFault) answer files before after makes fault = record { whole = λ h. absurd (subst IsAnswer fault h); part = makes }
+files_end (Err refusal.WriteFault) answer files before after makes fault = record { whole = λ h. absurd (subst IsAnswer fault h); part = makes }
+files_end (Err refusal.NoMemory) answer files before after makes fault = record { whole = λ h. absurd (subst IsAnswer fault h); part = makes }
+
+refusal_ends : (ended : Result Answer Refusal) (answer : Status) (before after : Option (List ℕ)) (old new : Counts)
+    → IfSome (answer_of ended) (λ a. IsAnswer answer → answer ≡ a.0)
+    → IfSome (answer_of ended) (λ a. Prints answer a.1 before after)
+    → FaultStatus ended answer
+    → IfErr ended (Raises old new)
+    → answer ≡ ends.Refused
+    → PrintsRefusal before after (Rose old.misses new.misses)
+refusal_ends (Ok (answered.Done text)) answer before after old new answers prints fault cause is =
+    let e : ends.Refused ≡ ends.Done = sym is ∙ answers (subst IsAnswer (sym is) tt) in cc
+refusal_ends (Ok (answered.Diverged text)) answer before after old new answers prints fault cause is =
+    let e : ends.Refused ≡ ends.Diverged = sym is ∙ answers (subst IsAnswer (sym is) tt) in cc
+refusal_ends (Err (refusal.Refused file why)) answer before after old new answers prints fault cause is =
+    ([], (string_bytes file), (why, prints.whole (subst IsAnswer (sym is) tt), λ large. inl (cause large)))
+refusal_ends (Err (refusal.Absent file)) answer before after old new answers prints fault cause is =
+    let e : ends.Refused ≡ ends.Absent = sym is ∙ answers (subst IsAnswer (sym is) tt) in cc
+refusal_ends (Err refusal.ReadFault) answer before after old new answers prints fault cause is = let e = sym is ∙ fault in cc
+refusal_ends (Err refusal.WriteFault) answer before after old new answers prints fault cause is = let e = sym is ∙ fault in cc
+refusal_ends (Err refusal.NoMemory) answer before after old new answers prints fault cause is = let e = sym is ∙ fault in cc
+
+-- the status of a finished result
+status_ends : (ended : Result Answer Refusal) (answer : Status) (outcome : Outcome)
+    → Tells outcome ended
+    → IfSome (answer_of ended) (λ a. IsAnswer answer → answer ≡ a.0)
+    → FaultStatus ended answer
+    → IsAnswer answer
+    → answer ≡ status_of outcome
+status_ends (Ok (answered.Done text)) answer outcome (work, is, same, diverged) answers fault h =
+    answers h ∙ ap (λ b. cond b ends.Diverged ends.Done) (sym diverged) ∙ sym (ap status_of is)
+status_ends (Ok (answered.Diverged text)) answer outcome (work, is, same, diverged) answers fault h =
+    answers h ∙ ap (λ b. cond b ends.Diverged ends.Done) (sym diverged) ∙ sym (ap status_of is)
+status_ends (Err (refusal.Refused file why)) answer outcome (done, is, none) answers fault h = answers h ∙ sym (ap status_of is)
+status_ends (Err (refusal.Absent file)) answer outcome is answers fault h = answers h ∙ sym (ap status_of is)
+status_ends (Err refusal.ReadFault) answer outcome is answers fault h = absurd (subst IsAnswer fault h)
+status_ends (Err refusal.WriteFault) answer outcome is answers fault h = absurd (subst IsAnswer fault h)
+status_ends (Err refusal.NoMemory) answer outcome is answers fault h = absurd (subst IsAnswer fault h)
+
+-- a run of a command whose result was finished
+pub run_ends : (command : Command) (ended : Result Answer Refusal) (answer : Status) (old new : Outside)
+    → DivergesOnlyIn (Some command) ended
+    → ((o : Outcome) → expected (Some command) old.told old.left ≡ Some o → Tells o ended)
+    → ((o : Outcome) → expected (Some command) old.told old.left ≡ Some o → Makes ended (writes_of o) old.told new.told)
+    → OthersStay (written_by (Some command)) old.told new.told
+    → Keeps ended old.told new.told
+    → IfErr ended (Raises old.counts new.counts)
+    → Finishes ended answer old.taken new.taken old.out_faults new.out_faults
+    → Run (Some command) old new answer
+run_ends command ended answer old new diverges tells makes others keeps cause f = record {
+  usage = grind (arith, common_steps);
+  diverged = grind (arith, common_steps);
+  status = λ o e h. status_ends ended answer o (tells o e) f.status f.fault h;
+  text = λ o e. text_ends ended answer o _ _ (tells o e) f.text f.silent f.fault;
+  files = λ o e. files_end ended answer (writes_of o) _ _ (makes o e) f.fault;
+  others = others;
+  idle = grind (arith, common_steps);
+  absent = grind (arith, common_steps);
+  refused = refusal_ends ended answer _ _ old.counts new.counts f.status f.text f.fault cause;
+  read_fault = grind (arith, common_steps);
+  write_fault = grind (arith, common_steps);
+  out_fault = λ o e. let m = makes o e in grind (arith, common_steps);
+}
+
+-- a run of words that are no command
+pub run_none : (answer : Status) (old new : Outside) → new.told ≡ old.told
+    → (IsAnswer answer → answer ≡ ends.Usage)
+    → Prints answer usage_line old.taken new.taken
+    → (answer ≡ ends.ReadFault → ⊥)
+    → (answer ≡ ends.WriteFault → Rose old.out_faults new.out_faults)
+    → Run None old new answer
+run_none answer old new same usage prints reads writes = record {
+  usage = record { only = λ _. refl; always = λ _ h. usage h };
+  diverged = λ is. let e : ends.Diverged ≡ ends.Usage = sym is ∙ usage (subst IsAnswer (sym is) tt) in absurd (usage_not_diverged e);
+  status = λ o e h. usage h ∙ ap status_of (same_Some _ _ e);
+  text = λ o e. subst (λ o. Prints answer (text_of o) old.taken new.taken) (same_Some _ _ e) prints;
+  files = λ o e. none_left answer o _ _ (sym (ap writes_of (same_Some _ _ e))) same;
+  others = same_others _ _ _ same;
+  idle = λ _. same;
+  absent = λ is. let e : ends.Absent ≡ ends.Usage = sym is ∙ usage (subst IsAnswer (sym is) tt) in cc;
+  refused = λ is. let e : ends.Refused ≡ ends.Usage = sym is ∙ usage (subst IsAnswer (sym is) tt) in absurd (usage_not_refused e);
+  read_fault = λ is. absurd (reads is);
+  write_fault = λ is. inr (writes is);
+  out_fault = λ o e is. inr (same ∙ ap (λ w. with_files w old.told) (ap writes_of (same_Some _ _ e)));
+} where
+  usage_not_refused : ends.Refused ≡ ends.Usage → ⊥
+  usage_not_refused e = cc
+
+  usage_not_diverged : ends.Diverged ≡ ends.Usage → ⊥
+  usage_not_diverged e = cc
+
+-- the same of words that come to that
+pub run_same : {command said : Option Command} {old new : Outside} {answer : Status} → command ≡ said → Run command old new answer → Run said old new answer
+run_same {old = old} {new = new} {answer = answer} is run = subst (λ k. Run k old new answer) is run

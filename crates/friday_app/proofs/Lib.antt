@@ -1,0 +1,7 @@
+pub mod Completes
+pub mod Ends
+pub mod Folding
+pub mod FormLaws
+pub mod Made
+pub mod Printed
+pub mod Stops

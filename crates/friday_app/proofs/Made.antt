@@ -1,0 +1,72 @@
+-- What is made of the files of a command's work.
+use Rattle.std.proofs.Common.{◌≡◌, ◌<◌, ℕ, zero, suc, arith, slice_index_or, Contains, List, [], ◌∷◌, true, false, cond, Option, Some, take, length, refl, sym, ap, subst, ◌∙◌, inl, inr, lit<, Ok, Err, Result}
+use Rattle.std.proofs.Math.Seq.{take-length}
+use Rattle.std.specs.Ordering.{nat_cmp, eq_by_cmp}
+use Rattle.std.specs.Cmp.Lexicographic.{slice_cmp, nat_list_cmp_total}
+use Rattle.std.specs.FinMap.{insert, get, get-insert}
+use Rattle.fri_outside.specs.Outside.{Store, with_file}
+use Rattle.fri_outside.proofs.Stored.{is_same}
+use Rattle.friday_app.specs.declared.refusal.Answer.{Answer}
+use Rattle.friday_app.specs.declared.refusal.Refusal.{Refusal}
+use Rattle.friday_app.specs.declared.refusal.Refusal.TheVariants as refusal
+use Rattle.friday_app.specs.Outcome.{with_files}
+use Rattle.friday_app.specs.Call.{ChangesOnly, IsLeft, Makes, Keeps, OthersStay}
+
+-- what did not change at all changed these files only
+pub same_changes : (before after : Option Store) (files : List (List ℕ × List ℕ)) → after ≡ before → ChangesOnly before files after
+same_changes before after files e = record { each = λ old told. (old, e ∙ told, λ name. inl refl) }
+
+-- a file that was set to some of its front: that name has it, and the others are as before
+is_left : (old : Store) (name bytes : List ℕ) (n : ℕ) (q : List ℕ) → IsLeft old ((name, bytes) ∷ []) (insert old name (take n bytes)) q
+is_left old name bytes n q =
+    elim (eq_by_cmp (slice_cmp nat_cmp) q name) as (λ b. eq_by_cmp (slice_cmp nat_cmp) q name ≡ b → IsLeft old ((name, bytes) ∷ []) (insert old name (take n bytes)) q) [
+      | true ↦ λ tied. let same : q ≡ name = is_same q name tied in
+          inr (bytes, (0, lit< tt, ap (λ k. (k, bytes)) (sym same)), (n, get-insert nat_list_cmp_total old name (take n bytes) q ∙ ap (λ b. cond b (Some (take n bytes)) (get old q)) tied))
+      | false ↦ λ differs. inl (get-insert nat_list_cmp_total old name (take n bytes) q ∙ ap (λ b. cond b (Some (take n bytes)) (get old q)) differs)
+    ] refl
+
+first_of_one : (k : ℕ) (x y : List ℕ × List ℕ) → k < 1 → slice_index_or (x ∷ []) k y ≡ y → x ≡ y
+first_of_one zero x y h e = e
+first_of_one (suc k) x y h e = absurd (omega arith)
+
+-- a name in a store with one file more
+more_left : (old now new : Store) (file : List ℕ × List ℕ) (files : List (List ℕ × List ℕ)) (q : List ℕ) → now ≡ insert old file.0 file.1 → IsLeft now files new q → IsLeft old (file ∷ files) new q
+more_left old now new file files q is (inl same) = one_more (is_left old file.0 file.1 (length file.1) q) where
+  here : get new q ≡ get (insert old file.0 (take (length file.1) file.1)) q
+  here = same ∙ ap (λ s. get s q) is ∙ ap (λ b. get (insert old file.0 b) q) (sym (take-length file.1))
+
+  one_more : IsLeft old ((file.0, file.1) ∷ []) (insert old file.0 (take (length file.1) file.1)) q → IsLeft old (file ∷ files) new q
+  one_more (inl before) = inl (here ∙ before)
+  one_more (inr (bytes, (k, inside, at), (n, has))) = inr (bytes, (0, omega arith, first_of_one k file (q, bytes) inside at), (n, here ∙ has))
+more_left old now new file files q is (inr (bytes, (k, inside, at), n)) = inr (bytes, (suc k, omega arith, at), n)
+
+-- files that are made are made in part
+pub all_changes : (files : List (List ℕ × List ℕ)) (before after : Option Store) → after ≡ with_files files before → ChangesOnly before files after
+all_changes [] before after e = same_changes before after [] e
+all_changes (file ∷ files) before after e = record {
+  each = λ old told.
+      let rest = (all_changes files (with_file file.0 file.1 before) after e).each (insert old file.0 file.1) (ap (with_file file.0 file.1) told) in
+      (rest.0, rest.1, λ q. more_left old (insert old file.0 file.1) rest.0 file files q refl (rest.2 q));
+}
+
+-- where nothing changed, the others stayed
+pub same_others : (names : Store → List (List ℕ)) (before after : Option Store) → after ≡ before → OthersStay names before after
+same_others names before after e = record { each = λ old told. (old, e ∙ told, λ name out. refl) }
+
+-- where no file was to be made and none changed, those that were to be made are made
+pub none_made : (ended : Result Answer Refusal) (files : List (List ℕ × List ℕ)) (before after : Option Store) → files ≡ [] → after ≡ before → Makes ended files before after
+none_made (Ok answer) files before after none same = same ∙ sym (ap (λ f. with_files f before) none)
+none_made (Err (refusal.Refused file why)) files before after none same = same ∙ sym (ap (λ f. with_files f before) none)
+none_made (Err (refusal.Absent file)) files before after none same = same ∙ sym (ap (λ f. with_files f before) none)
+none_made (Err refusal.ReadFault) files before after none same = same_changes before after files same
+none_made (Err refusal.WriteFault) files before after none same = same_changes before after files same
+none_made (Err refusal.NoMemory) files before after none same = same_changes before after files same
+
+-- where no file changed, none was changed at a refusal
+pub same_keeps : (ended : Result Answer Refusal) (before after : Option Store) → after ≡ before → Keeps ended before after
+same_keeps (Ok answer) before after same = tt
+same_keeps (Err (refusal.Refused file why)) before after same = tt
+same_keeps (Err (refusal.Absent file)) before after same = same
+same_keeps (Err refusal.ReadFault) before after same = same
+same_keeps (Err refusal.WriteFault) before after same = tt
+same_keeps (Err refusal.NoMemory) before after same = tt

@@ -1,0 +1,61 @@
+-- Replay writes no file, whatever it comes to.
+use Rattle.std.proofs.Common.{◌≡◌, ℕ, List, [], Bool, true, false, cond, Option, Some, None, option_map, Result, Ok, Err, refl, sym, ap, ◌∙◌, subst}
+use Rattle.std.proofs.lemmas.Option.{same_Some}
+use Rattle.fri_outside.specs.Outside.{Store, Found, Missing, Over, Held, found}
+use Rattle.wasm_types.specs.Code.{Trees}
+use Rattle.call_log.specs.Head.{Head}
+use Rattle.call_log.specs.Log.{head_at, rest_of, stops_at_unbuilt}
+use Rattle.friday_app.specs.declared.refusal.Reason.TheVariants as reason
+use Rattle.friday_app.specs.Form.{form_of}
+use Rattle.friday_app.specs.Outcome.{Stop, Outcome, and_then, given, writes_of, refuses}
+use Rattle.friday_app.specs.Command.{Command, Replay}
+use Rattle.friday_app.specs.Expected.{expected, replay_outcome, body_or, head_or, module_of, log_of}
+use Rattle.friday_app.specs.Report.{replay_work}
+
+-- a step at whose stop nothing was written
+abbrev IsEarly : {A : Type 0} → Result A Stop → Type 0
+IsEarly (Ok value) = Unit {0}
+IsEarly (Err stop) = writes_of (Err stop) ≡ []
+
+given_early : (name : List ℕ) (here : Found) → IsEarly (given name here)
+given_early name Missing = refl
+given_early name Over = refl
+given_early name (Held bytes) = tt
+
+body_early : (name : List ℕ) (body : Option Trees) → IsEarly (body_or name body)
+body_early name None = refl
+body_early name (Some body) = tt
+
+test_early : (name : List ℕ) (log : Head × List ℕ) (b : Bool) → IsEarly (cond b (Err (refuses name reason.LogNotBuilt)) (Ok log))
+test_early name log true = refl
+test_early name log false = tt
+
+head_early : (name : List ℕ) (log : Option (Head × List ℕ)) → IsEarly (head_or name log)
+head_early name None = refl
+head_early name (Some log) = test_early name log (stops_at_unbuilt (rest_of log.1))
+
+then_early : {A B : Type 0} (first : Result A Stop) (next : A → Result B Stop) → IsEarly first → ((value : A) → IsEarly (next value)) → IsEarly (and_then first next)
+then_early (Ok value) next early later = later value
+then_early (Err stop) next early later = early
+
+then_none : {A : Type 0} (first : Result A Stop) (next : A → Outcome) → IsEarly first → ((value : A) → writes_of (next value) ≡ []) → writes_of (and_then first next) ≡ []
+then_none (Ok value) next early later = later value
+then_none (Err stop) next early later = early
+
+module_early : (store : Store) (name : List ℕ) → IsEarly (module_of store name)
+module_early store name = then_early _ _ (given_early name (found store name 4194304)) (λ bytes. body_early name (form_of bytes))
+
+log_early : (store : Store) (name : List ℕ) → IsEarly (log_of store name)
+log_early store name = then_early _ _ (given_early name (found store name 33554432)) (λ bytes. head_early name (head_at bytes))
+
+replay_writes_at : (module_name log_name : List ℕ) (store : Store) → writes_of (replay_outcome module_name log_name store) ≡ []
+replay_writes_at module_name log_name store =
+    then_none (module_of store module_name) _ (module_early store module_name) (λ body. then_none (log_of store log_name) _ (log_early store log_name) (λ log. refl))
+
+replay_writes : (module_name log_name : List ℕ) (told : Option Store) (o : Outcome) → option_map (replay_outcome module_name log_name) told ≡ Some o → writes_of o ≡ []
+replay_writes module_name log_name None o e = cc
+replay_writes module_name log_name (Some store) o e = ap writes_of (sym (same_Some _ _ e)) ∙ replay_writes_at module_name log_name store
+
+-- the commands that write no file, whatever they come to
+pub no_writes : (command : Command) (told : Option Store) (left : Option (List ℕ)) (o : Outcome) → expected (Some command) told left ≡ Some o → writes_of o ≡ []
+no_writes (Replay module_name log_name) told left o e = replay_writes module_name log_name told o e

@@ -1,0 +1,155 @@
+-- What a call says of its status, of what it printed, and of the files after it.
+use Rattle.std.specs.Prelude.{◌≡◌, ◌≢◌, ◌⊎◌, ℕ, List, [], ◌++◌, codes, string_bytes, Option, Some, None, take, Contains, IfSome, IfNone, Result, Ok, Err, true, false}
+use Rattle.std.specs.FinMap.{get}
+use Rattle.std.specs.Io.KnownBytes.{append_known}
+use Rattle.fri_outside.specs.Outside.{Store, WhenTold, Counts, Rose}
+use Rattle.friday_app.specs.declared.status.Status.{Status}
+use Rattle.friday_app.specs.declared.status.Status.TheVariants as ends
+use Rattle.friday_app.specs.declared.refusal.Answer.{Answer}
+use Rattle.friday_app.specs.declared.refusal.Answer.TheVariants as answered
+use Rattle.friday_app.specs.declared.refusal.Reason.{Reason}
+use Rattle.friday_app.specs.declared.refusal.Reason.TheVariants as reason
+use Rattle.friday_app.specs.declared.refusal.Refusal.{Refusal}
+use Rattle.friday_app.specs.declared.refusal.Refusal.TheVariants as refusal
+use Rattle.friday_app.specs.Command.{Command, IsReplay}
+use Rattle.friday_app.specs.Outcome.{Outcome, Work, Stop, Refuses, Lacks, refuses, refused_line, absent_line, with_files}
+
+-- statuses 0 to 4: the call came to its end, with no fault and no want of memory
+abbrev pub IsAnswer : Status → Type 0
+IsAnswer ends.ReadFault = ⊥
+IsAnswer ends.WriteFault = ⊥
+IsAnswer ends.NoMemory = ⊥
+IsAnswer answer = Unit {0}
+
+-- after an answer the sink took the whole text, and else some of its front
+pub record Prints (answer : Status) (text : List ℕ) (before after : Option (List ℕ)) : Type 0 where
+  pub whole : IsAnswer answer → after ≡ append_known before text
+  pub part : (n : ℕ) × (after ≡ append_known before (take n text))
+
+-- a name is as before, or is one of these files and has some of its front
+abbrev pub IsLeft : Store → List (List ℕ × List ℕ) → Store → List ℕ → Type 0
+IsLeft old files new name =
+    (get new name ≡ get old name)
+    ⊎ ((bytes : List ℕ) × Contains files (name, bytes) × ((n : ℕ) × (get new name ≡ Some (take n bytes))))
+
+-- each of these files is as before or has some of its front, and no other name changes
+pub record ChangesOnly (before : Option Store) (files : List (List ℕ × List ℕ)) (after : Option Store) : Type 0 where
+  pub each : WhenTold before (λ old. (new : Store) × (after ≡ Some new) × ((name : List ℕ) → IsLeft old files new name))
+
+-- after an answer the files of the work are made; at any status they alone change, each to some of its front
+pub record Leaves (answer : Status) (files : List (List ℕ × List ℕ)) (before after : Option Store) : Type 0 where
+  pub whole : IsAnswer answer → after ≡ with_files files before
+  pub part : ChangesOnly before files after
+
+-- no name but these changes
+pub record OthersStay (names : Store → List (List ℕ)) (before after : Option Store) : Type 0 where
+  pub each : WhenTold before (λ old. (new : Store) × (after ≡ Some new)
+      × ((name : List ℕ) → (Contains (names old) name → ⊥) → get new name ≡ get old name))
+
+-- Usage comes exactly where the words name no command, but for a fault or want of memory in its place
+pub record IsExactUsage (command : Option Command) (answer : Status) : Type 0 where
+  pub only : answer ≡ ends.Usage → command ≡ None
+  pub always : command ≡ None → IsAnswer answer → answer ≡ ends.Usage
+
+-- statuses 2, 4 and 5, after which no file has changed. After status 3 the files are those of the refusal
+abbrev pub IsIdle : Status → Type 0
+IsIdle ends.Usage = Unit {0}
+IsIdle ends.Absent = Unit {0}
+IsIdle ends.ReadFault = Unit {0}
+IsIdle answer = ⊥
+
+-- a sink took the line that refuses something: for its size only the input, or a file where the cause held
+abbrev pub PrintsRefusal : Option (List ℕ) → Option (List ℕ) → Type 0 → Type 0
+PrintsRefusal before after cause =
+    (earlier file : List ℕ) × ((why : Reason) × (after ≡ append_known before (earlier ++ refused_line file why))
+    × (why ≡ reason.TooLarge → cause ⊎ (file ≡ codes "input")))
+
+-- A COMMAND'S RESULT, before its text is written
+
+-- a refusal tells the stop at which this comes to no value
+abbrev pub StopsAs : {A : Type 0} → Result A Stop → Refusal → Type 0
+StopsAs wanted (refusal.Refused file why) = wanted ≡ Err (refuses (string_bytes file) why)
+StopsAs wanted (refusal.Absent file) = wanted ≡ Err (Lacks (string_bytes file))
+StopsAs wanted refusal.ReadFault = Unit {0}
+StopsAs wanted refusal.WriteFault = Unit {0}
+StopsAs wanted refusal.NoMemory = Unit {0}
+
+-- a refusal that came before anything was printed
+abbrev pub RefusesWith : Outcome → List ℕ → Reason → Type 0
+RefusesWith outcome file why = (done : Work) × (outcome ≡ Err (Refuses file why done)) × (done.text ≡ [])
+
+-- this refusal of this file, or want of memory
+abbrev pub Names : List ℕ → Reason → Refusal → Type 0
+Names name why (refusal.Refused file reason) = (string_bytes file ≡ name) × (reason ≡ why)
+Names name why refusal.NoMemory = Unit {0}
+Names name why other = ⊥
+
+-- that this file is absent, or want of memory
+abbrev pub NamesAbsent : List ℕ → Refusal → Type 0
+NamesAbsent name (refusal.Absent file) = string_bytes file ≡ name
+NamesAbsent name refusal.NoMemory = Unit {0}
+NamesAbsent name other = ⊥
+
+-- a command's result tells this outcome
+abbrev pub Tells : Outcome → Result Answer Refusal → Type 0
+Tells outcome (Ok (answered.Done text)) = (work : Work) × (outcome ≡ Ok work) × (text ≡ work.text) × (work.diverged ≡ false)
+Tells outcome (Ok (answered.Diverged text)) = (work : Work) × (outcome ≡ Ok work) × (text ≡ work.text) × (work.diverged ≡ true)
+Tells outcome (Err (refusal.Refused file why)) = RefusesWith outcome (string_bytes file) why
+Tells outcome (Err (refusal.Absent file)) = outcome ≡ Err (Lacks (string_bytes file))
+Tells outcome (Err refusal.ReadFault) = Unit {0}
+Tells outcome (Err refusal.WriteFault) = Unit {0}
+Tells outcome (Err refusal.NoMemory) = Unit {0}
+
+-- a refusal has its cause in the counts
+abbrev pub Raises : Counts → Counts → Refusal → Type 0
+Raises old new (refusal.Refused file why) = why ≡ reason.TooLarge → Rose old.misses new.misses
+Raises old new (refusal.Absent file) = Rose old.misses new.misses
+Raises old new refusal.ReadFault = Rose old.reads new.reads
+Raises old new refusal.WriteFault = Rose old.writes new.writes
+Raises old new refusal.NoMemory = Unit {0}
+
+-- no file changed where a command found no file or could not read, whatever the store
+abbrev pub Keeps : Result Answer Refusal → Option Store → Option Store → Type 0
+Keeps (Err (refusal.Absent file)) before after = after ≡ before
+Keeps (Err refusal.ReadFault) before after = after ≡ before
+Keeps result before after = Unit {0}
+
+-- the files that were to be made are made at an answer, and some of them in part where a write or memory failed
+abbrev pub Makes : Result Answer Refusal → List (List ℕ × List ℕ) → Option Store → Option Store → Type 0
+Makes (Ok answer) files before after = after ≡ with_files files before
+Makes (Err (refusal.Refused file why)) files before after = after ≡ with_files files before
+Makes (Err (refusal.Absent file)) files before after = after ≡ with_files files before
+Makes (Err refusal.ReadFault) files before after = ChangesOnly before files after
+Makes (Err refusal.WriteFault) files before after = ChangesOnly before files after
+Makes (Err refusal.NoMemory) files before after = ChangesOnly before files after
+
+-- only the work of replay tells a divergence
+abbrev pub DivergesOnlyIn : Option Command → Result Answer Refusal → Type 0
+DivergesOnlyIn command (Ok (answered.Diverged text)) = IsReplay command
+DivergesOnlyIn command result = Unit {0}
+
+-- the status and the text that a command's result comes to, unless a fault or want of memory ended it
+abbrev pub answer_of : Result Answer Refusal → Option (Status × List ℕ)
+answer_of (Ok (answered.Done text)) = Some (ends.Done, text)
+answer_of (Ok (answered.Diverged text)) = Some (ends.Diverged, text)
+answer_of (Err (refusal.Refused file why)) = Some (ends.Refused, refused_line (string_bytes file) why)
+answer_of (Err (refusal.Absent file)) = Some (ends.Absent, absent_line (string_bytes file))
+answer_of (Err refusal.ReadFault) = None
+answer_of (Err refusal.WriteFault) = None
+answer_of (Err refusal.NoMemory) = None
+
+-- the status of a fault, and of want of memory
+abbrev pub FaultStatus : Result Answer Refusal → Status → Type 0
+FaultStatus (Err refusal.ReadFault) answer = answer ≡ ends.ReadFault
+FaultStatus (Err refusal.WriteFault) answer = answer ≡ ends.WriteFault
+FaultStatus (Err refusal.NoMemory) answer = answer ≡ ends.NoMemory
+FaultStatus result answer = Unit {0}
+
+-- what a command's result comes to, with its text written
+pub record Finishes (ended : Result Answer Refusal) (answer : Status) (before after : Option (List ℕ)) (faults_before faults_after : ℕ) : Type 0 where
+  pub status : IfSome (answer_of ended) (λ a. IsAnswer answer → answer ≡ a.0)
+  pub text : IfSome (answer_of ended) (λ a. Prints answer a.1 before after)
+  pub silent : IfNone (answer_of ended) (after ≡ before)
+  pub fault : FaultStatus ended answer
+  pub read_fault : IfSome (answer_of ended) (λ _. answer ≢ ends.ReadFault)
+  pub write_fault : IfSome (answer_of ended) (λ _. answer ≡ ends.WriteFault → Rose faults_before faults_after)

@@ -1,0 +1,13 @@
+pub mod Numbers
+pub mod Command
+pub mod Form
+pub mod Thread
+pub mod Process
+pub mod Replay
+pub mod Report
+pub mod Outcome
+pub mod Expected
+pub mod Seen
+pub mod Call
+pub mod Run
+pub mod Valid

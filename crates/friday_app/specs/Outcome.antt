@@ -1,0 +1,86 @@
+-- What a command comes to: the work that it does, or the stop at which it ends.
+use Rattle.std.specs.Prelude.{ℕ, List, [], ◌∷◌, ◌++◌, Bool, true, false, codes, Option, Some, None, Result, Ok, Err, if◌then◌else◌}
+use Rattle.fri_outside.specs.Outside.{Store, Found, Missing, Over, Held, found, with_file}
+use Rattle.friday_app.specs.declared.status.Status.{Status}
+use Rattle.friday_app.specs.declared.status.Status.TheVariants as status
+use Rattle.friday_app.specs.declared.refusal.Reason.{Reason}
+use Rattle.friday_app.specs.declared.refusal.Reason.TheVariants as reason
+
+-- what a command does: the text that it prints, the files that it makes, each with its bytes and in their order, and whether a log diverged
+pub record Work : Type 0 where
+  pub text : List ℕ
+  pub writes : List (List ℕ × List ℕ)
+  pub diverged : Bool
+
+-- what was done before a stop, where it comes before all work
+abbrev pub nothing_done : Work
+nothing_done = record { text = []; writes = []; diverged = false }
+
+-- why a command does not do its work. A refusal says what was printed and written before it
+pub data Stop : Type 0 where
+  NotACommand : Stop
+  Refuses : (file : List ℕ) → Reason → (done : Work) → Stop
+  Lacks : (file : List ℕ) → Stop
+
+-- a refusal before all work
+abbrev pub refuses : List ℕ → Reason → Stop
+refuses file why = Refuses file why nothing_done
+
+abbrev pub Outcome : Type 0
+Outcome = Result Work Stop
+
+-- what follows, unless there is a stop
+abbrev pub and_then : {A B : Type 0} → Result A Stop → (A → Result B Stop) → Result B Stop
+and_then (Ok value) next = next value
+and_then (Err stop) next = Err stop
+
+-- the bytes of a file, where it is there and within its limit
+abbrev pub given : List ℕ → Found → Result (List ℕ) Stop
+given name Missing = Err (Lacks name)
+given name Over = Err (refuses name reason.TooLarge)
+given name (Held bytes) = Ok bytes
+
+abbrev pub file_of : Store → List ℕ → ℕ → Result (List ℕ) Stop
+file_of store name limit = given name (found store name limit)
+
+-- why a file is refused, as it is printed
+abbrev pub reason_text : Reason → List ℕ
+reason_text reason.TooLarge = codes "TooLarge"
+reason_text reason.ModuleNotBuilt = codes "8 NotBuilt"
+reason_text reason.BadHead = codes "1 BadHead"
+reason_text reason.LogNotBuilt = codes "5 NotBuilt"
+
+abbrev pub usage_line : List ℕ
+usage_line = codes "friday: these words are not a command\n"
+
+abbrev pub refused_with : List ℕ → List ℕ → List ℕ
+refused_with file why = codes "friday: refused " ++ (file ++ (codes ": " ++ (why ++ codes "\n")))
+
+abbrev pub refused_line : List ℕ → Reason → List ℕ
+refused_line file why = refused_with file (reason_text why)
+
+abbrev pub absent_line : List ℕ → List ℕ
+absent_line file = codes "friday: absent " ++ (file ++ codes "\n")
+
+abbrev pub status_of : Outcome → Status
+status_of (Ok work) = if work.diverged then status.Diverged else status.Done
+status_of (Err NotACommand) = status.Usage
+status_of (Err (Refuses file why done)) = status.Refused
+status_of (Err (Lacks file)) = status.Absent
+
+abbrev pub text_of : Outcome → List ℕ
+text_of (Ok work) = work.text
+text_of (Err NotACommand) = usage_line
+text_of (Err (Refuses file why done)) = done.text ++ refused_line file why
+text_of (Err (Lacks file)) = absent_line file
+
+abbrev pub writes_of : Outcome → List (List ℕ × List ℕ)
+writes_of (Ok work) = work.writes
+writes_of (Err NotACommand) = []
+writes_of (Err (Refuses file why done)) = done.writes
+writes_of (Err (Lacks file)) = []
+
+-- the store with these files made, the first of them first
+abbrev pub with_files : List (List ℕ × List ℕ) → Option Store → Option Store
+with_files [] told = told
+with_files (file ∷ files) told = with_files files (with_file file.0 file.1 told)

@@ -1,0 +1,51 @@
+-- What a whole run of a command says.
+use Rattle.std.specs.Prelude.{◌≡◌, ◌⊎◌, ℕ, List, Option, Some, Ok}
+use Rattle.fri_outside.specs.Outside.{Store, WhenTold, Counts, Rose}
+use Rattle.friday_app.specs.declared.status.Status.{Status}
+use Rattle.friday_app.specs.declared.status.Status.TheVariants as ends
+use Rattle.friday_app.specs.Command.{Command, IsReplay, command_of}
+use Rattle.friday_app.specs.Outcome.{Outcome, Work, status_of, text_of, writes_of, with_files}
+use Rattle.friday_app.specs.Expected.{expected, written_by}
+use Rattle.friday_app.specs.Call.{IsAnswer, IsExactUsage, IsIdle, Prints, PrintsRefusal, Leaves, OthersStay}
+
+-- what is said of the outcome of these words, as far as the store and the input tell it
+abbrev pub Expects : List (List ℕ) → Option Store → Option (List ℕ) → (Outcome → Type 0) → Type 0
+Expects words told left P = WhenTold (expected (command_of words) told left) P
+
+-- what is handed in, as far as it tells
+pub record Outside : Type 0 where
+  pub told : Option Store
+  pub counts : Counts
+  pub left : Option (List ℕ)
+  pub input_faults : ℕ
+  pub taken : Option (List ℕ)
+  pub out_faults : ℕ
+
+-- no count of faults rose
+pub record NoFault (old new : Outside) : Type 0 where
+  pub reads : Rose old.counts.reads new.counts.reads → ⊥
+  pub writes : Rose old.counts.writes new.counts.writes → ⊥
+  pub input : Rose old.input_faults new.input_faults → ⊥
+  pub out : Rose old.out_faults new.out_faults → ⊥
+
+-- the command has work to do, and the status is that of the work, or want of memory
+pub record Works (command : Option Command) (told : Option Store) (left : Option (List ℕ)) (answer : Status) : Type 0 where
+  pub work : Work
+  pub is_expected : expected command told left ≡ Some (Ok work)
+  pub status : (answer ≡ status_of (Ok work)) ⊎ (answer ≡ ends.NoMemory)
+
+-- a command ran from one state of the outside to another, and gave this status
+pub record Run (command : Option Command) (old new : Outside) (answer : Status) : Type 0 where
+  pub usage : IsExactUsage command answer
+  pub diverged : answer ≡ ends.Diverged → IsReplay command
+  pub status : WhenTold (expected command old.told old.left) (λ outcome. IsAnswer answer → answer ≡ status_of outcome)
+  pub text : WhenTold (expected command old.told old.left) (λ outcome. Prints answer (text_of outcome) old.taken new.taken)
+  pub files : WhenTold (expected command old.told old.left) (λ outcome. Leaves answer (writes_of outcome) old.told new.told)
+  pub others : OthersStay (written_by command) old.told new.told
+  pub idle : IsIdle answer → new.told ≡ old.told
+  pub absent : answer ≡ ends.Absent → Rose old.counts.misses new.counts.misses
+  pub refused : answer ≡ ends.Refused → PrintsRefusal old.taken new.taken (Rose old.counts.misses new.counts.misses)
+  pub read_fault : answer ≡ ends.ReadFault → Rose old.counts.reads new.counts.reads ⊎ Rose old.input_faults new.input_faults
+  pub write_fault : answer ≡ ends.WriteFault → Rose old.counts.writes new.counts.writes ⊎ Rose old.out_faults new.out_faults
+  pub out_fault : WhenTold (expected command old.told old.left) (λ outcome. answer ≡ ends.WriteFault
+      → Rose old.counts.writes new.counts.writes ⊎ (new.told ≡ with_files (writes_of outcome) old.told))

@@ -1,0 +1,37 @@
+-- Words and files at which a command does its work.
+use Rattle.std.specs.Prelude.{◌≡◌, ℕ, ◌≤◌, List, ◌++◌, length, Option, Some, None, false}
+use Rattle.std.specs.FinMap.{get}
+use Rattle.fri_outside.specs.Outside.{Store}
+use Rattle.wasm_types.specs.Code.{Trees}
+use Rattle.call_log.specs.Entry.{Entry}
+use Rattle.call_log.specs.Head.{Head, IsHead, head_bytes}
+use Rattle.call_log.specs.Log.{Holds, stops_at_unbuilt}
+use Rattle.friday_app.specs.Command.{Command, Replay}
+use Rattle.friday_app.specs.Form.{IsForm}
+
+-- a file is there and is within its limit
+pub record Stands (store : Store) (name : List ℕ) (limit : ℕ) (bytes : List ℕ) : Type 0 where
+  pub held : get store name ≡ Some bytes
+  pub within : length bytes ≤ limit
+
+-- a file is a module of the form that is built
+pub record IsModuleFile (store : Store) (name : List ℕ) : Type 0 where
+  pub bytes : List ℕ
+  pub stands : Stands store name 4194304 bytes
+  pub body : Trees
+  pub form : IsForm bytes body
+
+-- a file is a log, in which no entry of a kind that is not built follows the entries
+pub record IsLogFile (store : Store) (name : List ℕ) : Type 0 where
+  pub head : Head
+  pub in_range : IsHead head
+  pub left : List ℕ
+  pub stands : Stands store name 33554432 (head_bytes head ++ left)
+  pub entries : List Entry
+  pub rest : List ℕ
+  pub holds : Holds left entries rest
+  pub built : stops_at_unbuilt rest ≡ false
+
+abbrev pub IsValid : Option Command → Store → Option (List ℕ) → Type 0
+IsValid None store left = ⊥
+IsValid (Some (Replay module_name log_name)) store left = IsModuleFile store module_name × IsLogFile store log_name

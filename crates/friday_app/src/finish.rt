@@ -1,0 +1,92 @@
+// Writes the text that a call ends with, and gives its status.
+ghost use Rattle.std.specs.Prelude.{◌≡◌, ◌≢◌, ◌⊎◌, IfOk, string_bytes};
+ghost use Rattle.fri_outside.specs.Outside.{Rose};
+ghost use Rattle.friday_app.specs.Outcome.{reason_text, refused_line, refused_with, absent_line};
+ghost use Rattle.friday_app.specs.Call.{IsAnswer, Prints, Finishes};
+
+use crate::refusal::{Answer, Reason, Refusal};
+use crate::status::Status;
+use fri_outside::{Sink, WriteError, write_whole};
+use std::alloc::{AllocError, Global};
+
+fn name_of(reason: Reason) -> &'static str
+    ensures { result.now ≡ reason_text reason }
+{
+    match reason {
+        Reason::TooLarge => "TooLarge",
+        Reason::ModuleNotBuilt => "8 NotBuilt",
+        Reason::BadHead => "1 BadHead",
+        Reason::LogNotBuilt => "5 NotBuilt",
+    }
+}
+
+fn print_refused(alloc: Global, file: &str, reason: Reason) -> Result<String, AllocError>
+    ensures { IfOk result (λ text. string_bytes text ≡ refused_line file.now reason) }
+{
+    print_refused_with(alloc, file, name_of(reason))
+}
+
+fn print_refused_with(alloc: Global, file: &str, why: &str) -> Result<String, AllocError>
+    ensures { IfOk result (λ text. string_bytes text ≡ refused_with file.now why.now) }
+{
+    format!(in alloc; "friday: refused {file}: {why}\n")
+}
+
+fn print_absent(alloc: Global, file: &str) -> Result<String, AllocError>
+    ensures { IfOk result (λ text. string_bytes text ≡ absent_line file.now) }
+{
+    format!(in alloc; "friday: absent {file}\n")
+}
+
+/// Writes a text, and gives the status that the call then has.
+pub fn say<K: Sink>(out: &mut K, text: &[u8], status: Status) -> Status
+    ensures status { IsAnswer result → result ≡ status }
+    ensures text { Prints result text.now (K.taken out.old) (K.taken out.new) }
+    ensures read_fault { result ≡ Status.ReadFault → status ≡ Status.ReadFault }
+    ensures write_fault { result ≡ Status.WriteFault → Rose (K.faults out.old) (K.faults out.new) ⊎ (status ≡ Status.WriteFault) }
+{
+    match write_whole(out, text) {
+        Ok(()) => status,
+        Err(WriteError::Failed) => Status::WriteFault,
+        Err(WriteError::NoMemory) => Status::NoMemory,
+    }
+}
+
+fn say_refused<K: Sink>(alloc: Global, file: &str, reason: Reason, out: &mut K) -> Status
+    ensures status { IsAnswer result → result ≡ Status.Refused }
+    ensures text { Prints result (refused_line file.now reason) (K.taken out.old) (K.taken out.new) }
+    ensures read_fault { result ≢ Status.ReadFault }
+    ensures write_fault { result ≡ Status.WriteFault → Rose (K.faults out.old) (K.faults out.new) }
+{
+    match print_refused(alloc, file, reason) {
+        Ok(line) => say(out, line.as_bytes(), Status::Refused),
+        Err(_) => Status::NoMemory,
+    }
+}
+
+fn say_absent<K: Sink>(alloc: Global, file: &str, out: &mut K) -> Status
+    ensures status { IsAnswer result → result ≡ Status.Absent }
+    ensures text { Prints result (absent_line file.now) (K.taken out.old) (K.taken out.new) }
+    ensures read_fault { result ≢ Status.ReadFault }
+    ensures write_fault { result ≡ Status.WriteFault → Rose (K.faults out.old) (K.faults out.new) }
+{
+    match print_absent(alloc, file) {
+        Ok(line) => say(out, line.as_bytes(), Status::Absent),
+        Err(_) => Status::NoMemory,
+    }
+}
+
+/// Writes what a command's result comes to.
+pub fn finish<K: Sink>(alloc: Global, ended: Result<Answer, Refusal>, out: &mut K) -> Status
+    ensures { Finishes ended result (K.taken out.old) (K.taken out.new) (K.faults out.old) (K.faults out.new) }
+{
+    match ended {
+        Ok(Answer::Done(text)) => say(out, text.bytes(), Status::Done),
+        Ok(Answer::Diverged(text)) => say(out, text.bytes(), Status::Diverged),
+        Err(Refusal::Refused(file, reason)) => say_refused(alloc, &file, reason, out),
+        Err(Refusal::Absent(file)) => say_absent(alloc, &file, out),
+        Err(Refusal::ReadFault) => Status::ReadFault,
+        Err(Refusal::WriteFault) => Status::WriteFault,
+        Err(Refusal::NoMemory) => Status::NoMemory,
+    }
+}

@@ -1,0 +1,98 @@
+// Reads the files that a command asks for.
+ghost use Rattle.std.specs.Prelude.{◌≡◌, ◌≤◌, vec_len, Ok, IfOk, IfErr, MatchResult};
+ghost use Rattle.fri_outside.specs.Outside.{WhenTold, Counts, NoneFell};
+ghost use Rattle.wasm_types.specs.Code.{trees};
+ghost use Rattle.friday_app.specs.Outcome.{file_of};
+ghost use Rattle.call_log.specs.Log.{head_at, rest_of};
+ghost use Rattle.friday_app.specs.Expected.{module_of, head_or};
+ghost use Rattle.friday_app.specs.Call.{StopsAs, Raises};
+
+use crate::form::{FormError, read_form};
+use crate::refusal::{Reason, Refusal};
+use call_log::{LogView, stops_at_unbuilt};
+use fri_outside::{FileError, Files};
+use std::alloc::Global;
+use wasm_types::Instr;
+
+const MODULE_LIMIT: usize = 4_194_304;
+
+const LOG_LIMIT: usize = 33_554_432;
+
+/// All bytes of a file, within its limit.
+pub fn take_file<F: Files>(
+    alloc: Global,
+    name: &str,
+    limit: usize,
+    files: &mut F,
+) -> Result<Vec<u8>, Refusal>
+    ensures within { IfOk result (λ bytes. vec_len bytes ≤ limit) }
+    ensures answer { WhenTold (F.told files.old) (λ store. MatchResult result
+        (λ bytes. file_of store name.now limit ≡ Ok bytes.items) (StopsAs (file_of store name.now limit))) }
+    ensures same { F.told files.new ≡ F.told files.old }
+    ensures counts { NoneFell (F.counts files.old) (F.counts files.new) }
+    ensures cause { IfErr result (Raises (F.counts files.old) (F.counts files.new)) }
+{
+    match files.read(alloc, name, limit) {
+        Ok(bytes) => Ok(bytes),
+        Err(FileError::Absent) => Err(Refusal::absent(alloc, name)),
+        Err(FileError::TooLarge) => Err(Refusal::refuse(alloc, name, Reason::TooLarge)),
+        Err(FileError::Failed) => Err(Refusal::ReadFault),
+        Err(FileError::NoMemory) => Err(Refusal::NoMemory),
+    }
+}
+
+/// The body of the module that a file holds.
+pub fn take_module<F: Files>(
+    alloc: Global,
+    name: &str,
+    files: &mut F,
+) -> Result<Vec<Instr>, Refusal>
+    ensures answer { WhenTold (F.told files.old) (λ store. MatchResult result
+        (λ body. module_of store name.now ≡ Ok (trees body.items)) (StopsAs (module_of store name.now))) }
+    ensures same { F.told files.new ≡ F.told files.old }
+    ensures counts { NoneFell (F.counts files.old) (F.counts files.new) }
+    ensures cause { IfErr result (Raises (F.counts files.old) (F.counts files.new)) }
+{
+    let bytes = take_file(alloc, name, MODULE_LIMIT, files)?;
+    match read_form(alloc, &bytes) {
+        Ok(body) => Ok(body),
+        Err(FormError::NotBuilt) => Err(Refusal::refuse(alloc, name, Reason::ModuleNotBuilt)),
+        Err(FormError::NoMemory) => Err(Refusal::NoMemory),
+    }
+}
+
+/// The bytes of a log file.
+pub fn take_log<F: Files>(alloc: Global, name: &str, files: &mut F) -> Result<Vec<u8>, Refusal>
+    ensures answer { WhenTold (F.told files.old) (λ store. MatchResult result
+        (λ bytes. file_of store name.now 33554432 ≡ Ok bytes.items) (StopsAs (file_of store name.now 33554432))) }
+    ensures same { F.told files.new ≡ F.told files.old }
+    ensures counts { NoneFell (F.counts files.old) (F.counts files.new) }
+    ensures cause { IfErr result (Raises (F.counts files.old) (F.counts files.new)) }
+{
+    take_file(alloc, name, LOG_LIMIT, files)
+}
+
+// What is left behind the entries.
+fn rest_behind<'b>(mut log: LogView<'b>) -> &'b [u8]
+    ensures { result.now ≡ rest_of log.entry.left }
+{
+    while let Some(_) = log.next_entry() {}
+    log.rest()
+}
+
+/// The log that the bytes of a file spell.
+pub fn begin_log<'b>(alloc: Global, name: &str, bytes: &'b [u8]) -> Result<LogView<'b>, Refusal>
+    ensures answer { MatchResult result
+        (λ log. head_or name.now (head_at bytes.now) ≡ Ok (log.head, log.left))
+        (StopsAs (head_or name.now (head_at bytes.now))) }
+    ensures cause { (old new : Counts) → IfErr result (Raises old new) }
+{
+    let log = match LogView::begin(bytes) {
+        Ok(log) => log,
+        Err(_) => return Err(Refusal::refuse(alloc, name, Reason::BadHead)),
+    };
+    if stops_at_unbuilt(rest_behind(log.copy())) {
+        return Err(Refusal::refuse(alloc, name, Reason::LogNotBuilt));
+    }
+    Ok(log)
+}

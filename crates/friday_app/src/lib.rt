@@ -1,0 +1,23 @@
+//! The program as one call: the words of the command line, the files, an input and an output are handed in.
+#![tactic(auto)]
+
+mod command;
+mod divergence;
+mod finish;
+mod form;
+mod inputs;
+mod process;
+mod refusal;
+mod replay;
+mod replayer;
+mod report;
+mod settle;
+mod status;
+mod thread;
+mod top;
+
+pub use status::Status;
+pub use top::friday;
+
+#[cfg(test)]
+mod tests;

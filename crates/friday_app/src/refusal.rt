@@ -1,0 +1,72 @@
+// What a command comes to, before its text is written.
+ghost use Rattle.std.specs.Prelude.{◌≡◌};
+ghost use Rattle.friday_app.specs.declared.refusal.Refusal.TheVariants as refusal;
+
+use fri_text::Text;
+use std::alloc::{AllocError, AllocFailed, Global};
+
+/// Why a file is refused.
+#[derive(Clone, Copy, Debug, PartialEq, Eq)]
+pub enum Reason {
+    TooLarge,
+    ModuleNotBuilt,
+    BadHead,
+    LogNotBuilt,
+}
+
+/// What a command prints at the end of its work, at which a log may have diverged.
+#[derive(Drop)]
+pub enum Answer {
+    Done(Text),
+    Diverged(Text),
+}
+
+/// Why a command does not come to its end. A file's name is kept, since it may come from another file.
+#[derive(Drop)]
+pub enum Refusal {
+    Refused(String, Reason),
+    Absent(String),
+    ReadFault,
+    WriteFault,
+    NoMemory,
+}
+
+impl Refusal {
+    ghost use Rattle.friday_app.specs.Call.{Names, NamesAbsent};
+
+    /// The refusal of a file, or want of memory for its name.
+    pub fn refuse(alloc: Global, file: &str, reason: Reason) -> Refusal
+        ensures { Names file.now reason result }
+    {
+        match String::from_str(alloc, file) {
+            Ok(file) => Refusal::Refused(file, reason),
+            Err(_) => Refusal::NoMemory,
+        }
+    }
+
+    /// That a file is absent, or want of memory for its name.
+    pub fn absent(alloc: Global, file: &str) -> Refusal
+        ensures { NamesAbsent file.now result }
+    {
+        match String::from_str(alloc, file) {
+            Ok(file) => Refusal::Absent(file),
+            Err(_) => Refusal::NoMemory,
+        }
+    }
+}
+
+impl From<AllocError> for Refusal {
+    ghost from_gives = { λ _ e. e ≡ refusal.NoMemory };
+
+    fn from(_: AllocError) -> Self {
+        Refusal::NoMemory
+    }
+}
+
+impl<T: Drop> From<AllocFailed<T>> for Refusal {
+    ghost from_gives = { λ _ e. e ≡ refusal.NoMemory };
+
+    fn from(_: AllocFailed<T>) -> Self {
+        Refusal::NoMemory
+    }
+}

@@ -1,0 +1,29 @@
+// `replay MODULE LOG`: the events of a log, made again.
+ghost use Rattle.std.specs.Prelude.{◌≡◌, option_map, IfOk, IfErr};
+ghost use Rattle.fri_outside.specs.Outside.{WhenTold, NoneFell};
+ghost use Rattle.friday_app.specs.Expected.{replay_outcome};
+ghost use Rattle.friday_app.specs.Call.{Tells, Raises};
+
+use crate::inputs::{begin_log, take_log, take_module};
+use crate::refusal::{Answer, Refusal};
+use crate::report::report;
+use fri_outside::Files;
+use std::alloc::Global;
+
+pub fn replay<F: Files>(
+    alloc: Global,
+    module_file: &str,
+    log_file: &str,
+    files: &mut F,
+) -> Result<Answer, Refusal>
+    ensures tells { WhenTold (option_map (replay_outcome module_file.now log_file.now) (F.told files.old)) (λ outcome. Tells outcome result) }
+    ensures same { F.told files.new ≡ F.told files.old }
+    ensures counts { NoneFell (F.counts files.old) (F.counts files.new) }
+    ensures cause { IfErr result (Raises (F.counts files.old) (F.counts files.new)) }
+{
+    let body = take_module(alloc, module_file, files)?;
+    let bytes = take_log(alloc, log_file, files)?;
+    let view = begin_log(alloc, log_file, &bytes)?;
+    let answer = report(alloc, &body, view)?;
+    Ok(answer)
+}

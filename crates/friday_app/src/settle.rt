@@ -1,0 +1,52 @@
+// A command from its start to its status.
+ghost use Rattle.std.specs.Prelude.{◌≡◌, List, ℕ, Option, Some, IfErr};
+ghost use Rattle.fri_outside.specs.Outside.{WhenTold, NoneFell};
+ghost use Rattle.friday_app.specs.Seen.{meaning};
+ghost use Rattle.friday_app.specs.Outcome.{writes_of};
+ghost use Rattle.friday_app.specs.Expected.{expected, written_by};
+ghost use Rattle.friday_app.specs.Call.{Tells, Makes, Keeps, DivergesOnlyIn, OthersStay, Raises};
+ghost use Rattle.friday_app.specs.Run.{Run};
+
+use crate::command::Command;
+use crate::finish::finish;
+use crate::refusal::{Answer, Refusal};
+use crate::replay::replay;
+use crate::status::Status;
+use fri_outside::{Files, Sink};
+use std::alloc::Global;
+
+// Does the work of a command that prints one text at its end, and reads no input.
+fn perform<F: Files>(alloc: Global, command: Command<'_>, files: &mut F) -> Result<Answer, Refusal>
+    ensures tells { (left : Option (List ℕ)) → WhenTold (expected (Some (meaning command.entry)) (F.told files.old) left)
+        (λ outcome. Tells outcome result) }
+    ensures makes { (left : Option (List ℕ)) → WhenTold (expected (Some (meaning command.entry)) (F.told files.old) left) (λ outcome.
+        Makes result (writes_of outcome) (F.told files.old) (F.told files.new)) }
+    ensures others { OthersStay (written_by (Some (meaning command.entry))) (F.told files.old) (F.told files.new) }
+    ensures keeps { Keeps result (F.told files.old) (F.told files.new) }
+    ensures diverges { DivergesOnlyIn (Some (meaning command.entry)) result }
+    ensures counts { NoneFell (F.counts files.old) (F.counts files.new) }
+    ensures cause { IfErr result (Raises (F.counts files.old) (F.counts files.new)) }
+{
+    match command {
+        Command::Replay {
+            module_file,
+            log_file,
+        } => replay(alloc, module_file, log_file, files),
+    }
+}
+
+/// Does a command that reads no input, and writes what it comes to.
+pub fn settle<F: Files, K: Sink>(
+    alloc: Global,
+    command: Command<'_>,
+    files: &mut F,
+    out: &mut K,
+) -> Status
+    ensures { (left : Option (List ℕ)) (faults : ℕ) → Run (Some (meaning command.entry))
+        (record { told = F.told files.old; counts = F.counts files.old; left = left; input_faults = faults; taken = K.taken out.old; out_faults = K.faults out.old })
+        (record { told = F.told files.new; counts = F.counts files.new; left = left; input_faults = faults; taken = K.taken out.new; out_faults = K.faults out.new })
+        result }
+{
+    let ended = perform(alloc, command, files);
+    finish(alloc, ended, out)
+}

@@ -1,0 +1,96 @@
+// The top call.
+ghost use Rattle.std.specs.Prelude.{◌≡◌, ◌≢◌, ◌⊎◌, codes, map, string_bytes};
+ghost use Rattle.fri_outside.specs.Outside.{WhenTold, Rose};
+ghost use Rattle.friday_app.specs.Command.{IsReplay, command_of};
+ghost use Rattle.friday_app.specs.Outcome.{status_of, text_of, writes_of, with_files};
+ghost use Rattle.friday_app.specs.Expected.{written_by};
+ghost use Rattle.friday_app.specs.Valid.{IsValid};
+ghost use Rattle.friday_app.specs.Run.{Run, NoFault, Works, Expects};
+ghost use Rattle.friday_app.specs.Call.{IsAnswer, IsExactUsage, IsIdle, Prints, PrintsRefusal, Leaves, OthersStay};
+
+use crate::command::parse;
+use crate::finish::say;
+use crate::settle::settle;
+use crate::status::Status;
+use fri_outside::{Files, Sink, Source};
+use std::alloc::Global;
+
+// Says that the words are no command.
+fn refuse_words<K: Sink>(out: &mut K) -> Status
+    ensures status { IsAnswer result → result ≡ Status.Usage }
+    ensures text { Prints result (codes "friday: these words are not a command\n") (K.taken out.old) (K.taken out.new) }
+    ensures read_fault { result ≢ Status.ReadFault }
+    ensures write_fault { result ≡ Status.WriteFault → Rose (K.faults out.old) (K.faults out.new) }
+{
+    say(
+        out,
+        b"friday: these words are not a command\n",
+        Status::Usage,
+    )
+}
+
+// Runs what the words say. A command that reads no input leaves it as it is.
+fn run<F: Files, S: Source, K: Sink>(
+    alloc: Global,
+    words: &[String],
+    files: &mut F,
+    input: &mut S,
+    out: &mut K,
+) -> Status
+    ensures { Run (command_of (map string_bytes words.now))
+        (record { told = F.told files.old; counts = F.counts files.old; left = S.left input.old; input_faults = S.faults input.old; taken = K.taken out.old; out_faults = K.faults out.old })
+        (record { told = F.told files.new; counts = F.counts files.new; left = S.left input.new; input_faults = S.faults input.new; taken = K.taken out.new; out_faults = K.faults out.new })
+        result }
+{
+    match parse(words) {
+        None => refuse_words(out),
+        Some(command) => settle(alloc, command, files, out),
+    }
+}
+
+/// Does what the words of the command line say, without the program's own name.
+///
+/// What a command comes to (`expected`) is said once for all commands, as far as the files and the
+/// input tell it: the status, the text that `out` gets and the files that are made. A fault of an
+/// object that was handed in ends the call in its place, and so does want of memory, which is free.
+pub fn friday<F: Files, S: Source, K: Sink>(
+    alloc: Global,
+    words: &[String],
+    files: &mut F,
+    input: &mut S,
+    out: &mut K,
+) -> Status
+    // The answer
+    ensures usage { IsExactUsage (command_of (map string_bytes words.now)) result }
+    ensures diverged { result ≡ Status.Diverged → IsReplay (command_of (map string_bytes words.now)) }
+    ensures status { Expects (map string_bytes words.now) (F.told files.old) (S.left input.old) (λ outcome.
+        IsAnswer result → result ≡ status_of outcome) }
+    ensures text { Expects (map string_bytes words.now) (F.told files.old) (S.left input.old) (λ outcome.
+        Prints result (text_of outcome) (K.taken out.old) (K.taken out.new)) }
+    ensures files { Expects (map string_bytes words.now) (F.told files.old) (S.left input.old) (λ outcome.
+        Leaves result (writes_of outcome) (F.told files.old) (F.told files.new)) }
+
+    // Valid words, files and input, and no fault: the work is done, unless memory runs out.
+    ensures complete { WhenTold (F.told files.old) (λ store. IsValid (command_of (map string_bytes words.now)) store (S.left input.old)
+        → NoFault (record { told = F.told files.old; counts = F.counts files.old; left = S.left input.old; input_faults = S.faults input.old; taken = K.taken out.old; out_faults = K.faults out.old })
+        (record { told = F.told files.new; counts = F.counts files.new; left = S.left input.new; input_faults = S.faults input.new; taken = K.taken out.new; out_faults = K.faults out.new })
+        → Works (command_of (map string_bytes words.now)) (F.told files.old) (S.left input.old) result) }
+
+    // The causes, over any objects
+    ensures absent { result ≡ Status.Absent → Rose (F.counts files.old).misses (F.counts files.new).misses }
+    ensures refused { result ≡ Status.Refused → PrintsRefusal (K.taken out.old) (K.taken out.new)
+        (Rose (F.counts files.old).misses (F.counts files.new).misses) }
+    ensures read_fault { result ≡ Status.ReadFault → Rose (F.counts files.old).reads (F.counts files.new).reads
+        ⊎ Rose (S.faults input.old) (S.faults input.new) }
+    ensures write_fault { result ≡ Status.WriteFault → Rose (F.counts files.old).writes (F.counts files.new).writes
+        ⊎ Rose (K.faults out.old) (K.faults out.new) }
+
+    // The files
+    ensures others { OthersStay (written_by (command_of (map string_bytes words.now))) (F.told files.old) (F.told files.new) }
+    ensures idle { IsIdle result → F.told files.new ≡ F.told files.old }
+    ensures out_fault { Expects (map string_bytes words.now) (F.told files.old) (S.left input.old) (λ outcome.
+        result ≡ Status.WriteFault → Rose (F.counts files.old).writes (F.counts files.new).writes
+        ⊎ (F.told files.new ≡ with_files (writes_of outcome) (F.told files.old))) }
+{
+    run(alloc, words, files, input, out)
+}
