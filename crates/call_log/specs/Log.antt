@@ -1,11 +1,12 @@
 -- The head, the entries and the rest of some bytes, and a log of which some entries were read.
-use Rattle.std.specs.Prelude.{◌≡◌, ℕ, zero, suc, ◌^◌, Bool, true, false, ◌&&◌, not, nat_eq, nat_lt, nat_le, if◌then◌else◌, List, [], ◌∷◌, ◌++◌, length, drop, slice_index, Option, Some, None, is_none, option_and_then, All}
+use Rattle.std.specs.Prelude.{◌≡◌, ℕ, zero, suc, ◌^◌, Bool, true, ◌&&◌, not, nat_eq, nat_lt, nat_le, if◌then◌else◌, List, [], ◌∷◌, ◌++◌, length, drop, slice_index, Option, Some, None, option_and_then, All}
 use Rattle.std.specs.List.{starts_with}
 use Rattle.lamport_tag.specs.declared.Tag.{Tag}
 use Rattle.call_log.specs.declared.entry.Call.{Call}
 use Rattle.call_log.specs.Kind.{is_built, argument_count, has_outgoing, has_incoming, has_tag}
 use Rattle.call_log.specs.Entry.{Entry, IsShaped, BeginsNoEntry, encoding, encodings}
-use Rattle.call_log.specs.Head.{Head, head_bytes, is_name}
+use Rattle.fri_text.specs.Name.{is_name}
+use Rattle.call_log.specs.Head.{Head, head_bytes}
 use Rattle.call_log.specs.Reading.{read_entry, read_head}
 
 -- the head, and the bytes behind the entries that were read

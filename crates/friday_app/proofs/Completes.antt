@@ -10,14 +10,17 @@ use Rattle.call_log.proofs.HeadLaws.{head_at-begins}
 use Rattle.friday_app.specs.declared.status.Status.{Status}
 use Rattle.friday_app.specs.declared.status.Status.TheVariants as ends
 use Rattle.friday_app.specs.declared.refusal.Reason.TheVariants as reason
-use Rattle.friday_app.specs.Command.{Command, Replay}
+use Rattle.friday_app.specs.Command.{Command, Record, Replay}
 use Rattle.friday_app.specs.Form.{form_of}
 use Rattle.friday_app.specs.Outcome.{Outcome, Work, Stop, and_then, file_of, given, refuses, status_of}
-use Rattle.friday_app.specs.Expected.{expected, module_of, log_of, body_or, head_or}
+use Rattle.friday_app.specs.Expected.{expected, module_of, log_of, body_or, head_or, process_of, schedule_in, schedule_or}
+use Rattle.friday_app.specs.Record.{record_work}
 use Rattle.friday_app.specs.Report.{replay_work}
+use Rattle.schedule_text.specs.Reading.{schedule_of}
+use Rattle.schedule_text.specs.Schedule.{Schedule}
 use Rattle.friday_app.specs.Call.{IsAnswer}
 use Rattle.friday_app.specs.Run.{Outside, Run, NoFault, Works}
-use Rattle.friday_app.specs.Valid.{IsValid, IsModuleFile, IsLogFile, Stands}
+use Rattle.friday_app.specs.Valid.{IsValid, IsModuleFile, IsLogFile, IsScheduleFile, Stands}
 use Rattle.friday_app.proofs.FormLaws.{form_again}
 
 stands_given : (store : Store) (name : List ℕ) (limit : ℕ) (bytes : List ℕ) → Stands store name limit bytes → file_of store name limit ≡ Ok bytes
@@ -35,7 +38,17 @@ log_stands store name h =
     ∙ ap (head_or name) (head_at-begins (head_bytes h.head ++ h.left) h.head h.left h.in_range refl)
     ∙ ap (λ (b : Bool). cond b (Err (refuses name reason.LogNotBuilt)) (Ok (h.head, h.left))) built
 
+schedule_stands : (store : Store) (name : List ℕ) (schedule : Schedule) (h : IsScheduleFile store name schedule) → schedule_in store name ≡ Ok schedule
+schedule_stands store name schedule h =
+    ap (λ (r : Result (List ℕ) Stop). and_then r (λ bytes. schedule_or name (schedule_of bytes))) (stands_given store name 16777216 h.bytes h.stands)
+    ∙ ap (schedule_or name) h.spelled
+
 valid_works : (command : Command) (store : Store) (left : Option (List ℕ)) → IsValid (Some command) store left → (work : Work) × (expected (Some command) (Some store) left ≡ Some (Ok work))
+valid_works (Record schedule_name) store left (schedule, s, m) = (
+  record_work (process_of schedule).name m.body schedule.items,
+  ap Some (ap (λ (r : Result Schedule Stop). and_then r (λ schedule. and_then (module_of store (process_of schedule).«module») (λ body. Ok (record_work (process_of schedule).name body schedule.items)))) (schedule_stands store schedule_name schedule s)
+      ∙ ap (λ (r : Result Trees Stop). and_then r (λ body. Ok (record_work (process_of schedule).name body schedule.items))) (module_stands store (process_of schedule).«module» m)),
+)
 valid_works (Replay module_name log_name) store left (m, l) = (
   replay_work m.body l.head l.left,
   ap Some (ap (λ (r : Result Trees Stop). and_then r (λ body. and_then (log_of store log_name) (λ log. Ok (replay_work body log.0 log.1)))) (module_stands store module_name m)

@@ -2,6 +2,12 @@ pub mod Completes
 pub mod Ends
 pub mod Folding
 pub mod FormLaws
+pub mod Gathered
 pub mod Made
+pub mod Names
+pub mod OneEvent
 pub mod Printed
+pub mod Recording
+pub mod Shaped
 pub mod Stops
+pub mod Written

@@ -1,16 +1,20 @@
 -- What is made of the files of a command's work.
-use Rattle.std.proofs.Common.{◌≡◌, ◌<◌, ℕ, zero, suc, arith, slice_index_or, Contains, List, [], ◌∷◌, true, false, cond, Option, Some, take, length, refl, sym, ap, subst, ◌∙◌, inl, inr, lit<, Ok, Err, Result}
+use Rattle.std.proofs.Common.{◌≡◌, ◌⊎◌, ◌<◌, ℕ, zero, suc, arith, slice_index_or, Contains, List, [], ◌∷◌, true, false, cond, map, Option, Some, None, option_map, take, length, refl, sym, ap, subst, ◌∙◌, inl, inr, lit<, Ok, Err, Result}
 use Rattle.std.proofs.Math.Seq.{take-length}
+use Rattle.std.proofs.lemmas.List.{length-map}
+use Rattle.std.proofs.lemmas.Option.{same_Some}
 use Rattle.std.specs.Ordering.{nat_cmp, eq_by_cmp}
 use Rattle.std.specs.Cmp.Lexicographic.{slice_cmp, nat_list_cmp_total}
 use Rattle.std.specs.FinMap.{insert, get, get-insert}
 use Rattle.fri_outside.specs.Outside.{Store, with_file}
 use Rattle.fri_outside.proofs.Stored.{is_same}
 use Rattle.friday_app.specs.declared.refusal.Answer.{Answer}
+use Rattle.friday_app.specs.declared.refusal.Answer.TheVariants as answered
+use Rattle.friday_app.specs.Command.{Command}
 use Rattle.friday_app.specs.declared.refusal.Refusal.{Refusal}
 use Rattle.friday_app.specs.declared.refusal.Refusal.TheVariants as refusal
-use Rattle.friday_app.specs.Outcome.{with_files}
-use Rattle.friday_app.specs.Call.{ChangesOnly, IsLeft, Makes, Keeps, OthersStay}
+use Rattle.friday_app.specs.Outcome.{Outcome, nothing_done, writes_of, with_files}
+use Rattle.friday_app.specs.Call.{ChangesOnly, DivergesOnlyIn, IsLeft, Makes, Keeps, OthersStay, StopsAs, Tells}
 
 -- what did not change at all changed these files only
 pub same_changes : (before after : Option Store) (files : List (List ℕ × List ℕ)) → after ≡ before → ChangesOnly before files after
@@ -70,3 +74,55 @@ same_keeps (Err (refusal.Absent file)) before after same = same
 same_keeps (Err refusal.ReadFault) before after same = same
 same_keeps (Err refusal.WriteFault) before after same = tt
 same_keeps (Err refusal.NoMemory) before after same = tt
+
+-- one file, made in part or not at all
+pub part_changes : (before after : Option Store) (name bytes : List ℕ) → (after ≡ before) ⊎ ((n : ℕ) × (after ≡ with_file name (take n bytes) before)) → ChangesOnly before ((name, bytes) ∷ []) after
+part_changes before after name bytes (inl same) = same_changes before after ((name, bytes) ∷ []) same
+part_changes before after name bytes (inr (n, e)) = record {
+  each = λ old told. (insert old name (take n bytes), e ∙ ap (with_file name (take n bytes)) told, is_left old name bytes n);
+}
+
+-- the name of a file is among their names
+name_among : (files : List (List ℕ × List ℕ)) (file : List ℕ × List ℕ) → Contains files file → Contains (map (λ f. f.0) files) file.0
+name_among files file (k, inside, at) = (k, rw length-map inside, at_name files k file at) where
+  at_name : (files : List (List ℕ × List ℕ)) (k : ℕ) (file : List ℕ × List ℕ) → slice_index_or files k file ≡ file → slice_index_or (map (λ f. f.0) files) k file.0 ≡ file.0
+  at_name [] k file e = refl
+  at_name (x ∷ files) zero file e = ap (λ (f : List ℕ × List ℕ). f.0) e
+  at_name (x ∷ files) (suc k) file e = at_name files k file e
+
+-- where these files alone changed, no other name did
+pub changes_others : (files : Store → List (List ℕ × List ℕ)) (before after : Option Store) → ((store : Store) → before ≡ Some store → ChangesOnly before (files store) after) → OthersStay (λ store. map (λ f. f.0) (files store)) before after
+changes_others files before after changes = record {
+  each = λ old told.
+      let c = (changes old told).each old told in
+      (c.0, c.1, λ name out. stays old c.0 name out (c.2 name));
+} where
+  stays : (old new : Store) (name : List ℕ) → (Contains (map (λ f. f.0) (files old)) name → ⊥) → IsLeft old (files old) new name → get new name ≡ get old name
+  stays old new name out (inl same) = same
+  stays old new name out (inr (bytes, among, part)) = absurd (out (name_among (files old) (name, bytes) among))
+
+-- a refusal that a command stops at tells its outcome, and no file was to be made
+pub stops_tell : (o : Outcome) (e : Refusal) → StopsAs o e → Tells o (Err e)
+stops_tell o (refusal.Refused file why) is = (nothing_done, is, refl)
+stops_tell o (refusal.Absent file) is = is
+stops_tell o refusal.ReadFault is = tt
+stops_tell o refusal.WriteFault is = tt
+stops_tell o refusal.NoMemory is = tt
+
+pub stops_make : (o : Outcome) (e : Refusal) (before after : Option Store) → StopsAs o e → after ≡ before → Makes (Err e) (writes_of o) before after
+stops_make o (refusal.Refused file why) before after is same = same ∙ sym (ap (λ f. with_files f before) (ap writes_of is))
+stops_make o (refusal.Absent file) before after is same = same ∙ sym (ap (λ f. with_files f before) (ap writes_of is))
+stops_make o refusal.ReadFault before after is same = same_changes before after (writes_of o) same
+stops_make o refusal.WriteFault before after is same = same_changes before after (writes_of o) same
+stops_make o refusal.NoMemory before after is same = same_changes before after (writes_of o) same
+
+-- the outcome of a command over a store that is told
+pub outcome_at : (f : Store → Outcome) (told : Option Store) (o : Outcome) → option_map f told ≡ Some o → (store : Store) × (told ≡ Some store) × (o ≡ f store)
+outcome_at f None o e = cc
+outcome_at f (Some store) o e = (store, refl, sym (same_Some _ _ e))
+
+-- what never tells a divergence tells none in any command
+pub never_diverges : (command : Option Command) (result : Result Answer Refusal) → DivergesOnlyIn None result → DivergesOnlyIn command result
+never_diverges command (Ok (answered.Done text)) h = tt
+never_diverges command (Ok (answered.Diverged text)) h = absurd h
+never_diverges command (Err refusal) h = tt

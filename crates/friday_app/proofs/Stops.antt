@@ -52,10 +52,12 @@ replay_writes_at : (module_name log_name : List ℕ) (store : Store) → writes_
 replay_writes_at module_name log_name store =
     then_none (module_of store module_name) _ (module_early store module_name) (λ body. then_none (log_of store log_name) _ (log_early store log_name) (λ log. refl))
 
-replay_writes : (module_name log_name : List ℕ) (told : Option Store) (o : Outcome) → option_map (replay_outcome module_name log_name) told ≡ Some o → writes_of o ≡ []
+-- whatever replay comes to, it writes no file
+pub replay_writes : (module_name log_name : List ℕ) (told : Option Store) (o : Outcome) → option_map (replay_outcome module_name log_name) told ≡ Some o → writes_of o ≡ []
 replay_writes module_name log_name None o e = cc
 replay_writes module_name log_name (Some store) o e = ap writes_of (sym (same_Some _ _ e)) ∙ replay_writes_at module_name log_name store
 
--- the commands that write no file, whatever they come to
-pub no_writes : (command : Command) (told : Option Store) (left : Option (List ℕ)) (o : Outcome) → expected (Some command) told left ≡ Some o → writes_of o ≡ []
-no_writes (Replay module_name log_name) told left o e = replay_writes module_name log_name told o e
+-- the same of a command that is a replay
+pub replay_writes_none : (command : Command) (module_name log_name : List ℕ) (told : Option Store) (left : Option (List ℕ)) (o : Outcome) → command ≡ Replay module_name log_name → expected (Some command) told left ≡ Some o → writes_of o ≡ []
+replay_writes_none command module_name log_name told left o is e =
+    replay_writes module_name log_name told o (subst (λ (k : Command). expected (Some k) told left ≡ Some o) is e)

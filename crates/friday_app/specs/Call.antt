@@ -3,6 +3,8 @@ use Rattle.std.specs.Prelude.{◌≡◌, ◌≢◌, ◌⊎◌, ℕ, List, [], �
 use Rattle.std.specs.FinMap.{get}
 use Rattle.std.specs.Io.KnownBytes.{append_known}
 use Rattle.fri_outside.specs.Outside.{Store, WhenTold, Counts, Rose}
+use Rattle.fri_outside.specs.declared.files.WriteError.{WriteError}
+use Rattle.fri_outside.specs.declared.files.WriteError.TheVariants as writing
 use Rattle.friday_app.specs.declared.status.Status.{Status}
 use Rattle.friday_app.specs.declared.status.Status.TheVariants as ends
 use Rattle.friday_app.specs.declared.refusal.Answer.{Answer}
@@ -77,6 +79,11 @@ StopsAs wanted refusal.NoMemory = Unit {0}
 -- a refusal that came before anything was printed
 abbrev pub RefusesWith : Outcome → List ℕ → Reason → Type 0
 RefusesWith outcome file why = (done : Work) × (outcome ≡ Err (Refuses file why done)) × (done.text ≡ [])
+
+-- what a failed write comes to
+abbrev pub stop_of : WriteError → Refusal
+stop_of writing.Failed = refusal.WriteFault
+stop_of writing.NoMemory = refusal.NoMemory
 
 -- this refusal of this file, or want of memory
 abbrev pub Names : List ℕ → Reason → Refusal → Type 0

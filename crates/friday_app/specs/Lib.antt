@@ -3,11 +3,15 @@ pub mod Command
 pub mod Form
 pub mod Thread
 pub mod Process
+pub mod Live
 pub mod Replay
 pub mod Report
+pub mod History
 pub mod Outcome
+pub mod Record
 pub mod Expected
 pub mod Seen
+pub mod Recorded
 pub mod Call
 pub mod Run
 pub mod Valid

@@ -1,5 +1,5 @@
 -- What a command comes to: the work that it does, or the stop at which it ends.
-use Rattle.std.specs.Prelude.{ℕ, List, [], ◌∷◌, ◌++◌, Bool, true, false, codes, Option, Some, None, Result, Ok, Err, if◌then◌else◌}
+use Rattle.std.specs.Prelude.{ℕ, List, [], ◌∷◌, ◌++◌, Bool, true, false, decimal, codes, Option, Some, None, Result, Ok, Err, if◌then◌else◌}
 use Rattle.fri_outside.specs.Outside.{Store, Found, Missing, Over, Held, found, with_file}
 use Rattle.friday_app.specs.declared.status.Status.{Status}
 use Rattle.friday_app.specs.declared.status.Status.TheVariants as status
@@ -46,6 +46,8 @@ file_of store name limit = given name (found store name limit)
 -- why a file is refused, as it is printed
 abbrev pub reason_text : Reason → List ℕ
 reason_text reason.TooLarge = codes "TooLarge"
+reason_text (reason.BadLine line) = codes "line " ++ (decimal line ++ codes " BadLine")
+reason_text reason.TooMany = codes "TooMany"
 reason_text reason.ModuleNotBuilt = codes "8 NotBuilt"
 reason_text reason.BadHead = codes "1 BadHead"
 reason_text reason.LogNotBuilt = codes "5 NotBuilt"

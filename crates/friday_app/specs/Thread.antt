@@ -1,5 +1,5 @@
 -- A thread between two library calls.
-use Rattle.std.specs.Prelude.{ℕ, zero, suc, ◌+◌, ◌-◌, ◌%◌, ◌^◌, List, [], ◌∷◌, ◌++◌, length, take, slice_index}
+use Rattle.std.specs.Prelude.{ℕ, zero, suc, ◌+◌, ◌-◌, ◌%◌, ◌^◌, ◌<◌, List, [], ◌∷◌, ◌++◌, length, take, slice_index}
 use Rattle.wasm_types.specs.Code.{Tree, Trees, End, Then, ConstI64, Op, DropTop, CallFunc}
 use Rattle.call_log.specs.declared.entry.Call.{Call}
 
@@ -15,6 +15,12 @@ pub data Activity : Type 0 where
 
 abbrev pub call_of_kind : ℕ → ℕ → Call
 call_of_kind kind argument = record { kind = kind; a0 = argument; a1 = 0; a2 = 0 }
+
+-- a call at which a thread of a module can stand: `begin`, `now`, or `note` of a number of 64 bits
+pub data IsBuiltCall : Call → Type 0 where
+  IsBegin : IsBuiltCall (call_of_kind 0 0)
+  IsNow : IsBuiltCall (call_of_kind 4 0)
+  IsNote : (value : ℕ) → value < 2 ^ 64 → IsBuiltCall (call_of_kind 2 value)
 
 -- the top operand. A typed body has one wherever it takes one
 abbrev pub top : List ℕ → ℕ

@@ -1,13 +1,16 @@
 -- Words and files at which a command does its work.
-use Rattle.std.specs.Prelude.{◌≡◌, ℕ, ◌≤◌, List, ◌++◌, length, Option, Some, None, false}
+use Rattle.std.specs.Prelude.{◌≡◌, ℕ, ◌≤◌, List, ◌++◌, length, Option, Some, None, false, Ok}
 use Rattle.std.specs.FinMap.{get}
 use Rattle.fri_outside.specs.Outside.{Store}
 use Rattle.wasm_types.specs.Code.{Trees}
+use Rattle.schedule_text.specs.Reading.{schedule_of}
+use Rattle.schedule_text.specs.Schedule.{Schedule}
 use Rattle.call_log.specs.Entry.{Entry}
 use Rattle.call_log.specs.Head.{Head, IsHead, head_bytes}
 use Rattle.call_log.specs.Log.{Holds, stops_at_unbuilt}
-use Rattle.friday_app.specs.Command.{Command, Replay}
+use Rattle.friday_app.specs.Command.{Command, Record, Replay}
 use Rattle.friday_app.specs.Form.{IsForm}
+use Rattle.friday_app.specs.Expected.{process_of}
 
 -- a file is there and is within its limit
 pub record Stands (store : Store) (name : List ℕ) (limit : ℕ) (bytes : List ℕ) : Type 0 where
@@ -32,6 +35,14 @@ pub record IsLogFile (store : Store) (name : List ℕ) : Type 0 where
   pub holds : Holds left entries rest
   pub built : stops_at_unbuilt rest ≡ false
 
+-- a file spells this schedule, of which the tries are not too many
+pub record IsScheduleFile (store : Store) (name : List ℕ) (schedule : Schedule) : Type 0 where
+  pub bytes : List ℕ
+  pub stands : Stands store name 16777216 bytes
+  pub spelled : schedule_of bytes ≡ Ok schedule
+
 abbrev pub IsValid : Option Command → Store → Option (List ℕ) → Type 0
 IsValid None store left = ⊥
+IsValid (Some (Record schedule_name)) store left =
+    (schedule : Schedule) × IsScheduleFile store schedule_name schedule × IsModuleFile store (process_of schedule).«module»
 IsValid (Some (Replay module_name log_name)) store left = IsModuleFile store module_name × IsLogFile store log_name

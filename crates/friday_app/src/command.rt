@@ -6,6 +6,9 @@ ghost use Rattle.friday_app.specs.Seen.{meaning};
 /// A command, with the names that its words give.
 #[derive(Clone, Copy)]
 pub enum Command<'a> {
+    Record {
+        schedule_file: &'a str,
+    },
     Replay {
         module_file: &'a str,
         log_file: &'a str,
@@ -26,6 +29,7 @@ pub fn parse(words: &[String]) -> Option<Command<'_>>
     ensures { option_map meaning result ≡ command_of (map string_bytes words.now) }
 {
     match words {
+        [verb, schedule_file] => record_command(verb.as_str(), schedule_file.as_str()),
         [verb, module_file, log_file] => replay_command(
             verb.as_str(),
             module_file.as_str(),
@@ -43,6 +47,16 @@ fn replay_command<'a>(verb: &str, module_file: &'a str, log_file: &'a str) -> Op
             module_file,
             log_file,
         })
+    } else {
+        None
+    }
+}
+
+fn record_command<'a>(verb: &str, schedule_file: &'a str) -> Option<Command<'a>>
+    ensures { option_map meaning result ≡ command_of (verb.now ∷ schedule_file.now ∷ []) }
+{
+    if verb == "record" && is_file_word(schedule_file) {
+        Some(Command::Record { schedule_file })
     } else {
         None
     }

@@ -1,41 +1,53 @@
 // Writes the text that a call ends with, and gives its status.
-ghost use Rattle.std.specs.Prelude.{◌≡◌, ◌≢◌, ◌⊎◌, IfOk, string_bytes};
+ghost use Rattle.std.specs.Prelude.{◌≡◌, ◌≢◌, ◌⊎◌, ◌++◌, IfOk, OnOk};
 ghost use Rattle.fri_outside.specs.Outside.{Rose};
-ghost use Rattle.friday_app.specs.Outcome.{reason_text, refused_line, refused_with, absent_line};
+ghost use Rattle.friday_app.specs.Outcome.{reason_text, refused_line, absent_line};
 ghost use Rattle.friday_app.specs.Call.{IsAnswer, Prints, Finishes};
 
 use crate::refusal::{Answer, Reason, Refusal};
 use crate::status::Status;
 use fri_outside::{Sink, WriteError, write_whole};
+use fri_text::Text;
 use std::alloc::{AllocError, Global};
 
-fn name_of(reason: Reason) -> &'static str
-    ensures { result.now ≡ reason_text reason }
+fn push_reason(text: &mut Text, reason: Reason) -> Result<(), AllocError>
+    ensures { OnOk result (text.new ≡ text.old ++ reason_text reason) }
 {
     match reason {
-        Reason::TooLarge => "TooLarge",
-        Reason::ModuleNotBuilt => "8 NotBuilt",
-        Reason::BadHead => "1 BadHead",
-        Reason::LogNotBuilt => "5 NotBuilt",
+        Reason::TooLarge => text.push_str("TooLarge"),
+        Reason::BadLine(line) => {
+            text.push_str("line ")?;
+            text.push_u64(line)?;
+            text.push_str(" BadLine")?;
+            Ok(())
+        }
+        Reason::TooMany => text.push_str("TooMany"),
+        Reason::ModuleNotBuilt => text.push_str("8 NotBuilt"),
+        Reason::BadHead => text.push_str("1 BadHead"),
+        Reason::LogNotBuilt => text.push_str("5 NotBuilt"),
     }
 }
 
-fn print_refused(alloc: Global, file: &str, reason: Reason) -> Result<String, AllocError>
-    ensures { IfOk result (λ text. string_bytes text ≡ refused_line file.now reason) }
+fn print_refused(alloc: Global, file: &str, reason: Reason) -> Result<Text, AllocError>
+    ensures { IfOk result (λ text. text ≡ refused_line file.now reason) }
 {
-    print_refused_with(alloc, file, name_of(reason))
+    let mut text = Text::new(alloc);
+    text.push_str("friday: refused ")?;
+    text.push_str(file)?;
+    text.push_str(": ")?;
+    push_reason(&mut text, reason)?;
+    text.push_str("\n")?;
+    Ok(text)
 }
 
-fn print_refused_with(alloc: Global, file: &str, why: &str) -> Result<String, AllocError>
-    ensures { IfOk result (λ text. string_bytes text ≡ refused_with file.now why.now) }
+fn print_absent(alloc: Global, file: &str) -> Result<Text, AllocError>
+    ensures { IfOk result (λ text. text ≡ absent_line file.now) }
 {
-    format!(in alloc; "friday: refused {file}: {why}\n")
-}
-
-fn print_absent(alloc: Global, file: &str) -> Result<String, AllocError>
-    ensures { IfOk result (λ text. string_bytes text ≡ absent_line file.now) }
-{
-    format!(in alloc; "friday: absent {file}\n")
+    let mut text = Text::new(alloc);
+    text.push_str("friday: absent ")?;
+    text.push_str(file)?;
+    text.push_str("\n")?;
+    Ok(text)
 }
 
 /// Writes a text, and gives the status that the call then has.
@@ -59,7 +71,7 @@ fn say_refused<K: Sink>(alloc: Global, file: &str, reason: Reason, out: &mut K) 
     ensures write_fault { result ≡ Status.WriteFault → Rose (K.faults out.old) (K.faults out.new) }
 {
     match print_refused(alloc, file, reason) {
-        Ok(line) => say(out, line.as_bytes(), Status::Refused),
+        Ok(line) => say(out, line.bytes(), Status::Refused),
         Err(_) => Status::NoMemory,
     }
 }
@@ -71,7 +83,7 @@ fn say_absent<K: Sink>(alloc: Global, file: &str, out: &mut K) -> Status
     ensures write_fault { result ≡ Status.WriteFault → Rose (K.faults out.old) (K.faults out.new) }
 {
     match print_absent(alloc, file) {
-        Ok(line) => say(out, line.as_bytes(), Status::Absent),
+        Ok(line) => say(out, line.bytes(), Status::Absent),
         Err(_) => Status::NoMemory,
     }
 }

@@ -3,18 +3,22 @@ ghost use Rattle.std.specs.Prelude.{◌≡◌, ◌≤◌, vec_len, Ok, IfOk, IfE
 ghost use Rattle.fri_outside.specs.Outside.{WhenTold, Counts, NoneFell};
 ghost use Rattle.wasm_types.specs.Code.{trees};
 ghost use Rattle.friday_app.specs.Outcome.{file_of};
+ghost use Rattle.schedule_text.specs.Schedule.{IsSchedule};
 ghost use Rattle.call_log.specs.Log.{head_at, rest_of};
-ghost use Rattle.friday_app.specs.Expected.{module_of, head_or};
+ghost use Rattle.friday_app.specs.Expected.{module_of, schedule_in, head_or};
 ghost use Rattle.friday_app.specs.Call.{StopsAs, Raises};
 
 use crate::form::{FormError, read_form};
 use crate::refusal::{Reason, Refusal};
 use call_log::{LogView, stops_at_unbuilt};
 use fri_outside::{FileError, Files};
+use schedule_text::{Schedule, ScheduleError, read_schedule};
 use std::alloc::Global;
 use wasm_types::Instr;
 
 const MODULE_LIMIT: usize = 4_194_304;
+
+const SCHEDULE_LIMIT: usize = 16_777_216;
 
 const LOG_LIMIT: usize = 33_554_432;
 
@@ -58,6 +62,30 @@ pub fn take_module<F: Files>(
         Ok(body) => Ok(body),
         Err(FormError::NotBuilt) => Err(Refusal::refuse(alloc, name, Reason::ModuleNotBuilt)),
         Err(FormError::NoMemory) => Err(Refusal::NoMemory),
+    }
+}
+
+/// The schedule of a schedule file.
+pub fn take_schedule<F: Files>(
+    alloc: Global,
+    name: &str,
+    files: &mut F,
+) -> Result<Schedule, Refusal>
+    ensures in_range { IfOk result IsSchedule }
+    ensures answer { WhenTold (F.told files.old) (λ store. MatchResult result
+        (λ schedule. schedule_in store name.now ≡ Ok schedule) (StopsAs (schedule_in store name.now))) }
+    ensures same { F.told files.new ≡ F.told files.old }
+    ensures counts { NoneFell (F.counts files.old) (F.counts files.new) }
+    ensures cause { IfErr result (Raises (F.counts files.old) (F.counts files.new)) }
+{
+    let bytes = take_file(alloc, name, SCHEDULE_LIMIT, files)?;
+    match read_schedule(alloc, &bytes) {
+        Ok(schedule) => Ok(schedule),
+        Err(ScheduleError::BadLine(line)) => {
+            Err(Refusal::refuse(alloc, name, Reason::BadLine(line)))
+        }
+        Err(ScheduleError::TooMany) => Err(Refusal::refuse(alloc, name, Reason::TooMany)),
+        Err(ScheduleError::NoMemory) => Err(Refusal::NoMemory),
     }
 }
 

@@ -6,13 +6,17 @@ mod divergence;
 mod finish;
 mod form;
 mod inputs;
+mod outputs;
 mod process;
+mod record;
+mod recorder;
 mod refusal;
 mod replay;
 mod replayer;
 mod report;
 mod settle;
 mod status;
+mod summary;
 mod thread;
 mod top;
 

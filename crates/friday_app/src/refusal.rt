@@ -9,6 +9,8 @@ use std::alloc::{AllocError, AllocFailed, Global};
 #[derive(Clone, Copy, Debug, PartialEq, Eq)]
 pub enum Reason {
     TooLarge,
+    BadLine(u64),
+    TooMany,
     ModuleNotBuilt,
     BadHead,
     LogNotBuilt,

@@ -59,7 +59,7 @@ pub fn replay_log(
                 verdict: Verdict::Diverged(accepted + 1, why),
             });
         }
-        process = process.advance(&entry)?;
+        process.advance(&entry)?;
         accepted += 1;
     }
     Ok(Replayed {

@@ -30,7 +30,7 @@ fn push_verdict(text: &mut Text, verdict: Verdict) -> Result<(), AllocError>
     }
 }
 
-fn end_text(active: bool) -> &'static str
+pub fn end_text(active: bool) -> &'static str
     ensures { result.now ≡ end_text active }
 {
     if active { "running" } else { "finished" }

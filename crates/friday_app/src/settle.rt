@@ -9,6 +9,7 @@ ghost use Rattle.friday_app.specs.Run.{Run};
 
 use crate::command::Command;
 use crate::finish::finish;
+use crate::record::record;
 use crate::refusal::{Answer, Refusal};
 use crate::replay::replay;
 use crate::status::Status;
@@ -28,6 +29,7 @@ fn perform<F: Files>(alloc: Global, command: Command<'_>, files: &mut F) -> Resu
     ensures cause { IfErr result (Raises (F.counts files.old) (F.counts files.new)) }
 {
     match command {
+        Command::Record { schedule_file } => record(alloc, schedule_file, files),
         Command::Replay {
             module_file,
             log_file,

@@ -1,21 +1,39 @@
 // A thread between two library calls.
-ghost use Rattle.std.specs.Prelude.{◌≡◌, ◌++◌, ◌∷◌, [], IfOk, OnOk};
+ghost use Rattle.std.specs.Prelude.{◌≡◌, ◌<◌, ◌^◌, IfOk, OnOk};
 ghost use Rattle.wasm_types.specs.Code.{CallFunc, Then, trees};
-ghost use Rattle.friday_app.specs.Thread.{burst, added, call_of_kind, top, without_top};
+ghost use Rattle.friday_app.specs.Thread.{IsBuiltCall, burst, added, call_of_kind, top, without_top};
 ghost use Rattle.friday_app.specs.Seen.{activity_of};
 
 use call_log::Call;
 use std::alloc::AllocError;
 use wasm_types::Instr;
 
-/// The kind of the call at which every thread begins.
-pub const BEGIN: u8 = 0;
+/// A library call at which a thread stands.
+#[derive(Clone, Copy)]
+pub enum Pending {
+    /// Every thread begins here.
+    Begin,
+    /// Import 1, with its argument.
+    Note(u64),
+    /// Import 0.
+    Now,
+}
 
-/// The kind of `note`, which is import 1.
-pub const NOTE: u8 = 2;
+impl Pending {
+    ghost use Rattle.friday_app.specs.Seen.{call_of};
 
-/// The kind of `now`, which is import 0.
-pub const NOW: u8 = 4;
+    /// The call as a log has it.
+    pub fn call(self) -> Call
+        ensures call { result ≡ call_of self }
+        ensures built { IsBuiltCall result }
+    {
+        match self {
+            Pending::Begin => call(0, 0),
+            Pending::Note(value) => call(2, value),
+            Pending::Now => call(4, 0),
+        }
+    }
+}
 
 /// A thread that stands at a library call: the instructions still to do, and the operands, the top one last.
 #[derive(Drop)]
@@ -27,13 +45,14 @@ pub struct Strand<'m> {
 /// What a thread does between two events.
 #[derive(Drop)]
 pub enum Activity<'m> {
-    Standing(Call, Strand<'m>),
+    Standing(Pending, Strand<'m>),
     Ended,
 }
 
-/// A call with at most one argument.
-pub fn call(kind: u8, argument: u64) -> Call
-    ensures { result ≡ call_of_kind kind argument }
+// A call with at most one argument.
+fn call(kind: u8, argument: u64) -> Call
+    ensures call { result ≡ call_of_kind kind argument }
+    ensures small { argument < 2 ^ 64 }
 {
     Call {
         kind,
@@ -91,8 +110,8 @@ fn stand<'m>(func: u32, todo: &'m [Instr], mut operands: Vec<u64>) -> Activity<'
     ensures { activity_of result ≡ burst (Then (CallFunc func) (trees todo.now)) operands.items }
 {
     if func == 0 {
-        return Activity::Standing(call(NOW, 0), Strand { todo, operands });
+        return Activity::Standing(Pending::Now, Strand { todo, operands });
     }
     let value = pop(&mut operands);
-    Activity::Standing(call(NOTE, value), Strand { todo, operands })
+    Activity::Standing(Pending::Note(value), Strand { todo, operands })
 }

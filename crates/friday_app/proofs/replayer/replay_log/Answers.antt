@@ -15,7 +15,7 @@ loop-entry-preserved c =
     let found = c.in-Some.ensures in
     let here = subst (Ahead (start (trees c.args.body.now)) (entries_of c.args.log.left) c.loop-entry.accepted (state_of c.loop-entry.process)) (entries_of-next c.loop-entry.log.left e c.next_entry.new.self.left found.shaped found.taken) c.loop-entry.invariant.ahead in
     record {
-      ahead = subst (λ (S : State). Ahead (start (trees c.args.body.now)) (entries_of c.args.log.left) (c.loop-entry.accepted + 1) S (entries_of c.next_entry.new.self.left)) (sym c.in_ok-process.ensures) (one_further _ _ _ _ _ _ here c.in_default-legal.ensures);
+      ahead = subst (λ (S : State). Ahead (start (trees c.args.body.now)) (entries_of c.args.log.left) (c.loop-entry.accepted + 1) S (entries_of c.next_entry.new.self.left)) (sym c.in_ok-advance.ensures) (one_further _ _ _ _ _ _ here c.in_default-legal.ensures);
       rest = c.loop-entry.invariant.rest ∙ rest_of-next c.loop-entry.log.left e c.next_entry.new.self.left found.shaped found.taken;
       few = omega (arith, shorter c.loop-entry.log.left e c.next_entry.new.self.left found.taken);
     }

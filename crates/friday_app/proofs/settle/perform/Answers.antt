@@ -1,11 +1,22 @@
+use Rattle.std.proofs.Common.{Some, ap, sym, subst}
+use Rattle.friday_app.specs.Call.{OthersStay}
+use Rattle.friday_app.specs.Command.{Command}
+use Rattle.friday_app.specs.Expected.{written_by}
 use Rattle.friday_app.specs.Outcome.{writes_of}
 use Rattle.friday_app.specs.Seen.{meaning}
-use Rattle.friday_app.proofs.Made.{none_made, same_others}
-use Rattle.friday_app.proofs.Stops.{no_writes}
+use Rattle.friday_app.proofs.Made.{none_made, same_others, never_diverges}
+use Rattle.friday_app.proofs.Stops.{replay_writes_none}
 use Rattle.friday_app.proofs.settle.perform.Goals as goal
 
-pub returns-clause-others : goal.returns-clause-others
-returns-clause-others g c = same_others _ _ _ c.replay.ensures.same
+pub returns-in-Replay-clause-others : goal.returns-in-Replay-clause-others
+returns-in-Replay-clause-others g c = same_others _ _ _ c.replay.ensures.same
 
-pub returns-clause-makes : goal.returns-clause-makes
-returns-clause-makes g c = λ left o e. none_made c.replay.result (writes_of o) _ _ (no_writes (meaning c.args.command) _ left o e) c.replay.ensures.same
+pub returns-in-Replay-clause-makes : goal.returns-in-Replay-clause-makes
+returns-in-Replay-clause-makes g c = λ left o e. none_made c.replay.result (writes_of o) _ _ (replay_writes_none (meaning c.args.command) c.in-Replay.module_file.now c.in-Replay.log_file.now _ left o (ap meaning c.in-Replay.is) e) c.replay.ensures.same
+
+pub returns-in-Record-clause-others : goal.returns-in-Record-clause-others
+returns-in-Record-clause-others g c =
+    subst (λ (words : Command). OthersStay (written_by (Some words)) (g.F.Files.told c.args.files.now) (g.F.Files.told c.record.new.files)) (sym (ap meaning c.in-Record.is)) c.record.ensures.others
+
+pub returns-in-Record-clause-diverges : goal.returns-in-Record-clause-diverges
+returns-in-Record-clause-diverges g c = never_diverges (Some (meaning c.args.command)) c.record.result c.record.ensures.done
