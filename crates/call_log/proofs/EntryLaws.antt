@@ -177,14 +177,14 @@ shaped_from bytes e are h =
       tag = tag.0;
     } in
     let spelled : bytes ≡ body e =
-        clock.1 ∙ onto (to_le_bytes w64 e.clock) (
-        thread.1 ∙ onto (to_le_bytes w16 e.thread) (
-        number.1 ∙ onto (e.call.kind ∷ []) (
-        signal.1 ∙ onto (e.signal ∷ []) (
-        call.1 ∙ onto (argument_bytes e.call) (
-        reply.1 ∙ onto (to_le_bytes w64 e.reply) (
-        outgoing.1 ∙ onto (string_if (has_outgoing e.call.kind) e.outgoing) (
-        incoming.1 ∙ onto (string_if (has_incoming e.call.kind) e.incoming) tag.1))))))) in
+    clock.1 ∙ onto (to_le_bytes w64 e.clock) (
+    thread.1 ∙ onto (to_le_bytes w16 e.thread) (
+    number.1 ∙ onto (e.call.kind ∷ []) (
+    signal.1 ∙ onto (e.signal ∷ []) (
+    call.1 ∙ onto (argument_bytes e.call) (
+    reply.1 ∙ onto (to_le_bytes w64 e.reply) (
+    outgoing.1 ∙ onto (string_if (has_outgoing e.call.kind) e.outgoing) (
+    incoming.1 ∙ onto (string_if (has_incoming e.call.kind) e.incoming) tag.1))))))) in
     (shaped, spelled)
 
 body_at-found : (bytes : List ℕ) (e : Entry) → AreBytes bytes → body_at bytes ≡ Some e → IsShaped e × (bytes ≡ body e)
@@ -206,9 +206,9 @@ unfolding encoding
 read_entry-encoding e rest shaped =
     ap read_entry (append_assoc (to_le_bytes w32 (length (body e))) (body e) rest)
     ∙ read_entry-from _ (body e ++ rest) (body e) rest (length (body e)) e
-        ((number_field w32).again (length (body e)) (body e ++ rest) (length-body_lt e shaped))
-        ((piece_reads (length (body e))).again (body e) (body e) rest (refl, refl))
-        (body_at-body e shaped)
+    ((number_field w32).again (length (body e)) (body e ++ rest) (length-body_lt e shaped))
+    ((piece_reads (length (body e))).again (body e) (body e) rest (refl, refl))
+    (body_at-body e shaped)
 
 encoding_from : (bytes after within rest : List ℕ) (n : ℕ) (e : Entry) → bytes ≡ to_le_bytes w32 n ++ after → after ≡ within ++ rest → length within ≡ n → within ≡ body e → bytes ≡ encoding e ++ rest
 unfolding encoding
@@ -230,7 +230,7 @@ read_entry-found bytes e rest are found =
     let are_piece : AreBytes piece.0.0 = front_in_range piece.0.0 piece.0.1 (λ i. subst (λ (t : List ℕ). slice_index t i < 256) after (bytes_after (number_field w32) bytes size.0.0 size.0.1 are size.1 i)) in
     let inside = body_at-found piece.0.0 entry.0 are_piece entry.1 in
     let spelled : bytes ≡ encoding entry.0 ++ piece.0.1 =
-        encoding_from bytes size.0.1 piece.0.0 piece.0.1 size.0.0 entry.0 number.1 after front.2.0 inside.1 in
+    encoding_from bytes size.0.1 piece.0.0 piece.0.1 size.0.0 entry.0 number.1 after front.2.0 inside.1 in
     subst (λ (x : Entry × List ℕ). IsShaped x.0 × (bytes ≡ encoding x.0 ++ x.1)) (same_Some (entry.0, piece.0.1) (e, rest) entry.2) (inside.0, spelled)
 
 -- where they read nothing, no entry stands in front

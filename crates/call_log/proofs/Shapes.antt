@@ -92,15 +92,15 @@ pub is_shaped-from : (e : Entry) → IsShaped e → is_shaped e ≡ true
 unfolding is_shaped
 is_shaped-from e h =
     both_true _ _ (both_true _ _ (both_true _ _ (both_true _ _ (both_true _ _ (both_true _ _ (both_true _ _ (both_true _ _
-        h.built
-        (lt-ltb e.clock (2 ^ 64) h.clock))
-        (lt-ltb e.thread (2 ^ 16) h.thread))
-        (lt-ltb e.signal (2 ^ 8) h.signal))
-        (has_arguments-from e.call h.arguments))
-        (lt-ltb e.reply (2 ^ 64) h.reply))
-        (is_string_if-from _ _ h.outgoing))
-        (is_string_if-from _ _ h.incoming))
-        (is_tag_if-from _ _ h.tag)
+    h.built
+    (lt-ltb e.clock (2 ^ 64) h.clock))
+    (lt-ltb e.thread (2 ^ 16) h.thread))
+    (lt-ltb e.signal (2 ^ 8) h.signal))
+    (has_arguments-from e.call h.arguments))
+    (lt-ltb e.reply (2 ^ 64) h.reply))
+    (is_string_if-from _ _ h.outgoing))
+    (is_string_if-from _ _ h.incoming))
+    (is_tag_if-from _ _ h.tag)
 
 pub head_from_test : (h : Head) → is_head h ≡ true → IsHead h
 unfolding is_head

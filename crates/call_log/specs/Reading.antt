@@ -57,7 +57,7 @@ unfoldable pub flagged_at : List ℕ → Option (Option Tag × List ℕ)
 flagged_at bytes = do
   flag ← byte_at bytes
   if flag.0 == 0 then Some (None, flag.1) else
-    (if flag.0 == 1 then tag_at flag.1 >>= (λ tag. Some (Some tag.0, tag.1)) else None)
+      (if flag.0 == 1 then tag_at flag.1 >>= (λ tag. Some (Some tag.0, tag.1)) else None)
 
 -- the same, where the kind may have a tag
 abbrev pub tag_if_at : Bool → List ℕ → Option (Option Tag × List ℕ)
@@ -107,5 +107,5 @@ read_head bytes = do
   process ← le_at w32 count.1
   name ← name_at process.1
   if version.0 == 1 && nat_le 1 count.0 && nat_le count.0 16 && nat_lt process.0 count.0
-    then Some (record { count = count.0; process = process.0; name = name.0 }, name.1)
-    else None
+      then Some (record { count = count.0; process = process.0; name = name.0 }, name.1)
+      else None

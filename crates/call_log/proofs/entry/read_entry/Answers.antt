@@ -17,7 +17,7 @@ returns-in_err-entry-clause-none c =
 found : (c : goal.After-rest) → IsShaped (entry_of c.in_ok-entry.entry) × (c.args.bytes.now ≡ encoding (entry_of c.in_ok-entry.entry) ++ c.rest.result.now)
 found c =
     let read : read_entry c.args.bytes.now ≡ Some (entry_of c.in_ok-entry.entry, c.rest.result.now) =
-        ap read_entry (sym c.new-cursor.ensures.left) ∙ c.in_ok-entry.ensures ∙ ap (λ (t : List ℕ). Some (entry_of c.in_ok-entry.entry, t)) (sym c.rest.ensures) in
+    ap read_entry (sym c.new-cursor.ensures.left) ∙ c.in_ok-entry.ensures ∙ ap (λ (t : List ℕ). Some (entry_of c.in_ok-entry.entry, t)) (sym c.rest.ensures) in
     read_entry-found c.args.bytes.now (entry_of c.in_ok-entry.entry) c.rest.result.now (λ i. search rules) read
 
 pub returns-clause-shaped : goal.returns-clause-shaped
