@@ -1,23 +1,21 @@
 -- An entry stands at the front of some bytes exactly where `entry_at` gives one.
-use Rattle.std.proofs.Common.{lit≤, append_assoc, nat_eq, nat_lt, ◌≡◌, ℕ, ◌+◌, ◌^◌, ◌<◌, ◌≤◌, Bool, true, false, cond, ◌&&◌, eqb, leb, List, [], ◌∷◌, ◌++◌, length, drop, slice_index, Option, Some, None, refl, sym, ap, ◌∙◌, subst, arith, length-append}
+use Rattle.std.proofs.Common.{append_assoc, nat_eq, ◌≡◌, ℕ, ◌<◌, ◌≤◌, true, leb, List, [], ◌∷◌, ◌++◌, length, drop, slice_index, Option, Some, None, refl, sym, ap, ◌∙◌, subst, arith}
 use Rattle.std.specs.Int.{w16, w32, w64, to_le_bytes}
-use Rattle.std.specs.List.{concat, starts_with}
-use Rattle.std.proofs.lemmas.Bool.{leb-true, le-leb}
-use Rattle.std.proofs.lemmas.Bool.Decides.{Decides-eqb, nat_tests}
+use Rattle.std.specs.List.{starts_with}
+use Rattle.std.proofs.lemmas.Bool.{leb-true}
+use Rattle.std.proofs.lemmas.Bool.Decides.{Decides-eqb}
 use Rattle.std.proofs.lemmas.Slice.Eq.{starts_is}
 use Rattle.std.proofs.lemmas.List.{drop_at, nil_from_length}
 use Rattle.std.proofs.lemmas.Option.{cond_some, same_Some, some_pair_parts}
-use Rattle.lamport_tag.specs.declared.Tag.{Tag}
 use Rattle.fri_bytes.specs.Reading.{byte_at, piece_at, le_at}
 use Rattle.fri_bytes.proofs.Readers.{bind_some, front_in_range, piece_reads}
-use Rattle.call_log.specs.declared.entry.Call.{Call}
-use Rattle.call_log.specs.Kind.{is_built, argument_count, has_outgoing, has_incoming, has_tag}
-use Rattle.call_log.specs.Entry.{Entry, IsShaped, BeginsNoEntry, body, encoding, argument_bytes, IsStringIf, number_if, string_if, tag_if}
+use Rattle.call_log.specs.Kind.{is_built, has_outgoing, has_incoming, has_tag}
+use Rattle.call_log.specs.Entry.{Entry, IsShaped, BeginsNoEntry, body, encoding, argument_bytes, string_if, tag_if}
 use Rattle.call_log.specs.Reading.{read_entry, body_at, call_at, string_if_at, tag_if_at}
 use Rattle.call_log.specs.Log.{entry_at, entry_in}
 use Rattle.call_log.proofs.Sizes.{length-body_lt}
 use Rattle.call_log.proofs.Shapes.{and_true, both_true, is_shaped-from, shaped_from_test}
-use Rattle.call_log.proofs.FieldLaws.{AreBytes, ReadsBack, bytes_after, onto, parts_onto, concat-append, next, when_true, kept, number_field, byte_field, string_if_field, tag_if_field, call_at-kind, call_field}
+use Rattle.call_log.proofs.FieldLaws.{AreBytes, bytes_after, onto, next, when_true, kept, number_field, byte_field, string_if_field, tag_if_field, call_at-kind, call_field}
 
 at_most_none : (n : ℕ) → leb n 0 ≡ true → n ≡ 0
 at_most_none n h = let few : n ≤ 0 = leb-true n 0 h in omega arith

@@ -1,5 +1,5 @@
 -- Each field of an entry is read exactly as it is written.
-use Rattle.std.proofs.Common.{OnOk, Result, Ok, Err, inl, inr, ◌≡◌, ℕ, ◌+◌, ◌^◌, ◌<◌, ◌≤◌, Bool, true, false, cond, eqb, ltb, List, [], ◌∷◌, ◌++◌, length, take, drop, slice_index, Option, Some, None, refl, sym, ap, ◌∙◌, subst, arith, length-append, append_assoc}
+use Rattle.std.proofs.Common.{OnOk, Result, Ok, Err, inl, inr, ◌≡◌, ℕ, ◌^◌, ◌<◌, Bool, true, false, cond, eqb, ltb, List, [], ◌∷◌, ◌++◌, length, slice_index, Option, Some, None, refl, sym, ap, ◌∙◌, subst, arith, append_assoc}
 use Rattle.std.specs.Prelude.{nat_lt, option_and_then}
 use Rattle.std.specs.List.{concat}
 use Rattle.std.specs.Int.{Width, w32, w64, byte_len, to_le_bytes}

@@ -1,7 +1,6 @@
 -- A head stands at the front of some bytes exactly where `head_at` gives one.
-use Rattle.std.proofs.Common.{◌≡◌, ℕ, ◌<◌, ◌≤◌, Bool, true, ◌&&◌, nat_eq, leb, ltb, lit<, List, [], ◌∷◌, ◌++◌, length, drop, slice_index, Option, Some, None, codes, refl, sym, ap, ◌∙◌, subst, arith, append_assoc}
-use Rattle.std.specs.List.{concat, starts_with}
-use Rattle.std.specs.Str.{bytes_eq}
+use Rattle.std.proofs.Common.{◌≡◌, ℕ, ◌<◌, true, nat_eq, leb, ltb, lit<, List, [], ◌∷◌, ◌++◌, length, drop, slice_index, Some, None, codes, refl, sym, ap, ◌∙◌, subst, arith}
+use Rattle.std.specs.List.{starts_with}
 use Rattle.std.specs.Int.{w32, to_le_bytes}
 use Rattle.std.proofs.lemmas.Bool.{eqb-true, leb-true, le-leb, ltb-true, lt-ltb}
 use Rattle.std.proofs.lemmas.Bool.Decides.{Decides-eqb}
@@ -12,8 +11,8 @@ use Rattle.fri_bytes.specs.Reading.{byte_at, piece_at, le_at}
 use Rattle.fri_bytes.proofs.Readers.{bind_some, piece_reads, rest_in_range}
 use Rattle.call_log.specs.Head.{Head, IsHead, BeginsNoHead, head_bytes, is_name}
 use Rattle.call_log.specs.Reading.{mark_at, name_at, read_head}
-use Rattle.call_log.specs.Log.{head_at, head_in, is_head}
-use Rattle.call_log.proofs.FieldLaws.{AreBytes, ReadsBack, bytes_after, onto, parts_onto, concat-append, next, when_true, kept, number_field, byte_field}
+use Rattle.call_log.specs.Log.{head_at, head_in}
+use Rattle.call_log.proofs.FieldLaws.{AreBytes, ReadsBack, bytes_after, onto, concat-append, next, when_true, kept, number_field, byte_field}
 use Rattle.call_log.proofs.Shapes.{and_true, both_true, head_from_test, is_head-from}
 use Rattle.call_log.proofs.EntryLaws.{none_from}
 

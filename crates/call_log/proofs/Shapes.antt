@@ -1,13 +1,11 @@
 -- The tests of `is_shaped` and `is_head` say what the records of facts say.
-use Rattle.std.proofs.Common.{◌≡◌, ℕ, ◌^◌, ◌<◌, ◌≤◌, Bool, true, false, ◌&&◌, List, length, Option, Some, None, refl, arith}
-use Rattle.std.specs.Prelude.{nat_lt, nat_le}
+use Rattle.std.proofs.Common.{◌≡◌, ℕ, ◌^◌, ◌≤◌, Bool, true, false, ◌&&◌, List, length, Option, Some, None, refl, arith}
 use Rattle.std.proofs.lemmas.Bool.{leb-true, le-leb, ltb-true, lt-ltb}
 use Rattle.std.proofs.lemmas.List.{nil_from_length}
 use Rattle.lamport_tag.specs.declared.Tag.{Tag}
 use Rattle.call_log.specs.declared.entry.Call.{Call}
-use Rattle.call_log.specs.Kind.{is_built, argument_count, has_outgoing, has_incoming, has_tag}
 use Rattle.call_log.specs.Entry.{Entry, IsShaped, HasArguments, IsNumberIf, IsStringIf, IsTagIf}
-use Rattle.call_log.specs.Head.{Head, IsHead, is_name}
+use Rattle.call_log.specs.Head.{Head, IsHead}
 use Rattle.call_log.specs.Log.{is_number_if, is_string_if, is_tag_if, has_arguments, is_shaped, is_head}
 
 pub and_true : (a b : Bool) → (a && b) ≡ true → (a ≡ true) × (b ≡ true)

@@ -75,6 +75,15 @@ fn reads_cut_logs(rt: HostRuntime) {
     assert_eq!(rt; counted(&LOG), Some((3, 0)));
 }
 
+// The log with another byte at a place.
+fn changed(place: usize, byte: u8) -> [u8; 98] {
+    let mut log = LOG;
+    if place < log.len() {
+        log[place] = byte;
+    }
+    log
+}
+
 #[test]
 fn reads_changed_logs(rt: HostRuntime) {
     // The entries in front of a changed one, where the change makes it none.
@@ -90,13 +99,11 @@ fn reads_changed_logs(rt: HostRuntime) {
         (66, 29, Some((2, 32))),
         (80, 4, Some((2, 32))),
     ] {
-        let mut log = LOG;
-        log[place] = byte;
+        let log = changed(place, byte);
         assert_eq!(rt; counted(&log), want, "{byte} at {place}");
     }
     for place in 0..98 {
-        let mut log = LOG;
-        log[place] ^= 1;
+        let log = changed(place, LOG[place] ^ 1);
         assert!(rt;
             counted(&log).is_none_or(|found| found.0 <= 3),
             "at {place}"
@@ -106,8 +113,7 @@ fn reads_changed_logs(rt: HostRuntime) {
 
 #[test]
 fn tells_what_is_not_built(rt: HostRuntime) {
-    let mut log = LOG;
-    log[32] = 1;
+    let log = changed(32, 1);
     for (bytes, want) in [
         (&log[18..], true),
         (&log[18..33], true),

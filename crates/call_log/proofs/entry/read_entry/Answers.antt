@@ -1,7 +1,6 @@
 use Rattle.std.proofs.Common.{◌≡◌, ℕ, List, ◌++◌, IfNone, Option, Some, None, sym, ap, ◌∙◌, rules}
 use Rattle.call_log.specs.Entry.{IsShaped, entry_of, encoding}
 use Rattle.call_log.specs.Reading.{read_entry}
-use Rattle.call_log.proofs.FieldLaws.{onto}
 use Rattle.call_log.proofs.EntryLaws.{read_entry-found, read_entry-none}
 use Rattle.call_log.proofs.entry.read_entry.Goals as goal
 
