@@ -1,5 +1,5 @@
 -- All entries of some bytes: what one more entry changes, and that no list of entries is longer.
-use Rattle.std.proofs.Common.{◌≡◌, ℕ, zero, suc, ◌+◌, ◌≤◌, ◌⊎◌, inl, inr, List, [], ◌∷◌, ◌++◌, length, Option, Some, None, refl, sym, ap, ◌∙◌, subst, arith, length-append, append_assoc}
+use Rattle.std.proofs.Common.{◌≡◌, ℕ, zero, suc, ◌+◌, ◌≤◌, ◌⊎◌, inl, inr, List, [], ◌∷◌, ◌++◌, length, Option, Some, None, refl, sym, ap, ◌∙◌, arith, length-append, append_assoc}
 use Rattle.std.specs.Prelude.{All}
 use Rattle.std.proofs.lemmas.List.Elements.{All-nil, All-cons, All-head, All-tail}
 use Rattle.call_log.specs.Entry.{Entry, IsShaped, BeginsNoEntry, encoding, encodings}
@@ -35,39 +35,39 @@ entries-limit : (n m : ℕ) (bytes : List ℕ) → length bytes ≤ n → length
 unfolding entries_within
 entries-limit zero zero bytes p q = refl
 entries-limit zero (suc m) bytes p q = elim (front_cases bytes) [
-    | inl b ↦ absurd (omega (arith, shorter bytes b.entry b.rest b.spelled))
-    | inr none ↦ rw (entry_at-none bytes none) refl
-  ]
+  | inl b ↦ absurd (omega (arith, shorter bytes b.entry b.rest b.spelled))
+  | inr none ↦ rw (entry_at-none bytes none) refl
+]
 entries-limit (suc n) zero bytes p q = elim (front_cases bytes) [
-    | inl b ↦ absurd (omega (arith, shorter bytes b.entry b.rest b.spelled))
-    | inr none ↦ rw (entry_at-none bytes none) refl
-  ]
+  | inl b ↦ absurd (omega (arith, shorter bytes b.entry b.rest b.spelled))
+  | inr none ↦ rw (entry_at-none bytes none) refl
+]
 entries-limit (suc n) (suc m) bytes p q = elim (front_cases bytes) [
-    | inl b ↦
-        let less = shorter bytes b.entry b.rest b.spelled in
-        let more = entries-limit n m b.rest (omega arith) (omega arith) in
-        rw (entry_at-begins bytes b.entry b.rest b.shaped b.spelled) (ap (λ (es : List Entry). b.entry ∷ es) more)
-    | inr none ↦ rw (entry_at-none bytes none) refl
-  ]
+  | inl b ↦
+      let less = shorter bytes b.entry b.rest b.spelled in
+      let more = entries-limit n m b.rest (omega arith) (omega arith) in
+      rw (entry_at-begins bytes b.entry b.rest b.shaped b.spelled) (ap (λ (es : List Entry). b.entry ∷ es) more)
+  | inr none ↦ rw (entry_at-none bytes none) refl
+]
 
 rest-limit : (n m : ℕ) (bytes : List ℕ) → length bytes ≤ n → length bytes ≤ m → rest_within n bytes ≡ rest_within m bytes
 unfolding rest_within
 rest-limit zero zero bytes p q = refl
 rest-limit zero (suc m) bytes p q = elim (front_cases bytes) [
-    | inl b ↦ absurd (omega (arith, shorter bytes b.entry b.rest b.spelled))
-    | inr none ↦ rw (entry_at-none bytes none) refl
-  ]
+  | inl b ↦ absurd (omega (arith, shorter bytes b.entry b.rest b.spelled))
+  | inr none ↦ rw (entry_at-none bytes none) refl
+]
 rest-limit (suc n) zero bytes p q = elim (front_cases bytes) [
-    | inl b ↦ absurd (omega (arith, shorter bytes b.entry b.rest b.spelled))
-    | inr none ↦ rw (entry_at-none bytes none) refl
-  ]
+  | inl b ↦ absurd (omega (arith, shorter bytes b.entry b.rest b.spelled))
+  | inr none ↦ rw (entry_at-none bytes none) refl
+]
 rest-limit (suc n) (suc m) bytes p q = elim (front_cases bytes) [
-    | inl b ↦
-        let less = shorter bytes b.entry b.rest b.spelled in
-        let more = rest-limit n m b.rest (omega arith) (omega arith) in
-        rw (entry_at-begins bytes b.entry b.rest b.shaped b.spelled) more
-    | inr none ↦ rw (entry_at-none bytes none) refl
-  ]
+  | inl b ↦
+      let less = shorter bytes b.entry b.rest b.spelled in
+      let more = rest-limit n m b.rest (omega arith) (omega arith) in
+      rw (entry_at-begins bytes b.entry b.rest b.shaped b.spelled) more
+  | inr none ↦ rw (entry_at-none bytes none) refl
+]
 
 -- ---- one entry more, and the end
 
@@ -122,17 +122,17 @@ none_held bytes none =
 
 holds-limit : (n : ℕ) (bytes : List ℕ) → length bytes ≤ n → Holds bytes (entries_of bytes) (rest_of bytes)
 holds-limit zero bytes p = elim (front_cases bytes) [
-    | inl b ↦ absurd (omega (arith, shorter bytes b.entry b.rest b.spelled))
-    | inr none ↦ none_held bytes none
-  ]
+  | inl b ↦ absurd (omega (arith, shorter bytes b.entry b.rest b.spelled))
+  | inr none ↦ none_held bytes none
+]
 holds-limit (suc n) bytes p = elim (front_cases bytes) [
-    | inl b ↦
-        let less = shorter bytes b.entry b.rest b.spelled in
-        let more = holds-limit n b.rest (omega arith) in
-        rw (entries_of-next bytes b.entry b.rest b.shaped b.spelled, rest_of-next bytes b.entry b.rest b.shaped b.spelled)
-            (Holds-next bytes b.entry b.rest (entries_of b.rest) (rest_of b.rest) b.shaped b.spelled more)
-    | inr none ↦ none_held bytes none
-  ]
+  | inl b ↦
+      let less = shorter bytes b.entry b.rest b.spelled in
+      let more = holds-limit n b.rest (omega arith) in
+      rw (entries_of-next bytes b.entry b.rest b.shaped b.spelled, rest_of-next bytes b.entry b.rest b.shaped b.spelled)
+      (Holds-next bytes b.entry b.rest (entries_of b.rest) (rest_of b.rest) b.shaped b.spelled more)
+  | inr none ↦ none_held bytes none
+]
 
 pub holds : (bytes : List ℕ) → Holds bytes (entries_of bytes) (rest_of bytes)
 holds bytes = holds-limit (length bytes) bytes (omega arith)
@@ -145,9 +145,10 @@ holds_once bytes (e ∷ entries) rest h =
     let shaped : IsShaped e = All-head IsShaped e entries h.shaped in
     let begins : bytes ≡ encoding e ++ (encodings entries ++ rest) = h.spelled ∙ append_assoc (encoding e) (encodings entries) rest in
     let behind : Holds (encodings entries ++ rest) entries rest = record { shaped = All-tail IsShaped e entries h.shaped; spelled = refl; longest = h.longest } in
-    let more = holds_once (encodings entries ++ rest) entries rest behind in
-    (ap (λ (es : List Entry). e ∷ es) more.0 ∙ sym (entries_of-next bytes e (encodings entries ++ rest) shaped begins),
-     more.1 ∙ sym (rest_of-next bytes e (encodings entries ++ rest) shaped begins))
+    let more = holds_once (encodings entries ++ rest) entries rest behind in (
+      ap (λ (es : List Entry). e ∷ es) more.0 ∙ sym (entries_of-next bytes e (encodings entries ++ rest) shaped begins),
+      more.1 ∙ sym (rest_of-next bytes e (encodings entries ++ rest) shaped begins),
+    )
 
 -- ---- entries that were written one after the other are those that are read, and then those behind them
 

@@ -1,23 +1,21 @@
 -- An entry stands at the front of some bytes exactly where `entry_at` gives one.
-use Rattle.std.proofs.Common.{lit≤, append_assoc, nat_eq, nat_lt, ◌≡◌, ℕ, ◌+◌, ◌^◌, ◌<◌, ◌≤◌, Bool, true, false, cond, ◌&&◌, eqb, leb, List, [], ◌∷◌, ◌++◌, length, drop, slice_index, Option, Some, None, refl, sym, ap, ◌∙◌, subst, arith, length-append}
+use Rattle.std.proofs.Common.{append_assoc, nat_eq, ◌≡◌, ℕ, ◌<◌, ◌≤◌, true, leb, List, [], ◌∷◌, ◌++◌, length, drop, slice_index, Option, Some, None, refl, sym, ap, ◌∙◌, subst, arith}
 use Rattle.std.specs.Int.{w16, w32, w64, to_le_bytes}
-use Rattle.std.specs.List.{concat, starts_with}
-use Rattle.std.proofs.lemmas.Bool.{leb-true, le-leb}
-use Rattle.std.proofs.lemmas.Bool.Decides.{Decides-eqb, nat_tests}
+use Rattle.std.specs.List.{starts_with}
+use Rattle.std.proofs.lemmas.Bool.{leb-true}
+use Rattle.std.proofs.lemmas.Bool.Decides.{Decides-eqb}
 use Rattle.std.proofs.lemmas.Slice.Eq.{starts_is}
 use Rattle.std.proofs.lemmas.List.{drop_at, nil_from_length}
 use Rattle.std.proofs.lemmas.Option.{cond_some, same_Some, some_pair_parts}
-use Rattle.lamport_tag.specs.declared.Tag.{Tag}
 use Rattle.fri_bytes.specs.Reading.{byte_at, piece_at, le_at}
 use Rattle.fri_bytes.proofs.Readers.{bind_some, front_in_range, piece_reads}
-use Rattle.call_log.specs.declared.entry.Call.{Call}
-use Rattle.call_log.specs.Kind.{is_built, argument_count, has_outgoing, has_incoming, has_tag}
-use Rattle.call_log.specs.Entry.{Entry, IsShaped, BeginsNoEntry, body, encoding, argument_bytes, IsStringIf, number_if, string_if, tag_if}
+use Rattle.call_log.specs.Kind.{is_built, has_outgoing, has_incoming, has_tag}
+use Rattle.call_log.specs.Entry.{Entry, IsShaped, BeginsNoEntry, body, encoding, argument_bytes, string_if, tag_if}
 use Rattle.call_log.specs.Reading.{read_entry, body_at, call_at, string_if_at, tag_if_at}
 use Rattle.call_log.specs.Log.{entry_at, entry_in}
 use Rattle.call_log.proofs.Sizes.{length-body_lt}
 use Rattle.call_log.proofs.Shapes.{and_true, both_true, is_shaped-from, shaped_from_test}
-use Rattle.call_log.proofs.FieldLaws.{AreBytes, ReadsBack, bytes_after, onto, parts_onto, concat-append, next, when_true, kept, number_field, byte_field, string_if_field, tag_if_field, call_at-kind, call_field}
+use Rattle.call_log.proofs.FieldLaws.{AreBytes, bytes_after, onto, next, when_true, kept, number_field, byte_field, string_if_field, tag_if_field, call_at-kind, call_field}
 
 at_most_none : (n : ℕ) → leb n 0 ≡ true → n ≡ 0
 at_most_none n h = let few : n ≤ 0 = leb-true n 0 h in omega arith
@@ -177,14 +175,14 @@ shaped_from bytes e are h =
       tag = tag.0;
     } in
     let spelled : bytes ≡ body e =
-        clock.1 ∙ onto (to_le_bytes w64 e.clock) (
-        thread.1 ∙ onto (to_le_bytes w16 e.thread) (
-        number.1 ∙ onto (e.call.kind ∷ []) (
-        signal.1 ∙ onto (e.signal ∷ []) (
-        call.1 ∙ onto (argument_bytes e.call) (
-        reply.1 ∙ onto (to_le_bytes w64 e.reply) (
-        outgoing.1 ∙ onto (string_if (has_outgoing e.call.kind) e.outgoing) (
-        incoming.1 ∙ onto (string_if (has_incoming e.call.kind) e.incoming) tag.1))))))) in
+    clock.1 ∙ onto (to_le_bytes w64 e.clock) (
+    thread.1 ∙ onto (to_le_bytes w16 e.thread) (
+    number.1 ∙ onto (e.call.kind ∷ []) (
+    signal.1 ∙ onto (e.signal ∷ []) (
+    call.1 ∙ onto (argument_bytes e.call) (
+    reply.1 ∙ onto (to_le_bytes w64 e.reply) (
+    outgoing.1 ∙ onto (string_if (has_outgoing e.call.kind) e.outgoing) (
+    incoming.1 ∙ onto (string_if (has_incoming e.call.kind) e.incoming) tag.1))))))) in
     (shaped, spelled)
 
 body_at-found : (bytes : List ℕ) (e : Entry) → AreBytes bytes → body_at bytes ≡ Some e → IsShaped e × (bytes ≡ body e)
@@ -206,9 +204,9 @@ unfolding encoding
 read_entry-encoding e rest shaped =
     ap read_entry (append_assoc (to_le_bytes w32 (length (body e))) (body e) rest)
     ∙ read_entry-from _ (body e ++ rest) (body e) rest (length (body e)) e
-        ((number_field w32).again (length (body e)) (body e ++ rest) (length-body_lt e shaped))
-        ((piece_reads (length (body e))).again (body e) (body e) rest (refl, refl))
-        (body_at-body e shaped)
+    ((number_field w32).again (length (body e)) (body e ++ rest) (length-body_lt e shaped))
+    ((piece_reads (length (body e))).again (body e) (body e) rest (refl, refl))
+    (body_at-body e shaped)
 
 encoding_from : (bytes after within rest : List ℕ) (n : ℕ) (e : Entry) → bytes ≡ to_le_bytes w32 n ++ after → after ≡ within ++ rest → length within ≡ n → within ≡ body e → bytes ≡ encoding e ++ rest
 unfolding encoding
@@ -230,7 +228,7 @@ read_entry-found bytes e rest are found =
     let are_piece : AreBytes piece.0.0 = front_in_range piece.0.0 piece.0.1 (λ i. subst (λ (t : List ℕ). slice_index t i < 256) after (bytes_after (number_field w32) bytes size.0.0 size.0.1 are size.1 i)) in
     let inside = body_at-found piece.0.0 entry.0 are_piece entry.1 in
     let spelled : bytes ≡ encoding entry.0 ++ piece.0.1 =
-        encoding_from bytes size.0.1 piece.0.0 piece.0.1 size.0.0 entry.0 number.1 after front.2.0 inside.1 in
+    encoding_from bytes size.0.1 piece.0.0 piece.0.1 size.0.0 entry.0 number.1 after front.2.0 inside.1 in
     subst (λ (x : Entry × List ℕ). IsShaped x.0 × (bytes ≡ encoding x.0 ++ x.1)) (same_Some (entry.0, piece.0.1) (e, rest) entry.2) (inside.0, spelled)
 
 -- where they read nothing, no entry stands in front

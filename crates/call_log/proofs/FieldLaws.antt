@@ -1,5 +1,5 @@
 -- Each field of an entry is read exactly as it is written.
-use Rattle.std.proofs.Common.{OnOk, Result, Ok, Err, inl, inr, ◌≡◌, ℕ, ◌+◌, ◌^◌, ◌<◌, ◌≤◌, Bool, true, false, cond, eqb, ltb, List, [], ◌∷◌, ◌++◌, length, take, drop, slice_index, Option, Some, None, refl, sym, ap, ◌∙◌, subst, arith, length-append, append_assoc}
+use Rattle.std.proofs.Common.{OnOk, Result, Ok, Err, inl, inr, ◌≡◌, ℕ, ◌^◌, ◌<◌, Bool, true, false, cond, eqb, ltb, List, [], ◌∷◌, ◌++◌, length, slice_index, Option, Some, None, refl, sym, ap, ◌∙◌, subst, arith, append_assoc}
 use Rattle.std.specs.Prelude.{nat_lt, option_and_then}
 use Rattle.std.specs.List.{concat}
 use Rattle.std.specs.Int.{Width, w32, w64, byte_len, to_le_bytes}
@@ -113,7 +113,7 @@ string_found bytes piece rest are e =
     let long : length piece ≡ size.0.0 = front.2.0 in
     let after : size.0.1 ≡ piece ++ rest = front.1 ∙ ap (λ (t : List ℕ). t ++ rest) front.2.1 in
     let spelled : bytes ≡ to_le_bytes w32 (length piece) ++ (piece ++ rest) =
-        number.1 ∙ ap (λ (t : List ℕ). to_le_bytes w32 size.0.0 ++ t) after ∙ ap (λ (n : ℕ). to_le_bytes w32 n ++ (piece ++ rest)) (sym long) in
+    number.1 ∙ ap (λ (t : List ℕ). to_le_bytes w32 size.0.0 ++ t) after ∙ ap (λ (n : ℕ). to_le_bytes w32 n ++ (piece ++ rest)) (sym long) in
     (subst (λ (n : ℕ). n < 2 ^ 31) (sym long) (ltb-true _ _ few.0), spelled ∙ sym (append_assoc (to_le_bytes w32 (length piece)) piece rest))
 
 pub string_field : ReadsBack (λ s. length s < 2 ^ 31) (λ s. to_le_bytes w32 (length s) ++ s) string_at
@@ -150,7 +150,7 @@ tag_found bytes tag rest are e =
     let second = (number_field w64).found sender.0.1 clock.0.0 clock.0.1 (bytes_after (number_field w32) bytes sender.0.0 sender.0.1 are sender.1) clock.1 in
     let made : Tag = record { sender = sender.0.0; clock = clock.0.0 } in
     subst (λ (x : Tag × List ℕ). TagFits x.0 × (bytes ≡ tag_bytes x.0 ++ x.1)) (same_Some (made, clock.0.1) (tag, rest) clock.2)
-        ((first.0, second.0), first.1 ∙ ap (λ (t : List ℕ). to_le_bytes w32 sender.0.0 ++ t) second.1 ∙ sym (append_assoc (to_le_bytes w32 sender.0.0) (to_le_bytes w64 clock.0.0) clock.0.1))
+    ((first.0, second.0), first.1 ∙ ap (λ (t : List ℕ). to_le_bytes w32 sender.0.0 ++ t) second.1 ∙ sym (append_assoc (to_le_bytes w32 sender.0.0) (to_le_bytes w64 clock.0.0) clock.0.1))
 
 pub tag_field : ReadsBack TagFits tag_bytes tag_at
 tag_field = record {
@@ -174,14 +174,14 @@ flagged_found bytes tag rest are e =
       | inl none ↦
           let zero : flag.0.0 ≡ 0 = eqb-true _ _ none.0 in
           subst (λ (x : Option Tag × List ℕ). IsTagIf true x.0 × (bytes ≡ flagged x.0 ++ x.1)) (same_Some (None, flag.0.1) (tag, rest) none.1)
-              (tt, front.1 ∙ ap (λ (b : ℕ). b ∷ flag.0.1) zero)
+          (tt, front.1 ∙ ap (λ (b : ℕ). b ∷ flag.0.1) zero)
       | inr some ↦
           let one = kept _ _ _ some.1 in
           let there = bind_some _ _ _ one.1 in
           let read = tag_field.found flag.0.1 there.0.0 there.0.1 (bytes_after byte_field bytes flag.0.0 flag.0.1 are flag.1) there.1 in
           let is : flag.0.0 ≡ 1 = eqb-true _ _ one.0 in
           subst (λ (x : Option Tag × List ℕ). IsTagIf true x.0 × (bytes ≡ flagged x.0 ++ x.1)) (same_Some (Some there.0.0, there.0.1) (tag, rest) there.2)
-              (read.0, front.1 ∙ ap (λ (b : ℕ). b ∷ flag.0.1) is ∙ ap (λ (t : List ℕ). 1 ∷ t) read.1)
+          (read.0, front.1 ∙ ap (λ (b : ℕ). b ∷ flag.0.1) is ∙ ap (λ (t : List ℕ). 1 ∷ t) read.1)
     ]
 
 pub flagged_field : ReadsBack (IsTagIf true) flagged flagged_at
@@ -260,9 +260,10 @@ call_found kind bytes call rest are e =
     let first = (number_if_field (has 0)).found bytes call.a0 read.after_first are read.first in
     let second = (number_if_field (has 1)).found read.after_first call.a1 read.after_second are_1 read.second in
     let third = (number_if_field (has 2)).found read.after_second call.a2 rest are_2 read.third in
-    let spelled = first.1 ∙ onto (number_if (has 0) call.a0) (second.1 ∙ onto (number_if (has 1) call.a1) third.1) in
-    ((at.kind_is, record { first = first.0; second = second.0; third = third.0 }),
-     spelled ∙ sym (concat-append (number_if (has 0) call.a0 ∷ number_if (has 1) call.a1 ∷ number_if (has 2) call.a2 ∷ []) rest))
+    let spelled = first.1 ∙ onto (number_if (has 0) call.a0) (second.1 ∙ onto (number_if (has 1) call.a1) third.1) in (
+      (at.kind_is, record { first = first.0; second = second.0; third = third.0 }),
+      spelled ∙ sym (concat-append (number_if (has 0) call.a0 ∷ number_if (has 1) call.a1 ∷ number_if (has 2) call.a2 ∷ []) rest),
+    )
 
 pub call_field : (kind : ℕ) → ReadsBack (CallFits kind) argument_bytes (call_at kind)
 call_field kind = record { again = call_again kind; found = call_found kind }

@@ -1,7 +1,6 @@
 -- A head stands at the front of some bytes exactly where `head_at` gives one.
-use Rattle.std.proofs.Common.{◌≡◌, ℕ, ◌<◌, ◌≤◌, Bool, true, ◌&&◌, nat_eq, leb, ltb, lit<, List, [], ◌∷◌, ◌++◌, length, drop, slice_index, Option, Some, None, codes, refl, sym, ap, ◌∙◌, subst, arith, append_assoc}
-use Rattle.std.specs.List.{concat, starts_with}
-use Rattle.std.specs.Str.{bytes_eq}
+use Rattle.std.proofs.Common.{◌≡◌, ℕ, ◌<◌, true, nat_eq, leb, ltb, lit<, List, [], ◌∷◌, ◌++◌, length, drop, slice_index, Some, None, codes, refl, sym, ap, ◌∙◌, subst, arith}
+use Rattle.std.specs.List.{starts_with}
 use Rattle.std.specs.Int.{w32, to_le_bytes}
 use Rattle.std.proofs.lemmas.Bool.{eqb-true, leb-true, le-leb, ltb-true, lt-ltb}
 use Rattle.std.proofs.lemmas.Bool.Decides.{Decides-eqb}
@@ -12,8 +11,8 @@ use Rattle.fri_bytes.specs.Reading.{byte_at, piece_at, le_at}
 use Rattle.fri_bytes.proofs.Readers.{bind_some, piece_reads, rest_in_range}
 use Rattle.call_log.specs.Head.{Head, IsHead, BeginsNoHead, head_bytes, is_name}
 use Rattle.call_log.specs.Reading.{mark_at, name_at, read_head}
-use Rattle.call_log.specs.Log.{head_at, head_in, is_head}
-use Rattle.call_log.proofs.FieldLaws.{AreBytes, ReadsBack, bytes_after, onto, parts_onto, concat-append, next, when_true, kept, number_field, byte_field}
+use Rattle.call_log.specs.Log.{head_at, head_in}
+use Rattle.call_log.proofs.FieldLaws.{AreBytes, ReadsBack, bytes_after, onto, concat-append, next, when_true, kept, number_field, byte_field}
 use Rattle.call_log.proofs.Shapes.{and_true, both_true, head_from_test, is_head-from}
 use Rattle.call_log.proofs.EntryLaws.{none_from}
 
@@ -22,7 +21,7 @@ use Rattle.call_log.proofs.EntryLaws.{none_from}
 mark_again : (mark rest : List ℕ) → mark_at mark (mark ++ rest) ≡ Some (mark, rest)
 mark_again mark rest =
     next _ _ (mark, rest) _ ((piece_reads (length mark)).again mark mark rest (refl, refl))
-        (when_true _ _ _ _ ((bytes_eq-Decides mark mark).1 refl) refl)
+    (when_true _ _ _ _ ((bytes_eq-Decides mark mark).1 refl) refl)
 
 mark_found : (mark bytes piece rest : List ℕ) → mark_at mark bytes ≡ Some (piece, rest) → bytes ≡ mark ++ rest
 mark_found mark bytes piece rest e =
@@ -50,7 +49,7 @@ name_found bytes name rest are e =
     let front = (piece_reads size.0.0).takes size.0.1 piece.0.0 piece.0.1 piece.1 in
     let after : size.0.1 ≡ piece.0.0 ++ piece.0.1 = front.1 ∙ ap (λ (t : List ℕ). t ++ piece.0.1) front.2.1 in
     let spelled : bytes ≡ (length piece.0.0 ∷ piece.0.0) ++ piece.0.1 =
-        first.1 ∙ ap (λ (n : ℕ). n ∷ size.0.1) (sym front.2.0) ∙ ap (λ (t : List ℕ). length piece.0.0 ∷ t) after in
+    first.1 ∙ ap (λ (n : ℕ). n ∷ size.0.1) (sym front.2.0) ∙ ap (λ (t : List ℕ). length piece.0.0 ∷ t) after in
     subst (λ (x : List ℕ × List ℕ). (is_name x.0 ≡ true) × (bytes ≡ (length x.0 ∷ x.0) ++ x.1)) (same_Some piece.0 (name, rest) named.1) (named.0, spelled)
 
 name_field : ReadsBack (λ name. is_name name ≡ true) (λ name. length name ∷ name) name_at
@@ -142,11 +141,11 @@ read_head-found bytes h rest are found =
     } in
     let one : version.0.0 ≡ 1 = eqb-true _ _ some.0 in
     let spelled =
-        marked ∙ onto (codes "LLOG") (
-        version_is.1 ∙ ap (λ (n : ℕ). to_le_bytes w32 n ++ version.0.1) one ∙ onto (to_le_bytes w32 1) (
-        count_is.1 ∙ onto (to_le_bytes w32 count.0.0) (
-        process_is.1 ∙ onto (to_le_bytes w32 process.0.0) name_is.1)))
-        ∙ sym (concat-append (codes "LLOG" ∷ to_le_bytes w32 1 ∷ to_le_bytes w32 count.0.0 ∷ to_le_bytes w32 process.0.0 ∷ (length name.0.0 ∷ []) ∷ name.0.0 ∷ []) name.0.1) in
+    marked ∙ onto (codes "LLOG") (
+    version_is.1 ∙ ap (λ (n : ℕ). to_le_bytes w32 n ++ version.0.1) one ∙ onto (to_le_bytes w32 1) (
+    count_is.1 ∙ onto (to_le_bytes w32 count.0.0) (
+    process_is.1 ∙ onto (to_le_bytes w32 process.0.0) name_is.1)))
+    ∙ sym (concat-append (codes "LLOG" ∷ to_le_bytes w32 1 ∷ to_le_bytes w32 count.0.0 ∷ to_le_bytes w32 process.0.0 ∷ (length name.0.0 ∷ []) ∷ name.0.0 ∷ []) name.0.1) in
     subst (λ (x : Head × List ℕ). IsHead x.0 × (bytes ≡ head_bytes x.0 ++ x.1)) end.1 (fits, spelled)
 
 -- where they read nothing, no head stands in front

@@ -1,13 +1,11 @@
 -- The tests of `is_shaped` and `is_head` say what the records of facts say.
-use Rattle.std.proofs.Common.{◌≡◌, ℕ, ◌^◌, ◌<◌, ◌≤◌, Bool, true, false, ◌&&◌, List, length, Option, Some, None, refl, arith}
-use Rattle.std.specs.Prelude.{nat_lt, nat_le}
+use Rattle.std.proofs.Common.{◌≡◌, ℕ, ◌^◌, ◌≤◌, Bool, true, false, ◌&&◌, List, length, Option, Some, None, refl, arith}
 use Rattle.std.proofs.lemmas.Bool.{leb-true, le-leb, ltb-true, lt-ltb}
 use Rattle.std.proofs.lemmas.List.{nil_from_length}
 use Rattle.lamport_tag.specs.declared.Tag.{Tag}
 use Rattle.call_log.specs.declared.entry.Call.{Call}
-use Rattle.call_log.specs.Kind.{is_built, argument_count, has_outgoing, has_incoming, has_tag}
 use Rattle.call_log.specs.Entry.{Entry, IsShaped, HasArguments, IsNumberIf, IsStringIf, IsTagIf}
-use Rattle.call_log.specs.Head.{Head, IsHead, is_name}
+use Rattle.call_log.specs.Head.{Head, IsHead}
 use Rattle.call_log.specs.Log.{is_number_if, is_string_if, is_tag_if, has_arguments, is_shaped, is_head}
 
 pub and_true : (a b : Bool) → (a && b) ≡ true → (a ≡ true) × (b ≡ true)
@@ -92,15 +90,15 @@ pub is_shaped-from : (e : Entry) → IsShaped e → is_shaped e ≡ true
 unfolding is_shaped
 is_shaped-from e h =
     both_true _ _ (both_true _ _ (both_true _ _ (both_true _ _ (both_true _ _ (both_true _ _ (both_true _ _ (both_true _ _
-        h.built
-        (lt-ltb e.clock (2 ^ 64) h.clock))
-        (lt-ltb e.thread (2 ^ 16) h.thread))
-        (lt-ltb e.signal (2 ^ 8) h.signal))
-        (has_arguments-from e.call h.arguments))
-        (lt-ltb e.reply (2 ^ 64) h.reply))
-        (is_string_if-from _ _ h.outgoing))
-        (is_string_if-from _ _ h.incoming))
-        (is_tag_if-from _ _ h.tag)
+    h.built
+    (lt-ltb e.clock (2 ^ 64) h.clock))
+    (lt-ltb e.thread (2 ^ 16) h.thread))
+    (lt-ltb e.signal (2 ^ 8) h.signal))
+    (has_arguments-from e.call h.arguments))
+    (lt-ltb e.reply (2 ^ 64) h.reply))
+    (is_string_if-from _ _ h.outgoing))
+    (is_string_if-from _ _ h.incoming))
+    (is_tag_if-from _ _ h.tag)
 
 pub head_from_test : (h : Head) → is_head h ≡ true → IsHead h
 unfolding is_head

@@ -1,15 +1,14 @@
 -- What the readers find at the front of some bytes, field by field. The laws of proofs/ say that this is
 -- exactly what the bytes spell.
-use Rattle.std.specs.Prelude.{◌≡◌, ℕ, zero, suc, ◌^◌, Bool, true, false, ◌&&◌, ◌==◌, nat_eq, nat_lt, nat_le, if◌then◌else◌, List, [], ◌∷◌, length, drop, codes, Option, Some, None, option_and_then, is_none}
-use Rattle.std.specs.List.{starts_with}
+use Rattle.std.specs.Prelude.{◌≡◌, ℕ, ◌^◌, Bool, ◌&&◌, ◌==◌, nat_lt, nat_le, if◌then◌else◌, List, [], length, codes, Option, Some, None, option_and_then}
 use Rattle.std.specs.Str.{bytes_eq}
 use Rattle.std.specs.Int.{w16, w32, w64}
 use Rattle.fri_bytes.specs.Reading.{byte_at, piece_at, le_at, Reading}
 use Rattle.lamport_tag.specs.declared.Tag.{Tag}
 use Rattle.call_log.specs.declared.entry.Call.{Call}
 use Rattle.call_log.specs.Kind.{is_built, argument_count, has_outgoing, has_incoming, has_tag}
-use Rattle.call_log.specs.Entry.{Entry, encoding}
-use Rattle.call_log.specs.Head.{Head, is_name, head_bytes}
+use Rattle.call_log.specs.Entry.{Entry}
+use Rattle.call_log.specs.Head.{Head, is_name}
 
 infixl 10 ◌>>=◌
 -- a step, and the next one where it gave something
@@ -57,7 +56,7 @@ unfoldable pub flagged_at : List ℕ → Option (Option Tag × List ℕ)
 flagged_at bytes = do
   flag ← byte_at bytes
   if flag.0 == 0 then Some (None, flag.1) else
-    (if flag.0 == 1 then tag_at flag.1 >>= (λ tag. Some (Some tag.0, tag.1)) else None)
+      (if flag.0 == 1 then tag_at flag.1 >>= (λ tag. Some (Some tag.0, tag.1)) else None)
 
 -- the same, where the kind may have a tag
 abbrev pub tag_if_at : Bool → List ℕ → Option (Option Tag × List ℕ)
@@ -107,5 +106,5 @@ read_head bytes = do
   process ← le_at w32 count.1
   name ← name_at process.1
   if version.0 == 1 && nat_le 1 count.0 && nat_le count.0 16 && nat_lt process.0 count.0
-    then Some (record { count = count.0; process = process.0; name = name.0 }, name.1)
-    else None
+      then Some (record { count = count.0; process = process.0; name = name.0 }, name.1)
+      else None

@@ -3,7 +3,9 @@ ghost use Rattle.std.specs.Prelude.{◌≡◌, ◌++◌, IfSome, IfNone, option_
 ghost use Rattle.call_log.specs.Entry.{BeginsNoEntry, IsShaped, encoding, entry_of};
 ghost use Rattle.call_log.specs.Reading.{Gives, body_at, read_entry as entry_read};
 
-use crate::fields::{has_incoming, has_outgoing, has_tag, is_built, read_call, read_string_if, read_tag_if};
+use crate::fields::{
+    has_incoming, has_outgoing, has_tag, is_built, read_call, read_string_if, read_tag_if,
+};
 use fri_bytes::Cursor;
 use lamport_tag::Tag;
 

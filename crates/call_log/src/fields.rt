@@ -94,7 +94,11 @@ fn read_string<'a>(cursor: &mut Cursor<'a>) -> Option<&'a [u8]>
 pub(crate) fn read_tag_if(cursor: &mut Cursor<'_>, has: bool) -> Option<Option<Tag>>
     ensures { Gives result cursor.new (tag_if_at has cursor.old.left) }
 {
-    if has { read_flagged(cursor) } else { Some(None) }
+    if has {
+        read_flagged(cursor)
+    } else {
+        Some(None)
+    }
 }
 
 // A tag behind its flag, or the flag that there is none.

@@ -5,6 +5,8 @@ mod entry;
 mod fields;
 mod head;
 mod put;
+#[cfg(test)]
+mod tests;
 mod view;
 
 pub use entry::{Call, EntryView};

@@ -1,7 +1,6 @@
 use Rattle.std.proofs.Common.{◌≡◌, ℕ, List, ◌++◌, IfNone, Option, Some, None, sym, ap, ◌∙◌, rules}
 use Rattle.call_log.specs.Head.{IsHead, head_of, head_bytes}
 use Rattle.call_log.specs.Reading.{read_head}
-use Rattle.call_log.proofs.FieldLaws.{onto}
 use Rattle.call_log.proofs.HeadLaws.{read_head-found, read_head-none}
 use Rattle.call_log.proofs.head.read_head.Goals as goal
 
@@ -17,7 +16,7 @@ returns-in_err-head-clause-none c =
 found : (c : goal.After-rest) → IsHead (head_of c.in_ok-head.head) × (c.args.bytes.now ≡ head_bytes (head_of c.in_ok-head.head) ++ c.rest.result.now)
 found c =
     let read : read_head c.args.bytes.now ≡ Some (head_of c.in_ok-head.head, c.rest.result.now) =
-        ap read_head (sym c.new-cursor.ensures.left) ∙ c.in_ok-head.ensures ∙ ap (λ (t : List ℕ). Some (head_of c.in_ok-head.head, t)) (sym c.rest.ensures) in
+    ap read_head (sym c.new-cursor.ensures.left) ∙ c.in_ok-head.ensures ∙ ap (λ (t : List ℕ). Some (head_of c.in_ok-head.head, t)) (sym c.rest.ensures) in
     read_head-found c.args.bytes.now (head_of c.in_ok-head.head) c.rest.result.now (λ i. search rules) read
 
 pub returns-clause-head : goal.returns-clause-head

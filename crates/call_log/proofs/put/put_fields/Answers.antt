@@ -1,4 +1,4 @@
-use Rattle.std.proofs.Common.{Bool, ◌≡◌, ℕ, List, ◌∷◌, [], ◌++◌, length, OnOk, Result, Ok, Err, refl, sym, ap, ◌∙◌, append_assoc, rules}
+use Rattle.std.proofs.Common.{Bool, ◌≡◌, ℕ, List, ◌∷◌, [], ◌++◌, length, refl, sym, ap, ◌∙◌, append_assoc}
 use Rattle.std.specs.Int.{w16, w32, w64, to_le_bytes}
 use Rattle.std.specs.List.{concat}
 use Rattle.std.proofs.lemmas.List.{append-nil}
