@@ -3,6 +3,7 @@ use Rattle.std.specs.Prelude.{ℕ, Bool, ◌==◌, if◌then◌else◌, List, []
 use Rattle.std.specs.List.{before_first, after_first, onto_first}
 use Rattle.std.specs.Str.Lines.{strip_carriage_return}
 
+-- the byte that ends a line
 abbrev pub is_line_feed : ℕ → Bool
 is_line_feed b = b == 10
 

@@ -4,10 +4,9 @@
 
 use fri_outside::{ReaderSource, RealFiles, WriterSink};
 use friday_app::{Status, friday};
-use std::env;
-use std::io;
 use std::process::ExitCode;
 use std::rt::{Env, Files};
+use std::{env, io};
 
 /// The status where the words cannot be had, as where one is not UTF-8.
 const NO_WORDS: u8 = 8;
