@@ -1,9 +1,9 @@
 -- What a command's result comes to.
-use Rattle.std.proofs.Common.{◌≡◌, ◌++◌, ℕ, List, [], Option, Some, None, Result, Ok, Err, IfSome, IfNone, refl, sym, ap, subst, ◌∙◌, inl, inr, append-nil, IfErr, arith, cond, string_bytes}
+use Rattle.std.proofs.Common.{◌≡◌, ◌++◌, ℕ, List, [], Option, Some, None, Result, Ok, Err, IfSome, IfNone, refl, sym, ap, subst, ◌∙◌, inl, inr, append-nil, IfErr, IfOk, arith, cond, string_bytes}
 use Rattle.std.specs.Io.KnownBytes.{append_known}
 use Rattle.std.proofs.lemmas.Grind.{common_steps}
 use Rattle.std.proofs.lemmas.Option.{same_Some}
-use Rattle.fri_outside.specs.Outside.{Store, Counts, Rose}
+use Rattle.fri_outside.specs.Outside.{Store, Counts, Rose, WhenTold}
 use Rattle.friday_app.specs.declared.status.Status.{Status}
 use Rattle.friday_app.specs.declared.status.Status.TheVariants as ends
 use Rattle.friday_app.specs.declared.refusal.Answer.{Answer}
@@ -14,6 +14,7 @@ use Rattle.friday_app.specs.declared.refusal.Refusal.TheVariants as refusal
 use Rattle.friday_app.specs.Command.{Command}
 use Rattle.friday_app.specs.Outcome.{Outcome, Refuses, Lacks, refused_line, absent_line, usage_line, status_of, text_of, writes_of, with_files}
 use Rattle.friday_app.specs.Expected.{expected, written_by}
+use Rattle.friday_app.specs.Agreement.{KeepsRecording}
 use Rattle.friday_app.specs.Run.{Outside, Run}
 use Rattle.friday_app.specs.Call.{Prints, PrintsRefusal, DivergesOnlyIn, Leaves, IsAnswer, IsIdle, Tells, Makes, Keeps, Raises, FaultStatus, answer_of, OthersStay, Finishes}
 use Rattle.friday_app.proofs.Made.{same_changes, all_changes, same_others}
@@ -101,6 +102,20 @@ status_ends (Err refusal.ReadFault) answer outcome is answers fault h = absurd (
 status_ends (Err refusal.WriteFault) answer outcome is answers fault h = absurd (subst IsAnswer fault h)
 status_ends (Err refusal.NoMemory) answer outcome is answers fault h = absurd (subst IsAnswer fault h)
 
+-- what an answer says holds at status 0
+done_ends : {P : Type 0} (ended : Result Answer Refusal) (answer : Status)
+    → IfSome (answer_of ended) (λ a. IsAnswer answer → answer ≡ a.0)
+    → FaultStatus ended answer
+    → answer ≡ ends.Done
+    → IfOk ended (λ _. P)
+    → P
+done_ends (Ok given) answer answers fault is holds = holds
+done_ends (Err (refusal.Refused file why)) answer answers fault is holds = let e : ends.Done ≡ ends.Refused = sym is ∙ answers (subst IsAnswer (sym is) tt) in cc
+done_ends (Err (refusal.Absent file)) answer answers fault is holds = let e : ends.Done ≡ ends.Absent = sym is ∙ answers (subst IsAnswer (sym is) tt) in cc
+done_ends (Err refusal.ReadFault) answer answers fault is holds = let e = sym is ∙ fault in cc
+done_ends (Err refusal.WriteFault) answer answers fault is holds = let e = sym is ∙ fault in cc
+done_ends (Err refusal.NoMemory) answer answers fault is holds = let e = sym is ∙ fault in cc
+
 -- a run of a command whose result was finished
 pub run_ends : (command : Command) (ended : Result Answer Refusal) (answer : Status) (old new : Outside)
     → DivergesOnlyIn (Some command) ended
@@ -109,15 +124,17 @@ pub run_ends : (command : Command) (ended : Result Answer Refusal) (answer : Sta
     → OthersStay (written_by (Some command)) old.told new.told
     → Keeps ended old.told new.told
     → IfErr ended (Raises old.counts new.counts)
+    → IfOk ended (λ _. WhenTold old.told (λ before. WhenTold new.told (KeepsRecording (Some command) before)))
     → Finishes ended answer old.taken new.taken old.out_faults new.out_faults
     → Run (Some command) old new answer
-run_ends command ended answer old new diverges tells makes others keeps cause f = record {
+run_ends command ended answer old new diverges tells makes others keeps cause recorded f = record {
   usage = grind (arith, common_steps);
   diverged = grind (arith, common_steps);
   status = λ o e h. status_ends ended answer o (tells o e) f.status f.fault h;
   text = λ o e. text_ends ended answer o _ _ (tells o e) f.text f.silent f.fault;
   files = λ o e. files_end ended answer (writes_of o) _ _ (makes o e) f.fault;
   others = others;
+  recorded = λ is. done_ends ended answer f.status f.fault is recorded;
   idle = grind (arith, common_steps);
   absent = grind (arith, common_steps);
   refused = refusal_ends ended answer _ _ old.counts new.counts f.status f.text f.fault cause;
@@ -140,6 +157,7 @@ run_none answer old new same usage prints reads writes = record {
   text = λ o e. subst (λ o. Prints answer (text_of o) old.taken new.taken) (same_Some _ _ e) prints;
   files = λ o e. none_left answer o _ _ (sym (ap writes_of (same_Some _ _ e))) same;
   others = same_others _ _ _ same;
+  recorded = λ is before told after here. tt;
   idle = λ _. same;
   absent = λ is. let e : ends.Absent ≡ ends.Usage = sym is ∙ usage (subst IsAnswer (sym is) tt) in cc;
   refused = λ is. let e : ends.Refused ≡ ends.Usage = sym is ∙ usage (subst IsAnswer (sym is) tt) in absurd (usage_not_refused e);

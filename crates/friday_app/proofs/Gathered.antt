@@ -1,7 +1,10 @@
 -- What `record` says of its result, from what it gathered.
 use Rattle.std.proofs.Common.{◌≡◌, ◌⊎◌, ℕ, List, [], ◌∷◌, Option, Some, option_map, Ok, Err, Result, MatchResult, take, refl, sym, ap, subst, ◌∙◌, string_bytes, ◌≤◌, length, arith}
 use Rattle.std.specs.Prelude.{All}
+use Rattle.std.specs.FinMap.{get}
+use Rattle.std.proofs.lemmas.Option.{same_Some}
 use Rattle.fri_outside.specs.Outside.{Store, WhenTold, with_file}
+use Rattle.fri_outside.proofs.Stored.{get_set}
 use Rattle.fri_outside.specs.declared.files.WriteError.{WriteError}
 use Rattle.fri_outside.specs.declared.files.WriteError.TheVariants as writing
 use Rattle.friday_app.specs.declared.refusal.Answer.TheVariants as answered
@@ -13,7 +16,8 @@ use Rattle.schedule_text.specs.declared.process.ProcessLine.{ProcessLine}
 use Rattle.schedule_text.specs.Schedule.{Schedule, IsProcess}
 use Rattle.friday_app.specs.declared.refusal.Refusal.TheVariants as refusal
 use Rattle.friday_app.specs.Expected.{first_or, module_of, process_of, record_outcome, schedule_in}
-use Rattle.friday_app.specs.Record.{record_work}
+use Rattle.friday_app.specs.Record.{log_name, record_work}
+use Rattle.friday_app.specs.Agreement.{HoldsRecording, IsRecordingOf, LeavesRecording}
 use Rattle.friday_app.specs.Outcome.{Outcome, Stop, Work, and_then, writes_of, with_files}
 use Rattle.friday_app.specs.Recorded.{DoesWork, IsRecordedWork}
 use Rattle.friday_app.specs.Call.{ChangesOnly, Makes, StopsAs, Tells, stop_of}
@@ -105,6 +109,28 @@ recorded_same recorded name wanted_name body wanted_body items wanted_items name
     subst (λ (n : List ℕ). IsRecordedWork recorded (record_work n wanted_body wanted_items)) names
     (subst (λ (b : Trees). IsRecordedWork recorded (record_work name b wanted_items)) bodies
     (subst (λ (i : List Item). IsRecordedWork recorded (record_work name body i)) same told))
+
+pub recording_same : (bytes : List ℕ) (name wanted_name : List ℕ) (body wanted_body : Trees) (items wanted_items : List Item) → name ≡ wanted_name → body ≡ wanted_body → items ≡ wanted_items
+    → IsRecordingOf bytes name body items → IsRecordingOf bytes wanted_name wanted_body wanted_items
+recording_same bytes name wanted_name body wanted_body items wanted_items names bodies same told =
+    subst (λ (n : List ℕ). IsRecordingOf bytes n wanted_body wanted_items) names
+    (subst (λ (b : Trees). IsRecordingOf bytes name b wanted_items) bodies
+    (subst (λ (i : List Item). IsRecordingOf bytes name body i) same told))
+
+-- the name of its log
+pub log_named : (recorded : Recorded) (name : List ℕ) (body : Trees) (items : List Item) → IsRecordedWork recorded (record_work name body items) → string_bytes recorded.log_name ≡ log_name name
+log_named recorded name body items told = ap (λ (files : List (List ℕ × List ℕ)). (first_or ([], []) files).0) told.writes
+
+-- the log that was made holds the recording
+pub leaves_recording : (told middle after : Option Store) (schedule_name : List ℕ) (recorded : Recorded) (name bytes : List ℕ) → IsFileOf recorded name bytes
+    → WhenTold told (λ store. HoldsRecording store schedule_name (string_bytes recorded.log_name) recorded.log.items) → middle ≡ told → after ≡ with_file name bytes middle
+    → WhenTold told (λ before. WhenTold after (LeavesRecording schedule_name before))
+leaves_recording told middle after schedule_name recorded name bytes file holds same made before is now here = record {
+  file = name;
+  bytes = bytes;
+  held = ap (λ (s : Store). get s name) (same_Some _ _ (sym here ∙ made ∙ ap (with_file name bytes) (same ∙ is))) ∙ get_set before name bytes;
+  holds = subst (λ (n : List ℕ). HoldsRecording before schedule_name n bytes) (sym file.named) (subst (λ (b : List ℕ). HoldsRecording before schedule_name (string_bytes recorded.log_name) b) (sym file.logged) (holds before is));
+}
 
 -- its process was recorded
 pub work_done : (store : Store) (name file : List ℕ) (schedule : Schedule) (body : Trees) (recorded : Recorded) → schedule_in store name ≡ Ok schedule → file ≡ (process_of schedule).«module» → module_of store file ≡ Ok body

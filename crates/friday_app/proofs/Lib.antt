@@ -1,3 +1,4 @@
+pub mod Agreement
 pub mod Completes
 pub mod Ends
 pub mod Folding

@@ -1,16 +1,17 @@
 -- What is made of the files of a command's work.
-use Rattle.std.proofs.Common.{◌≡◌, ◌⊎◌, ◌<◌, ℕ, zero, suc, arith, slice_index_or, Contains, List, [], ◌∷◌, true, false, cond, map, Option, Some, None, option_map, take, length, refl, sym, ap, subst, ◌∙◌, inl, inr, lit<, Ok, Err, Result}
+use Rattle.std.proofs.Common.{◌≡◌, ◌⊎◌, ◌<◌, ℕ, zero, suc, arith, slice_index_or, Contains, List, [], ◌∷◌, true, false, cond, map, Option, Some, None, option_map, take, length, refl, sym, ap, subst, ◌∙◌, inl, inr, lit<, Ok, Err, Result, IfOk}
 use Rattle.std.proofs.Math.Seq.{take-length}
 use Rattle.std.proofs.lemmas.List.{length-map}
 use Rattle.std.proofs.lemmas.Option.{same_Some}
 use Rattle.std.specs.Ordering.{nat_cmp, eq_by_cmp}
 use Rattle.std.specs.Cmp.Lexicographic.{slice_cmp, nat_list_cmp_total}
 use Rattle.std.specs.FinMap.{insert, get, get-insert}
-use Rattle.fri_outside.specs.Outside.{Store, with_file}
+use Rattle.fri_outside.specs.Outside.{Store, WhenTold, with_file}
 use Rattle.fri_outside.proofs.Stored.{is_same}
 use Rattle.friday_app.specs.declared.refusal.Answer.{Answer}
 use Rattle.friday_app.specs.declared.refusal.Answer.TheVariants as answered
-use Rattle.friday_app.specs.Command.{Command}
+use Rattle.friday_app.specs.Agreement.{KeepsRecording, LeavesRecording}
+use Rattle.friday_app.specs.Command.{Command, Record, Replay}
 use Rattle.friday_app.specs.declared.refusal.Refusal.{Refusal}
 use Rattle.friday_app.specs.declared.refusal.Refusal.TheVariants as refusal
 use Rattle.friday_app.specs.Outcome.{Outcome, nothing_done, writes_of, with_files}
@@ -126,3 +127,16 @@ pub never_diverges : (command : Option Command) (result : Result Answer Refusal)
 never_diverges command (Ok (answered.Done text)) h = tt
 never_diverges command (Ok (answered.Diverged text)) h = absurd h
 never_diverges command (Err refusal) h = tt
+
+-- a command that is a recording leaves it where it comes to an answer
+pub keeps_recording : {command : Command} {schedule_name : List ℕ} (result : Result Answer Refusal) (before after : Option Store) → command ≡ Record schedule_name
+    → IfOk result (λ _. WhenTold before (λ old. WhenTold after (LeavesRecording schedule_name old)))
+    → IfOk result (λ _. WhenTold before (λ old. WhenTold after (KeepsRecording (Some command) old)))
+keeps_recording (Ok answer) before after is leaves = λ old told new here. subst (λ (k : Command). KeepsRecording (Some k) old new) (sym is) (leaves old told new here)
+keeps_recording (Err refusal) before after is leaves = tt
+
+-- and a replay has none to leave
+pub no_recording : {command : Command} {module_name log_name : List ℕ} (result : Result Answer Refusal) (before after : Option Store) → command ≡ Replay module_name log_name
+    → IfOk result (λ _. WhenTold before (λ old. WhenTold after (KeepsRecording (Some command) old)))
+no_recording (Ok answer) before after is = λ old told new here. subst (λ (k : Command). KeepsRecording (Some k) old new) (sym is) tt
+no_recording (Err refusal) before after is = tt

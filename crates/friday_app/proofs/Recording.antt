@@ -1,12 +1,13 @@
 -- A recorder that goes on by one step.
 use Rattle.std.proofs.Common.{◌≡◌, ℕ, zero, suc, ◌+◌, ◌-◌, ◌++◌, Bool, true, false, cond, List, [], ◌∷◌, length, drop, Option, Some, None, refl, ap, sym, subst, ◌∙◌, append_assoc, append-nil, length-append, arith, add-one, string_bytes, drop-cons, slice_index_or, ◌<◌, ◌≤◌}
 use Rattle.std.proofs.lemmas.List.{drop_all}
+use Rattle.std.proofs.lemmas.List.Elements.{All-push}
 use Rattle.std.specs.Prelude.{◌==◌}
 use Rattle.schedule_text.specs.declared.item.Item.{Item}
 use Rattle.schedule_text.specs.declared.item.Item.TheVariants as item
 use Rattle.schedule_text.specs.Schedule.{IsInRange}
 use Rattle.call_log.specs.declared.entry.EntryView.{EntryView}
-use Rattle.call_log.specs.Entry.{Entry, encoding, encodings, entry_of}
+use Rattle.call_log.specs.Entry.{Entry, IsShaped, encoding, encodings, entry_of}
 use Rattle.call_log.specs.Head.{head_bytes}
 use Rattle.friday_app.specs.declared.recorder.Recorder.{Recorder}
 use Rattle.friday_app.specs.Process.{State, is_active, need, next, next_clock}
@@ -49,6 +50,7 @@ idle_step name first done old new thread k none is =
       events = k.events;
       acted = k.acted;
       idle = add-one old.idle ∙ ap suc k.idle;
+      shaped = k.shaped;
     }))
 
 -- an event
@@ -61,8 +63,9 @@ pub event_step : (name : List ℕ) (first : ℕ → State) (done : Progress) (ol
     → new.events ≡ old.events + 1
     → new.acted ≡ old.acted + 1
     → new.idle ≡ old.idle
+    → IsShaped (entry_of view)
     → KeepsUp name first (attempt first 0 thread done) new
-event_step name first done old new thread found view k h at state time log events acted idle = step (subst (λ (f : Option EntryView). IsEntryOf (live (state_of old.process) thread (record { time = old.time })) f) at h) where
+event_step name first done old new thread found view k h at state time log events acted idle shaped = step (subst (λ (f : Option EntryView). IsEntryOf (live (state_of old.process) thread (record { time = old.time })) f) at h) where
   step : IsEntryOf (live (state_of old.process) thread (record { time = old.time })) (Some view) → KeepsUp name first (attempt first 0 thread done) new
   step (e, is, same) =
       let here : live (state_after first done.history 0) thread (env_of done.history 0) ≡ Some e = sym (world_is name first done old thread k) ∙ is in
@@ -75,6 +78,7 @@ event_step name first done old new thread found view k h at state time log event
         events = events ∙ ap (λ n. n + 1) k.events ∙ sym (length-append (entries done.history 0) (e.entry ∷ []));
         acted = acted ∙ add-one old.acted ∙ ap suc k.acted;
         idle = idle ∙ k.idle;
+        shaped = All-push IsShaped (entries done.history 0) e.entry k.shaped (subst IsShaped same shaped);
       })
 
 -- the recorder has come as far as some progress from which the rest gives the whole

@@ -10,6 +10,7 @@ pub mod History
 pub mod Outcome
 pub mod Record
 pub mod Expected
+pub mod Agreement
 pub mod Seen
 pub mod Recorded
 pub mod Call

@@ -6,6 +6,7 @@ use Rattle.friday_app.specs.declared.status.Status.TheVariants as ends
 use Rattle.friday_app.specs.Command.{Command, IsReplay, command_of}
 use Rattle.friday_app.specs.Outcome.{Outcome, Work, status_of, text_of, writes_of, with_files}
 use Rattle.friday_app.specs.Expected.{expected, written_by}
+use Rattle.friday_app.specs.Agreement.{KeepsRecording}
 use Rattle.friday_app.specs.Call.{IsAnswer, IsExactUsage, IsIdle, Prints, PrintsRefusal, Leaves, OthersStay}
 
 -- what is said of the outcome of these words, as far as the store and the input tell it
@@ -42,6 +43,7 @@ pub record Run (command : Option Command) (old new : Outside) (answer : Status) 
   pub text : WhenTold (expected command old.told old.left) (λ outcome. Prints answer (text_of outcome) old.taken new.taken)
   pub files : WhenTold (expected command old.told old.left) (λ outcome. Leaves answer (writes_of outcome) old.told new.told)
   pub others : OthersStay (written_by command) old.told new.told
+  pub recorded : answer ≡ ends.Done → WhenTold old.told (λ before. WhenTold new.told (KeepsRecording command before))
   pub idle : IsIdle answer → new.told ≡ old.told
   pub absent : answer ≡ ends.Absent → Rose old.counts.misses new.counts.misses
   pub refused : answer ≡ ends.Refused → PrintsRefusal old.taken new.taken (Rose old.counts.misses new.counts.misses)

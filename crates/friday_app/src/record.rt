@@ -1,10 +1,11 @@
 // `record SCHEDULE`: runs a process as the schedule says, and writes its log.
-ghost use Rattle.std.specs.Prelude.{◌≡◌, None, map, option_map, IfErr, MatchResult};
+ghost use Rattle.std.specs.Prelude.{◌≡◌, None, map, option_map, string_bytes, IfErr, IfOk, MatchResult};
 ghost use Rattle.fri_outside.specs.Outside.{WhenTold, NoneFell};
 ghost use Rattle.friday_app.specs.Outcome.{writes_of};
 ghost use Rattle.schedule_text.specs.Schedule.{IsProcess, IsSchedule};
 ghost use Rattle.friday_app.specs.Expected.{process_of, record_outcome};
 ghost use Rattle.friday_app.specs.Recorded.{DoesWork};
+ghost use Rattle.friday_app.specs.Agreement.{HoldsRecording, LeavesRecording};
 ghost use Rattle.friday_app.specs.Call.{StopsAs, Tells, Makes, Keeps, DivergesOnlyIn, OthersStay, Raises};
 
 use crate::inputs::{take_module, take_schedule};
@@ -36,6 +37,7 @@ fn gather<F: Files>(
     ensures answer { WhenTold (F.told files.old) (λ store. MatchResult result
         (λ recorded. DoesWork recorded (record_outcome schedule_file.now store))
         (StopsAs (record_outcome schedule_file.now store))) }
+    ensures recorded { WhenTold (F.told files.old) (λ store. IfOk result (λ recorded. HoldsRecording store schedule_file.now (string_bytes recorded.log_name) recorded.log.items)) }
     ensures same { F.told files.new ≡ F.told files.old }
     ensures counts { NoneFell (F.counts files.old) (F.counts files.new) }
     ensures cause { IfErr result (Raises (F.counts files.old) (F.counts files.new)) }
@@ -59,6 +61,7 @@ pub fn record<F: Files>(
     ensures others { OthersStay (λ store. map (λ file. file.0) (writes_of (record_outcome schedule_file.now store))) (F.told files.old) (F.told files.new) }
     ensures keeps { Keeps result (F.told files.old) (F.told files.new) }
     ensures done { DivergesOnlyIn None result }
+    ensures recorded { IfOk result (λ _. WhenTold (F.told files.old) (λ before. WhenTold (F.told files.new) (LeavesRecording schedule_file.now before))) }
     ensures counts { NoneFell (F.counts files.old) (F.counts files.new) }
     ensures cause { IfErr result (Raises (F.counts files.old) (F.counts files.new)) }
 {

@@ -5,6 +5,7 @@ ghost use Rattle.fri_text.specs.Name.{is_name as is_name_word};
 ghost use Rattle.schedule_text.specs.Schedule.{IsInRange};
 ghost use Rattle.friday_app.specs.Record.{record_work, process_line, items_line, log_name};
 ghost use Rattle.friday_app.specs.Recorded.{IsRecordedWork};
+ghost use Rattle.friday_app.specs.Agreement.{IsRecordingOf};
 
 use crate::recorder::Recorder;
 use crate::report::end_text;
@@ -62,7 +63,8 @@ pub fn record_process(
 ) -> Result<Recorded, AllocError>
     requires named { IsTrue (is_name_word name.now) }
     requires in_range { All (IsInRange 1) items.now }
-    ensures { IfOk result (λ recorded. IsRecordedWork recorded (record_work name.now (trees body.now) items.now)) }
+    ensures work { IfOk result (λ recorded. IsRecordedWork recorded (record_work name.now (trees body.now) items.now)) }
+    ensures recorded { IfOk result (λ recorded. IsRecordingOf recorded.log.items name.now (trees body.now) items.now) }
 {
     let mut recorder = Recorder::new(alloc, body, name)?;
     recorder.perform_all(items)?;

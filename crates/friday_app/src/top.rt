@@ -4,6 +4,7 @@ ghost use Rattle.fri_outside.specs.Outside.{WhenTold, Rose};
 ghost use Rattle.friday_app.specs.Command.{IsReplay, command_of};
 ghost use Rattle.friday_app.specs.Outcome.{status_of, text_of, writes_of, with_files};
 ghost use Rattle.friday_app.specs.Expected.{written_by};
+ghost use Rattle.friday_app.specs.Agreement.{KeepsRecording};
 ghost use Rattle.friday_app.specs.Valid.{IsValid};
 ghost use Rattle.friday_app.specs.Run.{Run, NoFault, Works, Expects};
 ghost use Rattle.friday_app.specs.Call.{IsAnswer, IsExactUsage, IsIdle, Prints, PrintsRefusal, Leaves, OthersStay};
@@ -69,6 +70,10 @@ pub fn friday<F: Files, S: Source, K: Sink>(
         Prints result (text_of outcome) (K.taken out.old) (K.taken out.new)) }
     ensures files { Expects (map string_bytes words.now) (F.told files.old) (S.left input.old) (λ outcome.
         Leaves result (writes_of outcome) (F.told files.old) (F.told files.new)) }
+
+    // The log that a recording leaves holds its events: replay accepts each, and makes the recorded states of them.
+    ensures recorded { result ≡ Status.Done → WhenTold (F.told files.old) (λ before.
+        WhenTold (F.told files.new) (KeepsRecording (command_of (map string_bytes words.now)) before)) }
 
     // Valid words, files and input, and no fault: the work is done, unless memory runs out.
     ensures complete { WhenTold (F.told files.old) (λ store. IsValid (command_of (map string_bytes words.now)) store (S.left input.old)

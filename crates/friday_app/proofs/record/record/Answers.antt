@@ -4,7 +4,7 @@ use Rattle.fri_outside.specs.Outside.{Store}
 use Rattle.friday_app.specs.Expected.{record_outcome}
 use Rattle.friday_app.specs.Outcome.{Outcome, writes_of}
 use Rattle.friday_app.specs.Call.{ChangesOnly}
-use Rattle.friday_app.proofs.Gathered.{refused_tells, refused_makes, written_tells, written_makes, part_makes, part_writes, whole_writes}
+use Rattle.friday_app.proofs.Gathered.{leaves_recording, refused_tells, refused_makes, written_tells, written_makes, part_makes, part_writes, whole_writes}
 use Rattle.friday_app.proofs.Made.{changes_others, same_others}
 use Rattle.friday_app.proofs.record.record.Goals as goal
 
@@ -42,3 +42,7 @@ pub returns-clause-others : goal.returns-clause-others
 returns-clause-others g c =
     changes_others (λ store. writes_of (record_outcome c.args.schedule_file.now store)) (g.F.Files.told c.args.files.now) (g.F.Files.told c.write_file.new.files)
     (whole_writes (record_outcome c.args.schedule_file.now) _ (g.F.Files.told c.gather.new.files) (g.F.Files.told c.write_file.new.files) c.in_ok-recorded.recorded c.deref.result.now c.deref-2.result.now (record { named = c.deref.ensures; logged = c.deref-2.ensures.value }) c.in_ok-recorded.ensures.answer c.gather.ensures.same c.in_ok-write_file.ensures.ok)
+
+pub returns-clause-recorded : goal.returns-clause-recorded
+returns-clause-recorded g c =
+    leaves_recording (g.F.Files.told c.args.files.now) (g.F.Files.told c.gather.new.files) (g.F.Files.told c.write_file.new.files) c.args.schedule_file.now c.in_ok-recorded.recorded c.deref.result.now c.deref-2.result.now (record { named = c.deref.ensures; logged = c.deref-2.ensures.value }) c.in_ok-recorded.ensures.recorded c.gather.ensures.same c.in_ok-write_file.ensures.ok

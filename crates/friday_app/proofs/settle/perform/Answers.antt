@@ -4,7 +4,7 @@ use Rattle.friday_app.specs.Command.{Command}
 use Rattle.friday_app.specs.Expected.{written_by}
 use Rattle.friday_app.specs.Outcome.{writes_of}
 use Rattle.friday_app.specs.Seen.{meaning}
-use Rattle.friday_app.proofs.Made.{none_made, same_others, never_diverges}
+use Rattle.friday_app.proofs.Made.{none_made, same_others, never_diverges, keeps_recording, no_recording}
 use Rattle.friday_app.proofs.Stops.{replay_writes_none}
 use Rattle.friday_app.proofs.settle.perform.Goals as goal
 
@@ -20,3 +20,9 @@ returns-in-Record-clause-others g c =
 
 pub returns-in-Record-clause-diverges : goal.returns-in-Record-clause-diverges
 returns-in-Record-clause-diverges g c = never_diverges (Some (meaning c.args.command)) c.record.result c.record.ensures.done
+
+pub returns-in-Record-clause-recorded : goal.returns-in-Record-clause-recorded
+returns-in-Record-clause-recorded g c = keeps_recording c.record.result _ _ (ap meaning c.in-Record.is) c.record.ensures.recorded
+
+pub returns-in-Replay-clause-recorded : goal.returns-in-Replay-clause-recorded
+returns-in-Replay-clause-recorded g c = no_recording c.replay.result _ _ (ap meaning c.in-Replay.is)

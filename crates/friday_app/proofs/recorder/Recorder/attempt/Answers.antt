@@ -21,4 +21,4 @@ returns-in_ok-advance-in-Some c = λ name first done k.
       acted = c.in_ok-self-in-Some-2.field-0;
       idle = c.args.self.now.idle;
     } in
-    event_step name first done c.args.self.now new c.args.thread c.in_ok-live_entry.field-0 c.in-Some.entry k c.in_ok-live_entry.ensures.entry c.in-Some.is c.in_ok-advance-in-Some.ensures refl c.in_ok-put_entry-in-Some.ensures.ok c.in_ok-self-in-Some.ensures c.in_ok-self-in-Some-2.ensures refl
+    event_step name first done c.args.self.now new c.args.thread c.in_ok-live_entry.field-0 c.in-Some.entry k c.in_ok-live_entry.ensures.entry c.in-Some.is c.in_ok-advance-in-Some.ensures refl c.in_ok-put_entry-in-Some.ensures.ok c.in_ok-self-in-Some.ensures c.in_ok-self-in-Some-2.ensures refl (rw c.in-Some.is at c.in_ok-live_entry.ensures.shaped)

@@ -1,0 +1,41 @@
+-- The log that a recording left tells what was recorded.
+use Rattle.std.specs.Prelude.{◌≡◌, ℕ, List, Option, Some, None, Ok}
+use Rattle.std.specs.FinMap.{get}
+use Rattle.fri_outside.specs.Outside.{Store}
+use Rattle.wasm_types.specs.Code.{Trees}
+use Rattle.schedule_text.specs.declared.item.Item.{Item}
+use Rattle.schedule_text.specs.Schedule.{Schedule}
+use Rattle.friday_app.specs.Command.{Command, Record, Replay}
+use Rattle.friday_app.specs.Expected.{module_of, process_of, schedule_in}
+use Rattle.friday_app.specs.History.{History, entries, states, run}
+use Rattle.friday_app.specs.Record.{IsRecorded, first_of, log_name}
+
+-- the history of the run of these items
+abbrev pub history_of : Trees → List Item → History
+history_of body items = (run (first_of body) items).history
+
+-- these bytes are a log of that run
+abbrev pub IsRecordingOf : List ℕ → List ℕ → Trees → List Item → Type 0
+IsRecordingOf bytes name body items = IsRecorded bytes name body (entries (history_of body items) 0) (states (history_of body items) 0)
+
+-- a file of this name and these bytes is a log of the run of the schedule and the module that the files spell
+pub record HoldsRecording (store : Store) (schedule_name file bytes : List ℕ) : Type 0 where
+  pub schedule : Schedule
+  pub spelled : schedule_in store schedule_name ≡ Ok schedule
+  pub body : Trees
+  pub formed : module_of store (process_of schedule).«module» ≡ Ok body
+  pub named : file ≡ log_name (process_of schedule).name
+  pub recorded : IsRecordingOf bytes (process_of schedule).name body schedule.items
+
+-- such a file is among the files afterwards
+pub record LeavesRecording (schedule_name : List ℕ) (before after : Store) : Type 0 where
+  pub file : List ℕ
+  pub bytes : List ℕ
+  pub held : get after file ≡ Some bytes
+  pub holds : HoldsRecording before schedule_name file bytes
+
+-- a command that records left its recording
+abbrev pub KeepsRecording : Option Command → Store → Store → Type 0
+KeepsRecording None before after = Unit {0}
+KeepsRecording (Some (Record schedule_name)) before after = LeavesRecording schedule_name before after
+KeepsRecording (Some (Replay module_name log_name)) before after = Unit {0}
