@@ -1,5 +1,5 @@
 -- Valid words and files have an outcome that is work, and where no fault comes the work is done.
-use Rattle.std.proofs.Common.{◌≡◌, ◌⊎◌, ◌++◌, ℕ, List, Bool, false, cond, Option, Some, None, option_map, Result, Ok, Err, refl, sym, ap, inl, inr, ◌∙◌, subst}
+use Rattle.std.proofs.Common.{◌≡◌, ◌⊎◌, ◌++◌, ℕ, List, Bool, false, cond, Option, Some, None, Result, Ok, Err, refl, sym, ap, inl, inr, ◌∙◌}
 use Rattle.fri_outside.specs.Outside.{Store, found_within}
 use Rattle.fri_outside.proofs.Stored.{within_held}
 use Rattle.wasm_types.specs.Code.{Trees}
@@ -12,7 +12,7 @@ use Rattle.friday_app.specs.declared.status.Status.TheVariants as ends
 use Rattle.friday_app.specs.declared.refusal.Reason.TheVariants as reason
 use Rattle.friday_app.specs.Command.{Command, Record, Replay}
 use Rattle.friday_app.specs.Form.{form_of}
-use Rattle.friday_app.specs.Outcome.{Outcome, Work, Stop, and_then, file_of, given, refuses, status_of}
+use Rattle.friday_app.specs.Outcome.{Work, Stop, and_then, file_of, given, refuses}
 use Rattle.friday_app.specs.Expected.{expected, module_of, log_of, body_or, head_or, process_of, schedule_in, schedule_or}
 use Rattle.friday_app.specs.Record.{record_work}
 use Rattle.friday_app.specs.Report.{replay_work}

@@ -8,15 +8,14 @@ use Rattle.friday_app.specs.declared.status.Status.{Status}
 use Rattle.friday_app.specs.declared.status.Status.TheVariants as ends
 use Rattle.friday_app.specs.declared.refusal.Answer.{Answer}
 use Rattle.friday_app.specs.declared.refusal.Answer.TheVariants as answered
-use Rattle.friday_app.specs.declared.refusal.Reason.TheVariants as reason
 use Rattle.friday_app.specs.declared.refusal.Refusal.{Refusal}
 use Rattle.friday_app.specs.declared.refusal.Refusal.TheVariants as refusal
 use Rattle.friday_app.specs.Command.{Command}
-use Rattle.friday_app.specs.Outcome.{Outcome, Refuses, Lacks, refused_line, absent_line, usage_line, status_of, text_of, writes_of, with_files}
+use Rattle.friday_app.specs.Outcome.{Outcome, refused_line, usage_line, status_of, text_of, writes_of, with_files}
 use Rattle.friday_app.specs.Expected.{expected, written_by}
 use Rattle.friday_app.specs.Agreement.{KeepsRecording}
 use Rattle.friday_app.specs.Run.{Outside, Run}
-use Rattle.friday_app.specs.Call.{Prints, PrintsRefusal, DivergesOnlyIn, Leaves, IsAnswer, IsIdle, Tells, Makes, Keeps, Raises, FaultStatus, answer_of, OthersStay, Finishes}
+use Rattle.friday_app.specs.Call.{Prints, PrintsRefusal, DivergesOnlyIn, Leaves, IsAnswer, Tells, Makes, Keeps, Raises, FaultStatus, answer_of, OthersStay, Finishes}
 use Rattle.friday_app.proofs.Made.{same_changes, all_changes, same_others}
 
 nothing_more : (o : Option (List ℕ)) → o ≡ append_known o []

@@ -1,12 +1,11 @@
 -- A replay that is under way: what is done so far, and what the entries ahead come to.
-use Rattle.std.proofs.Common.{◌≡◌, ℕ, zero, suc, ◌+◌, List, [], ◌∷◌, Option, Some, None, take, refl, sym, ap, subst, ◌∙◌, arith, add-one}
+use Rattle.std.proofs.Common.{◌≡◌, ℕ, suc, ◌+◌, List, [], ◌∷◌, Some, None, take, refl, sym, ap, ◌∙◌, arith, add-one}
 use Rattle.call_log.specs.Entry.{Entry}
 use Rattle.friday_app.specs.declared.divergence.Divergence.{Divergence}
-use Rattle.friday_app.specs.declared.replayer.Replayed.{Replayed}
 use Rattle.friday_app.specs.declared.replayer.Verdict.{Verdict as RustVerdict}
 use Rattle.friday_app.specs.declared.replayer.Verdict.TheVariants as judged
 use Rattle.friday_app.specs.Process.{State, next, reason, is_active}
-use Rattle.friday_app.specs.Replay.{Diverged, accepted, divergence, last_state, replayed, one_more_where, first_of, verdict, verdict_by, left_over}
+use Rattle.friday_app.specs.Replay.{Diverged, accepted, divergence, last_state, replayed, one_more_where, first_of, verdict_by, left_over}
 use Rattle.friday_app.specs.Seen.{Replays, verdict_of}
 
 -- from the first state and all entries, so many were accepted, and these state and entries are ahead

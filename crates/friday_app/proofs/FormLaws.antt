@@ -1,5 +1,5 @@
 -- The form as a relation and as a function are one.
-use Rattle.std.proofs.Common.{◌≡◌, ◌≢◌, ℕ, zero, suc, ◌+◌, ◌-◌, ◌^◌, ◌<◌, ◌≤◌, ℤ, Bool, true, false, nat_eq, eqb, leb, ltb, ◌&&◌, inl, inr, List, [], ◌∷◌, ◌++◌, length, take, drop, Option, Some, None, refl, sym, ap, ◌∙◌, subst, cond, append_assoc, arith, length-append}
+use Rattle.std.proofs.Common.{◌≡◌, ◌≢◌, ℕ, zero, suc, ◌+◌, ◌-◌, ◌^◌, ◌<◌, ◌≤◌, ℤ, Bool, true, false, nat_eq, eqb, leb, inl, inr, List, [], ◌∷◌, ◌++◌, length, take, drop, Option, Some, None, refl, sym, ap, ◌∙◌, subst, cond, append_assoc, arith, length-append}
 use Rattle.std.specs.Prelude.{◌↔◌, option_map, option_and_then, MatchOption}
 use Rattle.std.specs.Borrow.{Bor}
 use Rattle.std.specs.Int.{w64, cast_unsigned}
@@ -8,14 +8,14 @@ use Rattle.std.specs.Str.{bytes_eq}
 use Rattle.std.specs.Option.{option_map_or}
 use Rattle.std.proofs.lemmas.List.{append_cancel_left, drop_at, take_at}
 use Rattle.std.proofs.lemmas.Slice.Eq.{bytes_eq-Decides}
-use Rattle.fri_bytes.specs.Leb.{IsSigned, signed_at}
+use Rattle.fri_bytes.specs.Leb.{signed_at}
 use Rattle.fri_bytes.specs.Reading.{Reads, Begins}
 use Rattle.fri_bytes.proofs.Readers.{chosen, bind_some, map_some}
 use Rattle.fri_bytes.proofs.LebLaws.{signed_reads}
 use Rattle.wasm_types.specs.declared.code.Instr.{Instr}
 use Rattle.wasm_types.specs.Code.{Tree, Trees, ConstI64, DropTop, CallFunc, Op, End, Then, tree, trees, before}
 use Rattle.wasm_types.proofs.CodeLaws.{before-append}
-use Rattle.friday_app.specs.Form.{front, section_head, module_with, HasCode, IsInstr, IsBody, operands, height_after, IsForm, instr_at, call_at, instrs_within, instrs_of, is_typed, typed, code_of, form_of}
+use Rattle.friday_app.specs.Form.{front, section_head, module_with, HasCode, IsInstr, IsBody, height_after, IsForm, instr_at, call_at, instrs_within, instrs_of, is_typed, typed, code_of, form_of}
 
 -- ---- the bytes of the instructions
 

@@ -1,5 +1,5 @@
 -- What `record` says of its result, from what it gathered.
-use Rattle.std.proofs.Common.{◌≡◌, ◌⊎◌, ℕ, List, [], ◌∷◌, Option, Some, option_map, Ok, Err, Result, MatchResult, take, refl, sym, ap, subst, ◌∙◌, string_bytes, ◌≤◌, length, arith}
+use Rattle.std.proofs.Common.{◌≡◌, ◌⊎◌, ℕ, List, [], ◌∷◌, Option, Some, option_map, Ok, Err, Result, take, sym, ap, subst, ◌∙◌, string_bytes, ◌≤◌, length, arith}
 use Rattle.std.specs.Prelude.{All}
 use Rattle.std.specs.FinMap.{get}
 use Rattle.std.proofs.lemmas.Option.{same_Some}
@@ -18,10 +18,10 @@ use Rattle.friday_app.specs.declared.refusal.Refusal.TheVariants as refusal
 use Rattle.friday_app.specs.Expected.{first_or, module_of, process_of, record_outcome, schedule_in}
 use Rattle.friday_app.specs.Record.{log_name, record_work}
 use Rattle.friday_app.specs.Agreement.{HoldsRecording, IsRecordingOf, LeavesRecording}
-use Rattle.friday_app.specs.Outcome.{Outcome, Stop, Work, and_then, writes_of, with_files}
+use Rattle.friday_app.specs.Outcome.{Outcome, Stop, and_then, writes_of, with_files}
 use Rattle.friday_app.specs.Recorded.{DoesWork, IsRecordedWork}
 use Rattle.friday_app.specs.Call.{ChangesOnly, Makes, StopsAs, Tells, stop_of}
-use Rattle.friday_app.proofs.Made.{all_changes, outcome_at, part_changes, same_changes, stops_make, stops_tell}
+use Rattle.friday_app.proofs.Made.{all_changes, outcome_at, part_changes, stops_make, stops_tell}
 
 -- what gathering says at a refusal
 pub refused_tells : (f : Store → Outcome) (told : Option Store) (e : Refusal) → WhenTold told (λ store. StopsAs (f store) e) → (o : Outcome) → option_map f told ≡ Some o → Tells o (Err e)

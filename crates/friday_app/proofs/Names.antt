@@ -1,8 +1,7 @@
 -- Names are text.
-use Rattle.std.proofs.Common.{◌≡◌, ℕ, zero, suc, ◌+◌, ◌<◌, ◌≤◌, Bool, true, false, ◌&&◌, ◌||◌, List, [], ◌∷◌, refl, arith, ap, sym, ◌∙◌}
-use Rattle.std.specs.Prelude.{◌==◌, nat_le, slice_index, IsTrue, IsUtf8, length}
+use Rattle.std.proofs.Common.{◌≡◌, ℕ, zero, suc, ◌<◌, Bool, true, List, [], ◌∷◌, arith}
+use Rattle.std.specs.Prelude.{IsTrue, IsUtf8}
 use Rattle.std.specs.List.{list_all}
-use Rattle.std.specs.Int.{is_in_range}
 use Rattle.std.specs.Str.{IsAscii}
 use Rattle.std.proofs.lemmas.Str.{IsUtf8-from_ascii}
 use Rattle.std.proofs.lemmas.Bool.{and_parts}

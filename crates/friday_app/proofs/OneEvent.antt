@@ -1,9 +1,8 @@
 -- An event that was recorded live is legal where it comes, and replay makes the same state of its entry.
-use Rattle.std.proofs.Common.{◌≡◌, ℕ, zero, suc, ◌+◌, Bool, true, false, ◌&&◌, List, Option, Some, None, refl, ap, sym, subst, ◌∙◌, eq-eqb}
+use Rattle.std.proofs.Common.{◌≡◌, ℕ, zero, suc, Bool, true, false, ◌&&◌, Some, None, refl, ap, subst, ◌∙◌, eq-eqb}
 use Rattle.std.specs.Prelude.{◌==◌}
 use Rattle.std.proofs.lemmas.Option.{same_Some}
 use Rattle.call_log.specs.declared.entry.Call.{Call}
-use Rattle.call_log.specs.Entry.{Entry}
 use Rattle.friday_app.specs.Thread.{Thread, Activity, Standing, Ended}
 use Rattle.friday_app.specs.Process.{State, Need, Fixed, World, need, answers, reason, next, Checks, first_failing, has_arguments, next_clock, standing_at}
 use Rattle.friday_app.specs.Live.{Env, Event, event_at, live, live_at, reply_of}

@@ -1,8 +1,7 @@
 -- A recorder that goes on by one step.
-use Rattle.std.proofs.Common.{◌≡◌, ℕ, zero, suc, ◌+◌, ◌-◌, ◌++◌, Bool, true, false, cond, List, [], ◌∷◌, length, drop, Option, Some, None, refl, ap, sym, subst, ◌∙◌, append_assoc, append-nil, length-append, arith, add-one, string_bytes, drop-cons, slice_index_or, ◌<◌, ◌≤◌}
+use Rattle.std.proofs.Common.{◌≡◌, ℕ, suc, ◌+◌, ◌++◌, List, [], ◌∷◌, length, drop, Option, Some, None, refl, ap, sym, subst, ◌∙◌, append_assoc, append-nil, length-append, arith, add-one, string_bytes, drop-cons, slice_index_or, ◌<◌, ◌≤◌}
 use Rattle.std.proofs.lemmas.List.{drop_all}
 use Rattle.std.proofs.lemmas.List.Elements.{All-push}
-use Rattle.std.specs.Prelude.{◌==◌}
 use Rattle.schedule_text.specs.declared.item.Item.{Item}
 use Rattle.schedule_text.specs.declared.item.Item.TheVariants as item
 use Rattle.schedule_text.specs.Schedule.{IsInRange}
@@ -14,10 +13,10 @@ use Rattle.friday_app.specs.Process.{State, is_active, need, next, next_clock}
 use Rattle.call_log.specs.declared.entry.Call.{Call}
 use Rattle.friday_app.specs.Thread.{Thread, Standing}
 use Rattle.friday_app.specs.Live.{Env, Event, event_at, live, reply_of}
-use Rattle.friday_app.specs.History.{Progress, Acts, Does, entries, state_after, env_of, time, tried, attempt, attempts, after_item, after_items}
+use Rattle.friday_app.specs.History.{Progress, entries, state_after, env_of, time, tried, attempt, attempts, after_item, after_items}
 use Rattle.wasm_types.specs.Code.{Trees}
 use Rattle.friday_app.specs.declared.summary.Recorded.{Recorded}
-use Rattle.friday_app.specs.Record.{log_of_entries, log_head, log_name, process_line, items_line, first_of, work_of}
+use Rattle.friday_app.specs.Record.{log_head, log_name, process_line, items_line, first_of, work_of}
 use Rattle.friday_app.specs.Recorded.{KeepsUp, IsEntryOf, IsRecordedWork}
 use Rattle.friday_app.specs.Seen.{state_of}
 use Rattle.friday_app.proofs.OneEvent.{live_next, live_standing}

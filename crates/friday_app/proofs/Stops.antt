@@ -10,7 +10,6 @@ use Rattle.friday_app.specs.Form.{form_of}
 use Rattle.friday_app.specs.Outcome.{Stop, Outcome, and_then, given, writes_of, refuses}
 use Rattle.friday_app.specs.Command.{Command, Replay}
 use Rattle.friday_app.specs.Expected.{expected, replay_outcome, body_or, head_or, module_of, log_of}
-use Rattle.friday_app.specs.Report.{replay_work}
 
 -- a step at whose stop nothing was written
 abbrev IsEarly : {A : Type 0} → Result A Stop → Type 0

@@ -1,5 +1,5 @@
 -- A file that is written whole, or in part.
-use Rattle.std.proofs.Common.{◌≡◌, ◌⊎◌, ◌++◌, ℕ, List, [], Option, take, refl, ap, sym, ◌∙◌, inl, inr}
+use Rattle.std.proofs.Common.{◌≡◌, ◌⊎◌, ℕ, List, [], Option, take, ap, ◌∙◌, inl, inr}
 use Rattle.fri_outside.specs.Outside.{Store, with_file, with_piece}
 use Rattle.fri_outside.proofs.Stored.{with_piece-with_file}
 

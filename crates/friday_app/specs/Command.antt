@@ -1,5 +1,5 @@
 -- The commands, and the words that name them.
-use Rattle.std.specs.Prelude.{ℕ, List, [], ◌∷◌, ◌==◌, ◌&&◌, Bool, true, false, not, Option, Some, None, codes, bytes_eq, if◌then◌else◌}
+use Rattle.std.specs.Prelude.{ℕ, List, [], ◌∷◌, ◌==◌, ◌&&◌, Bool, false, not, Option, Some, None, codes, bytes_eq, if◌then◌else◌}
 
 pub data Command : Type 0 where
   Record : (schedule_name : List ℕ) → Command

@@ -1,5 +1,5 @@
 -- What each command comes to, given the files and the input.
-use Rattle.std.specs.Prelude.{ℕ, List, [], ◌∷◌, Bool, true, false, Option, Some, None, map, option_map, Result, Ok, Err, if◌then◌else◌}
+use Rattle.std.specs.Prelude.{ℕ, List, [], ◌∷◌, Option, Some, None, map, option_map, Result, Ok, Err, if◌then◌else◌}
 use Rattle.fri_outside.specs.Outside.{Store}
 use Rattle.wasm_types.specs.Code.{Trees}
 use Rattle.schedule_text.specs.declared.process.ProcessLine.{ProcessLine}

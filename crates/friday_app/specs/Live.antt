@@ -1,5 +1,5 @@
 -- The live meaning of one try to run a thread: what the event is where the world answers.
-use Rattle.std.specs.Prelude.{ℕ, List, [], Option, Some, None}
+use Rattle.std.specs.Prelude.{ℕ, [], Option, Some, None}
 use Rattle.call_log.specs.declared.entry.Call.{Call}
 use Rattle.call_log.specs.Entry.{Entry}
 use Rattle.friday_app.specs.Thread.{Thread}

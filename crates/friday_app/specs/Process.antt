@@ -1,5 +1,5 @@
 -- A process of one thread: its state, what its next event may be, and the state after it.
-use Rattle.std.specs.Prelude.{ℕ, zero, suc, ◌+◌, ◌==◌, ◌&&◌, ◌||◌, List, [], ◌∷◌, ◌++◌, length, Bool, true, false, Option, Some, None, is_none, if◌then◌else◌}
+use Rattle.std.specs.Prelude.{ℕ, zero, suc, ◌+◌, ◌==◌, ◌&&◌, List, [], ◌∷◌, ◌++◌, Bool, true, false, Option, Some, None, if◌then◌else◌}
 use Rattle.wasm_types.specs.Code.{Trees}
 use Rattle.call_log.specs.declared.entry.Call.{Call}
 use Rattle.call_log.specs.Entry.{Entry}

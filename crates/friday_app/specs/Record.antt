@@ -1,5 +1,5 @@
 -- What `record` prints and writes.
-use Rattle.std.specs.Prelude.{◌≡◌, ℕ, suc, List, [], ◌∷◌, ◌++◌, Bool, false, length, take, decimal, codes, Some, slice_get}
+use Rattle.std.specs.Prelude.{◌≡◌, ℕ, List, [], ◌∷◌, ◌++◌, Bool, false, length, take, decimal, codes, Some, slice_get}
 use Rattle.wasm_types.specs.Code.{Trees}
 use Rattle.schedule_text.specs.declared.item.Item.{Item}
 use Rattle.call_log.specs.Entry.{Entry, encodings}
@@ -8,7 +8,7 @@ use Rattle.call_log.specs.Log.{entries_of, head_at, rest_of}
 use Rattle.friday_app.specs.Process.{State, start, is_active}
 use Rattle.friday_app.specs.Replay.{accepted, replayed}
 use Rattle.friday_app.specs.Report.{end_text}
-use Rattle.friday_app.specs.History.{Progress, entries, states, state_after, run}
+use Rattle.friday_app.specs.History.{Progress, entries, state_after, run}
 use Rattle.friday_app.specs.Outcome.{Work}
 
 -- the file of a process's log

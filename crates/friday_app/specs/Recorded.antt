@@ -1,7 +1,7 @@
 -- What a recorder has done so far.
 use Rattle.std.specs.Prelude.{◌≡◌, All, ℕ, List, [], ◌∷◌, false, length, Option, Some, None, Ok, string_bytes}
 use Rattle.call_log.specs.declared.entry.EntryView.{EntryView}
-use Rattle.call_log.specs.Entry.{Entry, IsShaped, entry_of}
+use Rattle.call_log.specs.Entry.{IsShaped, entry_of}
 use Rattle.friday_app.specs.declared.recorder.Recorder.{Recorder}
 use Rattle.friday_app.specs.declared.summary.Recorded.{Recorded}
 use Rattle.friday_app.specs.Outcome.{Work, Outcome}

@@ -1,5 +1,5 @@
 -- The replay of a log: events are made from its entries, up to the first that is not legal.
-use Rattle.std.specs.Prelude.{ℕ, suc, ◌+◌, List, [], ◌∷◌, length, take, Option, Some, None}
+use Rattle.std.specs.Prelude.{ℕ, suc, List, [], ◌∷◌, length, take, Option, Some, None}
 use Rattle.call_log.specs.Entry.{Entry}
 use Rattle.friday_app.specs.declared.divergence.Divergence.{Divergence}
 use Rattle.friday_app.specs.Process.{State, next, reason}

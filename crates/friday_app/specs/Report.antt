@@ -1,5 +1,5 @@
 -- The report of a replay.
-use Rattle.std.specs.Prelude.{ℕ, List, [], ◌∷◌, ◌++◌, Bool, true, false, decimal, codes}
+use Rattle.std.specs.Prelude.{ℕ, List, [], ◌++◌, Bool, true, false, decimal, codes}
 use Rattle.wasm_types.specs.Code.{Trees}
 use Rattle.call_log.specs.Entry.{Entry}
 use Rattle.call_log.specs.Head.{Head}

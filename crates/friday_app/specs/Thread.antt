@@ -1,6 +1,6 @@
 -- A thread between two library calls.
 use Rattle.std.specs.Prelude.{ℕ, zero, suc, ◌+◌, ◌-◌, ◌%◌, ◌^◌, ◌<◌, List, [], ◌∷◌, ◌++◌, length, take, slice_index}
-use Rattle.wasm_types.specs.Code.{Tree, Trees, End, Then, ConstI64, Op, DropTop, CallFunc}
+use Rattle.wasm_types.specs.Code.{Trees, End, Then, ConstI64, Op, DropTop, CallFunc}
 use Rattle.call_log.specs.declared.entry.Call.{Call}
 
 -- a thread: the instructions still to do, and the operands, the top one last

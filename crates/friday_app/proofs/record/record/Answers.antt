@@ -1,9 +1,6 @@
-use Rattle.std.proofs.Common.{◌≡◌, ◌∙◌, List, ℕ, Option, Some, Err, ap, sym, subst}
 use Rattle.std.proofs.lemmas.Result.{err_from_is_err_and}
-use Rattle.fri_outside.specs.Outside.{Store}
 use Rattle.friday_app.specs.Expected.{record_outcome}
-use Rattle.friday_app.specs.Outcome.{Outcome, writes_of}
-use Rattle.friday_app.specs.Call.{ChangesOnly}
+use Rattle.friday_app.specs.Outcome.{writes_of}
 use Rattle.friday_app.proofs.Gathered.{leaves_recording, refused_tells, refused_makes, written_tells, written_makes, part_makes, part_writes, whole_writes}
 use Rattle.friday_app.proofs.Made.{changes_others, same_others}
 use Rattle.friday_app.proofs.record.record.Goals as goal

@@ -1,11 +1,11 @@
-use Rattle.std.proofs.Common.{◌∙◌, ap, sym, subst, arith, List, ℕ, ◌+◌}
+use Rattle.std.proofs.Common.{◌∙◌, ap, sym, subst, arith, ◌+◌}
 use Rattle.wasm_types.specs.Code.{trees}
 use Rattle.call_log.specs.Entry.{Entry, entry_of}
 use Rattle.call_log.specs.Log.{Log, entries_of, rest_of}
 use Rattle.call_log.proofs.Entries.{entries_of-next, rest_of-next, shorter, entries_of-end, rest_of-end}
-use Rattle.friday_app.specs.Process.{State, start, next}
+use Rattle.friday_app.specs.Process.{State, start}
 use Rattle.friday_app.specs.Replay.{left_over}
-use Rattle.friday_app.specs.Seen.{state_of, Replays}
+use Rattle.friday_app.specs.Seen.{state_of}
 use Rattle.friday_app.proofs.Folding.{Ahead, one_further, ends_at, ends_whole}
 use Rattle.friday_app.proofs.replayer.replay_log.Goals as goal
 

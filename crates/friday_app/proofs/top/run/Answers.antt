@@ -1,5 +1,4 @@
-use Rattle.std.proofs.Common.{Some, refl, sym, ap, ◌∙◌}
-use Rattle.friday_app.specs.Seen.{meaning}
+use Rattle.std.proofs.Common.{refl}
 use Rattle.friday_app.proofs.Ends.{run_none, run_same}
 use Rattle.friday_app.proofs.top.run.Goals as goal
 

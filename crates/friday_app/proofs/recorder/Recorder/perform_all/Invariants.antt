@@ -1,4 +1,4 @@
-use Rattle.std.proofs.Common.{◌≡◌, ℕ, List, drop}
+use Rattle.std.proofs.Common.{ℕ, List, drop}
 use Rattle.friday_app.specs.Process.{State}
 use Rattle.friday_app.specs.History.{Progress, after_items}
 use Rattle.friday_app.specs.Recorded.{KeepsUp}

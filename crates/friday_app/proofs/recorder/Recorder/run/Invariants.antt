@@ -1,4 +1,4 @@
-use Rattle.std.proofs.Common.{◌≡◌, ℕ, ◌-◌, List}
+use Rattle.std.proofs.Common.{ℕ, ◌-◌, List}
 use Rattle.friday_app.specs.Process.{State}
 use Rattle.friday_app.specs.History.{Progress, attempts}
 use Rattle.friday_app.specs.Recorded.{KeepsUp}
