@@ -1,7 +1,8 @@
 -- The head of a log: which process of which group the log is of, and the process's name.
-use Rattle.std.specs.Prelude.{◌≡◌, ℕ, ◌<◌, ◌≤◌, Bool, true, ◌&&◌, ◌||◌, ◌==◌, nat_le, List, [], ◌∷◌, ◌++◌, length, codes}
-use Rattle.std.specs.List.{concat, list_all}
-use Rattle.std.specs.Int.{w32, to_le_bytes, is_in_range}
+use Rattle.std.specs.Prelude.{◌≡◌, ℕ, ◌<◌, ◌≤◌, true, List, [], ◌∷◌, ◌++◌, length, codes}
+use Rattle.std.specs.List.{concat}
+use Rattle.std.specs.Int.{w32, to_le_bytes}
+use Rattle.fri_text.specs.Name.{is_name}
 use Rattle.call_log.specs.declared.head.LogHead.{LogHead}
 
 -- the number of processes in the group, the process's own number, and its name
@@ -13,14 +14,6 @@ pub record Head : Type 0 where
 -- what a head that lies in a log says
 abbrev pub head_of : LogHead → Head
 head_of h = record { count = h.count; process = h.process; name = h.name.now }
-
--- a to z, 0 to 9 and _
-abbrev pub is_name_byte : ℕ → Bool
-is_name_byte c = is_in_range 97 122 c || is_in_range 48 57 c || c == 95
-
--- names have 1 to 32 such bytes
-unfoldable pub is_name : List ℕ → Bool
-is_name name = nat_le 1 (length name) && nat_le (length name) 32 && list_all is_name_byte name
 
 -- a group has 1 to 16 processes, which are numbered from 0
 pub record IsHead (h : Head) : Type 0 where

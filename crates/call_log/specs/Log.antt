@@ -5,7 +5,8 @@ use Rattle.lamport_tag.specs.declared.Tag.{Tag}
 use Rattle.call_log.specs.declared.entry.Call.{Call}
 use Rattle.call_log.specs.Kind.{is_built, argument_count, has_outgoing, has_incoming, has_tag}
 use Rattle.call_log.specs.Entry.{Entry, IsShaped, BeginsNoEntry, encoding, encodings}
-use Rattle.call_log.specs.Head.{Head, head_bytes, is_name}
+use Rattle.call_log.specs.Head.{Head, head_bytes}
+use Rattle.fri_text.specs.Name.{is_name}
 use Rattle.call_log.specs.Reading.{read_entry, read_head}
 
 -- the head, and the bytes behind the entries that were read

@@ -1,10 +1,10 @@
 // The head of a log.
 ghost use Rattle.std.specs.Prelude.{◌≡◌, ◌++◌, IfSome, IfNone, option_map};
-ghost use Rattle.std.specs.List.{list_all};
-ghost use Rattle.call_log.specs.Head.{BeginsNoHead, IsHead, head_bytes, head_of, is_name as is_name_of, is_name_byte as is_name_byte_of};
+ghost use Rattle.call_log.specs.Head.{BeginsNoHead, IsHead, head_bytes, head_of};
 ghost use Rattle.call_log.specs.Reading.{Gives, name_at, read_head as head_read};
 
 use fri_bytes::Cursor;
+use fri_text::is_name;
 use thiserror::Error;
 
 // The bytes that a log begins with.
@@ -71,24 +71,4 @@ fn read_name<'a>(cursor: &mut Cursor<'a>) -> Option<&'a [u8]>
         return None;
     }
     Some(name)
-}
-
-// Whether the bytes are a name: 1 to 32 of a to z, 0 to 9 and _.
-#[tactic(auto, unfolding(crate::specs::Head::is_name))]
-fn is_name(name: &[u8]) -> bool
-    ensures { result ≡ is_name_of name.now }
-{
-    1 <= name.len() && name.len() <= 32 && are_name_bytes(name)
-}
-
-fn are_name_bytes(name: &[u8]) -> bool
-    ensures { result ≡ list_all is_name_byte_of name.now }
-{
-    name.iter().all(|byte| is_name_byte(*byte))
-}
-
-fn is_name_byte(byte: u8) -> bool
-    ensures { result ≡ is_name_byte_of byte }
-{
-    byte.is_ascii_lowercase() || byte.is_ascii_digit() || byte == b'_'
 }

@@ -12,7 +12,7 @@ use lamport_tag::Tag;
 use std::alloc::AllocError;
 
 /// Adds the head of a log.
-#[tactic(auto, unfolding(crate::specs::Head::head_bytes, crate::specs::Head::is_name))]
+#[tactic(auto, unfolding(crate::specs::Head::head_bytes))]
 pub fn put_head(out: &mut Vec<u8>, head: &LogHead<'_>) -> Result<(), AllocError>
     requires { IsHead (head_of head.now) }
     ensures ok { OnOk result (out.new.items ≡ out.old.items ++ head_bytes (head_of head.now)) }

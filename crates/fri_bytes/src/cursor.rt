@@ -54,10 +54,7 @@ impl<'a> Cursor<'a> {
     pub fn take(&mut self, n: usize) -> Option<&'a [u8]>
         ensures { Takes self.old self.new (option_map (λ x. x.now) result) (piece_at n self.old.left) }
     {
-        if n > self.rest.len() {
-            return None;
-        }
-        let (piece, rest) = self.rest.split_at(n);
+        let (piece, rest) = self.rest.split_at_checked(n)?;
         self.rest = rest;
         self.at += n;
         Some(piece)
@@ -97,7 +94,9 @@ impl<'a> Cursor<'a> {
         Some(LittleEndian::read_u64(piece))
     }
 
-    /// The next number of 32 bits.
+    /// The next number of 32 bits in LEB128, as the WebAssembly standard has it (version 1.0, section
+    /// 5.2.2): at most 5 bytes, which may be more than the number needs. None where no such spelling
+    /// stands at the front.
     pub fn leb_u32(&mut self) -> Option<u32>
         ensures taken { Takes self.old self.new result (unsigned_at (2 ^ 32) self.old.left) }
         ensures spelled { IfSome result (λ n. Begins (IsUnsigned (2 ^ 32)) self.old.left n self.new.left) }
@@ -110,7 +109,7 @@ impl<'a> Cursor<'a> {
         Some(number)
     }
 
-    /// The next signed number of 32 bits.
+    /// The next signed number of 32 bits in LEB128 (section 5.2.2): at most 5 bytes.
     pub fn leb_s32(&mut self) -> Option<i32>
         ensures taken { Takes self.old self.new result (signed_at (2 ^ 31) self.old.left) }
         ensures spelled { IfSome result (λ z. Begins (IsSigned (2 ^ 31)) self.old.left z self.new.left) }
@@ -123,7 +122,7 @@ impl<'a> Cursor<'a> {
         Some(number as i32)
     }
 
-    /// The next signed number of 64 bits.
+    /// The next signed number of 64 bits in LEB128 (section 5.2.2): at most 10 bytes.
     pub fn leb_s64(&mut self) -> Option<i64>
         ensures taken { Takes self.old self.new result (signed_at (2 ^ 63) self.old.left) }
         ensures spelled { IfSome result (λ z. Begins (IsSigned (2 ^ 63)) self.old.left z self.new.left) }

@@ -17,7 +17,8 @@ pub fn put_u16(out: &mut Vec<u8>, v: u16) -> Result<(), AllocError>
     ensures ok { OnOk result (out.new.items ≡ out.old.items ++ to_le_bytes w16 v) }
     ensures err { OnErr result (out.new.items ≡ out.old.items) }
 {
-    out.extend_from_slice(&v.to_le_bytes())
+    let spelling: [u8; 2] = v.to_le_bytes();
+    out.extend_from_slice(&spelling)
 }
 
 /// Adds the 4 bytes of the number, the lowest first.
@@ -25,7 +26,8 @@ pub fn put_u32(out: &mut Vec<u8>, v: u32) -> Result<(), AllocError>
     ensures ok { OnOk result (out.new.items ≡ out.old.items ++ to_le_bytes w32 v) }
     ensures err { OnErr result (out.new.items ≡ out.old.items) }
 {
-    out.extend_from_slice(&v.to_le_bytes())
+    let spelling: [u8; 4] = v.to_le_bytes();
+    out.extend_from_slice(&spelling)
 }
 
 /// Adds the 8 bytes of the number, the lowest first.
@@ -33,7 +35,8 @@ pub fn put_u64(out: &mut Vec<u8>, v: u64) -> Result<(), AllocError>
     ensures ok { OnOk result (out.new.items ≡ out.old.items ++ to_le_bytes w64 v) }
     ensures err { OnErr result (out.new.items ≡ out.old.items) }
 {
-    out.extend_from_slice(&v.to_le_bytes())
+    let spelling: [u8; 8] = v.to_le_bytes();
+    out.extend_from_slice(&spelling)
 }
 
 /// Adds the piece.

@@ -1,0 +1,14 @@
+//! Words, numbers, names and lines in bytes, and text that is put together from them.
+#![tactic(auto)]
+
+mod error;
+mod line;
+#[cfg(test)]
+mod tests;
+mod text;
+mod word;
+
+pub use error::TextError;
+pub use line::next_line;
+pub use text::Text;
+pub use word::{is_name, read_decimal, read_signed};

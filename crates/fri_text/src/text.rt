@@ -1,0 +1,75 @@
+// Text that is put together piece by piece.
+ghost use Rattle.std.specs.Prelude.{◌≡◌, [], ◌++◌, decimal, OnOk, OnErr};
+ghost use Rattle.std.specs.Fmt.{signed_decimal};
+
+use fri_bytes::Bytes;
+use itoa::Buffer;
+use std::alloc::{AllocError, Global};
+use std::marker::Model;
+
+/// Text in the making. Contracts see the list of its bytes. Each call adds at the end, and adds nothing
+/// where there is no memory for all of it.
+#[derive(Debug, Drop)]
+pub struct Text {
+    bytes: Bytes,
+}
+
+impl Model for Text {
+    ghost use Rattle.std.specs.Prelude.{ℕ, List};
+
+    ghost Value = { List ℕ };
+
+    ghost view = { λ t. t.bytes };
+}
+
+impl Text {
+    /// The empty text. It takes no memory.
+    pub fn new(alloc: Global) -> Text
+        ensures { result ≡ [] }
+    {
+        Text {
+            bytes: Bytes::new(alloc),
+        }
+    }
+
+    /// The bytes of the text.
+    pub fn bytes(&self) -> &[u8]
+        ensures { result.now ≡ self.now }
+    {
+        self.bytes.as_slice()
+    }
+
+    /// Adds the text.
+    pub fn push_str(&mut self, s: &str) -> Result<(), AllocError>
+        ensures ok { OnOk result (self.new ≡ self.old ++ s.now) }
+        ensures err { OnErr result (self.new ≡ self.old) }
+    {
+        self.bytes.push_all(s.as_bytes())
+    }
+
+    /// Adds the bytes, which need not be text.
+    pub fn push_bytes(&mut self, b: &[u8]) -> Result<(), AllocError>
+        ensures ok { OnOk result (self.new ≡ self.old ++ b.now) }
+        ensures err { OnErr result (self.new ≡ self.old) }
+    {
+        self.bytes.push_all(b)
+    }
+
+    /// Adds the number in decimal digits, with no zero in front.
+    pub fn push_u64(&mut self, v: u64) -> Result<(), AllocError>
+        ensures ok { OnOk result (self.new ≡ self.old ++ decimal v) }
+        ensures err { OnErr result (self.new ≡ self.old) }
+    {
+        let mut buffer = Buffer::new();
+        self.push_str(buffer.format(v))
+    }
+
+    /// Adds the number in decimal digits, with a minus in front of a negative one.
+    pub fn push_i64(&mut self, v: i64) -> Result<(), AllocError>
+        ensures ok { OnOk result (self.new ≡ self.old ++ signed_decimal v) }
+        ensures err { OnErr result (self.new ≡ self.old) }
+    {
+        let mut buffer = Buffer::new();
+        self.push_str(buffer.format(v))
+    }
+}

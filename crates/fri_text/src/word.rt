@@ -1,0 +1,69 @@
+// Numbers and names that are written in one word.
+ghost use Rattle.std.specs.Prelude.{◌≡◌};
+ghost use Rattle.std.specs.Char.{is_ascii_digit};
+ghost use Rattle.std.specs.List.{list_all};
+ghost use Rattle.fri_text.specs.Name.{is_name as is_name_word, is_name_byte};
+ghost use Rattle.fri_text.specs.Decimal.{decimal_of, signed_of, up_to, within_i64};
+
+use crate::error::TextError;
+use std::str;
+
+/// The number that the word writes in decimal digits, of which there may be any count, with zeros in
+/// front. `NotNumber` comes where the word is empty or has another byte than a digit, and `TooGreat`
+/// where the number is above `max`.
+pub fn read_decimal(word: &[u8], max: u64) -> Result<u64, TextError>
+    ensures { result ≡ up_to max (decimal_of word.now) }
+{
+    if word.is_empty() || !are_digits(word) {
+        return Err(TextError::NotNumber);
+    }
+    let Ok(digits) = str::from_utf8(word) else {
+        return Err(TextError::NotNumber);
+    };
+    let Ok(number) = digits.parse::<u64>() else {
+        return Err(TextError::TooGreat);
+    };
+    if number > max {
+        return Err(TextError::TooGreat);
+    }
+    Ok(number)
+}
+
+fn are_digits(bytes: &[u8]) -> bool
+    ensures { result ≡ list_all is_ascii_digit bytes.now }
+{
+    bytes.iter().all(u8::is_ascii_digit)
+}
+
+/// The number that the word writes in decimal digits, where one minus may stand in front, but no plus.
+/// `NotNumber` comes where no digit stands behind it or another byte than a digit, and `TooGreat` where
+/// an i64 doesn't hold the number.
+pub fn read_signed(word: &[u8]) -> Result<i64, TextError>
+    ensures { result ≡ within_i64 (signed_of word.now) }
+{
+    match word.strip_prefix(b"-") {
+        Some(digits) => {
+            let number = read_decimal(digits, u64::MAX)?;
+            0i64.checked_sub_unsigned(number).ok_or(TextError::TooGreat)
+        }
+        None => {
+            let number = read_decimal(word, u64::MAX)?;
+            i64::try_from(number).map_err(|_| TextError::TooGreat)
+        }
+    }
+}
+
+/// Whether the word may name something: 1 to 32 bytes of a to z, 0 to 9 and _.
+pub fn is_name(word: &[u8]) -> bool
+    ensures { result ≡ is_name_word word.now }
+{
+    !word.is_empty() && word.len() <= 32 && are_name_bytes(word)
+}
+
+fn are_name_bytes(bytes: &[u8]) -> bool
+    ensures { result ≡ list_all is_name_byte bytes.now }
+{
+    bytes
+        .iter()
+        .all(|b| matches!(b, b'a'..=b'z' | b'0'..=b'9' | b'_'))
+}
