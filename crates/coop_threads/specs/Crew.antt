@@ -27,6 +27,7 @@ slot_of (Some (Some t)) = Kept t
 slot_of (Some None) = Lent
 slot_of None = Over
 
+-- nothing of a thread is lost by that
 pub slot_of-stored : {T : Type 0} (slot : Slot T) → slot_of (stored slot) ≡ slot
 slot_of-stored (Kept t) = refl
 slot_of-stored Lent = refl
