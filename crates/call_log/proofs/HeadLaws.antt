@@ -9,8 +9,8 @@ use Rattle.std.proofs.lemmas.List.{drop_at}
 use Rattle.std.proofs.lemmas.Option.{cond_some, same_Some, some_pair_parts}
 use Rattle.fri_bytes.specs.Reading.{byte_at, piece_at, le_at}
 use Rattle.fri_bytes.proofs.Readers.{bind_some, piece_reads, rest_in_range}
-use Rattle.fri_text.specs.Name.{is_name}
 use Rattle.call_log.specs.Head.{Head, IsHead, BeginsNoHead, head_bytes}
+use Rattle.fri_text.specs.Name.{is_name}
 use Rattle.call_log.specs.Reading.{mark_at, name_at, read_head}
 use Rattle.call_log.specs.Log.{head_at, head_in}
 use Rattle.call_log.proofs.FieldLaws.{AreBytes, ReadsBack, bytes_after, onto, concat-append, next, when_true, kept, number_field, byte_field}

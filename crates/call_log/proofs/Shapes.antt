@@ -5,7 +5,6 @@ use Rattle.std.proofs.lemmas.List.{nil_from_length}
 use Rattle.lamport_tag.specs.declared.Tag.{Tag}
 use Rattle.call_log.specs.declared.entry.Call.{Call}
 use Rattle.call_log.specs.Entry.{Entry, IsShaped, HasArguments, IsNumberIf, IsStringIf, IsTagIf}
-use Rattle.fri_text.specs.Name.{is_name}
 use Rattle.call_log.specs.Head.{Head, IsHead}
 use Rattle.call_log.specs.Log.{is_number_if, is_string_if, is_tag_if, has_arguments, is_shaped, is_head}
 

@@ -5,8 +5,8 @@ use Rattle.lamport_tag.specs.declared.Tag.{Tag}
 use Rattle.call_log.specs.declared.entry.Call.{Call}
 use Rattle.call_log.specs.Kind.{is_built, argument_count, has_outgoing, has_incoming, has_tag}
 use Rattle.call_log.specs.Entry.{Entry, IsShaped, BeginsNoEntry, encoding, encodings}
-use Rattle.fri_text.specs.Name.{is_name}
 use Rattle.call_log.specs.Head.{Head, head_bytes}
+use Rattle.fri_text.specs.Name.{is_name}
 use Rattle.call_log.specs.Reading.{read_entry, read_head}
 
 -- the head, and the bytes behind the entries that were read
@@ -27,13 +27,15 @@ stops_at_unbuilt bytes = nat_le 15 (length bytes) && not (is_built (slice_index 
 
 -- ---- what stands at the front of some bytes, as functions
 
--- the tests of `IsShaped` on one field
+-- the test of `IsNumberIf`
 abbrev pub is_number_if : Bool → ℕ → Bool
 is_number_if has n = if has then nat_lt n (2 ^ 64) else nat_le n 0
 
+-- the test of `IsStringIf`
 abbrev pub is_string_if : Bool → List ℕ → Bool
 is_string_if has bytes = if has then nat_lt (length bytes) (2 ^ 31) else nat_le (length bytes) 0
 
+-- the test of `IsTagIf`
 abbrev pub is_tag_if : Bool → Option Tag → Bool
 is_tag_if has None = true
 is_tag_if has (Some tag) = has && nat_lt tag.sender (2 ^ 32) && nat_lt tag.clock (2 ^ 64)
@@ -77,16 +79,17 @@ unfoldable pub entries_within : ℕ → List ℕ → List Entry
 entries_within zero bytes = []
 entries_within (suc limit) bytes = entry_then (entries_within limit) (entry_at bytes)
 
--- the bytes behind them
+-- the bytes as they are, or those behind the entries that follow the one that was found
 abbrev pub rest_then : (List ℕ → List ℕ) → List ℕ → Option (Entry × List ℕ) → List ℕ
 rest_then more bytes None = bytes
 rest_then more bytes (Some x) = more x.1
 
+-- the bytes behind at most so many entries
 unfoldable pub rest_within : ℕ → List ℕ → List ℕ
 rest_within zero bytes = bytes
 rest_within (suc limit) bytes = rest_then (rest_within limit) bytes (entry_at bytes)
 
--- all entries at the front of the bytes: no byte lists hold more of them than they have bytes
+-- all entries at the front of the bytes, which hold no more entries than they have bytes
 unfoldable pub entries_of : List ℕ → List Entry
 entries_of bytes = entries_within (length bytes) bytes
 

@@ -8,8 +8,8 @@ use Rattle.lamport_tag.specs.declared.Tag.{Tag}
 use Rattle.call_log.specs.declared.entry.Call.{Call}
 use Rattle.call_log.specs.Kind.{is_built, argument_count, has_outgoing, has_incoming, has_tag}
 use Rattle.call_log.specs.Entry.{Entry}
-use Rattle.fri_text.specs.Name.{is_name}
 use Rattle.call_log.specs.Head.{Head}
+use Rattle.fri_text.specs.Name.{is_name}
 
 infixl 10 ◌>>=◌
 -- a step, and the next one where it gave something

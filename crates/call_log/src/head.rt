@@ -5,6 +5,7 @@ ghost use Rattle.call_log.specs.Reading.{Gives, name_at, read_head as head_read}
 
 use fri_bytes::Cursor;
 use fri_text::is_name;
+use thiserror::Error;
 
 // The bytes that a log begins with.
 pub(crate) const MAGIC: &[u8] = b"LLOG";
@@ -21,7 +22,8 @@ pub struct LogHead<'a> {
 }
 
 /// The bytes do not begin with the head of a log.
-#[derive(Clone, Copy, Debug, PartialEq, Eq)]
+#[derive(Clone, Copy, Debug, PartialEq, Eq, Error)]
+#[error("the bytes do not begin with the head of a log")]
 pub struct BadHead;
 
 // The head at the front of the bytes, and the bytes behind it.

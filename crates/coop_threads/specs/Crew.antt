@@ -1,0 +1,99 @@
+-- The threads of a process and the locks that they hold.
+use Rattle.std.specs.Prelude.{◌≡◌, ℕ, List, [], ◌∷◌, ◌++◌, slice_set, slice_get, Option, Some, None, option_and_then, refl}
+use Rattle.std.specs.Coded.{Coded, code_by, coded×, coded_ℕ, coded_list, coded_option}
+use Rattle.std.specs.FinMap as map
+use Rattle.coop_threads.specs.declared.status.Status.{Status}
+use Rattle.coop_threads.specs.declared.status.Status.TheVariants.{Unknown, Live, Taken, Ended}
+use Rattle.coop_threads.specs.declared.spawn_error.SpawnError.{SpawnError}
+use Rattle.coop_threads.specs.declared.spawn_error.SpawnError.TheVariants.{Full, NoMemory}
+use Rattle.coop_threads.specs.declared.slot.Slot.{Slot}
+use Rattle.coop_threads.specs.declared.slot.Slot.TheVariants.{Kept, Lent, Over}
+use Rattle.coop_threads.specs.Locks.{Holders, locked}
+
+-- the threads that were made, in order, and who holds each lock that is held
+pub record Crew (T : Type 0) : Type 0 where
+  pub threads : List (Slot T)
+  pub holders : Holders
+
+-- what is stored of a thread
+abbrev pub stored : {T : Type 0} → Slot T → Option (Option T)
+stored (Kept t) = Some (Some t)
+stored Lent = Some None
+stored Over = None
+
+-- the thread of which this is stored
+abbrev pub slot_of : {T : Type 0} → Option (Option T) → Slot T
+slot_of (Some (Some t)) = Kept t
+slot_of (Some None) = Lent
+slot_of None = Over
+
+-- nothing of a thread is lost by that
+pub slot_of-stored : {T : Type 0} (slot : Slot T) → slot_of (stored slot) ≡ slot
+slot_of-stored (Kept t) = refl
+slot_of-stored Lent = refl
+slot_of-stored Over = refl
+
+-- a thread is stored as the value that it may have, where it is not over
+abbrev pub slot_code : {T : Type 0} → Coded T → Coded (Slot T)
+slot_code {T} code = code_by (Option (Option T)) (coded_option (coded_option code)) stored slot_of slot_of-stored
+
+-- a crew is stored as the pair of its fields
+abbrev pub crew_code : {T : Type 0} → Coded T → Coded (Crew T)
+crew_code {T} code =
+    code_by
+    (List (Slot T) × Holders)
+    (coded× (coded_list (slot_code code)) (map.code coded_ℕ coded_ℕ))
+    (λ crew. (crew.threads, crew.holders))
+    (λ parts. record { threads = parts.0; holders = parts.1 })
+    (λ _. refl)
+
+module _ {T : Type 0} where
+  -- no thread and no lock
+  abbrev pub empty : Crew T
+  empty = record { threads = []; holders = map.empty }
+
+  -- the value of a thread that is here
+  abbrev pub value_of : Slot T → Option T
+  value_of (Kept t) = Some t
+  value_of Lent = None
+  value_of Over = None
+
+  -- the value of a live thread
+  abbrev pub live_at : Crew T → ℕ → Option T
+  live_at crew n = option_and_then value_of (slice_get crew.threads n)
+
+  -- how a thread stands
+  abbrev pub status_of : Option (Slot T) → Status
+  status_of None = Unknown
+  status_of (Some (Kept t)) = Live
+  status_of (Some Lent) = Taken
+  status_of (Some Over) = Ended
+
+  -- the value of thread n was taken out
+  abbrev pub IsTaken : Crew T → ℕ → Type 0
+  IsTaken crew n = slice_get crew.threads n ≡ Some Lent
+
+  -- one more thread, which is live
+  abbrev pub with_new_thread : Crew T → T → Crew T
+  with_new_thread crew t = record crew { threads = crew.threads ++ Kept t ∷ [] }
+
+  -- the value that comes back where no thread was made
+  abbrev pub returned : SpawnError T → T
+  returned (Full t) = t
+  returned (NoMemory t) = t
+
+  -- thread n stands so, and all else is as it was
+  abbrev pub with_thread : Crew T → ℕ → Slot T → Crew T
+  with_thread crew n slot = record crew { threads = slice_set crew.threads n slot }
+
+  -- the thread that holds a lock
+  abbrev pub holder_of : Crew T → ℕ → Option ℕ
+  holder_of crew m = map.get crew.holders m
+
+  -- thread n asked for the lock m
+  abbrev pub with_lock : Crew T → ℕ → ℕ → Crew T
+  with_lock crew m n = record crew { holders = locked crew.holders m n (map.get crew.holders m) }
+
+  -- the lock m is free
+  abbrev pub without_lock : Crew T → ℕ → Crew T
+  without_lock crew m = record crew { holders = map.remove crew.holders m }

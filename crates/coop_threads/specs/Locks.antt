@@ -1,0 +1,20 @@
+-- Which thread holds each lock.
+use Rattle.std.specs.Prelude.{ℕ, Option, Some, None, ◌==◌, if◌then◌else◌}
+use Rattle.std.specs.Ordering.{nat_cmp}
+use Rattle.std.specs.FinMap as map
+use Rattle.coop_threads.specs.declared.grip.Grip.{Grip}
+use Rattle.coop_threads.specs.declared.grip.Grip.TheVariants.{Got, Already, Held}
+
+-- the number of the thread that holds a lock, at each lock that is held
+abbrev pub Holders : Type 0
+Holders = map.FinMap nat_cmp ℕ
+
+-- what a thread finds that asks for a lock with this holder
+abbrev pub grip_of : Option ℕ → ℕ → Grip
+grip_of None n = Got
+grip_of (Some holder) n = if holder == n then Already else Held holder
+
+-- the holders after a thread asked for the lock m with this holder
+abbrev pub locked : Holders → ℕ → ℕ → Option ℕ → Holders
+locked holders m n None = map.insert holders m n
+locked holders m n (Some holder) = holders

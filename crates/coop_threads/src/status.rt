@@ -1,0 +1,11 @@
+// How a thread stands.
+
+/// How a thread stands: no thread of the number was made, the crew has its value, its value was taken
+/// out, or it has ended.
+#[derive(Clone, Copy, Debug, PartialEq, Eq)]
+pub enum Status {
+    Unknown,
+    Live,
+    Taken,
+    Ended,
+}
