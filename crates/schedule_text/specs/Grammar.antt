@@ -1,0 +1,84 @@
+-- The grammar of schedules: which lines spell one, and which line is the first bad one.
+use Rattle.std.specs.Prelude.{◌≡◌, ℕ, ◌+◌, ◌-◌, ◌≤◌, ℤ, not, codes, filter, map, List, [], ◌∷◌, ◌++◌, length, take, Some}
+use Rattle.std.specs.List.{AllZip}
+use Rattle.fri_text.specs.Decimal.{decimal_of, signed_of}
+use Rattle.fri_text.specs.Line.{lines_of}
+use Rattle.schedule_text.specs.declared.item.Item.{Item}
+use Rattle.schedule_text.specs.declared.item.Item.TheVariants.{Run, Clock}
+use Rattle.schedule_text.specs.declared.process.ProcessLine.{ProcessLine}
+use Rattle.schedule_text.specs.Fields.{fields_of, is_passed_over}
+use Rattle.schedule_text.specs.Schedule.{Schedule, IsWellFormed}
+
+-- ---- one line, by its fields
+
+-- the word writes the number in decimal digits, with any zeros in front
+abbrev pub IsNumber : List ℕ → ℕ → Type 0
+IsNumber word n = decimal_of word ≡ Some n
+
+-- the same where one minus may stand in front
+abbrev pub IsSignedNumber : List ℕ → ℤ → Type 0
+IsSignedNumber word z = signed_of word ≡ Some z
+
+-- `friday 1`
+abbrev pub IsHeader : List (List ℕ) → Type 0
+IsHeader fields = fields ≡ codes "friday" ∷ codes "1" ∷ []
+
+-- `process NAME MODULE`
+abbrev pub IsProcessLine : List (List ℕ) → ProcessLine → Type 0
+IsProcessLine fields line = fields ≡ codes "process" ∷ line.name ∷ line.module ∷ []
+
+-- `run P T`, which is one try, or `run P T N`
+abbrev pub IsRun : List (List ℕ) → ℕ → ℕ → ℕ → Type 0
+IsRun (word ∷ p ∷ t ∷ []) process thread times = (word ≡ codes "run") × IsNumber p process × IsNumber t thread × (times ≡ 1)
+IsRun (word ∷ p ∷ t ∷ n ∷ []) process thread times = (word ≡ codes "run") × IsNumber p process × IsNumber t thread × IsNumber n times
+IsRun _ process thread times = ⊥
+
+-- `clock P V`
+abbrev pub IsClock : List (List ℕ) → ℕ → ℤ → Type 0
+IsClock (word ∷ p ∷ v ∷ []) process value = (word ≡ codes "clock") × IsNumber p process × IsSignedNumber v value
+IsClock _ process value = ⊥
+
+-- the fields write the item, whatever the ranges are
+abbrev pub IsItemLine : List (List ℕ) → Item → Type 0
+IsItemLine fields (Run process thread times) = IsRun fields process thread times
+IsItemLine fields (Clock process value) = IsClock fields process value
+
+-- ---- all lines
+
+-- the fields of each line that isn't passed over
+abbrev pub lines_kept : List (List ℕ) → List (List (List ℕ))
+lines_kept lines = filter (λ fields. not (is_passed_over fields)) (map fields_of lines)
+
+-- the lines, without those passed over, are the header, the processes and the items, which are in range
+pub record AreLinesOf (lines : List (List ℕ)) (s : Schedule) : Type 0 where
+  pub header : List (List ℕ)
+  pub process_lines : List (List (List ℕ))
+  pub item_lines : List (List (List ℕ))
+  pub in_order : lines_kept lines ≡ header ∷ (process_lines ++ item_lines)
+  pub begins : IsHeader header
+  pub processes : AllZip IsProcessLine process_lines s.processes
+  pub items : AllZip IsItemLine item_lines s.items
+  pub formed : IsWellFormed s
+
+-- the bytes spell the schedule, however many run items it has
+abbrev pub Spells : List ℕ → Schedule → Type 0
+Spells bytes s = AreLinesOf (lines_of bytes) s
+
+-- with some further lines, or with none, the lines are those of a schedule: so each is allowed at its place
+pub record BeginSchedule (lines : List (List ℕ)) : Type 0 where
+  pub rest : List (List ℕ)
+  pub whole : Schedule
+  pub spelled : AreLinesOf (lines ++ rest) whole
+
+-- Line n, counted from 1, is the first that isn't allowed at its place. Where each line is allowed but
+-- the header or a process line is still to come, it is the line behind the last.
+pub record IsFirstBad (lines : List (List ℕ)) (n : ℕ) : Type 0 where
+  pub counted : 1 ≤ n
+  pub within : n ≤ length lines + 1
+  pub good : BeginSchedule (take (n - 1) lines)
+  pub bad : n ≤ length lines → BeginSchedule (take n lines) → ⊥
+  pub unfinished : (s : Schedule) → AreLinesOf lines s → ⊥
+
+-- line n of the bytes is the first bad one
+abbrev pub BadAt : List ℕ → ℕ → Type 0
+BadAt bytes n = IsFirstBad (lines_of bytes) n

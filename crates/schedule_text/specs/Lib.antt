@@ -1,0 +1,5 @@
+pub mod Fields
+pub mod Grammar
+pub mod Outcome
+pub mod Reading
+pub mod Schedule

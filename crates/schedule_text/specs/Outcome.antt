@@ -1,0 +1,17 @@
+-- What reading a schedule answers.
+use Rattle.std.specs.Prelude.{◌≡◌, Result, Ok, Err}
+use Rattle.schedule_text.specs.declared.error.ScheduleError.{ScheduleError}
+use Rattle.schedule_text.specs.declared.error.ScheduleError.TheVariants as errors
+use Rattle.schedule_text.specs.Reading.{Refusal, BadLineAt, TooManyRuns}
+use Rattle.schedule_text.specs.Schedule.{Schedule}
+
+-- the error is this refusal, or want of memory, which may come at any time
+abbrev pub Fails : ScheduleError → Result Schedule Refusal → Type 0
+Fails (errors.BadLine n) outcome = outcome ≡ Err (BadLineAt n)
+Fails errors.TooMany outcome = outcome ≡ Err TooManyRuns
+Fails errors.NoMemory outcome = Unit {0}
+
+-- the answer is this outcome, but for want of memory
+abbrev pub Answers : Result Schedule ScheduleError → Result Schedule Refusal → Type 0
+Answers (Ok s) outcome = outcome ≡ Ok s
+Answers (Err e) outcome = Fails e outcome

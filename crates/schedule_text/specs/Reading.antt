@@ -1,0 +1,146 @@
+-- The schedule that some bytes spell, or why they are refused, as a function that goes over the lines.
+use Rattle.std.specs.Prelude.{ℕ, ◌+◌, ◌-◌, Bool, true, false, ◌&&◌, ◌||◌, ◌==◌, nat_lt, nat_le, codes, if◌then◌else◌, List, [], ◌∷◌, ◌++◌, length, Option, Some, None, option_map, Result, Ok, Err}
+use Rattle.std.specs.List.{list_any}
+use Rattle.std.specs.Option.{option_map_or}
+use Rattle.std.specs.Result.{result_ok}
+use Rattle.std.specs.Str.{bytes_eq}
+use Rattle.fri_text.specs.Decimal.{decimal_of, signed_of, up_to, within_i64}
+use Rattle.fri_text.specs.Line.{lines_of}
+use Rattle.fri_text.specs.Name.{is_name}
+use Rattle.schedule_text.specs.declared.item.Item.{Item}
+use Rattle.schedule_text.specs.declared.item.Item.TheVariants.{Run, Clock}
+use Rattle.schedule_text.specs.declared.limits.TheConstants.{MOST_PROCESSES, MOST_THREAD, MOST_TIMES, MOST_RUNS}
+use Rattle.schedule_text.specs.declared.process.ProcessLine.{ProcessLine}
+use Rattle.schedule_text.specs.Fields.{fields_of, is_comment}
+use Rattle.schedule_text.specs.Schedule.{Schedule, is_module_name, run_count}
+
+infixl 10 ◌>>=◌
+abbrev pub ◌>>=◌ : {A B : Type 0} → Option A → (A → Option B) → Option B
+None >>= f = None
+(Some x) >>= f = f x
+
+-- why bytes are refused: a bad line, or too many run items
+pub data Refusal : Type 0 where
+  BadLineAt : ℕ → Refusal
+  TooManyRuns : Refusal
+
+-- ---- fields
+
+-- the first field and those after it
+abbrev pub field_at : List (List ℕ) → Option (List ℕ × List (List ℕ))
+field_at [] = None
+field_at (field ∷ fields) = Some (field, fields)
+
+-- the field, where it is the last
+abbrev pub last_of : List (List ℕ) → Option (List ℕ)
+last_of (field ∷ []) = Some field
+last_of _ = None
+
+-- the number that a word writes, where it is at most `most`
+abbrev pub number_of : ℕ → List ℕ → Option ℕ
+number_of most word = result_ok (up_to most (decimal_of word))
+
+-- the number of a process, of which there are so many
+abbrev pub process_of : ℕ → List ℕ → Option ℕ
+process_of processes word = if processes == 0 then None else number_of (processes - 1) word
+
+-- the fields after P and T: how often is tried
+abbrev pub times_of : List (List ℕ) → Option ℕ
+times_of [] = Some 1
+times_of (word ∷ []) = number_of MOST_TIMES word >>= λ n. if n == 0 then None else Some n
+times_of _ = None
+
+-- ---- one line
+
+-- whether these are the fields of the header
+abbrev pub is_header : List ℕ → List (List ℕ) → Bool
+is_header word (version ∷ []) = bytes_eq word (codes "friday") && bytes_eq version (codes "1")
+is_header word _ = false
+
+-- the process of the fields after `process`
+unfoldable pub process_line_of : List (List ℕ) → Option ProcessLine
+process_line_of fields = do
+  name ← field_at fields
+  file ← last_of name.1
+  if is_name name.0 && is_module_name file then Some (record { name = name.0; «module» = file }) else None
+
+-- the item of the fields after `run`
+unfoldable pub run_of : ℕ → List (List ℕ) → Option Item
+run_of processes fields = do
+  p ← field_at fields
+  process ← process_of processes p.0
+  t ← field_at p.1
+  thread ← number_of MOST_THREAD t.0
+  times ← times_of t.1
+  Some (Run process thread times)
+
+-- the item of the fields after `clock`
+unfoldable pub clock_of : ℕ → List (List ℕ) → Option Item
+clock_of processes fields = do
+  p ← field_at fields
+  process ← process_of processes p.0
+  v ← last_of p.1
+  value ← result_ok (within_i64 (signed_of v))
+  Some (Clock process value)
+
+-- the item of a line, by its first word
+unfoldable pub item_of : ℕ → List ℕ → List (List ℕ) → Option Item
+item_of processes word fields =
+    if bytes_eq word (codes "run") then run_of processes fields else
+    (if bytes_eq word (codes "clock") then clock_of processes fields else None)
+
+-- ---- lines
+
+-- what has come so far
+pub record Part : Type 0 where
+  pub has_header : Bool
+  pub processes : List ProcessLine
+  pub items : List Item
+
+-- before the first line
+abbrev pub nothing : Part
+nothing = record { has_header = false; processes = []; items = [] }
+
+-- one more process, where no item has come, there is room for it, and its name is new
+unfoldable pub with_process : Part → List (List ℕ) → Option Part
+with_process part fields =
+    if nat_lt 0 (length part.items) || nat_le MOST_PROCESSES (length part.processes) then None else
+    (process_line_of fields >>= λ line. if list_any (λ other. bytes_eq other.name line.name) part.processes then None else
+    Some (record part { processes = part.processes ++ line ∷ [] }))
+
+-- one more item
+unfoldable pub with_item : Part → List ℕ → List (List ℕ) → Option Part
+with_item part word fields = option_map (λ item. record part { items = part.items ++ item ∷ [] }) (item_of (length part.processes) word fields)
+
+-- one more line that isn't passed over
+unfoldable pub with_fields : Part → List ℕ → List (List ℕ) → Option Part
+with_fields part word fields =
+    if part.has_header then (if bytes_eq word (codes "process") then with_process part fields else with_item part word fields) else
+    (if is_header word fields then Some (record part { has_header = true }) else None)
+
+-- one more line with these fields
+abbrev pub with_line_of : Part → List (List ℕ) → Option Part
+with_line_of part [] = Some part
+with_line_of part (word ∷ fields) = if is_comment word then Some part else with_fields part word fields
+
+-- one more line
+unfoldable pub with_line : Part → List ℕ → Option Part
+with_line part line = with_line_of part (fields_of line)
+
+-- ---- the whole
+
+-- all lines have come, and the next would have this number
+unfoldable pub whole_of : ℕ → Part → Result Schedule Refusal
+whole_of number part =
+    if nat_lt 0 (length part.processes) then
+    (if nat_le (run_count part.items) MOST_RUNS then Ok (record { processes = part.processes; items = part.items }) else Err TooManyRuns) else
+    Err (BadLineAt number)
+
+-- what follows of the lines still to come, the first of which has this number
+unfoldable pub outcome_of : ℕ → Part → List (List ℕ) → Result Schedule Refusal
+outcome_of number part [] = whole_of number part
+outcome_of number part (line ∷ lines) = option_map_or (λ next. outcome_of (number + 1) next lines) (with_line part line) (Err (BadLineAt number))
+
+-- the schedule of the bytes, or why there is none
+unfoldable pub schedule_of : List ℕ → Result Schedule Refusal
+schedule_of bytes = outcome_of 1 nothing (lines_of bytes)

@@ -1,0 +1,55 @@
+-- Schedules as contracts see them, and the ranges of what stands in one.
+use Rattle.std.specs.Prelude.{◌≡◌, ◌≢◌, ℕ, ◌<◌, ◌≤◌, ℤ, FitsSigned, Bool, ◌&&◌, not, nat_le, nat_eq, codes, sum_by, List, length, All, AllPairs, IsTrue}
+use Rattle.std.specs.Int.{is_in_range, w64}
+use Rattle.std.specs.List.{list_all, ends_with}
+use Rattle.fri_text.specs.Name.{is_name}
+use Rattle.schedule_text.specs.declared.item.Item.{Item}
+use Rattle.schedule_text.specs.declared.item.Item.TheVariants.{Run, Clock}
+use Rattle.schedule_text.specs.declared.limits.TheConstants.{MOST_PROCESSES, MOST_THREAD, MOST_TIMES, MOST_RUNS}
+use Rattle.schedule_text.specs.declared.process.ProcessLine.{ProcessLine}
+
+-- the processes, numbered from 0, and what happens to them, in order
+pub record Schedule : Type 0 where
+  pub processes : List ProcessLine
+  pub items : List Item
+
+-- a byte from ! to ~ of ASCII
+abbrev pub is_visible : ℕ → Bool
+is_visible b = is_in_range 33 126 b
+
+-- 1 to 255 visible bytes that don't end as the files do which a recording writes
+abbrev pub is_module_name : List ℕ → Bool
+is_module_name word = nat_le 1 (length word) && nat_le (length word) 255 && list_all is_visible word
+    && not (ends_with nat_eq word (codes ".log")) && not (ends_with nat_eq word (codes ".mem")) && not (ends_with nat_eq word (codes ".out"))
+
+-- a process may have this name and this module
+pub record IsProcess (line : ProcessLine) : Type 0 where
+  pub name : IsTrue (is_name line.name)
+  pub file : IsTrue (is_module_name line.module)
+
+-- the item is in range where there are this many processes
+abbrev pub IsInRange : ℕ → Item → Type 0
+IsInRange processes (Run process thread times) = (process < processes) × (thread ≤ MOST_THREAD) × (1 ≤ times) × (times ≤ MOST_TIMES)
+IsInRange processes (Clock process value) = (process < processes) × FitsSigned w64 value
+
+-- the lines and the items are in range, and no two processes have one name
+pub record IsWellFormed (s : Schedule) : Type 0 where
+  pub some : 1 ≤ length s.processes
+  pub most : length s.processes ≤ MOST_PROCESSES
+  pub lines : All IsProcess s.processes
+  pub names : AllPairs (λ a b. a.name ≢ b.name) s.processes
+  pub items : All (IsInRange (length s.processes)) s.items
+
+-- how often an item tries to run a thread
+abbrev pub tries : Item → ℕ
+tries (Run process thread times) = times
+tries (Clock process value) = 0
+
+-- the run items, repeats counted
+abbrev pub run_count : List Item → ℕ
+run_count items = sum_by tries items
+
+-- a schedule that may be run: it is well formed, and has no more run items than the limit
+pub record IsSchedule (s : Schedule) : Type 0 where
+  pub formed : IsWellFormed s
+  pub runs : run_count s.items ≤ MOST_RUNS

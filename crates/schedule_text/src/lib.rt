@@ -1,0 +1,16 @@
+//! Schedules: the text that says which processes a group has and what happens to them, in order.
+#![tactic(auto)]
+
+mod error;
+mod item;
+mod limits;
+mod process;
+mod read;
+mod schedule;
+
+pub use error::ScheduleError;
+pub use item::Item;
+pub use limits::{MOST_PROCESSES, MOST_RUNS, MOST_THREAD, MOST_TIMES};
+pub use process::ProcessLine;
+pub use read::read_schedule;
+pub use schedule::Schedule;
