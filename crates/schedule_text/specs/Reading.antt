@@ -11,7 +11,7 @@ use Rattle.schedule_text.specs.declared.item.Item.{Item}
 use Rattle.schedule_text.specs.declared.item.Item.TheVariants.{Run, Clock}
 use Rattle.schedule_text.specs.declared.limits.TheConstants.{MOST_PROCESSES, MOST_THREAD, MOST_TIMES, MOST_RUNS}
 use Rattle.schedule_text.specs.declared.process.ProcessLine.{ProcessLine}
-use Rattle.schedule_text.specs.Fields.{fields_of, is_comment}
+use Rattle.schedule_text.specs.Fields.{fields_of, field_at, last_of, is_comment}
 use Rattle.schedule_text.specs.Schedule.{Schedule, is_module_name, run_count}
 
 infixl 10 ◌>>=◌
@@ -24,17 +24,7 @@ pub data Refusal : Type 0 where
   BadLineAt : ℕ → Refusal
   TooManyRuns : Refusal
 
--- ---- fields
-
--- the first field and those after it
-abbrev pub field_at : List (List ℕ) → Option (List ℕ × List (List ℕ))
-field_at [] = None
-field_at (field ∷ fields) = Some (field, fields)
-
--- the field, where it is the last
-abbrev pub last_of : List (List ℕ) → Option (List ℕ)
-last_of (field ∷ []) = Some field
-last_of _ = None
+-- ---- numbers
 
 -- the number that a word writes, where it is at most `most`
 abbrev pub number_of : ℕ → List ℕ → Option ℕ

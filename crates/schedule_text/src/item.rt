@@ -1,4 +1,11 @@
 // The items of a schedule.
+ghost use Rattle.std.specs.Prelude.{◌≡◌};
+ghost use Rattle.schedule_text.specs.Reading.{item_of, run_of, clock_of};
+
+use crate::fields::Fields;
+use crate::limits::MOST_THREAD;
+use crate::word::{number, process_number, times};
+use fri_text::read_signed;
 
 /// What happens next in a group. Processes are numbered from 0 in the order of their lines.
 #[derive(Debug, PartialEq, Eq, Drop)]
@@ -10,8 +17,43 @@ pub enum Item {
         times: u32,
     },
     /// The wall time of the process.
-    Clock {
-        process: u32,
-        value: i64,
-    },
+    Clock { process: u32, value: i64 },
+}
+
+/// The item of a line with this first word and these fields after it, where there are so many
+/// processes.
+#[tactic(auto, unfolding(crate::specs::Reading::item_of))]
+pub(crate) fn read_item(word: &[u8], processes: u32, fields: &mut Fields) -> Option<Item>
+    ensures { result ≡ item_of processes word.now fields.old }
+{
+    match word {
+        b"run" => read_run(processes, fields),
+        b"clock" => read_clock(processes, fields),
+        _ => None,
+    }
+}
+
+/// `run P T` and `run P T N`.
+#[tactic(auto, unfolding(crate::specs::Reading::run_of))]
+fn read_run(processes: u32, fields: &mut Fields) -> Option<Item>
+    ensures { result ≡ run_of processes fields.old }
+{
+    let process = process_number(fields.next_field()?, processes)?;
+    let thread = number(fields.next_field()?, u32::from(MOST_THREAD))? as u16;
+    let times = times(fields)?;
+    Some(Item::Run {
+        process,
+        thread,
+        times,
+    })
+}
+
+/// `clock P V`.
+#[tactic(auto, unfolding(crate::specs::Reading::clock_of))]
+fn read_clock(processes: u32, fields: &mut Fields) -> Option<Item>
+    ensures { result ≡ clock_of processes fields.old }
+{
+    let process = process_number(fields.next_field()?, processes)?;
+    let value = read_signed(fields.last_field()?).ok()?;
+    Some(Item::Clock { process, value })
 }

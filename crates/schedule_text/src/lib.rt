@@ -2,11 +2,13 @@
 #![tactic(auto)]
 
 mod error;
+mod fields;
 mod item;
 mod limits;
 mod process;
 mod read;
 mod schedule;
+mod word;
 
 pub use error::ScheduleError;
 pub use item::Item;
