@@ -1,1 +1,5 @@
 pub mod FieldLaws
+pub mod ItemLaws
+pub mod LineLaws
+pub mod StepLaws
+pub mod WordLaws

@@ -2,7 +2,7 @@
 use Rattle.std.specs.Prelude.{◌≡◌, Result, Ok, Err}
 use Rattle.schedule_text.specs.declared.error.ScheduleError.{ScheduleError}
 use Rattle.schedule_text.specs.declared.error.ScheduleError.TheVariants as errors
-use Rattle.schedule_text.specs.Reading.{Refusal, BadLineAt, TooManyRuns}
+use Rattle.schedule_text.specs.Reading.{Refusal, BadLineAt, TooManyRuns, Part, schedule_part}
 use Rattle.schedule_text.specs.Schedule.{Schedule}
 
 -- the error is this refusal, or want of memory, which may come at any time
@@ -15,3 +15,13 @@ Fails errors.NoMemory outcome = Unit {0}
 abbrev pub Answers : Result Schedule ScheduleError → Result Schedule Refusal → Type 0
 Answers (Ok s) outcome = outcome ≡ Ok s
 Answers (Err e) outcome = Fails e outcome
+
+-- the end was tested: the outcome is the schedule of what has come, or this refusal
+abbrev pub Ends : Result (Unit {0}) ScheduleError → Part → Result Schedule Refusal → Type 0
+Ends (Ok x) part outcome = outcome ≡ Ok (schedule_part part)
+Ends (Err e) part outcome = Fails e outcome
+
+-- the lines were read: the outcome is the schedule of what has come, or this refusal
+abbrev pub Reads : Result Part ScheduleError → Result Schedule Refusal → Type 0
+Reads (Ok part) outcome = outcome ≡ Ok (schedule_part part)
+Reads (Err e) outcome = Fails e outcome

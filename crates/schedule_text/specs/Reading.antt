@@ -1,9 +1,10 @@
 -- The schedule that some bytes spell, or why they are refused, as a function that goes over the lines.
-use Rattle.std.specs.Prelude.{ℕ, ◌+◌, ◌-◌, Bool, true, false, ◌&&◌, ◌||◌, ◌==◌, nat_lt, nat_le, codes, if◌then◌else◌, List, [], ◌∷◌, ◌++◌, length, Option, Some, None, option_map, Result, Ok, Err}
+use Rattle.std.specs.Prelude.{◌≡◌, ℕ, ◌+◌, ◌-◌, Bool, true, false, ◌&&◌, ◌||◌, ◌==◌, nat_lt, nat_le, codes, if◌then◌else◌, List, [], ◌∷◌, ◌++◌, length, Option, Some, None, option_map, Result, Ok, Err}
 use Rattle.std.specs.List.{list_any}
 use Rattle.std.specs.Option.{option_map_or}
 use Rattle.std.specs.Result.{result_ok}
 use Rattle.std.specs.Str.{bytes_eq}
+use Rattle.std.specs.declared.alloc.AllocError.{AllocError}
 use Rattle.fri_text.specs.Decimal.{decimal_of, signed_of, up_to, within_i64}
 use Rattle.fri_text.specs.Line.{lines_of}
 use Rattle.fri_text.specs.Name.{is_name}
@@ -117,13 +118,23 @@ with_line_of part (word ∷ fields) = if is_comment word then Some part else wit
 unfoldable pub with_line : Part → List ℕ → Option Part
 with_line part line = with_line_of part (fields_of line)
 
+-- A line was taken, and is allowed where something comes of it. Memory may run out at any time.
+abbrev pub Takes : Result Bool AllocError → Part → Option Part → Type 0
+Takes (Ok true) new found = found ≡ Some new
+Takes (Ok false) new found = found ≡ None
+Takes (Err e) new found = Unit {0}
+
 -- ---- the whole
+
+-- the schedule of what has come
+abbrev pub schedule_part : Part → Schedule
+schedule_part part = record { processes = part.processes; items = part.items }
 
 -- all lines have come, and the next would have this number
 unfoldable pub whole_of : ℕ → Part → Result Schedule Refusal
 whole_of number part =
     if nat_lt 0 (length part.processes) then
-    (if nat_le (run_count part.items) MOST_RUNS then Ok (record { processes = part.processes; items = part.items }) else Err TooManyRuns) else
+    (if nat_le (run_count part.items) MOST_RUNS then Ok (schedule_part part) else Err TooManyRuns) else
     Err (BadLineAt number)
 
 -- what follows of the lines still to come, the first of which has this number

@@ -1,5 +1,6 @@
 // The items of a schedule.
 ghost use Rattle.std.specs.Prelude.{◌≡◌};
+ghost use Rattle.schedule_text.specs.Schedule.{tries as item_tries};
 ghost use Rattle.schedule_text.specs.Reading.{item_of, run_of, clock_of};
 
 use crate::fields::Fields;
@@ -18,6 +19,18 @@ pub enum Item {
     },
     /// The wall time of the process.
     Clock { process: u32, value: i64 },
+}
+
+impl Item {
+    /// How often the item tries to run a thread.
+    pub(crate) fn tries(&self) -> u64
+        ensures { result ≡ item_tries self.now }
+    {
+        match self {
+            Item::Run { times, .. } => u64::from(*times),
+            Item::Clock { .. } => 0,
+        }
+    }
 }
 
 /// The item of a line with this first word and these fields after it, where there are so many

@@ -1,6 +1,7 @@
 //! Schedules: the text that says which processes a group has and what happens to them, in order.
 #![tactic(auto)]
 
+mod draft;
 mod error;
 mod fields;
 mod item;

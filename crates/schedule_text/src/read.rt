@@ -1,13 +1,16 @@
 // Reading a schedule.
 ghost use Rattle.std.specs.Prelude.{◌≡◌, ℕ, ◌<◌, ◌≤◌, IfOk, IsErrOf, Ok, Err};
 ghost use Rattle.schedule_text.specs.Grammar.{Spells, BadAt};
-ghost use Rattle.schedule_text.specs.Outcome.{Answers};
+ghost use Rattle.schedule_text.specs.Outcome.{Answers, Reads};
 ghost use Rattle.schedule_text.specs.Reading.{schedule_of, BadLineAt, TooManyRuns};
 ghost use Rattle.schedule_text.specs.Schedule.{Schedule as Seen, IsSchedule, run_count};
 
+use crate::draft::Draft;
 use crate::error::ScheduleError;
 use crate::limits::MOST_RUNS;
 use crate::schedule::Schedule;
+use fri_bytes::Cursor;
+use fri_text::next_line;
 use std::alloc::Global;
 
 /// The schedule that the bytes spell.
@@ -24,7 +27,29 @@ pub fn read_schedule(alloc: Global, bytes: &[u8]) -> Result<Schedule, ScheduleEr
     ensures bad { (n : ℕ) → BadAt bytes.now n → Answers result (Err (BadLineAt n)) }
     ensures over { (s : Seen) → Spells bytes.now s → MOST_RUNS < run_count s.items → Answers result (Err TooManyRuns) }
 {
-    let _ = alloc;
-    let _ = bytes;
-    Err(ScheduleError::NoMemory)
+    read_whole(alloc, bytes)
+}
+
+fn read_whole(alloc: Global, bytes: &[u8]) -> Result<Schedule, ScheduleError>
+    ensures { Answers result (schedule_of bytes.now) }
+{
+    let draft = read_lines(alloc, bytes)?;
+    Ok(draft.into_schedule())
+}
+
+/// What all lines give.
+fn read_lines(alloc: Global, bytes: &[u8]) -> Result<Draft, ScheduleError>
+    ensures { Reads result (schedule_of bytes.now) }
+{
+    let mut draft = Draft::new(alloc);
+    let mut lines = Cursor::new(bytes);
+    let mut number: u64 = 1;
+    while let Some(line) = next_line(&mut lines) {
+        if !draft.take_line(alloc, line)? {
+            return Err(ScheduleError::BadLine(number));
+        }
+        number += 1;
+    }
+    draft.check_end(number)?;
+    Ok(draft)
 }
