@@ -1,5 +1,6 @@
 pub mod FieldLaws
 pub mod ItemLaws
 pub mod LineLaws
+pub mod OutcomeLaws
 pub mod StepLaws
 pub mod WordLaws

@@ -25,7 +25,7 @@ lines_give part (line ∷ lines) = with_line part line >>= λ next. lines_give n
 give-passed : (part : Part) (line : List ℕ) (lines : List (List ℕ)) → is_passed_over (fields_of line) ≡ true → lines_give part (line ∷ lines) ≡ lines_give part lines
 give-passed part line lines e = ap (λ (o : Option Part). o >>= λ next. lines_give next lines) (passed_line part line e)
 
-some_is : {A : Type 0} (x y : A) → ◌≡◌ {A = Option A} (Some x) (Some y) → x ≡ y
+pub some_is : {A : Type 0} (x y : A) → ◌≡◌ {A = Option A} (Some x) (Some y) → x ≡ y
 some_is x y e = cc
 
 -- another line is a step
@@ -200,7 +200,7 @@ give-append (fields ∷ a) b part mid e =
     ap (λ (o : Option Part). o >>= λ next. fields_give next (a ++ b)) next.1 ∙ give-append a b next.0 mid next.2
 
 -- the parts that have the header
-abbrev having : List ProcessLine → List Item → Part
+abbrev pub having : List ProcessLine → List Item → Part
 having ps is = record { has_header = true; processes = ps; items = is }
 
 one_process : (ps : List ProcessLine) (line : ProcessLine) → length ps < MOST_PROCESSES → IsProcess line → IsNew ps line.name → with_fields (having ps []) (codes "process") (line.name ∷ line.module ∷ []) ≡ Some (having (ps ++ line ∷ []) [])
