@@ -272,6 +272,10 @@ bad_again bytes n bad = came_bad_line (lines_of bytes) (schedule_of bytes) n (ca
 pub one_schedule : (bytes : List ℕ) (s t : Schedule) → Spells bytes s → Spells bytes t → s ≡ t
 one_schedule bytes s t a b = one_of_lines (lines_of bytes) s t a b
 
+-- one line is the first bad one of some bytes
+pub one_bad_line : (bytes : List ℕ) (m n : ℕ) → BadAt bytes m → BadAt bytes n → m ≡ n
+one_bad_line bytes m n a b = one_first_bad (lines_of bytes) m n a b
+
 came_either : (lines : List (List ℕ)) (outcome : Result Schedule Refusal) → Came nothing lines 1 outcome → ((s : Schedule) × AreLinesOf lines s) ⊎ ((n : ℕ) × IsFirstBad lines n)
 came_either lines _ (whole end gives some few) = inl (schedule_part end, lines_take lines end some gives)
 came_either lines _ (over end gives some many) = inl (schedule_part end, lines_take lines end some gives)

@@ -5,6 +5,7 @@ mod draft;
 mod error;
 mod fields;
 mod item;
+mod laws;
 mod limits;
 mod process;
 mod read;
@@ -13,6 +14,7 @@ mod word;
 
 pub use error::ScheduleError;
 pub use item::Item;
+pub use laws::{exact_outcome, one_schedule, spelled_or_bad};
 pub use limits::{MOST_PROCESSES, MOST_RUNS, MOST_THREAD, MOST_TIMES};
 pub use process::ProcessLine;
 pub use read::read_schedule;

@@ -1,0 +1,5 @@
+use Rattle.schedule_text.proofs.OutcomeLaws as laws
+use Rattle.schedule_text.proofs.laws.one_schedule.Goals as goal
+
+pub returns : goal.returns
+returns c = laws.one_schedule
