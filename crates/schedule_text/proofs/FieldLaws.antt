@@ -20,8 +20,8 @@ skip [] n e = rw e refl
 skip (b ∷ line) n e =
     elim (cases_Bool (is_blank b)) [
       | inl blank ↦ let k : ℕ = position_or_len (λ b. not (is_blank b)) line in
-        let more : n ≡ suc k = (e ∙ rw blank (one_more k)) in
-        rw (more, blank) (skip line k refl)
+          let more : n ≡ suc k = (e ∙ rw blank (one_more k)) in
+          rw (more, blank) (skip line k refl)
       | inr other ↦ let none : n ≡ 0 = (e ∙ rw other refl) in rw none refl
     ]
 
@@ -37,9 +37,9 @@ cut_of (b ∷ line) =
     elim (cases_Bool (is_blank b)) [
       | inl blank ↦ record { parts = slice_split is_blank line; cut = rw blank refl; fields = rw blank (rw blank refl) }
       | inr other ↦
-        let r = cut_of line in
-        let k : ℕ = position_or_len is_blank line in
-        record { parts = r.parts; cut = rw (other, one_more k, r.cut) refl; fields = rw (other, one_more k) r.fields }
+          let r = cut_of line in
+          let k : ℕ = position_or_len is_blank line in
+          record { parts = r.parts; cut = rw (other, one_more k, r.cut) refl; fields = rw (other, one_more k) r.fields }
     ]
 
 long : (b k : ℕ) (line : List ℕ) → ltb 0 (length (take (suc k) (b ∷ line))) ≡ true

@@ -49,7 +49,12 @@ run_parts processes fields item e =
     let thread = bind_some (number_of MOST_THREAD t.0.0) _ item t.2 in
     let times = bind_some (times_of t.0.1) _ item thread.2 in
     record {
-      p = p.0.0; t = t.0.0; rest = t.0.1; process = process.0; thread = thread.0; times = times.0;
+      p = p.0.0;
+      t = t.0.0;
+      rest = t.0.1;
+      process = process.0;
+      thread = thread.0;
+      times = times.0;
       fields_are = field_takes fields p.0.0 p.0.1 p.1 ∙ ap (λ (fs : List (List ℕ)). p.0.0 ∷ fs) (field_takes p.0.1 t.0.0 t.0.1 t.1);
       item_is = let there = times.2 in cc;
       process_is = process_takes processes p.0.0 process.0 process.1;
@@ -60,12 +65,14 @@ run_parts processes fields item e =
 run_written : (processes : ℕ) (p t : List ℕ) (rest : List (List ℕ)) (process thread times : ℕ) → IsNumber p process × (process < processes) → IsNumber t thread × (thread ≤ MOST_THREAD) → times_of rest ≡ Some times → IsItemLine (codes "run" ∷ p ∷ t ∷ rest) (Run process thread times) × IsInRange processes (Run process thread times)
 run_written processes p t rest process thread times is_process is_thread e =
     elim (times_takes rest times e) [
-      | inl none ↦
-        (subst (λ (fs : List (List ℕ)). IsRun (codes "run" ∷ p ∷ t ∷ fs) process thread times) (sym none.0) (refl, is_process.0, is_thread.0, none.1),
-         (is_process.1, is_thread.1, omega (arith, none.1), omega (arith, none.1)))
-      | inr some ↦
-        (subst (λ (fs : List (List ℕ)). IsRun (codes "run" ∷ p ∷ t ∷ fs) process thread times) (sym some.1) (refl, is_process.0, is_thread.0, some.2),
-         (is_process.1, is_thread.1, some.3, some.4))
+      | inl none ↦ (
+        subst (λ (fs : List (List ℕ)). IsRun (codes "run" ∷ p ∷ t ∷ fs) process thread times) (sym none.0) (refl, is_process.0, is_thread.0, none.1),
+        (is_process.1, is_thread.1, omega (arith, none.1), omega (arith, none.1)),
+      )
+      | inr some ↦ (
+        subst (λ (fs : List (List ℕ)). IsRun (codes "run" ∷ p ∷ t ∷ fs) process thread times) (sym some.1) (refl, is_process.0, is_thread.0, some.2),
+        (is_process.1, is_thread.1, some.3, some.4),
+      )
     ]
 
 run_takes : (processes : ℕ) (word : List ℕ) (fields : List (List ℕ)) (item : Item) → word ≡ codes "run" → run_of processes fields ≡ Some item → IsItemLine (word ∷ fields) item × IsInRange processes item
@@ -96,8 +103,8 @@ item_takes processes word fields item e =
     elim (cases_Bool (bytes_eq word (codes "run"))) [
       | inl run ↦ run_takes processes word fields item (is_word word (codes "run") run) (rw run at e)
       | inr other ↦
-        let some = kept (bytes_eq word (codes "clock")) (clock_of processes fields) item (rw other at e) in
-        clock_takes processes word fields item (is_word word (codes "clock") some.0) some.1
+          let some = kept (bytes_eq word (codes "clock")) (clock_of processes fields) item (rw other at e) in
+          clock_takes processes word fields item (is_word word (codes "clock") some.0) some.1
     ]
 
 run_again : (processes : ℕ) (p t : List ℕ) (rest : List (List ℕ)) (process thread times : ℕ) → IsNumber p process → process < processes → IsNumber t thread → thread ≤ MOST_THREAD → times_of rest ≡ Some times → run_of processes (p ∷ t ∷ rest) ≡ Some (Run process thread times)

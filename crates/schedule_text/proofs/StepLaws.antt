@@ -124,11 +124,11 @@ unfolding with_fields
 step_of part word fields next e =
     elim (cases_Bool part.has_header) [
       | inl begun ↦
-        let after = at_true part.has_header _ _ (Some next) begun e in
-        elim (cases_Bool (bytes_eq word (codes "process"))) [
-          | inl is ↦ process_step part word fields next begun (is_word word (codes "process") is) (at_true _ _ _ (Some next) is after)
-          | inr other ↦ item_step part word fields next begun (at_false _ _ _ (Some next) other after)
-        ]
+          let after = at_true part.has_header _ _ (Some next) begun e in
+          elim (cases_Bool (bytes_eq word (codes "process"))) [
+            | inl is ↦ process_step part word fields next begun (is_word word (codes "process") is) (at_true _ _ _ (Some next) is after)
+            | inr other ↦ item_step part word fields next begun (at_false _ _ _ (Some next) other after)
+          ]
       | inr before ↦ header_step part word fields next before (at_false part.has_header _ _ (Some next) before e)
     ]
 

@@ -70,8 +70,8 @@ held : (m : ℕ) (y z : ℤ) → (m < 2 ^ 63 → FitsSigned w64 y) → result_ok
 held m y z fits e =
     elim (cases_Bool (ltb m (2 ^ 63))) [
       | inl small ↦
-        let same : y ≡ z = (let there = rw small at e in cc) in
-        (ap (λ (x : ℤ). Some x) same, subst (λ (x : ℤ). FitsSigned w64 x) same (fits (ltb-true m (2 ^ 63) small)))
+          let same : y ≡ z = (let there = rw small at e in cc) in
+          (ap (λ (x : ℤ). Some x) same, subst (λ (x : ℤ). FitsSigned w64 x) same (fits (ltb-true m (2 ^ 63) small)))
       | inr great ↦ absurd (let nothing = rw great at e in cc)
     ]
 

@@ -141,9 +141,7 @@ fn is_header(word: &[u8], fields: &mut Fields) -> bool
 fn has_name(processes: &[ProcessLine], name: &[u8]) -> bool
     ensures { result ≡ list_any (λ other. bytes_eq other.name name.now) processes.now }
 {
-    processes
-        .iter()
-        .any(|other| other.name.as_slice() == name)
+    processes.iter().any(|other| other.name.as_slice() == name)
 }
 
 /// Whether the run items, repeats counted, are at most `MOST_RUNS`.

@@ -18,7 +18,10 @@ pub enum Item {
         times: u32,
     },
     /// The wall time of the process.
-    Clock { process: u32, value: i64 },
+    Clock {
+        process: u32,
+        value: i64,
+    },
 }
 
 impl Item {
