@@ -1,5 +1,5 @@
 -- Lines of a header, a process or an item: what is read is written so, and what is written so is read.
-use Rattle.std.proofs.Common.{◌≡◌, ℕ, ◌+◌, ◌<◌, ◌≤◌, ◌⊎◌, Bool, true, false, cond, ◌&&◌, List, [], ◌∷◌, length, Option, Some, None, refl, sym, ap, subst, ◌∙◌, arith, inl, inr, ℤ, IsTrue}
+use Rattle.std.proofs.Common.{◌≡◌, ℕ, ◌<◌, ◌≤◌, true, false, cond, ◌&&◌, List, [], ◌∷◌, Some, None, refl, sym, ap, subst, ◌∙◌, arith, inl, inr, ℤ}
 use Rattle.std.specs.Prelude.{codes, FitsSigned}
 use Rattle.std.specs.Int.{w64}
 use Rattle.std.specs.Result.{result_ok}
@@ -10,11 +10,11 @@ use Rattle.fri_text.specs.Decimal.{signed_of, within_i64}
 use Rattle.fri_text.specs.Name.{is_name}
 use Rattle.schedule_text.specs.declared.item.Item.{Item}
 use Rattle.schedule_text.specs.declared.item.Item.TheVariants.{Run, Clock}
-use Rattle.schedule_text.specs.declared.limits.TheConstants.{MOST_THREAD, MOST_TIMES}
+use Rattle.schedule_text.specs.declared.limits.TheConstants.{MOST_THREAD}
 use Rattle.schedule_text.specs.declared.process.ProcessLine.{ProcessLine}
 use Rattle.schedule_text.specs.Fields.{field_at, last_of, is_comment}
-use Rattle.schedule_text.specs.Grammar.{IsNumber, IsSignedNumber, IsHeader, IsProcessLine, IsRun, IsClock, IsItemLine}
-use Rattle.schedule_text.specs.Reading.{◌>>=◌, number_of, process_of, times_of, is_header, process_line_of, run_of, clock_of, item_of}
+use Rattle.schedule_text.specs.Grammar.{IsNumber, IsSignedNumber, IsHeader, IsProcessLine, IsRun, IsItemLine}
+use Rattle.schedule_text.specs.Reading.{number_of, process_number_of, times_of, is_header, process_line_of, run_of, clock_of, item_of}
 use Rattle.schedule_text.specs.Schedule.{IsInRange, IsProcess, is_module_name}
 use Rattle.schedule_text.proofs.WordLaws.{bind_some, kept, field_takes, last_takes, number_takes, number_again, process_takes, process_again, value_takes, value_again, times_takes, times_again}
 
@@ -44,7 +44,7 @@ run_parts : (processes : ℕ) (fields : List (List ℕ)) (item : Item) → run_o
 unfolding run_of
 run_parts processes fields item e =
     let p = bind_some (field_at fields) _ item e in
-    let process = bind_some (process_of processes p.0.0) _ item p.2 in
+    let process = bind_some (process_number_of processes p.0.0) _ item p.2 in
     let t = bind_some (field_at p.0.1) _ item process.2 in
     let thread = bind_some (number_of MOST_THREAD t.0.0) _ item t.2 in
     let times = bind_some (times_of t.0.1) _ item thread.2 in
@@ -86,7 +86,7 @@ clock_takes : (processes : ℕ) (word : List ℕ) (fields : List (List ℕ)) (it
 unfolding clock_of
 clock_takes processes word fields item is e =
     let p = bind_some (field_at fields) _ item e in
-    let process = bind_some (process_of processes p.0.0) _ item p.2 in
+    let process = bind_some (process_number_of processes p.0.0) _ item p.2 in
     let v = bind_some (last_of p.0.1) _ item process.2 in
     let value = bind_some (result_ok (within_i64 (signed_of v.0))) _ item v.2 in
     let item_is : Clock process.0 value.0 ≡ item = (let there = value.2 in cc) in

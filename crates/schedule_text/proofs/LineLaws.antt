@@ -1,9 +1,9 @@
 -- All lines: what comes of them is what they spell.
-use Rattle.std.proofs.Common.{◌≡◌, ◌≢◌, ℕ, zero, suc, ◌+◌, ◌<◌, ◌≤◌, ◌⊎◌, Bool, true, false, cond, ltb, leb, List, [], ◌∷◌, ◌++◌, length, get_or, Option, Some, None, refl, sym, ap, subst, ◌∙◌, arith, inl, inr}
+use Rattle.std.proofs.Common.{◌≡◌, ◌≢◌, ℕ, zero, suc, ◌+◌, ◌<◌, ◌≤◌, ◌⊎◌, true, List, [], ◌∷◌, ◌++◌, length, get_or, Option, Some, None, refl, sym, ap, subst, ◌∙◌, arith, inl, inr}
 use Rattle.std.specs.Prelude.{codes, All, AllPairs}
 use Rattle.std.specs.List.{AllZip}
-use Rattle.std.proofs.lemmas.Bool.{cases_Bool, lt-leb}
-use Rattle.std.proofs.lemmas.List.{append_assoc, append-nil, get_or_append_left, get_or_at, length-append, nil_from_length}
+use Rattle.std.proofs.lemmas.Bool.{lt-leb}
+use Rattle.std.proofs.lemmas.List.{append_assoc, append-nil, get_or_append_left, get_or_at, length-append}
 use Rattle.schedule_text.specs.declared.item.Item.{Item}
 use Rattle.schedule_text.specs.declared.item.Item.TheVariants.{Run, Clock}
 use Rattle.schedule_text.specs.declared.limits.TheConstants.{MOST_PROCESSES}
@@ -11,7 +11,7 @@ use Rattle.schedule_text.specs.declared.process.ProcessLine.{ProcessLine}
 use Rattle.schedule_text.specs.Fields.{fields_of, is_passed_over}
 use Rattle.schedule_text.specs.Grammar.{IsHeader, IsProcessLine, IsItemLine, lines_kept, AreLinesOf}
 use Rattle.schedule_text.specs.Reading.{◌>>=◌, Part, nothing, with_fields, with_process, with_item, with_line, with_line_of, schedule_part}
-use Rattle.schedule_text.specs.Schedule.{Schedule, IsInRange, IsProcess, IsWellFormed}
+use Rattle.schedule_text.specs.Schedule.{Schedule, IsInRange, IsProcess}
 use Rattle.schedule_text.proofs.ItemLaws.{item_again, item_word, process_line_again}
 use Rattle.schedule_text.proofs.StepLaws.{IsNew, new_any, IsKept, kept_cases, passed_line, kept_fields, line_is, kept-passed, kept-kept, Step, header, process, item, step_of, IsPart, nothing_is, step_keeps}
 use Rattle.schedule_text.proofs.WordLaws.{bind_some}
