@@ -17,6 +17,7 @@ use Rattle.friday_app.specs.Expected.{expected, module_of, log_of, body_or, head
 use Rattle.friday_app.specs.Record.{record_work}
 use Rattle.friday_app.specs.Report.{replay_work}
 use Rattle.schedule_text.specs.Reading.{schedule_of}
+use Rattle.schedule_text.proofs.OutcomeLaws.{schedule_again}
 use Rattle.schedule_text.specs.Schedule.{Schedule}
 use Rattle.friday_app.specs.Call.{IsAnswer}
 use Rattle.friday_app.specs.Run.{Outside, Run, NoFault, Works}
@@ -41,7 +42,7 @@ log_stands store name h =
 schedule_stands : (store : Store) (name : List ℕ) (schedule : Schedule) (h : IsScheduleFile store name schedule) → schedule_in store name ≡ Ok schedule
 schedule_stands store name schedule h =
     ap (λ (r : Result (List ℕ) Stop). and_then r (λ bytes. schedule_or name (schedule_of bytes))) (stands_given store name 16777216 h.bytes h.stands)
-    ∙ ap (schedule_or name) h.spelled
+    ∙ ap (schedule_or name) (schedule_again h.bytes schedule h.spelled h.few)
 
 valid_works : (command : Command) (store : Store) (left : Option (List ℕ)) → IsValid (Some command) store left → (work : Work) × (expected (Some command) (Some store) left ≡ Some (Ok work))
 valid_works (Record schedule_name) store left (schedule, s, m) = (

@@ -3,8 +3,9 @@ use Rattle.std.specs.Prelude.{◌≡◌, ℕ, ◌≤◌, List, ◌++◌, length,
 use Rattle.std.specs.FinMap.{get}
 use Rattle.fri_outside.specs.Outside.{Store}
 use Rattle.wasm_types.specs.Code.{Trees}
-use Rattle.schedule_text.specs.Reading.{schedule_of}
-use Rattle.schedule_text.specs.Schedule.{Schedule}
+use Rattle.schedule_text.specs.declared.limits.TheConstants.{MOST_RUNS}
+use Rattle.schedule_text.specs.Grammar.{Spells}
+use Rattle.schedule_text.specs.Schedule.{Schedule, run_count}
 use Rattle.call_log.specs.Entry.{Entry}
 use Rattle.call_log.specs.Head.{Head, IsHead, head_bytes}
 use Rattle.call_log.specs.Log.{Holds, stops_at_unbuilt}
@@ -39,7 +40,8 @@ pub record IsLogFile (store : Store) (name : List ℕ) : Type 0 where
 pub record IsScheduleFile (store : Store) (name : List ℕ) (schedule : Schedule) : Type 0 where
   pub bytes : List ℕ
   pub stands : Stands store name 16777216 bytes
-  pub spelled : schedule_of bytes ≡ Ok schedule
+  pub spelled : Spells bytes schedule
+  pub few : run_count schedule.items ≤ MOST_RUNS
 
 abbrev pub IsValid : Option Command → Store → Option (List ℕ) → Type 0
 IsValid None store left = ⊥

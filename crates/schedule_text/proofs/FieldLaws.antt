@@ -1,7 +1,7 @@
 -- The first field of a line, and the fields after it.
 use Rattle.std.proofs.Common.{◌≡◌, ℕ, suc, ◌+◌, ◌-◌, ◌<◌, ◌≤◌, Bool, true, false, cond, not, position, filter, ltb, List, [], ◌∷◌, length, get_or, take, drop, Option, Some, None, refl, sym, ap, ◌∙◌, arith, inl, inr}
-use Rattle.std.specs.Prelude.{unwrap_or, option_map}
-use Rattle.std.specs.List.{position_or_len, slice_split, onto_first}
+use Rattle.std.specs.Prelude.{unwrap_or}
+use Rattle.std.specs.List.{position_or_len, slice_split}
 use Rattle.std.proofs.Math.ListN.{drop_of_length-le}
 use Rattle.std.proofs.Math.Seq.{take-length}
 use Rattle.std.proofs.lemmas.Bool.{cases_Bool, cases_lt, lt-ltb}
@@ -9,7 +9,7 @@ use Rattle.std.proofs.lemmas.List.{get_or-drop, length-drop}
 use Rattle.std.proofs.lemmas.List.Quantifiers.{position-Some}
 use Rattle.std.proofs.lemmas.List.Sums.{prefix_len-le-length}
 use Rattle.std.proofs.lemmas.Option.{cond_some}
-use Rattle.schedule_text.specs.Fields.{is_blank, fields_of, field_at, TakesField}
+use Rattle.schedule_text.specs.Fields.{is_blank, fields_of}
 
 one_more : (k : ℕ) → 1 + k ≡ suc k
 one_more k = omega arith
@@ -20,8 +20,8 @@ skip [] n e = rw e refl
 skip (b ∷ line) n e =
     elim (cases_Bool (is_blank b)) [
       | inl blank ↦ let k : ℕ = position_or_len (λ b. not (is_blank b)) line in
-        let more : n ≡ suc k = (e ∙ rw blank (one_more k)) in
-        rw (more, blank) (skip line k refl)
+          let more : n ≡ suc k = (e ∙ rw blank (one_more k)) in
+          rw (more, blank) (skip line k refl)
       | inr other ↦ let none : n ≡ 0 = (e ∙ rw other refl) in rw none refl
     ]
 
@@ -37,9 +37,9 @@ cut_of (b ∷ line) =
     elim (cases_Bool (is_blank b)) [
       | inl blank ↦ record { parts = slice_split is_blank line; cut = rw blank refl; fields = rw blank (rw blank refl) }
       | inr other ↦
-        let r = cut_of line in
-        let k : ℕ = position_or_len is_blank line in
-        record { parts = r.parts; cut = rw (other, one_more k, r.cut) refl; fields = rw (other, one_more k) r.fields }
+          let r = cut_of line in
+          let k : ℕ = position_or_len is_blank line in
+          record { parts = r.parts; cut = rw (other, one_more k, r.cut) refl; fields = rw (other, one_more k) r.fields }
     ]
 
 long : (b k : ℕ) (line : List ℕ) → ltb 0 (length (take (suc k) (b ∷ line))) ≡ true

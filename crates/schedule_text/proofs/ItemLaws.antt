@@ -1,5 +1,5 @@
 -- Lines of a header, a process or an item: what is read is written so, and what is written so is read.
-use Rattle.std.proofs.Common.{◌≡◌, ℕ, ◌+◌, ◌<◌, ◌≤◌, ◌⊎◌, Bool, true, false, cond, ◌&&◌, List, [], ◌∷◌, length, Option, Some, None, refl, sym, ap, subst, ◌∙◌, arith, inl, inr, ℤ, IsTrue}
+use Rattle.std.proofs.Common.{◌≡◌, ℕ, ◌<◌, ◌≤◌, true, false, cond, ◌&&◌, List, [], ◌∷◌, Some, None, refl, sym, ap, subst, ◌∙◌, arith, inl, inr, ℤ}
 use Rattle.std.specs.Prelude.{codes, FitsSigned}
 use Rattle.std.specs.Int.{w64}
 use Rattle.std.specs.Result.{result_ok}
@@ -10,11 +10,11 @@ use Rattle.fri_text.specs.Decimal.{signed_of, within_i64}
 use Rattle.fri_text.specs.Name.{is_name}
 use Rattle.schedule_text.specs.declared.item.Item.{Item}
 use Rattle.schedule_text.specs.declared.item.Item.TheVariants.{Run, Clock}
-use Rattle.schedule_text.specs.declared.limits.TheConstants.{MOST_THREAD, MOST_TIMES}
+use Rattle.schedule_text.specs.declared.limits.TheConstants.{MOST_THREAD}
 use Rattle.schedule_text.specs.declared.process.ProcessLine.{ProcessLine}
 use Rattle.schedule_text.specs.Fields.{field_at, last_of, is_comment}
-use Rattle.schedule_text.specs.Grammar.{IsNumber, IsSignedNumber, IsHeader, IsProcessLine, IsRun, IsClock, IsItemLine}
-use Rattle.schedule_text.specs.Reading.{◌>>=◌, number_of, process_of, times_of, is_header, process_line_of, run_of, clock_of, item_of}
+use Rattle.schedule_text.specs.Grammar.{IsNumber, IsSignedNumber, IsHeader, IsProcessLine, IsRun, IsItemLine}
+use Rattle.schedule_text.specs.Reading.{number_of, process_number_of, times_of, is_header, process_line_of, run_of, clock_of, item_of}
 use Rattle.schedule_text.specs.Schedule.{IsInRange, IsProcess, is_module_name}
 use Rattle.schedule_text.proofs.WordLaws.{bind_some, kept, field_takes, last_takes, number_takes, number_again, process_takes, process_again, value_takes, value_again, times_takes, times_again}
 
@@ -44,12 +44,17 @@ run_parts : (processes : ℕ) (fields : List (List ℕ)) (item : Item) → run_o
 unfolding run_of
 run_parts processes fields item e =
     let p = bind_some (field_at fields) _ item e in
-    let process = bind_some (process_of processes p.0.0) _ item p.2 in
+    let process = bind_some (process_number_of processes p.0.0) _ item p.2 in
     let t = bind_some (field_at p.0.1) _ item process.2 in
     let thread = bind_some (number_of MOST_THREAD t.0.0) _ item t.2 in
     let times = bind_some (times_of t.0.1) _ item thread.2 in
     record {
-      p = p.0.0; t = t.0.0; rest = t.0.1; process = process.0; thread = thread.0; times = times.0;
+      p = p.0.0;
+      t = t.0.0;
+      rest = t.0.1;
+      process = process.0;
+      thread = thread.0;
+      times = times.0;
       fields_are = field_takes fields p.0.0 p.0.1 p.1 ∙ ap (λ (fs : List (List ℕ)). p.0.0 ∷ fs) (field_takes p.0.1 t.0.0 t.0.1 t.1);
       item_is = let there = times.2 in cc;
       process_is = process_takes processes p.0.0 process.0 process.1;
@@ -60,12 +65,14 @@ run_parts processes fields item e =
 run_written : (processes : ℕ) (p t : List ℕ) (rest : List (List ℕ)) (process thread times : ℕ) → IsNumber p process × (process < processes) → IsNumber t thread × (thread ≤ MOST_THREAD) → times_of rest ≡ Some times → IsItemLine (codes "run" ∷ p ∷ t ∷ rest) (Run process thread times) × IsInRange processes (Run process thread times)
 run_written processes p t rest process thread times is_process is_thread e =
     elim (times_takes rest times e) [
-      | inl none ↦
-        (subst (λ (fs : List (List ℕ)). IsRun (codes "run" ∷ p ∷ t ∷ fs) process thread times) (sym none.0) (refl, is_process.0, is_thread.0, none.1),
-         (is_process.1, is_thread.1, omega (arith, none.1), omega (arith, none.1)))
-      | inr some ↦
-        (subst (λ (fs : List (List ℕ)). IsRun (codes "run" ∷ p ∷ t ∷ fs) process thread times) (sym some.1) (refl, is_process.0, is_thread.0, some.2),
-         (is_process.1, is_thread.1, some.3, some.4))
+      | inl none ↦ (
+        subst (λ (fs : List (List ℕ)). IsRun (codes "run" ∷ p ∷ t ∷ fs) process thread times) (sym none.0) (refl, is_process.0, is_thread.0, none.1),
+        (is_process.1, is_thread.1, omega (arith, none.1), omega (arith, none.1)),
+      )
+      | inr some ↦ (
+        subst (λ (fs : List (List ℕ)). IsRun (codes "run" ∷ p ∷ t ∷ fs) process thread times) (sym some.1) (refl, is_process.0, is_thread.0, some.2),
+        (is_process.1, is_thread.1, some.3, some.4),
+      )
     ]
 
 run_takes : (processes : ℕ) (word : List ℕ) (fields : List (List ℕ)) (item : Item) → word ≡ codes "run" → run_of processes fields ≡ Some item → IsItemLine (word ∷ fields) item × IsInRange processes item
@@ -79,7 +86,7 @@ clock_takes : (processes : ℕ) (word : List ℕ) (fields : List (List ℕ)) (it
 unfolding clock_of
 clock_takes processes word fields item is e =
     let p = bind_some (field_at fields) _ item e in
-    let process = bind_some (process_of processes p.0.0) _ item p.2 in
+    let process = bind_some (process_number_of processes p.0.0) _ item p.2 in
     let v = bind_some (last_of p.0.1) _ item process.2 in
     let value = bind_some (result_ok (within_i64 (signed_of v.0))) _ item v.2 in
     let item_is : Clock process.0 value.0 ≡ item = (let there = value.2 in cc) in
@@ -96,8 +103,8 @@ item_takes processes word fields item e =
     elim (cases_Bool (bytes_eq word (codes "run"))) [
       | inl run ↦ run_takes processes word fields item (is_word word (codes "run") run) (rw run at e)
       | inr other ↦
-        let some = kept (bytes_eq word (codes "clock")) (clock_of processes fields) item (rw other at e) in
-        clock_takes processes word fields item (is_word word (codes "clock") some.0) some.1
+          let some = kept (bytes_eq word (codes "clock")) (clock_of processes fields) item (rw other at e) in
+          clock_takes processes word fields item (is_word word (codes "clock") some.0) some.1
     ]
 
 run_again : (processes : ℕ) (p t : List ℕ) (rest : List (List ℕ)) (process thread times : ℕ) → IsNumber p process → process < processes → IsNumber t thread → thread ≤ MOST_THREAD → times_of rest ≡ Some times → run_of processes (p ∷ t ∷ rest) ≡ Some (Run process thread times)

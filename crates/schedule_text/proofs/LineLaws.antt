@@ -1,9 +1,9 @@
 -- All lines: what comes of them is what they spell.
-use Rattle.std.proofs.Common.{◌≡◌, ◌≢◌, ℕ, zero, suc, ◌+◌, ◌<◌, ◌≤◌, ◌⊎◌, Bool, true, false, cond, ltb, leb, List, [], ◌∷◌, ◌++◌, length, get_or, Option, Some, None, refl, sym, ap, subst, ◌∙◌, arith, inl, inr}
+use Rattle.std.proofs.Common.{◌≡◌, ◌≢◌, ℕ, zero, suc, ◌+◌, ◌<◌, ◌≤◌, ◌⊎◌, true, List, [], ◌∷◌, ◌++◌, length, get_or, Option, Some, None, refl, sym, ap, subst, ◌∙◌, arith, inl, inr}
 use Rattle.std.specs.Prelude.{codes, All, AllPairs}
 use Rattle.std.specs.List.{AllZip}
-use Rattle.std.proofs.lemmas.Bool.{cases_Bool, lt-leb}
-use Rattle.std.proofs.lemmas.List.{append_assoc, append-nil, get_or_append_left, get_or_at, length-append, nil_from_length}
+use Rattle.std.proofs.lemmas.Bool.{lt-leb}
+use Rattle.std.proofs.lemmas.List.{append_assoc, append-nil, get_or_append_left, get_or_at, length-append}
 use Rattle.schedule_text.specs.declared.item.Item.{Item}
 use Rattle.schedule_text.specs.declared.item.Item.TheVariants.{Run, Clock}
 use Rattle.schedule_text.specs.declared.limits.TheConstants.{MOST_PROCESSES}
@@ -11,7 +11,7 @@ use Rattle.schedule_text.specs.declared.process.ProcessLine.{ProcessLine}
 use Rattle.schedule_text.specs.Fields.{fields_of, is_passed_over}
 use Rattle.schedule_text.specs.Grammar.{IsHeader, IsProcessLine, IsItemLine, lines_kept, AreLinesOf}
 use Rattle.schedule_text.specs.Reading.{◌>>=◌, Part, nothing, with_fields, with_process, with_item, with_line, with_line_of, schedule_part}
-use Rattle.schedule_text.specs.Schedule.{Schedule, IsInRange, IsProcess, IsWellFormed}
+use Rattle.schedule_text.specs.Schedule.{Schedule, IsInRange, IsProcess}
 use Rattle.schedule_text.proofs.ItemLaws.{item_again, item_word, process_line_again}
 use Rattle.schedule_text.proofs.StepLaws.{IsNew, new_any, IsKept, kept_cases, passed_line, kept_fields, line_is, kept-passed, kept-kept, Step, header, process, item, step_of, IsPart, nothing_is, step_keeps}
 use Rattle.schedule_text.proofs.WordLaws.{bind_some}
@@ -42,8 +42,8 @@ all_keep (line ∷ lines) part end h e =
     elim (kept_cases (fields_of line)) [
       | inl over ↦ all_keep lines part end h (sym (give-passed part line lines over) ∙ e)
       | inr here ↦
-        let next = bind_some (with_line part line) (λ next. lines_give next lines) end e in
-        all_keep lines next.0 end (step_keeps part (fields_of line) next.0 (kept_step part line next.0 here next.1) h) next.2
+          let next = bind_some (with_line part line) (λ next. lines_give next lines) end e in
+          all_keep lines next.0 end (step_keeps part (fields_of line) next.0 (kept_step part line next.0 here next.1) h) next.2
     ]
 
 -- ---- lines behind the header
@@ -68,18 +68,30 @@ no_more R (x ∷ xs) ys e h = absurd cc
 
 adds_none : (part end : Part) → part ≡ end → Adds part [] end
 adds_none part end same = record {
-  process_lines = []; item_lines = []; more_processes = []; more_items = [];
+  process_lines = [];
+  item_lines = [];
+  more_processes = [];
+  more_items = [];
   in_order = refl;
   processes_are = ap (λ (p : Part). p.processes) (sym same) ∙ sym (append-nil part.processes);
   items_are = ap (λ (p : Part). p.items) (sym same) ∙ sym (append-nil part.items);
-  processes = tt; items = tt; order = inr refl;
+  processes = tt;
+  items = tt;
+  order = inr refl;
 }
 
 adds_passed : (part end : Part) (line : List ℕ) (lines : List (List ℕ)) → is_passed_over (fields_of line) ≡ true → Adds part lines end → Adds part (line ∷ lines) end
 adds_passed part end line lines over h = record {
-  process_lines = h.process_lines; item_lines = h.item_lines; more_processes = h.more_processes; more_items = h.more_items;
+  process_lines = h.process_lines;
+  item_lines = h.item_lines;
+  more_processes = h.more_processes;
+  more_items = h.more_items;
   in_order = kept-passed line lines over ∙ h.in_order;
-  processes_are = h.processes_are; items_are = h.items_are; processes = h.processes; items = h.items; order = h.order;
+  processes_are = h.processes_are;
+  items_are = h.items_are;
+  processes = h.processes;
+  items = h.items;
+  order = h.order;
 }
 
 not_empty : {A : Type 0} (xs : List A) (x : A) → xs ++ x ∷ [] ≡ [] → ⊥
@@ -92,22 +104,32 @@ adds_step part _ end line lines kept begun (header before is) go = absurd cc
 adds_step part _ end line lines kept begun (process p has none room is good new) go =
     let h = go begun in
     record {
-      process_lines = fields_of line ∷ h.process_lines; item_lines = h.item_lines; more_processes = p ∷ h.more_processes; more_items = h.more_items;
+      process_lines = fields_of line ∷ h.process_lines;
+      item_lines = h.item_lines;
+      more_processes = p ∷ h.more_processes;
+      more_items = h.more_items;
       in_order = kept ∙ ap (λ (ls : List (List (List ℕ))). fields_of line ∷ ls) h.in_order;
       processes_are = h.processes_are ∙ append_assoc part.processes (p ∷ []) h.more_processes;
       items_are = h.items_are;
-      processes = (is, h.processes); items = h.items; order = inl none;
+      processes = (is, h.processes);
+      items = h.items;
+      order = inl none;
     }
 adds_step part _ end line lines kept begun (item i has is range) go =
     let h = go begun in
     let behind : h.process_lines ≡ [] = elim h.order [ inl none ↦ absurd (not_empty part.items i none) | inr none ↦ none ] in
     let none : h.more_processes ≡ [] = no_more IsProcessLine h.process_lines h.more_processes behind h.processes in
     record {
-      process_lines = []; item_lines = fields_of line ∷ h.item_lines; more_processes = []; more_items = i ∷ h.more_items;
+      process_lines = [];
+      item_lines = fields_of line ∷ h.item_lines;
+      more_processes = [];
+      more_items = i ∷ h.more_items;
       in_order = kept ∙ ap (λ (ls : List (List (List ℕ))). fields_of line ∷ ls) (h.in_order ∙ ap (λ (ls : List (List (List ℕ))). ls ++ h.item_lines) behind);
       processes_are = h.processes_are ∙ ap (λ (ps : List ProcessLine). part.processes ++ ps) none;
       items_are = h.items_are ∙ append_assoc part.items (i ∷ []) h.more_items;
-      processes = tt; items = (is, h.items); order = inr refl;
+      processes = tt;
+      items = (is, h.items);
+      order = inr refl;
     }
 
 adds : (lines : List (List ℕ)) (part end : Part) → part.has_header ≡ true → lines_give part lines ≡ Some end → Adds part lines end
@@ -116,8 +138,8 @@ adds (line ∷ lines) part end begun e =
     elim (kept_cases (fields_of line)) [
       | inl over ↦ adds_passed part end line lines over (adds lines part end begun (sym (give-passed part line lines over) ∙ e))
       | inr here ↦
-        let next = bind_some (with_line part line) (λ next. lines_give next lines) end e in
-        adds_step part next.0 end line lines (kept-kept line lines here) begun (kept_step part line next.0 here next.1) (λ has. adds lines next.0 end has next.2)
+          let next = bind_some (with_line part line) (λ next. lines_give next lines) end e in
+          adds_step part next.0 end line lines (kept-kept line lines here) begun (kept_step part line next.0 here next.1) (λ has. adds lines next.0 end has next.2)
     ]
 
 -- ---- all lines
@@ -144,13 +166,13 @@ begins [] end e = inl (sym (some_is nothing end e))
 begins (line ∷ lines) end e =
     elim (kept_cases (fields_of line)) [
       | inl over ↦
-        elim (begins lines end (sym (give-passed nothing line lines over) ∙ e)) [
-          | inl none ↦ inl none
-          | inr h ↦ inr (record { header = h.header; rest = h.rest; first = kept-passed line lines over ∙ h.first; is = h.is; gives = h.gives })
-        ]
+          elim (begins lines end (sym (give-passed nothing line lines over) ∙ e)) [
+            | inl none ↦ inl none
+            | inr h ↦ inr (record { header = h.header; rest = h.rest; first = kept-passed line lines over ∙ h.first; is = h.is; gives = h.gives })
+          ]
       | inr here ↦
-        let next = bind_some (with_line nothing line) (λ next. lines_give next lines) end e in
-        inr (begins_step next.0 end line lines (kept-kept line lines here) (kept_step nothing line next.0 here next.1) next.2)
+          let next = bind_some (with_line nothing line) (λ next. lines_give next lines) end e in
+          inr (begins_step next.0 end line lines (kept-kept line lines here) (kept_step nothing line next.0 here next.1) next.2)
     ]
 
 -- what comes of all lines, where it has a process, is what they spell
@@ -160,15 +182,17 @@ lines_take lines end some e =
     elim (begins lines end e) [
       | inl none ↦ absurd (omega (arith, ap (λ (p : Part). length p.processes) none))
       | inr b ↦
-        let h = adds b.rest begin end refl b.gives in
-        record {
-          header = b.header; process_lines = h.process_lines; item_lines = h.item_lines;
-          in_order = b.first ∙ ap (λ (ls : List (List (List ℕ))). b.header ∷ ls) h.in_order;
-          begins = b.is;
-          processes = subst (AllZip IsProcessLine h.process_lines) (sym h.processes_are) h.processes;
-          items = subst (AllZip IsItemLine h.item_lines) (sym h.items_are) h.items;
-          formed = record { some = omega arith; most = range.most; lines = range.lines; names = range.names; items = range.items };
-        }
+          let h = adds b.rest begin end refl b.gives in
+          record {
+            header = b.header;
+            process_lines = h.process_lines;
+            item_lines = h.item_lines;
+            in_order = b.first ∙ ap (λ (ls : List (List (List ℕ))). b.header ∷ ls) h.in_order;
+            begins = b.is;
+            processes = subst (AllZip IsProcessLine h.process_lines) (sym h.processes_are) h.processes;
+            items = subst (AllZip IsItemLine h.item_lines) (sym h.items_are) h.items;
+            formed = record { some = omega arith; most = range.most; lines = range.lines; names = range.names; items = range.items };
+          }
     ]
 
 -- ---- what is spelled comes of the lines
@@ -188,9 +212,9 @@ give-kept (line ∷ lines) part =
     elim (kept_cases (fields_of line)) [
       | inl over ↦ give-passed part line lines over ∙ give-kept lines part ∙ ap (fields_give part) (sym (kept-passed line lines over))
       | inr here ↦
-        ap (λ (o : Option Part). o >>= λ next. lines_give next lines) (line_is part line)
-        ∙ same_next (with_line_of part (fields_of line)) (λ next. lines_give next lines) (λ next. fields_give next (lines_kept lines)) (λ next. give-kept lines next)
-        ∙ ap (fields_give part) (sym (kept-kept line lines here))
+          ap (λ (o : Option Part). o >>= λ next. lines_give next lines) (line_is part line)
+          ∙ same_next (with_line_of part (fields_of line)) (λ next. lines_give next lines) (λ next. fields_give next (lines_kept lines)) (λ next. give-kept lines next)
+          ∙ ap (fields_give part) (sym (kept-kept line lines here))
     ]
 
 give-append : (a b : List (List (List ℕ))) (part mid : Part) → fields_give part a ≡ Some mid → fields_give part (a ++ b) ≡ fields_give mid b

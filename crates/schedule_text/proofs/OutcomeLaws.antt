@@ -1,10 +1,9 @@
 -- What reading gives, and what the grammar says of the same lines.
-use Rattle.std.proofs.Common.{◌≡◌, ℕ, zero, suc, ◌+◌, ◌-◌, ◌<◌, ◌≤◌, ◌⊎◌, Bool, true, false, cond, ltb, leb, List, [], ◌∷◌, ◌++◌, length, take, drop, Option, Some, None, Result, Ok, Err, refl, sym, ap, subst, ◌∙◌, arith, inl, inr, append_assoc, take-take}
+use Rattle.std.proofs.Common.{◌≡◌, ℕ, zero, suc, ◌+◌, ◌-◌, ◌<◌, ◌≤◌, ◌⊎◌, Bool, true, false, ltb, leb, List, [], ◌∷◌, ◌++◌, length, take, drop, Option, Some, None, Result, Ok, Err, refl, sym, ap, subst, ◌∙◌, arith, inl, inr, append_assoc, take-take}
 use Rattle.std.specs.Prelude.{codes, All}
-use Rattle.std.specs.Option.{option_map_or}
-use Rattle.std.proofs.lemmas.Bool.{cases_Bool, cases_lt, ltb-true, ltb-false, leb-true, leb-false, lt-ltb, le-leb, lt-leb}
+use Rattle.std.proofs.lemmas.Bool.{cases_Bool, cases_lt, ltb-true, ltb-false, leb-true, leb-false}
 use Rattle.std.proofs.Math.Seq.{take-length}
-use Rattle.std.proofs.lemmas.List.{length-append, append-nil, nil_from_length, take-append-drop}
+use Rattle.std.proofs.lemmas.List.{nil_from_length, take-append-drop}
 use Rattle.fri_text.specs.Line.{lines_of, line_at}
 use Rattle.fri_text.proofs.Lines.{lines_of_none, lines_of_some}
 use Rattle.schedule_text.specs.declared.item.Item.{Item}
@@ -37,13 +36,13 @@ unfolding whole_of
 came_end number part =
     elim (cases_Bool (ltb 0 (length part.processes))) [
       | inl some ↦
-        elim (cases_Bool (leb (run_count part.items) MOST_RUNS)) [
-          | inl few ↦ rw (some, few) (whole part refl (ltb-true 0 (length part.processes) some) (leb-true (run_count part.items) MOST_RUNS few))
-          | inr many ↦ rw (some, many) (over part refl (ltb-true 0 (length part.processes) some) (leb-false (run_count part.items) MOST_RUNS many))
-        ]
+          elim (cases_Bool (leb (run_count part.items) MOST_RUNS)) [
+            | inl few ↦ rw (some, few) (whole part refl (ltb-true 0 (length part.processes) some) (leb-true (run_count part.items) MOST_RUNS few))
+            | inr many ↦ rw (some, many) (over part refl (ltb-true 0 (length part.processes) some) (leb-false (run_count part.items) MOST_RUNS many))
+          ]
       | inr none ↦
-        rw none (subst (λ (n : ℕ). Came part [] number (Err (BadLineAt n))) (let e : number + 0 ≡ number = omega arith in e)
-        (stops 0 (record { within = omega arith; mid = part; gives = refl; bad = λ lt. absurd (omega arith); unfinished = λ _. omega (arith, ltb-false 0 (length part.processes) none) })))
+          rw none (subst (λ (n : ℕ). Came part [] number (Err (BadLineAt n))) (let e : number + 0 ≡ number = omega arith in e)
+          (stops 0 (record { within = omega arith; mid = part; gives = refl; bad = λ lt. absurd (omega arith); unfinished = λ _. omega (arith, ltb-false 0 (length part.processes) none) })))
     ]
 
 after_line : (part next : Part) (line : List ℕ) (lines : List (List ℕ)) → with_line part line ≡ Some next → lines_give part (line ∷ lines) ≡ lines_give next lines
@@ -139,8 +138,8 @@ begins_of lines mid e =
     elim (cases_Bool (ltb 0 (length mid.processes))) [
       | inl some ↦ goes_on lines [] mid mid e refl (ltb-true 0 (length mid.processes) some)
       | inr none ↦
-        let none : length mid.processes ≡ 0 = omega (arith, ltb-false 0 (length mid.processes) none) in
-        begins_empty lines mid.has_header (e ∙ ap (λ (p : Part). Some p) (empty_part mid (all_keep lines nothing mid nothing_is e) none))
+          let none : length mid.processes ≡ 0 = omega (arith, ltb-false 0 (length mid.processes) none) in
+          begins_empty lines mid.has_header (e ∙ ap (λ (p : Part). Some p) (empty_part mid (all_keep lines nothing mid nothing_is e) none))
     ]
 
 -- lines that aren't allowed begin none
@@ -157,15 +156,15 @@ stopped_unfinished lines good s h spelled =
     let all = lines_again lines s spelled in
     elim (cases_lt good (length lines)) [
       | inl there ↦
-        let mid = front_lines (take (suc good) lines) (drop (suc good) lines) nothing (having s.processes s.items) (ap (lines_give nothing) (take-append-drop (suc good) lines) ∙ all) in
-        let no = h.bad there in
-        let yes = mid.1 in
-        cc
+          let mid = front_lines (take (suc good) lines) (drop (suc good) lines) nothing (having s.processes s.items) (ap (lines_give nothing) (take-append-drop (suc good) lines) ∙ all) in
+          let no = h.bad there in
+          let yes = mid.1 in
+          cc
       | inr behind ↦
-        let end : good ≡ length lines = omega (arith, h.within) in
-        let every : take good lines ≡ lines = ap (λ (n : ℕ). take n lines) end ∙ take-length lines in
-        let same : h.mid ≡ having s.processes s.items = some_is h.mid (having s.processes s.items) (sym h.gives ∙ ap (lines_give nothing) every ∙ all) in
-        omega (arith, ap (λ (p : Part). length p.processes) same, h.unfinished end, spelled.formed.some)
+          let end : good ≡ length lines = omega (arith, h.within) in
+          let every : take good lines ≡ lines = ap (λ (n : ℕ). take n lines) end ∙ take-length lines in
+          let same : h.mid ≡ having s.processes s.items = some_is h.mid (having s.processes s.items) (sym h.gives ∙ ap (lines_give nothing) every ∙ all) in
+          omega (arith, ap (λ (p : Part). length p.processes) same, h.unfinished end, spelled.formed.some)
     ]
 
 pub first_bad : (lines : List (List ℕ)) (good : ℕ) → Stops nothing lines good → IsFirstBad lines (1 + good)

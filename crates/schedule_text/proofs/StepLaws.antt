@@ -1,10 +1,10 @@
 -- One more line: what it may be, and that what has come stays in range.
-use Rattle.std.proofs.Common.{◌≡◌, ◌≢◌, ℕ, zero, suc, ◌+◌, ◌<◌, ◌≤◌, ◌⊎◌, Bool, true, false, cond, ◌&&◌, ◌||◌, not, ltb, leb, List, [], ◌∷◌, ◌++◌, length, get_or, Option, Some, None, refl, sym, ap, subst, ◌∙◌, arith, inl, inr}
-use Rattle.std.specs.Prelude.{codes, filter, map, option_map, All, AllPairs}
+use Rattle.std.proofs.Common.{◌≡◌, ◌≢◌, ℕ, zero, suc, ◌<◌, ◌≤◌, ◌⊎◌, Bool, true, false, cond, ◌||◌, ltb, leb, List, [], ◌∷◌, ◌++◌, length, get_or, Option, Some, None, refl, sym, ap, subst, ◌∙◌, arith, inl, inr}
+use Rattle.std.specs.Prelude.{codes, option_map, All, AllPairs}
 use Rattle.std.specs.List.{list_any}
 use Rattle.std.specs.Str.{bytes_eq}
 use Rattle.std.proofs.lemmas.Bool.{cases_Bool, lt-ltb, leb-false, or_parts, or_from}
-use Rattle.std.proofs.lemmas.List.{length-append, nil_from_length}
+use Rattle.std.proofs.lemmas.List.{length-append}
 use Rattle.std.proofs.lemmas.List.Elements.{All-push}
 use Rattle.std.proofs.lemmas.List.Quantifiers.{all_pairs_push}
 use Rattle.schedule_text.specs.declared.item.Item.{Item}
@@ -12,7 +12,7 @@ use Rattle.schedule_text.specs.declared.limits.TheConstants.{MOST_PROCESSES}
 use Rattle.schedule_text.specs.declared.process.ProcessLine.{ProcessLine}
 use Rattle.schedule_text.specs.Fields.{fields_of, is_comment, is_passed_over}
 use Rattle.schedule_text.specs.Grammar.{IsHeader, IsProcessLine, IsItemLine, lines_kept}
-use Rattle.schedule_text.specs.Reading.{◌>>=◌, Part, nothing, is_header, process_line_of, item_of, with_process, with_item, with_fields, with_line_of, with_line}
+use Rattle.schedule_text.specs.Reading.{Part, nothing, is_header, process_line_of, item_of, with_process, with_item, with_fields, with_line_of, with_line}
 use Rattle.schedule_text.specs.Schedule.{IsInRange, IsProcess}
 use Rattle.schedule_text.proofs.ItemLaws.{is_word, same_word, item_takes, process_line_takes, header_takes}
 use Rattle.schedule_text.proofs.WordLaws.{bind_some, kept, passed}
@@ -124,11 +124,11 @@ unfolding with_fields
 step_of part word fields next e =
     elim (cases_Bool part.has_header) [
       | inl begun ↦
-        let after = at_true part.has_header _ _ (Some next) begun e in
-        elim (cases_Bool (bytes_eq word (codes "process"))) [
-          | inl is ↦ process_step part word fields next begun (is_word word (codes "process") is) (at_true _ _ _ (Some next) is after)
-          | inr other ↦ item_step part word fields next begun (at_false _ _ _ (Some next) other after)
-        ]
+          let after = at_true part.has_header _ _ (Some next) begun e in
+          elim (cases_Bool (bytes_eq word (codes "process"))) [
+            | inl is ↦ process_step part word fields next begun (is_word word (codes "process") is) (at_true _ _ _ (Some next) is after)
+            | inr other ↦ item_step part word fields next begun (at_false _ _ _ (Some next) other after)
+          ]
       | inr before ↦ header_step part word fields next before (at_false part.has_header _ _ (Some next) before e)
     ]
 

@@ -1,6 +1,6 @@
 -- Numbers and names of fields: what is read is written so, and what is written so is read.
-use Rattle.std.proofs.Common.{◌≡◌, ℕ, zero, suc, ◌+◌, ◌-◌, ◌^◌, ◌<◌, ◌⊎◌, subst, ◌≤◌, Bool, true, false, cond, eqb, ltb, leb, List, [], ◌∷◌, length, Option, Some, None, Result, Ok, Err, refl, sym, ap, ◌∙◌, arith, inl, inr, ℤ, pos, negsuc}
-use Rattle.std.specs.Prelude.{codes, FitsSigned}
+use Rattle.std.proofs.Common.{◌≡◌, ℕ, ◌-◌, ◌^◌, ◌<◌, ◌⊎◌, subst, ◌≤◌, Bool, true, false, cond, eqb, ltb, leb, List, [], ◌∷◌, Option, Some, None, Ok, Err, refl, sym, ap, ◌∙◌, arith, inl, inr, ℤ, pos, negsuc}
+use Rattle.std.specs.Prelude.{FitsSigned}
 use Rattle.std.specs.Int.{w64}
 use Rattle.std.specs.Result.{result_ok}
 use Rattle.std.proofs.lemmas.Bool.{cases_Bool, ne_eqb, eqb-false, leb-true, le-leb, ltb-true, lt-ltb}
@@ -10,7 +10,7 @@ use Rattle.fri_text.specs.declared.error.TextError.TheVariants.{TooGreat}
 use Rattle.schedule_text.specs.declared.limits.TheConstants.{MOST_TIMES}
 use Rattle.schedule_text.specs.Fields.{field_at, last_of}
 use Rattle.schedule_text.specs.Grammar.{IsNumber, IsSignedNumber}
-use Rattle.schedule_text.specs.Reading.{◌>>=◌, number_of, process_of, times_of}
+use Rattle.schedule_text.specs.Reading.{◌>>=◌, number_of, process_number_of, times_of}
 
 -- ---- steps that give something
 
@@ -53,13 +53,13 @@ number_takes most word n e = up_to_takes most (decimal_of word) n e
 pub number_again : (most : ℕ) (word : List ℕ) (n : ℕ) → IsNumber word n → n ≤ most → number_of most word ≡ Some n
 number_again most word n is small = ap (λ (o : Option ℕ). result_ok (up_to most o)) is ∙ rw (le-leb n most small) refl
 
-pub process_takes : (processes : ℕ) (word : List ℕ) (n : ℕ) → process_of processes word ≡ Some n → IsNumber word n × (n < processes)
+pub process_takes : (processes : ℕ) (word : List ℕ) (n : ℕ) → process_number_of processes word ≡ Some n → IsNumber word n × (n < processes)
 process_takes processes word n e =
     let some = passed (eqb processes 0) _ n e in
     let number = number_takes (processes - 1) word n some.1 in
     (number.0, omega (arith, number.1, eqb-false processes 0 some.0))
 
-pub process_again : (processes : ℕ) (word : List ℕ) (n : ℕ) → IsNumber word n → n < processes → process_of processes word ≡ Some n
+pub process_again : (processes : ℕ) (word : List ℕ) (n : ℕ) → IsNumber word n → n < processes → process_number_of processes word ≡ Some n
 process_again processes word n is below =
     let some : eqb processes 0 ≡ false = ne_eqb processes 0 (λ e. omega arith) in
     rw some (number_again (processes - 1) word n is (omega arith))
@@ -70,8 +70,8 @@ held : (m : ℕ) (y z : ℤ) → (m < 2 ^ 63 → FitsSigned w64 y) → result_ok
 held m y z fits e =
     elim (cases_Bool (ltb m (2 ^ 63))) [
       | inl small ↦
-        let same : y ≡ z = (let there = rw small at e in cc) in
-        (ap (λ (x : ℤ). Some x) same, subst (λ (x : ℤ). FitsSigned w64 x) same (fits (ltb-true m (2 ^ 63) small)))
+          let same : y ≡ z = (let there = rw small at e in cc) in
+          (ap (λ (x : ℤ). Some x) same, subst (λ (x : ℤ). FitsSigned w64 x) same (fits (ltb-true m (2 ^ 63) small)))
       | inr great ↦ absurd (let nothing = rw great at e in cc)
     ]
 

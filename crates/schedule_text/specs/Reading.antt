@@ -32,8 +32,8 @@ abbrev pub number_of : ℕ → List ℕ → Option ℕ
 number_of most word = result_ok (up_to most (decimal_of word))
 
 -- the number of a process, of which there are so many
-abbrev pub process_of : ℕ → List ℕ → Option ℕ
-process_of processes word = if processes == 0 then None else number_of (processes - 1) word
+abbrev pub process_number_of : ℕ → List ℕ → Option ℕ
+process_number_of processes word = if processes == 0 then None else number_of (processes - 1) word
 
 -- the fields after P and T: how often is tried
 abbrev pub times_of : List (List ℕ) → Option ℕ
@@ -59,7 +59,7 @@ process_line_of fields = do
 unfoldable pub run_of : ℕ → List (List ℕ) → Option Item
 run_of processes fields = do
   p ← field_at fields
-  process ← process_of processes p.0
+  process ← process_number_of processes p.0
   t ← field_at p.1
   thread ← number_of MOST_THREAD t.0
   times ← times_of t.1
@@ -69,7 +69,7 @@ run_of processes fields = do
 unfoldable pub clock_of : ℕ → List (List ℕ) → Option Item
 clock_of processes fields = do
   p ← field_at fields
-  process ← process_of processes p.0
+  process ← process_number_of processes p.0
   v ← last_of p.1
   value ← result_ok (within_i64 (signed_of v))
   Some (Clock process value)

@@ -4,7 +4,8 @@ ghost use Rattle.std.specs.List.{list_any};
 ghost use Rattle.std.specs.Str.{bytes_eq};
 ghost use Rattle.schedule_text.specs.Outcome.{Ends};
 ghost use Rattle.schedule_text.specs.Schedule.{IsSchedule, run_count};
-ghost use Rattle.schedule_text.specs.Reading.{Takes, schedule_part, whole_of, nothing, is_header as is_header_line, with_process, with_item, with_fields, with_line};
+ghost use Rattle.schedule_text.specs.Reading.{Takes, nothing, schedule_part, whole_of, is_header as is_header_line};
+ghost use Rattle.schedule_text.specs.Reading.{with_line, with_fields, with_process, with_item};
 
 use crate::error::ScheduleError;
 use crate::fields::Fields;
@@ -60,6 +61,7 @@ impl Draft {
         }
     }
 
+    /// Takes a line with this first word, which begins no comment, and these fields after it.
     #[tactic(auto, unfolding(crate::specs::Reading::with_fields))]
     fn take_fields(
         &mut self,
@@ -80,6 +82,7 @@ impl Draft {
         }
     }
 
+    /// Takes a line with these fields after the word `process`.
     #[tactic(auto, unfolding(crate::specs::Reading::with_process))]
     fn take_process(&mut self, alloc: Global, fields: &mut Fields) -> Result<bool, AllocError>
         ensures { Takes result self.new (with_process self.old fields.old) }
@@ -97,6 +100,7 @@ impl Draft {
         Ok(true)
     }
 
+    /// Takes an item.
     #[tactic(auto, unfolding(crate::specs::Reading::with_item))]
     fn take_item(&mut self, word: &[u8], fields: &mut Fields) -> Result<bool, AllocError>
         ensures { Takes result self.new (with_item self.old word.now fields.old) }
@@ -138,12 +142,11 @@ fn is_header(word: &[u8], fields: &mut Fields) -> bool
     matches!(word, b"friday") && matches!(fields.last_field(), Some(b"1"))
 }
 
+/// Whether a process has this name.
 fn has_name(processes: &[ProcessLine], name: &[u8]) -> bool
     ensures { result ≡ list_any (λ other. bytes_eq other.name name.now) processes.now }
 {
-    processes
-        .iter()
-        .any(|other| other.name.as_slice() == name)
+    processes.iter().any(|other| other.name.as_slice() == name)
 }
 
 /// Whether the run items, repeats counted, are at most `MOST_RUNS`.

@@ -11,14 +11,18 @@ use fri_text::read_signed;
 /// What happens next in a group. Processes are numbered from 0 in the order of their lines.
 #[derive(Debug, PartialEq, Eq, Drop)]
 pub enum Item {
-    /// So many tries, each by itself, to run the thread of the process.
+    /// `times` tries, each by itself, to make an event of the thread. The thread is 0 to `MOST_THREAD`,
+    /// and the tries are 1 to `MOST_TIMES`.
     Run {
         process: u32,
         thread: u16,
         times: u32,
     },
-    /// The wall time of the process.
-    Clock { process: u32, value: i64 },
+    /// The wall time of the process is now `value`.
+    Clock {
+        process: u32,
+        value: i64,
+    },
 }
 
 impl Item {

@@ -4,21 +4,18 @@ ghost use Rattle.schedule_text.specs.Laws.{SpellOne, SpellOrBad, NeverBoth, OneB
 /// Bytes spell at most one schedule.
 pub fn one_schedule()
     ensures { SpellOne }
-{
-}
+{}
 
 /// Bytes either spell a schedule or have a bad line, and one line is the first bad one.
 pub fn spelled_or_bad()
     ensures either { SpellOrBad }
     ensures never_both { NeverBoth }
     ensures one_line { OneBadLine }
-{
-}
+{}
 
 /// The outcome that `schedule_of` computes is the one that the grammar gives.
 pub fn exact_outcome()
     ensures schedules { GivesSchedules }
     ensures more { RefusesMore }
     ensures bad_line { NamesBadLine }
-{
-}
+{}

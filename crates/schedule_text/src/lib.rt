@@ -1,4 +1,17 @@
 //! Schedules: the text that says which processes a group has and what happens to them, in order.
+//!
+//! A schedule is text in lines. A line ends with a line feed or with the text, and one carriage return
+//! before its end is dropped. Its fields are separated by spaces and tabs. A line with no field, or whose
+//! first field begins with `#`, is passed over. The others are, in this order:
+//!
+//! - the header `friday 1`, as it stands here;
+//! - 1 to `MOST_PROCESSES` lines `process NAME MODULE`, with distinct names; the processes are numbered
+//!   from 0;
+//! - any number of items, each `run P T` (one try), `run P T N` (N tries) or `clock P V`.
+//!
+//! P is the number of a process, T is 0 to `MOST_THREAD`, N is 1 to `MOST_TIMES`, and V is a signed
+//! number of 64 bits. Numbers are written in decimal digits, with any zeros in front; a negative V has
+//! one minus. `ProcessLine` says what NAME and MODULE may be.
 #![tactic(auto)]
 
 mod draft;
@@ -10,6 +23,8 @@ mod limits;
 mod process;
 mod read;
 mod schedule;
+#[cfg(test)]
+mod tests;
 mod word;
 
 pub use error::ScheduleError;

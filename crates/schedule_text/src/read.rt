@@ -13,19 +13,22 @@ use fri_bytes::Cursor;
 use fri_text::next_line;
 use std::alloc::Global;
 
-/// The schedule that the bytes spell.
+/// The schedule that the bytes spell. A bad line anywhere comes before too many run items.
 pub fn read_schedule(alloc: Global, bytes: &[u8]) -> Result<Schedule, ScheduleError>
     ensures exact { Answers result (schedule_of bytes.now) }
 
     // What is answered is so.
     ensures found { IfOk result (λ s. Spells bytes.now s × IsSchedule s) }
     ensures bad_line { (n : ℕ) → IsErrOf result (ScheduleError.BadLine n) → BadAt bytes.now n }
-    ensures too_many { IsErrOf result ScheduleError.TooMany → (s : Seen) × Spells bytes.now s × (MOST_RUNS < run_count s.items) }
+    ensures too_many { IsErrOf result ScheduleError.TooMany →
+        (s : Seen) × Spells bytes.now s × (MOST_RUNS < run_count s.items) }
 
     // What is so is answered, unless memory runs out.
-    ensures spelled { (s : Seen) → Spells bytes.now s → run_count s.items ≤ MOST_RUNS → Answers result (Ok s) }
+    ensures spelled { (s : Seen) → Spells bytes.now s → run_count s.items ≤ MOST_RUNS →
+        Answers result (Ok s) }
     ensures bad { (n : ℕ) → BadAt bytes.now n → Answers result (Err (BadLineAt n)) }
-    ensures over { (s : Seen) → Spells bytes.now s → MOST_RUNS < run_count s.items → Answers result (Err TooManyRuns) }
+    ensures over { (s : Seen) → Spells bytes.now s → MOST_RUNS < run_count s.items →
+        Answers result (Err TooManyRuns) }
 {
     read_whole(alloc, bytes)
 }
@@ -37,7 +40,7 @@ fn read_whole(alloc: Global, bytes: &[u8]) -> Result<Schedule, ScheduleError>
     Ok(draft.into_schedule())
 }
 
-/// What all lines give.
+/// What comes of all lines.
 fn read_lines(alloc: Global, bytes: &[u8]) -> Result<Draft, ScheduleError>
     ensures { Reads result (schedule_of bytes.now) }
 {

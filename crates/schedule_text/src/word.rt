@@ -1,7 +1,7 @@
 // The numbers and names that the fields of a line write.
 ghost use Rattle.std.specs.Prelude.{◌≡◌, ◌≤◌, IfSome};
 ghost use Rattle.std.specs.List.{list_all};
-ghost use Rattle.schedule_text.specs.Reading.{number_of, process_of, times_of};
+ghost use Rattle.schedule_text.specs.Reading.{number_of, process_number_of, times_of};
 ghost use Rattle.schedule_text.specs.Schedule.{is_module_name as is_module_word, is_visible};
 
 use crate::fields::Fields;
@@ -19,7 +19,7 @@ pub(crate) fn number(word: &[u8], most: u32) -> Option<u32>
 
 /// The number of a process that the word writes, where there are so many processes.
 pub(crate) fn process_number(word: &[u8], processes: u32) -> Option<u32>
-    ensures { result ≡ process_of processes word.now }
+    ensures { result ≡ process_number_of processes word.now }
 {
     let last = processes.checked_sub(1)?;
     number(word, last)

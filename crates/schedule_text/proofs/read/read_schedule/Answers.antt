@@ -1,4 +1,4 @@
-use Rattle.std.proofs.Common.{◌≡◌, ℕ, ◌<◌, List, Result, Ok, Err, subst}
+use Rattle.std.proofs.Common.{ℕ, ◌<◌, List, Result, Ok, Err, subst}
 use Rattle.std.specs.Prelude.{IfOk, IsErrOf}
 use Rattle.schedule_text.specs.declared.error.ScheduleError.{ScheduleError}
 use Rattle.schedule_text.specs.declared.error.ScheduleError.TheVariants as errors
