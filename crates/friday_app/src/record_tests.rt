@@ -17,12 +17,17 @@ fn with_schedule(alloc: Global, schedule: &[u8]) -> Result<MemFiles, AllocError>
     Ok(files)
 }
 
-// The log, where `now` was answered this time.
-fn log_at(time: i64) -> [u8; 98] {
-    let mut log = LOG;
-    log[58..66].copy_from_slice(&time.to_le_bytes());
-    log[82..90].copy_from_slice(&time.to_le_bytes());
-    log
+// The log where `now` was answered this time, or where there is no event.
+fn log_at(alloc: Global, time: Option<i64>) -> Result<Vec<u8>, AllocError> {
+    match time {
+        None => LOG[..HEAD].to_vec(alloc),
+        Some(time) => {
+            let mut log = LOG;
+            log[58..66].copy_from_slice(&time.to_le_bytes());
+            log[82..90].copy_from_slice(&time.to_le_bytes());
+            log.to_vec(alloc)
+        }
+    }
 }
 
 #[test]
@@ -66,14 +71,17 @@ fn recorded_and_replayed(rt: HostRuntime) -> Result<(), Fail> {
             got.text.as_slice(),
             format!(in alloc; "a: {text}\n")?.as_bytes()
         );
-        let log = log_at(time.unwrap_or(0));
-        let (log, line) = if time.is_some() {
-            (log.as_slice(), "3 events, finished")
-        } else {
-            (&log[..HEAD], "0 events, running")
-        };
-        assert_eq!(rt; files.bytes("a.log").unwrap_or(b""), log, "{items}");
+        let log = log_at(alloc, time)?;
+        assert_eq!(rt;
+            files.bytes("a.log").unwrap_or(b""),
+            log.as_slice(),
+            "{items}"
+        );
 
+        let line = match time {
+            None => "0 events, running",
+            Some(_) => "3 events, finished",
+        };
         let again = call(alloc, "replay a.wasm a.log", &mut files)?;
         assert_eq!(rt; again.status, Status::Done, "{items}");
         assert_eq!(rt;
