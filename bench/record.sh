@@ -1,5 +1,5 @@
 #!/bin/sh
-# Records from schedules of comment lines, of idle tries in one item, and of idle tries with an item for each,
+# Records from schedules of comment lines, of idle tries in one item, and of idle tries in an item each,
 # at a tenth of the limit and at the limit: 16,777,216 bytes, 1,000,000 tries. Prints the time and the
 # instructions per byte or per try, and the peak memory.
 # Usage: bench/record.sh [PROGRAM]   (the program that ./friday builds, if none is given)
@@ -68,5 +68,6 @@ with tempfile.TemporaryDirectory() as folder:
         for count, times in ((size // 10, 20), (size, 10)):
             spent, peak, told = run(folder, write, count, times)
             each = "-" if told is None else "%.3f" % ((told - at_start) / count)
-            print("%-22s %10d %10.4f %10.3f %12d %16s" % (what, count, spent, (spent - empty) * 1e9 / count, peak, each))
+            nanoseconds = (spent - empty) * 1e9 / count
+            print("%-22s %10d %10.4f %10.3f %12d %16s" % (what, count, spent, nanoseconds, peak, each))
 PYTHON
