@@ -24,4 +24,8 @@ pub use status::Status;
 pub use top::friday;
 
 #[cfg(test)]
+mod record_tests;
+#[cfg(test)]
+mod sample;
+#[cfg(test)]
 mod tests;
