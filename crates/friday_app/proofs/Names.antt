@@ -28,4 +28,4 @@ visible_small b h = grind (arith, nat_tests)
 pub module_utf8 : (name : List ℕ) → IsTrue (is_module_name name) → IsUtf8 name
 module_utf8 name h =
     IsUtf8-from_ascii name (all_small is_visible visible_small name
-        (and_parts _ _ (and_parts _ _ (and_parts _ _ (and_parts _ _ h).0).0).0).1)
+    (and_parts _ _ (and_parts _ _ (and_parts _ _ (and_parts _ _ h).0).0).0).1)

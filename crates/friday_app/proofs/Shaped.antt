@@ -12,17 +12,35 @@ plain_entry clock call reply = record { clock = clock; thread = 0; signal = 0; c
 pub plain_shaped : (clock reply : ℕ) (call : Call) → clock < 2 ^ 64 → reply < 2 ^ 64 → IsBuiltCall call → IsShaped (plain_entry clock call reply)
 unfolding is_built argument_count has_outgoing has_incoming has_tag
 plain_shaped clock reply _ c r IsBegin = record {
-  built = refl; clock = c; thread = lit< tt; signal = lit< tt;
+  built = refl;
+  clock = c;
+  thread = lit< tt;
+  signal = lit< tt;
   arguments = record { first = refl; second = refl; third = refl };
-  reply = r; outgoing = refl; incoming = refl; tag = refl;
+  reply = r;
+  outgoing = refl;
+  incoming = refl;
+  tag = refl;
 }
 plain_shaped clock reply _ c r IsNow = record {
-  built = refl; clock = c; thread = lit< tt; signal = lit< tt;
+  built = refl;
+  clock = c;
+  thread = lit< tt;
+  signal = lit< tt;
   arguments = record { first = refl; second = refl; third = refl };
-  reply = r; outgoing = refl; incoming = refl; tag = refl;
+  reply = r;
+  outgoing = refl;
+  incoming = refl;
+  tag = refl;
 }
 plain_shaped clock reply _ c r (IsNote value small) = record {
-  built = refl; clock = c; thread = lit< tt; signal = lit< tt;
+  built = refl;
+  clock = c;
+  thread = lit< tt;
+  signal = lit< tt;
   arguments = record { first = small; second = refl; third = refl };
-  reply = r; outgoing = refl; incoming = refl; tag = refl;
+  reply = r;
+  outgoing = refl;
+  incoming = refl;
+  tag = refl;
 }

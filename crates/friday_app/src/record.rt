@@ -29,11 +29,7 @@ fn process_of(schedule: &Schedule) -> &ProcessLine
 }
 
 // What is to be printed and written. No file has changed.
-fn gather<F: Files>(
-    alloc: Global,
-    schedule_file: &str,
-    files: &mut F,
-) -> Result<Recorded, Refusal>
+fn gather<F: Files>(alloc: Global, schedule_file: &str, files: &mut F) -> Result<Recorded, Refusal>
     ensures answer { WhenTold (F.told files.old) (λ store. MatchResult result
         (λ recorded. DoesWork recorded (record_outcome schedule_file.now store))
         (StopsAs (record_outcome schedule_file.now store))) }

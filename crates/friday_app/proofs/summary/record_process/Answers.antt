@@ -13,7 +13,7 @@ returns-clause-work c =
     let keeps = c.in_ok-perform_all.ensures c.args.name.now first nothing_yet c.in_ok-recorder.ensures in
     let line = c.in_ok-push_process.ensures ∙ ap (λ t. t ++ process_line c.args.name.now done.events c.is_active.result) c.new-text.ensures ∙ ap (process_line c.args.name.now done.events) c.is_active.ensures in
     told_work c.args.name.now (trees c.args.body.now) (run first c.args.items.now) done _ keeps
-        (c.in_ok-push_items.ensures ∙ ap (λ t. t ++ items_line done.acted done.idle) line) c.in_ok-log_name.ensures refl
+    (c.in_ok-push_items.ensures ∙ ap (λ t. t ++ items_line done.acted done.idle) line) c.in_ok-log_name.ensures refl
 
 pub returns-clause-recorded : goal.returns-clause-recorded
 returns-clause-recorded c =
