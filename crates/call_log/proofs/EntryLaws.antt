@@ -1,0 +1,272 @@
+-- An entry stands at the front of some bytes exactly where `entry_at` gives one.
+use Rattle.std.proofs.Common.{append_assoc, nat_eq, ◌≡◌, ℕ, ◌<◌, ◌≤◌, true, leb, List, [], ◌∷◌, ◌++◌, length, drop, slice_index, Option, Some, None, refl, sym, ap, ◌∙◌, subst, arith}
+use Rattle.std.specs.Int.{w16, w32, w64, to_le_bytes}
+use Rattle.std.specs.List.{starts_with}
+use Rattle.std.proofs.lemmas.Bool.{leb-true}
+use Rattle.std.proofs.lemmas.Bool.Decides.{Decides-eqb}
+use Rattle.std.proofs.lemmas.Slice.Eq.{starts_is}
+use Rattle.std.proofs.lemmas.List.{drop_at, nil_from_length}
+use Rattle.std.proofs.lemmas.Option.{cond_some, same_Some, some_pair_parts}
+use Rattle.fri_bytes.specs.Reading.{byte_at, piece_at, le_at}
+use Rattle.fri_bytes.proofs.Readers.{bind_some, front_in_range, piece_reads}
+use Rattle.call_log.specs.Kind.{is_built, has_outgoing, has_incoming, has_tag}
+use Rattle.call_log.specs.Entry.{Entry, IsShaped, BeginsNoEntry, body, encoding, argument_bytes, string_if, tag_if}
+use Rattle.call_log.specs.Reading.{read_entry, body_at, call_at, string_if_at, tag_if_at}
+use Rattle.call_log.specs.Log.{entry_at, entry_in}
+use Rattle.call_log.proofs.Sizes.{length-body_lt}
+use Rattle.call_log.proofs.Shapes.{and_true, both_true, is_shaped-from, shaped_from_test}
+use Rattle.call_log.proofs.FieldLaws.{AreBytes, bytes_after, onto, next, when_true, kept, number_field, byte_field, string_if_field, tag_if_field, call_at-kind, call_field}
+
+at_most_none : (n : ℕ) → leb n 0 ≡ true → n ≡ 0
+at_most_none n h = let few : n ≤ 0 = leb-true n 0 h in omega arith
+
+-- the fields of an entry of the kind were read one after the other, and nothing is left
+record Steps (kind : ℕ) (bytes : List ℕ) (e : Entry) : Type 0 where
+  kind_is : e.call.kind ≡ kind
+  after_clock : List ℕ
+  after_thread : List ℕ
+  after_kind : List ℕ
+  after_signal : List ℕ
+  after_call : List ℕ
+  after_reply : List ℕ
+  after_outgoing : List ℕ
+  after_incoming : List ℕ
+  clock : le_at w64 bytes ≡ Some (e.clock, after_clock)
+  thread : le_at w16 after_clock ≡ Some (e.thread, after_thread)
+  number : byte_at after_thread ≡ Some (kind, after_kind)
+  signal : byte_at after_kind ≡ Some (e.signal, after_signal)
+  built : is_built kind ≡ true
+  call : call_at kind after_signal ≡ Some (e.call, after_call)
+  reply : le_at w64 after_call ≡ Some (e.reply, after_reply)
+  outgoing : string_if_at (has_outgoing kind) after_reply ≡ Some (e.outgoing, after_outgoing)
+  incoming : string_if_at (has_incoming kind) after_outgoing ≡ Some (e.incoming, after_incoming)
+  tag : tag_if_at (has_tag kind) after_incoming ≡ Some (e.tag, [])
+
+body_at-from : (kind : ℕ) (bytes : List ℕ) (e : Entry) → Steps kind bytes e → body_at bytes ≡ Some e
+unfolding body_at
+body_at-from kind bytes e h =
+    next _ _ (e.clock, h.after_clock) _ h.clock (
+    next _ _ (e.thread, h.after_thread) _ h.thread (
+    next _ _ (kind, h.after_kind) _ h.number (
+    next _ _ (e.signal, h.after_signal) _ h.signal (
+    next _ _ (e.call, h.after_call) _ (when_true _ _ _ _ h.built h.call) (
+    next _ _ (e.reply, h.after_reply) _ h.reply (
+    next _ _ (e.outgoing, h.after_outgoing) _ h.outgoing (
+    next _ _ (e.incoming, h.after_incoming) _ h.incoming (
+    next _ _ (e.tag, []) _ h.tag refl))))))))
+
+-- the steps of some kind
+abbrev AnySteps : List ℕ → Entry → Type 0
+AnySteps bytes e = (kind : ℕ) × Steps kind bytes e
+
+steps_from : (bytes : List ℕ) (e : Entry) → body_at bytes ≡ Some e → AnySteps bytes e
+unfolding body_at
+steps_from bytes e read =
+    let clock = bind_some _ _ _ read in
+    let thread = bind_some _ _ _ clock.2 in
+    let kind = bind_some _ _ _ thread.2 in
+    let signal = bind_some _ _ _ kind.2 in
+    let call = bind_some _ _ _ signal.2 in
+    let reply = bind_some _ _ _ call.2 in
+    let outgoing = bind_some _ _ _ reply.2 in
+    let incoming = bind_some _ _ _ outgoing.2 in
+    let tag = bind_some _ _ _ incoming.2 in
+    let end = kept _ _ _ tag.2 in
+    let built = kept _ _ _ call.1 in
+    let made : Entry = record {
+      clock = clock.0.0;
+      thread = thread.0.0;
+      signal = signal.0.0;
+      call = call.0.0;
+      reply = reply.0.0;
+      outgoing = outgoing.0.0;
+      incoming = incoming.0.0;
+      tag = tag.0.0;
+    } in
+    let none_left : tag.0.1 ≡ [] = nil_from_length tag.0.1 (at_most_none (length tag.0.1) end.0) in
+    let steps : Steps kind.0.0 bytes made = record {
+      kind_is = call_at-kind kind.0.0 signal.0.1 call.0.0 call.0.1 built.1;
+      after_clock = clock.0.1;
+      after_thread = thread.0.1;
+      after_kind = kind.0.1;
+      after_signal = signal.0.1;
+      after_call = call.0.1;
+      after_reply = reply.0.1;
+      after_outgoing = outgoing.0.1;
+      after_incoming = incoming.0.1;
+      clock = clock.1;
+      thread = thread.1;
+      number = kind.1;
+      signal = signal.1;
+      built = built.0;
+      call = built.1;
+      reply = reply.1;
+      outgoing = outgoing.1;
+      incoming = incoming.1;
+      tag = tag.1 ∙ ap (λ (t : List ℕ). Some (tag.0.0, t)) none_left;
+    } in
+    subst (AnySteps bytes) (same_Some made e end.1) (kind.0.0, steps)
+
+-- the readers read what was written, whatever follows
+pub body_at-body : (e : Entry) → IsShaped e → body_at (body e) ≡ Some e
+unfolding body
+body_at-body e shaped =
+    let tag : List ℕ = tag_if (has_tag e.call.kind) e.tag ++ [] in
+    let incoming : List ℕ = string_if (has_incoming e.call.kind) e.incoming ++ tag in
+    let outgoing : List ℕ = string_if (has_outgoing e.call.kind) e.outgoing ++ incoming in
+    let reply : List ℕ = to_le_bytes w64 e.reply ++ outgoing in
+    let call : List ℕ = argument_bytes e.call ++ reply in
+    let signal : List ℕ = (e.signal ∷ []) ++ call in
+    let kind : List ℕ = (e.call.kind ∷ []) ++ signal in
+    let thread : List ℕ = to_le_bytes w16 e.thread ++ kind in
+    let read : Steps e.call.kind (to_le_bytes w64 e.clock ++ thread) e = record {
+      kind_is = refl;
+      after_clock = thread;
+      after_thread = kind;
+      after_kind = signal;
+      after_signal = call;
+      after_call = reply;
+      after_reply = outgoing;
+      after_outgoing = incoming;
+      after_incoming = tag;
+      clock = (number_field w64).again e.clock thread shaped.clock;
+      thread = (number_field w16).again e.thread kind shaped.thread;
+      number = refl;
+      signal = refl;
+      built = shaped.built;
+      call = (call_field e.call.kind).again e.call reply (refl, shaped.arguments);
+      reply = (number_field w64).again e.reply outgoing shaped.reply;
+      outgoing = (string_if_field (has_outgoing e.call.kind)).again e.outgoing incoming shaped.outgoing;
+      incoming = (string_if_field (has_incoming e.call.kind)).again e.incoming tag shaped.incoming;
+      tag = (tag_if_field (has_tag e.call.kind)).again e.tag [] shaped.tag;
+    } in
+    body_at-from e.call.kind (to_le_bytes w64 e.clock ++ thread) e read
+
+-- and what they read is an entry that is all of the bytes
+shaped_from : (bytes : List ℕ) (e : Entry) → AreBytes bytes → Steps e.call.kind bytes e → IsShaped e × (bytes ≡ body e)
+unfolding body
+shaped_from bytes e are h =
+    let are_1 = bytes_after (number_field w64) bytes e.clock h.after_clock are h.clock in
+    let are_2 = bytes_after (number_field w16) h.after_clock e.thread h.after_thread are_1 h.thread in
+    let are_3 = bytes_after byte_field h.after_thread e.call.kind h.after_kind are_2 h.number in
+    let are_4 = bytes_after byte_field h.after_kind e.signal h.after_signal are_3 h.signal in
+    let are_5 = bytes_after (call_field e.call.kind) h.after_signal e.call h.after_call are_4 h.call in
+    let are_6 = bytes_after (number_field w64) h.after_call e.reply h.after_reply are_5 h.reply in
+    let are_7 = bytes_after (string_if_field (has_outgoing e.call.kind)) h.after_reply e.outgoing h.after_outgoing are_6 h.outgoing in
+    let are_8 = bytes_after (string_if_field (has_incoming e.call.kind)) h.after_outgoing e.incoming h.after_incoming are_7 h.incoming in
+    let clock = (number_field w64).found bytes e.clock h.after_clock are h.clock in
+    let thread = (number_field w16).found h.after_clock e.thread h.after_thread are_1 h.thread in
+    let number = byte_field.found h.after_thread e.call.kind h.after_kind are_2 h.number in
+    let signal = byte_field.found h.after_kind e.signal h.after_signal are_3 h.signal in
+    let call = (call_field e.call.kind).found h.after_signal e.call h.after_call are_4 h.call in
+    let reply = (number_field w64).found h.after_call e.reply h.after_reply are_5 h.reply in
+    let outgoing = (string_if_field (has_outgoing e.call.kind)).found h.after_reply e.outgoing h.after_outgoing are_6 h.outgoing in
+    let incoming = (string_if_field (has_incoming e.call.kind)).found h.after_outgoing e.incoming h.after_incoming are_7 h.incoming in
+    let tag = (tag_if_field (has_tag e.call.kind)).found h.after_incoming e.tag [] are_8 h.tag in
+    let shaped : IsShaped e = record {
+      built = h.built;
+      clock = clock.0;
+      thread = thread.0;
+      signal = signal.0;
+      arguments = call.0.1;
+      reply = reply.0;
+      outgoing = outgoing.0;
+      incoming = incoming.0;
+      tag = tag.0;
+    } in
+    let spelled : bytes ≡ body e =
+    clock.1 ∙ onto (to_le_bytes w64 e.clock) (
+    thread.1 ∙ onto (to_le_bytes w16 e.thread) (
+    number.1 ∙ onto (e.call.kind ∷ []) (
+    signal.1 ∙ onto (e.signal ∷ []) (
+    call.1 ∙ onto (argument_bytes e.call) (
+    reply.1 ∙ onto (to_le_bytes w64 e.reply) (
+    outgoing.1 ∙ onto (string_if (has_outgoing e.call.kind) e.outgoing) (
+    incoming.1 ∙ onto (string_if (has_incoming e.call.kind) e.incoming) tag.1))))))) in
+    (shaped, spelled)
+
+body_at-found : (bytes : List ℕ) (e : Entry) → AreBytes bytes → body_at bytes ≡ Some e → IsShaped e × (bytes ≡ body e)
+body_at-found bytes e are found =
+    let steps = steps_from bytes e found in
+    let at : Steps steps.0 bytes e = steps.1 in
+    shaped_from bytes e are (subst (λ (k : ℕ). Steps k bytes e) (sym at.kind_is) at)
+
+-- ---- an entry behind its length
+
+read_entry-from : (bytes after within rest : List ℕ) (n : ℕ) (e : Entry) → le_at w32 bytes ≡ Some (n, after) → piece_at n after ≡ Some (within, rest) → body_at within ≡ Some e → read_entry bytes ≡ Some (e, rest)
+unfolding read_entry
+read_entry-from bytes after within rest n e size piece entry =
+    next _ _ (n, after) _ size (next _ _ (within, rest) _ piece (next _ _ e _ entry refl))
+
+-- the readers read what was written, whatever follows
+pub read_entry-encoding : (e : Entry) (rest : List ℕ) → IsShaped e → read_entry (encoding e ++ rest) ≡ Some (e, rest)
+unfolding encoding
+read_entry-encoding e rest shaped =
+    ap read_entry (append_assoc (to_le_bytes w32 (length (body e))) (body e) rest)
+    ∙ read_entry-from _ (body e ++ rest) (body e) rest (length (body e)) e
+    ((number_field w32).again (length (body e)) (body e ++ rest) (length-body_lt e shaped))
+    ((piece_reads (length (body e))).again (body e) (body e) rest (refl, refl))
+    (body_at-body e shaped)
+
+encoding_from : (bytes after within rest : List ℕ) (n : ℕ) (e : Entry) → bytes ≡ to_le_bytes w32 n ++ after → after ≡ within ++ rest → length within ≡ n → within ≡ body e → bytes ≡ encoding e ++ rest
+unfolding encoding
+encoding_from bytes after within rest n e front then size is =
+    front ∙ onto (to_le_bytes w32 n) (then ∙ ap (λ (t : List ℕ). t ++ rest) is)
+    ∙ ap (λ (k : ℕ). to_le_bytes w32 k ++ (body e ++ rest)) (sym size ∙ ap length is)
+    ∙ sym (append_assoc (to_le_bytes w32 (length (body e))) (body e) rest)
+
+-- and what they read is an entry that stands there
+pub read_entry-found : (bytes : List ℕ) (e : Entry) (rest : List ℕ) → AreBytes bytes → read_entry bytes ≡ Some (e, rest) → IsShaped e × (bytes ≡ encoding e ++ rest)
+unfolding read_entry encoding
+read_entry-found bytes e rest are found =
+    let size = bind_some _ _ _ found in
+    let piece = bind_some _ _ _ size.2 in
+    let entry = bind_some _ _ _ piece.2 in
+    let number = (number_field w32).found bytes size.0.0 size.0.1 are size.1 in
+    let front = (piece_reads size.0.0).takes size.0.1 piece.0.0 piece.0.1 piece.1 in
+    let after : size.0.1 ≡ piece.0.0 ++ piece.0.1 = front.1 ∙ ap (λ (t : List ℕ). t ++ piece.0.1) front.2.1 in
+    let are_piece : AreBytes piece.0.0 = front_in_range piece.0.0 piece.0.1 (λ i. subst (λ (t : List ℕ). slice_index t i < 256) after (bytes_after (number_field w32) bytes size.0.0 size.0.1 are size.1 i)) in
+    let inside = body_at-found piece.0.0 entry.0 are_piece entry.1 in
+    let spelled : bytes ≡ encoding entry.0 ++ piece.0.1 =
+    encoding_from bytes size.0.1 piece.0.0 piece.0.1 size.0.0 entry.0 number.1 after front.2.0 inside.1 in
+    subst (λ (x : Entry × List ℕ). IsShaped x.0 × (bytes ≡ encoding x.0 ++ x.1)) (same_Some (entry.0, piece.0.1) (e, rest) entry.2) (inside.0, spelled)
+
+-- where they read nothing, no entry stands in front
+pub read_entry-none : (bytes : List ℕ) → read_entry bytes ≡ None → BeginsNoEntry bytes
+read_entry-none bytes none e rest shaped begins =
+    let some : read_entry bytes ≡ Some (e, rest) = ap read_entry begins ∙ read_entry-encoding e rest shaped in
+    cc
+
+-- ---- the entry in front
+
+pub entry_at-begins : (bytes : List ℕ) (e : Entry) (rest : List ℕ) → IsShaped e → bytes ≡ encoding e ++ rest → entry_at bytes ≡ Some (e, rest)
+unfolding entry_at entry_in
+entry_at-begins bytes e rest shaped begins =
+    let read : read_entry bytes ≡ Some (e, rest) = ap read_entry begins ∙ read_entry-encoding e rest shaped in
+    let starts : starts_with nat_eq bytes (encoding e) ≡ true = (starts_is Decides-eqb bytes (encoding e) _ refl).1 rest begins in
+    let behind : drop (length (encoding e)) bytes ≡ rest = ap (drop (length (encoding e))) begins ∙ drop_at (encoding e) rest (length (encoding e)) refl in
+    next _ _ (e, rest) _ read (when_true _ _ _ _ (both_true _ _ (is_shaped-from e shaped) starts) (ap (λ (t : List ℕ). Some (e, t)) behind))
+
+pub entry_at-found : (bytes : List ℕ) (e : Entry) (rest : List ℕ) → entry_at bytes ≡ Some (e, rest) → IsShaped e × (bytes ≡ encoding e ++ rest)
+unfolding entry_at entry_in
+entry_at-found bytes e rest found =
+    let read = bind_some (λ (x : Entry × List ℕ). entry_in bytes x.0) (read_entry bytes) (e, rest) found in
+    let chosen = cond_some _ _ _ read.2 in
+    let tests = and_true _ _ chosen.0 in
+    let spelled = (starts_is Decides-eqb bytes (encoding read.0.0) _ refl).0 tests.1 in
+    subst (λ (x : Entry × List ℕ). IsShaped x.0 × (bytes ≡ encoding x.0 ++ x.1)) chosen.1 (shaped_from_test read.0.0 tests.0, spelled)
+
+-- a value that none can be
+pub none_from : {A : Type 0} (o : Option A) → ((x : A) → o ≡ Some x → ⊥) → o ≡ None
+none_from None h = refl
+none_from (Some x) h = absurd (h x refl)
+
+pub entry_at-none : (bytes : List ℕ) → BeginsNoEntry bytes → entry_at bytes ≡ None
+entry_at-none bytes none = none_from (entry_at bytes) (λ x found.
+    let there = entry_at-found bytes x.0 x.1 found in
+    none x.0 x.1 there.0 there.1)
+
+-- an entry and what follows it are determined by the bytes
+pub one_entry : (bytes : List ℕ) (e other : Entry) (rest after : List ℕ) → IsShaped e → bytes ≡ encoding e ++ rest → IsShaped other → bytes ≡ encoding other ++ after → (e ≡ other) × (rest ≡ after)
+one_entry bytes e other rest after shaped begins also too =
+    some_pair_parts e other rest after (sym (entry_at-begins bytes e rest shaped begins) ∙ entry_at-begins bytes other after also too)

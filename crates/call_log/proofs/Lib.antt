@@ -1,0 +1,6 @@
+pub mod FieldLaws
+pub mod Shapes
+pub mod Sizes
+pub mod EntryLaws
+pub mod HeadLaws
+pub mod Entries

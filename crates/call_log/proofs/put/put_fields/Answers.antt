@@ -1,0 +1,32 @@
+use Rattle.std.proofs.Common.{Bool, ◌≡◌, ℕ, List, ◌∷◌, [], ◌++◌, length, refl, sym, ap, ◌∙◌, append_assoc}
+use Rattle.std.specs.Int.{w16, w32, w64, to_le_bytes}
+use Rattle.std.specs.List.{concat}
+use Rattle.std.proofs.lemmas.List.{append-nil}
+use Rattle.call_log.specs.Kind.{has_outgoing, has_incoming, has_tag}
+use Rattle.call_log.specs.Entry.{Entry, entry_of, body, encoding, front_bytes, argument_bytes, reply_bytes, tag_if, string_if}
+use Rattle.call_log.proofs.FieldLaws.{on_ok}
+use Rattle.call_log.proofs.put.put_fields.Goals as goal
+
+regroup : (size clock thread kind signal arguments reply outgoing incoming tag : List ℕ) → size ++ concat (clock ∷ thread ∷ kind ∷ signal ∷ arguments ∷ reply ∷ outgoing ∷ incoming ∷ tag ∷ []) ≡ concat (size ∷ clock ∷ thread ∷ (kind ++ signal) ∷ []) ++ (arguments ++ ((reply ++ (outgoing ++ incoming)) ++ tag))
+regroup size clock thread kind signal arguments reply outgoing incoming tag = simp (append_assoc, append-nil)
+
+body_fields : (e : Entry) → body e ≡ concat (to_le_bytes w64 e.clock ∷ to_le_bytes w16 e.thread ∷ (e.call.kind ∷ []) ∷ (e.signal ∷ []) ∷ argument_bytes e.call ∷ to_le_bytes w64 e.reply ∷ string_if (has_outgoing e.call.kind) e.outgoing ∷ string_if (has_incoming e.call.kind) e.incoming ∷ tag_if (has_tag e.call.kind) e.tag ∷ [])
+unfolding body
+body_fields e = refl
+
+-- the four parts of an entry
+parts : (e : Entry) → encoding e ≡ front_bytes e ++ (argument_bytes e.call ++ (reply_bytes e ++ tag_if (has_tag e.call.kind) e.tag))
+unfolding encoding front_bytes reply_bytes
+parts e =
+    ap (λ (t : List ℕ). to_le_bytes w32 (length (body e)) ++ t) (body_fields e)
+    ∙ regroup (to_le_bytes w32 (length (body e))) (to_le_bytes w64 e.clock) (to_le_bytes w16 e.thread) (e.call.kind ∷ []) (e.signal ∷ []) (argument_bytes e.call) (to_le_bytes w64 e.reply) (string_if (has_outgoing e.call.kind) e.outgoing) (string_if (has_incoming e.call.kind) e.incoming) (tag_if (has_tag e.call.kind) e.tag)
+
+joined : (old a b c d x y z new : List ℕ) → x ≡ old ++ a → y ≡ x ++ b → z ≡ y ++ c → new ≡ z ++ d → new ≡ old ++ (a ++ (b ++ (c ++ d)))
+joined old a b c d x y z new p q r s = s ∙ rw (r, q, p) (simp append_assoc)
+
+pub returns-clause-ok : goal.returns-clause-ok
+returns-clause-ok c =
+    let e : Entry = entry_of c.args.entry.now in
+    let put = joined c.args.out.now.items (front_bytes e) (argument_bytes e.call) (reply_bytes e) (tag_if (has_tag e.call.kind) e.tag) _ _ _ c.put_tag.new.out.items c.in_ok-put_front.ensures.ok c.in_ok-put_arguments.ensures.ok c.in_ok-put_reply.ensures.ok in
+    let whole = ap (λ (t : List ℕ). c.args.out.now.items ++ t) (sym (parts e)) in
+    on_ok _ (λ tag. put (tag ∙ ap (λ (has : Bool). c.put_reply.new.out.items ++ tag_if has e.tag) c.has_tag.ensures) ∙ whole) c.put_tag.ensures.ok

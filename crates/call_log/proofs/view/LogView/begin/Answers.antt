@@ -1,0 +1,8 @@
+use Rattle.call_log.proofs.HeadLaws.{head_at-begins, head_at-none}
+use Rattle.call_log.proofs.view.LogView.begin.Goals as goal
+
+pub returns-in_default-clause-missing : goal.returns-in_default-clause-missing
+returns-in_default-clause-missing c = head_at-none _ c.in_default.ensures.none
+
+pub returns-clause-found : goal.returns-clause-found
+returns-clause-found c = head_at-begins _ _ _ c.in-Some.ensures.head c.in-Some.ensures.spelled

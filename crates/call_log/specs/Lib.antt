@@ -1,0 +1,5 @@
+pub mod Kind
+pub mod Entry
+pub mod Head
+pub mod Reading
+pub mod Log

@@ -1,0 +1,110 @@
+-- What the readers find at the front of some bytes, field by field. The laws of proofs/ say that this is
+-- exactly what the bytes spell.
+use Rattle.std.specs.Prelude.{◌≡◌, ℕ, ◌^◌, Bool, ◌&&◌, ◌==◌, nat_lt, nat_le, if◌then◌else◌, List, [], length, codes, Option, Some, None, option_and_then}
+use Rattle.std.specs.Str.{bytes_eq}
+use Rattle.std.specs.Int.{w16, w32, w64}
+use Rattle.fri_bytes.specs.Reading.{byte_at, piece_at, le_at, Reading}
+use Rattle.lamport_tag.specs.declared.Tag.{Tag}
+use Rattle.call_log.specs.declared.entry.Call.{Call}
+use Rattle.call_log.specs.Kind.{is_built, argument_count, has_outgoing, has_incoming, has_tag}
+use Rattle.call_log.specs.Entry.{Entry}
+use Rattle.call_log.specs.Head.{Head, is_name}
+
+infixl 10 ◌>>=◌
+-- a step, and the next one where it gave something
+abbrev pub ◌>>=◌ : {A B : Type 0} → Option A → (A → Option B) → Option B
+o >>= f = option_and_then f o
+
+-- what a reader that may stop half way gives: the value at the front and what follows it
+abbrev pub Gives : {A : Type 0} → Option A → Reading → Option (A × List ℕ) → Type 0
+Gives None new found = found ≡ None
+Gives (Some x) new found = found ≡ Some (x, new.left)
+
+-- ---- an entry
+
+-- a number, where the kind has it
+abbrev pub number_if_at : Bool → List ℕ → Option (ℕ × List ℕ)
+number_if_at has bytes = if has then le_at w64 bytes else Some (0, bytes)
+
+-- the arguments of a call
+unfoldable pub call_at : ℕ → List ℕ → Option (Call × List ℕ)
+call_at kind bytes = do
+  a0 ← number_if_at (nat_lt 0 (argument_count kind)) bytes
+  a1 ← number_if_at (nat_lt 1 (argument_count kind)) a0.1
+  a2 ← number_if_at (nat_lt 2 (argument_count kind)) a1.1
+  Some (record { kind = kind; a0 = a0.0; a1 = a1.0; a2 = a2.0 }, a2.1)
+
+-- a byte string
+unfoldable pub string_at : List ℕ → Option (List ℕ × List ℕ)
+string_at bytes = do
+  size ← le_at w32 bytes
+  if nat_lt size.0 (2 ^ 31) then piece_at size.0 size.1 else None
+
+-- a byte string, where the kind has it
+abbrev pub string_if_at : Bool → List ℕ → Option (List ℕ × List ℕ)
+string_if_at has bytes = if has then string_at bytes else Some ([], bytes)
+
+-- a tag
+unfoldable pub tag_at : List ℕ → Option (Tag × List ℕ)
+tag_at bytes = do
+  sender ← le_at w32 bytes
+  clock ← le_at w64 sender.1
+  Some (record { sender = sender.0; clock = clock.0 }, clock.1)
+
+-- a tag behind its flag, or the flag that there is none
+unfoldable pub flagged_at : List ℕ → Option (Option Tag × List ℕ)
+flagged_at bytes = do
+  flag ← byte_at bytes
+  if flag.0 == 0 then Some (None, flag.1) else
+      (if flag.0 == 1 then tag_at flag.1 >>= (λ tag. Some (Some tag.0, tag.1)) else None)
+
+-- the same, where the kind may have a tag
+abbrev pub tag_if_at : Bool → List ℕ → Option (Option Tag × List ℕ)
+tag_if_at has bytes = if has then flagged_at bytes else Some (None, bytes)
+
+-- an entry that is the whole of the bytes, without its length
+unfoldable pub body_at : List ℕ → Option Entry
+body_at bytes = do
+  clock ← le_at w64 bytes
+  thread ← le_at w16 clock.1
+  kind ← byte_at thread.1
+  signal ← byte_at kind.1
+  call ← if is_built kind.0 then call_at kind.0 signal.1 else None
+  reply ← le_at w64 call.1
+  outgoing ← string_if_at (has_outgoing kind.0) reply.1
+  incoming ← string_if_at (has_incoming kind.0) outgoing.1
+  tag ← tag_if_at (has_tag kind.0) incoming.1
+  if nat_le (length tag.1) 0 then Some (record { clock = clock.0; thread = thread.0; signal = signal.0; call = call.0; reply = reply.0; outgoing = outgoing.0; incoming = incoming.0; tag = tag.0 }) else None
+
+-- an entry at the front, and the bytes behind it
+unfoldable pub read_entry : List ℕ → Option (Entry × List ℕ)
+read_entry bytes = do
+  size ← le_at w32 bytes
+  within ← piece_at size.0 size.1
+  entry ← body_at within.0
+  Some (entry, within.1)
+
+-- ---- a head
+
+-- the bytes that are to stand at the front, and the bytes behind them
+abbrev pub mark_at : List ℕ → List ℕ → Option (List ℕ × List ℕ)
+mark_at mark bytes = piece_at (length mark) bytes >>= (λ piece. if bytes_eq piece.0 mark then Some piece else None)
+
+-- a name behind its length
+unfoldable pub name_at : List ℕ → Option (List ℕ × List ℕ)
+name_at bytes = do
+  size ← byte_at bytes
+  name ← piece_at size.0 size.1
+  if is_name name.0 then Some name else None
+
+-- a head at the front, and the bytes behind it
+unfoldable pub read_head : List ℕ → Option (Head × List ℕ)
+read_head bytes = do
+  magic ← mark_at (codes "LLOG") bytes
+  version ← le_at w32 magic.1
+  count ← le_at w32 version.1
+  process ← le_at w32 count.1
+  name ← name_at process.1
+  if version.0 == 1 && nat_le 1 count.0 && nat_le count.0 16 && nat_lt process.0 count.0
+      then Some (record { count = count.0; process = process.0; name = name.0 }, name.1)
+      else None

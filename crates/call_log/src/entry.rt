@@ -1,0 +1,89 @@
+// An entry of a log.
+ghost use Rattle.std.specs.Prelude.{◌≡◌, ◌++◌, IfSome, IfNone, option_map};
+ghost use Rattle.call_log.specs.Entry.{BeginsNoEntry, IsShaped, encoding, entry_of};
+ghost use Rattle.call_log.specs.Reading.{Gives, body_at, read_entry as entry_read};
+
+use crate::fields::{
+    has_incoming, has_outgoing, has_tag, is_built, read_call, read_string_if, read_tag_if,
+};
+use fri_bytes::Cursor;
+use lamport_tag::Tag;
+
+/// A library call: its kind, and its arguments as far as the kind has them, else 0. An argument of 32
+/// bits has zeros above.
+#[derive(Clone, Copy, Debug, PartialEq, Eq)]
+pub struct Call {
+    pub kind: u8,
+    pub a0: u64,
+    pub a1: u64,
+    pub a2: u64,
+}
+
+/// An entry of a log, which lends the log's bytes: an event's Lamport clock, the thread that made it,
+/// the signal that was delivered with it (0 for none), the call that was answered with its reply, the
+/// bytes that went out and came in, and the tag of the datagram that was taken.
+#[derive(Clone, Copy, Debug, PartialEq, Eq)]
+pub struct EntryView<'a> {
+    pub clock: u64,
+    pub thread: u16,
+    pub signal: u8,
+    pub call: Call,
+    pub reply: u64,
+    pub outgoing: &'a [u8],
+    pub incoming: &'a [u8],
+    pub tag: Option<Tag>,
+}
+
+// The entry at the front of the bytes, and the bytes behind it.
+pub(crate) fn read_entry(bytes: &[u8]) -> Option<(EntryView<'_>, &[u8])>
+    ensures shaped { IfSome result (λ r. IsShaped (entry_of r.0)) }
+    ensures spelled { IfSome result (λ r. bytes.now ≡ encoding (entry_of r.0) ++ r.1.now) }
+    ensures none { IfNone result (BeginsNoEntry bytes.now) }
+{
+    let mut cursor = Cursor::new(bytes);
+    let entry = read_framed(&mut cursor)?;
+    Some((entry, cursor.rest()))
+}
+
+// The entry behind its length.
+#[tactic(auto, unfolding(crate::specs::Reading::read_entry))]
+fn read_framed<'a>(cursor: &mut Cursor<'a>) -> Option<EntryView<'a>>
+    ensures { Gives (option_map entry_of result) cursor.new (entry_read cursor.old.left) }
+{
+    let size = cursor.u32_le()?;
+    let body = cursor.take(size as usize)?;
+    read_body(body)
+}
+
+// The entry that is all of the bytes.
+#[tactic(auto, unfolding(crate::specs::Reading::body_at))]
+fn read_body(body: &[u8]) -> Option<EntryView<'_>>
+    ensures { option_map entry_of result ≡ body_at body.now }
+{
+    let mut cursor = Cursor::new(body);
+    let clock = cursor.u64_le()?;
+    let thread = cursor.u16_le()?;
+    let kind = cursor.byte()?;
+    let signal = cursor.byte()?;
+    if !is_built(kind) {
+        return None;
+    }
+    let call = read_call(&mut cursor, kind)?;
+    let reply = cursor.u64_le()?;
+    let outgoing = read_string_if(&mut cursor, has_outgoing(kind))?;
+    let incoming = read_string_if(&mut cursor, has_incoming(kind))?;
+    let tag = read_tag_if(&mut cursor, has_tag(kind))?;
+    if !cursor.rest().is_empty() {
+        return None;
+    }
+    Some(EntryView {
+        clock,
+        thread,
+        signal,
+        call,
+        reply,
+        outgoing,
+        incoming,
+        tag,
+    })
+}

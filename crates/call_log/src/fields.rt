@@ -1,0 +1,124 @@
+// Which fields an entry of each kind has, and reading the fields that not every entry has.
+ghost use Rattle.std.specs.Prelude.{◌≡◌, option_map};
+ghost use Rattle.call_log.specs.Kind.{argument_count as argument_count_of, has_incoming as has_incoming_of, has_outgoing as has_outgoing_of, has_tag as has_tag_of, is_built as is_built_of};
+ghost use Rattle.call_log.specs.Reading.{Gives, call_at, flagged_at, number_if_at, string_at, string_if_at, tag_at, tag_if_at};
+
+use crate::entry::Call;
+use fri_bytes::Cursor;
+use lamport_tag::Tag;
+
+// The kinds of calls of which entries are read: begin, note and now.
+#[tactic(auto, unfolding(crate::specs::Kind::is_built))]
+pub(crate) fn is_built(kind: u8) -> bool
+    ensures { result ≡ is_built_of kind }
+{
+    kind == 0 || kind == 2 || kind == 4
+}
+
+// How many arguments the calls of the kind have.
+#[tactic(auto, unfolding(crate::specs::Kind::argument_count))]
+pub(crate) fn argument_count(kind: u8) -> u8
+    ensures { result ≡ argument_count_of kind }
+{
+    match kind {
+        8 | 9 | 10 => 3,
+        3 | 6 | 11 | 16 => 2,
+        1 | 2 | 5 | 13 | 14 | 15 => 1,
+        _ => 0,
+    }
+}
+
+// Whether entries of the kind have the bytes that went out.
+#[tactic(auto, unfolding(crate::specs::Kind::has_outgoing))]
+pub(crate) fn has_outgoing(kind: u8) -> bool
+    ensures { result ≡ has_outgoing_of kind }
+{
+    kind == 3 || kind == 8
+}
+
+// Whether entries of the kind have the bytes that came in.
+#[tactic(auto, unfolding(crate::specs::Kind::has_incoming))]
+pub(crate) fn has_incoming(kind: u8) -> bool
+    ensures { result ≡ has_incoming_of kind }
+{
+    kind == 6 || kind == 9 || kind == 10
+}
+
+// Whether entries of the kind may have the tag of a datagram.
+#[tactic(auto, unfolding(crate::specs::Kind::has_tag))]
+pub(crate) fn has_tag(kind: u8) -> bool
+    ensures { result ≡ has_tag_of kind }
+{
+    kind == 9 || kind == 10
+}
+
+// A call of the kind, with the arguments that it has.
+#[tactic(auto, unfolding(crate::specs::Reading::call_at))]
+pub(crate) fn read_call(cursor: &mut Cursor<'_>, kind: u8) -> Option<Call>
+    ensures { Gives result cursor.new (call_at kind cursor.old.left) }
+{
+    let count = argument_count(kind);
+    let a0 = read_number_if(cursor, 0 < count)?;
+    let a1 = read_number_if(cursor, 1 < count)?;
+    let a2 = read_number_if(cursor, 2 < count)?;
+    Some(Call { kind, a0, a1, a2 })
+}
+
+// A number, where there is one, else 0.
+fn read_number_if(cursor: &mut Cursor<'_>, has: bool) -> Option<u64>
+    ensures { Gives result cursor.new (number_if_at has cursor.old.left) }
+{
+    if has { cursor.u64_le() } else { Some(0) }
+}
+
+// Bytes behind their length, where there are some, else none.
+pub(crate) fn read_string_if<'a>(cursor: &mut Cursor<'a>, has: bool) -> Option<&'a [u8]>
+    ensures { Gives (option_map (λ x. x.now) result) cursor.new (string_if_at has cursor.old.left) }
+{
+    if has { read_string(cursor) } else { Some(&[]) }
+}
+
+// Bytes behind their length, which are shorter than 2 GiB.
+#[tactic(auto, unfolding(crate::specs::Reading::string_at))]
+fn read_string<'a>(cursor: &mut Cursor<'a>) -> Option<&'a [u8]>
+    ensures { Gives (option_map (λ x. x.now) result) cursor.new (string_at cursor.old.left) }
+{
+    let size = cursor.u32_le()?;
+    if size >= 1 << 31 {
+        return None;
+    }
+    cursor.take(size as usize)
+}
+
+// The tag of a datagram or none, where the entry says which, else none.
+pub(crate) fn read_tag_if(cursor: &mut Cursor<'_>, has: bool) -> Option<Option<Tag>>
+    ensures { Gives result cursor.new (tag_if_at has cursor.old.left) }
+{
+    if has {
+        read_flagged(cursor)
+    } else {
+        Some(None)
+    }
+}
+
+// A tag behind its flag, or the flag that there is none.
+#[tactic(auto, unfolding(crate::specs::Reading::flagged_at))]
+fn read_flagged(cursor: &mut Cursor<'_>) -> Option<Option<Tag>>
+    ensures { Gives result cursor.new (flagged_at cursor.old.left) }
+{
+    match cursor.byte()? {
+        0 => Some(None),
+        1 => Some(Some(read_tag(cursor)?)),
+        _ => None,
+    }
+}
+
+// The sender and the clock of a tag.
+#[tactic(auto, unfolding(crate::specs::Reading::tag_at))]
+fn read_tag(cursor: &mut Cursor<'_>) -> Option<Tag>
+    ensures { Gives result cursor.new (tag_at cursor.old.left) }
+{
+    let sender = cursor.u32_le()?;
+    let clock = cursor.u64_le()?;
+    Some(Tag { sender, clock })
+}

@@ -1,0 +1,89 @@
+// Reading a log from its front.
+ghost use Rattle.std.specs.Prelude.{◌≡◌, ◌++◌, None, Some, IfOk, OnErr, IfSome, IfNone};
+ghost use Rattle.call_log.specs.Entry.{BeginsNoEntry, IsShaped, encoding, entry_of};
+ghost use Rattle.call_log.specs.Head.{BeginsNoHead, IsHead, head_bytes, head_of};
+ghost use Rattle.call_log.specs.Log.{head_at, stops_at_unbuilt as stops_at_unbuilt_of};
+
+use crate::entry::{EntryView, read_entry};
+use crate::fields::is_built;
+use crate::head::{BadHead, LogHead, read_head};
+use std::marker::Model;
+
+/// A log that is read from its front.
+#[derive(Debug, Drop)]
+pub struct LogView<'a> {
+    head: LogHead<'a>,
+    rest: &'a [u8],
+}
+
+impl<'a> Model for LogView<'a> {
+    ghost use Rattle.call_log.specs.Head.{head_of};
+    ghost use Rattle.call_log.specs.Log.{Log};
+
+    ghost Value = { Log };
+
+    ghost view = { λ log. record { head = head_of log.head; left = log.rest.now } };
+}
+
+impl<'a> LogView<'a> {
+    /// The log behind its head.
+    pub fn begin(bytes: &'a [u8]) -> Result<LogView<'a>, BadHead>
+        ensures head { IfOk result (λ log. IsHead log.head) }
+        ensures spelled { IfOk result (λ log. bytes.now ≡ head_bytes log.head ++ log.left) }
+        ensures bad { OnErr result (BeginsNoHead bytes.now) }
+        ensures found { IfOk result (λ log. head_at bytes.now ≡ Some (log.head, log.left)) }
+        ensures missing { OnErr result (head_at bytes.now ≡ None) }
+    {
+        let Some((head, rest)) = read_head(bytes) else {
+            return Err(BadHead);
+        };
+        Ok(LogView { head, rest })
+    }
+
+    /// The head.
+    pub fn head(&self) -> LogHead<'a>
+        ensures { head_of result ≡ self.now.head }
+    {
+        self.head
+    }
+
+    /// The next entry. Its outgoing and incoming bytes are pieces of the log. None comes where no entry
+    /// stands next, as at the end, in front of a cut entry or of one with a byte too many, and then the
+    /// log stays where it is.
+    pub fn next_entry(&mut self) -> Option<EntryView<'a>>
+        ensures shaped { IfSome result (λ e. IsShaped (entry_of e)) }
+        ensures taken { IfSome result (λ e. self.old.left ≡ encoding (entry_of e) ++ self.new.left) }
+        ensures none { IfNone result (BeginsNoEntry self.old.left) }
+        ensures unchanged { IfNone result (self.new ≡ self.old) }
+        ensures head { self.new.head ≡ self.old.head }
+    {
+        let (entry, rest) = read_entry(self.rest)?;
+        self.rest = rest;
+        Some(entry)
+    }
+
+    /// The bytes behind the entries that were read.
+    pub fn rest(&self) -> &'a [u8]
+        ensures { result.now ≡ self.now.left }
+    {
+        self.rest
+    }
+
+    /// The same log, at the same place.
+    pub fn copy(&self) -> LogView<'a>
+        ensures { result ≡ self.now }
+    {
+        LogView {
+            head: self.head,
+            rest: self.rest,
+        }
+    }
+}
+
+/// Whether the bytes behind a log's last entry go on with a kind of call of which entries are not read
+/// yet.
+pub fn stops_at_unbuilt(rest: &[u8]) -> bool
+    ensures { result ≡ stops_at_unbuilt_of rest.now }
+{
+    rest.len() >= 15 && !is_built(rest[14])
+}

@@ -1,0 +1,28 @@
+-- The handlers and the pending signals of a process, as lists by the signal's number. Signals are
+-- numbered from 1 to 31, and the place of 0 stays empty.
+use Rattle.std.specs.Prelude.{ℕ, Bool, false, List, replicate, slice_set, Option, None}
+use Rattle.std.specs.List.{slice_index_or}
+
+-- the function that handles the signal, if one does
+abbrev pub handler_of : List (Option ℕ) → ℕ → Option ℕ
+handler_of handlers signal = slice_index_or handlers signal None
+
+-- the handlers with this one for the signal, or with none for it
+abbrev pub with_handler : List (Option ℕ) → ℕ → Option ℕ → List (Option ℕ)
+with_handler handlers signal function = slice_set handlers signal function
+
+-- no signal has a handler
+abbrev pub no_handlers : List (Option ℕ)
+no_handlers = replicate 32 None
+
+-- the signal is pending
+abbrev pub is_pending : List Bool → ℕ → Bool
+is_pending pending signal = slice_index_or pending signal false
+
+-- the pending signals with this one, or without it
+abbrev pub with_pending : List Bool → ℕ → Bool → List Bool
+with_pending pending signal is = slice_set pending signal is
+
+-- no signal is pending
+abbrev pub none_pending : List Bool
+none_pending = replicate 32 false
