@@ -1,2 +1,3 @@
 pub mod NetworkLaws
 pub mod SentLaws
+pub mod MailboxLaws
