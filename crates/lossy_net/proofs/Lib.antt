@@ -1,0 +1,3 @@
+pub mod NetworkLaws
+pub mod SentLaws
+pub mod MailboxLaws
