@@ -143,12 +143,17 @@ min_max_at bytes = do
   max ← u32_at min.1
   Some (record { min = min.0; max = Some max.0 }, max.1)
 
+-- limits, behind the byte that says whether there is a maximum
+unfoldable pub limits_of : ℕ → Reader Limits
+limits_of flag bytes =
+    if flag == 0x00 then min_at bytes else
+    (if flag == 0x01 then min_max_at bytes else None)
+
 -- limits
 unfoldable pub limits_at : Reader Limits
 limits_at bytes = do
   flag ← byte_at bytes
-  if flag.0 == 0x00 then min_at flag.1 else
-      (if flag.0 == 0x01 then min_max_at flag.1 else None)
+  limits_of flag.0 flag.1
 
 -- the type of a table
 unfoldable pub table_at : Reader Limits
@@ -156,16 +161,21 @@ table_at bytes = do
   after ← tag_at 0x70 bytes
   limits_at after
 
--- whether a global is mutable, as a byte says
-unfoldable pub mutable_of : ℕ → Option Bool
-mutable_of b =
-    if b == 0x00 then Some false else
-    (if b == 0x01 then Some true else None)
+-- whether a global is mutable, behind the byte that says it
+unfoldable pub mutable_of : ℕ → Reader Bool
+mutable_of b bytes =
+    if b == 0x00 then Some (false, bytes) else
+    (if b == 0x01 then Some (true, bytes) else None)
+
+-- whether a global is mutable
+unfoldable pub mutable_at : Reader Bool
+mutable_at bytes = do
+  b ← byte_at bytes
+  mutable_of b.0 b.1
 
 -- the type of a global
 unfoldable pub global_type_at : Reader (ValType × Bool)
 global_type_at bytes = do
   type ← val_type_at bytes
-  b ← byte_at type.1
-  mutable ← mutable_of b.0
-  Some ((type.0, mutable), b.1)
+  mutable ← mutable_at type.1
+  Some ((type.0, mutable.0), mutable.1)

@@ -54,7 +54,7 @@ fn func_type(alloc: Global, cursor: &mut Cursor) -> Result<FuncType, DecodeError
     Ok(FuncType { params, results })
 }
 
-#[tactic(auto, unfolding(crate::specs::Values::limits_at, crate::specs::Values::min_at, crate::specs::Values::min_max_at))]
+#[tactic(auto, unfolding(crate::specs::Values::limits_at, crate::specs::Values::limits_of, crate::specs::Values::min_at, crate::specs::Values::min_max_at))]
 pub(crate) fn limits(cursor: &mut Cursor) -> Result<Limits, DecodeError>
     ensures { Gives (λ limits. limits) result cursor.new (limits_at cursor.old.left) }
 {
@@ -82,7 +82,7 @@ pub(crate) fn table(cursor: &mut Cursor) -> Result<Limits, DecodeError>
 }
 
 /// The type of a global, and whether it is mutable.
-#[tactic(auto, unfolding(crate::specs::Values::global_type_at, crate::specs::Values::mutable_of))]
+#[tactic(auto, unfolding(crate::specs::Values::global_type_at, crate::specs::Values::mutable_at, crate::specs::Values::mutable_of))]
 pub(crate) fn global_type(cursor: &mut Cursor) -> Result<(ValType, bool), DecodeError>
     ensures { Gives (λ type. type) result cursor.new (global_type_at cursor.old.left) }
 {
