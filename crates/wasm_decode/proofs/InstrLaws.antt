@@ -82,11 +82,11 @@ block_takes : (n opcode : ℕ) (make : Option ValType → Trees → Tree) → Re
     → (bytes : List ℕ) (t : Tree) (rest : List ℕ) → block_at make (levels_at n) bytes ≡ Some (t, rest) → Behind (Nested n) opcode bytes t rest
 block_takes n opcode make laws spells bytes t rest e =
     all_takes (Nested n) opcode bytes t rest (IsBlock n make) (block_at make (levels_at n)) (block_reads n make laws) e (λ s h.
-      let type = h.0 in
-      let w : IsWhole n h.1 h.3 = h.6 in
-      let parts : s ≡ (type ++ w.inside) ++ 0x0b ∷ [] = h.4 ∙ ap (λ (r : List ℕ). type ++ r) w.parts ∙ sym (append_assoc type w.inside (0x0b ∷ [])) in
-      let made = spells type w.inside h.2 h.3 w.less h.5 w.spelled w.level w.nests in
-      subst (λ (u : Tree). Nested n (opcode ∷ s) u) (sym h.7) (subst (λ (r : List ℕ). Nested n (opcode ∷ r) (make h.2 h.3)) (sym parts) made))
+    let type = h.0 in
+    let w : IsWhole n h.1 h.3 = h.6 in
+    let parts : s ≡ (type ++ w.inside) ++ 0x0b ∷ [] = h.4 ∙ ap (λ (r : List ℕ). type ++ r) w.parts ∙ sym (append_assoc type w.inside (0x0b ∷ [])) in
+    let made = spells type w.inside h.2 h.3 w.less h.5 w.spelled w.level w.nests in
+    subst (λ (u : Tree). Nested n (opcode ∷ s) u) (sym h.7) (subst (λ (r : List ℕ). Nested n (opcode ∷ r) (make h.2 h.3)) (sym parts) made))
 
 if_takes : (n : ℕ) → Reads (IsLevel n) (levels_at n) → (bytes : List ℕ) (t : Tree) (rest : List ℕ) → if_at (levels_at n) bytes ≡ Some (t, rest) → Behind (Nested n) 0x04 bytes t rest
 unfolding if_at
@@ -146,7 +146,7 @@ control_takes n opcode bytes t rest e =
     case_takes R 0x0c opcode bytes t rest _ _ e2 (λ here. one_takes R 0x0c bytes t rest IsU32 u32_at Br u32_reads here (λ s k h. ((s, refl, h), tt))) (λ e3.
     case_takes R 0x0d opcode bytes t rest _ _ e3 (λ here. one_takes R 0x0d bytes t rest IsU32 u32_at BrIf u32_reads here (λ s k h. ((s, refl, h), tt))) (λ e4.
     case_takes R 0x0e opcode bytes t rest _ _ e4 (λ here. all_takes R 0x0e bytes t rest IsTableOfLabels br_table_at br_table_reads here (λ s h.
-      subst (R (0x0e ∷ s)) (sym h.7) ((h.0, h.1, ap (λ (r : List ℕ). 0x0e ∷ r) h.4, h.5, h.6), tt))) (λ e5.
+    subst (R (0x0e ∷ s)) (sym h.7) ((h.0, h.1, ap (λ (r : List ℕ). 0x0e ∷ r) h.4, h.5, h.6), tt))) (λ e5.
     case_takes R 0x0f opcode bytes t rest _ _ e5 (λ here. alone_takes R 0x0f bytes t rest Return here (refl, tt)) (λ e6.
     case_takes R 0x10 opcode bytes t rest _ _ e6 (λ here. one_takes R 0x10 bytes t rest IsU32 u32_at CallFunc u32_reads here (λ s k h. ((s, refl, h), tt))) (λ e7.
     last_takes R 0x11 opcode bytes t rest _ e7 (λ here. indirect_takes n bytes t rest here))))))))
@@ -171,12 +171,12 @@ memory_takes n opcode bytes t rest e =
       | inl p ↦
           let ends = and_parts (leb 0x28 opcode) (leb opcode 0x35) p.0 in
           all_takes R opcode bytes t rest (IsAccess (Load opcode)) (access_at (Load opcode)) (access_reads (Load opcode)) p.1 (λ s h.
-            subst (R (opcode ∷ s)) (sym h.7) ((s, refl, leb-true 0x28 opcode ends.0, leb-true opcode 0x35 ends.1, (h.0, h.1, h.4, h.5, h.6)), tt))
+          subst (R (opcode ∷ s)) (sym h.7) ((s, refl, leb-true 0x28 opcode ends.0, leb-true opcode 0x35 ends.1, (h.0, h.1, h.4, h.5, h.6)), tt))
       | inr e1 ↦ elim (chosen (leb 0x36 opcode && leb opcode 0x3e) _ _ _ e1.1) [
         | inl p ↦
             let ends = and_parts (leb 0x36 opcode) (leb opcode 0x3e) p.0 in
             all_takes R opcode bytes t rest (IsAccess (Store opcode)) (access_at (Store opcode)) (access_reads (Store opcode)) p.1 (λ s h.
-              subst (R (opcode ∷ s)) (sym h.7) ((s, refl, leb-true 0x36 opcode ends.0, leb-true opcode 0x3e ends.1, (h.0, h.1, h.4, h.5, h.6)), tt))
+            subst (R (opcode ∷ s)) (sym h.7) ((s, refl, leb-true 0x36 opcode ends.0, leb-true opcode 0x3e ends.1, (h.0, h.1, h.4, h.5, h.6)), tt))
         | inr e2 ↦
             case_takes R 0x3f opcode bytes t rest _ _ e2.1 (λ here. zero_takes n 0x3f MemorySize (refl, tt) bytes t rest here) (λ e3.
             last_takes R 0x40 opcode bytes t rest _ e3 (λ here. zero_takes n 0x40 MemoryGrow (refl, tt) bytes t rest here))
@@ -191,9 +191,9 @@ numeric_takes n opcode bytes t rest e =
     case_takes R 0x42 opcode bytes t rest _ _ e1 (λ here. one_takes R 0x42 bytes t rest IsI64 i64_at ConstI64 i64_reads here (λ s k h. ((s, refl, h), tt))) (λ e2.
     case_takes R 0x43 opcode bytes t rest _ _ e2 (λ here. one_takes R 0x43 bytes t rest IsF32 f32_at ConstF32 f32_reads here (λ s k h. ((s, refl, h), tt))) (λ e3.
     case_takes R 0x44 opcode bytes t rest _ _ e3 (λ here. one_takes R 0x44 bytes t rest IsF64 f64_at ConstF64 f64_reads here (λ s k h. ((s, refl, h), tt))) (λ e4.
-      let g = guard_some (leb 0x45 opcode && leb opcode 0xbf) (Op opcode, bytes) (t, rest) e4 in
-      let ends = and_parts (leb 0x45 opcode) (leb opcode 0xbf) g.0 in
-      subst (λ (y : Tree × List ℕ). Behind R opcode bytes y.0 y.1) g.1 ([], refl, ((refl, leb-true 0x45 opcode ends.0, leb-true opcode 0xbf ends.1), tt))))))
+    let g = guard_some (leb 0x45 opcode && leb opcode 0xbf) (Op opcode, bytes) (t, rest) e4 in
+    let ends = and_parts (leb 0x45 opcode) (leb opcode 0xbf) g.0 in
+    subst (λ (y : Tree × List ℕ). Behind R opcode bytes y.0 y.1) g.1 ([], refl, ((refl, leb-true 0x45 opcode ends.0, leb-true opcode 0xbf ends.1), tt))))))
 
 plain_takes : (n opcode : ℕ) (bytes : List ℕ) (t : Tree) (rest : List ℕ) → plain_at opcode bytes ≡ Some (t, rest) → Behind (Nested n) opcode bytes t rest
 unfolding plain_at

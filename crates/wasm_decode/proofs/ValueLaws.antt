@@ -181,8 +181,8 @@ result_behind_takes : (b : ℕ) (bytes : List ℕ) (t : Option ValType) (rest : 
 unfolding result_behind
 result_behind_takes b bytes t rest e =
     case_takes IsResultType 0x40 b bytes t rest _ _ e (λ here. alone_takes IsResultType 0x40 bytes t rest None here refl) (λ there.
-      let v = bind_some _ _ _ there in
-      alone_takes IsResultType b bytes t rest (Some v.0) v.2 (val_type_is b v.0 v.1))
+    let v = bind_some _ _ _ there in
+    alone_takes IsResultType b bytes t rest (Some v.0) v.2 (val_type_is b v.0 v.1))
 
 result_again : (s : List ℕ) (t : Option ValType) → IsResultType s t → AgainBehind result_behind s t
 unfolding result_behind val_type_of
@@ -236,7 +236,7 @@ unfolding limits_of
 limits_take flag bytes l rest e =
     case_takes IsLimits 0x00 flag bytes l rest _ _ e (λ here. all_takes IsLimits 0x00 bytes l rest _ min_at min_reads here (λ s h. subst (IsMinMax (0x00 ∷ s) l.min) (sym h.1) (s, refl, h.0))) (λ there.
     last_takes IsLimits 0x01 flag bytes l rest _ there (λ here. all_takes IsLimits 0x01 bytes l rest _ min_max_at min_max_reads here (λ s h.
-      subst (IsMinMax (0x01 ∷ s) l.min) (sym h.1) (h.2, h.3, ap (λ (r : List ℕ). 0x01 ∷ r) h.4, h.5, h.6))))
+    subst (IsMinMax (0x01 ∷ s) l.min) (sym h.1) (h.2, h.3, ap (λ (r : List ℕ). 0x01 ∷ r) h.4, h.5, h.6))))
 
 limits_again : (s : List ℕ) (min : ℕ) (max : Option ℕ) → IsMinMax s min max → AgainBehind limits_of s (record { min = min; max = max })
 unfolding limits_of

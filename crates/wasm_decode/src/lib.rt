@@ -88,5 +88,7 @@ fn module(alloc: Global, bytes: &[u8]) -> Result<Module, DecodeError>
 /// Bytes spell at most one module.
 pub fn one_module()
     ensures { (bytes : List ℕ) (a b : Shown) → Spells bytes a → Spells bytes b → a ≡ b }
-{
-}
+{}
+
+#[cfg(test)]
+mod tests;
