@@ -5,7 +5,7 @@ use Rattle.std.proofs.lemmas.Bool.{eqb-true, eq-eqb}
 use Rattle.fri_bytes.specs.Reading.{Reads, Begins, byte_at}
 use Rattle.fri_bytes.proofs.Readers.{chosen}
 use Rattle.wasm_decode.specs.Values.{Reader, ◌>>=◌, tag_at}
-use Rattle.wasm_decode.proofs.Steps.{bind_some, some_is, kept, joined, joined_three, byte_takes}
+use Rattle.wasm_decode.proofs.Steps.{bind_some, some_is, kept, joined, joined_byte, joined_three, byte_takes}
 
 -- another way to say the same spellings
 pub read_as : {A : Type 0} (P R : List ℕ → A → Type 0) (p : Reader A) → Reads P p → ((s : List ℕ) (x : A) → P s x → R s x) → ((s : List ℕ) (x : A) → R s x → P s x) → Reads R p
@@ -89,7 +89,7 @@ tag_read {A} tag P p laws = record {
   takes = λ bytes x rest e.
       let a = bind_some _ _ _ e in
       let one = laws.takes a.0 x rest a.2 in
-      (tag ∷ one.0, tag_takes tag bytes a.0 a.1 ∙ ap (λ (r : List ℕ). tag ∷ r) one.1, (one.0, refl, one.2));
+      (tag ∷ one.0, joined_byte bytes tag a.0 one.0 rest (tag_takes tag bytes a.0 a.1) one.1, (one.0, refl, one.2));
   again = λ s x rest h.
       let front : tag_at tag (s ++ rest) ≡ Some (h.0 ++ rest) = ap (λ (t : List ℕ). tag_at tag (t ++ rest)) h.1 ∙ tag_again tag (h.0 ++ rest) in
       rw front (laws.again h.0 x rest h.2);
@@ -115,7 +115,7 @@ byte_read {A} R at to from = record {
   takes = λ bytes x rest e.
       let b = bind_some _ _ _ e in
       let one = to b.0.0 b.0.1 x rest b.2 in
-      (b.0.0 ∷ one.0, byte_takes bytes b.0.0 b.0.1 b.1 ∙ ap (λ (r : List ℕ). b.0.0 ∷ r) one.1, one.2);
+      (b.0.0 ∷ one.0, joined_byte bytes b.0.0 b.0.1 one.0 rest (byte_takes bytes b.0.0 b.0.1 b.1) one.1, one.2);
   again = λ s x rest h.
       let a = from s x h in
       let front : byte_at (s ++ rest) ≡ Some (a.first, a.behind ++ rest) = ap (λ (t : List ℕ). byte_at (t ++ rest)) a.parts in

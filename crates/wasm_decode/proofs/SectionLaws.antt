@@ -10,7 +10,7 @@ use Rattle.wasm_decode.specs.Gives.{Fails}
 use Rattle.wasm_decode.specs.Grammar.{IsBytes, IsEach, IsSized, BeginsWithName, IsCustom, AreCustoms, IsSection, After}
 use Rattle.wasm_decode.specs.Values.{Reader, ◌>>=◌, bytes_at, name_at, all_of, sized_at}
 use Rattle.wasm_decode.specs.Sections.{custom_name_of, starts, skip_at, customs_at, contents_at, value_of, section_at}
-use Rattle.wasm_decode.proofs.Steps.{bind_some, some_is, joined, byte_takes}
+use Rattle.wasm_decode.proofs.Steps.{bind_some, some_is, joined, joined_byte, byte_takes}
 use Rattle.wasm_decode.proofs.ValueLaws.{ReadsAll, bytes_reads, name_reads, all_reads, sized_reads}
 
 -- ---- custom sections
@@ -49,8 +49,8 @@ skip_takes (suc count) bytes rest room e =
           let one = custom_reads.takes (drop 1 bytes) a.0.0 a.0.1 a.1 in
           let less : length a.0.1 ≤ count = omega (arith, ap length whole, ap length one.1, length-append one.0 a.0.1) in
           let others = skip_takes count a.0.1 rest less a.2 in
-          let behind : drop 1 bytes ≡ (one.0 ++ others.0) ++ rest = joined (drop 1 bytes) one.0 a.0.1 others.0 rest one.1 others.1 in
-          let parts : bytes ≡ ((0 ∷ one.0) ++ others.0) ++ rest = whole ∙ ap (λ (r : List ℕ). 0 ∷ r) behind in
+          let behind = joined (drop 1 bytes) one.0 a.0.1 others.0 rest one.1 others.1 in
+          let parts = joined_byte bytes 0 (drop 1 bytes) (one.0 ++ others.0) rest whole behind in
           ((0 ∷ one.0) ++ others.0, parts, more_customs one.0 a.0.0 others.0 one.2 others.2)
       | inr p ↦ subst (λ (r : List ℕ). (c : List ℕ) × (bytes ≡ c ++ r) × AreCustoms c) (some_is bytes rest p.1) ([], refl, ([], refl))
     ]
@@ -201,7 +201,7 @@ contents_take id bytes found rest e =
           let b = bind_some _ _ _ p.1 in
           let piece = bytes_reads.takes (drop 1 a.0) b.0.0 b.0.1 b.1 in
           let section = id ∷ piece.0 in
-          let behind : a.0 ≡ section ++ b.0.1 = starts_is id a.0 p.0 ∙ ap (λ (r : List ℕ). id ∷ r) piece.1 in
+          let behind = joined_byte a.0 id (drop 1 a.0) piece.0 b.0.1 (starts_is id a.0 p.0) piece.1 in
           subst (λ (y : Option (List ℕ) × List ℕ). Contents id bytes y.0 y.1) (some_is (Some b.0.0, b.0.1) (found, rest) b.2)
           (s.0, section, joined bytes s.0 a.0 section b.0.1 s.1 behind, s.2, (piece.0, refl, piece.2))
       | inr p ↦

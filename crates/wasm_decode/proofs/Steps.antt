@@ -25,7 +25,11 @@ guard_some false x y e = absurd cc
 pub joined : (bytes a between b rest : List ℕ) → bytes ≡ a ++ between → between ≡ b ++ rest → bytes ≡ (a ++ b) ++ rest
 joined bytes a between b rest p q = p ∙ ap (λ (t : List ℕ). a ++ t) q ∙ sym (append_assoc a b rest)
 
--- three of them
+-- a byte, and a part behind it
+pub joined_byte : (bytes : List ℕ) (b : ℕ) (behind a rest : List ℕ) → bytes ≡ b ∷ behind → behind ≡ a ++ rest → bytes ≡ (b ∷ a) ++ rest
+joined_byte bytes b behind a rest p q = p ∙ ap (λ (r : List ℕ). b ∷ r) q
+
+-- three parts
 pub joined_three : (bytes a s b t c rest : List ℕ) → bytes ≡ a ++ s → s ≡ b ++ t → t ≡ c ++ rest → bytes ≡ ((a ++ b) ++ c) ++ rest
 joined_three bytes a s b t c rest p q r = joined bytes (a ++ b) t c rest (joined bytes a s b t p q) r
 

@@ -112,7 +112,7 @@ impl Entry for ImportEntry {
     ghost use Rattle.wasm_types.specs.Modules.{Import, import_of};
     ghost use Rattle.wasm_decode.specs.Entries.{import_at};
 
-    type Value = wasm_types::Import;
+    type Value = Import;
 
     ghost Shown = { Import };
 
@@ -120,7 +120,7 @@ impl Entry for ImportEntry {
 
     ghost read_at = { import_at };
 
-    fn read(alloc: Global, cursor: &mut Cursor) -> Result<wasm_types::Import, DecodeError> {
+    fn read(alloc: Global, cursor: &mut Cursor) -> Result<Import, DecodeError> {
         import(alloc, cursor)
     }
 }
@@ -131,7 +131,7 @@ impl Entry for ExportEntry {
     ghost use Rattle.wasm_types.specs.Modules.{Export, export};
     ghost use Rattle.wasm_decode.specs.Entries.{export_at};
 
-    type Value = wasm_types::Export;
+    type Value = Export;
 
     ghost Shown = { Export };
 
@@ -139,7 +139,7 @@ impl Entry for ExportEntry {
 
     ghost read_at = { export_at };
 
-    fn read(alloc: Global, cursor: &mut Cursor) -> Result<wasm_types::Export, DecodeError> {
+    fn read(alloc: Global, cursor: &mut Cursor) -> Result<Export, DecodeError> {
         export(alloc, cursor)
     }
 }
@@ -150,7 +150,7 @@ impl Entry for GlobalEntry {
     ghost use Rattle.wasm_types.specs.Modules.{GlobalDef, global_def};
     ghost use Rattle.wasm_decode.specs.Entries.{global_at};
 
-    type Value = wasm_types::GlobalDef;
+    type Value = GlobalDef;
 
     ghost Shown = { GlobalDef };
 
@@ -158,7 +158,7 @@ impl Entry for GlobalEntry {
 
     ghost read_at = { global_at };
 
-    fn read(alloc: Global, cursor: &mut Cursor) -> Result<wasm_types::GlobalDef, DecodeError> {
+    fn read(alloc: Global, cursor: &mut Cursor) -> Result<GlobalDef, DecodeError> {
         global(alloc, cursor)
     }
 }
@@ -169,7 +169,7 @@ impl Entry for ElemEntry {
     ghost use Rattle.wasm_types.specs.Modules.{Elem, elem};
     ghost use Rattle.wasm_decode.specs.Entries.{elem_at};
 
-    type Value = wasm_types::Elem;
+    type Value = Elem;
 
     ghost Shown = { Elem };
 
@@ -177,7 +177,7 @@ impl Entry for ElemEntry {
 
     ghost read_at = { elem_at };
 
-    fn read(alloc: Global, cursor: &mut Cursor) -> Result<wasm_types::Elem, DecodeError> {
+    fn read(alloc: Global, cursor: &mut Cursor) -> Result<Elem, DecodeError> {
         elem(alloc, cursor)
     }
 }
@@ -188,7 +188,7 @@ impl Entry for SegmentEntry {
     ghost use Rattle.wasm_types.specs.Modules.{Segment, segment};
     ghost use Rattle.wasm_decode.specs.Entries.{segment_at};
 
-    type Value = wasm_types::Segment;
+    type Value = Segment;
 
     ghost Shown = { Segment };
 
@@ -196,7 +196,7 @@ impl Entry for SegmentEntry {
 
     ghost read_at = { segment_at };
 
-    fn read(alloc: Global, cursor: &mut Cursor) -> Result<wasm_types::Segment, DecodeError> {
+    fn read(alloc: Global, cursor: &mut Cursor) -> Result<Segment, DecodeError> {
         segment(alloc, cursor)
     }
 }

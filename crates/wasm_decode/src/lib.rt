@@ -1,7 +1,7 @@
 //! The binary format of WebAssembly 1.0: the module that bytes spell.
 #![tactic(auto)]
 
-ghost use Rattle.std.specs.Prelude.{◌≡◌, ℕ, List, Some, None, IfOk, IsErrOf, MatchResult};
+ghost use Rattle.std.specs.Prelude.{◌≡◌, ◌↔◌, ℕ, List, Some, None, IfOk, IsErrOf, MatchResult};
 ghost use Rattle.wasm_types.specs.Modules.{module_of, Module as Shown};
 ghost use Rattle.wasm_decode.specs.Gives.{GivesAll};
 ghost use Rattle.wasm_decode.specs.Grammar.{Spells};
@@ -85,9 +85,14 @@ fn module(alloc: Global, bytes: &[u8]) -> Result<Module, DecodeError>
     })
 }
 
-/// Bytes spell at most one module.
+/// A law: bytes spell at most one module.
 pub fn one_module()
     ensures { (bytes : List ℕ) (a b : Shown) → Spells bytes a → Spells bytes b → a ≡ b }
+{}
+
+/// A law: the function that gives the module gives the one that the bytes spell, and no other.
+pub fn module_is_spelled()
+    ensures { (bytes : List ℕ) (m : Shown) → (module_of_bytes bytes ≡ Some m) ↔ Spells bytes m }
 {}
 
 #[cfg(test)]

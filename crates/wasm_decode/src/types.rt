@@ -121,7 +121,7 @@ impl Entry for FuncTypeEntry {
     ghost use Rattle.wasm_types.specs.Modules.{FuncType, func_type};
     ghost use Rattle.wasm_decode.specs.Values.{func_type_at};
 
-    type Value = wasm_types::FuncType;
+    type Value = FuncType;
 
     ghost Shown = { FuncType };
 
@@ -129,7 +129,7 @@ impl Entry for FuncTypeEntry {
 
     ghost read_at = { func_type_at };
 
-    fn read(alloc: Global, cursor: &mut Cursor) -> Result<wasm_types::FuncType, DecodeError> {
+    fn read(alloc: Global, cursor: &mut Cursor) -> Result<FuncType, DecodeError> {
         func_type(alloc, cursor)
     }
 }
