@@ -1,6 +1,6 @@
 -- Readers that are made of readers: what is read is spelled so, and what is spelled so is read, where this
 -- holds of the parts.
-use Rattle.std.proofs.Common.{◌≡◌, ℕ, Bool, true, cond, eqb, inl, inr, List, [], ◌∷◌, ◌++◌, Option, Some, None, refl, sym, ap, ◌∙◌, subst, append_assoc}
+use Rattle.std.proofs.Common.{◌≡◌, ℕ, cond, eqb, inl, inr, List, [], ◌∷◌, ◌++◌, Option, Some, None, refl, sym, ap, ◌∙◌, subst, append_assoc}
 use Rattle.std.proofs.lemmas.Bool.{eqb-true, eq-eqb}
 use Rattle.fri_bytes.specs.Reading.{Reads, Begins, byte_at}
 use Rattle.fri_bytes.proofs.Readers.{chosen}

@@ -1,15 +1,12 @@
 -- Reading what stands in sections gives what its spellings say.
-use Rattle.std.proofs.Common.{◌≡◌, ℕ, ◌^◌, Bool, true, List, [], ◌∷◌, ◌++◌, length, Option, Some, None, refl, sym, ap, ◌∙◌, subst, append_assoc}
-use Rattle.std.specs.Prelude.{sum_by}
+use Rattle.std.proofs.Common.{◌≡◌, ℕ, true, List, [], ◌∷◌, ◌++◌, length, Option, Some, None, refl, sym, ap, ◌∙◌, subst, append_assoc}
 use Rattle.std.proofs.lemmas.Bool.{eqb-true, eq-eqb, ltb-true, lt-ltb}
 use Rattle.fri_bytes.specs.Reading.{Reads, Begins}
-use Rattle.wasm_types.specs.declared.code.ValType.{ValType}
 use Rattle.wasm_types.specs.declared.modules.ImportDesc.{ImportDesc}
 use Rattle.wasm_types.specs.declared.modules.ImportDesc.TheVariants as imported
 use Rattle.wasm_types.specs.declared.modules.ExportDesc.{ExportDesc}
 use Rattle.wasm_types.specs.declared.modules.ExportDesc.TheVariants as exported
-use Rattle.wasm_types.specs.Code.{Trees}
-use Rattle.wasm_types.specs.Modules.{Import, Func, GlobalDef, Export, Elem, Segment}
+use Rattle.wasm_types.specs.Modules.{Func}
 use Rattle.wasm_decode.specs.Grammar.{IsU32, IsVector, IsBytes, IsName, IsSized, IsValType, IsLimits, IsTable, IsGlobalType, IsExpr, IsImportDesc, IsImport, IsGlobal, IsExportDesc, IsExport, IsStart, IsElem, IsLocals, IsFunc, AreFuncs, IsCode, IsSegment}
 use Rattle.wasm_decode.specs.Values.{Reader, ◌>>=◌, u32_at, vector_at, bytes_at, name_at, all_of, sized_at, val_type_at, limits_at, table_at, global_type_at}
 use Rattle.wasm_decode.specs.Instrs.{expr_at}

@@ -6,8 +6,8 @@ use Rattle.fri_bytes.proofs.Readers.{chosen}
 use Rattle.wasm_types.specs.declared.code.ValType.{ValType}
 use Rattle.wasm_types.specs.Code.{Tree, Trees, Unreachable, Nop, Block, Loop, If, Br, BrIf, BrTable, Return, CallFunc, CallIndirect, DropTop, Select, LocalGet, LocalSet, LocalTee, GlobalGet, GlobalSet, Load, Store, MemorySize, MemoryGrow, ConstI32, ConstI64, ConstF32, ConstF64, Op, End, Then}
 use Rattle.wasm_decode.specs.Grammar.{IsU32, IsI32, IsI64, IsF32, IsF64, IsVector, IsResultType, IsMemArg, IsInstr, IsInstrs, NestsWithin, AllNestWithin, IsExpr}
-use Rattle.wasm_decode.specs.Values.{Reader, ◌>>=◌, u32_at, i32_at, i64_at, f32_at, f64_at, tag_at, vector_at, result_type_at}
-use Rattle.wasm_decode.specs.Instrs.{Ended, whole_at, block_at, if_at, with_number, zero_at, br_table_at, indirect_at, access_at, control_at, variable_at, memory_at, numeric_at, plain_at, instr_at, is_end, sequence_at, levels_at, expr_at}
+use Rattle.wasm_decode.specs.Values.{u32_at, i32_at, i64_at, f32_at, f64_at, tag_at, vector_at, result_type_at}
+use Rattle.wasm_decode.specs.Instrs.{Ended, whole_at, block_at, if_at, zero_at, br_table_at, indirect_at, access_at, control_at, variable_at, memory_at, numeric_at, plain_at, instr_at, is_end, sequence_at, levels_at, expr_at}
 use Rattle.wasm_decode.proofs.Steps.{bind_some, some_is, guard_some, joined, byte_takes}
 use Rattle.wasm_decode.proofs.Compose.{Behind, two_read, tag_takes, case_takes, last_takes, alone_takes, one_takes, all_takes}
 use Rattle.wasm_decode.proofs.ValueLaws.{u32_reads, i32_reads, i64_reads, f32_reads, f64_reads, vector_reads, result_type_reads}

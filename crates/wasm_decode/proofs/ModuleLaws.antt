@@ -1,14 +1,14 @@
 -- The module that is read is the one that the bytes spell.
-use Rattle.std.proofs.Common.{◌≡◌, ℕ, ◌<◌, true, eqb, List, [], ◌∷◌, ◌++◌, length, take, drop, Option, Some, None, refl, sym, ap, ◌∙◌, subst, lit<}
+use Rattle.std.proofs.Common.{◌≡◌, ℕ, true, eqb, List, [], ◌++◌, length, take, drop, Some, None, refl, sym, ap, ◌∙◌, subst, lit<}
 use Rattle.std.specs.Cmp.Lexicographic.{bytes_decides}
 use Rattle.std.proofs.lemmas.Bool.{eqb-true, eq-eqb}
 use Rattle.std.proofs.lemmas.List.{take-append-drop}
 use Rattle.wasm_types.specs.Modules.{Module}
-use Rattle.wasm_decode.specs.Grammar.{IsU32, IsVector, IsFuncType, IsLimits, IsTable, IsImport, IsGlobal, IsExport, IsStart, IsElem, IsCode, IsSegment, AreCustoms, After, header, AreSections, Spells}
-use Rattle.wasm_decode.specs.Values.{◌>>=◌, u32_at, vector_at, end_of, func_type_at, limits_at, table_at}
+use Rattle.wasm_decode.specs.Grammar.{IsU32, IsVector, IsFuncType, IsLimits, IsTable, IsImport, IsGlobal, IsExport, IsStart, IsElem, IsCode, IsSegment, AreCustoms, After, header, Spells}
+use Rattle.wasm_decode.specs.Values.{u32_at, vector_at, end_of, func_type_at, limits_at, table_at}
 use Rattle.wasm_decode.specs.Entries.{import_at, export_at, global_at, start_at, elem_at, segment_at, code_at}
 use Rattle.wasm_decode.specs.Sections.{customs_at, section_at, header_at, module_of_bytes}
-use Rattle.wasm_decode.proofs.Steps.{bind_some, some_is, guard_some}
+use Rattle.wasm_decode.proofs.Steps.{bind_some, guard_some}
 use Rattle.wasm_decode.proofs.ValueLaws.{vector_reads, end_takes, func_type_reads, limits_reads, table_reads}
 use Rattle.wasm_decode.proofs.EntryLaws.{indices_read, import_reads, export_reads, global_reads, start_reads, elem_reads, segment_reads, code_reads}
 use Rattle.wasm_decode.proofs.SectionLaws.{Tail, tail_end, tail_after, section_takes, section_again, customs_take, customs_again}

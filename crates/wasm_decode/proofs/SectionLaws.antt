@@ -8,7 +8,7 @@ use Rattle.wasm_decode.specs.declared.error.DecodeError.{DecodeError}
 use Rattle.wasm_decode.specs.declared.error.DecodeError.TheVariants as errors
 use Rattle.wasm_decode.specs.Gives.{Fails}
 use Rattle.wasm_decode.specs.Grammar.{IsBytes, IsEach, IsSized, BeginsWithName, IsCustom, AreCustoms, IsSection, After}
-use Rattle.wasm_decode.specs.Values.{Reader, ◌>>=◌, bytes_at, name_at, all_of, sized_at}
+use Rattle.wasm_decode.specs.Values.{Reader, bytes_at, name_at, all_of, sized_at}
 use Rattle.wasm_decode.specs.Sections.{custom_name_of, starts, skip_at, customs_at, contents_at, value_of, section_at}
 use Rattle.wasm_decode.proofs.Steps.{bind_some, some_is, joined, joined_byte, byte_takes}
 use Rattle.wasm_decode.proofs.ValueLaws.{ReadsAll, bytes_reads, name_reads, all_reads, sized_reads}

@@ -1,13 +1,12 @@
 -- Reading numbers, vectors and types gives what their spellings say.
-use Rattle.std.proofs.Common.{◌≡◌, ℕ, zero, suc, ◌^◌, Bool, true, false, cond, eqb, List, [], ◌∷◌, ◌++◌, length, Option, Some, None, refl, sym, ap, ◌∙◌, subst, append_assoc}
-use Rattle.std.specs.Prelude.{IsUtf8, ◌==◌, if◌then◌else◌}
+use Rattle.std.proofs.Common.{◌≡◌, ℕ, zero, suc, ◌^◌, Bool, true, false, List, [], ◌∷◌, ◌++◌, length, Option, Some, None, refl, sym, ap, ◌∙◌, subst, append_assoc}
+use Rattle.std.specs.Prelude.{◌==◌, if◌then◌else◌}
 use Rattle.std.specs.Int.{w32, w64, cast_unsigned}
-use Rattle.std.specs.Str.{is_utf8}
 use Rattle.std.proofs.lemmas.Bool.{eqb-true}
 use Rattle.std.proofs.lemmas.List.{append-nil, nil_from_length}
 use Rattle.std.proofs.lemmas.Str.{is_utf8-from_IsUtf8, IsUtf8-from_is_utf8}
 use Rattle.fri_bytes.specs.Leb.{IsSigned, signed_at}
-use Rattle.fri_bytes.specs.Reading.{Reads, Begins, byte_at, piece_at}
+use Rattle.fri_bytes.specs.Reading.{Reads, Begins}
 use Rattle.fri_bytes.proofs.Readers.{piece_reads}
 use Rattle.fri_bytes.proofs.LebLaws.{unsigned_reads, signed_reads}
 use Rattle.fri_bytes.proofs.Le.{le_reads}
@@ -17,8 +16,8 @@ use Rattle.wasm_types.specs.declared.modules.Limits.{Limits}
 use Rattle.wasm_types.specs.Modules.{FuncType}
 use Rattle.wasm_decode.specs.Grammar.{IsU32, IsI32, IsI64, IsF32, IsF64, IsEach, IsVector, IsBytes, IsName, IsSized, IsValType, IsResultType, IsFuncType, IsMinMax, IsLimits, IsTable, IsMutable, IsGlobalType}
 use Rattle.wasm_decode.specs.Values.{Reader, ◌>>=◌, u32_at, i32_at, i64_at, f32_at, f64_at, each_at, vector_at, bytes_at, name_at, end_of, all_of, sized_at, val_type_of, val_type_at, result_type_at, func_type_at, min_at, min_max_at, limits_of, limits_at, table_at, mutable_of, mutable_at, global_type_at}
-use Rattle.wasm_decode.proofs.Steps.{bind_some, some_is, kept, guard_some, joined}
-use Rattle.wasm_decode.proofs.Compose.{Behind, AgainBehind, read_as, one_read, two_read, tag_read, byte_read, case_takes, last_takes, alone_takes, one_takes, all_takes, value_takes}
+use Rattle.wasm_decode.proofs.Steps.{bind_some, some_is, guard_some, joined}
+use Rattle.wasm_decode.proofs.Compose.{Behind, AgainBehind, read_as, one_read, two_read, tag_read, byte_read, case_takes, last_takes, alone_takes, all_takes, value_takes}
 
 -- ---- numbers
 

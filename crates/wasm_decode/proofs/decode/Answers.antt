@@ -1,5 +1,5 @@
 use Rattle.std.proofs.Common.{◌≡◌, ℕ, List, refl, subst}
-use Rattle.std.specs.Prelude.{Result, Ok, Err, Option, Some, None, IfOk, IsErrOf, MatchResult}
+use Rattle.std.specs.Prelude.{Result, Ok, Err, Some, None, IfOk, IsErrOf, MatchResult}
 use Rattle.wasm_types.specs.declared.modules.Module.{Module as RustModule}
 use Rattle.wasm_types.specs.Modules.{module_of, Module}
 use Rattle.wasm_decode.specs.declared.error.DecodeError.{DecodeError}
