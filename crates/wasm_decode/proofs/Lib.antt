@@ -1,0 +1,9 @@
+pub mod Steps
+pub mod Compose
+pub mod ValueLaws
+pub mod InstrLaws
+pub mod EntryLaws
+pub mod SectionLaws
+pub mod ModuleLaws
+pub mod Loops
+pub mod InstrLoop

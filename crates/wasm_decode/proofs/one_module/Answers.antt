@@ -1,0 +1,7 @@
+use Rattle.std.proofs.Common.{sym, ◌∙◌}
+use Rattle.wasm_decode.proofs.Steps.{some_is}
+use Rattle.wasm_decode.proofs.ModuleLaws.{module_again}
+use Rattle.wasm_decode.proofs.one_module.Goals as goal
+
+pub returns : goal.returns
+returns c = λ bytes a b first second. some_is a b (sym (module_again bytes a first) ∙ module_again bytes b second)

@@ -1,0 +1,201 @@
+// Instructions and expressions (WebAssembly 1.0, section 5.4).
+ghost use Rattle.std.specs.Prelude.{◌≡◌};
+ghost use Rattle.wasm_types.specs.Code.{tree, trees};
+ghost use Rattle.wasm_decode.specs.Gives.{Gives};
+ghost use Rattle.wasm_decode.specs.Instrs.{Ended, whole_at, control_at, variable_at, memory_at, numeric_at, plain_at, instr_at, levels_at, expr_at};
+
+use crate::error::DecodeError;
+use crate::numbers::{bits_of_f32, bits_of_f64, bits_of_i32, bits_of_i64, byte, number, tag};
+use crate::types::result_type;
+use crate::vectors::{IndexEntry, vector};
+use fri_bytes::Cursor;
+use std::alloc::Global;
+use wasm_types::Instr;
+
+/// The levels of an expression, in which blocks nest at most 1,000 deep. This bounds the recursion too.
+const LEVELS: u32 = 1001;
+
+// The bytes that end instructions.
+
+const ELSE: u8 = 0x05;
+
+const END: u8 = 0x0b;
+
+#[tactic(auto, unfolding(crate::specs::Instrs::expr_at))]
+pub(crate) fn expression(alloc: Global, cursor: &mut Cursor) -> Result<Vec<Instr>, DecodeError>
+    ensures { Gives (λ v. trees v.items) result cursor.new (expr_at cursor.old.left) }
+{
+    whole(alloc, cursor, LEVELS)
+}
+
+/// Instructions in less than so many levels that `END` ends.
+#[cycle(instrs)]
+#[tactic(auto, unfolding(crate::specs::Instrs::whole_at))]
+fn whole(alloc: Global, cursor: &mut Cursor, levels: u32) -> Result<Vec<Instr>, DecodeError>
+    ensures { Gives (λ v. trees v.items) result cursor.new (whole_at (levels_at levels) cursor.old.left) }
+{
+    let (instrs, end) = sequence(alloc, cursor, levels)?;
+    if end != END {
+        return Err(DecodeError::Malformed);
+    }
+    Ok(instrs)
+}
+
+/// Instructions in less than so many levels, and the byte that ends them.
+#[cycle(instrs)]
+fn sequence(
+    alloc: Global,
+    cursor: &mut Cursor,
+    levels: u32,
+) -> Result<(Vec<Instr>, u8), DecodeError>
+    ensures { Gives (λ x. (trees x.0.items, x.1)) result cursor.new (levels_at levels cursor.old.left) }
+{
+    if levels == 0 {
+        return Err(DecodeError::Malformed);
+    }
+    let mut instrs = Vec::new(alloc);
+    loop {
+        let opcode = byte(cursor)?;
+        if opcode == END || opcode == ELSE {
+            return Ok((instrs, opcode));
+        }
+        let next = instr(alloc, cursor, levels - 1, opcode)?;
+        instrs.push(next)?;
+    }
+}
+
+/// An instruction behind its first byte, with those inside it in less than so many levels.
+#[cycle(instrs)]
+#[tactic(auto, unfolding(crate::specs::Instrs::instr_at, crate::specs::Instrs::block_at, crate::specs::Instrs::if_at))]
+fn instr(alloc: Global, cursor: &mut Cursor, levels: u32, opcode: u8) -> Result<Instr, DecodeError>
+    ensures { Gives tree result cursor.new (instr_at (levels_at levels) opcode cursor.old.left) }
+{
+    match opcode {
+        0x02 => {
+            let result = result_type(cursor)?;
+            let body = whole(alloc, cursor, levels)?;
+            Ok(Instr::Block(result, body))
+        }
+        0x03 => {
+            let result = result_type(cursor)?;
+            let body = whole(alloc, cursor, levels)?;
+            Ok(Instr::Loop(result, body))
+        }
+        0x04 => {
+            let result = result_type(cursor)?;
+            let (on_true, end) = sequence(alloc, cursor, levels)?;
+            if end == END {
+                return Ok(Instr::If(result, on_true, Vec::new(alloc)));
+            }
+            let on_false = whole(alloc, cursor, levels)?;
+            Ok(Instr::If(result, on_true, on_false))
+        }
+        _ => plain(alloc, cursor, opcode),
+    }
+}
+
+/// An instruction with none inside it, behind its first byte.
+#[tactic(auto, unfolding(crate::specs::Instrs::plain_at))]
+fn plain(alloc: Global, cursor: &mut Cursor, opcode: u8) -> Result<Instr, DecodeError>
+    ensures { Gives tree result cursor.new (plain_at opcode cursor.old.left) }
+{
+    match opcode {
+        0x00..=0x11 => control(alloc, cursor, opcode),
+        0x12..=0x24 => variable(cursor, opcode),
+        0x25..=0x40 => memory(cursor, opcode),
+        _ => numeric(cursor, opcode),
+    }
+}
+
+/// A control instruction (section 5.4.1).
+#[tactic(auto, unfolding(crate::specs::Instrs::control_at, crate::specs::Instrs::br_table_at, crate::specs::Instrs::indirect_at, crate::specs::Instrs::zero_at))]
+fn control(alloc: Global, cursor: &mut Cursor, opcode: u8) -> Result<Instr, DecodeError>
+    ensures { Gives tree result cursor.new (control_at opcode cursor.old.left) }
+{
+    match opcode {
+        0x00 => Ok(Instr::Unreachable),
+        0x01 => Ok(Instr::Nop),
+        0x0c => Ok(Instr::Br(number(cursor)?)),
+        0x0d => Ok(Instr::BrIf(number(cursor)?)),
+        0x0e => {
+            let labels = vector::<IndexEntry>(alloc, cursor)?;
+            Ok(Instr::BrTable(labels, number(cursor)?))
+        }
+        0x0f => Ok(Instr::Return),
+        0x10 => Ok(Instr::CallFunc(number(cursor)?)),
+        0x11 => {
+            let type_index = number(cursor)?;
+            tag(cursor, 0x00)?;
+            Ok(Instr::CallIndirect(type_index))
+        }
+        _ => Err(DecodeError::Malformed),
+    }
+}
+
+/// A parametric instruction or one on variables (sections 5.4.2 and 5.4.3).
+#[tactic(auto, unfolding(crate::specs::Instrs::variable_at))]
+fn variable(cursor: &mut Cursor, opcode: u8) -> Result<Instr, DecodeError>
+    ensures { Gives tree result cursor.new (variable_at opcode cursor.old.left) }
+{
+    match opcode {
+        0x1a => Ok(Instr::DropTop),
+        0x1b => Ok(Instr::Select),
+        0x20 => Ok(Instr::LocalGet(number(cursor)?)),
+        0x21 => Ok(Instr::LocalSet(number(cursor)?)),
+        0x22 => Ok(Instr::LocalTee(number(cursor)?)),
+        0x23 => Ok(Instr::GlobalGet(number(cursor)?)),
+        0x24 => Ok(Instr::GlobalSet(number(cursor)?)),
+        _ => Err(DecodeError::Malformed),
+    }
+}
+
+/// A memory instruction (section 5.4.4).
+#[tactic(auto, unfolding(crate::specs::Instrs::memory_at, crate::specs::Instrs::access_at, crate::specs::Instrs::zero_at))]
+fn memory(cursor: &mut Cursor, opcode: u8) -> Result<Instr, DecodeError>
+    ensures { Gives tree result cursor.new (memory_at opcode cursor.old.left) }
+{
+    match opcode {
+        0x28..=0x35 => {
+            let align = number(cursor)?;
+            let offset = number(cursor)?;
+            Ok(Instr::Load {
+                opcode,
+                align,
+                offset,
+            })
+        }
+        0x36..=0x3e => {
+            let align = number(cursor)?;
+            let offset = number(cursor)?;
+            Ok(Instr::Store {
+                opcode,
+                align,
+                offset,
+            })
+        }
+        0x3f => {
+            tag(cursor, 0x00)?;
+            Ok(Instr::MemorySize)
+        }
+        0x40 => {
+            tag(cursor, 0x00)?;
+            Ok(Instr::MemoryGrow)
+        }
+        _ => Err(DecodeError::Malformed),
+    }
+}
+
+/// A numeric instruction (section 5.4.5).
+#[tactic(auto, unfolding(crate::specs::Instrs::numeric_at))]
+fn numeric(cursor: &mut Cursor, opcode: u8) -> Result<Instr, DecodeError>
+    ensures { Gives tree result cursor.new (numeric_at opcode cursor.old.left) }
+{
+    match opcode {
+        0x41 => Ok(Instr::ConstI32(bits_of_i32(cursor)?)),
+        0x42 => Ok(Instr::ConstI64(bits_of_i64(cursor)?)),
+        0x43 => Ok(Instr::ConstF32(bits_of_f32(cursor)?)),
+        0x44 => Ok(Instr::ConstF64(bits_of_f64(cursor)?)),
+        0x45..=0xbf => Ok(Instr::Op(opcode)),
+        _ => Err(DecodeError::Malformed),
+    }
+}

@@ -1,0 +1,99 @@
+//! The binary format of WebAssembly 1.0: the module that bytes spell.
+#![tactic(auto)]
+
+ghost use Rattle.std.specs.Prelude.{◌≡◌, ◌↔◌, ℕ, List, Some, None, IfOk, IsErrOf, MatchResult};
+ghost use Rattle.wasm_types.specs.Modules.{module_of, Module as Shown};
+ghost use Rattle.wasm_decode.specs.Gives.{GivesAll};
+ghost use Rattle.wasm_decode.specs.Grammar.{Spells};
+ghost use Rattle.wasm_decode.specs.Sections.{module_of_bytes};
+
+mod entries;
+mod error;
+mod functions;
+mod instructions;
+mod numbers;
+mod sections;
+mod types;
+mod vectors;
+
+use entries::{ElemEntry, ExportEntry, GlobalEntry, ImportEntry, SegmentEntry};
+pub use error::DecodeError;
+use fri_bytes::Cursor;
+use numbers::end;
+use sections::{code_section, customs, header, section, start_section};
+use std::alloc::Global;
+use types::{FuncTypeEntry, MemoryEntry, TableEntry};
+use vectors::IndexEntry;
+use wasm_types::Module;
+
+/// The module that the bytes spell, by the binary format of WebAssembly 1.0 (its chapter 5), floats
+/// included. `Malformed` comes where they spell none. Blocks may nest 1,000 deep, and more of them are
+/// Malformed, as is all that came after version 1.0.
+pub fn decode(alloc: Global, bytes: &[u8]) -> Result<Module, DecodeError>
+    // What is decoded is spelled so.
+    ensures found { IfOk result (λ m. Spells bytes.now (module_of m)) }
+
+    // What is spelled so is decoded, unless memory runs out.
+    ensures only { (m : Shown) → Spells bytes.now m →
+        MatchResult result (λ found. module_of found ≡ m) (λ e. e ≡ DecodeError.NoMemory) }
+
+    // Malformed comes only where no module is spelled.
+    ensures malformed { IsErrOf result DecodeError.Malformed → (m : Shown) → Spells bytes.now m → ⊥ }
+
+    // The same, in the words of the function that gives the module.
+    ensures computed { MatchResult result
+        (λ m. module_of_bytes bytes.now ≡ Some (module_of m))
+        (λ e. e ≡ DecodeError.Malformed → module_of_bytes bytes.now ≡ None) }
+{
+    module(alloc, bytes)
+}
+
+/// The header, the sections in their order, and nothing more.
+#[tactic(auto, unfolding(crate::specs::Sections::module_of_bytes))]
+fn module(alloc: Global, bytes: &[u8]) -> Result<Module, DecodeError>
+    ensures { GivesAll module_of result (module_of_bytes bytes.now) }
+{
+    let mut cursor = Cursor::new(bytes);
+    header(&mut cursor)?;
+    let types = section::<FuncTypeEntry>(alloc, &mut cursor, 1)?;
+    let imports = section::<ImportEntry>(alloc, &mut cursor, 2)?;
+    let indices = section::<IndexEntry>(alloc, &mut cursor, 3)?;
+    let tables = section::<TableEntry>(alloc, &mut cursor, 4)?;
+    let mems = section::<MemoryEntry>(alloc, &mut cursor, 5)?;
+    let globals = section::<GlobalEntry>(alloc, &mut cursor, 6)?;
+    let exports = section::<ExportEntry>(alloc, &mut cursor, 7)?;
+    let start = start_section(&mut cursor)?;
+    let elems = section::<ElemEntry>(alloc, &mut cursor, 9)?;
+    let funcs = code_section(alloc, &mut cursor, &indices)?;
+    let segments = section::<SegmentEntry>(alloc, &mut cursor, 11)?;
+    customs(&mut cursor)?;
+    end(&cursor)?;
+    if funcs.len() != indices.len() {
+        return Err(DecodeError::Malformed);
+    }
+    Ok(Module {
+        types,
+        imports,
+        funcs,
+        tables,
+        mems,
+        globals,
+        exports,
+        start,
+        elems,
+        segments,
+    })
+}
+
+/// A law: bytes spell at most one module.
+pub fn one_module()
+    ensures { (bytes : List ℕ) (a b : Shown) → Spells bytes a → Spells bytes b → a ≡ b }
+{}
+
+/// A law: the function that gives the module gives the one that the bytes spell, and no other.
+pub fn module_is_spelled()
+    ensures { (bytes : List ℕ) (m : Shown) → (module_of_bytes bytes ≡ Some m) ↔ Spells bytes m }
+{}
+
+#[cfg(test)]
+mod tests;
