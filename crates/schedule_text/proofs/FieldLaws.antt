@@ -31,6 +31,7 @@ record IsCut (line : List ℕ) : Type 0 where
   cut : slice_split is_blank line ≡ take (position_or_len is_blank line) line ∷ parts
   fields : filter (λ part. ltb 0 (length part)) parts ≡ fields_of (drop (position_or_len is_blank line) line)
 
+-- every line is cut so
 cut_of : (line : List ℕ) → IsCut line
 cut_of [] = record { parts = []; cut = refl; fields = refl }
 cut_of (b ∷ line) =
@@ -42,6 +43,7 @@ cut_of (b ∷ line) =
           record { parts = r.parts; cut = rw (other, one_more k, r.cut) refl; fields = rw (other, one_more k) r.fields }
     ]
 
+-- a part of one byte or more is no empty one
 long : (b k : ℕ) (line : List ℕ) → ltb 0 (length (take (suc k) (b ∷ line))) ≡ true
 long b k line = lt-ltb 0 (length (take (suc k) (b ∷ line))) (omega arith)
 
@@ -57,6 +59,7 @@ first_of : (rest : List ℕ) → 0 < length rest → is_blank (get_or rest 0 0) 
 first_of [] some other = absurd (omega arith)
 first_of (b ∷ line) some other = first b line other
 
+-- a place that is found only below `most`, or `most`, is the place or `most`
 unwrap_or-cond : (n most : ℕ) → n ≤ most → unwrap_or (cond (ltb n most) (Some n) None) most ≡ n
 unwrap_or-cond n most h = grind arith
 
@@ -64,6 +67,7 @@ unwrap_or-cond n most h = grind arith
 end_is : (rest : List ℕ) (end : ℕ) (found : Option ℕ) → found ≡ position is_blank rest → end ≡ unwrap_or found (length rest) → end ≡ position_or_len is_blank rest
 end_is rest end found e f = f ∙ ap (λ (o : Option ℕ). unwrap_or o (length rest)) e ∙ unwrap_or-cond (position_or_len is_blank rest) (length rest) (prefix_len-le-length _ rest)
 
+-- the rest of a line from a place on has as many bytes as are left
 whole : (line : List ℕ) (start : ℕ) → take (length line - start) (drop start line) ≡ drop start line
 whole line start = ap (λ (n : ℕ). take n (drop start line)) (sym (length-drop start line)) ∙ take-length (drop start line)
 
@@ -74,6 +78,7 @@ no_field line none =
     let far : length line ≤ n = elim (cases_lt n (length line)) [ inl lt ↦ absurd (let t = lt-ltb n (length line) lt in let e : Some n ≡ None = (sym (rw t refl) ∙ none) in cc) | inr ge ↦ ge ] in
     sym (skip line n refl) ∙ ap fields_of (drop_of_length-le line far)
 
+-- a place that is found is that of the first byte that passes
 position_is : (p : ℕ → Bool) (line : List ℕ) (n : ℕ) → position p line ≡ Some n → n ≡ position_or_len p line
 position_is p line n e = sym (cond_some (ltb (position_or_len p line) (length line)) (position_or_len p line) n e).1
 

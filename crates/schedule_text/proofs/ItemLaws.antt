@@ -18,9 +18,11 @@ use Rattle.schedule_text.specs.Reading.{number_of, process_number_of, times_of, 
 use Rattle.schedule_text.specs.Schedule.{IsInRange, IsProcess, is_module_name}
 use Rattle.schedule_text.proofs.WordLaws.{bind_some, kept, field_takes, last_takes, number_takes, number_again, process_takes, process_again, value_takes, value_again, times_takes, times_again}
 
+-- two words that compare equal are one
 pub is_word : (word text : List ℕ) → bytes_eq word text ≡ true → word ≡ text
 is_word word text e = (bytes_eq-Decides word text).0 e
 
+-- one word compares equal to itself
 pub same_word : (word text : List ℕ) → word ≡ text → bytes_eq word text ≡ true
 same_word word text e = (bytes_eq-Decides word text).1 e
 
@@ -40,6 +42,7 @@ record HasRun (processes : ℕ) (fields : List (List ℕ)) (item : Item) : Type 
   thread_is : IsNumber t thread × (thread ≤ MOST_THREAD)
   times_are : times_of rest ≡ Some times
 
+-- what was read, field by field
 run_parts : (processes : ℕ) (fields : List (List ℕ)) (item : Item) → run_of processes fields ≡ Some item → HasRun processes fields item
 unfolding run_of
 run_parts processes fields item e =
@@ -62,6 +65,7 @@ run_parts processes fields item e =
       times_are = times.1;
     }
 
+-- these parts are written as a run item, in range
 run_written : (processes : ℕ) (p t : List ℕ) (rest : List (List ℕ)) (process thread times : ℕ) → IsNumber p process × (process < processes) → IsNumber t thread × (thread ≤ MOST_THREAD) → times_of rest ≡ Some times → IsItemLine (codes "run" ∷ p ∷ t ∷ rest) (Run process thread times) × IsInRange processes (Run process thread times)
 run_written processes p t rest process thread times is_process is_thread e =
     elim (times_takes rest times e) [
@@ -75,6 +79,7 @@ run_written processes p t rest process thread times is_process is_thread e =
       )
     ]
 
+-- what is read behind `run` is written so and in range
 run_takes : (processes : ℕ) (word : List ℕ) (fields : List (List ℕ)) (item : Item) → word ≡ codes "run" → run_of processes fields ≡ Some item → IsItemLine (word ∷ fields) item × IsInRange processes item
 run_takes processes word fields item is e =
     let h = run_parts processes fields item e in
@@ -82,6 +87,7 @@ run_takes processes word fields item is e =
     let line : codes "run" ∷ h.p ∷ h.t ∷ h.rest ≡ word ∷ fields = ap (λ (v : List ℕ). v ∷ h.p ∷ h.t ∷ h.rest) (sym is) ∙ ap (λ (fs : List (List ℕ)). word ∷ fs) (sym h.fields_are) in
     subst (λ (i : Item). IsItemLine (word ∷ fields) i × IsInRange processes i) h.item_is (subst (λ (fs : List (List ℕ)). IsItemLine fs (Run h.process h.thread h.times) × IsInRange processes (Run h.process h.thread h.times)) line w)
 
+-- what is read behind `clock` is written so and in range
 clock_takes : (processes : ℕ) (word : List ℕ) (fields : List (List ℕ)) (item : Item) → word ≡ codes "clock" → clock_of processes fields ≡ Some item → IsItemLine (word ∷ fields) item × IsInRange processes item
 unfolding clock_of
 clock_takes processes word fields item is e =
@@ -107,15 +113,18 @@ item_takes processes word fields item e =
           clock_takes processes word fields item (is_word word (codes "clock") some.0) some.1
     ]
 
+-- the fields of a run item in range are read
 run_again : (processes : ℕ) (p t : List ℕ) (rest : List (List ℕ)) (process thread times : ℕ) → IsNumber p process → process < processes → IsNumber t thread → thread ≤ MOST_THREAD → times_of rest ≡ Some times → run_of processes (p ∷ t ∷ rest) ≡ Some (Run process thread times)
 unfolding run_of
 run_again processes p t rest process thread times is_process below is_thread small tries =
     rw (process_again processes p process is_process below, number_again MOST_THREAD t thread is_thread small, tries) refl
 
+-- a line whose first word is `run` is read as a run item
 run_line : (processes : ℕ) (word : List ℕ) (fields : List (List ℕ)) (item : Item) → word ≡ codes "run" → run_of processes fields ≡ Some item → item_of processes word fields ≡ Some item
 unfolding item_of
 run_line processes word fields item is e = rw (same_word word (codes "run") is) e
 
+-- a clock item in range is read
 clock_line : (processes : ℕ) (word p v : List ℕ) (process : ℕ) (value : ℤ) → word ≡ codes "clock" → IsNumber p process → process < processes → IsSignedNumber v value → FitsSigned w64 value → item_of processes word (p ∷ v ∷ []) ≡ Some (Clock process value)
 unfolding item_of clock_of
 clock_line processes word p v process value is is_process below is_value fits =
@@ -149,9 +158,11 @@ item_word word (p ∷ v ∷ n ∷ fields) (Clock process value) line = absurd li
 
 -- ---- processes
 
+-- the process of this name and this module
 abbrev named : List ℕ → List ℕ → ProcessLine
 named name file = record { name = name; «module» = file }
 
+-- a process that was read has the name and the module of its line, which are in range
 process_parts : (name file : List ℕ) (line : ProcessLine) → cond (is_name name && is_module_name file) (Some (named name file)) None ≡ Some line → (name ≡ line.name) × (file ≡ line.module) × IsProcess line
 process_parts name file line e =
     let some = kept (is_name name && is_module_name file) (Some (named name file)) line e in
@@ -159,6 +170,7 @@ process_parts name file line e =
     let same : named name file ≡ line = (let there = some.1 in cc) in
     (ap (λ (l : ProcessLine). l.name) same, ap (λ (l : ProcessLine). l.module) same, subst IsProcess same (record { name = good.0; file = good.1 }))
 
+-- what is read as a process is written so and in range
 pub process_line_takes : (word : List ℕ) (fields : List (List ℕ)) (line : ProcessLine) → word ≡ codes "process" → process_line_of fields ≡ Some line → IsProcessLine (word ∷ fields) line × IsProcess line
 unfolding process_line_of
 process_line_takes word fields line is e =
@@ -168,12 +180,14 @@ process_line_takes word fields line is e =
     let fields_are : fields ≡ line.name ∷ line.module ∷ [] = field_takes fields name.0.0 name.0.1 name.1 ∙ ap (λ (fs : List (List ℕ)). name.0.0 ∷ fs) (last_takes name.0.1 file.0 file.1) ∙ ap (λ (n : List ℕ). n ∷ file.0 ∷ []) parts.0 ∙ ap (λ (f : List ℕ). line.name ∷ f ∷ []) parts.1 in
     (ap (λ (v : List ℕ). v ∷ fields) is ∙ ap (λ (fs : List (List ℕ)). codes "process" ∷ fs) fields_are, parts.2)
 
+-- a process in range is read
 pub process_line_again : (line : ProcessLine) → IsProcess line → process_line_of (line.name ∷ line.module ∷ []) ≡ Some line
 unfolding process_line_of
 process_line_again line good = rw (and_from (is_name line.name) (is_module_name line.module) good.name good.file) refl
 
 -- ---- the header
 
+-- what is taken for the header is the header
 pub header_takes : (word : List ℕ) (fields : List (List ℕ)) → is_header word fields ≡ true → IsHeader (word ∷ fields)
 header_takes word [] e = absurd cc
 header_takes word (version ∷ []) e =

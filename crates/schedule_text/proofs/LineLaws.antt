@@ -25,6 +25,7 @@ lines_give part (line ∷ lines) = with_line part line >>= λ next. lines_give n
 give-passed : (part : Part) (line : List ℕ) (lines : List (List ℕ)) → is_passed_over (fields_of line) ≡ true → lines_give part (line ∷ lines) ≡ lines_give part lines
 give-passed part line lines e = ap (λ (o : Option Part). o >>= λ next. lines_give next lines) (passed_line part line e)
 
+-- two things that are found at once are one
 pub some_is : {A : Type 0} (x y : A) → ◌≡◌ {A = Option A} (Some x) (Some y) → x ≡ y
 some_is x y e = cc
 
@@ -36,6 +37,7 @@ kept_step part line next h e =
 
 -- ---- what comes of lines is in range
 
+-- what comes of lines stays in range
 pub all_keep : (lines : List (List ℕ)) (part end : Part) → IsPart part → lines_give part lines ≡ Some end → IsPart end
 all_keep [] part end h e = subst IsPart (some_is part end e) h
 all_keep (line ∷ lines) part end h e =
@@ -61,11 +63,13 @@ record Adds (part : Part) (lines : List (List ℕ)) (end : Part) : Type 0 where
   items : AllZip IsItemLine item_lines more_items
   order : (part.items ≡ []) ⊎ (process_lines ≡ [])
 
+-- no lines write no elements
 no_more : {A B : Type 0} (R : A → B → Type 0) (xs : List A) (ys : List B) → xs ≡ [] → AllZip R xs ys → ys ≡ []
 no_more R [] [] e h = refl
 no_more R [] (y ∷ ys) e h = absurd h
 no_more R (x ∷ xs) ys e h = absurd cc
 
+-- no line adds nothing
 adds_none : (part end : Part) → part ≡ end → Adds part [] end
 adds_none part end same = record {
   process_lines = [];
@@ -80,6 +84,7 @@ adds_none part end same = record {
   order = inr refl;
 }
 
+-- a line that is passed over adds nothing
 adds_passed : (part end : Part) (line : List ℕ) (lines : List (List ℕ)) → is_passed_over (fields_of line) ≡ true → Adds part lines end → Adds part (line ∷ lines) end
 adds_passed part end line lines over h = record {
   process_lines = h.process_lines;
@@ -94,6 +99,7 @@ adds_passed part end line lines over h = record {
   order = h.order;
 }
 
+-- a list with an element isn't empty
 not_empty : {A : Type 0} (xs : List A) (x : A) → xs ++ x ∷ [] ≡ [] → ⊥
 not_empty [] x e = cc
 not_empty (y ∷ ys) x e = cc
@@ -132,6 +138,7 @@ adds_step part _ end line lines kept begun (item i has is range) go =
       order = inr refl;
     }
 
+-- what comes of lines behind the header is what they add
 adds : (lines : List (List ℕ)) (part end : Part) → part.has_header ≡ true → lines_give part lines ≡ Some end → Adds part lines end
 adds [] part end begun e = adds_none part end (some_is part end e)
 adds (line ∷ lines) part end begun e =
@@ -156,11 +163,13 @@ record Begins (lines : List (List ℕ)) (end : Part) : Type 0 where
   is : IsHeader header
   gives : lines_give begin rest ≡ Some end
 
+-- the first line that isn't passed over can only be the header
 begins_step : (next end : Part) (line : List ℕ) (lines : List (List ℕ)) → lines_kept (line ∷ lines) ≡ fields_of line ∷ lines_kept lines → Step nothing (fields_of line) next → lines_give next lines ≡ Some end → Begins (line ∷ lines) end
 begins_step _ end line lines kept (header before is) e = record { header = fields_of line; rest = lines; first = kept; is = is; gives = e }
 begins_step _ end line lines kept (process p has none room is good new) e = absurd cc
 begins_step _ end line lines kept (item i has is range) e = absurd cc
 
+-- either nothing has come, or the header came first
 begins : (lines : List (List ℕ)) (end : Part) → lines_give nothing lines ≡ Some end → (end ≡ nothing) ⊎ Begins lines end
 begins [] end e = inl (sym (some_is nothing end e))
 begins (line ∷ lines) end e =
@@ -202,10 +211,12 @@ abbrev fields_give : Part → List (List (List ℕ)) → Option Part
 fields_give part [] = Some part
 fields_give part (fields ∷ more) = with_line_of part fields >>= λ next. fields_give next more
 
+-- two ways to go on that agree everywhere agree here
 same_next : {A B : Type 0} (o : Option A) (f g : A → Option B) → ((x : A) → f x ≡ g x) → (o >>= f) ≡ (o >>= g)
 same_next None f g e = refl
 same_next (Some x) f g e = e x
 
+-- only the lines that aren't passed over matter
 give-kept : (lines : List (List ℕ)) (part : Part) → lines_give part lines ≡ fields_give part (lines_kept lines)
 give-kept [] part = refl
 give-kept (line ∷ lines) part =
@@ -217,6 +228,7 @@ give-kept (line ∷ lines) part =
           ∙ ap (fields_give part) (sym (kept-kept line lines here))
     ]
 
+-- lines are taken one part after the other
 give-append : (a b : List (List (List ℕ))) (part mid : Part) → fields_give part a ≡ Some mid → fields_give part (a ++ b) ≡ fields_give mid b
 give-append [] b part mid e = ap (λ (p : Part). fields_give p b) (some_is part mid e)
 give-append (fields ∷ a) b part mid e =
@@ -227,18 +239,22 @@ give-append (fields ∷ a) b part mid e =
 abbrev pub having : List ProcessLine → List Item → Part
 having ps is = record { has_header = true; processes = ps; items = is }
 
+-- a process in range, with room and a new name, is taken
 one_process : (ps : List ProcessLine) (line : ProcessLine) → length ps < MOST_PROCESSES → IsProcess line → IsNew ps line.name → with_fields (having ps []) (codes "process") (line.name ∷ line.module ∷ []) ≡ Some (having (ps ++ line ∷ []) [])
 unfolding with_fields with_process
 one_process ps line room good new = rw (lt-leb MOST_PROCESSES (length ps) room, process_line_again line good, new_any line.name ps new) refl
 
+-- an item in range is taken
 one_item : (ps : List ProcessLine) (is : List Item) (word : List ℕ) (fields : List (List ℕ)) (i : Item) → IsItemLine (word ∷ fields) i → IsInRange (length ps) i → with_fields (having ps is) word fields ≡ Some (having ps (is ++ i ∷ []))
 unfolding with_fields with_item
 one_item ps is word fields i line range = rw ((item_word word fields i line).0, item_again (length ps) word fields i line range) refl
 
+-- the line of such a process is taken
 process_line_gives : (ps : List ProcessLine) (fields : List (List ℕ)) (line : ProcessLine) → length ps < MOST_PROCESSES → IsProcess line → IsNew ps line.name → IsProcessLine fields line → with_line_of (having ps []) fields ≡ Some (having (ps ++ line ∷ []) [])
 process_line_gives ps fields line room good new is =
     ap (with_line_of (having ps [])) is ∙ kept_fields (having ps []) (codes "process") (line.name ∷ line.module ∷ []) refl ∙ one_process ps line room good new
 
+-- the line of such an item is taken
 item_line_gives : (ps : List ProcessLine) (is : List Item) (fields : List (List ℕ)) (i : Item) → IsItemLine fields i → IsInRange (length ps) i → with_line_of (having ps is) fields ≡ Some (having ps (is ++ i ∷ []))
 item_line_gives ps is [] (Run p t n) line range = absurd line
 item_line_gives ps is [] (Clock p v) line range = absurd line
@@ -264,6 +280,7 @@ process_lines_give all ps (q ∷ qs) (fields ∷ lines) e most good apart h =
     ap (λ (o : Option Part). o >>= λ next. fields_give next lines) (process_line_gives ps fields q (omega arith) (subst IsProcess at (good (length ps) q (omega arith))) new h.0)
     ∙ process_lines_give all (ps ++ q ∷ []) qs lines (e ∙ sym (append_assoc ps (q ∷ []) qs)) most good apart h.1
 
+-- all items, behind those that have come
 item_lines_give : (ps : List ProcessLine) (is js : List Item) (lines : List (List (List ℕ))) → All (IsInRange (length ps)) js → AllZip IsItemLine lines js → fields_give (having ps is) lines ≡ Some (having ps (is ++ js))
 item_lines_give ps is [] [] range h = ap (λ (ls : List Item). Some (having ps ls)) (sym (append-nil is))
 item_lines_give ps is (j ∷ js) [] range h = absurd h
@@ -273,6 +290,7 @@ item_lines_give ps is (j ∷ js) (fields ∷ lines) range h =
     ∙ item_lines_give ps (is ++ j ∷ []) js lines (λ k d lt. range (suc k) d (omega arith)) h.1
     ∙ ap (λ (ls : List Item). Some (having ps ls)) (append_assoc is (j ∷ []) js)
 
+-- the header is taken first
 header_gives : (fields : List (List ℕ)) → IsHeader fields → with_line_of nothing fields ≡ Some begin
 unfolding with_fields
 header_gives fields is = ap (with_line_of nothing) is

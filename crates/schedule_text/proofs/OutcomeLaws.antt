@@ -31,6 +31,7 @@ pub data Came (part : Part) (lines : List (List ℕ)) (number : ℕ) : Result Sc
   over : (end : Part) → lines_give part lines ≡ Some end → 0 < length end.processes → MOST_RUNS < run_count end.items → Came part lines number (Err TooManyRuns)
   stops : (good : ℕ) → Stops part lines good → Came part lines number (Err (BadLineAt (number + good)))
 
+-- where no line is left
 came_end : (number : ℕ) (part : Part) → Came part [] number (whole_of number part)
 unfolding whole_of
 came_end number part =
@@ -45,9 +46,11 @@ came_end number part =
           (stops 0 (record { within = omega arith; mid = part; gives = refl; bad = λ lt. absurd (omega arith); unfinished = λ _. omega (arith, ltb-false 0 (length part.processes) none) })))
     ]
 
+-- an allowed line is taken, and then the others
 after_line : (part next : Part) (line : List ℕ) (lines : List (List ℕ)) → with_line part line ≡ Some next → lines_give part (line ∷ lines) ≡ lines_give next lines
 after_line part next line lines e = ap (λ (o : Option Part). o >>= λ p. lines_give p lines) e
 
+-- what is said of the lines behind an allowed one is said of all
 came_on : (number : ℕ) (part next : Part) (line : List ℕ) (lines : List (List ℕ)) (outcome : Result Schedule Refusal) → with_line part line ≡ Some next → Came next lines (number + 1) outcome → Came part (line ∷ lines) number outcome
 came_on number part next line lines _ e (whole end gives some few) = whole end (after_line part next line lines e ∙ gives) some few
 came_on number part next line lines _ e (over end gives some many) = over end (after_line part next line lines e ∙ gives) some many
@@ -61,6 +64,7 @@ came_on number part next line lines _ e (stops good h) =
       unfinished = λ same. h.unfinished (omega arith);
     }))
 
+-- a line that isn't allowed is where reading stops
 came_bad : (number : ℕ) (part : Part) (line : List ℕ) (lines : List (List ℕ)) → with_line part line ≡ None → Came part (line ∷ lines) number (Err (BadLineAt number))
 came_bad number part line lines e =
     subst (λ (n : ℕ). Came part (line ∷ lines) number (Err (BadLineAt n))) (let same : number + 0 ≡ number = omega arith in same)
@@ -72,6 +76,7 @@ came_bad number part line lines e =
       unfinished = λ same. absurd (omega arith);
     }))
 
+-- nothing, or something
 cases_Option : {A : Type 0} (o : Option A) → (o ≡ None) ⊎ ((x : A) × (o ≡ Some x))
 cases_Option None = inl refl
 cases_Option (Some x) = inr (x, refl)
@@ -88,12 +93,14 @@ came (line ∷ lines) number part =
 
 -- ---- lines that begin a schedule
 
+-- allowed lines are taken, and then the others
 after_lines : (front back : List (List ℕ)) (part mid : Part) → lines_give part front ≡ Some mid → lines_give part (front ++ back) ≡ lines_give mid back
 after_lines [] back part mid e = ap (λ (p : Part). lines_give p back) (some_is part mid e)
 after_lines (line ∷ front) back part mid e =
     let next = bind_some (with_line part line) (λ p. lines_give p front) mid e in
     after_line part next.0 line (front ++ back) next.1 ∙ after_lines front back next.0 mid next.2
 
+-- where lines are allowed, so is each front of them
 front_lines : (front back : List (List ℕ)) (part end : Part) → lines_give part (front ++ back) ≡ Some end → (mid : Part) × (lines_give part front ≡ Some mid)
 front_lines [] back part end e = (part, refl)
 front_lines (line ∷ front) back part end e =
@@ -101,18 +108,22 @@ front_lines (line ∷ front) back part end e =
     let mid = front_lines front back next.0 end next.2 in
     (mid.0, after_line part next.0 line front next.1 ∙ mid.1)
 
+-- no item is in range where there is no process
 no_process : (i : Item) → IsInRange 0 i → ⊥
 no_process (Run p t n) range = omega (arith, range.0)
 no_process (Clock p v) range = omega (arith, range.0)
 
+-- so there is none
 no_items : (items : List Item) → All (IsInRange 0) items → items ≡ []
 no_items [] range = refl
 no_items (i ∷ items) range = absurd (no_process i (range zero i (omega arith)))
 
+-- a process line may stand behind the header
 process_after : lines_give (having [] []) (codes "process a a" ∷ []) ≡ Some (having (record { name = codes "a"; «module» = codes "a" } ∷ []) [])
 unfolding with_line with_fields with_process process_line_of
 process_after = refl
 
+-- the header and a process line may stand at the front
 all_after : lines_give nothing (codes "friday 1" ∷ codes "process a a" ∷ []) ≡ Some (having (record { name = codes "a"; «module» = codes "a" } ∷ []) [])
 unfolding with_line with_fields with_process process_line_of
 all_after = refl
@@ -121,10 +132,12 @@ all_after = refl
 goes_on : (lines rest : List (List ℕ)) (mid end : Part) → lines_give nothing lines ≡ Some mid → lines_give mid rest ≡ Some end → 0 < length end.processes → BeginSchedule lines
 goes_on lines rest mid end e f some = record { rest = rest; whole = schedule_part end; spelled = lines_take (lines ++ rest) end some (after_lines lines rest nothing mid e ∙ f) }
 
+-- lines that have brought no process yet begin a schedule
 begins_empty : (lines : List (List ℕ)) (has : Bool) → lines_give nothing lines ≡ Some (record { has_header = has; processes = []; items = [] }) → BeginSchedule lines
 begins_empty lines true e = goes_on lines (codes "process a a" ∷ []) _ _ e process_after (omega arith)
 begins_empty lines false e = goes_on lines (codes "friday 1" ∷ codes "process a a" ∷ []) _ _ e all_after (omega arith)
 
+-- where no process has come, no item has
 empty_part : (mid : Part) → IsPart mid → length mid.processes ≡ 0 → mid ≡ record { has_header = mid.has_header; processes = []; items = [] }
 empty_part mid range none =
     let processes = nil_from_length mid.processes none in
@@ -151,8 +164,9 @@ begins_not lines e h =
 
 -- ---- the first bad line
 
-stopped_unfinished : (lines : List (List ℕ)) (good : ℕ) (s : Schedule) → Stops nothing lines good → AreLinesOf lines s → ⊥
-stopped_unfinished lines good s h spelled =
+-- lines at which reading stops spell no schedule
+stopped_unspelled : (lines : List (List ℕ)) (good : ℕ) (s : Schedule) → Stops nothing lines good → AreLinesOf lines s → ⊥
+stopped_unspelled lines good s h spelled =
     let all = lines_again lines s spelled in
     elim (cases_lt good (length lines)) [
       | inl there ↦
@@ -167,6 +181,7 @@ stopped_unfinished lines good s h spelled =
           omega (arith, ap (λ (p : Part). length p.processes) same, h.unfinished end, spelled.formed.some)
     ]
 
+-- where reading stops is the first bad line
 pub first_bad : (lines : List (List ℕ)) (good : ℕ) → Stops nothing lines good → IsFirstBad lines (1 + good)
 first_bad lines good h =
     let less : good ≡ 1 + good - 1 = omega arith in
@@ -176,7 +191,7 @@ first_bad lines good h =
       within = omega (arith, h.within);
       good = subst (λ (n : ℕ). BeginSchedule (take n lines)) less (begins_of (take good lines) h.mid h.gives);
       bad = λ le b. begins_not (take (suc good) lines) (h.bad (omega arith)) (subst (λ (n : ℕ). BeginSchedule (take n lines)) more b);
-      unfinished = λ s spelled. stopped_unfinished lines good s h spelled;
+      unspelled = λ s spelled. stopped_unspelled lines good s h spelled;
     }
 
 -- fewer lines begin a schedule too
@@ -190,6 +205,7 @@ shorter lines m n le b =
       spelled = subst (λ (ls : List (List ℕ)). AreLinesOf ls b.whole) (ap (λ (ls : List (List ℕ)). ls ++ b.rest) (sym all) ∙ append_assoc (take m lines) (drop m (take n lines)) b.rest) b.spelled;
     }
 
+-- no line before the first bad one is it too
 not_before : (lines : List (List ℕ)) (m n : ℕ) → m < n → IsFirstBad lines m → IsFirstBad lines n → ⊥
 not_before lines m n lt a b = a.bad (omega (arith, b.within)) (shorter lines m (n - 1) (omega arith) b.good)
 
@@ -208,6 +224,7 @@ pub came_of : (bytes : List ℕ) → Came nothing (lines_of bytes) 1 (schedule_o
 unfolding schedule_of
 came_of bytes = came (lines_of bytes) 1 nothing
 
+-- the same three of lines: a schedule
 came_ok : (lines : List (List ℕ)) (outcome : Result Schedule Refusal) (s : Schedule) → Came nothing lines 1 outcome → outcome ≡ Ok s → AreLinesOf lines s × IsSchedule s
 came_ok lines _ s (whole end gives some few) e =
     let same : schedule_part end ≡ s = cc in
@@ -216,11 +233,13 @@ came_ok lines _ s (whole end gives some few) e =
 came_ok lines _ s (over end gives some many) e = absurd cc
 came_ok lines _ s (stops good h) e = absurd cc
 
+-- too many run items
 came_over : (lines : List (List ℕ)) (outcome : Result Schedule Refusal) → Came nothing lines 1 outcome → outcome ≡ Err TooManyRuns → (s : Schedule) × AreLinesOf lines s × (MOST_RUNS < run_count s.items)
 came_over lines _ (whole end gives some few) e = absurd cc
 came_over lines _ (over end gives some many) e = (schedule_part end, lines_take lines end some gives, many)
 came_over lines _ (stops good h) e = absurd cc
 
+-- a bad line
 came_stops : (lines : List (List ℕ)) (outcome : Result Schedule Refusal) (n : ℕ) → Came nothing lines 1 outcome → outcome ≡ Err (BadLineAt n) → IsFirstBad lines n
 came_stops lines _ n (whole end gives some few) e = absurd cc
 came_stops lines _ n (over end gives some many) e = absurd cc
@@ -238,9 +257,11 @@ schedule_over bytes e = came_over (lines_of bytes) (schedule_of bytes) (came_of 
 pub schedule_bad : (bytes : List ℕ) (n : ℕ) → schedule_of bytes ≡ Err (BadLineAt n) → BadAt bytes n
 schedule_bad bytes n e = came_stops (lines_of bytes) (schedule_of bytes) n (came_of bytes) e
 
+-- what comes of lines that spell a schedule is this schedule
 spelled_came : (lines : List (List ℕ)) (s : Schedule) (end : Part) → AreLinesOf lines s → lines_give nothing lines ≡ Some end → end ≡ having s.processes s.items
 spelled_came lines s end spelled gives = some_is end (having s.processes s.items) (sym gives ∙ lines_again lines s spelled)
 
+-- of lines that spell a schedule
 came_spelled : (lines : List (List ℕ)) (outcome : Result Schedule Refusal) (s : Schedule) → Came nothing lines 1 outcome → AreLinesOf lines s → (run_count s.items ≤ MOST_RUNS → outcome ≡ Ok s) × (MOST_RUNS < run_count s.items → outcome ≡ Err TooManyRuns)
 came_spelled lines _ s (whole end gives some few) spelled =
     let same = spelled_came lines s end spelled gives in
@@ -248,7 +269,7 @@ came_spelled lines _ s (whole end gives some few) spelled =
 came_spelled lines _ s (over end gives some many) spelled =
     let same = spelled_came lines s end spelled gives in
     (λ few. absurd (omega (arith, ap (λ (p : Part). run_count p.items) same)), λ _. refl)
-came_spelled lines _ s (stops good h) spelled = absurd (stopped_unfinished lines good s h spelled)
+came_spelled lines _ s (stops good h) spelled = absurd (stopped_unspelled lines good s h spelled)
 
 -- a schedule that is spelled, with no more run items than the limit, is given
 pub schedule_again : (bytes : List ℕ) (s : Schedule) → Spells bytes s → run_count s.items ≤ MOST_RUNS → schedule_of bytes ≡ Ok s
@@ -258,9 +279,10 @@ schedule_again bytes s spelled few = (came_spelled (lines_of bytes) (schedule_of
 pub over_again : (bytes : List ℕ) (s : Schedule) → Spells bytes s → MOST_RUNS < run_count s.items → schedule_of bytes ≡ Err TooManyRuns
 over_again bytes s spelled many = (came_spelled (lines_of bytes) (schedule_of bytes) s (came_of bytes) spelled).1 many
 
+-- of lines that have a bad one
 came_bad_line : (lines : List (List ℕ)) (outcome : Result Schedule Refusal) (n : ℕ) → Came nothing lines 1 outcome → IsFirstBad lines n → outcome ≡ Err (BadLineAt n)
-came_bad_line lines _ n (whole end gives some few) bad = absurd (bad.unfinished (schedule_part end) (lines_take lines end some gives))
-came_bad_line lines _ n (over end gives some many) bad = absurd (bad.unfinished (schedule_part end) (lines_take lines end some gives))
+came_bad_line lines _ n (whole end gives some few) bad = absurd (bad.unspelled (schedule_part end) (lines_take lines end some gives))
+came_bad_line lines _ n (over end gives some many) bad = absurd (bad.unspelled (schedule_part end) (lines_take lines end some gives))
 came_bad_line lines _ n (stops good h) bad = ap (λ (k : ℕ). Err (BadLineAt k)) (one_first_bad lines (1 + good) n (first_bad lines good h) bad)
 
 -- the first bad line is given
@@ -275,6 +297,7 @@ one_schedule bytes s t a b = one_of_lines (lines_of bytes) s t a b
 pub one_bad_line : (bytes : List ℕ) (m n : ℕ) → BadAt bytes m → BadAt bytes n → m ≡ n
 one_bad_line bytes m n a b = one_first_bad (lines_of bytes) m n a b
 
+-- of any lines
 came_either : (lines : List (List ℕ)) (outcome : Result Schedule Refusal) → Came nothing lines 1 outcome → ((s : Schedule) × AreLinesOf lines s) ⊎ ((n : ℕ) × IsFirstBad lines n)
 came_either lines _ (whole end gives some few) = inl (schedule_part end, lines_take lines end some gives)
 came_either lines _ (over end gives some many) = inl (schedule_part end, lines_take lines end some gives)
@@ -286,30 +309,37 @@ spelled_or_bad bytes = came_either (lines_of bytes) (schedule_of bytes) (came_of
 
 -- ---- reading line by line
 
+-- an allowed line, and then the others
 outcome_on : (number : ℕ) (part next : Part) (line : List ℕ) (lines : List (List ℕ)) → with_line part line ≡ Some next → outcome_of number part (line ∷ lines) ≡ outcome_of (number + 1) next lines
 unfolding outcome_of
 outcome_on number part next line lines e = rw e refl
 
+-- a line that isn't allowed
 outcome_bad : (number : ℕ) (part : Part) (line : List ℕ) (lines : List (List ℕ)) → with_line part line ≡ None → outcome_of number part (line ∷ lines) ≡ Err (BadLineAt number)
 unfolding outcome_of
 outcome_bad number part line lines e = rw e refl
 
+-- no line
 outcome_end : (number : ℕ) (part : Part) → outcome_of number part [] ≡ whole_of number part
 unfolding outcome_of
 outcome_end number part = refl
 
+-- the loop begins with all lines
 pub read_begins : (bytes left : List ℕ) (part : Part) → left ≡ bytes → part ≡ nothing → outcome_of 1 part (lines_of left) ≡ schedule_of bytes
 unfolding schedule_of
 read_begins bytes left part same none = rw (same, none) refl
 
+-- it goes on behind a line that is allowed
 pub read_on : (outcome : Result Schedule Refusal) (left line after : List ℕ) (number : ℕ) (part next : Part) → outcome_of number part (lines_of left) ≡ outcome → line_at left ≡ Some (line, after) → with_line part line ≡ Some next → outcome_of (number + 1) next (lines_of after) ≡ outcome
 read_on outcome left line after number part next so_far taken allowed =
     sym (outcome_on number part next line (lines_of after) allowed) ∙ ap (outcome_of number part) (sym (lines_of_some left line after taken)) ∙ so_far
 
+-- it ends at one that isn't
 pub read_bad : (outcome : Result Schedule Refusal) (left line after : List ℕ) (number : ℕ) (part : Part) → outcome_of number part (lines_of left) ≡ outcome → line_at left ≡ Some (line, after) → with_line part line ≡ None → outcome ≡ Err (BadLineAt number)
 read_bad outcome left line after number part so_far taken refused =
     sym so_far ∙ ap (outcome_of number part) (lines_of_some left line after taken) ∙ outcome_bad number part line (lines_of after) refused
 
+-- it ends behind the last
 pub read_ends : (outcome : Result Schedule Refusal) (left : List ℕ) (number : ℕ) (part : Part) → outcome_of number part (lines_of left) ≡ outcome → line_at left ≡ None → outcome ≡ whole_of number part
 read_ends outcome left number part so_far none =
     sym so_far ∙ ap (outcome_of number part) (lines_of_none left none) ∙ outcome_end number part

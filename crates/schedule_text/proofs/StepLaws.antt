@@ -19,37 +19,46 @@ use Rattle.schedule_text.proofs.WordLaws.{bind_some, kept, passed}
 
 -- ---- lines that are passed over, and others
 
+-- the fields begin with a word that begins no comment
 pub record IsKept (fields : List (List ℕ)) : Type 0 where
   pub word : List ℕ
   pub rest : List (List ℕ)
   pub fields_are : fields ≡ word ∷ rest
   pub no_comment : is_comment word ≡ false
 
+-- a line is passed over, or is kept
 pub kept_cases : (fields : List (List ℕ)) → (is_passed_over fields ≡ true) ⊎ IsKept fields
 kept_cases [] = inl refl
 kept_cases (word ∷ rest) = elim (cases_Bool (is_comment word)) [ inl comment ↦ inl comment | inr other ↦ inr (record { word = word; rest = rest; fields_are = refl; no_comment = other }) ]
 
+-- fields that are passed over change nothing
 passed_fields : (part : Part) (fields : List (List ℕ)) → is_passed_over fields ≡ true → with_line_of part fields ≡ Some part
 passed_fields part [] e = refl
 passed_fields part (word ∷ rest) e = rw e refl
 
+-- a line that is passed over changes nothing
 pub passed_line : (part : Part) (line : List ℕ) → is_passed_over (fields_of line) ≡ true → with_line part line ≡ Some part
 unfolding with_line
 passed_line part line e = passed_fields part (fields_of line) e
 
+-- other fields are taken
 pub kept_fields : (part : Part) (word : List ℕ) (rest : List (List ℕ)) → is_comment word ≡ false → with_line_of part (word ∷ rest) ≡ with_fields part word rest
 kept_fields part word rest e = rw e refl
 
+-- a line counts by its fields
 pub line_is : (part : Part) (line : List ℕ) → with_line part line ≡ with_line_of part (fields_of line)
 unfolding with_line
 line_is part line = refl
 
+-- a line that is passed over isn't kept
 pub kept-passed : (line : List ℕ) (lines : List (List ℕ)) → is_passed_over (fields_of line) ≡ true → lines_kept (line ∷ lines) ≡ lines_kept lines
 kept-passed line lines e = rw e refl
 
+-- a line that is kept isn't passed over
 not_passed : (fields : List (List ℕ)) → IsKept fields → is_passed_over fields ≡ false
 not_passed fields h = ap is_passed_over h.fields_are ∙ h.no_comment
 
+-- another line is kept
 pub kept-kept : (line : List ℕ) (lines : List (List ℕ)) → IsKept (fields_of line) → lines_kept (line ∷ lines) ≡ fields_of line ∷ lines_kept lines
 kept-kept line lines h = rw (not_passed (fields_of line) h) refl
 
@@ -59,11 +68,13 @@ kept-kept line lines h = rw (not_passed (fields_of line) h) refl
 abbrev pub IsNew : List ProcessLine → List ℕ → Type 0
 IsNew processes name = (k : ℕ) (d : ProcessLine) → k < length processes → (get_or processes k d).name ≢ name
 
+-- a line with these fields is allowed behind `part`, and gives the part of the last argument
 pub data Step (part : Part) (fields : List (List ℕ)) : Part → Type 0 where
   header : part.has_header ≡ false → IsHeader fields → Step part fields (record part { has_header = true })
   process : (line : ProcessLine) → part.has_header ≡ true → part.items ≡ [] → length part.processes < MOST_PROCESSES → IsProcessLine fields line → IsProcess line → IsNew part.processes line.name → Step part fields (record part { processes = part.processes ++ line ∷ [] })
   item : (i : Item) → part.has_header ≡ true → IsItemLine fields i → IsInRange (length part.processes) i → Step part fields (record part { items = part.items ++ i ∷ [] })
 
+-- a name that no process compares equal to is new
 any_new : (name : List ℕ) (processes : List ProcessLine) → list_any (λ other. bytes_eq other.name name) processes ≡ false → IsNew processes name
 any_new name [] e k d lt same = absurd (omega arith)
 any_new name (p ∷ ps) e zero d lt same =
@@ -72,18 +83,22 @@ any_new name (p ∷ ps) e zero d lt same =
     cc
 any_new name (p ∷ ps) e (suc k) d lt same = any_new name ps (or_parts (bytes_eq p.name name) (list_any (λ other. bytes_eq other.name name) ps) e).1 k d (omega arith) same
 
+-- two names compare unequal
 other_name : (a b : List ℕ) → a ≢ b → bytes_eq a b ≡ false
 other_name a b ne = elim (cases_Bool (bytes_eq a b)) [ inl same ↦ absurd (ne (is_word a b same)) | inr other ↦ other ]
 
+-- no process compares equal to a new name
 pub new_any : (name : List ℕ) (processes : List ProcessLine) → IsNew processes name → list_any (λ other. bytes_eq other.name name) processes ≡ false
 new_any name [] new = refl
 new_any name (p ∷ ps) new =
     or_from (bytes_eq p.name name) (list_any (λ other. bytes_eq other.name name) ps) (other_name p.name name (new zero p (omega arith))) (new_any name ps (λ k d lt. new (suc k) d (omega arith)))
 
+-- a list that isn't longer than 0 is empty
 none_left : {A : Type 0} (xs : List A) → ltb 0 (length xs) ≡ false → xs ≡ []
 none_left [] e = refl
 none_left (x ∷ xs) e = absurd (let some = lt-ltb 0 (length (x ∷ xs)) (omega arith) in cc)
 
+-- what is taken as a process line is one that is allowed
 process_step : (part : Part) (word : List ℕ) (fields : List (List ℕ)) (next : Part) → part.has_header ≡ true → word ≡ codes "process" → with_process part fields ≡ Some next → Step part (word ∷ fields) next
 unfolding with_process
 process_step part word fields next begun is e =
@@ -95,10 +110,12 @@ process_step part word fields next begun is e =
     let same : record part { processes = part.processes ++ line.0 ∷ [] } ≡ next = (let there = new.1 in cc) in
     subst (Step part (word ∷ fields)) same (process line.0 begun (none_left part.items free.0) (leb-false MOST_PROCESSES (length part.processes) free.1) written.0 written.1 (any_new line.0.name part.processes new.0))
 
+-- what comes of something that is found
 map_some : {A B : Type 0} (f : A → B) (o : Option A) (y : B) → option_map f o ≡ Some y → (x : A) × (o ≡ Some x) × (f x ≡ y)
 map_some f None y e = absurd cc
 map_some f (Some x) y e = (x, refl, let there = e in cc)
 
+-- what is taken as an item is one that is allowed
 item_step : (part : Part) (word : List ℕ) (fields : List (List ℕ)) (next : Part) → part.has_header ≡ true → with_item part word fields ≡ Some next → Step part (word ∷ fields) next
 unfolding with_item
 item_step part word fields next begun e =
@@ -106,12 +123,14 @@ item_step part word fields next begun e =
     let written = item_takes (length part.processes) word fields i.0 i.1 in
     subst (Step part (word ∷ fields)) i.2 (item i.0 begun written.0 written.1)
 
+-- the side of a choice that was taken
 at_true : {A : Type 0} (b : Bool) (x y z : A) → b ≡ true → cond b x y ≡ z → x ≡ z
 at_true b x y z t e = sym (ap (λ (c : Bool). cond c x y) t) ∙ e
 
 at_false : {A : Type 0} (b : Bool) (x y z : A) → b ≡ false → cond b x y ≡ z → y ≡ z
 at_false b x y z t e = sym (ap (λ (c : Bool). cond c x y) t) ∙ e
 
+-- what is taken as the header is one that is allowed
 header_step : (part : Part) (word : List ℕ) (fields : List (List ℕ)) (next : Part) → part.has_header ≡ false → cond (is_header word fields) (Some (record part { has_header = true })) None ≡ Some next → Step part (word ∷ fields) next
 header_step part word fields next before e =
     let head = kept (is_header word fields) (Some (record part { has_header = true })) next e in
@@ -134,6 +153,7 @@ step_of part word fields next e =
 
 -- ---- what has come is in range
 
+-- what has come is in range
 pub record IsPart (part : Part) : Type 0 where
   pub before : part.has_header ≡ false → length part.processes ≡ 0
   pub most : length part.processes ≤ MOST_PROCESSES
@@ -141,6 +161,7 @@ pub record IsPart (part : Part) : Type 0 where
   pub names : AllPairs (λ a b. a.name ≢ b.name) part.processes
   pub items : All (IsInRange (length part.processes)) part.items
 
+-- so it is before the first line
 pub nothing_is : IsPart nothing
 nothing_is = record {
   before = λ _. refl;
@@ -150,6 +171,7 @@ nothing_is = record {
   items = λ k d lt. absurd (omega arith);
 }
 
+-- an allowed line keeps what has come in range
 pub step_keeps : (part : Part) (fields : List (List ℕ)) (next : Part) → Step part fields next → IsPart part → IsPart next
 step_keeps part fields _ (header before is) h = record { before = λ e. absurd cc; most = h.most; lines = h.lines; names = h.names; items = h.items }
 step_keeps part fields _ (process line begun none room is good new) h = record {

@@ -14,6 +14,7 @@ use Rattle.schedule_text.specs.Reading.{◌>>=◌, number_of, process_number_of,
 
 -- ---- steps that give something
 
+-- where something comes of a step and the next, something came of the step
 pub bind_some : {A B : Type 0} (o : Option A) (f : A → Option B) (y : B) → (o >>= f) ≡ Some y → (x : A) × (o ≡ Some x) × (f x ≡ Some y)
 bind_some (Some x) f y e = (x, refl, e)
 bind_some None f y e = absurd cc
@@ -28,10 +29,12 @@ pub passed : {A : Type 0} (b : Bool) (x : Option A) (y : A) → cond b None x �
 passed true x y e = absurd cc
 passed false x y e = (refl, e)
 
+-- the first field that is found stands in front
 pub field_takes : (fields : List (List ℕ)) (field : List ℕ) (rest : List (List ℕ)) → field_at fields ≡ Some (field, rest) → fields ≡ field ∷ rest
 field_takes [] field rest e = absurd cc
 field_takes (f ∷ fs) field rest e = let same : ◌≡◌ {A = List ℕ × List (List ℕ)} (f, fs) (field, rest) = cc in ap (λ (p : List ℕ × List (List ℕ)). p.0 ∷ p.1) same
 
+-- the last field that is found stands alone
 pub last_takes : (fields : List (List ℕ)) (field : List ℕ) → last_of fields ≡ Some field → fields ≡ field ∷ []
 last_takes [] field e = absurd cc
 last_takes (f ∷ []) field e = let same : f ≡ field = cc in ap (λ (g : List ℕ). g ∷ []) same
@@ -39,6 +42,7 @@ last_takes (f ∷ g ∷ fs) field e = absurd cc
 
 -- ---- numbers
 
+-- a number that is taken is the one that is there, and not above the limit
 up_to_takes : (most : ℕ) (o : Option ℕ) (n : ℕ) → result_ok (up_to most o) ≡ Some n → (o ≡ Some n) × (n ≤ most)
 up_to_takes most None n e = absurd cc
 up_to_takes most (Some m) n e =
@@ -47,18 +51,22 @@ up_to_takes most (Some m) n e =
       | inr great ↦ absurd (let nothing : result_ok (up_to most (Some m)) ≡ None = rw great refl in cc)
     ]
 
+-- what is read as a number is written so, and not above the limit
 pub number_takes : (most : ℕ) (word : List ℕ) (n : ℕ) → number_of most word ≡ Some n → IsNumber word n × (n ≤ most)
 number_takes most word n e = up_to_takes most (decimal_of word) n e
 
+-- a number that isn't above the limit is read
 pub number_again : (most : ℕ) (word : List ℕ) (n : ℕ) → IsNumber word n → n ≤ most → number_of most word ≡ Some n
 number_again most word n is small = ap (λ (o : Option ℕ). result_ok (up_to most o)) is ∙ rw (le-leb n most small) refl
 
+-- what is read as a process's number is written so, and is a process's number
 pub process_takes : (processes : ℕ) (word : List ℕ) (n : ℕ) → process_number_of processes word ≡ Some n → IsNumber word n × (n < processes)
 process_takes processes word n e =
     let some = passed (eqb processes 0) _ n e in
     let number = number_takes (processes - 1) word n some.1 in
     (number.0, omega (arith, number.1, eqb-false processes 0 some.0))
 
+-- a process's number is read
 pub process_again : (processes : ℕ) (word : List ℕ) (n : ℕ) → IsNumber word n → n < processes → process_number_of processes word ≡ Some n
 process_again processes word n is below =
     let some : eqb processes 0 ≡ false = ne_eqb processes 0 (λ e. omega arith) in
@@ -66,6 +74,7 @@ process_again processes word n is below =
 
 -- ---- signed numbers
 
+-- a signed number is taken where 64 bits hold it
 held : (m : ℕ) (y z : ℤ) → (m < 2 ^ 63 → FitsSigned w64 y) → result_ok {E = TextError} (cond (ltb m (2 ^ 63)) (Ok y) (Err TooGreat)) ≡ Some z → (◌≡◌ {A = Option ℤ} (Some y) (Some z)) × FitsSigned w64 z
 held m y z fits e =
     elim (cases_Bool (ltb m (2 ^ 63))) [
@@ -75,23 +84,28 @@ held m y z fits e =
       | inr great ↦ absurd (let nothing = rw great at e in cc)
     ]
 
+-- a signed number that is taken is the one that is there
 within_takes : (o : Option ℤ) (z : ℤ) → result_ok (within_i64 o) ≡ Some z → (o ≡ Some z) × FitsSigned w64 z
 within_takes None z e = absurd cc
 within_takes (Some (pos m)) z e = held m (pos m) z (λ h. record { sfits = h }) e
 within_takes (Some (negsuc m)) z e = held m (negsuc m) z (λ h. record { sfits = h }) e
 
+-- a signed number of 64 bits is taken
 within_again : (z : ℤ) → FitsSigned w64 z → result_ok (within_i64 (Some z)) ≡ Some z
 within_again (pos m) fits = rw (lt-ltb m (2 ^ 63) fits.sfits) refl
 within_again (negsuc m) fits = rw (lt-ltb m (2 ^ 63) fits.sfits) refl
 
+-- what is read as a signed number is written so, and has 64 bits
 pub value_takes : (word : List ℕ) (z : ℤ) → result_ok (within_i64 (signed_of word)) ≡ Some z → IsSignedNumber word z × FitsSigned w64 z
 value_takes word z e = within_takes (signed_of word) z e
 
+-- a signed number of 64 bits is read
 pub value_again : (word : List ℕ) (z : ℤ) → IsSignedNumber word z → FitsSigned w64 z → result_ok (within_i64 (signed_of word)) ≡ Some z
 value_again word z is fits = ap (λ (o : Option ℤ). result_ok (within_i64 o)) is ∙ within_again z fits
 
 -- ---- how often is tried
 
+-- the tries that are read are 1, or are written so and in range
 pub times_takes : (fields : List (List ℕ)) (n : ℕ) → times_of fields ≡ Some n → ((fields ≡ []) × (n ≡ 1)) ⊎ ((word : List ℕ) × (fields ≡ word ∷ []) × IsNumber word n × (1 ≤ n) × (n ≤ MOST_TIMES))
 times_takes [] n e = inl (refl, let same : 1 ≡ n = cc in sym same)
 times_takes (word ∷ []) n e =
@@ -102,6 +116,7 @@ times_takes (word ∷ []) n e =
     inr (word, refl, number.0 ∙ ap (λ (k : ℕ). Some k) same, omega (arith, same, eqb-false some.0 0 positive.0), omega (arith, same, number.1))
 times_takes (word ∷ other ∷ fields) n e = absurd cc
 
+-- tries in range are read
 pub times_again : (word : List ℕ) (n : ℕ) → IsNumber word n → 1 ≤ n → n ≤ MOST_TIMES → times_of (word ∷ []) ≡ Some n
 times_again word n is some most =
     let positive : eqb n 0 ≡ false = ne_eqb n 0 (λ e. omega arith) in

@@ -77,7 +77,7 @@ pub record IsFirstBad (lines : List (List ℕ)) (n : ℕ) : Type 0 where
   pub within : n ≤ length lines + 1
   pub good : BeginSchedule (take (n - 1) lines)
   pub bad : n ≤ length lines → BeginSchedule (take n lines) → ⊥
-  pub unfinished : (s : Schedule) → AreLinesOf lines s → ⊥
+  pub unspelled : (s : Schedule) → AreLinesOf lines s → ⊥
 
 -- line n of the bytes is the first bad one
 abbrev pub BadAt : List ℕ → ℕ → Type 0

@@ -15,6 +15,7 @@ use Rattle.schedule_text.specs.declared.process.ProcessLine.{ProcessLine}
 use Rattle.schedule_text.specs.Fields.{fields_of, field_at, last_of, is_comment}
 use Rattle.schedule_text.specs.Schedule.{Schedule, is_module_name, run_count}
 
+-- what comes of something that was found, where anything was
 infixl 10 ◌>>=◌
 abbrev pub ◌>>=◌ : {A B : Type 0} → Option A → (A → Option B) → Option B
 None >>= f = None
