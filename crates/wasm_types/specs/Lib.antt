@@ -1,3 +1,15 @@
 pub mod Code
 pub mod Modules
 pub mod Traps
+pub mod Maybe
+pub mod Stack
+pub mod Labels
+pub mod Numeric
+pub mod Accesses
+pub mod Calls
+pub mod Context
+pub mod Typing
+pub mod Floats
+pub mod Library
+pub mod Rules
+pub mod Valid

@@ -37,6 +37,11 @@ pub record GlobalDef : Type 0 where
   pub mutable : Bool
   pub init : Trees
 
+-- what code may do with a global
+pub record GlobalType : Type 0 where
+  pub kind : ValType
+  pub mutable : Bool
+
 -- an export
 pub record Export : Type 0 where
   pub name : List ℕ
@@ -66,6 +71,10 @@ pub record Module : Type 0 where
   pub start : Option ℕ
   pub elems : List Elem
   pub segments : List Segment
+
+-- the type of a global
+abbrev pub global_type : GlobalDef → GlobalType
+global_type g = record { kind = g.kind; mutable = g.mutable }
 
 -- what contracts see of a function type
 abbrev pub func_type : RustFuncType → FuncType

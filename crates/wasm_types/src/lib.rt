@@ -4,6 +4,7 @@
 mod code;
 mod modules;
 mod traps;
+mod valid;
 
 pub use code::{Instr, ValType, Value};
 pub use modules::{
@@ -11,6 +12,7 @@ pub use modules::{
     Segment,
 };
 pub use traps::Trap;
+pub use valid::{ValidModule, claim};
 
 #[cfg(test)]
 mod tests;

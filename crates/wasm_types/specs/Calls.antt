@@ -1,0 +1,35 @@
+-- What calls and operators take and give.
+use Rattle.std.specs.Prelude.{ℕ, Bool, List, Option, Some, None, slice_get, if◌then◌else◌}
+use Rattle.wasm_types.specs.declared.code.ValType.{ValType}
+use Rattle.wasm_types.specs.declared.code.ValType.TheVariants.{I32}
+use Rattle.wasm_types.specs.Modules.{FuncType}
+use Rattle.wasm_types.specs.Maybe.{◌>>=◌}
+use Rattle.wasm_types.specs.Numeric.{operator_of}
+use Rattle.wasm_types.specs.Stack.{Stack, pop_type, operate}
+
+-- the result of a function type, which has one at most where it is well formed
+abbrev pub result_of : FuncType → Option ValType
+result_of type = slice_get type.results 0
+
+-- a call of a function of this type
+abbrev pub call_type : List FuncType → ℕ → Stack → Option Stack
+call_type types t s = do
+  callee ← slice_get types t
+  operate callee.params (result_of callee) s
+
+-- a call of the function with this index; `funcs` has the index of each function's type
+abbrev pub call : List FuncType → List ℕ → ℕ → Stack → Option Stack
+call types funcs f s = do
+  t ← slice_get funcs f
+  call_type types t s
+
+-- a call through the table
+abbrev pub call_indirect : Bool → List FuncType → ℕ → Stack → Option Stack
+call_indirect has_table types t s = do
+  below ← pop_type I32 s
+  if has_table then call_type types t below else None
+
+abbrev pub operator : ℕ → Stack → Option Stack
+operator n s = do
+  op ← operator_of n
+  operate op.takes (Some op.gives) s
