@@ -1,0 +1,11 @@
+-- The fields of a memory.
+use Rattle.guest_memory.specs.Memory.{Memory, IsMemory}
+use Rattle.guest_memory.specs.declared.memory.Memory.TheInside.{Inside}
+
+-- the memory that the fields tell
+abbrev pub memory_of : Inside → Memory
+memory_of inside = record { bytes = inside.bytes.items; max = inside.max }
+
+-- they are those of a memory
+abbrev pub IsSound : Inside → Type 0
+IsSound inside = IsMemory (memory_of inside)

@@ -1,0 +1,9 @@
+//! The linear memory of a guest: whole pages of bytes that can grow up to a maximum.
+#![tactic(auto)]
+
+mod little_endian;
+mod memory;
+#[cfg(test)]
+mod tests;
+
+pub use memory::Memory;

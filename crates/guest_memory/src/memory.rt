@@ -1,0 +1,144 @@
+// A linear memory.
+ghost use Rattle.std.specs.Prelude.{◌≡◌, ◌↔◌, ◌+◌, ◌≤◌, length, IsSome, IfSome, IfOk, OnOk, OnErr};
+ghost use Rattle.guest_memory.specs.LittleEndian.{low_bytes, IsWidth};
+ghost use Rattle.guest_memory.specs.Memory.{IsMemory, WritesPrefix, after_store, after_write, bytes_at, fresh, growth, grown, is_inside, loaded, size_of, stretch};
+
+use crate::little_endian::{number_at, put_number, put_piece};
+use std::alloc::{AllocError, Global};
+use std::marker::Model;
+
+// How many bytes a page has.
+const PAGE: usize = 65536;
+
+// How many bytes a watch page has.
+const WATCH_PAGE: u64 = 4096;
+
+/// The linear memory of a guest: pages of 65,536 bytes, and the number of pages that it may grow
+/// to. It is seen as the list of its bytes and that number.
+#[derive(Debug, Drop)]
+pub struct Memory {
+    bytes: Vec<u8>,
+    max: u32,
+}
+
+impl Model for Memory {
+    ghost use Rattle.guest_memory.specs.Memory.{Memory as Bytes};
+
+    ghost Value = { Bytes };
+
+    ghost use Rattle.guest_memory.specs.Inside.{memory_of, IsSound};
+
+    ghost view = { memory_of };
+
+    ghost invariant = { IsSound };
+}
+
+impl Memory {
+    /// So many pages of zeros.
+    pub fn new(alloc: Global, pages: u32, max: u32) -> Result<Memory, AllocError>
+        requires within { pages ≤ max }
+        requires most { max ≤ 256 }
+        ensures { IfOk result (λ memory. memory ≡ fresh pages max) }
+    {
+        let bytes = vec![in alloc; 0; pages as usize * PAGE]?;
+        Ok(Memory { bytes, max })
+    }
+
+    /// An equal memory.
+    pub fn copy(&self) -> Result<Memory, AllocError>
+        ensures { IfOk result (λ copy. copy ≡ self.now) }
+    {
+        let bytes = self.bytes.clone()?;
+        Ok(Memory {
+            bytes,
+            max: self.max,
+        })
+    }
+
+    /// The number of its pages, as `memory.size` answers it.
+    pub fn size(&self) -> u32
+        ensures size { result ≡ size_of self.now }
+        ensures sound { IsMemory self.now }
+    {
+        (self.bytes.len() / PAGE) as u32
+    }
+
+    // Whether each byte of the range lies in the memory.
+    #[inline]
+    fn contains(&self, addr: u64, len: u64) -> bool
+        ensures { result ≡ is_inside self.now addr len }
+    {
+        let count = self.bytes.len() as u64;
+        addr <= count && len <= count - addr
+    }
+
+    /// The number of so many bytes that stands at the address, the lowest byte first. `None` comes
+    /// exactly where one of the bytes lies outside.
+    #[inline]
+    pub fn load(&self, addr: u64, width: u32) -> Option<u64>
+        requires { IsWidth width }
+        ensures { result ≡ loaded self.now addr width }
+    {
+        if !self.contains(addr, u64::from(width)) {
+            return None;
+        }
+        Some(number_at(&self.bytes, addr as usize, width))
+    }
+
+    /// Writes so many bytes of the number at the address, the lowest byte first. `Ok(false)` comes
+    /// exactly where one of them lies outside; nothing is changed then.
+    #[inline]
+    pub fn store(&mut self, addr: u64, width: u32, value: u64) -> Result<bool, AllocError>
+        requires { IsWidth width }
+        ensures answer { IfOk result (λ stands. stands ≡ is_inside self.old addr width) }
+        ensures ok { OnOk result (self.new ≡ after_store self.old addr width value) }
+        ensures err { OnErr result (WritesPrefix self.old self.new addr (low_bytes width value)) }
+    {
+        if !self.contains(addr, u64::from(width)) {
+            return Ok(false);
+        }
+        put_number(&mut self.bytes, addr as usize, width, value);
+        Ok(true)
+    }
+
+    /// Writes the piece at the address. `Ok(false)` comes exactly where a byte of it lies outside;
+    /// nothing is changed then.
+    pub fn write(&mut self, addr: u64, piece: &[u8]) -> Result<bool, AllocError>
+        ensures answer { IfOk result (λ stands. stands ≡ is_inside self.old addr (length piece.now)) }
+        ensures ok { OnOk result (self.new ≡ after_write self.old addr piece.now) }
+        ensures err { OnErr result (WritesPrefix self.old self.new addr piece.now) }
+    {
+        if !self.contains(addr, piece.len() as u64) {
+            return Ok(false);
+        }
+        put_piece(&mut self.bytes, addr as usize, piece);
+        Ok(true)
+    }
+
+    /// The longest first part of the range that stays in one watch page of 4,096 bytes.
+    pub fn part(&self, addr: u64, len: u64) -> Option<&[u8]>
+        ensures some { IsSome result ↔ (addr + len ≤ length self.now.bytes) }
+        ensures value { IfSome result (λ part. part.now ≡ bytes_at self.now addr (stretch addr len)) }
+    {
+        if !self.contains(addr, len) {
+            return None;
+        }
+        let count = len.min(WATCH_PAGE - addr % WATCH_PAGE);
+        Some(&self.bytes[addr as usize..(addr + count) as usize])
+    }
+
+    /// Adds so many pages of zeros, and gives the number of pages before. `Ok(None)` comes exactly
+    /// where the sum passes the maximum.
+    pub fn grow(&mut self, pages: u32) -> Result<Option<u32>, AllocError>
+        ensures answer { IfOk result (λ before. before ≡ growth self.old pages) }
+        ensures ok { OnOk result (self.new ≡ grown self.old pages) }
+        ensures err { OnErr result (self.new ≡ self.old) }
+    {
+        let before = self.size();
+        if pages > self.max - before {
+            return Ok(None);
+        }
+        self.bytes.resize((before + pages) as usize * PAGE, 0)?;
+        Ok(Some(before))
+    }
+}
