@@ -1,0 +1,74 @@
+// What the answer to a call writes to the guest's memory.
+ghost use Rattle.std.specs.Prelude.{◌≡◌, ◌+◌, ◌≤◌, length, OnOk, OnErr};
+ghost use Rattle.guest_memory.specs.Memory.{WritesPrefix, written as with_piece};
+ghost use Rattle.lib_calls.specs.Entry.{entry_of};
+ghost use Rattle.lib_calls.specs.Effects.{IsAnswer, WritesPart, filled, received, sender_of as sender_number, written};
+
+use crate::arguments::good_arguments;
+use crate::entry::EntryView;
+use guest_memory::Memory;
+use lamport_tag::Tag;
+use std::alloc::AllocError;
+
+// The reply of a try_recv that found no datagram, -2 in 32 bits.
+const NONE_THERE: u64 = 0xFFFF_FFFE;
+
+/// Writes to the memory what the entry's answer does: the bytes that random took, or the payload of the
+/// datagram that recv or try_recv took and then its sender. Other answers write nothing. After want of
+/// memory a part of the bytes may stand.
+pub fn write_back(entry: &EntryView<'_>, memory: &mut Memory) -> Result<(), AllocError>
+    requires { IsAnswer (entry_of entry.now) memory.old }
+    ensures ok { OnOk result (memory.new ≡ written (entry_of entry.now) memory.old) }
+    ensures err { OnErr result (WritesPart (entry_of entry.now) memory.old memory.new) }
+    ensures max { memory.new.max ≡ memory.old.max }
+{
+    if !good_arguments(&entry.call, memory) {
+        return Ok(());
+    }
+    match entry.call.kind {
+        6 => put_bytes(entry, memory),
+        9 => put_datagram(entry, memory),
+        10 if entry.reply != NONE_THERE => put_datagram(entry, memory),
+        _ => Ok(()),
+    }
+}
+
+// Writes the bytes that came in.
+fn put_bytes(entry: &EntryView<'_>, memory: &mut Memory) -> Result<(), AllocError>
+    requires { entry.now.call.a0 + length entry.now.incoming.now ≤ length memory.old.bytes }
+    ensures ok { OnOk result (memory.new ≡ filled (entry_of entry.now) memory.old) }
+    ensures err { OnErr result (WritesPart (entry_of entry.now) memory.old memory.new) }
+    ensures max { memory.new.max ≡ memory.old.max }
+{
+    put(memory, entry.call.a0, entry.incoming)
+}
+
+// Writes the payload of a datagram, and then its sender.
+fn put_datagram(entry: &EntryView<'_>, memory: &mut Memory) -> Result<(), AllocError>
+    requires payload { entry.now.call.a0 + length entry.now.incoming.now ≤ length memory.old.bytes }
+    requires sender { entry.now.call.a2 + 4 ≤ length memory.old.bytes }
+    ensures ok { OnOk result (memory.new ≡ received (entry_of entry.now) memory.old) }
+    ensures err { OnErr result (WritesPart (entry_of entry.now) memory.old memory.new) }
+    ensures max { memory.new.max ≡ memory.old.max }
+{
+    put(memory, entry.call.a0, entry.incoming)?;
+    put(memory, entry.call.a2, &sender_of(entry.tag).to_le_bytes())
+}
+
+// Who sent a datagram with this tag, or without one.
+fn sender_of(tag: Option<Tag>) -> u32
+    ensures { result ≡ sender_number tag }
+{
+    tag.map_or(u32::MAX, |tag| tag.sender)
+}
+
+// Writes a piece that lies in the memory.
+fn put(memory: &mut Memory, addr: u64, piece: &[u8]) -> Result<(), AllocError>
+    requires { addr + length piece.now ≤ length memory.old.bytes }
+    ensures ok { OnOk result (memory.new ≡ with_piece memory.old addr piece.now) }
+    ensures err { OnErr result (WritesPrefix memory.old memory.new addr piece.now) }
+    ensures max { memory.new.max ≡ memory.old.max }
+{
+    memory.write(addr, piece)?;
+    Ok(())
+}

@@ -1,0 +1,89 @@
+// The bytes of the guest's memory that a call names.
+ghost use Rattle.std.specs.Prelude.{◌≡◌, ◌+◌, ◌^◌, ◌≤◌, [], length, IfOk, IsTrue, if◌then◌else◌};
+ghost use Rattle.guest_memory.specs.Memory.{bytes_at, is_inside as is_inside_of};
+ghost use Rattle.lib_calls.specs.Effects.{is_good, is_range as is_range_of, outgoing_of};
+
+use crate::entry::Call;
+use fri_bytes::Bytes;
+use guest_memory::Memory;
+use std::alloc::{AllocError, Global};
+
+// How many bytes a call may name.
+const MOST_BYTES: u64 = 60_000;
+
+// How many bytes a page of the memory has.
+const PAGE: u64 = 65_536;
+
+/// Whether each range of bytes that the call names lies in the memory and has at most 60,000 bytes. Only
+/// print, random, send, recv and try_recv name a range, and the last two also 4 bytes for the sender. An
+/// empty range may stand at the memory's end, also where the memory has no bytes.
+#[tactic(auto, unfolding(crate::specs::Effects::is_good))]
+pub fn good_arguments(call: &Call, memory: &Memory) -> bool
+    ensures { result ≡ is_good call.now memory.now }
+{
+    match call.kind {
+        3 | 6 => is_range(memory, call.a0, call.a1),
+        8 => is_range(memory, call.a1, call.a2),
+        9 | 10 => is_range(memory, call.a0, call.a1) && is_inside(memory, call.a2, 4),
+        _ => true,
+    }
+}
+
+// Whether the range lies in the memory and is one that a call may name.
+#[tactic(auto, unfolding(crate::specs::Effects::is_range))]
+fn is_range(memory: &Memory, addr: u64, len: u64) -> bool
+    ensures value { result ≡ is_range_of memory.now addr len }
+    ensures small { IsTrue result → addr + len ≤ 2 ^ 24 }
+{
+    len <= MOST_BYTES && is_inside(memory, addr, len)
+}
+
+// Whether the range lies in the memory, which is not large.
+fn is_inside(memory: &Memory, addr: u64, len: u64) -> bool
+    ensures value { result ≡ is_inside_of memory.now addr len }
+    ensures small { IsTrue result → addr + len ≤ 2 ^ 24 }
+{
+    let count = PAGE * u64::from(memory.size());
+    addr <= count && len <= count - addr
+}
+
+/// A copy of the bytes that the call sends out of the memory as it is now: those that print and send
+/// name, where their arguments are good, and none else.
+#[tactic(auto, unfolding(crate::specs::Effects::outgoing_of, crate::specs::Effects::is_good))]
+pub fn outgoing(alloc: Global, call: &Call, memory: &Memory) -> Result<Bytes, AllocError>
+    ensures { IfOk result (λ bytes. bytes ≡ outgoing_of call.now memory.now) }
+{
+    match call.kind {
+        3 => named(alloc, memory, call.a0, call.a1),
+        8 => named(alloc, memory, call.a1, call.a2),
+        _ => Ok(Bytes::new(alloc)),
+    }
+}
+
+// A copy of a range that a call may name, and of nothing where it may not.
+fn named(alloc: Global, memory: &Memory, addr: u64, len: u64) -> Result<Bytes, AllocError>
+    ensures { IfOk result (λ bytes. bytes ≡ (if is_range_of memory.now addr len then bytes_at memory.now addr len else [])) }
+{
+    if !is_range(memory, addr, len) {
+        return Ok(Bytes::new(alloc));
+    }
+    read(alloc, memory, addr, len)
+}
+
+// A copy of a range of the memory, which lends it in parts.
+fn read(alloc: Global, memory: &Memory, addr: u64, len: u64) -> Result<Bytes, AllocError>
+    requires inside { addr + len ≤ length memory.now.bytes }
+    requires small { addr + len ≤ 2 ^ 24 }
+    ensures { IfOk result (λ bytes. bytes ≡ bytes_at memory.now addr len) }
+{
+    let mut bytes = Bytes::new(alloc);
+    let mut count = 0;
+    while count < len {
+        let Some(part) = memory.part(addr + count, len - count) else {
+            unreachable!();
+        };
+        bytes.push_all(part)?;
+        count += part.len() as u64;
+    }
+    Ok(bytes)
+}

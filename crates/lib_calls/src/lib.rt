@@ -1,0 +1,18 @@
+//! The library calls that a guest imports: their kinds, names and signatures, the entries that tell the
+//! events that answer them, and what they do to the guest's memory.
+#![tactic(auto)]
+
+mod answer;
+mod arguments;
+mod entry;
+mod shape;
+mod table;
+
+pub use answer::write_back;
+pub use arguments::{good_arguments, outgoing};
+pub use entry::{Call, Entry, EntryView};
+pub use shape::Signature;
+pub use table::{kind_of, name_of, signature_of};
+
+#[cfg(test)]
+mod tests;
