@@ -1,0 +1,57 @@
+-- The tests of a module as functions, for definitions that compute with them.
+use Rattle.std.specs.Prelude.{ℕ, Bool, true, false, not, ◌&&◌, List, [], ◌∷◌, ◌++◌, map, codes, bytes_eq, slice_get}
+use Rattle.std.specs.List.{list_all}
+use Rattle.std.specs.Option.{option_map_or, is_some}
+use Rattle.wasm_types.specs.declared.code.ValType.{ValType}
+use Rattle.wasm_types.specs.Calls.{result_of}
+use Rattle.wasm_types.specs.Context.{context_of, expand}
+use Rattle.wasm_types.specs.Library.{imported_type, library, type_under}
+use Rattle.wasm_types.specs.Maybe.{◌>>=◌}
+use Rattle.wasm_types.specs.Modules.{FuncType, Import, Func, Export, Module}
+use Rattle.wasm_types.specs.Stack.{empty, is_exactly, is_same}
+use Rattle.wasm_types.specs.Typing.{after_all}
+use Rattle.wasm_validate.specs.Shape.{is_linked, is_within_limits}
+
+abbrev pub are_same : List ValType → List ValType → Bool
+are_same [] [] = true
+are_same (t ∷ ts) (u ∷ us) = is_same t u && are_same ts us
+are_same _ _ = false
+
+abbrev pub is_same_type : FuncType → FuncType → Bool
+is_same_type t u = are_same t.params u.params && are_same t.results u.results
+
+-- the type with this index, if there is one, is this type
+abbrev pub is_type_at : List FuncType → FuncType → ℕ → Bool
+is_type_at types type t = option_map_or (is_same_type type) (slice_get types t) false
+
+-- the import is a function of exactly this type
+abbrev pub is_typed_as : List FuncType → Import → FuncType → Bool
+is_typed_as types i type = option_map_or (is_type_at types type) (imported_type i.desc) false
+
+-- a function of the library, of exactly its type
+abbrev pub is_of_library : List FuncType → Import → Bool
+is_of_library types i =
+    bytes_eq i.«module» (codes "liblog") && option_map_or (is_typed_as types i) (type_under i.name library) false
+
+abbrev pub are_of_library : Module → Bool
+are_of_library m = list_all (is_of_library m.types) m.imports
+
+-- no two names are the same
+abbrev pub are_distinct : List (List ℕ) → Bool
+are_distinct [] = true
+are_distinct (name ∷ names) = list_all (λ other. not (bytes_eq name other)) names && are_distinct names
+
+-- all but the functions' code
+abbrev pub is_shaped : Module → Bool
+is_shaped m = is_within_limits m && (is_linked m && are_distinct (map (λ (e : Export). e.name) m.exports))
+
+-- the body of a function of this type is typed
+abbrev pub is_typed_body : Module → Func → FuncType → Bool
+is_typed_body m f t =
+    is_some (after_all (context_of m (t.params ++ expand f.locals) (result_of t)) f.body (result_of t ∷ []) empty >>= is_exactly (result_of t))
+
+abbrev pub is_typed_func : Module → Func → Bool
+is_typed_func m f = option_map_or (is_typed_body m f) (slice_get m.types f.type_index) false
+
+abbrev pub is_typed : Module → Bool
+is_typed m = is_shaped m && list_all (is_typed_func m) m.funcs

@@ -1,0 +1,55 @@
+// The refusals in their order.
+ghost use Rattle.std.specs.Prelude.{MatchResult, ◌≡◌};
+ghost use Rattle.wasm_types.specs.Context.{funcs_of};
+ghost use Rattle.wasm_types.specs.Modules.{module_of};
+ghost use Rattle.wasm_types.specs.Rules.{IsTyped};
+ghost use Rattle.wasm_types.specs.Valid.{IsValid};
+ghost use Rattle.wasm_validate.specs.Refusals.{IsFirst};
+ghost use Rattle.wasm_validate.specs.Steps.{Judges};
+
+use crate::floats::is_with_floats;
+use crate::functions::{check_functions, type_indices};
+use crate::imports::are_of_library;
+use crate::invalid::Invalid;
+use crate::refusal::Refusal;
+use crate::shape::check_shape;
+use crate::sizes::is_over_limit;
+use crate::start::has_no_start;
+use std::alloc::Global;
+use wasm_types::Module;
+
+/// Whether the module is valid, or else the first refusal that holds.
+pub(crate) fn check(alloc: Global, checked: &Module) -> Result<(), Invalid>
+    ensures { MatchResult result
+        (λ _. IsValid (module_of checked.now))
+        (λ e. IsFirst (module_of checked.now) e) }
+{
+    if is_with_floats(checked) {
+        return Err(Invalid::HasFloat);
+    }
+    if !are_of_library(&checked.types, &checked.imports) {
+        return Err(Invalid::BadImport);
+    }
+    let type_indices = type_indices(alloc, checked)?;
+    match check_typed(alloc, checked, &type_indices) {
+        Ok(()) => {}
+        Err(Refusal::Invalid) => return Err(Invalid::Untyped),
+        Err(Refusal::OutOfMemory) => return Err(Invalid::NoMemory),
+    }
+    if is_over_limit(checked) {
+        return Err(Invalid::OverLimit);
+    }
+    if has_no_start(checked, &type_indices) {
+        return Err(Invalid::NoStart);
+    }
+    Ok(())
+}
+
+// Whether the module is well typed.
+fn check_typed(alloc: Global, checked: &Module, type_indices: &[u32]) -> Result<(), Refusal>
+    requires { type_indices.now ≡ funcs_of (module_of checked.now) }
+    ensures { Judges (IsTyped (module_of checked.now)) result }
+{
+    check_shape(alloc, checked, type_indices)?;
+    check_functions(alloc, checked, type_indices)
+}

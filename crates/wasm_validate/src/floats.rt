@@ -1,0 +1,177 @@
+// Where floats stand in a module.
+ghost use Rattle.std.specs.Prelude.{◌≡◌};
+ghost use Rattle.std.specs.List.{list_any};
+ghost use Rattle.wasm_types.specs.Accesses.{load_of, store_of};
+ghost use Rattle.wasm_types.specs.Code.{tree, trees};
+ghost use Rattle.wasm_types.specs.Floats.{has_float, has_float_func, has_float_global, has_float_type, have_float, is_float, is_float_access, is_float_import, is_float_operator, is_float_result, is_with_floats};
+ghost use Rattle.wasm_types.specs.Modules.{func, func_type, global_def, module_of};
+ghost use Rattle.wasm_types.specs.Numeric.{operator_of};
+
+use wasm_types::{Func, FuncType, GlobalDef, ImportDesc, Instr, Module, ValType};
+
+/// Whether a float value type or an instruction on floats stands anywhere in the module.
+#[tactic(auto, using(crate::proofs::Lists::list_any_map))]
+pub(crate) fn is_with_floats(checked: &Module) -> bool
+    ensures { result ≡ is_with_floats (module_of checked.now) }
+{
+    if in_types(checked) {
+        return true;
+    }
+    if in_imports(checked) {
+        return true;
+    }
+    if in_funcs(checked) {
+        return true;
+    }
+    if in_globals(checked) {
+        return true;
+    }
+    in_elems(checked) || in_segments(checked)
+}
+
+fn in_types(checked: &Module) -> bool
+    ensures { result ≡ list_any (λ t. has_float_type (func_type t)) checked.now.types.items }
+{
+    checked.types.iter().any(|t| has_float_type(t))
+}
+
+fn in_imports(checked: &Module) -> bool
+    ensures { result ≡ list_any (λ i. is_float_import i.desc) checked.now.imports.items }
+{
+    checked.imports.iter().any(|i| is_float_import(i.desc))
+}
+
+fn in_funcs(checked: &Module) -> bool
+    ensures { result ≡ list_any (λ f. has_float_func (func f)) checked.now.funcs.items }
+{
+    checked.funcs.iter().any(|f| has_float_func(f))
+}
+
+fn in_globals(checked: &Module) -> bool
+    ensures { result ≡ list_any (λ g. has_float_global (global_def g)) checked.now.globals.items }
+{
+    checked.globals.iter().any(|g| has_float_global(g))
+}
+
+fn in_elems(checked: &Module) -> bool
+    ensures { result ≡ list_any (λ e. have_float (trees e.offset.items)) checked.now.elems.items }
+{
+    checked.elems.iter().any(|e| have_float(&e.offset))
+}
+
+fn in_segments(checked: &Module) -> bool
+    ensures { result ≡ list_any (λ s. have_float (trees s.offset.items)) checked.now.segments.items }
+{
+    checked.segments.iter().any(|s| have_float(&s.offset))
+}
+
+fn has_float_type(t: &FuncType) -> bool
+    ensures { result ≡ has_float_type (func_type t.now) }
+{
+    any_float(&t.params) || any_float(&t.results)
+}
+
+fn any_float(kinds: &[ValType]) -> bool
+    ensures { result ≡ list_any is_float kinds.now }
+{
+    kinds.iter().any(|kind| is_float(*kind))
+}
+
+fn any_float_run(runs: &[(u32, ValType)]) -> bool
+    ensures { result ≡ list_any (λ run. is_float run.1) runs.now }
+{
+    runs.iter().any(|run| is_float(run.1))
+}
+
+fn is_float_import(desc: ImportDesc) -> bool
+    ensures { result ≡ is_float_import desc }
+{
+    match desc {
+        ImportDesc::Global(kind, _) => is_float(kind),
+        _ => false,
+    }
+}
+
+fn has_float_func(f: &Func) -> bool
+    ensures { result ≡ has_float_func (func f.now) }
+{
+    any_float_run(&f.locals) || have_float(&f.body)
+}
+
+fn has_float_global(g: &GlobalDef) -> bool
+    ensures { result ≡ has_float_global (global_def g.now) }
+{
+    is_float(g.kind) || have_float(&g.init)
+}
+
+// Whether one of the instructions is on floats or names a float type.
+#[cycle(has_float)]
+fn have_float(instrs: &[Instr]) -> bool
+    ensures { result ≡ have_float (trees instrs.now) }
+{
+    for instr in instrs {
+        if has_float(instr) {
+            return true;
+        }
+    }
+    false
+}
+
+// Whether the instruction or one inside it is.
+#[cycle(has_float)]
+fn has_float(instr: &Instr) -> bool
+    ensures { result ≡ has_float (tree instr.now) }
+{
+    match instr {
+        Instr::Block(result, body) | Instr::Loop(result, body) => {
+            is_float_result(*result) || have_float(body)
+        }
+        Instr::If(result, on_true, on_false) => {
+            if is_float_result(*result) {
+                return true;
+            }
+            if have_float(on_true) {
+                return true;
+            }
+            have_float(on_false)
+        }
+        Instr::Load { opcode, .. } => is_float_load(*opcode),
+        Instr::Store { opcode, .. } => is_float_store(*opcode),
+        Instr::ConstF32(_) | Instr::ConstF64(_) => true,
+        Instr::Op(opcode) => is_float_operator(*opcode),
+        _ => false,
+    }
+}
+
+fn is_float(kind: ValType) -> bool
+    ensures { result ≡ is_float kind }
+{
+    matches!(kind, ValType::F32 | ValType::F64)
+}
+
+fn is_float_result(kind: Option<ValType>) -> bool
+    ensures { result ≡ is_float_result kind }
+{
+    match kind {
+        Some(kind) => is_float(kind),
+        None => false,
+    }
+}
+
+fn is_float_load(opcode: u8) -> bool
+    ensures { result ≡ is_float_access (load_of opcode) }
+{
+    0x2A <= opcode && opcode <= 0x2B
+}
+
+fn is_float_store(opcode: u8) -> bool
+    ensures { result ≡ is_float_access (store_of opcode) }
+{
+    0x38 <= opcode && opcode <= 0x39
+}
+
+fn is_float_operator(opcode: u8) -> bool
+    ensures { result ≡ is_float_operator (operator_of opcode) }
+{
+    matches!(opcode, 0x5B..=0x66 | 0x8B..=0xA6 | 0xA8..=0xAB | 0xAE..=0xBF)
+}

@@ -1,0 +1,71 @@
+// The functions of a module.
+ghost use Rattle.std.specs.Prelude.{◌≡◌, IfOk, MatchOption, None, Some, map, slice_get};
+ghost use Rattle.wasm_types.specs.Context.{funcs_of};
+ghost use Rattle.wasm_types.specs.Modules.{module_of, func, func_type};
+ghost use Rattle.wasm_types.specs.Rules.{IsTypedFunc, AreTypedFuncs};
+ghost use Rattle.wasm_validate.specs.Steps.{Judges};
+
+use crate::bodies::check_body;
+use crate::calls::result_of;
+use crate::context::Context;
+use crate::locals::Locals;
+use crate::refusal::Refusal;
+use std::alloc::{AllocError, Global};
+use wasm_types::{Func, FuncType, ImportDesc, Module};
+
+/// Whether each function has a type of the module, and code that is well typed.
+pub(crate) fn check_functions(
+    alloc: Global,
+    checked: &Module,
+    type_indices: &[u32],
+) -> Result<(), Refusal>
+    requires { type_indices.now ≡ funcs_of (module_of checked.now) }
+    ensures { Judges (AreTypedFuncs (module_of checked.now)) result }
+{
+    for function in &checked.funcs {
+        check_function(alloc, checked, type_indices, function)?;
+    }
+    Ok(())
+}
+
+/// The index of each function's type, the imports first.
+pub(crate) fn type_indices(alloc: Global, checked: &Module) -> Result<Vec<u32>, AllocError>
+    ensures { IfOk result (λ v. v.items ≡ funcs_of (module_of checked.now)) }
+{
+    let mut type_indices = Vec::new(alloc);
+    for import in &checked.imports {
+        if let ImportDesc::Func(type_index) = import.desc {
+            type_indices.push(type_index)?;
+        }
+    }
+    for function in &checked.funcs {
+        type_indices.push(function.type_index)?;
+    }
+    Ok(type_indices)
+}
+
+fn check_function(
+    alloc: Global,
+    checked: &Module,
+    type_indices: &[u32],
+    function: &Func,
+) -> Result<(), Refusal>
+    requires { type_indices.now ≡ funcs_of (module_of checked.now) }
+    ensures { Judges (IsTypedFunc (module_of checked.now) (func function.now)) result }
+{
+    let Some(func_type) = type_at(&checked.types, function.type_index) else {
+        return Err(Refusal::Invalid);
+    };
+    let locals = Locals::new(alloc, &func_type.params, &function.locals)?;
+    let context = Context::new(checked, type_indices, locals, result_of(func_type));
+    check_body(alloc, &context, &function.body)
+}
+
+/// The type with this index, if there is one.
+pub(crate) fn type_at(types: &[FuncType], index: u32) -> Option<&FuncType>
+    ensures { MatchOption result
+        (slice_get (map func_type types.now) index ≡ None)
+        (λ t. slice_get (map func_type types.now) index ≡ Some (func_type t.now)) }
+{
+    types.get(index as usize)
+}

@@ -1,0 +1,121 @@
+// Whether imports are functions of the library.
+ghost use Rattle.std.specs.Prelude.{◌≡◌, ◌↔◌, All, IsTrue, codes, map, replicate};
+ghost use Rattle.std.specs.List.{list_all};
+ghost use Rattle.std.specs.Option.{option_map};
+ghost use Rattle.wasm_types.specs.Library.{IsOfLibrary};
+ghost use Rattle.wasm_types.specs.Modules.{func_type, import_of, module_of};
+ghost use Rattle.wasm_types.specs.Rules.{has_type};
+ghost use Rattle.wasm_validate.specs.Signatures.{HasTypeUnder, importable_type, results_of, type_of};
+
+use crate::segments::has_index;
+use lib_calls::{Signature, kind_of, signature_of};
+use wasm_types::{FuncType, Import, ImportDesc, Module, ValType};
+
+/// Whether each import is a function of the library, of exactly its type.
+pub(crate) fn are_of_library(types: &[FuncType], imports: &[Import]) -> bool
+    ensures { IsTrue result ↔ All (IsOfLibrary (map func_type types.now)) (map import_of imports.now) }
+{
+    for import in imports {
+        if !is_of_library(types, import) {
+            return false;
+        }
+    }
+    true
+}
+
+/// Whether each imported function has a type of the module.
+pub(crate) fn have_types(checked: &Module) -> bool
+    ensures { result ≡ list_all (λ i. has_type (module_of checked.now) i.desc) checked.now.imports.items }
+{
+    checked
+        .imports
+        .iter()
+        .all(|import| has_type(checked, import.desc))
+}
+
+fn has_type(checked: &Module, desc: ImportDesc) -> bool
+    ensures { result ≡ has_type (module_of checked.now) desc }
+{
+    match desc {
+        ImportDesc::Func(index) => has_index(checked.types.len(), index),
+        _ => true,
+    }
+}
+
+fn is_of_library(types: &[FuncType], import: &Import) -> bool
+    ensures { IsTrue result ↔ IsOfLibrary (map func_type types.now) (import_of import.now) }
+{
+    match import.desc {
+        ImportDesc::Func(index) => {
+            is_library(&import.module) && has_type_under(types, index, &import.name)
+        }
+        _ => false,
+    }
+}
+
+fn is_library(name: &[u8]) -> bool
+    ensures { IsTrue result ↔ (name.now ≡ codes "liblog") }
+{
+    name == b"liblog".as_slice()
+}
+
+// Whether the type with this index is that of the call with this name, if a guest can import it.
+fn has_type_under(types: &[FuncType], index: u32, name: &[u8]) -> bool
+    ensures { IsTrue result ↔ HasTypeUnder (map func_type types.now) index name.now }
+{
+    let Some(signature) = importable(name) else {
+        return false;
+    };
+    match types.get(index as usize) {
+        Some(found) => has_signature(found, signature),
+        None => false,
+    }
+}
+
+// The signature of the call with this name, if a guest can import it.
+fn importable(name: &[u8]) -> Option<Signature>
+    ensures { option_map type_of result ≡ importable_type name.now }
+{
+    let kind = kind_of(name)?;
+    if kind == 0 {
+        return None;
+    }
+    signature_of(kind)
+}
+
+fn has_signature(found: &FuncType, signature: Signature) -> bool
+    ensures { IsTrue result ↔ (func_type found.now ≡ type_of signature) }
+{
+    let kind = if signature.wide_param {
+        ValType::I64
+    } else {
+        ValType::I32
+    };
+    are_copies(&found.params, signature.params as usize, kind)
+        && has_results(&found.results, signature.result)
+}
+
+// Whether the list is so many times this type.
+fn are_copies(kinds: &[ValType], count: usize, kind: ValType) -> bool
+    ensures { IsTrue result ↔ (kinds.now ≡ replicate count kind) }
+{
+    if kinds.len() != count {
+        return false;
+    }
+    for found in kinds {
+        if *found != kind {
+            return false;
+        }
+    }
+    true
+}
+
+fn has_results(kinds: &[ValType], width: u8) -> bool
+    ensures { IsTrue result ↔ (kinds.now ≡ results_of width) }
+{
+    match width {
+        0 => kinds.is_empty(),
+        32 => are_copies(kinds, 1, ValType::I32),
+        _ => are_copies(kinds, 1, ValType::I64),
+    }
+}

@@ -1,0 +1,70 @@
+// Modules over the limits of size.
+ghost use Rattle.std.specs.Prelude.{◌≡◌, ◌+◌, ℕ, length, map, nat_lt, sum};
+ghost use Rattle.std.specs.List.{list_any};
+ghost use Rattle.wasm_types.specs.Modules.{func, module_of};
+ghost use Rattle.wasm_types.specs.Valid.{is_over_limit, local_count};
+
+use crate::functions::type_at;
+use wasm_types::{Func, Limits, Module, ValType};
+
+// A memory's pages, a table's elements, and a function's parameters and locals, all at most.
+const PAGES: u32 = 256;
+
+const ELEMENTS: u32 = 65_536;
+
+const LOCALS: u32 = 4_096;
+
+/// Whether a memory, a table or a function of the module is too large.
+#[tactic(auto, using(crate::proofs::Lists::list_any_map))]
+pub(crate) fn is_over_limit(checked: &Module) -> bool
+    ensures { result ≡ is_over_limit (module_of checked.now) }
+{
+    if has_min_over(&checked.mems, PAGES) {
+        return true;
+    }
+    if has_min_over(&checked.tables, ELEMENTS) {
+        return true;
+    }
+    has_large_func(checked)
+}
+
+fn has_min_over(all: &[Limits], bound: u32) -> bool
+    ensures { result ≡ list_any (λ (l : Limits). nat_lt bound l.min) all.now }
+{
+    all.iter().any(|limits| bound < limits.min)
+}
+
+fn has_large_func(checked: &Module) -> bool
+    ensures { result
+        ≡ list_any (λ f. nat_lt 4096 (local_count (module_of checked.now) (func f)))
+        checked.now.funcs.items }
+{
+    checked
+        .funcs
+        .iter()
+        .any(|function| is_large(checked, function))
+}
+
+fn is_large(checked: &Module, function: &Func) -> bool
+    ensures { result ≡ nat_lt 4096 (local_count (module_of checked.now) (func function.now)) }
+{
+    let params = match type_at(&checked.types, function.type_index) {
+        Some(found) => found.params.len(),
+        None => 0,
+    };
+    params > LOCALS as usize || is_sum_over(&function.locals, LOCALS - params as u32)
+}
+
+// Whether the counts of the runs have a sum above the bound. The sum itself may be too large for a number.
+fn is_sum_over(runs: &[(u32, ValType)], bound: u32) -> bool
+    ensures { result ≡ nat_lt bound (sum (map (λ run. run.0) runs.now)) }
+{
+    let mut left = bound;
+    for (count, _) in runs {
+        if *count > left {
+            return true;
+        }
+        left -= *count;
+    }
+    false
+}
