@@ -1,0 +1,141 @@
+-- A burst of a thread that fits never sticks, and keeps what fits.
+use Rattle.std.proofs.Common.{◌≡◌, ℕ, zero, suc, true, false, Option, None, refl, sym, ap, ◌∙◌, subst}
+use Rattle.std.specs.Prelude.{if◌then◌else◌}
+use Rattle.wasm_types.specs.declared.code.Value.TheVariants.{I32, I64}
+use Rattle.wasm_types.specs.declared.traps.Trap.TheVariants.{Exhausted}
+use Rattle.wasm_types.specs.Code.{Tree, Unreachable, Nop, Block, Loop, If, Br, BrIf, BrTable, Return, CallFunc, CallIndirect, DropTop, Select, LocalGet, LocalSet, LocalTee, GlobalGet, GlobalSet, Load, Store as StoreIn, MemorySize, MemoryGrow, ConstI32, ConstI64, ConstF32, ConstF64, Op, Trees, End, Then}
+use Rattle.wasm_types.specs.Context.{Context}
+use Rattle.wasm_types.specs.Modules.{Module}
+use Rattle.wasm_types.specs.Valid.{IsValid}
+use Rattle.wasm_step.specs.declared.halt.Halt.{Halt}
+use Rattle.wasm_step.specs.Answer.{stop_of}
+use Rattle.wasm_step.specs.Paused.{run_of}
+use Rattle.wasm_step.specs.Burst.{Settled, At, Done, Run, at_next, after_end, settle_by, settle, after_step, at_instr, burst}
+use Rattle.wasm_step.specs.Fits.{kinds_of, Leaves, Fits, Suits, StopFits, AfterFits, RunFits, StandsFit}
+use Rattle.wasm_step.specs.Reduce.{Both, Stop, Traps, After, Goes, Stops, row, reduce, limited, ended, trapped}
+use Rattle.wasm_step.specs.Store.{Store}
+use Rattle.wasm_step.specs.Thread.{Thread, with_operand, is_within, depth}
+use Rattle.wasm_step.proofs.Branches.{block_fits, loop_fits, choose_fits, br_fits, br_if_fits, br_table_fits, return_row_fits}
+use Rattle.wasm_step.proofs.Callees.{call_row_fits, call_indirect_fits}
+use Rattle.wasm_step.proofs.Fits.{never_none, RestOf, labels_at, goes, rest_of, ended_fits}
+use Rattle.wasm_step.proofs.Plain.{Before, numeric_fits, local_get_fits, local_set_fits, local_tee_fits, drop_fits, select_fits}
+use Rattle.wasm_step.proofs.Programs.{same_program}
+use Rattle.wasm_step.proofs.Runs.{zero_depth, less_depth}
+use Rattle.wasm_step.proofs.Stored.{global_get_fits, global_set_fits, load_row_fits, store_row_fits, size_fits, grow_fits}
+
+module _ (m : Module) where
+  abbrev BothFit : Both → Type 0
+  BothFit b = AfterFits m b.after × Suits b.store
+
+  -- each instruction keeps what fits
+  row_fits : (c : Context) (i : Tree) (t : Thread) (g : Store) → IsValid m → g.program ≡ m → Suits g → RestOf m c t → Before m c i t (kinds_of t.stack) → BothFit (row i t g)
+  row_fits c Unreachable t g v same s r h = (tt, s)
+  row_fits c Nop t g v same s r h = (goes m c t r (record { typed = h.typed; no_float = h.no_float }), s)
+  row_fits c (Block gives body) t g v same s r h = (block_fits m c gives body t r h, s)
+  row_fits c (Loop gives body) t g v same s r h = (loop_fits m c gives body t r h, s)
+  row_fits c (If gives on_true on_false) t g v same s r h = (choose_fits m c gives on_true on_false t r h, s)
+  row_fits c (Br n) t g v same s r h = (br_fits m c n t r h, s)
+  row_fits c (BrIf n) t g v same s r h = (br_if_fits m c n t r h, s)
+  row_fits c (BrTable labels default) t g v same s r h = (br_table_fits m c labels default t r h, s)
+  row_fits c Return t g v same s r h = (return_row_fits m c t r h, s)
+  row_fits c (CallFunc f) t g v same s r h =
+      (subst (λ (m' : Module). AfterFits m (Rattle.wasm_step.specs.Reduce.call m' f t)) (sym same) (call_row_fits m c f t v r h), s)
+  row_fits c (CallIndirect k) t g v same s r h = (call_indirect_fits m c k g t same s v r h, s)
+  row_fits c DropTop t g v same s r h = (drop_fits m c t.stack t r h, s)
+  row_fits c Select t g v same s r h = (select_fits m c t.stack t r h, s)
+  row_fits c (LocalGet x) t g v same s r h = (local_get_fits m c x t r h, s)
+  row_fits c (LocalSet x) t g v same s r h = (local_set_fits m c x t r h, s)
+  row_fits c (LocalTee x) t g v same s r h = (local_tee_fits m c x t r h, s)
+  row_fits c (GlobalGet x) t g v same s r h = (global_get_fits m c g same s x t r h, s)
+  row_fits c (GlobalSet x) t g v same s r h = global_set_fits m c g same s x t r h
+  row_fits c (Load op align offset) t g v same s r h = (load_row_fits m c g same s op align offset t r h, s)
+  row_fits c (StoreIn op align offset) t g v same s r h = store_row_fits m c g same s op align offset t r h
+  row_fits c MemorySize t g v same s r h = (size_fits m c g same s t r h, s)
+  row_fits c MemoryGrow t g v same s r h = grow_fits m c g same s t r h
+  row_fits c (ConstI32 bits) t g v same s r h =
+      (goes m c (with_operand t (I32 bits)) r (record { typed = h.typed; no_float = h.no_float }), s)
+  row_fits c (ConstI64 bits) t g v same s r h =
+      (goes m c (with_operand t (I64 bits)) r (record { typed = h.typed; no_float = h.no_float }), s)
+  row_fits c (ConstF32 bits) t g v same s r h = never_none (sym h.no_float)
+  row_fits c (ConstF64 bits) t g v same s r h = never_none (sym h.no_float)
+  row_fits c (Op op) t g v same s r h = (numeric_fits m c op t r h, s)
+
+  limited_fits : (a : After) → AfterFits m a → AfterFits m (limited a)
+  limited_fits (Stops s) h = h
+  limited_fits (Goes t) h =
+      elim (is_within t) as (λ b. AfterFits m (if b then Goes t else trapped Exhausted)) [ true ↦ h | false ↦ tt ]
+
+  -- ---- the ends, and bursts
+
+  abbrev SettledFits : Settled → Type 0
+  SettledFits (At i t) = Fits m (record t { todo = Then i t.todo })
+  SettledFits (Done s) = StopFits m s
+
+  next_fits : (todo : Trees) (t : Thread) (rest : Settled) → t.todo ≡ todo → Fits m t → (todo ≡ End → SettledFits rest) → SettledFits (at_next todo t rest)
+  next_fits End t rest e h otherwise = otherwise refl
+  next_fits (Then i is) t rest e h otherwise =
+      goes m h.0.context (record t { todo = Then i is }) (rest_of m t h) (subst (λ x. Leaves h.0.context (labels_at m t) t.gives x (kinds_of t.stack)) e h.0.todo)
+
+  after_end_fits : (a : After) (go : Thread → Settled) → AfterFits m a → ((t : Thread) → a ≡ Goes t → Fits m t → SettledFits (go t)) → SettledFits (after_end a go)
+  after_end_fits (Goes t) go h next = next t refl h
+  after_end_fits (Stops s) go h next = h
+
+  settle_by_fits : (n : ℕ) (t : Thread) → depth t ≡ n → Fits m t → SettledFits (settle_by n t)
+  settle_by_fits zero t d h =
+      next_fits t.todo t _ refl h (λ none. after_end_fits (ended t) _ (ended_fits m t none h) (λ u e hu. absurd (zero_depth t u d e)))
+  settle_by_fits (suc n) t d h =
+      next_fits t.todo t _ refl h (λ none. after_end_fits (ended t) _ (ended_fits m t none h) (λ u e hu. settle_by_fits n u (less_depth t u n d e) hu))
+
+  at_instr_fits : (s : Settled) (g : Store) (go : Tree → Thread → Run) → SettledFits s → Suits g → ((i : Tree) (t : Thread) → Fits m (record t { todo = Then i t.todo }) → RunFits m (go i t)) → RunFits m (at_instr s g go)
+  at_instr_fits (At i t) g go h hg next = next i t h
+  at_instr_fits (Done s) g go h hg next = (h, hg)
+
+  after_step_fits : (a : After) (g : Store) (go : Thread → Store → Run) → AfterFits m a → Suits g → ((t : Thread) → Fits m t → RunFits m (go t g)) → RunFits m (after_step a g go)
+  after_step_fits (Goes t) g go h hg next = next t h
+  after_step_fits (Stops s) g go h hg next = (h, hg)
+
+  -- a burst keeps what fits, and does not stick
+  pub burst_fits : (n : ℕ) (t : Thread) (g : Store) → IsValid m → g.program ≡ m → Suits g → Fits m t → RunFits m (burst n t g)
+  unfolding burst
+  burst_fits zero t g v same s h =
+      at_instr_fits (settle t) g _ (settle_by_fits (depth t) t refl h) s (λ i u hu. (tt, s))
+  burst_fits (suc n) t g v same s h =
+      at_instr_fits (settle t) g _ (settle_by_fits (depth t) t refl h) s (λ i u hu.
+      let b = row_fits hu.0.context i u g v same s (rest_of m (record u { todo = Then i u.todo }) hu) hu.0.todo in
+      after_step_fits (limited (row i u g).after) (row i u g).store _ (limited_fits (row i u g).after b.0) b.1 (λ u' hu'. burst_fits n u' (row i u g).store v (same_program i u g ∙ same) b.1 hu'))
+
+  -- the same of what equals the burst
+  pub run_fits : (n : ℕ) (t : Thread) (g : Store) (r : Run) → r ≡ burst n t g → IsValid m → g.program ≡ m → Suits g → Fits m t → RunFits m r
+  run_fits n t g r e v same s h = subst (λ r. RunFits m r) (sym e) (burst_fits n t g v same s h)
+
+at_instr_program : (s : Settled) (g : Store) (go : Tree → Thread → Run) → ((i : Tree) (t : Thread) → (go i t).store.program ≡ g.program) → (at_instr s g go).store.program ≡ g.program
+at_instr_program (At i t) g go next = next i t
+at_instr_program (Done s) g go next = refl
+
+after_step_program : (a : After) (g : Store) (go : Thread → Store → Run) → ((t : Thread) → (go t g).store.program ≡ g.program) → (after_step a g go).store.program ≡ g.program
+after_step_program (Goes t) g go next = next t
+after_step_program (Stops s) g go next = refl
+
+-- a burst leaves the program as it is
+burst_program : (n : ℕ) (t : Thread) (g : Store) → (burst n t g).store.program ≡ g.program
+unfolding burst
+burst_program zero t g = at_instr_program (settle t) g _ (λ i u. refl)
+burst_program (suc n) t g =
+    at_instr_program (settle t) g _ (λ i u.
+    after_step_program (reduce i u g).after (reduce i u g).store (burst n) (λ u'. burst_program n u' (reduce i u g).store)
+    ∙ same_program i u g)
+
+pub run_program : (n : ℕ) (t : Thread) (g : Store) (r : Run) → r ≡ burst n t g → r.store.program ≡ g.program
+run_program n t g r e = ap (λ (r : Run). r.store.program) e ∙ burst_program n t g
+
+-- what a burst of the program leaves: a stop that fits, a store that suits, and the program
+pub record Leaving (m : Module) (halt : Halt) (u : Thread) (g : Store) : Type 0 where
+  pub stop : StopFits m (stop_of halt u)
+  pub suits : Suits g
+  pub program : g.program ≡ m
+
+pub leaving : (m : Module) (t u : Thread) (g g' : Store) (halt : Halt) (call : Option ℕ) → run_of halt u g' ≡ burst 10000000 t g → IsValid m → m ≡ g.program → Suits g → StandsFit m t call → call ≡ None → Leaving m halt u g'
+leaving m t u g g' halt call e v same s stands runs =
+    let fits = subst (λ (call : Option ℕ). StandsFit m t call) runs stands in
+    let r = run_fits m 10000000 t g (run_of halt u g') e v (sym same) s fits in
+    record { stop = r.0; suits = r.1; program = run_program 10000000 t g (run_of halt u g') e ∙ sym same }

@@ -1,0 +1,14 @@
+pub mod Begins
+pub mod Branches
+pub mod Bursts
+pub mod Callees
+pub mod Fits
+pub mod Opcodes
+pub mod Plain
+pub mod Programs
+pub mod Runs
+pub mod Starts
+pub mod Stored
+pub mod Suited
+pub mod Views
+pub mod Zeros

@@ -1,0 +1,9 @@
+use Rattle.std.proofs.Common.{◌≡◌, drop}
+use Rattle.std.specs.Prelude.{map}
+use Rattle.wasm_types.specs.Modules.{export, module_of}
+use Rattle.wasm_step.specs.Strand.{entry_from}
+use Rattle.wasm_step.proofs.first.entry_from.Given as goal
+
+abbrev pub invariant-loop-export : goal.invariant-loop-export
+invariant-loop-export l =
+    entry_from (module_of l.code) (map export l.code.exports.items) ≡ entry_from (module_of l.code) (map export (drop l.export-index l.code.exports.items))

@@ -1,0 +1,17 @@
+use Rattle.std.proofs.Common.{◌≡◌, IfOk, rules, sym, ap, ◌∙◌, subst}
+use Rattle.wasm_types.specs.declared.code.Value.TheVariants.{I32}
+use Rattle.wasm_types.specs.Modules.{Module}
+use Rattle.wasm_step.specs.Answer.{after_of}
+use Rattle.wasm_step.specs.Reduce.{After, call_element, call_indirect, limited}
+use Rattle.wasm_step.specs.Thread.{Thread, with_operand}
+use Rattle.wasm_step.proofs.stack.Stack.call_indirect.Goals as goal
+
+pub returns-in-Some-I32 : goal.returns-in-Some-I32
+returns-in-Some-I32 c =
+    let g = c.args.store.now in
+    let t : c.args.self.now ≡ with_operand c.pop.new.self (I32 c.in-Some-I32.i) = search (rules, c.in-Some-I32.ensures.some, c.in-Some-I32.field-0-is, c.in-Some-I32.i-is) in
+    let same =
+    ap (λ e. limited (call_element g.program c.args.kind e c.pop.new.self)) c.element.ensures
+    ∙ ap (λ (t : Thread). limited (call_indirect c.args.kind g t)) (sym t)
+    in
+    subst (λ (x : After). IfOk c.call_element.result (λ a. limited (after_of a c.call_element.new.self) ≡ x)) same (subst (λ (m : Module). IfOk c.call_element.result (λ a. limited (after_of a c.call_element.new.self) ≡ limited (call_element m c.args.kind c.element.result c.pop.new.self))) c.requires c.call_element.ensures)

@@ -1,0 +1,12 @@
+use Rattle.std.proofs.Common.{sym, ◌∙◌, arith}
+use Rattle.wasm_step.proofs.Views.{IsSound-operands, keeps_popped, popped_view}
+use Rattle.wasm_step.proofs.stack.Stack.pop.Goals as goal
+
+pub invariant_of-self-2 : goal.invariant_of-self-2
+invariant_of-self-2 c =
+    IsSound-operands c.self.inside c.pop.new.self c.self.invariant (keeps_popped c.self.inside _ c.in-Some.v (omega (arith, c.self.inside.operands.ok.0)) c.in-Some.ensures.items)
+
+pub returns-clause-some : goal.returns-clause-some
+returns-clause-some c =
+    sym c.self.view_is
+    ∙ popped_view c.self.inside c.pop.new.self c.in-Some.v c.self.invariant (omega (arith, c.self.inside.operands.ok.0)) c.in-Some.ensures.items

@@ -1,0 +1,13 @@
+use Rattle.std.proofs.Common.{ap, ◌∙◌}
+use Rattle.wasm_step.specs.Thread.{with_operand}
+use Rattle.wasm_step.proofs.Views.{IsSound-operands, keeps_pushed, pushed_view}
+use Rattle.wasm_step.proofs.stack.Stack.push.Goals as goal
+
+pub invariant_of-self-2 : goal.invariant_of-self-2
+invariant_of-self-2 c =
+    IsSound-operands c.self.inside c.push.new.self c.self.invariant (keeps_pushed c.self.inside _ c.args.v c.self.invariant c.in_ok-push.ensures.items)
+
+pub returns : goal.returns
+returns c =
+    pushed_view c.self.inside c.push.new.self c.args.v c.self.invariant c.in_ok-push.ensures.items
+    ∙ ap (λ t. with_operand t c.args.v) c.self.view_is

@@ -1,0 +1,7 @@
+use Rattle.wasm_types.specs.Modules.{module_of}
+use Rattle.wasm_step.proofs.Begins.{first_fits}
+use Rattle.wasm_step.proofs.strand.Strand.first.Goals as goal
+
+pub invariant_of-result : goal.invariant_of-result
+invariant_of-result c =
+    first_fits (module_of c.args.program.now) c.in_ok-stack.stack c.first.ensures.valid c.in_ok-stack.ensures.thread

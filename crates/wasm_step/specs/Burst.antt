@@ -1,0 +1,50 @@
+-- A burst: instructions until a call of the library, the thread's end or a trap.
+use Rattle.std.specs.Prelude.{ℕ, zero, suc}
+use Rattle.wasm_types.specs.declared.traps.Trap.TheVariants.{Spent}
+use Rattle.wasm_types.specs.Code.{Tree, Trees, End, Then}
+use Rattle.wasm_step.specs.Store.{Store}
+use Rattle.wasm_step.specs.Thread.{Thread, depth}
+use Rattle.wasm_step.specs.Reduce.{Both, Stop, Traps, Sticks, After, Goes, Stops, reduce, ended}
+
+-- a thread at its next instruction, with those after it, or at a stop
+pub data Settled : Type 0 where
+  At : Tree → Thread → Settled
+  Done : Stop → Settled
+
+abbrev pub after_end : After → (Thread → Settled) → Settled
+after_end (Goes t) go = go t
+after_end (Stops s) go = Done s
+
+abbrev pub at_next : Trees → Thread → Settled → Settled
+at_next End t otherwise = otherwise
+at_next (Then i rest) t otherwise = At i (record t { todo = rest })
+
+-- past at most n ends of levels and frames
+abbrev pub settle_by : ℕ → Thread → Settled
+settle_by zero t = at_next t.todo t (after_end (ended t) (λ t'. Done Sticks))
+settle_by (suc n) t = at_next t.todo t (after_end (ended t) (settle_by n))
+
+-- past the ends of levels and frames; there are no more than `depth` of them
+abbrev pub settle : Thread → Settled
+settle t = settle_by (depth t) t
+
+-- where a burst stops, and the store then
+pub record Run : Type 0 where
+  pub stop : Stop
+  pub store : Store
+
+abbrev pub after_step : After → Store → (Thread → Store → Run) → Run
+after_step (Goes t) g go = go t g
+after_step (Stops s) g go = record { stop = s; store = g }
+
+abbrev pub after_both : Both → (Thread → Store → Run) → Run
+after_both r go = after_step r.after r.store go
+
+abbrev pub at_instr : Settled → Store → (Tree → Thread → Run) → Run
+at_instr (At i t) g go = go i t
+at_instr (Done s) g go = record { stop = s; store = g }
+
+-- at most n instructions, and `Spent` where there is one more
+unfoldable pub burst : ℕ → Thread → Store → Run
+burst zero t g = at_instr (settle t) g (λ i t'. record { stop = Traps Spent; store = g })
+burst (suc n) t g = at_instr (settle t) g (λ i t'. after_both (reduce i t' g) (burst n))

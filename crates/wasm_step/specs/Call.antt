@@ -1,0 +1,25 @@
+-- Calls of the library.
+use Rattle.std.specs.Prelude.{ℕ, List, Option, Some, None, slice_get}
+use Rattle.wasm_types.specs.declared.code.Value.{Value}
+use Rattle.wasm_types.specs.declared.code.Value.TheVariants.{I32, I64}
+use Rattle.wasm_step.specs.declared.call.CallSite.{CallSite}
+
+-- the bits of an argument, and 0 where there is none
+abbrev pub bits_of : Option Value → ℕ
+bits_of None = 0
+bits_of (Some (I32 x)) = x
+bits_of (Some (I64 x)) = x
+
+-- the call of the function f with these arguments; no function of the library has more than three
+abbrev pub site_of : ℕ → List Value → CallSite
+site_of f args = record {
+  func = f;
+  a0 = bits_of (slice_get args 0);
+  a1 = bits_of (slice_get args 1);
+  a2 = bits_of (slice_get args 2);
+}
+
+-- the same, if there are arguments
+abbrev pub sited : ℕ → Option (List Value) → Option CallSite
+sited f None = None
+sited f (Some args) = Some (site_of f args)

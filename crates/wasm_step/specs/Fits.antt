@@ -1,0 +1,127 @@
+-- Threads and stores that fit a program: what is typed is left to do, from operands of its types.
+use Rattle.std.specs.Prelude.{◌≡◌, ℕ, Bool, true, false, List, [], ◌∷◌, ◌++◌, Option, Some, None, map, is_some, length, slice_get, IsSome}
+use Rattle.wasm_types.specs.declared.code.Value.{Value}
+use Rattle.wasm_types.specs.declared.code.Value.TheVariants.{I32, I64}
+use Rattle.wasm_types.specs.declared.code.ValType.{ValType}
+use Rattle.wasm_types.specs.declared.code.ValType.TheVariants as types
+use Rattle.wasm_types.specs.Calls.{result_of}
+use Rattle.wasm_types.specs.Code.{Trees}
+use Rattle.wasm_types.specs.Context.{Context, context_of, expand}
+use Rattle.wasm_types.specs.Floats.{have_float}
+use Rattle.wasm_types.specs.Labels.{Labels}
+use Rattle.wasm_types.specs.Maybe.{◌>>=◌}
+use Rattle.wasm_types.specs.Modules.{Module, Func, FuncType, GlobalDef}
+use Rattle.wasm_types.specs.Stack.{Stack, is_exactly}
+use Rattle.wasm_types.specs.Typing.{after_all}
+use Rattle.wasm_step.specs.Burst.{Run}
+use Rattle.wasm_step.specs.Reduce.{Stop, Calls, Ends, Traps, Sticks, After, Goes, Stops, given, type_of}
+use Rattle.wasm_step.specs.Start.{first_min, first_most}
+use Rattle.wasm_step.specs.Store.{Store}
+use Rattle.wasm_step.specs.Strand.{IsResult, library_result, own_func}
+use Rattle.wasm_step.specs.Thread.{Level, Frame, Thread, here}
+
+abbrev pub kind_of : Value → ValType
+kind_of (I32 x) = types.I32
+kind_of (I64 x) = types.I64
+
+abbrev pub kinds_of : List Value → List ValType
+kinds_of vs = map kind_of vs
+
+-- operands of these types and no others, in code that is reached
+abbrev pub known : List ValType → Stack
+known ks = record { types = map Some ks; after_jump = false }
+
+-- the type before the others, if there is one
+abbrev pub put_kind : Option ValType → List ValType → List ValType
+put_kind None ks = ks
+put_kind (Some k) ks = k ∷ ks
+
+-- what a branch to a level carries: an operand of the type of what the level leaves, or none
+abbrev pub label_of : Option ValType → Bool → Option ValType
+label_of gives false = None
+label_of gives true = gives
+
+abbrev pub labels_of : List Level → Labels
+labels_of [] = []
+labels_of (l ∷ ls) = label_of l.gives l.carries ∷ labels_of ls
+
+-- the code, from operands of these types, is typed to exactly this result, and has no floats
+pub record Leaves (c : Context) (labels : Labels) (gives : Option ValType) (code : Trees) (ks : List ValType) : Type 0 where
+  pub typed : IsSome (after_all c code labels (known ks) >>= is_exactly gives)
+  pub no_float : have_float code ≡ false
+
+-- Where a branch to a level goes on, in the level around it or at the level's own start, is typed from what
+-- the branch carries.
+abbrev pub TargetFits : Bool → Context → Option ValType → Trees → Bool → Level → List Level → Type 0
+TargetFits false c gives target carries l ls = Leaves c (labels_of (l ∷ ls)) l.gives target (put_kind (label_of gives carries) (kinds_of l.stack))
+TargetFits true c gives target carries l ls = Leaves c (label_of gives carries ∷ labels_of (l ∷ ls)) gives target []
+
+-- The levels around one with this target: what is left in each is typed from its operands, after the end
+-- of the level in it and after a branch to that. The outermost leaves the function's result.
+abbrev pub LevelsFit : Context → Option ValType → Trees → Bool → Bool → List Level → Type 0
+LevelsFit c gives target carries loops [] = (gives ≡ c.gives) × (carries ≡ is_some c.gives) × (loops ≡ false)
+LevelsFit c gives target carries loops (l ∷ ls) =
+    (carries ≡ is_some (label_of gives carries))
+    × TargetFits loops c gives target carries l ls
+    × Leaves c (labels_of (l ∷ ls)) l.gives l.todo (put_kind gives (kinds_of l.stack))
+    × LevelsFit c l.gives l.target l.carries l.loops ls
+
+-- the code of the program's own function f may name this
+pub record IsContext (m : Module) (f : ℕ) (c : Context) : Type 0 where
+  pub func : Func
+  pub type : FuncType
+  pub is_own : own_func m f ≡ Some func
+  pub has_type : slice_get m.types func.type_index ≡ Some type
+  pub same : c ≡ context_of m (type.params ++ expand func.locals) (result_of type)
+
+-- a frame with what it waits for
+pub record FrameFits (m : Module) (waits : Option ValType) (f : Frame) : Type 0 where
+  pub context : Context
+  pub function : IsContext m f.func context
+  pub locals : kinds_of f.locals ≡ context.locals
+  pub returns : f.returns ≡ is_some context.gives
+  pub around : LevelsFit context f.here.gives f.here.target f.here.carries f.here.loops f.outer
+  pub todo : Leaves context (labels_of (f.here ∷ f.outer)) f.here.gives f.here.todo (put_kind waits (kinds_of f.here.stack))
+
+abbrev pub FramesFit : Module → Option ValType → List Frame → Type 0
+FramesFit m waits [] = Unit {0}
+FramesFit m waits (f ∷ fs) = (h : FrameFits m waits f) × FramesFit m h.context.gives fs
+
+abbrev pub frame_of : Thread → Frame
+frame_of t = record { here = here t; outer = t.outer; func = t.func; locals = t.locals; returns = t.returns }
+
+-- a thread whose frames fit
+abbrev pub Fits : Module → Thread → Type 0
+Fits m t = FramesFit m None (frame_of t ∷ t.callers)
+
+-- The store has the memory, the table and the globals that the program declares, and each function that
+-- the table holds is one of the program.
+pub record Suits (g : Store) : Type 0 where
+  pub most : g.memory.max ≡ first_most g.program.mems
+  pub places : length g.table ≡ first_min g.program.tables
+  pub globals : kinds_of g.globals ≡ map (λ (d : GlobalDef). d.kind) g.program.globals
+  pub elements : (k f : ℕ) → slice_get g.table k ≡ Some (Some f) → IsSome (type_of g.program f)
+
+-- a call that fits with each value that it may give
+abbrev pub CallFits : Module → Thread → ℕ → Type 0
+CallFits m t f = (o : Option Value) → IsResult (library_result m f) o → Fits m (given o t)
+
+-- a stop of a thread that fits: it does not stick
+abbrev pub StopFits : Module → Stop → Type 0
+StopFits m (Calls t site) = CallFits m t site.func
+StopFits m Ends = Unit {0}
+StopFits m (Traps trap) = Unit {0}
+StopFits m Sticks = ⊥
+
+abbrev pub AfterFits : Module → After → Type 0
+AfterFits m (Goes t) = Fits m t
+AfterFits m (Stops s) = StopFits m s
+
+-- a burst stops well, and the store still suits
+abbrev pub RunFits : Module → Run → Type 0
+RunFits m r = StopFits m r.stop × Suits r.store
+
+-- a thread with the call at which it stands, if it stands at one
+abbrev pub StandsFit : Module → Thread → Option ℕ → Type 0
+StandsFit m t None = Fits m t
+StandsFit m t (Some f) = CallFits m t f

@@ -1,0 +1,17 @@
+pub mod Access
+pub mod Answer
+pub mod Burst
+pub mod Call
+pub mod Coding
+pub mod Fits
+pub mod Lending
+pub mod Numeric
+pub mod Parts
+pub mod Pause
+pub mod Paused
+pub mod Reduce
+pub mod Start
+pub mod Store
+pub mod Strand
+pub mod Thread
+pub mod View

@@ -1,0 +1,374 @@
+-- What one instruction does to a thread and to the store, and what the end of a level or of a frame does
+-- to a thread (WebAssembly 1.0, section 4.4).
+use Rattle.std.specs.Prelude.{ℕ, zero, suc, ◌+◌, ◌-◌, ◌^◌, Bool, true, false, ◌&&◌, List, [], ◌∷◌, Option, Some, None, is_some, slice_get, slice_set, length, nat_lt, if◌then◌else◌}
+use Rattle.guest_memory.specs.Memory.{Memory, size_of, loaded, is_inside, after_store, growth, grown}
+use Rattle.wasm_types.specs.declared.code.Value.{Value}
+use Rattle.wasm_types.specs.declared.code.Value.TheVariants.{I32, I64}
+use Rattle.wasm_types.specs.declared.code.ValType.{ValType}
+use Rattle.wasm_types.specs.declared.modules.ImportDesc.{ImportDesc}
+use Rattle.wasm_types.specs.declared.modules.ImportDesc.TheVariants as desc
+use Rattle.wasm_types.specs.declared.traps.Trap.{Trap}
+use Rattle.wasm_types.specs.declared.traps.Trap.TheVariants as traps
+use Rattle.wasm_types.specs.Code.{Tree, Unreachable, Nop, Block, Loop, If, Br, BrIf, BrTable, Return, CallFunc, CallIndirect, DropTop, Select, LocalGet, LocalSet, LocalTee, GlobalGet, GlobalSet, Load, Store as StoreIn, MemorySize, MemoryGrow, ConstI32, ConstI64, ConstF32, ConstF64, Op, Trees}
+use Rattle.wasm_types.specs.Modules.{Module, Import, Func, FuncType}
+use Rattle.wasm_types.specs.Stack.{is_same}
+use Rattle.wasm_step.specs.declared.call.CallSite.{CallSite}
+use Rattle.wasm_step.specs.Call.{bits_of, site_of}
+use Rattle.wasm_step.specs.Numeric.{Computed, Gives, Fails, IsNone, is_unary, unary, binary}
+use Rattle.wasm_step.specs.Access.{load_width, load_value, store_width}
+use Rattle.wasm_step.specs.Store.{Store}
+use Rattle.wasm_step.specs.Thread.{Thread, with_operand, opened, closed, left, called, arguments, without, is_within, has_room}
+
+-- how a thread stops: at a call of the library, at its end, by a trap, or where no row is for it
+pub data Stop : Type 0 where
+  Calls : Thread → CallSite → Stop
+  Ends : Stop
+  Traps : Trap → Stop
+  Sticks : Stop
+
+-- what comes after a step
+pub data After : Type 0 where
+  Goes : Thread → After
+  Stops : Stop → After
+
+-- the same with the store
+pub record Both : Type 0 where
+  pub after : After
+  pub store : Store
+
+-- the store stays
+abbrev pub keep : Store → After → Both
+keep g a = record { after = a; store = g }
+
+abbrev pub go_on : Option Thread → After
+go_on None = Stops Sticks
+go_on (Some t) = Goes t
+
+abbrev pub trapped : Trap → After
+trapped trap = Stops (Traps trap)
+
+-- the topmost operand
+abbrev pub on_top : List Value → Thread → (Value → Thread → After) → After
+on_top [] t go = Stops Sticks
+on_top (v ∷ rest) t go = go v (record t { stack = rest })
+
+abbrev pub with_top : Thread → (Value → Thread → After) → After
+with_top t go = on_top t.stack t go
+
+-- the number of an operand of 32 bits
+abbrev pub on_i32 : Value → (ℕ → After) → After
+on_i32 (I32 x) go = go x
+on_i32 (I64 x) go = Stops Sticks
+
+-- ---- numbers
+
+abbrev pub put : Computed → Thread → After
+put (Gives v) t = Goes (with_operand t v)
+put (Fails trap) t = trapped trap
+put IsNone t = Stops Sticks
+
+abbrev pub numeric : ℕ → Thread → After
+numeric op t =
+    if is_unary op
+    then with_top t (λ x t'. put (unary op x) t')
+    else with_top t (λ y t'. with_top t' (λ x t''. put (binary op x y) t''))
+
+-- ---- operands and locals
+
+abbrev pub drop_top : Thread → After
+drop_top t = with_top t (λ v t'. Goes t')
+
+-- the second operand where the condition is 0, and else the first
+abbrev pub chosen : Value → Value → ℕ → Value
+chosen first second zero = second
+chosen first second (suc n) = first
+
+abbrev pub select : Thread → After
+select t =
+    with_top t (λ v t'. with_top t' (λ second t''. with_top t'' (λ first t'''. on_i32 v (λ n. Goes (with_operand t''' (chosen first second n))))))
+
+abbrev pub got : Option Value → Thread → After
+got None t = Stops Sticks
+got (Some v) t = Goes (with_operand t v)
+
+abbrev pub local_get : ℕ → Thread → After
+local_get x t = got (slice_get t.locals x) t
+
+abbrev pub local_put : ℕ → Value → Thread → After
+local_put x v t = if nat_lt x (length t.locals) then Goes (record t { locals = slice_set t.locals x v }) else Stops Sticks
+
+abbrev pub local_set : ℕ → Thread → After
+local_set x t = with_top t (λ v t'. local_put x v t')
+
+abbrev pub local_tee : ℕ → Thread → After
+local_tee x t = with_top t (λ v t'. local_put x v (with_operand t' v))
+
+-- ---- globals
+
+abbrev pub global_get : ℕ → Store → Thread → After
+global_get x g t = got (slice_get g.globals x) t
+
+abbrev pub set_global : ℕ → Store → List Value → Thread → Both
+set_global x g [] t = keep g (Stops Sticks)
+set_global x g (v ∷ rest) t =
+    if nat_lt x (length g.globals)
+    then record { after = Goes (record t { stack = rest }); store = record g { globals = slice_set g.globals x v } }
+    else keep g (Stops Sticks)
+
+abbrev pub global_set : ℕ → Store → Thread → Both
+global_set x g t = set_global x g t.stack t
+
+-- ---- memory
+
+abbrev pub read_at : Option ℕ → ℕ → Thread → After
+read_at None op t = trapped traps.MemoryRange
+read_at (Some n) op t = got (load_value op n) t
+
+abbrev pub load_at : Option ℕ → ℕ → ℕ → Memory → Thread → After
+load_at None op addr memory t = Stops Sticks
+load_at (Some width) op addr memory t = read_at (loaded memory addr width) op t
+
+-- the address is the operand, unsigned, plus the offset, and doesn't wrap
+abbrev pub load : ℕ → ℕ → Memory → Thread → After
+load op offset memory t = with_top t (λ v t'. on_i32 v (λ base. load_at (load_width op) op (base + offset) memory t'))
+
+abbrev pub write_at : Option ℕ → ℕ → ℕ → Store → Thread → Both
+write_at None addr bits g t = keep g (Stops Sticks)
+write_at (Some width) addr bits g t = record {
+  after = if is_inside g.memory addr width then Goes t else trapped traps.MemoryRange;
+  store = record g { memory = after_store g.memory addr width bits };
+}
+
+abbrev pub write_value : ℕ → ℕ → Value → List Value → Store → Thread → Both
+write_value op offset v [] g t = keep g (Stops Sticks)
+write_value op offset v (I64 base ∷ rest) g t = keep g (Stops Sticks)
+write_value op offset v (I32 base ∷ rest) g t =
+    write_at (store_width op v) (base + offset) (bits_of (Some v)) g (record t { stack = rest })
+
+abbrev pub write_top : ℕ → ℕ → List Value → Store → Thread → Both
+write_top op offset [] g t = keep g (Stops Sticks)
+write_top op offset (v ∷ rest) g t = write_value op offset v rest g t
+
+abbrev pub write : ℕ → ℕ → Store → Thread → Both
+write op offset g t = write_top op offset t.stack g t
+
+abbrev pub memory_size : Memory → Thread → After
+memory_size memory t = Goes (with_operand t (I32 (size_of memory)))
+
+-- the size before, or -1
+abbrev pub grow_answer : Option ℕ → Value
+grow_answer None = I32 (2 ^ 32 - 1)
+grow_answer (Some pages) = I32 pages
+
+abbrev pub grow_top : List Value → Store → Thread → Both
+grow_top [] g t = keep g (Stops Sticks)
+grow_top (I64 x ∷ rest) g t = keep g (Stops Sticks)
+grow_top (I32 pages ∷ rest) g t = record {
+  after = Goes (with_operand (record t { stack = rest }) (grow_answer (growth g.memory pages)));
+  store = record g { memory = grown g.memory pages };
+}
+
+abbrev pub memory_grow : Store → Thread → Both
+memory_grow g t = grow_top t.stack g t
+
+-- ---- control
+
+-- what a branch or an end carries: the topmost operand where there is to be one
+pub data Carried : Type 0 where
+  Takes : Option Value → Thread → Carried
+  Lacks : Carried
+
+abbrev pub carry_top : List Value → Thread → Carried
+carry_top [] t = Lacks
+carry_top (v ∷ rest) t = Takes (Some v) (record t { stack = rest })
+
+abbrev pub carried : Bool → Thread → Carried
+carried false t = Takes None t
+carried true t = carry_top t.stack t
+
+abbrev pub with_carried : Carried → (Option Value → Thread → After) → After
+with_carried Lacks go = Stops Sticks
+with_carried (Takes o t) go = go o t
+
+abbrev pub given : Option Value → Thread → Thread
+given None t = t
+given (Some v) t = with_operand t v
+
+-- the caller goes on with what the frame carries; the thread ends with its outermost frame
+abbrev pub resumed : Option Thread → Option Value → After
+resumed None o = Stops Ends
+resumed (Some t) o = Goes (given o t)
+
+-- the end of the innermost frame, from any of its levels
+abbrev pub return_from : Thread → After
+return_from t = with_carried (carried t.returns t) (λ o t'. resumed (left t') o)
+
+-- a branch out of the innermost level goes on in the level around it, and the frame's outermost level returns
+abbrev pub landed : Option Thread → Thread → Trees → Option Value → After
+landed None t target o = resumed (left t) o
+landed (Some t') t target o = Goes (given o (record t' { todo = target }))
+
+abbrev pub jump_out : Thread → After
+jump_out t =
+    with_carried (carried t.carries t) (λ o t'. landed (closed (record t' { stack = [] })) (record t' { stack = [] }) t.target o)
+
+-- a loop begins anew; it is no instruction again
+abbrev pub jump_by : Bool → Thread → After
+jump_by true t = Goes (record t { todo = t.target; stack = [] })
+jump_by false t = jump_out t
+
+-- a branch to the innermost level
+abbrev pub jump : Thread → After
+jump t = jump_by t.loops t
+
+-- a branch past n levels, whose operands the branch's own level takes over
+abbrev pub past : Option Thread → (Thread → After) → After
+past None go = Stops Sticks
+past (Some t) go = go t
+
+abbrev pub branch : ℕ → Thread → After
+branch zero t = jump t
+branch (suc n) t = past (closed t) (branch n)
+
+-- the first at 0, and else the second
+abbrev pub on_test : Value → After → After → After
+on_test (I64 x) a b = Stops Sticks
+on_test (I32 zero) a b = a
+on_test (I32 (suc x)) a b = b
+
+abbrev pub branch_if : ℕ → Thread → After
+branch_if n t = with_top t (λ v t'. on_test v (Goes t') (branch n t'))
+
+-- the label at an index, and past the labels the default
+abbrev pub label_at : Option ℕ → ℕ → ℕ
+label_at None default = default
+label_at (Some label) default = label
+
+abbrev pub branch_table : List ℕ → ℕ → Thread → After
+branch_table labels default t = with_top t (λ v t'. on_i32 v (λ i. branch (label_at (slice_get labels i) default) t'))
+
+abbrev pub choose : Option ValType → Trees → Trees → Thread → After
+choose gives on_true on_false t =
+    with_top t (λ v t'. on_test v (Goes (opened t' gives on_false t'.todo (is_some gives) false)) (Goes (opened t' gives on_true t'.todo (is_some gives) false)))
+
+-- ---- calls
+
+-- a call of the library is counted with its results among the operands
+abbrev pub at_call : Option (List Value) → ℕ → FuncType → Thread → After
+at_call None f type t = Stops Sticks
+at_call (Some args) f type t =
+    if has_room (length type.results) (without (length type.params) t)
+    then Stops (Calls (without (length type.params) t) (site_of f args))
+    else trapped traps.Exhausted
+
+abbrev pub call_library : ℕ → Option FuncType → Thread → After
+call_library f None t = Stops Sticks
+call_library f (Some type) t = at_call (arguments (length type.params) t) f type t
+
+abbrev pub call_typed : ℕ → Func → Option FuncType → Thread → After
+call_typed f func None t = Stops Sticks
+call_typed f func (Some type) t = go_on (called t f func type)
+
+abbrev pub call_own : Module → ℕ → Option Func → Thread → After
+call_own m f None t = Stops Sticks
+call_own m f (Some func) t = call_typed f func (slice_get m.types func.type_index) t
+
+-- the type of an imported function
+abbrev pub described : Module → ImportDesc → Option FuncType
+described m (desc.Func type) = slice_get m.types type
+described m (desc.Table limits) = None
+described m (desc.Memory limits) = None
+described m (desc.Global kind mutable) = None
+
+abbrev pub imported_type : Module → Option Import → Option FuncType
+imported_type m None = None
+imported_type m (Some import) = described m import.desc
+
+-- the imports, which are functions of the library, have the first indices
+abbrev pub call : Module → ℕ → Thread → After
+call m f t =
+    if nat_lt f (length m.imports)
+    then call_library f (imported_type m (slice_get m.imports f)) t
+    else call_own m f (slice_get m.funcs (f - length m.imports)) t
+
+abbrev pub own_type : Module → Option Func → Option FuncType
+own_type m None = None
+own_type m (Some func) = slice_get m.types func.type_index
+
+-- the type of the function f
+abbrev pub type_of : Module → ℕ → Option FuncType
+type_of m f =
+    if nat_lt f (length m.imports)
+    then imported_type m (slice_get m.imports f)
+    else own_type m (slice_get m.funcs (f - length m.imports))
+
+abbrev pub same_kinds : List ValType → List ValType → Bool
+same_kinds [] [] = true
+same_kinds [] (b ∷ bs) = false
+same_kinds (a ∷ as') [] = false
+same_kinds (a ∷ as') (b ∷ bs) = is_same a b && same_kinds as' bs
+
+abbrev pub same_type : FuncType → FuncType → Bool
+same_type a b = same_kinds a.params b.params && same_kinds a.results b.results
+
+abbrev pub call_if_same : Module → ℕ → Option FuncType → Option FuncType → Thread → After
+call_if_same m f None wanted t = Stops Sticks
+call_if_same m f (Some type) None t = Stops Sticks
+call_if_same m f (Some type) (Some wanted) t = if same_type type wanted then call m f t else trapped traps.TypeDiffers
+
+abbrev pub call_element : Module → ℕ → Option (Option ℕ) → Thread → After
+call_element m type None t = trapped traps.TableRange
+call_element m type (Some None) t = trapped traps.EmptyElement
+call_element m type (Some (Some f)) t = call_if_same m f (type_of m f) (slice_get m.types type) t
+
+abbrev pub call_indirect : ℕ → Store → Thread → After
+call_indirect type g t =
+    with_top t (λ v t'. on_i32 v (λ i. call_element g.program type (slice_get g.table i) t'))
+
+-- ---- the rows, one for each instruction i, which the thread has left behind
+
+abbrev pub row : Tree → Thread → Store → Both
+row Unreachable t g = keep g (trapped traps.Unreachable)
+row Nop t g = keep g (Goes t)
+row (Block gives body) t g = keep g (Goes (opened t gives body t.todo (is_some gives) false))
+row (Loop gives body) t g = keep g (Goes (opened t gives body body false true))
+row (If gives on_true on_false) t g = keep g (choose gives on_true on_false t)
+row (Br n) t g = keep g (branch n t)
+row (BrIf n) t g = keep g (branch_if n t)
+row (BrTable labels default) t g = keep g (branch_table labels default t)
+row Return t g = keep g (return_from t)
+row (CallFunc f) t g = keep g (call g.program f t)
+row (CallIndirect type) t g = keep g (call_indirect type g t)
+row DropTop t g = keep g (drop_top t)
+row Select t g = keep g (select t)
+row (LocalGet x) t g = keep g (local_get x t)
+row (LocalSet x) t g = keep g (local_set x t)
+row (LocalTee x) t g = keep g (local_tee x t)
+row (GlobalGet x) t g = keep g (global_get x g t)
+row (GlobalSet x) t g = global_set x g t
+row (Load op align offset) t g = keep g (load op offset g.memory t)
+row (StoreIn op align offset) t g = write op offset g t
+row MemorySize t g = keep g (memory_size g.memory t)
+row MemoryGrow t g = memory_grow g t
+row (ConstI32 bits) t g = keep g (Goes (with_operand t (I32 bits)))
+row (ConstI64 bits) t g = keep g (Goes (with_operand t (I64 bits)))
+row (ConstF32 bits) t g = keep g (Stops Sticks)
+row (ConstF64 bits) t g = keep g (Stops Sticks)
+row (Op op) t g = keep g (numeric op t)
+
+-- a thread past its limits traps
+abbrev pub limited : After → After
+limited (Stops s) = Stops s
+limited (Goes t) = if is_within t then Goes t else trapped traps.Exhausted
+
+-- one instruction; its own trap comes before the limits
+abbrev pub reduce : Tree → Thread → Store → Both
+reduce i t g = let r = row i t g in record { after = limited r.after; store = r.store }
+
+-- the end of a level, or of a frame with its outermost level
+abbrev pub at_end : Option Thread → Thread → After
+at_end None t = return_from t
+at_end (Some t') t = Goes t'
+
+abbrev pub ended : Thread → After
+ended t = at_end (closed t) t

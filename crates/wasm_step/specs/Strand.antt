@@ -1,0 +1,96 @@
+-- Threads as their owner sees them: how they begin, what they answer, and what stands above them.
+use Rattle.std.specs.Prelude.{◌≡◌, ℕ, ◌-◌, ◌≤◌, Bool, false, List, [], ◌∷◌, ◌++◌, Option, Some, None, length, slice_get, if◌then◌else◌}
+use Rattle.wasm_types.specs.declared.code.Value.{Value}
+use Rattle.wasm_types.specs.declared.code.Value.TheVariants.{I32, I64}
+use Rattle.wasm_types.specs.declared.code.ValType.{ValType}
+use Rattle.wasm_types.specs.declared.code.ValType.TheVariants as types
+use Rattle.wasm_types.specs.declared.modules.ExportDesc.{ExportDesc}
+use Rattle.wasm_types.specs.declared.modules.ExportDesc.TheVariants.{Func as ToFunc, Table as ToTable, Memory as ToMemory, Global as ToGlobal}
+use Rattle.wasm_types.specs.Modules.{Module, Func, FuncType, Export}
+use Rattle.wasm_types.specs.Valid.{is_start_export}
+use Rattle.wasm_step.specs.Thread.{Thread, Frame, at_start, waiting_frame, zeros, is_within}
+use Rattle.wasm_step.specs.Reduce.{type_of, given, imported_type}
+
+-- a thread with its program, and the function of the library at whose call it stands, if it stands at one
+pub record Strand : Type 0 where
+  pub program : Module
+  pub thread : Thread
+  pub call : Option ℕ
+
+-- the program itself defines the function, with one parameter of 32 bits and no result
+pub record IsHandler (m : Module) (f : ℕ) : Type 0 where
+  pub own : length m.imports ≤ f
+  pub type : type_of m f ≡ Some (record { params = types.I32 ∷ []; results = [] })
+
+-- a function without a result at its start, above these frames
+abbrev pub begun : Option Func → List Frame → ℕ → List Value → Option Thread
+begun None callers f args = None
+begun (Some func) callers f args = Some (at_start callers f func.body (args ++ zeros func.locals) None)
+
+-- the program's own function with this index
+abbrev pub own_func : Module → ℕ → Option Func
+own_func m f = slice_get m.funcs (f - length m.imports)
+
+-- a thread of the program that stands at the start of this function, which has one argument
+abbrev pub new_thread : Module → ℕ → ℕ → Option Thread
+new_thread m f arg = begun (own_func m f) [] f (I32 arg ∷ [])
+
+-- a thread with the frame of a handler of a signal on top
+abbrev pub handling : Module → Thread → ℕ → ℕ → Option Thread
+handling m t f signal = begun (own_func m f) (waiting_frame t ∷ t.callers) f (I32 signal ∷ [])
+
+abbrev pub is_in : Option Thread → Bool
+is_in None = false
+is_in (Some t) = is_within t
+
+-- a value of this type, or none where there is no type
+abbrev pub IsResult : Option ValType → Option Value → Type 0
+IsResult None None = Unit {0}
+IsResult (Some types.I32) (Some (I32 x)) = Unit {0}
+IsResult (Some types.I64) (Some (I64 x)) = Unit {0}
+IsResult _ _ = ⊥
+
+abbrev pub first_result : Option FuncType → Option ValType
+first_result None = None
+first_result (Some type) = slice_get type.results 0
+
+-- the type of what a function of the library gives
+abbrev pub library_result : Module → ℕ → Option ValType
+library_result m f = first_result (imported_type m (slice_get m.imports f))
+
+-- the value is one that the call at which the strand stands can give
+pub record IsAnswer (s : Strand) (value : Option Value) : Type 0 where
+  pub func : ℕ
+  pub stands : s.call ≡ Some func
+  pub typed : IsResult (library_result s.program func) value
+
+-- the strand after its call
+abbrev pub answered : Strand → Option Value → Strand
+answered s value = record s { thread = given value s.thread; call = None }
+
+-- ---- the thread that runs first
+
+abbrev pub exported : ExportDesc → Option ℕ
+exported (ToFunc f) = Some f
+exported (ToTable t) = None
+exported (ToMemory x) = None
+exported (ToGlobal g) = None
+
+-- the function that the program exports as its start
+abbrev pub entry_from : Module → List Export → Option ℕ
+entry_from m [] = None
+entry_from m (e ∷ es) = if is_start_export m e then exported e.desc else entry_from m es
+
+-- the frame of the function that the start section names stands above
+abbrev pub with_start : Module → Option ℕ → Option Thread → Option Thread
+with_start m start None = None
+with_start m None (Some t) = Some t
+with_start m (Some s) (Some t) = begun (own_func m s) (waiting_frame t ∷ t.callers) s []
+
+abbrev pub entry_thread : Module → Option ℕ → Option Thread
+entry_thread m None = None
+entry_thread m (Some f) = begun (own_func m f) [] f []
+
+-- the thread that runs first: at its start, with the start section's function above it
+abbrev pub first_thread : Module → Option Thread
+first_thread m = with_start m m.start (entry_thread m (entry_from m m.exports))

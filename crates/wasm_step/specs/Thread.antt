@@ -1,0 +1,169 @@
+-- A thread: the innermost level of its innermost frame, the levels around it, and the frames that wait
+-- for that frame to return (WebAssembly 1.0, section 4.2.12).
+use Rattle.std.specs.Prelude.{ℕ, ◌+◌, Bool, false, nat_lt, nat_le, is_some, ◌&&◌, if◌then◌else◌, reverse, take, drop, replicate, List, [], ◌∷◌, ◌++◌, length, Option, Some, None}
+use Rattle.wasm_types.specs.declared.code.Value.{Value}
+use Rattle.wasm_types.specs.declared.code.Value.TheVariants.{I32, I64}
+use Rattle.wasm_types.specs.declared.code.ValType.{ValType}
+use Rattle.wasm_types.specs.declared.code.ValType.TheVariants as types
+use Rattle.wasm_types.specs.Calls.{result_of}
+use Rattle.wasm_types.specs.Code.{Trees, End}
+use Rattle.wasm_types.specs.Modules.{Func, FuncType}
+
+-- a level: the type of what it leaves to the one around it, the instructions that are left, its operands
+-- with the topmost first, the instructions at which a branch to it goes on, whether a branch carries an
+-- operand, and whether a branch begins it anew, as it does a loop, and does not leave it
+pub record Level : Type 0 where
+  pub gives : Option ValType
+  pub todo : Trees
+  pub stack : List Value
+  pub target : Trees
+  pub carries : Bool
+  pub loops : Bool
+
+-- a frame that waits for a call to return: its innermost level, the levels around that, its function, its
+-- locals, and whether it gives its caller an operand
+pub record Frame : Type 0 where
+  pub here : Level
+  pub outer : List Level
+  pub func : ℕ
+  pub locals : List Value
+  pub returns : Bool
+
+-- the innermost frame, and those that wait for it
+pub record Thread : Type 0 where
+  pub gives : Option ValType
+  pub todo : Trees
+  pub stack : List Value
+  pub target : Trees
+  pub carries : Bool
+  pub loops : Bool
+  pub outer : List Level
+  pub func : ℕ
+  pub locals : List Value
+  pub returns : Bool
+  pub callers : List Frame
+
+abbrev pub with_operand : Thread → Value → Thread
+with_operand t v = record t { stack = v ∷ t.stack }
+
+abbrev pub here : Thread → Level
+here t = record { gives = t.gives; todo = t.todo; stack = t.stack; target = t.target; carries = t.carries; loops = t.loops }
+
+-- a new innermost level
+abbrev pub opened : Thread → Option ValType → Trees → Trees → Bool → Bool → Thread
+opened t gives body target carries loops =
+    record t { gives = gives; todo = body; stack = []; target = target; carries = carries; loops = loops; outer = here t ∷ t.outer }
+
+-- the level around the innermost, with the operands of both
+abbrev pub closed_to : List Level → Thread → Option Thread
+closed_to [] t = None
+closed_to (l ∷ ls) t =
+    Some (record t { gives = l.gives; todo = l.todo; stack = t.stack ++ l.stack; target = l.target; carries = l.carries; loops = l.loops; outer = ls })
+
+abbrev pub closed : Thread → Option Thread
+closed t = closed_to t.outer t
+
+-- the frame that waits for this one
+abbrev pub left_to : List Frame → Option Thread
+left_to [] = None
+left_to (f ∷ fs) =
+    Some (record {
+      gives = f.here.gives;
+      todo = f.here.todo;
+      stack = f.here.stack;
+      target = f.here.target;
+      carries = f.here.carries;
+      loops = f.here.loops;
+      outer = f.outer;
+      func = f.func;
+      locals = f.locals;
+      returns = f.returns;
+      callers = fs;
+    })
+
+abbrev pub left : Thread → Option Thread
+left t = left_to t.callers
+
+-- a frame that waits
+abbrev pub waiting_frame : Thread → Frame
+waiting_frame t = record { here = here t; outer = t.outer; func = t.func; locals = t.locals; returns = t.returns }
+
+-- a function at its start, above these frames
+abbrev pub at_start : List Frame → ℕ → Trees → List Value → Option ValType → Thread
+at_start callers f body locals gives = record {
+  gives = gives;
+  todo = body;
+  stack = [];
+  target = End;
+  carries = is_some gives;
+  loops = false;
+  outer = [];
+  func = f;
+  locals = locals;
+  returns = is_some gives;
+  callers = callers;
+}
+
+-- a new innermost frame
+abbrev pub entered : Thread → ℕ → Trees → List Value → Option ValType → Thread
+entered t f body locals gives = at_start (waiting_frame t ∷ t.callers) f body locals gives
+
+-- how many levels and frames are still to end
+abbrev pub waiting : List Frame → ℕ
+waiting [] = 0
+waiting (f ∷ fs) = 1 + length f.outer + waiting fs
+
+abbrev pub depth : Thread → ℕ
+depth t = length t.outer + waiting t.callers
+
+-- the operands, the locals and the open labels, of all frames
+abbrev pub size_of_levels : List Level → ℕ
+size_of_levels [] = 0
+size_of_levels (l ∷ ls) = 1 + length l.stack + size_of_levels ls
+
+abbrev pub size_of_frames : List Frame → ℕ
+size_of_frames [] = 0
+size_of_frames (f ∷ fs) = length f.here.stack + size_of_levels f.outer + length f.locals + size_of_frames fs
+
+abbrev pub size : Thread → ℕ
+size t = length t.stack + size_of_levels t.outer + length t.locals + size_of_frames t.callers
+
+-- at most 512 frames, and at most 16,384 operands, locals and labels with this many more
+abbrev pub has_room : ℕ → Thread → Bool
+has_room more t = nat_lt (length t.callers) 512 && nat_le (size t + more) 16384
+
+abbrev pub is_within : Thread → Bool
+is_within t = has_room 0 t
+
+-- the same with one more frame
+abbrev pub has_frame_room : ℕ → Thread → Bool
+has_frame_room more t = nat_lt (length t.callers + 1) 512 && nat_le (size t + more) 16384
+
+-- what a local starts as
+abbrev pub zero_of : ValType → Value
+zero_of types.I32 = I32 0
+zero_of types.I64 = I64 0
+zero_of types.F32 = I32 0
+zero_of types.F64 = I64 0
+
+-- the declared locals of a function, each a count and a type, as they start
+abbrev pub zeros : List (ℕ × ValType) → List Value
+zeros [] = []
+zeros (d ∷ ds) = replicate d.0 (zero_of d.1) ++ zeros ds
+
+-- without the n topmost operands
+abbrev pub without : ℕ → Thread → Thread
+without n t = record t { stack = drop n t.stack }
+
+-- the n topmost operands, in the order that they were pushed, if there are as many
+abbrev pub arguments : ℕ → Thread → Option (List Value)
+arguments n t = if nat_lt (length t.stack) n then None else Some (reverse (take n t.stack))
+
+-- a call of the function f, which takes the n topmost operands
+abbrev pub called_with : Option (List Value) → ℕ → Thread → ℕ → Func → Option ValType → Option Thread
+called_with None n t f func gives = None
+called_with (Some args) n t f func gives = Some (entered (without n t) f func.body (args ++ zeros func.locals) gives)
+
+-- a call of the function f of this type
+abbrev pub called : Thread → ℕ → Func → FuncType → Option Thread
+called t f func type = called_with (arguments (length type.params) t) (length type.params) t f func (result_of type)

@@ -1,0 +1,264 @@
+// Calls: of the library, of the program's own functions, and through the table.
+ghost use Rattle.std.specs.Prelude.{◌≡◌, ◌+◌, ◌&&◌, ◌<◌, ◌≤◌, [], ◌∷◌, IfOk, IfSome, IfNone, None, OnOk, Some, length, slice_get};
+ghost use Rattle.wasm_types.specs.Modules.{func, func_type, module_of};
+ghost use Rattle.wasm_types.specs.Stack.{is_same};
+ghost use Rattle.wasm_step.specs.Answer.{after_of};
+ghost use Rattle.wasm_step.specs.Reduce.{call, call_element, call_indirect, call_library, call_own, go_on, imported_type, limited, own_type, same_kinds, same_type, type_of};
+ghost use Rattle.wasm_step.specs.Strand.{begun};
+ghost use Rattle.wasm_step.specs.Thread.{called, has_frame_room, waiting_frame, zeros};
+
+use crate::halt::{Halt, Next};
+use crate::stack::{SIZE_LIMIT, Stack, result_of};
+use crate::store::Store;
+use std::alloc::AllocError;
+use wasm_types::{Func, FuncType, ImportDesc, Module, Trap, ValType, Value};
+
+impl<'m> Stack<'m> {
+    fn call_library(&mut self, kind: &FuncType, index: u32) -> Next
+        ensures { after_of result self.new ≡ call_library index (Some (func_type kind.now)) self.old }
+    {
+        let Some(site) = self.take_site(index, kind.params.len()) else {
+            return Next::Halted(Halt::Stuck);
+        };
+        if self.has_room(kind.results.len()) {
+            Next::Halted(Halt::Calling(site))
+        } else {
+            Next::Halted(Halt::Trapped(Trap::Exhausted))
+        }
+    }
+
+    /// A call of the program's own function, whose limits are tested before its frame is made.
+    fn call_typed(
+        &mut self,
+        index: u32,
+        callee: &'m Func,
+        kind: &FuncType,
+    ) -> Result<Next, AllocError>
+        ensures { IfOk result (λ a. limited (after_of a self.new) ≡ limited (go_on (called self.old index (func callee.now) (func_type kind.now)))) }
+    {
+        let n = kind.params.len();
+        if !self.has_arguments(n) {
+            return Ok(Next::Halted(Halt::Stuck));
+        }
+        if !self.can_enter(&callee.locals) {
+            return Ok(Next::Halted(Halt::Trapped(Trap::Exhausted)));
+        }
+        if self.enter(index, callee, n, result_of(kind))? {
+            Ok(Next::Going)
+        } else {
+            Ok(Next::Halted(Halt::Stuck))
+        }
+    }
+
+    // Whether a frame with these declared locals keeps to the limits.
+    fn can_enter(&self, declared: &[(u32, ValType)]) -> bool
+        ensures { result ≡ has_frame_room (length (zeros declared.now)) self.now }
+    {
+        match count_locals(declared) {
+            Some(count) => self.has_frame_room(count),
+            None => false,
+        }
+    }
+
+    /// Whether a handler with these declared locals, and one parameter, keeps to the limits.
+    pub fn can_handle(&self, declared: &[(u32, ValType)]) -> bool
+        ensures { result ≡ has_frame_room (length (zeros declared.now) + 1) self.now }
+    {
+        match count_locals(declared) {
+            Some(count) => self.has_frame_room(count + 1),
+            None => false,
+        }
+    }
+
+    /// A new innermost frame of a handler, which has the signal as its argument.
+    pub fn handle(&mut self, index: u32, callee: &'m Func, signal: u32) -> Result<(), AllocError>
+        ensures { OnOk result (begun (Some (func callee.now)) (waiting_frame self.old ∷ self.old.callers) index (Value.I32 signal ∷ []) ≡ Some self.new) }
+    {
+        self.push(Value::I32(signal))?;
+        let is_in = self.enter(index, callee, 1, None)?;
+        prove!(is_in);
+        Ok(())
+    }
+
+    /// A new innermost frame of a function without parameters or a result.
+    pub fn call_start(&mut self, index: u32, callee: &'m Func) -> Result<(), AllocError>
+        ensures { OnOk result (begun (Some (func callee.now)) (waiting_frame self.old ∷ self.old.callers) index [] ≡ Some self.new) }
+    {
+        let is_in = self.enter(index, callee, 0, None)?;
+        prove!(is_in);
+        Ok(())
+    }
+
+    fn call_own(
+        &mut self,
+        program: &'m Module,
+        index: u32,
+        place: usize,
+    ) -> Result<Next, AllocError>
+        ensures { IfOk result (λ a. limited (after_of a self.new) ≡ limited (call_own (module_of program.now) index (slice_get (module_of program.now).funcs place) self.old)) }
+    {
+        let Some(callee) = own_func(program, place) else {
+            return Ok(Next::Halted(Halt::Stuck));
+        };
+        let Some(kind) = kind_at(program, callee.type_index) else {
+            return Ok(Next::Halted(Halt::Stuck));
+        };
+        self.call_typed(index, callee, kind)
+    }
+
+    pub fn call(&mut self, program: &'m Module, index: u32) -> Result<Next, AllocError>
+        ensures { IfOk result (λ a. limited (after_of a self.new) ≡ limited (call (module_of program.now) index self.old)) }
+    {
+        let place = index as usize;
+        if place >= program.imports.len() {
+            return self.call_own(program, index, place - program.imports.len());
+        }
+        match imported_kind(program, place) {
+            Some(kind) => Ok(self.call_library(kind, index)),
+            None => Ok(Next::Halted(Halt::Stuck)),
+        }
+    }
+
+    fn call_element(
+        &mut self,
+        program: &'m Module,
+        kind: u32,
+        element: Option<Option<u32>>,
+    ) -> Result<Next, AllocError>
+        ensures { IfOk result (λ a. limited (after_of a self.new) ≡ limited (call_element (module_of program.now) kind element self.old)) }
+    {
+        let Some(place) = element else {
+            return Ok(Next::Halted(Halt::Trapped(Trap::TableRange)));
+        };
+        let Some(index) = place else {
+            return Ok(Next::Halted(Halt::Trapped(Trap::EmptyElement)));
+        };
+        let Some(found) = kind_of(program, index) else {
+            return Ok(Next::Halted(Halt::Stuck));
+        };
+        let Some(wanted) = kind_at(program, kind) else {
+            return Ok(Next::Halted(Halt::Stuck));
+        };
+        if !is_same_type(found, wanted) {
+            return Ok(Next::Halted(Halt::Trapped(Trap::TypeDiffers)));
+        }
+        self.call(program, index)
+    }
+
+    pub fn call_indirect(
+        &mut self,
+        program: &'m Module,
+        store: &Store<'m>,
+        kind: u32,
+    ) -> Result<Next, AllocError>
+        requires { module_of program.now ≡ store.now.program }
+        ensures { IfOk result (λ a. limited (after_of a self.new) ≡ limited (call_indirect kind store.now self.old)) }
+    {
+        match self.pop() {
+            Some(Value::I32(i)) => self.call_element(program, kind, store.element(i)),
+            _ => Ok(Next::Halted(Halt::Stuck)),
+        }
+    }
+}
+
+// How many locals are declared. `None` comes where they pass the size that a thread may have.
+pub(crate) fn count_locals(declared: &[(u32, ValType)]) -> Option<usize>
+    ensures some { IfSome result (λ count. count ≡ length (zeros declared.now)) }
+    ensures within { IfSome result (λ count. count ≤ 16384) }
+    ensures none { IfNone result (16384 < length (zeros declared.now)) }
+{
+    let mut count = 0;
+    for local in declared {
+        if local.0 as usize > SIZE_LIMIT - count {
+            return None;
+        }
+        count += local.0 as usize;
+    }
+    Some(count)
+}
+
+// The type with this index.
+fn kind_at<'m>(program: &'m Module, index: u32) -> Option<&'m FuncType>
+    ensures some { IfSome result (λ kind. slice_get (module_of program.now).types index ≡ Some (func_type kind.now)) }
+    ensures none { IfNone result (slice_get (module_of program.now).types index ≡ None) }
+{
+    program.types.get(index as usize)
+}
+
+// The program's own function at this place.
+pub(crate) fn own_func<'m>(program: &'m Module, place: usize) -> Option<&'m Func>
+    ensures some { IfSome result (λ callee. slice_get (module_of program.now).funcs place ≡ Some (func callee.now)) }
+    ensures none { IfNone result (slice_get (module_of program.now).funcs place ≡ None) }
+{
+    program.funcs.get(place)
+}
+
+// The type of an imported function.
+fn imported_kind<'m>(program: &'m Module, place: usize) -> Option<&'m FuncType>
+    ensures some { IfSome result (λ kind. imported_type (module_of program.now) (slice_get (module_of program.now).imports place) ≡ Some (func_type kind.now)) }
+    ensures none { IfNone result (imported_type (module_of program.now) (slice_get (module_of program.now).imports place) ≡ None) }
+{
+    let Some(import) = program.imports.get(place) else {
+        return None;
+    };
+    match import.desc {
+        ImportDesc::Func(kind) => kind_at(program, kind),
+        _ => None,
+    }
+}
+
+// The type of the program's own function at this place.
+fn own_kind<'m>(program: &'m Module, place: usize) -> Option<&'m FuncType>
+    ensures some { IfSome result (λ kind. own_type (module_of program.now) (slice_get (module_of program.now).funcs place) ≡ Some (func_type kind.now)) }
+    ensures none { IfNone result (own_type (module_of program.now) (slice_get (module_of program.now).funcs place) ≡ None) }
+{
+    let Some(callee) = own_func(program, place) else {
+        return None;
+    };
+    kind_at(program, callee.type_index)
+}
+
+// The type of the function with this index.
+pub(crate) fn kind_of<'m>(program: &'m Module, index: u32) -> Option<&'m FuncType>
+    ensures some { IfSome result (λ kind. type_of (module_of program.now) index ≡ Some (func_type kind.now)) }
+    ensures none { IfNone result (type_of (module_of program.now) index ≡ None) }
+{
+    let place = index as usize;
+    if place < program.imports.len() {
+        imported_kind(program, place)
+    } else {
+        own_kind(program, place - program.imports.len())
+    }
+}
+
+fn is_same_type(a: &FuncType, b: &FuncType) -> bool
+    ensures { result ≡ same_type (func_type a.now) (func_type b.now) }
+{
+    same_kinds(&a.params, &b.params) && same_kinds(&a.results, &b.results)
+}
+
+fn same_kinds(a: &[ValType], b: &[ValType]) -> bool
+    ensures { result ≡ same_kinds a.now b.now }
+{
+    if a.len() != b.len() {
+        return false;
+    }
+    for i in 0..a.len() {
+        if !is_same(a[i], b[i]) {
+            return false;
+        }
+    }
+    true
+}
+
+fn is_same(a: ValType, b: ValType) -> bool
+    ensures { result ≡ is_same a b }
+{
+    match (a, b) {
+        (ValType::I32, ValType::I32)
+        | (ValType::I64, ValType::I64)
+        | (ValType::F32, ValType::F32)
+        | (ValType::F64, ValType::F64) => true,
+        _ => false,
+    }
+}

@@ -1,0 +1,127 @@
+// Instructions on globals and on the memory.
+ghost use Rattle.std.specs.Prelude.{◌≡◌, ◌+◌, IfOk, IfSome, OnOk, Some};
+ghost use Rattle.guest_memory.specs.LittleEndian.{IsWidth};
+ghost use Rattle.wasm_step.specs.Answer.{after_of};
+ghost use Rattle.wasm_step.specs.Call.{bits_of};
+ghost use Rattle.wasm_step.specs.Reduce.{global_get, global_set, grow_answer, load, memory_grow, memory_size, write, write_at};
+
+use crate::access::{load_value, load_width, store_width};
+use crate::call::bits;
+use crate::halt::{Halt, Next};
+use crate::stack::Stack;
+use crate::store::Store;
+use std::alloc::AllocError;
+use wasm_types::{Trap, Value};
+
+impl<'m> Stack<'m> {
+    pub fn global_get(&mut self, store: &Store<'m>, x: u32) -> Result<Next, AllocError>
+        ensures { IfOk result (λ n. after_of n self.new ≡ global_get x store.now self.old) }
+    {
+        let value = store.global(x);
+        self.got(value)
+    }
+
+    pub fn global_set(&mut self, store: &mut Store<'m>, x: u32) -> Next
+        ensures after { after_of result self.new ≡ (global_set x store.old self.old).after }
+        ensures store { store.new ≡ (global_set x store.old self.old).store }
+    {
+        let Some(v) = self.pop() else {
+            return Next::Halted(Halt::Stuck);
+        };
+        if store.set_global(x as usize, v) {
+            Next::Going
+        } else {
+            Next::Halted(Halt::Stuck)
+        }
+    }
+
+    pub fn load(&mut self, store: &Store<'m>, op: u8, offset: u32) -> Result<Next, AllocError>
+        ensures { IfOk result (λ n. after_of n self.new ≡ load op offset store.now.memory self.old) }
+    {
+        let Some(Value::I32(base)) = self.pop() else {
+            return Ok(Next::Halted(Halt::Stuck));
+        };
+        let Some(width) = load_width(op) else {
+            return Ok(Next::Halted(Halt::Stuck));
+        };
+        match store.memory().load(address(base, offset), width) {
+            Some(n) => self.got(load_value(op, n)),
+            None => Ok(Next::Halted(Halt::Trapped(Trap::MemoryRange))),
+        }
+    }
+
+    fn write_at(
+        &mut self,
+        store: &mut Store<'m>,
+        width: Option<u32>,
+        addr: u64,
+        bits: u64,
+    ) -> Result<Next, AllocError>
+        requires { IfSome width (λ w. IsWidth w) }
+        ensures after { IfOk result (λ n. after_of n self.new ≡ (write_at width addr bits store.old self.old).after) }
+        ensures store { OnOk result (store.new ≡ (write_at width addr bits store.old self.old).store) }
+    {
+        let Some(width) = width else {
+            return Ok(Next::Halted(Halt::Stuck));
+        };
+        if store.write(addr, width, bits)? {
+            Ok(Next::Going)
+        } else {
+            Ok(Next::Halted(Halt::Trapped(Trap::MemoryRange)))
+        }
+    }
+
+    pub fn write(&mut self, store: &mut Store<'m>, op: u8, offset: u32) -> Result<Next, AllocError>
+        ensures after { IfOk result (λ n. after_of n self.new ≡ (write op offset store.old self.old).after) }
+        ensures store { OnOk result (store.new ≡ (write op offset store.old self.old).store) }
+    {
+        let Some(v) = self.pop() else {
+            return Ok(Next::Halted(Halt::Stuck));
+        };
+        let Some(Value::I32(base)) = self.pop() else {
+            return Ok(Next::Halted(Halt::Stuck));
+        };
+        self.write_at(
+            store,
+            store_width(op, v),
+            address(base, offset),
+            bits(Some(v)),
+        )
+    }
+
+    pub fn memory_size(&mut self, store: &Store<'m>) -> Result<Next, AllocError>
+        ensures { IfOk result (λ n. after_of n self.new ≡ memory_size store.now.memory self.old) }
+    {
+        self.push(Value::I32(store.memory().size()))?;
+        Ok(Next::Going)
+    }
+
+    pub fn memory_grow(&mut self, store: &mut Store<'m>) -> Result<Next, AllocError>
+        ensures after { IfOk result (λ n. after_of n self.new ≡ (memory_grow store.old self.old).after) }
+        ensures store { OnOk result (store.new ≡ (memory_grow store.old self.old).store) }
+    {
+        let Some(Value::I32(pages)) = self.pop() else {
+            return Ok(Next::Halted(Halt::Stuck));
+        };
+        let before = store.grow(pages)?;
+        self.push(grow_answer(before))?;
+        Ok(Next::Going)
+    }
+}
+
+// The address, which doesn't wrap.
+fn address(base: u32, offset: u32) -> u64
+    ensures { result ≡ base + offset }
+{
+    u64::from(base) + u64::from(offset)
+}
+
+// The number of pages before, or -1.
+fn grow_answer(before: Option<u32>) -> Value
+    ensures { result ≡ grow_answer before }
+{
+    match before {
+        Some(pages) => Value::I32(pages),
+        None => Value::I32(0xffff_ffff),
+    }
+}

@@ -1,0 +1,404 @@
+// A thread as an owned value: one stack each of operands, labels, locals and frames.
+ghost use Rattle.std.specs.Prelude.{◌≡◌, ◌+◌, ◌≤◌, [], ◌++◌, length, IfOk, OnOk, Some, None, if◌then◌else◌, IfSome, IfNone, IsTrue, nat_lt, nat_le, ◌&&◌, false, is_some, slice_get, slice_set, take};
+ghost use Rattle.wasm_types.specs.Calls.{result_of};
+ghost use Rattle.wasm_types.specs.Code.{End, Then, tree, trees};
+ghost use Rattle.wasm_types.specs.Modules.{func, func_type};
+ghost use Rattle.wasm_step.specs.Thread.{with_operand, opened, closed, left, called_with, arguments, without, has_frame_room, has_room, zero_of, zeros, at_start};
+ghost use Rattle.wasm_step.specs.Call.{sited};
+
+use crate::call::{CallSite, site};
+use std::alloc::{AllocError, Global};
+use std::marker::Model;
+use wasm_types::{Func, FuncType, Instr, ValType, Value};
+
+/// An open level: the type of what it leaves, the instructions that are left, where a branch to it goes
+/// on, whether that carries an operand, whether it begins the level anew, and how many operands lie below it.
+#[derive(Clone, Copy)]
+pub struct Label<'m> {
+    gives: Option<ValType>,
+    todo: &'m [Instr],
+    target: &'m [Instr],
+    carries: bool,
+    loops: bool,
+    floor: usize,
+}
+
+/// A frame: its innermost level, and where its labels, locals and operands begin.
+#[derive(Clone, Copy)]
+pub struct Held<'m> {
+    label: Label<'m>,
+    labels_from: usize,
+    locals_from: usize,
+    bottom: usize,
+    func: u32,
+    returns: bool,
+}
+
+/// A thread.
+#[derive(Drop)]
+pub struct Stack<'m> {
+    here: Held<'m>,
+    operands: Vec<Value>,
+    labels: Vec<Label<'m>>,
+    locals: Vec<Value>,
+    callers: Vec<Held<'m>>,
+}
+
+impl<'m> Model for Stack<'m> {
+    ghost use Rattle.std.specs.Coded.{codes};
+    ghost use Rattle.wasm_step.specs.Coding.{trees_code};
+    ghost use Rattle.wasm_step.specs.Thread.{Thread};
+
+    ghost Value = { Thread };
+
+    ghost coded = { Prim.hlevel (codes, trees_code) };
+
+    ghost use Rattle.wasm_step.specs.View.{thread_of, IsSound};
+
+    ghost view = { thread_of };
+
+    ghost invariant = { IsSound };
+}
+
+impl<'m> Stack<'m> {
+    /// A function at its start, with these arguments.
+    pub fn start(
+        index: u32,
+        callee: &'m Func,
+        arguments: Vec<Value>,
+        gives: Option<ValType>,
+    ) -> Result<Stack<'m>, AllocError>
+        ensures { IfOk result (λ s. s ≡ at_start [] index (func callee.now).body (arguments.items ++ zeros callee.now.locals.items) gives) }
+    {
+        let alloc = *arguments.allocator();
+        let mut locals = arguments;
+        append_zeros(&mut locals, &callee.locals)?;
+        Ok(Stack {
+            here: Held {
+                label: Label {
+                    gives,
+                    todo: &callee.body,
+                    target: &[],
+                    carries: gives.is_some(),
+                    loops: false,
+                    floor: 0,
+                },
+                labels_from: 0,
+                locals_from: 0,
+                bottom: 0,
+                func: index,
+                returns: gives.is_some(),
+            },
+            operands: Vec::new(alloc),
+            labels: Vec::new(alloc),
+            locals,
+            callers: Vec::new(alloc),
+        })
+    }
+
+    /// An equal thread.
+    pub fn copy(&self) -> Result<Stack<'m>, AllocError>
+        ensures { IfOk result (λ s. s ≡ self.now) }
+    {
+        Ok(Stack {
+            here: self.here,
+            operands: self.operands.clone()?,
+            labels: self.labels.clone()?,
+            locals: self.locals.clone()?,
+            callers: self.callers.clone()?,
+        })
+    }
+
+    /// The next instruction of the innermost level.
+    pub fn fetch(&mut self) -> Option<&'m Instr>
+        ensures none { IfNone result ((self.old.todo ≡ End) × (self.new ≡ self.old)) }
+        ensures some { IfSome result (λ instr. self.old ≡ record self.new { todo = Then (tree instr.now) self.new.todo }) }
+    {
+        match self.here.label.todo {
+            [] => None,
+            [first, rest @ ..] => {
+                self.here.label.todo = rest;
+                Some(first)
+            }
+        }
+    }
+
+    /// The innermost level goes on there.
+    pub fn go_to(&mut self, todo: &'m [Instr])
+        ensures { self.new ≡ record self.old { todo = trees todo.now } }
+    {
+        self.here.label.todo = todo;
+    }
+
+    /// The instructions that are left in the innermost level.
+    pub fn todo(&self) -> &'m [Instr]
+        ensures { trees result.now ≡ self.now.todo }
+    {
+        self.here.label.todo
+    }
+
+    /// Where a branch to the innermost level goes on.
+    pub fn target(&self) -> &'m [Instr]
+        ensures { trees result.now ≡ self.now.target }
+    {
+        self.here.label.target
+    }
+
+    pub fn carries(&self) -> bool
+        ensures { result ≡ self.now.carries }
+    {
+        self.here.label.carries
+    }
+
+    /// Whether a branch begins the innermost level anew.
+    pub fn loops(&self) -> bool
+        ensures { result ≡ self.now.loops }
+    {
+        self.here.label.loops
+    }
+
+    pub fn returns(&self) -> bool
+        ensures { result ≡ self.now.returns }
+    {
+        self.here.returns
+    }
+
+    /// One more operand.
+    pub fn push(&mut self, v: Value) -> Result<(), AllocError>
+        ensures { OnOk result (self.new ≡ with_operand self.old v) }
+    {
+        self.operands.push(v)?;
+        Ok(())
+    }
+
+    /// The topmost operand of the level, if there is one.
+    pub fn pop(&mut self) -> Option<Value>
+        ensures none { IfNone result ((self.old.stack ≡ []) × (self.new ≡ self.old)) }
+        ensures some { IfSome result (λ v. self.old ≡ with_operand self.new v) }
+    {
+        if self.operands.len() <= self.here.label.floor {
+            return None;
+        }
+        let Some(v) = self.operands.pop() else {
+            return None;
+        };
+        Some(v)
+    }
+
+    /// No operand of the level.
+    pub fn clear(&mut self)
+        ensures { self.new ≡ record self.old { stack = [] } }
+    {
+        self.operands.truncate(self.here.label.floor);
+    }
+
+    /// A local of the innermost frame.
+    pub fn local(&self, x: usize) -> Option<Value>
+        ensures { result ≡ slice_get self.now.locals x }
+    {
+        self.locals[self.here.locals_from..].get(x).copied()
+    }
+
+    /// A new value of a local, if there is one of that number.
+    pub fn set_local(&mut self, x: usize, v: Value) -> bool
+        ensures value { result ≡ nat_lt x (length self.old.locals) }
+        ensures set { IsTrue result → self.new ≡ record self.old { locals = slice_set self.old.locals x v } }
+    {
+        if x >= self.locals.len() - self.here.locals_from {
+            return false;
+        }
+        self.locals[self.here.locals_from + x] = v;
+        true
+    }
+
+    /// A new innermost level.
+    pub fn open(
+        &mut self,
+        gives: Option<ValType>,
+        body: &'m [Instr],
+        target: &'m [Instr],
+        carries: bool,
+        loops: bool,
+    ) -> Result<(), AllocError>
+        ensures { OnOk result (self.new ≡ opened self.old gives (trees body.now) (trees target.now) carries loops) }
+    {
+        self.labels.push(self.here.label)?;
+        self.here.label = Label {
+            gives,
+            todo: body,
+            target,
+            carries,
+            loops,
+            floor: self.operands.len(),
+        };
+        Ok(())
+    }
+
+    /// The level around the innermost, with the operands of both, if there is one.
+    pub fn close(&mut self) -> bool
+        ensures closed { closed self.old ≡ (if result then Some self.new else None) }
+        ensures same { result ≡ false → self.new ≡ self.old }
+    {
+        if self.labels.len() <= self.here.labels_from {
+            return false;
+        }
+        match self.labels.pop() {
+            Some(label) => {
+                self.here.label = label;
+                true
+            }
+            None => false,
+        }
+    }
+
+    /// The frame that waits for the innermost, if there is one.
+    pub fn leave(&mut self) -> bool
+        ensures left { left self.old ≡ (if result then Some self.new else None) }
+        ensures same { result ≡ false → self.new ≡ self.old }
+    {
+        match self.callers.pop() {
+            Some(held) => {
+                self.operands.truncate(self.here.bottom);
+                self.labels.truncate(self.here.labels_from);
+                self.locals.truncate(self.here.locals_from);
+                self.here = held;
+                true
+            }
+            None => false,
+        }
+    }
+
+    /// Whether the level has this many operands.
+    pub fn has_arguments(&self, n: usize) -> bool
+        ensures { result ≡ is_some (arguments n self.now) }
+    {
+        self.operands.len() - self.here.label.floor >= n
+    }
+
+    /// The n topmost operands as the arguments of a call of the library, if there are as many.
+    pub fn take_site(&mut self, func: u32, n: usize) -> Option<CallSite>
+        ensures none { IfNone result ((arguments n self.old ≡ None) × (self.new ≡ self.old)) }
+        ensures some { IfSome result (λ s. (sited func (arguments n self.old) ≡ Some s) × (self.new ≡ without n self.old)) }
+    {
+        let height = self.operands.len();
+        if height - self.here.label.floor < n {
+            return None;
+        }
+        let first = height - n;
+        let site = site(func, &self.operands[first..]);
+        self.operands.truncate(first);
+        Some(site)
+    }
+
+    /// A new innermost frame of this function, whose locals begin with the n topmost operands, if there
+    /// are as many.
+    pub fn enter(
+        &mut self,
+        index: u32,
+        callee: &'m Func,
+        n: usize,
+        gives: Option<ValType>,
+    ) -> Result<bool, AllocError>
+        ensures { IfOk result (λ is_in. called_with (arguments n self.old) n self.old index (func callee.now) gives ≡ (if is_in then Some self.new else None)) }
+    {
+        let height = self.operands.len();
+        if height - self.here.label.floor < n {
+            return Ok(false);
+        }
+        let first = height - n;
+        let locals_from = self.locals.len();
+        self.locals.extend_from_slice(&self.operands[first..])?;
+        append_zeros(&mut self.locals, &callee.locals)?;
+        self.callers.push(self.here)?;
+        self.operands.truncate(first);
+        self.here = Held {
+            label: Label {
+                gives,
+                todo: &callee.body,
+                target: &[],
+                carries: gives.is_some(),
+                loops: false,
+                floor: first,
+            },
+            labels_from: self.labels.len(),
+            locals_from,
+            bottom: first,
+            func: index,
+            returns: gives.is_some(),
+        };
+        Ok(true)
+    }
+
+    /// Whether the thread keeps to the limits with this many more operands, locals or labels.
+    pub fn has_room(&self, more: usize) -> bool
+        ensures { result ≡ has_room more self.now }
+    {
+        keeps_limits(
+            self.callers.len(),
+            self.operands.len(),
+            self.labels.len(),
+            self.locals.len(),
+            more,
+        )
+    }
+
+    /// The same with one more frame.
+    pub fn has_frame_room(&self, more: usize) -> bool
+        ensures { result ≡ has_frame_room more self.now }
+    {
+        keeps_limits(
+            self.callers.len() + 1,
+            self.operands.len(),
+            self.labels.len(),
+            self.locals.len(),
+            more,
+        )
+    }
+}
+
+/// The type of a function's result, if it has one.
+pub(crate) fn result_of(kind: &FuncType) -> Option<ValType>
+    ensures { result ≡ result_of (func_type kind.now) }
+{
+    kind.results.first().copied()
+}
+
+fn keeps_limits(frames: usize, operands: usize, labels: usize, locals: usize, more: usize) -> bool
+    ensures { result ≡ (nat_lt frames 512 && nat_le (operands + labels + locals + more) 16384) }
+{
+    if frames >= FRAME_LIMIT
+        || operands > SIZE_LIMIT
+        || labels > SIZE_LIMIT
+        || locals > SIZE_LIMIT
+        || more > SIZE_LIMIT
+    {
+        return false;
+    }
+    operands + labels + locals + more <= SIZE_LIMIT
+}
+
+/// At most so many frames of a thread, of which all but one wait.
+pub(crate) const FRAME_LIMIT: usize = 512;
+
+/// At most so many operands, locals and open labels of a thread.
+pub(crate) const SIZE_LIMIT: usize = 16384;
+
+// What declared locals start as.
+fn append_zeros(locals: &mut Vec<Value>, declared: &[(u32, ValType)]) -> Result<(), AllocError>
+    ensures ok { OnOk result (locals.new.items ≡ locals.old.items ++ zeros declared.now) }
+    ensures kept { take (length locals.old.items) locals.new.items ≡ locals.old.items }
+{
+    for local in declared {
+        locals.resize(locals.len() + local.0 as usize, zero_of(local.1))?;
+    }
+    Ok(())
+}
+
+pub(crate) fn zero_of(kind: ValType) -> Value
+    ensures { result ≡ zero_of kind }
+{
+    match kind {
+        ValType::I32 | ValType::F32 => Value::I32(0),
+        ValType::I64 | ValType::F64 => Value::I64(0),
+    }
+}
