@@ -1,0 +1,59 @@
+-- Tests, options, and the first check that fails.
+use Rattle.std.proofs.Common.{◌≡◌, ℕ, zero, suc, ◌+◌, ◌<◌, Bool, true, false, cond, ◌⊎◌, inl, inr, Option, Some, None, refl, arith}
+use Rattle.std.specs.Prelude.{◌==◌, option_map}
+use Rattle.std.proofs.lemmas.Bool.{eq-eqb}
+use Rattle.guest_process.specs.declared.divergence.Divergence.{Divergence}
+use Rattle.guest_process.specs.Legal.{Checks, first_failing, unless}
+use Rattle.guest_process.specs.Live.{lowest}
+
+pub same : (n : ℕ) → (n == n) ≡ true
+same n = eq-eqb n n refl
+
+pub kept : {A : Type 0} (b : Bool) (x : Option A) (y : A) → cond b x None ≡ Some y → (b ≡ true) × (x ≡ Some y)
+kept true x y h = (refl, h)
+kept false x y h = cc
+
+pub mapped : {A B : Type 0} (f : A → B) (o : Option A) (y : B) → option_map f o ≡ Some y → (x : A) × (o ≡ Some x) × (f x ≡ y)
+mapped f None y h = cc
+mapped f (Some x) y h = (x, refl, cc)
+
+pub record Hold (c : Checks) : Type 0 where
+  pub call : c.call ≡ true
+  pub arguments : c.arguments ≡ true
+  pub bytes : c.bytes ≡ true
+  pub reply : c.reply ≡ true
+  pub handler : c.handler ≡ true
+  pub clock : c.clock ≡ true
+
+unless_true : (a : Bool) (d : Divergence) (rest : Option Divergence) → a ≡ true → rest ≡ None → unless a d rest ≡ None
+unless_true true d rest e r = r
+unless_true false d rest e r = cc
+
+pub unless_none : (b : Bool) (d : Divergence) (rest : Option Divergence) → unless b d rest ≡ None → (b ≡ true) × (rest ≡ None)
+unless_none true d rest h = (refl, h)
+unless_none false d rest h = cc
+
+pub none_failing : (c : Checks) → Hold c → first_failing c ≡ None
+none_failing c h =
+    unless_true c.call _ _ h.call (unless_true c.arguments _ _ h.arguments (unless_true c.bytes _ _ h.bytes (unless_true c.reply _ _ h.reply (unless_true c.handler _ _ h.handler (unless_true c.clock _ _ h.clock refl)))))
+
+pub all_hold : (c : Checks) → first_failing c ≡ None → Hold c
+all_hold c h =
+    let call = unless_none c.call _ _ h in
+    let arguments = unless_none c.arguments _ _ call.1 in
+    let bytes = unless_none c.bytes _ _ arguments.1 in
+    let reply = unless_none c.reply _ _ bytes.1 in
+    let handler = unless_none c.handler _ _ reply.1 in
+    let clock = unless_none c.clock _ _ handler.1 in
+    record { call = call.0; arguments = arguments.0; bytes = bytes.0; reply = reply.0; handler = handler.0; clock = clock.0 }
+
+pub lowest_holds : (p : ℕ → Bool) (n s : ℕ) → (lowest p n s ≡ 0) ⊎ ((p (lowest p n s) ≡ true) × (lowest p n s < s + n))
+unfolding lowest
+lowest_holds p zero s = inl refl
+lowest_holds p (suc n) s =
+    lowest_more p n s (p s) refl (lowest_holds p n (s + 1))
+  where
+    lowest_more : (p : ℕ → Bool) (n s : ℕ) (b : Bool) → p s ≡ b → ((lowest p n (s + 1) ≡ 0) ⊎ ((p (lowest p n (s + 1)) ≡ true) × (lowest p n (s + 1) < (s + 1) + n))) → ((cond b s (lowest p n (s + 1)) ≡ 0) ⊎ ((p (cond b s (lowest p n (s + 1))) ≡ true) × (cond b s (lowest p n (s + 1)) < s + suc n)))
+    lowest_more p n s true e h = inr (e, omega arith)
+    lowest_more p n s false e (inl h) = inl h
+    lowest_more p n s false e (inr h) = inr (h.0, omega (arith, h.1))

@@ -1,0 +1,47 @@
+-- What the code judges by.
+use Rattle.std.proofs.Common.{◌≡◌, ℕ, Bool, false, ◌&&◌, refl, ap}
+use Rattle.std.specs.Prelude.{◌==◌, Option, Some, None}
+use Rattle.lib_calls.specs.declared.entry.Call.{Call}
+use Rattle.guest_process.specs.declared.kind.Kind.{Kind}
+use Rattle.guest_process.specs.declared.kind.Kind.TheVariants.{Begin, Exit, Note, Now, SleepUntil, Me, Yield, ThreadNumber, Unbuilt}
+use Rattle.guest_process.specs.declared.need.Need.TheVariants as plainly
+use Rattle.guest_process.specs.declared.waiting.Waiting.{Waiting}
+use Rattle.guest_process.specs.Answers.{Answer, Need, Fixed, Blocked, World, effects, is_plain}
+use Rattle.guest_process.specs.Kinds.{kind_of}
+use Rattle.guest_process.specs.Legal.{answers}
+use Rattle.guest_process.specs.Seen.{answered_at, plain}
+use Rattle.guest_process.specs.State.{State}
+
+pub fixed : (n : Need) (a : Answer) (from_world : Bool) (reply : ℕ) → plain n ≡ plainly.Fixed reply → answers n a from_world ≡ ((a.reply == reply) && is_plain a.tag a.incoming)
+fixed (Fixed r S) a w reply h = ap (λ r. (a.reply == r) && is_plain a.tag a.incoming) (reply_of h)
+  where
+    reply_of : plainly.Fixed r ≡ plainly.Fixed reply → r ≡ reply
+    reply_of h = cc
+fixed Blocked a w reply h = cc
+fixed World a w reply h = cc
+
+pub blocked : (n : Need) (a : Answer) (from_world : Bool) → plain n ≡ plainly.Blocked → answers n a from_world ≡ false
+blocked (Fixed r S) a w h = cc
+blocked Blocked a w h = refl
+blocked World a w h = cc
+
+pub world : (n : Need) (a : Answer) (from_world : Bool) → plain n ≡ plainly.World → answers n a from_world ≡ from_world
+world (Fixed r S) a w h = cc
+world Blocked a w h = cc
+world World a w h = refl
+
+-- no answer to a call of a built kind changes a handler
+pub same_handlers : (k : Kind) (S : State) (t : ℕ) (c : Call) (a : Answer) → (effects k S t c a).handlers ≡ S.handlers
+same_handlers Begin S t c a = refl
+same_handlers Exit S t c a = refl
+same_handlers Note S t c a = refl
+same_handlers Now S t c a = refl
+same_handlers SleepUntil S t c a = refl
+same_handlers Me S t c a = refl
+same_handlers Yield S t c a = refl
+same_handlers ThreadNumber S t c a = refl
+same_handlers Unbuilt S t c a = refl
+
+pub same_handlers_at : (S : State) (t : ℕ) (a : Answer) (o : Option Waiting) → (answered_at S t a o).handlers ≡ S.handlers
+same_handlers_at S t a None = refl
+same_handlers_at S t a (Some w) = same_handlers (kind_of w.call.kind) S t w.call a

@@ -1,0 +1,13 @@
+pub mod Failing
+pub mod EachKind
+pub mod OneEvent
+pub mod Over
+pub mod Places
+pub mod Programs
+pub mod Answering
+pub mod Changes
+pub mod Judging
+pub mod KeptFits
+pub mod KeptSound
+pub mod Advancing
+pub mod Starting

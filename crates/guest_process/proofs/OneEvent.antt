@@ -1,0 +1,120 @@
+-- A recorded event agrees with its replay.
+use Rattle.std.proofs.Common.{◌≡◌, ℕ, zero, suc, ◌+◌, ◌<◌, ◌≤◌, ◌^◌, Bool, true, false, ◌&&◌, ◌||◌, not, cond, List, [], ◌∷◌, length, Option, Some, None, refl, ap, subst, arith, inl, inr}
+use Rattle.std.specs.Prelude.{◌==◌, nat_le, is_some, slice_get, option_and_then}
+use Rattle.std.proofs.lemmas.Bool.{and_parts, and_from, or_right, le-leb as le-leb'}
+use Rattle.std.proofs.lemmas.Option.{same_Some}
+use Rattle.coop_threads.specs.Crew.{value_of}
+use Rattle.coop_threads.specs.declared.slot.Slot.{Slot}
+use Rattle.coop_threads.specs.declared.slot.Slot.TheVariants.{Kept, Lent, Over}
+use Rattle.lamport_tag.specs.Tag.{clock_of, next_clock_of}
+use Rattle.lib_calls.specs.declared.entry.Call.{Call}
+use Rattle.lib_calls.specs.Entry.{IsStringIf, IsTagIf}
+use Rattle.signal_points.specs.Signals.{is_pending}
+use Rattle.guest_process.specs.declared.kind.Kind.{Kind}
+use Rattle.guest_process.specs.declared.waiting.Waiting.{Waiting}
+use Rattle.guest_process.specs.Answers.{Need, Fixed, Blocked, World, need, is_possible, written, after_need, effects}
+use Rattle.guest_process.specs.Fits.{Each, EnvFits, StateFits, WaitingFits}
+use Rattle.guest_process.specs.GoesOn.{goes_on, handler}
+use Rattle.guest_process.specs.Kinds.{ends_process, kind_of}
+use Rattle.guest_process.specs.Legal.{answers, checks, is_handled}
+use Rattle.guest_process.specs.Live.{Env, Event, Answered, answered, chosen, event, from_world, live_at, lowest}
+use Rattle.guest_process.specs.OneEvent.{Agrees, OneEvent}
+use Rattle.guest_process.specs.State.{State, is_running, thread_at}
+use Rattle.guest_process.proofs.Failing.{same, kept, mapped, none_failing, lowest_holds}
+use Rattle.guest_process.proofs.EachKind.{no_bytes, no_tag, ReplyFits, reply_fits, world_matches}
+
+-- what holds of each live thread holds of one
+pub live_has : (P : Waiting → Type 0) (slots : List (Slot Waiting)) (t : ℕ) → Each P slots → (w : Waiting) → option_and_then value_of (slice_get slots t) ≡ Some w → P w
+live_has P [] t f w h = cc
+live_has P (Kept v ∷ slots) zero f w h = subst P (same_Some _ _ h) f.0
+live_has P (Lent ∷ slots) zero f w h = cc
+live_has P (Over ∷ slots) zero f w h = cc
+live_has P (slot ∷ slots) (suc t) f w h = live_has P slots t f.1 w h
+
+pub live_low : (slots : List (Slot Waiting)) (t : ℕ) (w : Waiting) → option_and_then value_of (slice_get slots t) ≡ Some w → t < length slots
+live_low [] t w h = cc
+live_low (slot ∷ slots) zero w h = omega arith
+live_low (slot ∷ slots) (suc t) w h = omega (arith, live_low slots t w h)
+
+-- what the laws of the kinds come to
+record Answers (k : Kind) (S : State) (c : Call) (n : Need) (a : Answered) : Type 0 where
+  pub possible : answers n a.answer (is_possible k S c a.answer) ≡ true
+  pub same : after_need n (written k S c a.answer) ≡ a.after
+  pub reply : a.answer.reply < 2 ^ 64
+  pub incoming : (b : Bool) → IsStringIf b a.answer.incoming
+  pub tag : (b : Bool) → IsTagIf b a.answer.tag
+  pub clock : clock_of a.answer.tag ≤ 2 ^ 62
+
+answered_holds : (k : Kind) (S : State) (c : Call) (env : Env) → EnvFits env → (n : Need) → ReplyFits n → (a : Answered) → answered n (from_world k S c env) ≡ Some a → Answers k S c n a
+answered_holds k S c env e (Fixed r S') fits a h =
+    subst (Answers k S c (Fixed r S')) (same_Some _ _ h) (record {
+      possible = and_from _ _ (same r) refl;
+      same = refl;
+      reply = fits;
+      incoming = no_bytes;
+      tag = no_tag;
+      clock = omega arith;
+    })
+answered_holds k S c env e Blocked fits a h = cc
+answered_holds k S c env e World fits a h =
+    let m = world_matches k S c env e a h in
+    record { possible = m.possible; same = m.same; reply = m.reply; incoming = m.incoming; tag = m.tag; clock = m.clock }
+
+handled_at : (p : ℕ → Bool) (pending : Bool) (s : ℕ) → (pending && p s) ≡ true → s < 1 + 31 → ((s == 0) || (true && (nat_le s 31 && p s))) ≡ true
+handled_at p pending s h low = or_right _ _ (and_from _ _ (le-leb' s 31 (omega arith)) (and_parts _ _ h).1)
+
+handled_by : (p q : ℕ → Bool) (b : Bool) (n : ℕ) → n ≡ cond b 0 (lowest (λ s. q s && p s) 31 1) → ((n == 0) || (not b && (nat_le n 31 && p n))) ≡ true
+handled_by p q true n is = rw is refl
+handled_by p q false n is =
+    rw is (elim (lowest_holds (λ s. q s && p s) 31 1) [ inl h ↦ rw h refl | inr h ↦ handled_at p (q (lowest (λ s. q s && p s) 31 1)) (lowest (λ s. q s && p s) 31 1) h.0 h.1 ])
+
+chosen_handled : (k : Kind) (handlers : List (Option ℕ)) (pending : List Bool) → is_handled k handlers (chosen k handlers pending) ≡ true
+chosen_handled k handlers pending =
+    handled_by (λ s. is_some (handler handlers s)) (is_pending pending) (ends_process k) (chosen k handlers pending) refl
+
+chosen_low : (p : ℕ → Bool) (b : Bool) → cond b 0 (lowest p 31 1) < 2 ^ 8
+chosen_low p true = omega arith
+chosen_low p false = elim (lowest_holds p 31 1) [ inl h ↦ omega arith | inr h ↦ omega (arith, h.1) ]
+
+event_agrees : (S : State) (t : ℕ) (w : Waiting) (env : Env) → StateFits S → S.events < 2 ^ 61 → is_running S ≡ true → thread_at S t ≡ Some w → WaitingFits w → (a : Answered) → Answers (kind_of w.call.kind) S w.call (need (kind_of w.call.kind) S t w.call) a → Agrees S (event S t env w a)
+event_agrees S t w env s few running stands fits a m =
+    let k = kind_of w.call.kind in
+    let now = event S t env w a in
+    let effect : effects k S t w.call a.answer ≡ a.after = m.same in
+    let handled : is_handled k (effects k S t w.call a.answer).handlers now.entry.signal ≡ true = rw effect (chosen_handled k a.after.handlers env.pending) in
+    record {
+      shape = record {
+        kind = fits.kind;
+        clock = omega (arith, s.clock, m.clock);
+        thread = omega (arith, live_low S.crew.threads t w stands, s.room);
+        signal = chosen_low _ (ends_process k);
+        arguments = fits.arguments;
+        reply = m.reply;
+        outgoing = no_bytes _;
+        incoming = m.incoming _;
+        tag = m.tag _;
+      };
+      legal = rw (running, stands) (none_failing (checks S now.entry w.call) (record {
+        call = same w.call.kind;
+        arguments = and_from _ _ (same w.call.a0) (and_from _ _ (same w.call.a1) (same w.call.a2));
+        bytes = refl;
+        reply = m.possible;
+        handler = handled;
+        clock = same (next_clock_of S.clock a.answer.tag);
+      }));
+      same = rw stands (ap (λ S'. goes_on k S' t w.strand a.answer.reply now.entry.signal now.entry.clock) effect);
+    }
+
+one_at : (S : State) (t : ℕ) (env : Env) → StateFits S → S.events < 2 ^ 61 → EnvFits env → is_running S ≡ true → (o : Option Waiting) → thread_at S t ≡ o → (e : Event) → live_at S t env o ≡ Some e → Agrees S e
+one_at S t env s few f running None stands e h = cc
+one_at S t env s few f running (Some w) stands e h =
+    let k = kind_of w.call.kind in
+    let m = mapped (event S t env w) (answered (need k S t w.call) (from_world k S w.call env)) e h in
+    let fits : WaitingFits w = live_has WaitingFits S.crew.threads t s.threads w stands in
+    let low : t < 64 = omega (arith, live_low S.crew.threads t w stands, s.room) in
+    subst (Agrees S) m.2 (event_agrees S t w env s few running stands fits m.0 (answered_holds k S w.call env f (need k S t w.call) (reply_fits k S t w.call s low) m.0 m.1))
+
+pub one_event : OneEvent
+one_event S t env s few f e h =
+    let k = kept _ _ _ h in
+    one_at S t env s few f (and_parts _ _ k.0).1 (thread_at S t) refl e k.1

@@ -1,0 +1,86 @@
+-- The process before its first event is one of its program.
+use Rattle.std.proofs.Common.{◌≡◌, ℕ, zero, suc, true, false, cond, ◌<◌, ◌≤◌, Bool, ◌&&◌, Option, Some, None, refl, ap, sym, subst, arith}
+use Rattle.std.specs.Prelude.{All, ◌==◌, length, replicate}
+use Rattle.std.specs.List.{list_all, slice_index_or}
+use Rattle.std.proofs.lemmas.Option.{same_Some}
+use Rattle.coop_threads.specs.Crew.{empty, with_new_thread}
+use Rattle.lib_calls.specs.Entry.{IsNumberIf}
+use Rattle.wasm_types.specs.Modules.{Module, module_of}
+use Rattle.wasm_types.specs.Library.{IsOfLibrary}
+use Rattle.wasm_types.specs.Valid.{IsValid}
+use Rattle.wasm_step.specs.Start.{start as store_of, empty_memory, empty_table, initial_globals, is_elem_inside, is_segment_inside}
+use Rattle.wasm_step.specs.Store.{Store}
+use Rattle.wasm_step.specs.Strand.{first_thread}
+use Rattle.wasm_step.specs.Fits.{Suits}
+use Rattle.wasm_step.specs.Thread.{Thread}
+use Rattle.signal_points.specs.Signals.{handler_of, no_handlers}
+use Rattle.guest_process.specs.GoesOn.{handler}
+use Rattle.guest_process.specs.Fits.{StateFits, WaitingFits}
+use Rattle.guest_process.specs.Seen.{IsProcess, state_of}
+use Rattle.guest_process.specs.Sound.{IsSound, IsStanding}
+use Rattle.guest_process.specs.Start.{beginning, begun, begun_with}
+use Rattle.guest_process.specs.declared.parts.Parts.{Parts}
+use Rattle.guest_process.specs.OneEvent.{IsStarted}
+use Rattle.guest_process.specs.declared.end.End.TheVariants.{Running}
+use Rattle.guest_process.proofs.Failing.{kept}
+
+store_program : (m : Module) (g : Store) → store_of m ≡ Some g → g.program ≡ m
+store_program m g h =
+    let globals = initial_globals m in
+    let table = empty_table m in
+    let memory = empty_memory m in
+    let inside = list_all (is_elem_inside globals (length table)) m.elems && list_all (is_segment_inside globals memory) m.segments in
+    ap (λ g. g.program) (sym (same_Some _ _ (kept inside _ g h).1))
+
+abbrev nothing : Option ℕ
+nothing = None
+
+none_in : (n signal : ℕ) → slice_index_or (replicate n nothing) signal nothing ≡ nothing
+none_in zero signal = refl
+none_in (suc n) zero = refl
+none_in (suc n) (suc signal) = none_in n signal
+
+no_handler : (signal func : ℕ) → handler no_handlers signal ≡ Some func → ⊥
+no_handler signal func h = by_test (signal == 0) h
+  where
+    by_test : (b : Bool) → cond b None (handler_of no_handlers signal) ≡ Some func → ⊥
+    by_test true h = cc
+    by_test false h = let none = none_in 32 signal in cc
+
+zero_fits : (b : Bool) → IsNumberIf b 0
+zero_fits true = omega arith
+zero_fits false = refl
+
+begun_holds : (m : Module) (who count : ℕ) (g : Store) (thread : Thread) → who < count → count ≤ 16 → store_of m ≡ Some g → IsValid m → StateFits (begun m who count g thread) × IsSound (begun m who count g thread)
+begun_holds m who count g thread low few store valid =
+    let same : g.program ≡ m = store_program m g store in
+    let begin_fits : WaitingFits (beginning m thread) = record { kind = omega arith; arguments = record { first = zero_fits _; second = zero_fits _; third = zero_fits _ } } in
+    let begin_stands : IsStanding g.program (beginning m thread) = record { program = sym same; stands = refl } in (
+      record { clock = omega arith; room = omega arith; count = few; who = low; threads = (begin_fits, tt) },
+      record {
+        imports = subst (λ m. All (IsOfLibrary m.types) m.imports) (sym same) valid.imports;
+        threads = (begin_stands, tt);
+        handlers = λ signal func h. absurd (no_handler signal func h);
+      },
+    )
+
+-- how a process of a valid program begins is such a state
+pub started : IsStarted
+started m who count S valid low few h = by_store (store_of m) refl (first_thread m) h
+  where
+    by_store : (o : Option Store) → store_of m ≡ o → (thread : Option Thread) → begun_with m who count o thread ≡ Some S → StateFits S × IsSound S
+    by_store None e thread h = cc
+    by_store (Some g) e None h = cc
+    by_store (Some g) e (Some thread) h =
+        subst (λ S. StateFits S × IsSound S) (same_Some _ _ h) (begun_holds m who count g thread low few e valid)
+
+begun_process : (p : Parts) (thread : Thread) → p.who < p.count → p.count ≤ 16 → store_of (module_of p.program.now) ≡ Some p.store → IsValid (module_of p.program.now) → Suits p.store → state_of p ≡ begun (module_of p.program.now) p.who p.count p.store thread → IsProcess p
+begun_process p thread low few store valid suits state =
+    let m = module_of p.program.now in
+    let holds = begun_holds m p.who p.count p.store thread low few store valid in
+    record { program = sym (store_program m p.store store); suits = suits; fits = subst StateFits (sym state) holds.0; sound = subst IsSound (sym state) holds.1 }
+
+-- the parts with which the code begins are those of a process
+pub is_process : (p : Parts) (thread : Thread) → p.who < p.count → p.count ≤ 16 → store_of (module_of p.program.now) ≡ Some p.store → IsValid (module_of p.program.now) → Suits p.store → p.crew ≡ with_new_thread empty (beginning (module_of p.program.now) thread) → p.handlers ≡ no_handlers → p.clock ≡ 0 → p.events ≡ 0 → p.end ≡ Running → IsProcess p
+is_process p thread low few store valid suits crew handlers clock events end =
+    begun_process p thread low few store valid suits (rw (crew, handlers, clock, events, end) refl)

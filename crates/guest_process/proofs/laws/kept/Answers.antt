@@ -1,0 +1,13 @@
+use Rattle.guest_process.proofs.KeptFits.{state_kept}
+use Rattle.guest_process.proofs.KeptSound.{sound_kept}
+use Rattle.guest_process.proofs.Starting.{started}
+use Rattle.guest_process.proofs.laws.kept.Goals as goal
+
+pub returns-clause-ranges : goal.returns-clause-ranges
+returns-clause-ranges c = state_kept
+
+pub returns-clause-sound : goal.returns-clause-sound
+returns-clause-sound c = sound_kept
+
+pub returns-clause-started : goal.returns-clause-started
+returns-clause-started c = started

@@ -1,0 +1,114 @@
+-- What follows the answer to a call: the reply's value, the handler of a signal, and the burst.
+use Rattle.std.specs.Prelude.{ℕ, ◌+◌, ◌==◌, ◌%◌, ◌^◌, List, [], ◌∷◌, Bool, true, false, Option, Some, None, if◌then◌else◌, nat_lt, bytes_eq, slice_get}
+use Rattle.coop_threads.specs.declared.slot.Slot.{Slot}
+use Rattle.coop_threads.specs.declared.slot.Slot.TheVariants.{Kept, Lent, Over}
+use Rattle.lib_calls.specs.Calls.{names}
+use Rattle.lib_calls.specs.Kinds.{argument_count}
+use Rattle.lib_calls.specs.declared.entry.Call.{Call}
+use Rattle.signal_points.specs.Signals.{handler_of}
+use Rattle.wasm_types.specs.declared.traps.Trap.{Trap}
+use Rattle.wasm_types.specs.declared.traps.Trap.TheVariants.{Exhausted, Unreachable}
+use Rattle.wasm_types.specs.Modules.{Module, Import}
+use Rattle.wasm_step.specs.Burst.{Run, burst}
+use Rattle.wasm_step.specs.Reduce.{Stop, Calls, Ends, Traps, Sticks}
+use Rattle.wasm_step.specs.Strand.{Strand, answered, handling, is_in}
+use Rattle.wasm_step.specs.Thread.{Thread}
+use Rattle.wasm_step.specs.declared.call.CallSite.{CallSite}
+use Rattle.guest_process.specs.declared.end.End.TheVariants.{Finished, Trapped}
+use Rattle.guest_process.specs.declared.kind.Kind.{Kind}
+use Rattle.guest_process.specs.declared.waiting.Waiting.{Waiting}
+use Rattle.guest_process.specs.Kinds.{ends_process, value_of}
+use Rattle.guest_process.specs.State.{State, with_thread}
+
+-- a burst has at most so many instructions
+unfoldable pub budget : ℕ
+budget = 10000000
+
+-- ---- where a burst stops
+
+-- the first place of a name
+abbrev pub place_of : List ℕ → List (List ℕ) → ℕ → Option ℕ
+place_of name [] n = None
+place_of name (first ∷ rest) n = if bytes_eq first name then Some n else place_of name rest (n + 1)
+
+-- the kind of the calls of an imported function
+abbrev pub import_kind : Option Import → Option ℕ
+import_kind None = None
+import_kind (Some import) = place_of import.name names 0
+
+unfoldable pub kind_at : Module → ℕ → Option ℕ
+kind_at m f = import_kind (slice_get m.imports f)
+
+-- an argument as 64 bits, and 0 where the kind lacks it
+abbrev pub argument : ℕ → ℕ → ℕ → ℕ
+argument kind n bits = if nat_lt n (argument_count kind) then bits % 2 ^ 64 else 0
+
+-- the call of this kind with these arguments
+abbrev pub call_at : ℕ → CallSite → Call
+call_at kind site = record { kind = kind; a0 = argument kind 0 site.a0; a1 = argument kind 1 site.a1; a2 = argument kind 2 site.a2 }
+
+-- a thread that stands at a call of the library
+abbrev pub stands : State → Thread → CallSite → ℕ → Waiting
+stands S thread site kind =
+    record { call = call_at kind site; strand = record { program = S.store.program; thread = thread; call = Some site.func } }
+
+-- thread t has trapped
+abbrev pub trapped : State → ℕ → Trap → State
+trapped S t trap = record (with_thread S t Over) { end = Trapped trap }
+
+abbrev pub is_over : Slot Waiting → Bool
+is_over (Kept w) = false
+is_over Lent = false
+is_over Over = true
+
+abbrev pub all_over : List (Slot Waiting) → Bool
+all_over [] = true
+all_over (slot ∷ slots) = if is_over slot then all_over slots else false
+
+-- a process ends with its last thread
+abbrev pub settled : State → State
+settled S = if all_over S.crew.threads then record S { end = Finished } else S
+
+-- a valid program imports functions of the library alone and never sticks, so that these two cases don't come up
+abbrev pub called : State → ℕ → Thread → CallSite → Option ℕ → State
+called S t thread site (Some kind) = with_thread S t (Kept (stands S thread site kind))
+called S t thread site None = trapped S t Unreachable
+
+abbrev pub stopped : State → ℕ → Stop → State
+stopped S t (Calls thread site) = called S t thread site (kind_at S.store.program site.func)
+stopped S t Ends = settled (with_thread S t Over)
+stopped S t (Traps trap) = trapped S t trap
+stopped S t Sticks = trapped S t Unreachable
+
+abbrev pub after_burst : State → ℕ → Run → State
+after_burst S t run = stopped (record S { store = run.store }) t run.stop
+
+-- ---- the whole
+
+-- the handler of a signal; 0 is none
+abbrev pub handler : List (Option ℕ) → ℕ → Option ℕ
+handler handlers signal = if signal == 0 then None else handler_of handlers signal
+
+-- where the thread's limits allow it
+abbrev pub if_in : Option Thread → Option Thread
+if_in None = None
+if_in (Some thread) = if is_in (Some thread) then Some thread else None
+
+-- the thread, with the frame of a handler on top where there is one
+abbrev pub entered : Module → Strand → ℕ → Option ℕ → Option Thread
+entered m strand signal None = Some strand.thread
+entered m strand signal (Some func) = if_in (handling m strand.thread func signal)
+
+abbrev pub runs : State → ℕ → Option Thread → State
+runs S t None = trapped S t Exhausted
+runs S t (Some thread) = after_burst S t (burst budget thread S.store)
+
+abbrev pub counted : State → ℕ → State
+counted S clock = record S { clock = clock; events = S.events + 1 }
+
+-- the reply's value goes on the operand stack, then a signal's handler is entered, then the thread runs
+abbrev pub goes_on : Kind → State → ℕ → Strand → ℕ → ℕ → ℕ → State
+goes_on kind S t strand reply signal clock =
+    if ends_process kind
+    then counted S clock
+    else runs (counted S clock) t (entered S.store.program (answered strand (value_of kind reply)) signal (handler S.handlers signal))

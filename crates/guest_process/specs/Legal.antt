@@ -1,0 +1,71 @@
+-- When an entry can be the next event, and why not.
+use Rattle.std.specs.Prelude.{ℕ, ◌==◌, ◌&&◌, ◌||◌, not, nat_le, is_some, List, [], ◌∷◌, Bool, true, false, Option, Some, None}
+use Rattle.lamport_tag.specs.Tag.{next_clock_of}
+use Rattle.lib_calls.specs.declared.entry.Call.{Call}
+use Rattle.lib_calls.specs.declared.entry.Entry.{Entry}
+use Rattle.guest_process.specs.declared.divergence.Divergence.{Divergence}
+use Rattle.guest_process.specs.declared.divergence.Divergence.TheVariants.{AfterEnd, NoThread, OtherCall, OtherArguments, OtherBytes, OtherReply, NoHandler, OtherClock}
+use Rattle.guest_process.specs.declared.kind.Kind.{Kind}
+use Rattle.guest_process.specs.declared.waiting.Waiting.{Waiting}
+use Rattle.guest_process.specs.Answers.{Answer, Need, Fixed, Blocked, World, need, effects, is_plain, is_possible}
+use Rattle.guest_process.specs.GoesOn.{handler}
+use Rattle.guest_process.specs.Kinds.{ends_process, kind_of}
+use Rattle.guest_process.specs.State.{State, is_running, thread_at}
+
+abbrev pub has_arguments : Call → Call → Bool
+has_arguments c pending = (c.a0 == pending.a0) && ((c.a1 == pending.a1) && (c.a2 == pending.a2))
+
+-- no call of a built kind names bytes that go out
+abbrev pub is_without : List ℕ → Bool
+is_without [] = true
+is_without (_ ∷ _) = false
+
+-- whether some environment gives the answer
+abbrev pub answers : Need → Answer → Bool → Bool
+answers (Fixed reply S) a from_world = (a.reply == reply) && is_plain a.tag a.incoming
+answers Blocked a from_world = false
+answers World a from_world = from_world
+
+-- no signal, or one that is handled in the state after the answer
+abbrev pub is_handled : Kind → List (Option ℕ) → ℕ → Bool
+is_handled kind handlers signal =
+    (signal == 0) || (not (ends_process kind) && (nat_le signal 31 && is_some (handler handlers signal)))
+
+-- what is judged of an entry at the pending call, in the order of the reasons
+pub record Checks : Type 0 where
+  pub call : Bool
+  pub arguments : Bool
+  pub bytes : Bool
+  pub reply : Bool
+  pub handler : Bool
+  pub clock : Bool
+
+abbrev pub checks_by : Kind → State → Entry → Call → Answer → Checks
+checks_by kind S e c a = record {
+  call = e.call.kind == c.kind;
+  arguments = has_arguments e.call c;
+  bytes = is_without e.outgoing;
+  reply = answers (need kind S e.thread c) a (is_possible kind S c a);
+  handler = is_handled kind (effects kind S e.thread c a).handlers e.signal;
+  clock = e.clock == next_clock_of S.clock e.tag;
+}
+
+abbrev pub checks : State → Entry → Call → Checks
+checks S e c = checks_by (kind_of c.kind) S e c (record { reply = e.reply; incoming = e.incoming; tag = e.tag })
+
+abbrev pub unless : Bool → Divergence → Option Divergence → Option Divergence
+unless true why rest = rest
+unless false why rest = Some why
+
+abbrev pub first_failing : Checks → Option Divergence
+first_failing c =
+    unless c.call OtherCall (unless c.arguments OtherArguments (unless c.bytes OtherBytes
+    (unless c.reply OtherReply (unless c.handler NoHandler (unless c.clock OtherClock None)))))
+
+abbrev pub reason_at : State → Entry → Option Waiting → Option Divergence
+reason_at S e None = Some NoThread
+reason_at S e (Some w) = first_failing (checks S e w.call)
+
+-- why an entry can't be the next event, or nothing where it can
+abbrev pub reason : State → Entry → Option Divergence
+reason S e = unless (is_running S) AfterEnd (reason_at S e (thread_at S e.thread))

@@ -1,0 +1,13 @@
+pub mod Answers
+pub mod Fits
+pub mod GoesOn
+pub mod Kinds
+pub mod Legal
+pub mod Live
+pub mod Next
+pub mod OneEvent
+pub mod Replay
+pub mod Seen
+pub mod Sound
+pub mod Start
+pub mod State

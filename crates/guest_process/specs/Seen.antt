@@ -1,0 +1,53 @@
+-- What contracts see of a process, and what the code answers.
+use Rattle.std.specs.Prelude.{◌≡◌, ℕ, ⊤, Option, Some, None, Result, Ok, Err, if◌then◌else◌}
+use Rattle.wasm_types.specs.Modules.{module_of}
+use Rattle.wasm_step.specs.Fits.{Suits}
+use Rattle.guest_process.specs.declared.divergence.Divergence.{Divergence}
+use Rattle.guest_process.specs.declared.need.Need.{Need as PlainNeed}
+use Rattle.guest_process.specs.declared.need.Need.TheVariants as plainly
+use Rattle.guest_process.specs.declared.parts.Parts.{Parts}
+use Rattle.guest_process.specs.declared.waiting.Waiting.{Waiting}
+use Rattle.guest_process.specs.Answers.{Answer, Need, Fixed, Blocked, World, effects}
+use Rattle.guest_process.specs.Fits.{StateFits}
+use Rattle.guest_process.specs.Kinds.{kind_of}
+use Rattle.guest_process.specs.Sound.{IsSound}
+use Rattle.guest_process.specs.State.{State, is_running, thread_at}
+
+abbrev pub state_of : Parts → State
+state_of p = record {
+  who = p.who;
+  count = p.count;
+  store = p.store;
+  crew = p.crew;
+  handlers = p.handlers;
+  clock = p.clock;
+  events = p.events;
+  end = p.end;
+}
+
+-- what holds of each process of a valid program
+pub record IsProcess (p : Parts) : Type 0 where
+  pub program : module_of p.program.now ≡ p.store.program
+  pub suits : Suits p.store
+  pub fits : StateFits (state_of p)
+  pub sound : IsSound (state_of p)
+
+-- a need without the state that it makes
+abbrev pub plain : Need → PlainNeed
+plain (Fixed reply S) = plainly.Fixed reply
+plain Blocked = plainly.Blocked
+plain World = plainly.World
+
+-- the thread with this number, where it is live and the process runs
+abbrev pub able : State → ℕ → Option Waiting
+able S t = if is_running S then thread_at S t else None
+
+-- the state after thread t's pending call got this answer, before it runs
+abbrev pub answered_at : State → ℕ → Answer → Option Waiting → State
+answered_at S t a None = S
+answered_at S t a (Some w) = effects (kind_of w.call.kind) S t w.call a
+
+-- why an entry was refused, or nothing where it was not
+abbrev pub refused : Result ⊤ Divergence → Option Divergence
+refused (Ok _) = None
+refused (Err why) = Some why

@@ -1,0 +1,43 @@
+-- How a process begins.
+use Rattle.std.specs.Prelude.{ℕ, Option, Some, None}
+use Rattle.coop_threads.specs.Crew.{empty, with_new_thread}
+use Rattle.lib_calls.specs.declared.entry.Call.{Call}
+use Rattle.signal_points.specs.Signals.{no_handlers}
+use Rattle.wasm_types.specs.Modules.{Module}
+use Rattle.wasm_step.specs.Start.{start as store_of}
+use Rattle.wasm_step.specs.Store.{Store}
+use Rattle.wasm_step.specs.Strand.{first_thread}
+use Rattle.wasm_step.specs.Thread.{Thread}
+use Rattle.guest_process.specs.declared.end.End.TheVariants.{Running}
+use Rattle.guest_process.specs.declared.waiting.Waiting.{Waiting}
+use Rattle.guest_process.specs.State.{State}
+
+-- the call `begin`
+abbrev pub begin : Call
+begin = record { kind = 0; a0 = 0; a1 = 0; a2 = 0 }
+
+-- a thread of the program that stands at `begin`
+abbrev pub beginning : Module → Thread → Waiting
+beginning m thread = record { call = begin; strand = record { program = m; thread = thread; call = None } }
+
+-- thread 0 stands at `begin`, and nothing has happened
+abbrev pub begun : Module → ℕ → ℕ → Store → Thread → State
+begun m who count store thread = record {
+  who = who;
+  count = count;
+  store = store;
+  crew = with_new_thread empty (beginning m thread);
+  handlers = no_handlers;
+  clock = 0;
+  events = 0;
+  end = Running;
+}
+
+abbrev pub begun_with : Module → ℕ → ℕ → Option Store → Option Thread → Option State
+begun_with m who count None thread = None
+begun_with m who count (Some store) None = None
+begun_with m who count (Some store) (Some thread) = Some (begun m who count store thread)
+
+-- process `who` of a group of `count`, or nothing where a segment ends past its table or memory
+abbrev pub start : Module → ℕ → ℕ → Option State
+start m who count = begun_with m who count (store_of m) (first_thread m)

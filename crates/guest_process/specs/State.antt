@@ -1,0 +1,36 @@
+-- The state of a process.
+use Rattle.std.specs.Prelude.{ℕ, Bool, true, false, List, Option}
+use Rattle.coop_threads.specs.Crew.{Crew, live_at, with_thread as crew_with}
+use Rattle.coop_threads.specs.declared.slot.Slot.{Slot}
+use Rattle.wasm_step.specs.Store.{Store}
+use Rattle.guest_process.specs.declared.end.End.{End}
+use Rattle.guest_process.specs.declared.end.End.TheVariants.{Running}
+use Rattle.guest_process.specs.declared.waiting.Waiting.{Waiting}
+
+-- its number and its group's size; its program with memory, globals and table; the threads that were
+-- made, each of which stands at a pending call or has ended, and the locks that they hold; the function
+-- that handles each signal; the clock of its last event, or 0; how many events it has had; and how it ended
+pub record State : Type 0 where
+  pub who : ℕ
+  pub count : ℕ
+  pub store : Store
+  pub crew : Crew Waiting
+  pub handlers : List (Option ℕ)
+  pub clock : ℕ
+  pub events : ℕ
+  pub end : End
+
+-- the thread with this number and its pending call, where it is live
+abbrev pub thread_at : State → ℕ → Option Waiting
+thread_at S t = live_at S.crew t
+
+-- thread t stands so
+abbrev pub with_thread : State → ℕ → Slot Waiting → State
+with_thread S t slot = record S { crew = crew_with S.crew t slot }
+
+abbrev pub is_running_end : End → Bool
+is_running_end Running = true
+is_running_end _ = false
+
+abbrev pub is_running : State → Bool
+is_running S = is_running_end S.end

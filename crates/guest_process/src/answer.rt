@@ -1,0 +1,74 @@
+// How a thread goes on after the answer to its call.
+ghost use Rattle.std.specs.Prelude.{◌≡◌, IfOk, IfSome, None, Some, option_map, true, false};
+ghost use Rattle.wasm_step.specs.Strand.{answered, IsHandler};
+ghost use Rattle.guest_process.specs.GoesOn.{entered, handler as handler_of};
+ghost use Rattle.guest_process.specs.Kinds.{is_built, value_of};
+ghost use Rattle.guest_process.specs.Sound.{StandsAt};
+
+use crate::kind::Kind;
+use crate::waiting::Waiting;
+use signal_points::Handlers;
+use std::alloc::AllocError;
+use wasm_step::{HandlerError, Strand};
+use wasm_types::Value;
+
+/// What a reply puts on the operand stack.
+pub(crate) fn value_of(kind: Kind, reply: u64) -> Option<Value>
+    ensures { result ≡ value_of kind reply }
+{
+    match kind {
+        Kind::Now | Kind::SleepUntil => Some(Value::I64(reply)),
+        Kind::Me | Kind::ThreadNumber => Some(Value::I32((reply % 0x1_0000_0000) as u32)),
+        Kind::Begin | Kind::Exit | Kind::Note | Kind::Yield | Kind::Unbuilt => None,
+    }
+}
+
+/// The strand of a thread whose call of this kind was answered.
+#[tactic(auto, using(crate::proofs::Answering::is_answer))]
+pub(crate) fn answered<'m>(
+    waiting: Waiting<'m>,
+    kind: Kind,
+    reply: u64,
+) -> Result<Strand<'m>, AllocError>
+    requires stands { StandsAt waiting.strand.program waiting kind }
+    requires built { is_built kind ≡ true }
+    ensures { IfOk result (λ s. s ≡ answered waiting.entry.strand (value_of kind reply)) }
+{
+    match kind {
+        Kind::Begin => Ok(waiting.strand),
+        _ => waiting.strand.answer(value_of(kind, reply)),
+    }
+}
+
+/// The handler of a signal. 0 is no signal.
+pub(crate) fn handler(handlers: &Handlers, signal: u8) -> Option<u32>
+    ensures { result ≡ handler_of handlers.now signal }
+{
+    if signal == 0 {
+        None
+    } else {
+        handlers.get(signal)
+    }
+}
+
+/// The strand with the frame of a handler on top, or nothing where its limits don't allow that.
+pub(crate) fn entered<'m>(
+    strand: Strand<'m>,
+    signal: u8,
+    func: Option<u32>,
+) -> Result<Option<Strand<'m>>, AllocError>
+    requires runs { strand.call ≡ None }
+    requires handler { IfSome func (IsHandler strand.program) }
+    ensures thread { IfOk result (λ o. option_map (λ s. s.thread) o ≡ entered strand.entry.program strand.entry signal func) }
+    ensures program { IfOk result (λ o. IfSome o (λ s. s.program ≡ strand.entry.program)) }
+    ensures call { IfOk result (λ o. IfSome o (λ s. s.call ≡ None)) }
+{
+    let Some(func) = func else {
+        return Ok(Some(strand));
+    };
+    match strand.push_handler(func, u32::from(signal)) {
+        Ok(strand) => Ok(Some(strand)),
+        Err(HandlerError::Exhausted) => Ok(None),
+        Err(HandlerError::NoMemory) => Err(AllocError),
+    }
+}

@@ -1,0 +1,22 @@
+//! A process of a guest: its threads, which stand at calls of the library, and the events that answer
+//! these calls.
+#![tactic(auto)]
+
+mod advance;
+mod answer;
+mod calls;
+mod divergence;
+mod end;
+mod judge;
+mod kind;
+mod laws;
+mod need;
+mod parts;
+mod process;
+mod waiting;
+
+pub use divergence::Divergence;
+pub use end::End;
+pub use laws::{kept, one_event};
+pub use need::Need;
+pub use process::Process;

@@ -1,0 +1,130 @@
+// What a process consists of, and how its threads stop.
+ghost use Rattle.std.specs.Prelude.{◌≡◌, IfOk, IsTrue, length};
+ghost use Rattle.coop_threads.specs.Crew.{IsTaken};
+ghost use Rattle.wasm_types.specs.Modules.{module_of};
+ghost use Rattle.wasm_step.specs.Pause.{StandsAt, stop_of};
+ghost use Rattle.wasm_step.specs.Reduce.{Ends};
+ghost use Rattle.guest_process.specs.Answers.{exited};
+ghost use Rattle.guest_process.specs.GoesOn.{all_over, stopped, trapped};
+ghost use Rattle.guest_process.specs.Seen.{state_of};
+ghost use Rattle.guest_process.specs.State.{is_running};
+
+use crate::calls::{call_at, import_kind};
+use crate::end::End;
+use crate::waiting::Waiting;
+use coop_threads::{Crew, Status};
+use signal_points::Handlers;
+use std::alloc::{AllocError, Global};
+use wasm_step::{Pause, Store};
+use wasm_types::{Trap, ValidModule};
+
+/// The parts of a process.
+#[derive(Drop)]
+pub(crate) struct Parts<'m> {
+    pub(crate) program: &'m ValidModule,
+    pub(crate) who: u32,
+    pub(crate) count: u32,
+    pub(crate) store: Store<'m>,
+    pub(crate) crew: Crew<Waiting<'m>>,
+    pub(crate) handlers: Handlers,
+    pub(crate) clock: u64,
+    pub(crate) events: u64,
+    pub(crate) end: End,
+}
+
+impl<'m> Parts<'m> {
+    pub(crate) fn is_running(&self) -> bool
+        ensures { result ≡ is_running (state_of self.now) }
+    {
+        match self.end {
+            End::Running => true,
+            _ => false,
+        }
+    }
+
+    /// A thread that was taken out traps.
+    pub(crate) fn trap(&mut self, t: u16, trap: Trap)
+        requires { IsTaken self.old.crew t }
+        ensures state { state_of self.new ≡ trapped (state_of self.old) t trap }
+        ensures program { self.new.program ≡ self.old.program }
+        ensures store { self.new.store ≡ self.old.store }
+    {
+        self.crew.end(t);
+        self.end = End::Trapped(trap);
+    }
+
+    /// A thread that was taken out stops where its burst paused.
+    pub(crate) fn stop(&mut self, t: u16, pause: Pause<'m>)
+        requires taken { IsTaken self.old.crew t }
+        requires program { module_of self.old.program.now ≡ self.old.store.program }
+        requires stands { StandsAt self.old.store.program pause }
+        ensures state { state_of self.new ≡ stopped (state_of self.old) t (stop_of pause.entry) }
+        ensures program { self.new.program ≡ self.old.program }
+        ensures store { self.new.store ≡ self.old.store }
+    {
+        match pause {
+            Pause::AtCall(strand, site) => match import_kind(self.program, site.func) {
+                Some(kind) => {
+                    let call = call_at(kind, site);
+                    self.crew.put(t, Waiting { call, strand });
+                }
+                None => self.trap(t, Trap::Unreachable),
+            },
+            Pause::Ended => self.finish(t),
+            Pause::Trapped(trap) => self.trap(t, trap),
+        }
+    }
+
+    /// A thread that was taken out has called `exit` with this code.
+    pub(crate) fn exit(&mut self, t: u16, code: u64)
+        requires { IsTaken self.old.crew t }
+        ensures state { state_of self.new ≡ exited (state_of self.old) t code }
+        ensures program { self.new.program ≡ self.old.program }
+        ensures store { self.new.store ≡ self.old.store }
+    {
+        self.crew.end(t);
+        let bits = (code % 0x1_0000_0000) as u32;
+        self.end = End::Exited(bits.cast_signed());
+    }
+
+    /// Equal parts.
+    pub(crate) fn copy(&self, alloc: Global) -> Result<Parts<'m>, AllocError>
+        ensures { IfOk result (λ p. p ≡ self.now) }
+    {
+        Ok(Parts {
+            program: self.program,
+            who: self.who,
+            count: self.count,
+            store: self.store.copy()?,
+            crew: self.crew.copy(alloc)?,
+            handlers: self.handlers,
+            clock: self.clock,
+            events: self.events,
+            end: self.end,
+        })
+    }
+
+    fn finish(&mut self, t: u16)
+        requires { IsTaken self.old.crew t }
+        ensures state { state_of self.new ≡ stopped (state_of self.old) t Ends }
+        ensures program { self.new.program ≡ self.old.program }
+        ensures store { self.new.store ≡ self.old.store }
+    {
+        self.crew.end(t);
+        if is_all_over(&self.crew) {
+            self.end = End::Finished;
+        }
+    }
+}
+
+#[tactic(auto, using(crate::proofs::Over::over_more, crate::proofs::Over::not_over))]
+fn is_all_over(crew: &Crew<Waiting<'_>>) -> bool
+    ensures { result ≡ all_over crew.now.threads }
+{
+    for t in 0..crew.made() {
+        if crew.status(t) != Status::Ended {
+            return false;
+        }
+    }
+    true
+}

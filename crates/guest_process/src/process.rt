@@ -1,0 +1,239 @@
+// A process.
+ghost use Rattle.std.specs.Prelude.{◌≡◌, ◌≢◌, ◌<◌, ◌≤◌, ◌^◌, IfOk, Err, None, Some, Option, option_copied, option_map, length, slice_get, is_some};
+ghost use Rattle.coop_threads.specs.Crew.{status_of};
+ghost use Rattle.lib_calls.specs.Entry.{entry_of};
+ghost use Rattle.wasm_types.specs.Modules.{module_of};
+ghost use Rattle.wasm_step.specs.Fits.{Suits};
+ghost use Rattle.wasm_step.specs.Start.{start as store_of};
+ghost use Rattle.guest_process.specs.Answers.{Answer, need};
+ghost use Rattle.guest_process.specs.Fits.{StateFits};
+ghost use Rattle.guest_process.specs.GoesOn.{handler as handler_of};
+ghost use Rattle.guest_process.specs.Kinds.{kind_of};
+ghost use Rattle.guest_process.specs.Legal.{reason};
+ghost use Rattle.guest_process.specs.Next.{next};
+ghost use Rattle.guest_process.specs.Seen.{able, answered_at, plain, refused};
+ghost use Rattle.guest_process.specs.Start.{start};
+ghost use Rattle.guest_process.specs.State.{thread_at};
+
+use crate::answer::handler;
+use crate::divergence::Divergence;
+use crate::end::End;
+use crate::need::Need;
+use crate::parts::Parts;
+use crate::waiting::Waiting;
+use coop_threads::{Crew, Status};
+use guest_memory::Memory;
+use lib_calls::{Call, EntryView};
+use signal_points::Handlers;
+use std::alloc::{AllocError, Global};
+use std::marker::Model;
+use wasm_step::{StartError, Store, Strand};
+use wasm_types::{ValidModule, Value};
+
+/// A process of a guest.
+#[derive(Drop)]
+pub struct Process<'m> {
+    pub(crate) parts: Parts<'m>,
+}
+
+impl<'m> Model for Process<'m> {
+    ghost use Rattle.std.specs.Coded.{codes};
+    ghost use Rattle.wasm_step.specs.Coding.{trees_code};
+    ghost use Rattle.coop_threads.specs.Crew.{crew_code};
+    ghost use Rattle.guest_process.specs.Seen.{IsProcess, state_of};
+    ghost use Rattle.guest_process.specs.State.{State};
+
+    ghost Value = { State };
+
+    ghost coded = { Prim.hlevel (codes, trees_code, crew_code) };
+
+    ghost view = { λ p. state_of p.parts };
+
+    ghost invariant = { λ p. IsProcess p.parts };
+}
+
+impl<'m> Process<'m> {
+    /// Process `who` of a group of `count`, whose thread 0 stands at `begin`. `BadSegment` comes exactly
+    /// where an element segment ends past the table or a data segment past the memory, unless memory is
+    /// wanting before.
+    pub fn start(
+        alloc: Global,
+        program: &'m ValidModule,
+        who: u32,
+        count: u32,
+    ) -> Result<Process<'m>, StartError>
+        requires who { who < count }
+        requires count { count ≤ 16 }
+        ensures ok { IfOk result (λ p. start (module_of program.now) who count ≡ Some p) }
+        ensures bad { (result ≡ Err StartError.BadSegment) → start (module_of program.now) who count ≡ None }
+    {
+        match Store::start(alloc, program) {
+            Ok(store) => match begin(alloc, program, who, count, store) {
+                Ok(process) => Ok(process),
+                Err(AllocError) => Err(StartError::NoMemory),
+            },
+            Err(error) => Err(error),
+        }
+    }
+
+    /// Whether the process runs, and how it ended.
+    pub fn end(&self) -> End
+        ensures { result ≡ self.now.end }
+    {
+        self.parts.end
+    }
+
+    /// The pending call of a thread. `None` comes exactly where the process is not running or the thread
+    /// is not live.
+    pub fn pending(&self, t: u16) -> Option<&Call>
+        ensures { option_copied result ≡ option_map (λ w. w.call) (able self.now t) }
+    {
+        if !self.parts.is_running() {
+            return None;
+        }
+        match self.parts.crew.get(t) {
+            Some(waiting) => Some(&waiting.call),
+            None => None,
+        }
+    }
+
+    /// What the answer to the pending call of a thread depends on. `None` comes exactly where the
+    /// process is not running or the thread is not live.
+    pub fn need(&self, t: u16) -> Option<Need>
+        ensures { result ≡ option_map (λ w. plain (need (kind_of w.call.kind) self.now t w.call)) (able self.now t) }
+    {
+        match self.pending(t) {
+            Some(call) => Some(self.parts.need(t, call)),
+            None => None,
+        }
+    }
+
+    /// Whether a signal has a handler once the pending call of thread t is answered, however it is.
+    #[tactic(auto, using(crate::proofs::Judging::same_handlers_at))]
+    pub fn handles_after(&self, t: u16, s: u8) -> bool
+        ensures { (a : Answer) → result ≡ is_some (handler_of (answered_at self.now t a (thread_at self.now t)).handlers s) }
+    {
+        let _ = t;
+        handler(&self.parts.handlers, s).is_some()
+    }
+
+    /// Whether the entry can be the process's next event, and else the first condition that fails, in
+    /// the order of `Divergence`. It takes no memory.
+    pub fn legal(&self, entry: &EntryView<'_>) -> Result<(), Divergence>
+        ensures { refused result ≡ reason self.now (entry_of entry.now) }
+    {
+        if !self.parts.is_running() {
+            return Err(Divergence::AfterEnd);
+        }
+        match self.parts.crew.get(entry.thread) {
+            Some(waiting) => self.parts.judge(entry, &waiting.call),
+            None => Err(Divergence::NoThread),
+        }
+    }
+
+    /// The process after the event of a legal entry. Another thread's strand stays as it was.
+    #[tactic(auto, using(crate::proofs::Advancing::process_kept))]
+    pub fn advance(self, entry: &EntryView<'_>) -> Result<Process<'m>, AllocError>
+        requires legal { reason self (entry_of entry.now) ≡ None }
+        requires few { self.events < 2 ^ 61 }
+        ensures { IfOk result (λ p. p ≡ next self.entry (entry_of entry.now)) }
+    {
+        let parts = self.parts.advance(entry)?;
+        Ok(Process { parts })
+    }
+
+    /// The memory, which is empty where the program has none.
+    pub fn memory(&self) -> &Memory
+        ensures { result.now ≡ self.now.store.memory }
+    {
+        self.parts.store.memory()
+    }
+
+    /// The value of a global. `None` comes exactly where the program has no global of that index.
+    pub fn global(&self, n: u32) -> Option<Value>
+        ensures { result ≡ slice_get self.now.store.globals n }
+    {
+        self.parts.store.global(n)
+    }
+
+    /// The clock of the last event, or 0 before the first.
+    pub fn clock(&self) -> u64
+        ensures { result ≡ self.now.clock }
+    {
+        self.parts.clock
+    }
+
+    /// How many events there were.
+    pub fn events(&self) -> u64
+        ensures count { result ≡ self.now.events }
+        ensures fits { StateFits self.now }
+    {
+        self.parts.events
+    }
+
+    /// How many threads were made.
+    pub fn threads(&self) -> u16
+        ensures { result ≡ length self.now.crew.threads }
+    {
+        self.parts.crew.made()
+    }
+
+    /// How a thread stands.
+    #[tactic(auto, using(crate::proofs::Advancing::none_taken))]
+    pub fn status(&self, t: u16) -> Status
+        ensures status { result ≡ status_of (slice_get self.now.crew.threads t) }
+        ensures here { result ≢ Status.Taken }
+    {
+        self.parts.crew.status(t)
+    }
+
+    /// An equal process.
+    pub fn copy(&self, alloc: Global) -> Result<Process<'m>, AllocError>
+        ensures { IfOk result (λ p. p ≡ self.now) }
+    {
+        let parts = self.parts.copy(alloc)?;
+        Ok(Process { parts })
+    }
+}
+
+// The process before its first event.
+#[tactic(auto, using(crate::proofs::Starting::is_process))]
+fn begin<'m>(
+    alloc: Global,
+    program: &'m ValidModule,
+    who: u32,
+    count: u32,
+    store: Store<'m>,
+) -> Result<Process<'m>, AllocError>
+    requires who { who < count }
+    requires count { count ≤ 16 }
+    requires store { store_of (module_of program.now) ≡ Some store }
+    requires suits { Suits store }
+    ensures { IfOk result (λ p. start (module_of program.now) who count ≡ Some p) }
+{
+    let call = Call {
+        kind: 0,
+        a0: 0,
+        a1: 0,
+        a2: 0,
+    };
+    let strand = Strand::first(alloc, program)?;
+    let mut crew = Crew::new(alloc);
+    match crew.spawn(Waiting { call, strand }) {
+        Ok(_) => {}
+        Err(_) => return Err(AllocError),
+    }
+    let _ = program.module();
+    let parts = Parts {
+        program,
+        who,
+        count,
+        store,
+        crew,
+        handlers: Handlers::new(),
+        clock: 0,
+        events: 0,
+        end: End::Running,
+    };
+    Ok(Process { parts })
+}
