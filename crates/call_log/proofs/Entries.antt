@@ -2,7 +2,8 @@
 use Rattle.std.proofs.Common.{◌≡◌, ℕ, zero, suc, ◌+◌, ◌≤◌, ◌⊎◌, inl, inr, List, [], ◌∷◌, ◌++◌, length, Option, Some, None, refl, sym, ap, ◌∙◌, arith, length-append, append_assoc}
 use Rattle.std.specs.Prelude.{All}
 use Rattle.std.proofs.lemmas.List.Elements.{All-nil, All-cons, All-head, All-tail}
-use Rattle.call_log.specs.Entry.{Entry, IsShaped, BeginsNoEntry, encoding, encodings}
+use Rattle.lib_calls.specs.declared.entry.Entry.{Entry}
+use Rattle.call_log.specs.Entry.{IsLogged, BeginsNoEntry, encoding, encodings}
 use Rattle.call_log.specs.Log.{Holds, entry_at, entry_then, entries_of, entries_within, rest_of, rest_then, rest_within}
 use Rattle.call_log.proofs.EntryLaws.{entry_at-begins, entry_at-found, entry_at-none}
 use Rattle.call_log.proofs.Sizes.{length-encoding}
@@ -15,7 +16,7 @@ shorter bytes e rest begins = omega (arith, ap length begins, length-append (enc
 pub record Begins (bytes : List ℕ) : Type 0 where
   pub entry : Entry
   pub rest : List ℕ
-  pub shaped : IsShaped entry
+  pub shaped : IsLogged entry
   pub spelled : bytes ≡ encoding entry ++ rest
 
 cases : (bytes : List ℕ) (o : Option (Entry × List ℕ)) → entry_at bytes ≡ o → Begins bytes ⊎ BeginsNoEntry bytes
@@ -80,7 +81,7 @@ unfolding rest_of rest_within
 rest-step bytes = rest-limit (length bytes) (suc (length bytes)) bytes (omega arith) (omega arith)
 
 -- the entry that stands in front is the first of all
-pub entries_of-next : (bytes : List ℕ) (e : Entry) (rest : List ℕ) → IsShaped e → bytes ≡ encoding e ++ rest → entries_of bytes ≡ e ∷ entries_of rest
+pub entries_of-next : (bytes : List ℕ) (e : Entry) (rest : List ℕ) → IsLogged e → bytes ≡ encoding e ++ rest → entries_of bytes ≡ e ∷ entries_of rest
 unfolding entries_of
 entries_of-next bytes e rest shaped begins =
     let less = shorter bytes e rest begins in
@@ -89,7 +90,7 @@ entries_of-next bytes e rest shaped begins =
     ∙ ap (λ (es : List Entry). e ∷ es) (entries-limit (length bytes) (length rest) rest (omega arith) (omega arith))
 
 -- and the bytes behind all entries are those behind the others
-pub rest_of-next : (bytes : List ℕ) (e : Entry) (rest : List ℕ) → IsShaped e → bytes ≡ encoding e ++ rest → rest_of bytes ≡ rest_of rest
+pub rest_of-next : (bytes : List ℕ) (e : Entry) (rest : List ℕ) → IsLogged e → bytes ≡ encoding e ++ rest → rest_of bytes ≡ rest_of rest
 unfolding rest_of
 rest_of-next bytes e rest shaped begins =
     let less = shorter bytes e rest begins in
@@ -108,16 +109,16 @@ rest_of-end bytes none = rest-step bytes ∙ ap (rest_then (rest_within (length 
 -- ---- the two functions give what the bytes hold, and nothing else is held
 
 -- one more entry in front
-pub Holds-next : (bytes : List ℕ) (e : Entry) (rest : List ℕ) (entries : List Entry) (left : List ℕ) → IsShaped e → bytes ≡ encoding e ++ rest → Holds rest entries left → Holds bytes (e ∷ entries) left
+pub Holds-next : (bytes : List ℕ) (e : Entry) (rest : List ℕ) (entries : List Entry) (left : List ℕ) → IsLogged e → bytes ≡ encoding e ++ rest → Holds rest entries left → Holds bytes (e ∷ entries) left
 Holds-next bytes e rest entries left shaped begins h = record {
-  shaped = All-cons IsShaped e entries shaped h.shaped;
+  shaped = All-cons IsLogged e entries shaped h.shaped;
   spelled = begins ∙ ap (λ (t : List ℕ). encoding e ++ t) h.spelled ∙ sym (append_assoc (encoding e) (encodings entries) left);
   longest = h.longest;
 }
 
 none_held : (bytes : List ℕ) → BeginsNoEntry bytes → Holds bytes (entries_of bytes) (rest_of bytes)
 none_held bytes none =
-    let h : Holds bytes [] bytes = record { shaped = All-nil IsShaped; spelled = refl; longest = none } in
+    let h : Holds bytes [] bytes = record { shaped = All-nil IsLogged; spelled = refl; longest = none } in
     rw (entries_of-end bytes none, rest_of-end bytes none) h
 
 holds-limit : (n : ℕ) (bytes : List ℕ) → length bytes ≤ n → Holds bytes (entries_of bytes) (rest_of bytes)
@@ -142,9 +143,9 @@ holds_once bytes [] rest h =
     let none : BeginsNoEntry bytes = λ e after shaped begins. h.longest e after shaped (sym h.spelled ∙ begins) in
     (sym (entries_of-end bytes none), sym h.spelled ∙ sym (rest_of-end bytes none))
 holds_once bytes (e ∷ entries) rest h =
-    let shaped : IsShaped e = All-head IsShaped e entries h.shaped in
+    let shaped : IsLogged e = All-head IsLogged e entries h.shaped in
     let begins : bytes ≡ encoding e ++ (encodings entries ++ rest) = h.spelled ∙ append_assoc (encoding e) (encodings entries) rest in
-    let behind : Holds (encodings entries ++ rest) entries rest = record { shaped = All-tail IsShaped e entries h.shaped; spelled = refl; longest = h.longest } in
+    let behind : Holds (encodings entries ++ rest) entries rest = record { shaped = All-tail IsLogged e entries h.shaped; spelled = refl; longest = h.longest } in
     let more = holds_once (encodings entries ++ rest) entries rest behind in (
       ap (λ (es : List Entry). e ∷ es) more.0 ∙ sym (entries_of-next bytes e (encodings entries ++ rest) shaped begins),
       more.1 ∙ sym (rest_of-next bytes e (encodings entries ++ rest) shaped begins),
@@ -152,19 +153,19 @@ holds_once bytes (e ∷ entries) rest h =
 
 -- ---- entries that were written one after the other are those that are read, and then those behind them
 
-pub entries_of-encodings : (entries : List Entry) (rest : List ℕ) → All IsShaped entries → entries_of (encodings entries ++ rest) ≡ entries ++ entries_of rest
+pub entries_of-encodings : (entries : List Entry) (rest : List ℕ) → All IsLogged entries → entries_of (encodings entries ++ rest) ≡ entries ++ entries_of rest
 entries_of-encodings [] rest shaped = refl
 entries_of-encodings (e ∷ entries) rest shaped =
-    let first : IsShaped e = All-head IsShaped e entries shaped in
+    let first : IsLogged e = All-head IsLogged e entries shaped in
     entries_of-next (encodings (e ∷ entries) ++ rest) e (encodings entries ++ rest) first (append_assoc (encoding e) (encodings entries) rest)
-    ∙ ap (λ (es : List Entry). e ∷ es) (entries_of-encodings entries rest (All-tail IsShaped e entries shaped))
+    ∙ ap (λ (es : List Entry). e ∷ es) (entries_of-encodings entries rest (All-tail IsLogged e entries shaped))
 
-pub rest_of-encodings : (entries : List Entry) (rest : List ℕ) → All IsShaped entries → rest_of (encodings entries ++ rest) ≡ rest_of rest
+pub rest_of-encodings : (entries : List Entry) (rest : List ℕ) → All IsLogged entries → rest_of (encodings entries ++ rest) ≡ rest_of rest
 rest_of-encodings [] rest shaped = refl
 rest_of-encodings (e ∷ entries) rest shaped =
-    let first : IsShaped e = All-head IsShaped e entries shaped in
+    let first : IsLogged e = All-head IsLogged e entries shaped in
     rest_of-next (encodings (e ∷ entries) ++ rest) e (encodings entries ++ rest) first (append_assoc (encoding e) (encodings entries) rest)
-    ∙ rest_of-encodings entries rest (All-tail IsShaped e entries shaped)
+    ∙ rest_of-encodings entries rest (All-tail IsLogged e entries shaped)
 
 -- no bytes hold no entry
 pub nothing_begins : BeginsNoEntry []

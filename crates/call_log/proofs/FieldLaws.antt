@@ -9,9 +9,10 @@ use Rattle.lamport_tag.specs.declared.Tag.{Tag}
 use Rattle.fri_bytes.specs.Reading.{byte_at, piece_at, le_at}
 use Rattle.fri_bytes.proofs.Readers.{bind_some, chosen, piece_reads, rest_in_range}
 use Rattle.fri_bytes.proofs.Le.{le_at-to_le_bytes, le_at_spelled}
-use Rattle.call_log.specs.declared.entry.Call.{Call}
-use Rattle.call_log.specs.Kind.{argument_count}
-use Rattle.call_log.specs.Entry.{IsNumberIf, IsStringIf, IsTagIf, HasArguments, number_if, string_if, flagged, tag_if, argument_bytes}
+use Rattle.lib_calls.specs.declared.entry.Call.{Call}
+use Rattle.lib_calls.specs.Kinds.{argument_count}
+use Rattle.lib_calls.specs.Entry.{IsNumberIf, IsStringIf, IsTagIf, HasArguments}
+use Rattle.call_log.specs.Entry.{number_if, string_if, flagged, tag_if, argument_bytes}
 use Rattle.call_log.specs.Reading.{number_if_at, call_at, string_at, string_if_at, tag_at, flagged_at, tag_if_at}
 
 -- each item of the list is a byte

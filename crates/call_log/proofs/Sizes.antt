@@ -5,9 +5,11 @@ use Rattle.std.specs.Int.{w16, w32, w64, to_le_bytes}
 use Rattle.std.specs.List.{concat}
 use Rattle.std.proofs.lemmas.Bool.Decides.{nat_tests}
 use Rattle.lamport_tag.specs.declared.Tag.{Tag}
-use Rattle.call_log.specs.declared.entry.Call.{Call}
-use Rattle.call_log.specs.Kind.{argument_count, has_outgoing, has_incoming, has_tag}
-use Rattle.call_log.specs.Entry.{Entry, IsShaped, IsStringIf, body, encoding, argument_bytes, number_if, string_if, tag_if}
+use Rattle.lib_calls.specs.declared.entry.Call.{Call}
+use Rattle.lib_calls.specs.Kinds.{argument_count, has_outgoing, has_incoming, has_tag}
+use Rattle.lib_calls.specs.declared.entry.Entry.{Entry}
+use Rattle.lib_calls.specs.Entry.{IsStringIf, IsShaped}
+use Rattle.call_log.specs.Entry.{body, encoding, argument_bytes, number_if, string_if, tag_if}
 
 abbrev total_length : List (List ℕ) → ℕ
 total_length [] = 0

@@ -2,9 +2,11 @@
 use Rattle.std.specs.Prelude.{◌≡◌, ℕ, zero, suc, ◌^◌, Bool, true, ◌&&◌, not, nat_eq, nat_lt, nat_le, if◌then◌else◌, List, [], ◌∷◌, ◌++◌, length, drop, slice_index, Option, Some, None, option_and_then, All}
 use Rattle.std.specs.List.{starts_with}
 use Rattle.lamport_tag.specs.declared.Tag.{Tag}
-use Rattle.call_log.specs.declared.entry.Call.{Call}
-use Rattle.call_log.specs.Kind.{is_built, argument_count, has_outgoing, has_incoming, has_tag}
-use Rattle.call_log.specs.Entry.{Entry, IsShaped, BeginsNoEntry, encoding, encodings}
+use Rattle.lib_calls.specs.declared.entry.Call.{Call}
+use Rattle.lib_calls.specs.Kinds.{argument_count, has_outgoing, has_incoming, has_tag}
+use Rattle.call_log.specs.Kind.{is_built}
+use Rattle.lib_calls.specs.declared.entry.Entry.{Entry}
+use Rattle.call_log.specs.Entry.{IsLogged, BeginsNoEntry, encoding, encodings}
 use Rattle.call_log.specs.Head.{Head, head_bytes}
 use Rattle.fri_text.specs.Name.{is_name}
 use Rattle.call_log.specs.Reading.{read_entry, read_head}
@@ -16,7 +18,7 @@ pub record Log : Type 0 where
 
 -- the bytes are these entries and then the rest, and there is no longer list of entries
 pub record Holds (bytes : List ℕ) (entries : List Entry) (rest : List ℕ) : Type 0 where
-  pub shaped : All IsShaped entries
+  pub shaped : All IsLogged entries
   pub spelled : bytes ≡ encodings entries ++ rest
   pub longest : BeginsNoEntry rest
 
@@ -47,9 +49,9 @@ has_arguments call =
     && is_number_if (nat_lt 1 (argument_count call.kind)) call.a1
     && is_number_if (nat_lt 2 (argument_count call.kind)) call.a2
 
--- the test of `IsShaped`
-unfoldable pub is_shaped : Entry → Bool
-is_shaped e =
+-- the test of `IsLogged`
+unfoldable pub is_logged : Entry → Bool
+is_logged e =
     is_built e.call.kind
     && nat_lt e.clock (2 ^ 64)
     && nat_lt e.thread (2 ^ 16)
@@ -63,7 +65,7 @@ is_shaped e =
 -- the entry, where it is one and the bytes begin with its encoding, and the bytes behind it
 unfoldable pub entry_in : List ℕ → Entry → Option (Entry × List ℕ)
 entry_in bytes e =
-    if is_shaped e && starts_with nat_eq bytes (encoding e) then Some (e, drop (length (encoding e)) bytes) else None
+    if is_logged e && starts_with nat_eq bytes (encoding e) then Some (e, drop (length (encoding e)) bytes) else None
 
 -- the entry at the front of the bytes and the bytes behind it, or nothing where none stands there
 unfoldable pub entry_at : List ℕ → Option (Entry × List ℕ)

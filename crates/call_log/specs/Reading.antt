@@ -5,9 +5,10 @@ use Rattle.std.specs.Str.{bytes_eq}
 use Rattle.std.specs.Int.{w16, w32, w64}
 use Rattle.fri_bytes.specs.Reading.{byte_at, piece_at, le_at, Reading}
 use Rattle.lamport_tag.specs.declared.Tag.{Tag}
-use Rattle.call_log.specs.declared.entry.Call.{Call}
-use Rattle.call_log.specs.Kind.{is_built, argument_count, has_outgoing, has_incoming, has_tag}
-use Rattle.call_log.specs.Entry.{Entry}
+use Rattle.lib_calls.specs.declared.entry.Call.{Call}
+use Rattle.lib_calls.specs.Kinds.{argument_count, has_outgoing, has_incoming, has_tag}
+use Rattle.call_log.specs.Kind.{is_built}
+use Rattle.lib_calls.specs.declared.entry.Entry.{Entry}
 use Rattle.call_log.specs.Head.{Head}
 use Rattle.fri_text.specs.Name.{is_name}
 

@@ -1,42 +1,18 @@
-// An entry of a log.
+// Reading an entry of a log.
 ghost use Rattle.std.specs.Prelude.{◌≡◌, ◌++◌, IfSome, IfNone, option_map};
-ghost use Rattle.call_log.specs.Entry.{BeginsNoEntry, IsShaped, encoding, entry_of};
+ghost use Rattle.lib_calls.specs.Entry.{entry_of};
+ghost use Rattle.call_log.specs.Entry.{BeginsNoEntry, IsLogged, encoding};
 ghost use Rattle.call_log.specs.Reading.{Gives, body_at, read_entry as entry_read};
 
 use crate::fields::{
     has_incoming, has_outgoing, has_tag, is_built, read_call, read_string_if, read_tag_if,
 };
 use fri_bytes::Cursor;
-use lamport_tag::Tag;
-
-/// A library call: its kind, and its arguments as far as the kind has them, else 0. An argument of 32
-/// bits has zeros above.
-#[derive(Clone, Copy, Debug, PartialEq, Eq)]
-pub struct Call {
-    pub kind: u8,
-    pub a0: u64,
-    pub a1: u64,
-    pub a2: u64,
-}
-
-/// An entry of a log, which lends the log's bytes: an event's Lamport clock, the thread that made it,
-/// the signal that was delivered with it (0 for none), the call that was answered with its reply, the
-/// bytes that went out and came in, and the tag of the datagram that was taken.
-#[derive(Clone, Copy, Debug, PartialEq, Eq)]
-pub struct EntryView<'a> {
-    pub clock: u64,
-    pub thread: u16,
-    pub signal: u8,
-    pub call: Call,
-    pub reply: u64,
-    pub outgoing: &'a [u8],
-    pub incoming: &'a [u8],
-    pub tag: Option<Tag>,
-}
+use lib_calls::EntryView;
 
 // The entry at the front of the bytes, and the bytes behind it.
 pub(crate) fn read_entry(bytes: &[u8]) -> Option<(EntryView<'_>, &[u8])>
-    ensures shaped { IfSome result (λ r. IsShaped (entry_of r.0)) }
+    ensures shaped { IfSome result (λ r. IsLogged (entry_of r.0)) }
     ensures spelled { IfSome result (λ r. bytes.now ≡ encoding (entry_of r.0) ++ r.1.now) }
     ensures none { IfNone result (BeginsNoEntry bytes.now) }
 {

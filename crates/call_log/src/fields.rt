@@ -1,22 +1,23 @@
 // Which fields an entry of each kind has, and reading the fields that not every entry has.
 ghost use Rattle.std.specs.Prelude.{◌≡◌, option_map};
-ghost use Rattle.call_log.specs.Kind.{argument_count as argument_count_of, has_incoming as has_incoming_of, has_outgoing as has_outgoing_of, has_tag as has_tag_of, is_built as is_built_of};
+ghost use Rattle.lib_calls.specs.Kinds.{argument_count as argument_count_of, has_incoming as has_incoming_of, has_outgoing as has_outgoing_of, has_tag as has_tag_of};
+ghost use Rattle.call_log.specs.Kind.{is_built as is_built_of};
 ghost use Rattle.call_log.specs.Reading.{Gives, call_at, flagged_at, number_if_at, string_at, string_if_at, tag_at, tag_if_at};
 
-use crate::entry::Call;
 use fri_bytes::Cursor;
 use lamport_tag::Tag;
+use lib_calls::Call;
 
-// The kinds of calls of which entries are read: begin, note and now.
+// The kinds of calls of which entries are read: begin, exit, note, now, sleep_until, me, yield and thread.
 #[tactic(auto, unfolding(crate::specs::Kind::is_built))]
 pub(crate) fn is_built(kind: u8) -> bool
     ensures { result ≡ is_built_of kind }
 {
-    kind == 0 || kind == 2 || kind == 4
+    matches!(kind, 0 | 1 | 2 | 4 | 5 | 7 | 12 | 17)
 }
 
 // How many arguments the calls of the kind have.
-#[tactic(auto, unfolding(crate::specs::Kind::argument_count))]
+#[tactic(auto, unfolding(lib_calls::specs::Kinds::argument_count))]
 pub(crate) fn argument_count(kind: u8) -> u8
     ensures { result ≡ argument_count_of kind }
 {
@@ -29,7 +30,7 @@ pub(crate) fn argument_count(kind: u8) -> u8
 }
 
 // Whether entries of the kind have the bytes that went out.
-#[tactic(auto, unfolding(crate::specs::Kind::has_outgoing))]
+#[tactic(auto, unfolding(lib_calls::specs::Kinds::has_outgoing))]
 pub(crate) fn has_outgoing(kind: u8) -> bool
     ensures { result ≡ has_outgoing_of kind }
 {
@@ -37,7 +38,7 @@ pub(crate) fn has_outgoing(kind: u8) -> bool
 }
 
 // Whether entries of the kind have the bytes that came in.
-#[tactic(auto, unfolding(crate::specs::Kind::has_incoming))]
+#[tactic(auto, unfolding(lib_calls::specs::Kinds::has_incoming))]
 pub(crate) fn has_incoming(kind: u8) -> bool
     ensures { result ≡ has_incoming_of kind }
 {
@@ -45,7 +46,7 @@ pub(crate) fn has_incoming(kind: u8) -> bool
 }
 
 // Whether entries of the kind may have the tag of a datagram.
-#[tactic(auto, unfolding(crate::specs::Kind::has_tag))]
+#[tactic(auto, unfolding(lib_calls::specs::Kinds::has_tag))]
 pub(crate) fn has_tag(kind: u8) -> bool
     ensures { result ≡ has_tag_of kind }
 {

@@ -9,7 +9,6 @@ mod put;
 mod tests;
 mod view;
 
-pub use entry::{Call, EntryView};
 pub use head::{BadHead, LogHead};
 pub use put::{entry_length, put_entry, put_head};
 pub use view::{LogView, stops_at_unbuilt};

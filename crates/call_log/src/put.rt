@@ -1,14 +1,15 @@
 // Writing the head and the entries of a log.
 ghost use Rattle.std.specs.Prelude.{◌≡◌, ◌^◌, ◌<◌, ◌≤◌, ◌++◌, [], length, map, take, OnOk, OnErr, if◌then◌else◌};
 ghost use Rattle.std.specs.List.{concat};
-ghost use Rattle.call_log.specs.Entry.{IsShaped, argument_bytes, front_bytes, reply_bytes, IsStringIf, IsTagIf, encoding, entry_of, string_if, tag_if};
+ghost use Rattle.lib_calls.specs.Entry.{IsStringIf, IsTagIf, entry_of, IsShaped};
+ghost use Rattle.call_log.specs.Entry.{argument_bytes, front_bytes, reply_bytes, encoding, string_if, tag_if};
 ghost use Rattle.call_log.specs.Head.{IsHead, head_bytes, head_of};
 
-use crate::entry::{Call, EntryView};
 use crate::fields::{argument_count, has_incoming, has_outgoing, has_tag};
 use crate::head::{LogHead, MAGIC, VERSION};
 use fri_bytes::put_bytes;
 use lamport_tag::Tag;
+use lib_calls::{Call, EntryView};
 use std::alloc::AllocError;
 
 /// Adds the head of a log.

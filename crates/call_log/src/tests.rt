@@ -1,4 +1,5 @@
 use super::*;
+use lib_calls::{Call, EntryView};
 use std::alloc::{AllocError, Global};
 
 // The log of a process `a` that began, asked for the time and noted it.
@@ -86,7 +87,7 @@ fn changed(place: usize, byte: u8) -> [u8; 98] {
 
 #[test]
 fn reads_changed_logs(rt: HostRuntime) {
-    // The entries in front of a changed one, where the change makes it none.
+    // The entries in front of a changed one, where the change makes it none, and else all.
     for (place, byte, want) in [
         (4, 2, None),
         (8, 0, None),
@@ -97,7 +98,15 @@ fn reads_changed_logs(rt: HostRuntime) {
         (32, 3, Some((0, 80))),
         (42, 19, Some((1, 56))),
         (66, 29, Some((2, 32))),
+        (56, 7, Some((3, 0))),
+        (56, 8, Some((1, 56))),
+        (56, 12, Some((3, 0))),
+        (56, 17, Some((3, 0))),
+        (56, 18, Some((1, 56))),
+        (80, 1, Some((3, 0))),
         (80, 4, Some((2, 32))),
+        (80, 5, Some((3, 0))),
+        (80, 13, Some((2, 32))),
     ] {
         let log = changed(place, byte);
         assert_eq!(rt; counted(&log), want, "{byte} at {place}");
@@ -113,7 +122,7 @@ fn reads_changed_logs(rt: HostRuntime) {
 
 #[test]
 fn tells_what_is_not_built(rt: HostRuntime) {
-    let log = changed(32, 1);
+    let log = changed(32, 3);
     for (bytes, want) in [
         (&log[18..], true),
         (&log[18..33], true),

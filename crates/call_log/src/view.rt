@@ -1,12 +1,14 @@
 // Reading a log from its front.
 ghost use Rattle.std.specs.Prelude.{◌≡◌, ◌++◌, None, Some, IfOk, OnErr, IfSome, IfNone};
-ghost use Rattle.call_log.specs.Entry.{BeginsNoEntry, IsShaped, encoding, entry_of};
+ghost use Rattle.lib_calls.specs.Entry.{entry_of};
+ghost use Rattle.call_log.specs.Entry.{BeginsNoEntry, IsLogged, encoding};
 ghost use Rattle.call_log.specs.Head.{BeginsNoHead, IsHead, head_bytes, head_of};
 ghost use Rattle.call_log.specs.Log.{head_at, stops_at_unbuilt as stops_at_unbuilt_of};
 
-use crate::entry::{EntryView, read_entry};
+use crate::entry::read_entry;
 use crate::fields::is_built;
 use crate::head::{BadHead, LogHead, read_head};
+use lib_calls::EntryView;
 use std::marker::Model;
 
 /// A log that is read from its front.
@@ -51,7 +53,7 @@ impl<'a> LogView<'a> {
     /// stands next, as at the end, in front of a cut entry or of one with a byte too many, and then the
     /// log stays where it is.
     pub fn next_entry(&mut self) -> Option<EntryView<'a>>
-        ensures shaped { IfSome result (λ e. IsShaped (entry_of e)) }
+        ensures shaped { IfSome result (λ e. IsLogged (entry_of e)) }
         ensures taken { IfSome result (λ e. self.old.left ≡ encoding (entry_of e) ++ self.new.left) }
         ensures none { IfNone result (BeginsNoEntry self.old.left) }
         ensures unchanged { IfNone result (self.new ≡ self.old) }

@@ -2,7 +2,8 @@
 use Rattle.std.proofs.Common.{◌≡◌, ◌⊎◌, ◌++◌, ℕ, List, Bool, false, cond, Option, Some, None, Result, Ok, Err, refl, sym, ap, inl, inr, ◌∙◌}
 use Rattle.fri_outside.specs.Outside.{Store, found_within}
 use Rattle.fri_outside.proofs.Stored.{within_held}
-use Rattle.wasm_types.specs.Code.{Trees}
+use Rattle.wasm_types.specs.Modules.{Module}
+use Rattle.wasm_decode.specs.Sections.{module_of_bytes}
 use Rattle.call_log.specs.Head.{Head, head_bytes}
 use Rattle.call_log.specs.Log.{head_at, rest_of, stops_at_unbuilt}
 use Rattle.call_log.proofs.Entries.{holds_once}
@@ -11,9 +12,9 @@ use Rattle.friday_app.specs.declared.status.Status.{Status}
 use Rattle.friday_app.specs.declared.status.Status.TheVariants as ends
 use Rattle.friday_app.specs.declared.refusal.Reason.TheVariants as reason
 use Rattle.friday_app.specs.Command.{Command, Record, Replay}
-use Rattle.friday_app.specs.Form.{form_of}
+use Rattle.guest_process.specs.State.{State}
 use Rattle.friday_app.specs.Outcome.{Work, Stop, and_then, file_of, given, refuses}
-use Rattle.friday_app.specs.Expected.{expected, module_of, log_of, body_or, head_or, process_of, schedule_in, schedule_or}
+use Rattle.friday_app.specs.Expected.{expected, module_of, begun_of, begun_or, log_of, spelled_or, unless_refused, valid_or, head_or, process_of, schedule_in, schedule_or}
 use Rattle.friday_app.specs.Record.{record_work}
 use Rattle.friday_app.specs.Report.{replay_work}
 use Rattle.schedule_text.specs.Reading.{schedule_of}
@@ -21,16 +22,21 @@ use Rattle.schedule_text.proofs.OutcomeLaws.{schedule_again}
 use Rattle.schedule_text.specs.Schedule.{Schedule}
 use Rattle.friday_app.specs.Call.{IsAnswer}
 use Rattle.friday_app.specs.Run.{Outside, Run, NoFault, Works}
-use Rattle.friday_app.specs.Valid.{IsValid, IsModuleFile, IsLogFile, IsScheduleFile, Stands}
-use Rattle.friday_app.proofs.FormLaws.{form_again}
+use Rattle.friday_app.specs.Valid.{IsValid, Begins, IsModuleFile, IsLogFile, IsScheduleFile, Stands}
+use Rattle.wasm_decode.proofs.ModuleLaws.{module_again}
+use Rattle.friday_app.proofs.Faults.{no_fault}
 
 stands_given : (store : Store) (name : List ℕ) (limit : ℕ) (bytes : List ℕ) → Stands store name limit bytes → file_of store name limit ≡ Ok bytes
 stands_given store name limit bytes h = ap (given name) (ap (found_within limit) h.held ∙ within_held limit bytes h.within)
 
-module_stands : (store : Store) (name : List ℕ) (h : IsModuleFile store name) → module_of store name ≡ Ok h.body
+module_stands : (store : Store) (name : List ℕ) (h : IsModuleFile store name) → module_of store name ≡ Ok h.«module»
 module_stands store name h =
-    ap (λ (r : Result (List ℕ) Stop). and_then r (λ bytes. body_or name (form_of bytes))) (stands_given store name 4194304 h.bytes h.stands)
-    ∙ ap (body_or name) (form_again h.bytes h.body h.form)
+    ap (λ (r : Result (List ℕ) Stop). and_then r (λ bytes. and_then (spelled_or name (module_of_bytes bytes)) (valid_or name))) (stands_given store name 4194304 h.bytes h.stands)
+    ∙ ap (λ (m : Option Module). and_then (spelled_or name m) (valid_or name)) (module_again h.bytes h.«module» h.spelled)
+    ∙ ap (unless_refused name h.«module») (no_fault h.«module» h.valid)
+
+begins_at : (name : List ℕ) (m : Module) (who count : ℕ) (h : Begins m who count) → begun_of name m who count ≡ Ok h.0
+begins_at name m who count h = ap (begun_or name) h.1
 
 log_stands : (store : Store) (name : List ℕ) (h : IsLogFile store name) → log_of store name ≡ Ok (h.head, h.left)
 log_stands store name h =
@@ -45,15 +51,17 @@ schedule_stands store name schedule h =
     ∙ ap (schedule_or name) (schedule_again h.bytes schedule h.spelled h.few)
 
 valid_works : (command : Command) (store : Store) (left : Option (List ℕ)) → IsValid (Some command) store left → (work : Work) × (expected (Some command) (Some store) left ≡ Some (Ok work))
-valid_works (Record schedule_name) store left (schedule, s, m) = (
-  record_work (process_of schedule).name m.body schedule.items,
-  ap Some (ap (λ (r : Result Schedule Stop). and_then r (λ schedule. and_then (module_of store (process_of schedule).«module») (λ body. Ok (record_work (process_of schedule).name body schedule.items)))) (schedule_stands store schedule_name schedule s)
-      ∙ ap (λ (r : Result Trees Stop). and_then r (λ body. Ok (record_work (process_of schedule).name body schedule.items))) (module_stands store (process_of schedule).«module» m)),
+valid_works (Record schedule_name) store left (schedule, s, w) = let m = w.0 in let b = w.1 in (
+  record_work (process_of schedule).name b.0 schedule.items,
+  ap Some (ap (λ (r : Result Schedule Stop). and_then r (λ schedule. and_then (module_of store (process_of schedule).«module») (λ m. and_then (begun_of (process_of schedule).«module» m 0 1) (λ begun. Ok (record_work (process_of schedule).name begun schedule.items))))) (schedule_stands store schedule_name schedule s)
+      ∙ ap (λ (r : Result Module Stop). and_then r (λ m. and_then (begun_of (process_of schedule).«module» m 0 1) (λ begun. Ok (record_work (process_of schedule).name begun schedule.items)))) (module_stands store (process_of schedule).«module» m)
+      ∙ ap (λ (r : Result State Stop). and_then r (λ begun. Ok (record_work (process_of schedule).name begun schedule.items))) (begins_at (process_of schedule).«module» m.«module» 0 1 b)),
 )
-valid_works (Replay module_name log_name) store left (m, l) = (
-  replay_work m.body l.head l.left,
-  ap Some (ap (λ (r : Result Trees Stop). and_then r (λ body. and_then (log_of store log_name) (λ log. Ok (replay_work body log.0 log.1)))) (module_stands store module_name m)
-      ∙ ap (λ (r : Result (Head × List ℕ) Stop). and_then r (λ log. Ok (replay_work m.body log.0 log.1))) (log_stands store log_name l)),
+valid_works (Replay module_name log_name) store left (m, w) = let l = w.0 in let b = w.1 in (
+  replay_work b.0 l.head l.left,
+  ap Some (ap (λ (r : Result Module Stop). and_then r (λ m. and_then (log_of store log_name) (λ log. and_then (begun_of module_name m log.0.process log.0.count) (λ begun. Ok (replay_work begun log.0 log.1))))) (module_stands store module_name m)
+      ∙ ap (λ (r : Result (Head × List ℕ) Stop). and_then r (λ log. and_then (begun_of module_name m.«module» log.0.process log.0.count) (λ begun. Ok (replay_work begun log.0 log.1)))) (log_stands store log_name l)
+      ∙ ap (λ (r : Result State Stop). and_then r (λ begun. Ok (replay_work begun l.head l.left))) (begins_at module_name m.«module» l.head.process l.head.count b)),
 )
 
 settled : (answer wanted : Status) → (IsAnswer answer → answer ≡ wanted) → (answer ≡ ends.ReadFault → ⊥) → (answer ≡ ends.WriteFault → ⊥) → (answer ≡ wanted) ⊎ (answer ≡ ends.NoMemory)

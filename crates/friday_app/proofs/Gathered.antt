@@ -1,5 +1,5 @@
 -- What `record` says of its result, from what it gathered.
-use Rattle.std.proofs.Common.{◌≡◌, ◌⊎◌, ℕ, List, [], ◌∷◌, Option, Some, option_map, Ok, Err, Result, take, sym, ap, subst, ◌∙◌, string_bytes, ◌≤◌, length, arith}
+use Rattle.std.proofs.Common.{◌≡◌, ◌⊎◌, ℕ, List, [], ◌∷◌, Option, Some, None, option_map, Ok, Err, Result, take, sym, ap, subst, ◌∙◌, string_bytes, ◌≤◌, length, arith}
 use Rattle.std.specs.Prelude.{All}
 use Rattle.std.specs.FinMap.{get}
 use Rattle.std.proofs.lemmas.Option.{same_Some}
@@ -10,12 +10,13 @@ use Rattle.fri_outside.specs.declared.files.WriteError.TheVariants as writing
 use Rattle.friday_app.specs.declared.refusal.Answer.TheVariants as answered
 use Rattle.friday_app.specs.declared.refusal.Refusal.{Refusal}
 use Rattle.friday_app.specs.declared.summary.Recorded.{Recorded}
-use Rattle.wasm_types.specs.Code.{Trees}
+use Rattle.wasm_types.specs.Modules.{Module}
+use Rattle.guest_process.specs.State.{State}
 use Rattle.schedule_text.specs.declared.item.Item.{Item}
 use Rattle.schedule_text.specs.declared.process.ProcessLine.{ProcessLine}
 use Rattle.schedule_text.specs.Schedule.{Schedule, IsProcess}
 use Rattle.friday_app.specs.declared.refusal.Refusal.TheVariants as refusal
-use Rattle.friday_app.specs.Expected.{first_or, module_of, process_of, record_outcome, schedule_in}
+use Rattle.friday_app.specs.Expected.{begun_of, begun_or, first_or, module_of, process_of, record_outcome, schedule_in}
 use Rattle.friday_app.specs.Record.{log_name, record_work}
 use Rattle.friday_app.specs.Agreement.{HoldsRecording, IsRecordingOf, LeavesRecording}
 use Rattle.friday_app.specs.Outcome.{Outcome, Stop, and_then, writes_of, with_files}
@@ -84,7 +85,7 @@ part_makes f told middle after recorded name bytes error file does same part o i
     let h = outcome_at f told o is in
     failed_makes error (writes_of o) told after (subst (λ (o : Outcome). ChangesOnly told (writes_of o) after) (sym h.2) (part_writes f told middle after recorded name bytes file does same part h.0 h.1))
 
-stops_then : {A B : Type 0} (r : Result A Stop) (next : A → Result B Stop) (e : Refusal) → StopsAs r e → StopsAs (and_then r next) e
+pub stops_then : {A B : Type 0} (r : Result A Stop) (next : A → Result B Stop) (e : Refusal) → StopsAs r e → StopsAs (and_then r next) e
 stops_then r next (refusal.Refused file why) is = ap (λ r. and_then r next) is
 stops_then r next (refusal.Absent file) is = ap (λ r. and_then r next) is
 stops_then r next refusal.ReadFault is = tt
@@ -92,34 +93,49 @@ stops_then r next refusal.WriteFault is = tt
 stops_then r next refusal.NoMemory is = tt
 
 module_next : (store : Store) (name file : List ℕ) (schedule : Schedule) → schedule_in store name ≡ Ok schedule → file ≡ (process_of schedule).«module»
-    → record_outcome name store ≡ and_then (module_of store file) (λ body. Ok (record_work (process_of schedule).name body schedule.items))
+    → record_outcome name store ≡ and_then (module_of store file) (λ m. and_then (begun_of file m 0 1) (λ begun. Ok (record_work (process_of schedule).name begun schedule.items)))
 module_next store name file schedule read is =
-    ap (λ (r : Result Schedule Stop). and_then r (λ schedule. and_then (module_of store (process_of schedule).«module») (λ body. Ok (record_work (process_of schedule).name body schedule.items)))) read
-    ∙ ap (λ (f : List ℕ). and_then (module_of store f) (λ body. Ok (record_work (process_of schedule).name body schedule.items))) (sym is)
+    ap (λ (r : Result Schedule Stop). and_then r (λ schedule. and_then (module_of store (process_of schedule).«module») (λ m. and_then (begun_of (process_of schedule).«module» m 0 1) (λ begun. Ok (record_work (process_of schedule).name begun schedule.items))))) read
+    ∙ ap (λ (f : List ℕ). and_then (module_of store f) (λ m. and_then (begun_of f m 0 1) (λ begun. Ok (record_work (process_of schedule).name begun schedule.items)))) (sym is)
 
 -- the module of a schedule was refused
 pub module_stops : (store : Store) (name file : List ℕ) (schedule : Schedule) (e : Refusal) → schedule_in store name ≡ Ok schedule → file ≡ (process_of schedule).«module» → StopsAs (module_of store file) e → StopsAs (record_outcome name store) e
 module_stops store name file schedule e read is stops =
     subst (λ (o : Outcome). StopsAs o e) (sym (module_next store name file schedule read is)) (stops_then (module_of store file) _ e stops)
 
--- the same process, module and items
-pub recorded_same : (recorded : Recorded) (name wanted_name : List ℕ) (body wanted_body : Trees) (items wanted_items : List Item) → name ≡ wanted_name → body ≡ wanted_body → items ≡ wanted_items
-    → IsRecordedWork recorded (record_work name body items) → IsRecordedWork recorded (record_work wanted_name wanted_body wanted_items)
-recorded_same recorded name wanted_name body wanted_body items wanted_items names bodies same told =
-    subst (λ (n : List ℕ). IsRecordedWork recorded (record_work n wanted_body wanted_items)) names
-    (subst (λ (b : Trees). IsRecordedWork recorded (record_work name b wanted_items)) bodies
-    (subst (λ (i : List Item). IsRecordedWork recorded (record_work name body i)) same told))
+begin_next : (store : Store) (name file : List ℕ) (schedule : Schedule) (m : Module) → schedule_in store name ≡ Ok schedule → file ≡ (process_of schedule).«module» → module_of store file ≡ Ok m
+    → record_outcome name store ≡ and_then (begun_of file m 0 1) (λ begun. Ok (record_work (process_of schedule).name begun schedule.items))
+begin_next store name file schedule m read is found =
+    module_next store name file schedule read is
+    ∙ ap (λ (r : Result Module Stop). and_then r (λ m. and_then (begun_of file m 0 1) (λ begun. Ok (record_work (process_of schedule).name begun schedule.items)))) found
 
-pub recording_same : (bytes : List ℕ) (name wanted_name : List ℕ) (body wanted_body : Trees) (items wanted_items : List Item) → name ≡ wanted_name → body ≡ wanted_body → items ≡ wanted_items
-    → IsRecordingOf bytes name body items → IsRecordingOf bytes wanted_name wanted_body wanted_items
-recording_same bytes name wanted_name body wanted_body items wanted_items names bodies same told =
-    subst (λ (n : List ℕ). IsRecordingOf bytes n wanted_body wanted_items) names
-    (subst (λ (b : Trees). IsRecordingOf bytes name b wanted_items) bodies
-    (subst (λ (i : List Item). IsRecordingOf bytes name body i) same told))
+-- the module of a schedule does not begin
+pub begin_stops : (store : Store) (name file : List ℕ) (schedule : Schedule) (m : Module) (e : Refusal) → schedule_in store name ≡ Ok schedule → file ≡ (process_of schedule).«module» → module_of store file ≡ Ok m
+    → StopsAs (begun_of file m 0 1) e → StopsAs (record_outcome name store) e
+begin_stops store name file schedule m e read is found stops =
+    subst (λ (o : Outcome). StopsAs o e) (sym (begin_next store name file schedule m read is found)) (stops_then (begun_of file m 0 1) _ e stops)
+
+-- the same process, first state and items
+pub recorded_same : (recorded : Recorded) (name wanted_name : List ℕ) (begun : State) (items wanted_items : List Item) → name ≡ wanted_name → items ≡ wanted_items
+    → IsRecordedWork recorded (record_work name begun items) → IsRecordedWork recorded (record_work wanted_name begun wanted_items)
+recorded_same recorded name wanted_name begun items wanted_items names same told =
+    subst (λ (n : List ℕ). IsRecordedWork recorded (record_work n begun wanted_items)) names
+    (subst (λ (i : List Item). IsRecordedWork recorded (record_work name begun i)) same told)
+
+pub recording_same : (bytes : List ℕ) (name wanted_name : List ℕ) (begun : State) (items wanted_items : List Item) → name ≡ wanted_name → items ≡ wanted_items
+    → IsRecordingOf bytes name begun items → IsRecordingOf bytes wanted_name begun wanted_items
+recording_same bytes name wanted_name begun items wanted_items names same told =
+    subst (λ (n : List ℕ). IsRecordingOf bytes n begun wanted_items) names
+    (subst (λ (i : List Item). IsRecordingOf bytes name begun i) same told)
+
+-- what begins has a first state
+pub starts_so : (name : List ℕ) (o : Option State) (begun : State) → begun_or name o ≡ Ok begun → o ≡ Some begun
+starts_so name None begun is = cc
+starts_so name (Some found) begun is = cc
 
 -- the name of its log
-pub log_named : (recorded : Recorded) (name : List ℕ) (body : Trees) (items : List Item) → IsRecordedWork recorded (record_work name body items) → string_bytes recorded.log_name ≡ log_name name
-log_named recorded name body items told = ap (λ (files : List (List ℕ × List ℕ)). (first_or ([], []) files).0) told.writes
+pub log_named : (recorded : Recorded) (name : List ℕ) (begun : State) (items : List Item) → IsRecordedWork recorded (record_work name begun items) → string_bytes recorded.log_name ≡ log_name name
+log_named recorded name begun items told = ap (λ (files : List (List ℕ × List ℕ)). (first_or ([], []) files).0) told.writes
 
 -- the log that was made holds the recording
 pub leaves_recording : (told middle after : Option Store) (schedule_name : List ℕ) (recorded : Recorded) (name bytes : List ℕ) → IsFileOf recorded name bytes
@@ -133,11 +149,11 @@ leaves_recording told middle after schedule_name recorded name bytes file holds 
 }
 
 -- its process was recorded
-pub work_done : (store : Store) (name file : List ℕ) (schedule : Schedule) (body : Trees) (recorded : Recorded) → schedule_in store name ≡ Ok schedule → file ≡ (process_of schedule).«module» → module_of store file ≡ Ok body
-    → IsRecordedWork recorded (record_work (process_of schedule).name body schedule.items) → DoesWork recorded (record_outcome name store)
-work_done store name file schedule body recorded read is found told = (
-  record_work (process_of schedule).name body schedule.items,
-  module_next store name file schedule read is ∙ ap (λ (r : Result Trees Stop). and_then r (λ body. Ok (record_work (process_of schedule).name body schedule.items))) found,
+pub work_done : (store : Store) (name file : List ℕ) (schedule : Schedule) (m : Module) (begun : State) (recorded : Recorded) → schedule_in store name ≡ Ok schedule → file ≡ (process_of schedule).«module» → module_of store file ≡ Ok m
+    → begun_of file m 0 1 ≡ Ok begun → IsRecordedWork recorded (record_work (process_of schedule).name begun schedule.items) → DoesWork recorded (record_outcome name store)
+work_done store name file schedule m begun recorded read is found starts told = (
+  record_work (process_of schedule).name begun schedule.items,
+  begin_next store name file schedule m read is found ∙ ap (λ (r : Result State Stop). and_then r (λ begun. Ok (record_work (process_of schedule).name begun schedule.items))) starts,
   told,
 )
 

@@ -5,22 +5,21 @@ use Rattle.std.proofs.lemmas.List.Elements.{All-push}
 use Rattle.schedule_text.specs.declared.item.Item.{Item}
 use Rattle.schedule_text.specs.declared.item.Item.TheVariants as item
 use Rattle.schedule_text.specs.Schedule.{IsInRange}
-use Rattle.call_log.specs.declared.entry.EntryView.{EntryView}
-use Rattle.call_log.specs.Entry.{Entry, IsShaped, encoding, encodings, entry_of}
+use Rattle.lib_calls.specs.declared.entry.EntryView.{EntryView}
+use Rattle.lib_calls.specs.declared.entry.Entry.{Entry}
+use Rattle.lib_calls.specs.Entry.{entry_of}
+use Rattle.call_log.specs.Entry.{IsLogged, encoding, encodings}
 use Rattle.call_log.specs.Head.{head_bytes}
 use Rattle.friday_app.specs.declared.recorder.Recorder.{Recorder}
-use Rattle.friday_app.specs.Process.{State, is_active, need, next, next_clock}
-use Rattle.call_log.specs.declared.entry.Call.{Call}
-use Rattle.friday_app.specs.Thread.{Thread, Standing}
-use Rattle.friday_app.specs.Live.{Env, Event, event_at, live, reply_of}
-use Rattle.friday_app.specs.History.{Progress, entries, state_after, env_of, time, tried, attempt, attempts, after_item, after_items}
-use Rattle.wasm_types.specs.Code.{Trees}
+use Rattle.guest_process.specs.Live.{Event, live}
+use Rattle.guest_process.specs.Next.{next}
+use Rattle.guest_process.specs.OneEvent.{Agrees as IsTold}
+use Rattle.guest_process.specs.State.{State}
+use Rattle.friday_app.specs.History.{Progress, entries, state_after, env_of, time, tried, attempt, attempts, after_item, after_items, world}
 use Rattle.friday_app.specs.declared.summary.Recorded.{Recorded}
 use Rattle.friday_app.specs.Record.{log_head, log_name, process_line, items_line, first_of, work_of}
-use Rattle.friday_app.specs.Recorded.{KeepsUp, IsEntryOf, IsRecordedWork}
-use Rattle.friday_app.specs.Seen.{state_of}
-use Rattle.friday_app.proofs.OneEvent.{live_next, live_standing}
-use Rattle.friday_app.proofs.Shaped.{plain_entry}
+use Rattle.friday_app.specs.Recorded.{AllAgree, KeepsUp, IsEntryOf, IsRecordedWork}
+use Rattle.friday_app.proofs.Agreement.{event_agrees}
 
 -- one entry more at the end
 pub encodings-last : (es : List Entry) (e : Entry) → encodings (es ++ e ∷ []) ≡ encodings es ++ encoding e
@@ -29,14 +28,14 @@ encodings-last (x ∷ es) e = ap (λ t. encoding x ++ t) (encodings-last es e) �
 
 -- the world that a recorder keeps is that of the history
 world_is : (name : List ℕ) (first : ℕ → State) (done : Progress) (r : Recorder) (thread : ℕ) → KeepsUp name first done r
-    → live (state_of r.process) thread (record { time = r.time }) ≡ live (state_after first done.history 0) thread (env_of done.history 0)
+    → live r.process thread (world r.time) ≡ live (state_after first done.history 0) thread (env_of done.history 0)
 world_is name first done r thread k =
-    ap (λ (S : State). live S thread (record { time = r.time })) k.state
-    ∙ ap (λ (t : ℕ). live (state_after first done.history 0) thread (record { time = t })) k.time
+    ap (λ (S : State). live S thread (world r.time)) k.state
+    ∙ ap (λ (t : ℕ). live (state_after first done.history 0) thread (world t)) k.time
 
 -- an idle try
 pub idle_step : (name : List ℕ) (first : ℕ → State) (done : Progress) (old new : Recorder) (thread : ℕ) → KeepsUp name first done old
-    → live (state_of old.process) thread (record { time = old.time }) ≡ None
+    → live old.process thread (world old.time) ≡ None
     → new ≡ record old { idle = old.idle + 1 }
     → KeepsUp name first (attempt first 0 thread done) new
 idle_step name first done old new thread k none is =
@@ -50,26 +49,29 @@ idle_step name first done old new thread k none is =
       acted = k.acted;
       idle = add-one old.idle ∙ ap suc k.idle;
       shaped = k.shaped;
+      agrees = record { all = k.agrees.all; reached = k.agrees.reached; same = k.agrees.same };
     }))
 
 -- an event
 pub event_step : (name : List ℕ) (first : ℕ → State) (done : Progress) (old new : Recorder) (thread : ℕ) (found : Option EntryView) (view : EntryView) → KeepsUp name first done old
-    → IsEntryOf (live (state_of old.process) thread (record { time = old.time })) found
+    → IsEntryOf (live old.process thread (world old.time)) found
     → found ≡ Some view
-    → state_of new.process ≡ next (state_of old.process) (entry_of view)
+    → new.process ≡ next old.process (entry_of view)
     → new.time ≡ old.time
     → new.log.items ≡ old.log.items ++ encoding (entry_of view)
     → new.events ≡ old.events + 1
     → new.acted ≡ old.acted + 1
     → new.idle ≡ old.idle
-    → IsShaped (entry_of view)
+    → IsLogged (entry_of view)
+    → AllAgree old.process thread old.time
     → KeepsUp name first (attempt first 0 thread done) new
-event_step name first done old new thread found view k h at state time log events acted idle shaped = step (subst (λ (f : Option EntryView). IsEntryOf (live (state_of old.process) thread (record { time = old.time })) f) at h) where
-  step : IsEntryOf (live (state_of old.process) thread (record { time = old.time })) (Some view) → KeepsUp name first (attempt first 0 thread done) new
+event_step name first done old new thread found view k h at state time log events acted idle shaped agree = step (subst (λ (f : Option EntryView). IsEntryOf (live old.process thread (world old.time)) f) at h) where
+  step : IsEntryOf (live old.process thread (world old.time)) (Some view) → KeepsUp name first (attempt first 0 thread done) new
   step (e, is, same) =
       let here : live (state_after first done.history 0) thread (env_of done.history 0) ≡ Some e = sym (world_is name first done old thread k) ∙ is in
+      let told : IsTold old.process e = agree e is in
       subst (λ (o : Option Event). KeepsUp name first (tried 0 o done) new) (sym here) (record {
-        state = state ∙ ap (next (state_of old.process)) same ∙ live_next (state_of old.process) thread _ e is;
+        state = state ∙ ap (next old.process) same ∙ told.same;
         time = time ∙ k.time;
         log = log ∙ ap (λ t. t ++ encoding (entry_of view)) k.log ∙ append_assoc (head_bytes (log_head name)) (encodings (entries done.history 0)) (encoding (entry_of view))
             ∙ ap (λ (x : Entry). head_bytes (log_head name) ++ (encodings (entries done.history 0) ++ encoding x)) same
@@ -77,7 +79,8 @@ event_step name first done old new thread found view k h at state time log event
         events = events ∙ ap (λ n. n + 1) k.events ∙ sym (length-append (entries done.history 0) (e.entry ∷ []));
         acted = acted ∙ add-one old.acted ∙ ap suc k.acted;
         idle = idle ∙ k.idle;
-        shaped = All-push IsShaped (entries done.history 0) e.entry k.shaped (subst IsShaped same shaped);
+        shaped = All-push IsLogged (entries done.history 0) e.entry k.shaped (subst IsLogged same shaped);
+        agrees = event_agrees first done e (subst (λ (S : State). IsTold S e) k.state told) k.agrees;
       })
 
 -- the recorder has come as far as some progress from which the rest gives the whole
@@ -102,26 +105,20 @@ run_item i p thread times is fits first done =
     ap (λ (i : Item). after_item first i done) is ∙ ap (λ (p : ℕ). attempts first p thread times done) only
 
 -- what was recorded, once the recorder has done all
-pub told_work : (name : List ℕ) (body : Trees) (done : Progress) (r : Recorder) (recorded : Recorded) → KeepsUp name (first_of body) done r
-    → recorded.text ≡ process_line name r.events (is_active (state_of r.process).activity) ++ items_line r.acted r.idle
+pub told_work : (name : List ℕ) (begun : State) (done : Progress) (r : Recorder) (recorded : Recorded) → KeepsUp name (first_of begun) done r
+    → recorded.text ≡ process_line name r.events r.process.end ++ items_line r.acted r.idle
     → string_bytes recorded.log_name ≡ log_name name
     → recorded.log.items ≡ r.log.items
-    → IsRecordedWork recorded (work_of name body done)
-told_work name body done r recorded k text named logged = record {
+    → IsRecordedWork recorded (work_of name begun done)
+told_work name begun done r recorded k text named logged = record {
   text = text
-      ∙ ap (λ (n : ℕ). process_line name n (is_active (state_of r.process).activity) ++ items_line r.acted r.idle) k.events
-      ∙ ap (λ (S : State). process_line name (length (entries done.history 0)) (is_active S.activity) ++ items_line r.acted r.idle) k.state
-      ∙ ap (λ (n : ℕ). process_line name (length (entries done.history 0)) (is_active (state_after (first_of body) done.history 0).activity) ++ items_line n r.idle) k.acted
-      ∙ ap (λ (n : ℕ). process_line name (length (entries done.history 0)) (is_active (state_after (first_of body) done.history 0).activity) ++ items_line (length done.history) n) k.idle;
+      ∙ ap (λ (n : ℕ). process_line name n r.process.end ++ items_line r.acted r.idle) k.events
+      ∙ ap (λ (S : State). process_line name (length (entries done.history 0)) S.end ++ items_line r.acted r.idle) k.state
+      ∙ ap (λ (n : ℕ). process_line name (length (entries done.history 0)) (state_after (first_of begun) done.history 0).end ++ items_line n r.idle) k.acted
+      ∙ ap (λ (n : ℕ). process_line name (length (entries done.history 0)) (state_after (first_of begun) done.history 0).end ++ items_line (length done.history) n) k.idle;
   writes = ap (λ (f : List ℕ × List ℕ). f ∷ []) (ap (λ (n : List ℕ). (n, recorded.log.items)) named ∙ ap (λ (b : List ℕ). (log_name name, b)) (logged ∙ k.log));
   diverged = refl;
 }
-
--- the entry of the event of the thread that stands at a call
-pub entry_told : (S : State) (thread : ℕ) (env : Env) (c : Call) (t : Thread) (view : EntryView) (clock : ℕ) → S.activity ≡ Standing c t → thread ≡ 0 → clock ≡ next_clock S.clock
-    → entry_of view ≡ plain_entry clock c (reply_of (need c) env) → IsEntryOf (live S thread env) (Some view)
-entry_told S thread env c t view clock stands first next told =
-    (event_at S 0 env (c, t), live_standing S thread env c t stands first, told ∙ ap (λ (k : ℕ). plain_entry k c (reply_of (need c) env)) next)
 
 -- the items from a place on
 pub items_next : (first : ℕ → State) (items : List Item) (i : ℕ) (d : Item) (done : Progress) → i < length items → after_items first (drop i items) done ≡ after_items first (drop (i + 1) items) (after_item first (slice_index_or items i d) done)

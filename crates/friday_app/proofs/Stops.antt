@@ -2,14 +2,18 @@
 use Rattle.std.proofs.Common.{◌≡◌, ℕ, List, [], Bool, true, false, cond, Option, Some, None, option_map, Result, Ok, Err, refl, sym, ap, ◌∙◌, subst}
 use Rattle.std.proofs.lemmas.Option.{same_Some}
 use Rattle.fri_outside.specs.Outside.{Store, Found, Missing, Over, Held, found}
-use Rattle.wasm_types.specs.Code.{Trees}
+use Rattle.guest_process.specs.Start.{start}
+use Rattle.guest_process.specs.State.{State}
+use Rattle.wasm_types.specs.Modules.{Module}
+use Rattle.wasm_decode.specs.Sections.{module_of_bytes}
 use Rattle.call_log.specs.Head.{Head}
 use Rattle.call_log.specs.Log.{head_at, rest_of, stops_at_unbuilt}
+use Rattle.friday_app.specs.declared.refusal.Reason.{Reason}
 use Rattle.friday_app.specs.declared.refusal.Reason.TheVariants as reason
-use Rattle.friday_app.specs.Form.{form_of}
+use Rattle.friday_app.specs.Fault.{fault_of}
 use Rattle.friday_app.specs.Outcome.{Stop, Outcome, and_then, given, writes_of, refuses}
 use Rattle.friday_app.specs.Command.{Command, Replay}
-use Rattle.friday_app.specs.Expected.{expected, replay_outcome, body_or, head_or, module_of, log_of}
+use Rattle.friday_app.specs.Expected.{unless_refused, begun_or, expected, replay_outcome, spelled_or, head_or, module_of, log_of}
 
 -- a step at whose stop nothing was written
 abbrev IsEarly : {A : Type 0} → Result A Stop → Type 0
@@ -21,9 +25,17 @@ given_early name Missing = refl
 given_early name Over = refl
 given_early name (Held bytes) = tt
 
-body_early : (name : List ℕ) (body : Option Trees) → IsEarly (body_or name body)
-body_early name None = refl
-body_early name (Some body) = tt
+spelled_early : (name : List ℕ) (m : Option Module) → IsEarly (spelled_or name m)
+spelled_early name None = refl
+spelled_early name (Some m) = tt
+
+valid_early : (name : List ℕ) (m : Module) (why : Option Reason) → IsEarly (unless_refused name m why)
+valid_early name m None = tt
+valid_early name m (Some why) = refl
+
+begun_early : (name : List ℕ) (begun : Option State) → IsEarly (begun_or name begun)
+begun_early name None = refl
+begun_early name (Some begun) = tt
 
 test_early : (name : List ℕ) (log : Head × List ℕ) (b : Bool) → IsEarly (cond b (Err (refuses name reason.LogNotBuilt)) (Ok log))
 test_early name log true = refl
@@ -42,14 +54,14 @@ then_none (Ok value) next early later = later value
 then_none (Err stop) next early later = early
 
 module_early : (store : Store) (name : List ℕ) → IsEarly (module_of store name)
-module_early store name = then_early _ _ (given_early name (found store name 4194304)) (λ bytes. body_early name (form_of bytes))
+module_early store name = then_early _ _ (given_early name (found store name 4194304)) (λ bytes. then_early _ _ (spelled_early name (module_of_bytes bytes)) (λ m. valid_early name m (fault_of m)))
 
 log_early : (store : Store) (name : List ℕ) → IsEarly (log_of store name)
 log_early store name = then_early _ _ (given_early name (found store name 33554432)) (λ bytes. head_early name (head_at bytes))
 
 replay_writes_at : (module_name log_name : List ℕ) (store : Store) → writes_of (replay_outcome module_name log_name store) ≡ []
 replay_writes_at module_name log_name store =
-    then_none (module_of store module_name) _ (module_early store module_name) (λ body. then_none (log_of store log_name) _ (log_early store log_name) (λ log. refl))
+    then_none (module_of store module_name) _ (module_early store module_name) (λ m. then_none (log_of store log_name) _ (log_early store log_name) (λ log. then_none _ _ (begun_early module_name (start m log.0.process log.0.count)) (λ begun. refl)))
 
 -- whatever replay comes to, it writes no file
 pub replay_writes : (module_name log_name : List ℕ) (told : Option Store) (o : Outcome) → option_map (replay_outcome module_name log_name) told ≡ Some o → writes_of o ≡ []

@@ -1,26 +1,46 @@
 -- What each command comes to, given the files and the input.
 use Rattle.std.specs.Prelude.{ℕ, List, [], ◌∷◌, Option, Some, None, map, option_map, Result, Ok, Err, if◌then◌else◌}
 use Rattle.fri_outside.specs.Outside.{Store}
-use Rattle.wasm_types.specs.Code.{Trees}
+use Rattle.wasm_types.specs.Modules.{Module}
+use Rattle.wasm_decode.specs.Sections.{module_of_bytes}
 use Rattle.schedule_text.specs.declared.process.ProcessLine.{ProcessLine}
 use Rattle.schedule_text.specs.Reading.{Refusal, BadLineAt, TooManyRuns, schedule_of}
 use Rattle.schedule_text.specs.Schedule.{Schedule}
 use Rattle.call_log.specs.Head.{Head}
 use Rattle.call_log.specs.Log.{head_at, rest_of, stops_at_unbuilt}
+use Rattle.guest_process.specs.Start.{start}
+use Rattle.guest_process.specs.State.{State}
+use Rattle.friday_app.specs.declared.refusal.Reason.{Reason}
 use Rattle.friday_app.specs.declared.refusal.Reason.TheVariants as reason
 use Rattle.friday_app.specs.Command.{Command, Record, Replay}
-use Rattle.friday_app.specs.Form.{form_of}
+use Rattle.friday_app.specs.Fault.{fault_of}
 use Rattle.friday_app.specs.Outcome.{Stop, NotACommand, Outcome, refuses, and_then, file_of, writes_of}
 use Rattle.friday_app.specs.Record.{record_work}
 use Rattle.friday_app.specs.Report.{replay_work}
 
--- the body of a module file
-abbrev pub body_or : List ℕ → Option Trees → Result Trees Stop
-body_or name None = Err (refuses name reason.ModuleNotBuilt)
-body_or name (Some body) = Ok body
+-- the module that the bytes of a file spell
+abbrev pub spelled_or : List ℕ → Option Module → Result Module Stop
+spelled_or name None = Err (refuses name reason.Malformed)
+spelled_or name (Some m) = Ok m
 
-abbrev pub module_of : Store → List ℕ → Result Trees Stop
-module_of store name = and_then (file_of store name 4194304) (λ bytes. body_or name (form_of bytes))
+abbrev pub unless_refused : List ℕ → Module → Option Reason → Result Module Stop
+unless_refused name m None = Ok m
+unless_refused name m (Some why) = Err (refuses name why)
+
+-- a module that is valid
+abbrev pub valid_or : List ℕ → Module → Result Module Stop
+valid_or name m = unless_refused name m (fault_of m)
+
+abbrev pub module_of : Store → List ℕ → Result Module Stop
+module_of store name = and_then (file_of store name 4194304) (λ bytes. and_then (spelled_or name (module_of_bytes bytes)) (valid_or name))
+
+-- the first state of a process of a module, whose file has this name
+abbrev pub begun_or : List ℕ → Option State → Result State Stop
+begun_or name None = Err (refuses name reason.BadSegment)
+begun_or name (Some begun) = Ok begun
+
+abbrev pub begun_of : List ℕ → Module → ℕ → ℕ → Result State Stop
+begun_of name m who count = begun_or name (start m who count)
 
 -- the head of a log file, and what is behind it
 abbrev pub head_or : List ℕ → Option (Head × List ℕ) → Result (Head × List ℕ) Stop
@@ -37,9 +57,10 @@ first_or default (x ∷ xs) = x
 -- THE COMMANDS, each with its refusals in their order
 abbrev pub replay_outcome : List ℕ → List ℕ → Store → Outcome
 replay_outcome module_name log_name store =
-    and_then (module_of store module_name) (λ body.
+    and_then (module_of store module_name) (λ m.
     and_then (log_of store log_name) (λ log.
-    Ok (replay_work body log.0 log.1)))
+    and_then (begun_of module_name m log.0.process log.0.count) (λ begun.
+    Ok (replay_work begun log.0 log.1))))
 
 -- the schedule of a schedule file
 abbrev pub schedule_or : List ℕ → Result Schedule Refusal → Result Schedule Stop
@@ -57,8 +78,9 @@ process_of schedule = first_or (record { name = []; «module» = [] }) schedule.
 abbrev pub record_outcome : List ℕ → Store → Outcome
 record_outcome schedule_name store =
     and_then (schedule_in store schedule_name) (λ schedule.
-    and_then (module_of store (process_of schedule).«module») (λ body.
-    Ok (record_work (process_of schedule).name body schedule.items)))
+    and_then (module_of store (process_of schedule).«module») (λ m.
+    and_then (begun_of (process_of schedule).«module» m 0 1) (λ begun.
+    Ok (record_work (process_of schedule).name begun schedule.items))))
 
 -- the outcome, as far as the store and the input tell what it depends on
 abbrev pub expected : Option Command → Option Store → Option (List ℕ) → Option Outcome

@@ -3,9 +3,9 @@ use Rattle.std.specs.Prelude.{ℕ, zero, suc, List, [], ◌∷◌, ◌++◌, ◌
 use Rattle.std.specs.Int.{w64, cast_unsigned}
 use Rattle.schedule_text.specs.declared.item.Item.{Item}
 use Rattle.schedule_text.specs.declared.item.Item.TheVariants as item
-use Rattle.call_log.specs.Entry.{Entry}
-use Rattle.friday_app.specs.Process.{State}
-use Rattle.friday_app.specs.Live.{Env, Event, live}
+use Rattle.lib_calls.specs.declared.entry.Entry.{Entry}
+use Rattle.guest_process.specs.State.{State}
+use Rattle.guest_process.specs.Live.{Env, Event, live}
 
 -- an acted step: an event of a process, or an item that is not `run`
 pub data Act : Type 0 where
@@ -47,8 +47,12 @@ time (Acts q e ∷ h) p = time h p
 time (Does (item.Clock q v) ∷ h) p = if q == p then cast_unsigned w64 v else time h p
 time (Does other ∷ h) p = time h p
 
+-- no datagram and no random byte came, no signal is pending, and nothing was killed
+abbrev pub world : ℕ → Env
+world time = record { mailbox = []; pool = []; time = time; pending = []; killed = false }
+
 abbrev pub env_of : History → ℕ → Env
-env_of h p = record { time = time h p }
+env_of h p = world (time h p)
 
 -- A RUN
 

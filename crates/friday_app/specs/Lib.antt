@@ -1,10 +1,6 @@
 pub mod Numbers
 pub mod Command
-pub mod Form
-pub mod Thread
-pub mod Process
-pub mod Live
-pub mod Replay
+pub mod Fault
 pub mod Report
 pub mod History
 pub mod Outcome

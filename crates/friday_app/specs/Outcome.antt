@@ -48,7 +48,13 @@ abbrev pub reason_text : Reason → List ℕ
 reason_text reason.TooLarge = codes "TooLarge"
 reason_text (reason.BadLine line) = codes "line " ++ (decimal line ++ codes " BadLine")
 reason_text reason.TooMany = codes "TooMany"
-reason_text reason.ModuleNotBuilt = codes "8 NotBuilt"
+reason_text reason.Malformed = codes "1 Malformed"
+reason_text reason.HasFloat = codes "2 HasFloat"
+reason_text reason.BadImport = codes "3 BadImport"
+reason_text reason.Untyped = codes "4 Untyped"
+reason_text reason.OverLimit = codes "5 OverLimit"
+reason_text reason.NoStart = codes "6 NoStart"
+reason_text reason.BadSegment = codes "7 BadSegment"
 reason_text reason.BadHead = codes "1 BadHead"
 reason_text reason.LogNotBuilt = codes "5 NotBuilt"
 

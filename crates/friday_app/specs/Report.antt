@@ -1,13 +1,17 @@
 -- The report of a replay.
-use Rattle.std.specs.Prelude.{ℕ, List, [], ◌++◌, Bool, true, false, decimal, codes}
-use Rattle.wasm_types.specs.Code.{Trees}
-use Rattle.call_log.specs.Entry.{Entry}
+use Rattle.std.specs.Prelude.{ℕ, List, [], ◌++◌, Bool, true, false, decimal, codes, take}
+use Rattle.std.specs.Fmt.{signed_decimal}
+use Rattle.wasm_types.specs.declared.traps.Trap.{Trap}
+use Rattle.wasm_types.specs.declared.traps.Trap.TheVariants as trap
+use Rattle.guest_process.specs.declared.divergence.Divergence.{Divergence}
+use Rattle.guest_process.specs.declared.divergence.Divergence.TheVariants as differs
+use Rattle.guest_process.specs.declared.end.End.{End}
+use Rattle.guest_process.specs.declared.end.End.TheVariants as ended
+use Rattle.guest_process.specs.Replay.{Verdict, Whole, Left, Diverged, accepted, replayed, verdict}
+use Rattle.guest_process.specs.State.{State}
+use Rattle.lib_calls.specs.declared.entry.Entry.{Entry}
 use Rattle.call_log.specs.Head.{Head}
 use Rattle.call_log.specs.Log.{entries_of, rest_of}
-use Rattle.friday_app.specs.declared.divergence.Divergence.{Divergence}
-use Rattle.friday_app.specs.declared.divergence.Divergence.TheVariants as differs
-use Rattle.friday_app.specs.Process.{State, start, is_active}
-use Rattle.friday_app.specs.Replay.{Verdict, Whole, Left, Diverged, accepted, verdict, last_state}
 use Rattle.friday_app.specs.Outcome.{Work}
 
 -- a divergence by its number and name
@@ -26,14 +30,32 @@ verdict_text Whole = codes "log whole"
 verdict_text (Left bytes) = decimal bytes ++ codes " bytes left over"
 verdict_text (Diverged at why) = codes "diverged at " ++ (decimal at ++ (codes ": " ++ divergence_text why))
 
--- how a process ended
-abbrev pub end_text : Bool → List ℕ
-end_text true = codes "running"
-end_text false = codes "finished"
+-- why a thread trapped
+abbrev pub trap_text : Trap → List ℕ
+trap_text trap.Unreachable = codes "unreachable"
+trap_text trap.ZeroDivisor = codes "zero divisor"
+trap_text trap.Overflow = codes "overflow"
+trap_text trap.MemoryRange = codes "memory range"
+trap_text trap.TableRange = codes "table range"
+trap_text trap.EmptyElement = codes "empty element"
+trap_text trap.TypeDiffers = codes "type differs"
+trap_text trap.Exhausted = codes "exhausted"
+trap_text trap.Spent = codes "spent"
 
-abbrev pub line_text : List ℕ → ℕ → Bool → Verdict → List ℕ
-line_text name count active judged =
-    name ++ (codes ": " ++ (decimal count ++ (codes " events, " ++ (end_text active ++ (codes ", " ++ (verdict_text judged ++ codes "\n"))))))
+-- how a process stands
+abbrev pub end_text : End → List ℕ
+end_text ended.Running = codes "running"
+end_text ended.Finished = codes "finished"
+end_text (ended.Exited code) = codes "exited " ++ signed_decimal code
+end_text (ended.Trapped why) = codes "trapped " ++ trap_text why
+
+abbrev pub line_text : List ℕ → ℕ → End → Verdict → List ℕ
+line_text name count end judged =
+    name ++ (codes ": " ++ (decimal count ++ (codes " events, " ++ (end_text end ++ (codes ", " ++ (verdict_text judged ++ codes "\n"))))))
+
+-- the state at which a replay ends
+abbrev pub last_state : State → List Entry → State
+last_state S es = replayed S (take (accepted S es) es)
 
 -- No call that is built sends or receives.
 abbrev pub group_text : List ℕ
@@ -41,18 +63,18 @@ group_text = codes "group: 0 sends, 0 receives, 0 unmatched, 0 untagged\n"
 
 abbrev pub report_of : State → List ℕ → List Entry → List ℕ → List ℕ
 report_of S name es rest =
-    line_text name (accepted S es) (is_active (last_state S es).activity) (verdict S es rest) ++ group_text
+    line_text name (accepted S es) (last_state S es).end (verdict S es rest) ++ group_text
 
 abbrev pub is_divergence : Verdict → Bool
 is_divergence (Diverged at why) = true
 is_divergence Whole = false
 is_divergence (Left bytes) = false
 
--- what replay prints of a module's body and of a log, given by its head and what is behind it
-abbrev pub replay_work : Trees → Head → List ℕ → Work
-replay_work body head left =
+-- what replay prints of a process, from its first state, and of a log, given by its head and what is behind it
+abbrev pub replay_work : State → Head → List ℕ → Work
+replay_work begun head left =
     record {
-      text = report_of (start body) head.name (entries_of left) (rest_of left);
+      text = report_of begun head.name (entries_of left) (rest_of left);
       writes = [];
-      diverged = is_divergence (verdict (start body) (entries_of left) (rest_of left));
+      diverged = is_divergence (verdict begun (entries_of left) (rest_of left));
     }

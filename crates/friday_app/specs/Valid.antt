@@ -1,16 +1,19 @@
 -- Words and files at which a command does its work.
-use Rattle.std.specs.Prelude.{◌≡◌, ℕ, ◌≤◌, List, ◌++◌, length, Option, Some, None, false, Ok}
+use Rattle.std.specs.Prelude.{◌≡◌, ℕ, ◌≤◌, List, ◌++◌, length, Option, Some, None, false}
 use Rattle.std.specs.FinMap.{get}
 use Rattle.fri_outside.specs.Outside.{Store}
-use Rattle.wasm_types.specs.Code.{Trees}
+use Rattle.wasm_types.specs.Modules.{Module}
+use Rattle.wasm_types.specs.Valid.{IsValid as IsValidModule}
+use Rattle.wasm_decode.specs.Grammar.{Spells as IsSpelled}
 use Rattle.schedule_text.specs.declared.limits.TheConstants.{MOST_RUNS}
 use Rattle.schedule_text.specs.Grammar.{Spells}
 use Rattle.schedule_text.specs.Schedule.{Schedule, run_count}
-use Rattle.call_log.specs.Entry.{Entry}
+use Rattle.lib_calls.specs.declared.entry.Entry.{Entry}
 use Rattle.call_log.specs.Head.{Head, IsHead, head_bytes}
 use Rattle.call_log.specs.Log.{Holds, stops_at_unbuilt}
+use Rattle.guest_process.specs.Start.{start}
+use Rattle.guest_process.specs.State.{State}
 use Rattle.friday_app.specs.Command.{Command, Record, Replay}
-use Rattle.friday_app.specs.Form.{IsForm}
 use Rattle.friday_app.specs.Expected.{process_of}
 
 -- a file is there and is within its limit
@@ -18,12 +21,17 @@ pub record Stands (store : Store) (name : List ℕ) (limit : ℕ) (bytes : List 
   pub held : get store name ≡ Some bytes
   pub within : length bytes ≤ limit
 
--- a file is a module of the form that is built
+-- a file is a valid module
 pub record IsModuleFile (store : Store) (name : List ℕ) : Type 0 where
   pub bytes : List ℕ
   pub stands : Stands store name 4194304 bytes
-  pub body : Trees
-  pub form : IsForm bytes body
+  pub «module» : Module
+  pub spelled : IsSpelled bytes «module»
+  pub valid : IsValidModule «module»
+
+-- the segments of a module lie inside its table and its memory, so that process `who` of a group of `count` begins
+abbrev pub Begins : Module → ℕ → ℕ → Type 0
+Begins m who count = (begun : State) × (start m who count ≡ Some begun)
 
 -- a file is a log, in which no entry of a kind that is not built follows the entries
 pub record IsLogFile (store : Store) (name : List ℕ) : Type 0 where
@@ -46,5 +54,7 @@ pub record IsScheduleFile (store : Store) (name : List ℕ) (schedule : Schedule
 abbrev pub IsValid : Option Command → Store → Option (List ℕ) → Type 0
 IsValid None store left = ⊥
 IsValid (Some (Record schedule_name)) store left =
-    (schedule : Schedule) × IsScheduleFile store schedule_name schedule × IsModuleFile store (process_of schedule).«module»
-IsValid (Some (Replay module_name log_name)) store left = IsModuleFile store module_name × IsLogFile store log_name
+    (schedule : Schedule) × IsScheduleFile store schedule_name schedule
+    × ((m : IsModuleFile store (process_of schedule).«module») × Begins m.«module» 0 1)
+IsValid (Some (Replay module_name log_name)) store left =
+    (m : IsModuleFile store module_name) × ((l : IsLogFile store log_name) × Begins m.«module» l.head.process l.head.count)

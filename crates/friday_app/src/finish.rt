@@ -22,7 +22,13 @@ fn push_reason(text: &mut Text, reason: Reason) -> Result<(), AllocError>
             Ok(())
         }
         Reason::TooMany => text.push_str("TooMany"),
-        Reason::ModuleNotBuilt => text.push_str("8 NotBuilt"),
+        Reason::Malformed => text.push_str("1 Malformed"),
+        Reason::HasFloat => text.push_str("2 HasFloat"),
+        Reason::BadImport => text.push_str("3 BadImport"),
+        Reason::Untyped => text.push_str("4 Untyped"),
+        Reason::OverLimit => text.push_str("5 OverLimit"),
+        Reason::NoStart => text.push_str("6 NoStart"),
+        Reason::BadSegment => text.push_str("7 BadSegment"),
         Reason::BadHead => text.push_str("1 BadHead"),
         Reason::LogNotBuilt => text.push_str("5 NotBuilt"),
     }

@@ -1,20 +1,25 @@
 // Reads the files that a command asks for.
-ghost use Rattle.std.specs.Prelude.{◌≡◌, ◌≤◌, vec_len, Ok, IfOk, IfErr, MatchResult};
+ghost use Rattle.std.specs.Prelude.{◌≡◌, ◌<◌, ◌≤◌, vec_len, Ok, IfOk, IfErr, MatchResult};
 ghost use Rattle.fri_outside.specs.Outside.{WhenTold, Counts, NoneFell};
-ghost use Rattle.wasm_types.specs.Code.{trees};
-ghost use Rattle.friday_app.specs.Outcome.{file_of};
+ghost use Rattle.wasm_types.specs.Modules.{module_of as shown};
+ghost use Rattle.wasm_decode.specs.Sections.{module_of_bytes};
+ghost use Rattle.friday_app.specs.Outcome.{and_then, file_of};
 ghost use Rattle.schedule_text.specs.Schedule.{IsSchedule};
+ghost use Rattle.call_log.specs.Head.{IsHead};
 ghost use Rattle.call_log.specs.Log.{head_at, rest_of};
-ghost use Rattle.friday_app.specs.Expected.{module_of, schedule_in, head_or};
+ghost use Rattle.friday_app.specs.Expected.{spelled_or, valid_or, module_of, begun_of, schedule_in, head_or};
 ghost use Rattle.friday_app.specs.Call.{StopsAs, Raises};
 
-use crate::form::{FormError, read_form};
 use crate::refusal::{Reason, Refusal};
 use call_log::{LogView, stops_at_unbuilt};
 use fri_outside::{FileError, Files};
+use guest_process::Process;
 use schedule_text::{Schedule, ScheduleError, read_schedule};
 use std::alloc::Global;
-use wasm_types::Instr;
+use wasm_decode::{DecodeError, decode};
+use wasm_step::StartError;
+use wasm_types::{Module, ValidModule};
+use wasm_validate::{Invalid, validate};
 
 const MODULE_LIMIT: usize = 4_194_304;
 
@@ -45,23 +50,85 @@ pub fn take_file<F: Files>(
     }
 }
 
-/// The body of the module that a file holds.
+// The module that the bytes of a file spell.
+fn spelled(alloc: Global, name: &str, bytes: &[u8]) -> Result<Module, Refusal>
+    ensures answer { MatchResult result
+        (λ m. spelled_or name.now (module_of_bytes bytes.now) ≡ Ok (shown m))
+        (StopsAs (spelled_or name.now (module_of_bytes bytes.now))) }
+    ensures cause { (old new : Counts) → IfErr result (Raises old new) }
+{
+    match decode(alloc, bytes) {
+        Ok(module) => Ok(module),
+        Err(DecodeError::Malformed) => Err(Refusal::refuse(alloc, name, Reason::Malformed)),
+        Err(DecodeError::NoMemory) => Err(Refusal::NoMemory),
+    }
+}
+
+// The module, where it is valid.
+#[tactic(auto, using(crate::proofs::Faults::no_fault, crate::proofs::Faults::has_float, crate::proofs::Faults::bad_import, crate::proofs::Faults::untyped, crate::proofs::Faults::over_limit, crate::proofs::Faults::no_start))]
+fn valid(alloc: Global, name: &str, checked: Module) -> Result<ValidModule, Refusal>
+    ensures answer { MatchResult result
+        (λ v. valid_or name.now (shown checked) ≡ Ok (shown v))
+        (StopsAs (valid_or name.now (shown checked))) }
+    ensures cause { (old new : Counts) → IfErr result (Raises old new) }
+{
+    match validate(alloc, checked) {
+        Ok(valid) => Ok(valid),
+        Err(Invalid::HasFloat) => Err(Refusal::refuse(alloc, name, Reason::HasFloat)),
+        Err(Invalid::BadImport) => Err(Refusal::refuse(alloc, name, Reason::BadImport)),
+        Err(Invalid::Untyped) => Err(Refusal::refuse(alloc, name, Reason::Untyped)),
+        Err(Invalid::OverLimit) => Err(Refusal::refuse(alloc, name, Reason::OverLimit)),
+        Err(Invalid::NoStart) => Err(Refusal::refuse(alloc, name, Reason::NoStart)),
+        Err(Invalid::NoMemory) => Err(Refusal::NoMemory),
+    }
+}
+
+// The valid module that the bytes of a file spell.
+fn read_module(alloc: Global, name: &str, bytes: &[u8]) -> Result<ValidModule, Refusal>
+    ensures answer { MatchResult result
+        (λ v. and_then (spelled_or name.now (module_of_bytes bytes.now)) (valid_or name.now) ≡ Ok (shown v))
+        (StopsAs (and_then (spelled_or name.now (module_of_bytes bytes.now)) (valid_or name.now))) }
+    ensures cause { (old new : Counts) → IfErr result (Raises old new) }
+{
+    let spelled = spelled(alloc, name, bytes)?;
+    valid(alloc, name, spelled)
+}
+
+/// The valid module that a file holds.
 pub fn take_module<F: Files>(
     alloc: Global,
     name: &str,
     files: &mut F,
-) -> Result<Vec<Instr>, Refusal>
+) -> Result<ValidModule, Refusal>
     ensures answer { WhenTold (F.told files.old) (λ store. MatchResult result
-        (λ body. module_of store name.now ≡ Ok (trees body.items)) (StopsAs (module_of store name.now))) }
+        (λ m. module_of store name.now ≡ Ok (shown m)) (StopsAs (module_of store name.now))) }
     ensures same { F.told files.new ≡ F.told files.old }
     ensures counts { NoneFell (F.counts files.old) (F.counts files.new) }
     ensures cause { IfErr result (Raises (F.counts files.old) (F.counts files.new)) }
 {
     let bytes = take_file(alloc, name, MODULE_LIMIT, files)?;
-    match read_form(alloc, &bytes) {
-        Ok(body) => Ok(body),
-        Err(FormError::NotBuilt) => Err(Refusal::refuse(alloc, name, Reason::ModuleNotBuilt)),
-        Err(FormError::NoMemory) => Err(Refusal::NoMemory),
+    read_module(alloc, name, &bytes)
+}
+
+/// Process `who` of a group of `count`, of the module that the file of this name holds.
+pub fn begin_process<'m>(
+    alloc: Global,
+    name: &str,
+    guest: &'m ValidModule,
+    who: u32,
+    count: u32,
+) -> Result<Process<'m>, Refusal>
+    requires who { who < count }
+    requires count { count ≤ 16 }
+    ensures answer { MatchResult result
+        (λ begun. begun_of name.now (shown guest.now) who count ≡ Ok begun)
+        (StopsAs (begun_of name.now (shown guest.now) who count)) }
+    ensures cause { (old new : Counts) → IfErr result (Raises old new) }
+{
+    match Process::start(alloc, guest, who, count) {
+        Ok(process) => Ok(process),
+        Err(StartError::BadSegment) => Err(Refusal::refuse(alloc, name, Reason::BadSegment)),
+        Err(StartError::NoMemory) => Err(Refusal::NoMemory),
     }
 }
 
@@ -110,6 +177,7 @@ fn rest_behind<'b>(mut log: LogView<'b>) -> &'b [u8]
 
 /// The log that the bytes of a file spell.
 pub fn begin_log<'b>(alloc: Global, name: &str, bytes: &'b [u8]) -> Result<LogView<'b>, Refusal>
+    ensures head { IfOk result (λ log. IsHead log.head) }
     ensures answer { MatchResult result
         (λ log. head_or name.now (head_at bytes.now) ≡ Ok (log.head, log.left))
         (StopsAs (head_or name.now (head_at bytes.now))) }

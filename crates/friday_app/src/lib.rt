@@ -2,12 +2,10 @@
 #![tactic(auto)]
 
 mod command;
-mod divergence;
+mod events;
 mod finish;
-mod form;
 mod inputs;
 mod outputs;
-mod process;
 mod record;
 mod recorder;
 mod refusal;
@@ -17,7 +15,7 @@ mod report;
 mod settle;
 mod status;
 mod summary;
-mod thread;
+mod texts;
 mod top;
 
 pub use status::Status;

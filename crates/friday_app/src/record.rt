@@ -8,7 +8,7 @@ ghost use Rattle.friday_app.specs.Recorded.{DoesWork};
 ghost use Rattle.friday_app.specs.Agreement.{HoldsRecording, LeavesRecording};
 ghost use Rattle.friday_app.specs.Call.{StopsAs, Tells, Makes, Keeps, DivergesOnlyIn, OthersStay, Raises};
 
-use crate::inputs::{take_module, take_schedule};
+use crate::inputs::{begin_process, take_module, take_schedule};
 use crate::outputs::write_file;
 use crate::refusal::{Answer, Refusal};
 use crate::summary::{Recorded, record_process};
@@ -41,8 +41,10 @@ fn gather<F: Files>(alloc: Global, schedule_file: &str, files: &mut F) -> Result
     let schedule = take_schedule(alloc, schedule_file, files)?;
     let process = process_of(&schedule);
     let module_file = String::from_utf8_lossy(alloc, process.module.as_slice())?;
-    let body = take_module(alloc, &module_file, files)?;
-    let recorded = record_process(alloc, process.name.as_slice(), &body, schedule.items())?;
+    let file: &str = &module_file;
+    let guest = take_module(alloc, file, files)?;
+    let begun = begin_process(alloc, file, &guest, 0, 1)?;
+    let recorded = record_process(alloc, process.name.as_slice(), begun, schedule.items())?;
     Ok(recorded)
 }
 

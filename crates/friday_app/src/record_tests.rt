@@ -192,7 +192,7 @@ fn absent_and_refused_inputs(rt: HostRuntime) -> Result<(), Fail> {
         ("record y", Status::Absent, "absent y"),
         ("record s", Status::Absent, "absent x"),
         ("record bad", Status::Refused, "refused bad: line 3 BadLine"),
-        ("record t", Status::Refused, "refused s: 8 NotBuilt"),
+        ("record t", Status::Refused, "refused s: 1 Malformed"),
         ("record long", Status::Refused, "refused long: TooLarge"),
     ];
     for (line, status, text) in rows {

@@ -1,17 +1,16 @@
 // A process that is recorded, try by try.
-ghost use Rattle.std.specs.Prelude.{◌≡◌, ◌+◌, ℕ, List, All, IfOk, OnOk, IsTrue};
-ghost use Rattle.wasm_types.specs.Code.{trees};
+ghost use Rattle.std.specs.Prelude.{◌≡◌, ◌+◌, ℕ, List, All, IfOk, IsTrue};
 ghost use Rattle.fri_text.specs.Name.{is_name as is_name_word};
 ghost use Rattle.schedule_text.specs.Schedule.{IsInRange};
-ghost use Rattle.friday_app.specs.Process.{State};
+ghost use Rattle.guest_process.specs.State.{State};
 ghost use Rattle.friday_app.specs.History.{Progress, attempt, attempts, after_item, after_items, nothing_yet};
 ghost use Rattle.friday_app.specs.Record.{first_of};
 
-use crate::process::Process;
+use crate::events::live_entry;
 use call_log::{LogHead, put_entry, put_head};
+use guest_process::Process;
 use schedule_text::Item;
 use std::alloc::{AllocError, Global};
-use wasm_types::Instr;
 
 /// A process that is recorded: its state, its wall time as the bits of a signed number, its log so far, and the numbers of its events,
 /// of the acted steps and of the idle tries.
@@ -35,10 +34,10 @@ fn next(count: u64) -> Result<u64, AllocError>
 impl<'m> Recorder<'m> {
     ghost use Rattle.friday_app.specs.Recorded.{KeepsUp};
 
-    /// The one process of a group, with a module of this body, before anything is done.
-    pub fn new(alloc: Global, body: &'m [Instr], name: &[u8]) -> Result<Recorder<'m>, AllocError>
+    /// The one process of a group, before anything is done.
+    pub fn new(alloc: Global, begun: Process<'m>, name: &[u8]) -> Result<Recorder<'m>, AllocError>
         requires { IsTrue (is_name_word name.now) }
-        ensures { IfOk result (KeepsUp name.now (first_of (trees body.now)) nothing_yet) }
+        ensures { IfOk result (KeepsUp name.now (first_of begun.entry) nothing_yet) }
     {
         let mut log = Vec::new(alloc);
         let head = LogHead {
@@ -48,7 +47,7 @@ impl<'m> Recorder<'m> {
         };
         put_head(&mut log, &head)?;
         Ok(Recorder {
-            process: Process::start(alloc, body),
+            process: begun,
             time: 0,
             log,
             events: 0,
@@ -58,54 +57,62 @@ impl<'m> Recorder<'m> {
     }
 
     // One try of a thread.
-    fn attempt(&mut self, thread: u16) -> Result<(), AllocError>
-        ensures { OnOk result ((name : List ℕ) (first : ℕ → State) (done : Progress) → KeepsUp name first done self.old → KeepsUp name first (attempt first 0 thread done) self.new) }
+    fn attempt(mut self, thread: u16) -> Result<Recorder<'m>, AllocError>
+        ensures { IfOk result (λ now. (name : List ℕ) (first : ℕ → State) (done : Progress) → KeepsUp name first done self.entry → KeepsUp name first (attempt first 0 thread done) now) }
     {
-        match self.process.live_entry(thread, self.time)? {
-            None => self.idle = next(self.idle)?,
+        match live_entry(&self.process, thread, self.time)? {
+            None => {
+                self.idle = next(self.idle)?;
+                Ok(self)
+            }
             Some(entry) => {
                 self.events = next(self.events)?;
                 self.acted = next(self.acted)?;
                 put_entry(&mut self.log, &entry)?;
-                self.process.advance(&entry)?;
+                self.process = self.process.advance(&entry)?;
+                Ok(self)
             }
         }
-        Ok(())
     }
 
     // So many tries of a thread.
-    fn run(&mut self, thread: u16, times: u32) -> Result<(), AllocError>
-        ensures { OnOk result ((name : List ℕ) (first : ℕ → State) (done : Progress) → KeepsUp name first done self.old → KeepsUp name first (attempts first 0 thread times done) self.new) }
+    fn run(self, thread: u16, times: u32) -> Result<Recorder<'m>, AllocError>
+        ensures { IfOk result (λ now. (name : List ℕ) (first : ℕ → State) (done : Progress) → KeepsUp name first done self.entry → KeepsUp name first (attempts first 0 thread times done) now) }
     {
+        let mut recorder = self;
         for _ in 0..times {
-            self.attempt(thread)?;
+            recorder = recorder.attempt(thread)?;
         }
-        Ok(())
+        Ok(recorder)
     }
 
     // Does an item of the schedule.
-    fn perform(&mut self, item: &Item) -> Result<(), AllocError>
+    fn perform(mut self, item: &Item) -> Result<Recorder<'m>, AllocError>
         requires { IsInRange 1 item.now }
-        ensures { OnOk result ((name : List ℕ) (first : ℕ → State) (done : Progress) → KeepsUp name first done self.old → KeepsUp name first (after_item first item.now done) self.new) }
+        ensures { IfOk result (λ now. (name : List ℕ) (first : ℕ → State) (done : Progress) → KeepsUp name first done self.entry → KeepsUp name first (after_item first item.now done) now) }
     {
         match item {
-            Item::Run { thread, times, .. } => self.run(*thread, *times)?,
+            Item::Run { thread, times, .. } => {
+                let recorder = self.run(*thread, *times)?;
+                Ok(recorder)
+            }
             Item::Clock { value, .. } => {
                 self.time = value.cast_unsigned();
                 self.acted = next(self.acted)?;
+                Ok(self)
             }
         }
-        Ok(())
     }
 
     /// Does all items of a schedule.
-    pub fn perform_all(&mut self, items: &[Item]) -> Result<(), AllocError>
+    pub fn perform_all(self, items: &[Item]) -> Result<Recorder<'m>, AllocError>
         requires { All (IsInRange 1) items.now }
-        ensures { OnOk result ((name : List ℕ) (first : ℕ → State) (done : Progress) → KeepsUp name first done self.old → KeepsUp name first (after_items first items.now done) self.new) }
+        ensures { IfOk result (λ now. (name : List ℕ) (first : ℕ → State) (done : Progress) → KeepsUp name first done self.entry → KeepsUp name first (after_items first items.now done) now) }
     {
+        let mut recorder = self;
         for item in items {
-            self.perform(item)?;
+            recorder = recorder.perform(item)?;
         }
-        Ok(())
+        Ok(recorder)
     }
 }

@@ -4,7 +4,7 @@ ghost use Rattle.fri_outside.specs.Outside.{WhenTold, NoneFell};
 ghost use Rattle.friday_app.specs.Expected.{replay_outcome};
 ghost use Rattle.friday_app.specs.Call.{Tells, Raises};
 
-use crate::inputs::{begin_log, take_log, take_module};
+use crate::inputs::{begin_log, begin_process, take_log, take_module};
 use crate::refusal::{Answer, Refusal};
 use crate::report::report;
 use fri_outside::Files;
@@ -21,9 +21,11 @@ pub fn replay<F: Files>(
     ensures counts { NoneFell (F.counts files.old) (F.counts files.new) }
     ensures cause { IfErr result (Raises (F.counts files.old) (F.counts files.new)) }
 {
-    let body = take_module(alloc, module_file, files)?;
+    let guest = take_module(alloc, module_file, files)?;
     let bytes = take_log(alloc, log_file, files)?;
     let view = begin_log(alloc, log_file, &bytes)?;
-    let answer = report(alloc, &body, view)?;
+    let head = view.head();
+    let begun = begin_process(alloc, module_file, &guest, head.process, head.count)?;
+    let answer = report(alloc, begun, view)?;
     Ok(answer)
 }

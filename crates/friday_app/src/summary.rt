@@ -1,6 +1,5 @@
 // What comes of the recording of a process.
 ghost use Rattle.std.specs.Prelude.{◌≡◌, ◌++◌, All, IfOk, OnOk, IsTrue, string_bytes};
-ghost use Rattle.wasm_types.specs.Code.{trees};
 ghost use Rattle.fri_text.specs.Name.{is_name as is_name_word};
 ghost use Rattle.schedule_text.specs.Schedule.{IsInRange};
 ghost use Rattle.friday_app.specs.Record.{record_work, process_line, items_line, log_name};
@@ -8,11 +7,11 @@ ghost use Rattle.friday_app.specs.Recorded.{IsRecordedWork};
 ghost use Rattle.friday_app.specs.Agreement.{IsRecordingOf};
 
 use crate::recorder::Recorder;
-use crate::report::end_text;
+use crate::texts::push_end;
 use fri_text::Text;
+use guest_process::{End, Process};
 use schedule_text::Item;
 use std::alloc::{AllocError, Global};
-use wasm_types::Instr;
 
 /// A process that was recorded: its log, the log's name, and the summary.
 #[derive(Drop)]
@@ -22,14 +21,14 @@ pub struct Recorded {
     pub text: Text,
 }
 
-fn push_process(text: &mut Text, name: &[u8], events: u64, active: bool) -> Result<(), AllocError>
-    ensures { OnOk result (text.new ≡ text.old ++ process_line name.now events active) }
+fn push_process(text: &mut Text, name: &[u8], events: u64, end: End) -> Result<(), AllocError>
+    ensures { OnOk result (text.new ≡ text.old ++ process_line name.now events end) }
 {
     text.push_bytes(name)?;
     text.push_str(": ")?;
     text.push_u64(events)?;
     text.push_str(" events, ")?;
-    text.push_str(end_text(active))?;
+    push_end(text, end)?;
     text.push_str("\n")?;
     Ok(())
 }
@@ -54,27 +53,21 @@ fn log_name(alloc: Global, name: &[u8]) -> Result<String, AllocError>
     Ok(file)
 }
 
-/// Records a process of this name, with a module of this body, over the items of a schedule.
+/// Records a process of this name, from its first state, over the items of a schedule.
 pub fn record_process(
     alloc: Global,
     name: &[u8],
-    body: &[Instr],
+    begun: Process<'_>,
     items: &[Item],
 ) -> Result<Recorded, AllocError>
     requires named { IsTrue (is_name_word name.now) }
     requires in_range { All (IsInRange 1) items.now }
-    ensures work { IfOk result (λ recorded. IsRecordedWork recorded (record_work name.now (trees body.now) items.now)) }
-    ensures recorded { IfOk result (λ recorded. IsRecordingOf recorded.log.items name.now (trees body.now) items.now) }
+    ensures work { IfOk result (λ recorded. IsRecordedWork recorded (record_work name.now begun.entry items.now)) }
+    ensures recorded { IfOk result (λ recorded. IsRecordingOf recorded.log.items name.now begun.entry items.now) }
 {
-    let mut recorder = Recorder::new(alloc, body, name)?;
-    recorder.perform_all(items)?;
+    let recorder = Recorder::new(alloc, begun, name)?.perform_all(items)?;
     let mut text = Text::new(alloc);
-    push_process(
-        &mut text,
-        name,
-        recorder.events,
-        recorder.process.is_active(),
-    )?;
+    push_process(&mut text, name, recorder.events, recorder.process.end())?;
     push_items(&mut text, recorder.acted, recorder.idle)?;
     Ok(Recorded {
         log_name: log_name(alloc, name)?,

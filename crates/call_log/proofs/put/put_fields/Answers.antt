@@ -2,8 +2,10 @@ use Rattle.std.proofs.Common.{Bool, ◌≡◌, ℕ, List, ◌∷◌, [], ◌++�
 use Rattle.std.specs.Int.{w16, w32, w64, to_le_bytes}
 use Rattle.std.specs.List.{concat}
 use Rattle.std.proofs.lemmas.List.{append-nil}
-use Rattle.call_log.specs.Kind.{has_outgoing, has_incoming, has_tag}
-use Rattle.call_log.specs.Entry.{Entry, entry_of, body, encoding, front_bytes, argument_bytes, reply_bytes, tag_if, string_if}
+use Rattle.lib_calls.specs.Kinds.{has_outgoing, has_incoming, has_tag}
+use Rattle.lib_calls.specs.declared.entry.Entry.{Entry}
+use Rattle.lib_calls.specs.Entry.{entry_of}
+use Rattle.call_log.specs.Entry.{body, encoding, front_bytes, argument_bytes, reply_bytes, tag_if, string_if}
 use Rattle.call_log.proofs.FieldLaws.{on_ok}
 use Rattle.call_log.proofs.put.put_fields.Goals as goal
 

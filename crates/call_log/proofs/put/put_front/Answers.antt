@@ -1,7 +1,9 @@
 use Rattle.std.proofs.Common.{◌≡◌, ◌-◌, ℕ, List, [], ◌∷◌, ◌++◌, length, OnOk, Result, ap, ◌∙◌, rules}
 use Rattle.std.specs.Int.{w16, w32, w64, to_le_bytes}
 use Rattle.std.specs.List.{concat}
-use Rattle.call_log.specs.Entry.{Entry, body, entry_of, front_bytes}
+use Rattle.lib_calls.specs.declared.entry.Entry.{Entry}
+use Rattle.lib_calls.specs.Entry.{entry_of}
+use Rattle.call_log.specs.Entry.{body, front_bytes}
 use Rattle.call_log.proofs.FieldLaws.{on_ok}
 use Rattle.call_log.proofs.Sizes.{body_size}
 use Rattle.call_log.proofs.put.put_front.Goals as goal

@@ -1,5 +1,5 @@
 use Rattle.std.proofs.Common.{◌∙◌, ap, sym, arith}
-use Rattle.call_log.specs.Entry.{entry_of}
+use Rattle.lib_calls.specs.Entry.{entry_of}
 use Rattle.call_log.specs.Log.{Log}
 use Rattle.call_log.proofs.Entries.{rest_of-next, rest_of-end, shorter}
 use Rattle.friday_app.proofs.inputs.rest_behind.Goals as goal

@@ -13,12 +13,12 @@ loop-item-preserved c = λ name first done k.
     let h = c.loop-item.invariant name first done k in
     record {
       middle = after_item first (slice_index_or c.args.items.now c.loop-item.item-index (item.Run 0 0 0)) h.middle;
-      keeps = c.in_ok-perform.ensures name first h.middle h.keeps;
+      keeps = c.in_ok-recorder.ensures name first h.middle h.keeps;
       leads = sym (items_next first c.args.items.now c.loop-item.item-index (item.Run 0 0 0) h.middle c.loop-item-test.true) ∙ h.leads;
     }
 
 pub returns : goal.returns
 returns c = λ name first done k.
     let h = c.loop-item.invariant name first done k in
-    subst (λ (d : Progress). KeepsUp name first d c.loop-item.self)
+    subst (λ (d : Progress). KeepsUp name first d c.loop-item.recorder)
     (sym (items_end first c.args.items.now c.loop-item.item-index h.middle c.loop-item-test.false) ∙ h.leads) h.keeps

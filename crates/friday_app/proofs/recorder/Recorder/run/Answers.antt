@@ -15,7 +15,7 @@ loop-preserved c = λ name first done k.
     let one : suc (c.args.times - (c.loop.counter + 1)) ≡ c.args.times - c.loop.counter = omega arith in
     record {
       middle = attempt first 0 c.args.thread h.middle;
-      keeps = c.in_ok-attempt.ensures name first h.middle h.keeps;
+      keeps = c.in_ok-recorder.ensures name first h.middle h.keeps;
       leads = sym (attempts-next first c.args.thread (c.args.times - (c.loop.counter + 1)) h.middle) ∙ ap (λ (n : ℕ). attempts first 0 c.args.thread n h.middle) one ∙ h.leads;
     }
 
@@ -23,5 +23,5 @@ pub returns : goal.returns
 returns c = λ name first done k.
     let h = c.loop.invariant name first done k in
     let none : 0 ≡ c.args.times - c.loop.counter = omega arith in
-    subst (λ (d : Progress). KeepsUp name first d c.loop.self)
+    subst (λ (d : Progress). KeepsUp name first d c.loop.recorder)
     (sym (attempts-none first c.args.thread h.middle) ∙ ap (λ (n : ℕ). attempts first 0 c.args.thread n h.middle) none ∙ h.leads) h.keeps

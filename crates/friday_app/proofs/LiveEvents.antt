@@ -1,0 +1,119 @@
+-- The event of a try, from what is asked of a process.
+use Rattle.std.proofs.Common.{◌≡◌, ℕ, zero, suc, ◌+◌, ◌<◌, ◌^◌, Bool, true, false, ◌&&◌, cond, List, [], Option, Some, None, refl, ap, sym, subst, ◌∙◌, arith, slice_index_or}
+use Rattle.std.specs.Prelude.{max, option_map, is_some}
+use Rattle.std.proofs.lemmas.Option.{same_Some}
+use Rattle.lib_calls.specs.declared.entry.Call.{Call}
+use Rattle.lib_calls.specs.declared.entry.Entry.{Entry}
+use Rattle.lib_calls.specs.declared.entry.EntryView.{EntryView}
+use Rattle.lib_calls.specs.Entry.{entry_of}
+use Rattle.guest_process.specs.declared.need.Need.{Need}
+use Rattle.guest_process.specs.Answers.{need, replies}
+use Rattle.guest_process.specs.Fits.{StateFits}
+use Rattle.guest_process.specs.GoesOn.{handler}
+use Rattle.guest_process.specs.Kinds.{ends_process, kind_of}
+use Rattle.guest_process.specs.Live.{Answered, Event, answered, chosen, event, from_world, live, live_at, lowest}
+use Rattle.guest_process.specs.Seen.{able, plain}
+use Rattle.guest_process.specs.State.{State, is_running, thread_at}
+use Rattle.guest_process.proofs.OneEvent.{one_event}
+use Rattle.call_log.specs.Entry.{IsLogged}
+use Rattle.call_log.specs.Kind.{is_built}
+use Rattle.friday_app.specs.History.{world}
+use Rattle.friday_app.specs.Recorded.{AllAgree, IsEntryOf, reply_at}
+use Rattle.friday_app.proofs.Replies.{IsReply, call_replied, reply_built}
+
+-- the entry of an event that took nothing from outside but its reply
+abbrev pub plain_entry : ℕ → ℕ → Call → ℕ → Entry
+plain_entry clock thread call reply = record { clock = clock; thread = thread; signal = 0; call = call; reply = reply; outgoing = []; incoming = []; tag = None }
+
+-- each event of a process tells itself by its entry
+pub all_agree : (S : State) (thread time : ℕ) → StateFits S → S.events < 2 ^ 61 → time < 2 ^ 64 → AllAgree S thread time
+all_agree S thread time fits few small e is = one_event S thread (world time) fits few (record { time = small }) e is
+
+one_more : {A B : Type 0} (f : A → B) (o : Option A) (y : B) → Some y ≡ option_map f o → (x : A) × (o ≡ Some x) × (y ≡ f x)
+one_more f None y h = cc
+one_more f (Some x) y h = (x, refl, same_Some _ _ h)
+
+-- what is done with a value that is there only where a test holds
+tested : {A B : Type 0} (f : Option A → Option B) → f None ≡ None → (test : Bool) (o w : Option A) → cond test o None ≡ w → cond test (f o) None ≡ f w
+tested f none true o w is = ap f is
+tested f none false o w is = sym none ∙ ap f is
+
+lowest_none : (p : ℕ → Bool) → ((s : ℕ) → p s ≡ false) → (n s : ℕ) → lowest p n s ≡ 0
+unfolding lowest
+lowest_none p none zero s = refl
+lowest_none p none (suc n) s = rw (none s) (lowest_none p none n (s + 1))
+
+none_by : (p : ℕ → Bool) → ((s : ℕ) → p s ≡ false) → (b : Bool) → cond b 0 (lowest p 31 1) ≡ 0
+none_by p none true = refl
+none_by p none false = lowest_none p none 31 1
+
+none_pending : (s : ℕ) → slice_index_or [] s false ≡ false
+none_pending zero = refl
+none_pending (suc s) = refl
+
+none_chosen : (kind : ℕ) (handlers : List (Option ℕ)) → chosen (kind_of kind) handlers [] ≡ 0
+none_chosen kind handlers =
+    none_by (λ s. slice_index_or [] s false && is_some (handler handlers s)) (λ s. ap (λ b. b && is_some (handler handlers s)) (none_pending s)) (ends_process (kind_of kind))
+
+next_plain : (n : ℕ) → 1 + max n 0 ≡ n + 1
+next_plain n = grind arith
+
+same_entry : (clock signal n thread : ℕ) (call told : Call) (reply : ℕ) → clock ≡ n → signal ≡ 0 → call ≡ told
+    → plain_entry n thread told reply ≡ record { clock = clock; thread = thread; signal = signal; call = call; reply = reply; outgoing = []; incoming = []; tag = None }
+same_entry clock signal n thread call told reply clocks none calls = rw (clocks, none, calls) refl
+
+-- a try that has the event of this entry, or none
+abbrev IsTried : Option Event → (ℕ → Entry) → Option ℕ → Type 0
+IsTried l entry None = l ≡ None
+IsTried l entry (Some reply) = (e : Event) × (l ≡ Some e) × (entry reply ≡ e.entry)
+
+tried_by : (f : Answered → Event) (o : Option Answered) (r : Option ℕ) (l : Option Event) (entry : ℕ → Entry) → l ≡ option_map f o → IsReply o r
+    → ((reply : ℕ) (after : State) → entry reply ≡ (f (record { answer = replies reply; after = after })).entry) → IsTried l entry r
+tried_by f o None l entry is none same = is ∙ ap (option_map f) none
+tried_by f o (Some reply) l entry is (after, some) same = (f (record { answer = replies reply; after = after }), is ∙ ap (option_map f) some, same reply after)
+
+-- the call at which a thread stands, and what is needed there
+pub record IsAsked (S : State) (t : ℕ) (c : Call) (asked : Need) : Type 0 where
+  pub call : Some c ≡ option_map (λ w. w.call) (able S t)
+  pub need : Some asked ≡ option_map (λ w. plain (need (kind_of w.call.kind) S t w.call)) (able S t)
+
+asked_need : (S : State) (t : ℕ) (c : Call) (asked : Need) → IsAsked S t c asked → asked ≡ plain (need (kind_of c.kind) S t c)
+asked_need S t c asked h =
+    let w = one_more (λ w. w.call) (able S t) c h.call in
+    let n = one_more (λ w. plain (need (kind_of w.call.kind) S t w.call)) (able S t) asked h.need in
+    let calls : n.0.call ≡ c = ap (λ w. w.call) (same_Some _ _ (sym n.1 ∙ w.1)) ∙ sym w.2 in
+    n.2 ∙ ap (λ (c : Call). plain (need (kind_of c.kind) S t c)) calls
+
+-- the event of that thread, where a reply is given
+tried_at : (S : State) (t time : ℕ) (c : Call) (asked : Need) → IsAsked S t c asked → IsTried (live S t (world time)) (λ reply. plain_entry (S.clock + 1) t c reply) (reply_at asked c time)
+tried_at S t time c asked h =
+    let w = one_more (λ w. w.call) (able S t) c h.call in
+    let here : live S t (world time) ≡ live_at S t (world time) (Some w.0) = tested (live_at S t (world time)) refl (is_running S) (thread_at S t) (Some w.0) w.1 in
+    let given : IsReply (answered (need (kind_of w.0.call.kind) S t w.0.call) (from_world (kind_of w.0.call.kind) S w.0.call (world time))) (reply_at asked c time) =
+    subst (λ (c : Call). IsReply (answered (need (kind_of w.0.call.kind) S t w.0.call) (from_world (kind_of w.0.call.kind) S w.0.call (world time))) (reply_at asked c time)) (sym w.2)
+    (subst (λ (n : Need). IsReply (answered (need (kind_of w.0.call.kind) S t w.0.call) (from_world (kind_of w.0.call.kind) S w.0.call (world time))) (reply_at n w.0.call time))
+    (sym (asked_need S t c asked h ∙ ap (λ (c : Call). plain (need (kind_of c.kind) S t c)) w.2)) (call_replied S t time w.0.call)) in
+    tried_by (event S t (world time) w.0) _ (reply_at asked c time) _ _ here given
+    (λ reply after. same_entry _ _ (S.clock + 1) t w.0.call c reply (next_plain S.clock) (none_chosen w.0.call.kind after.handlers) (sym w.2))
+
+-- no reply is given now
+pub none_given : (S : State) (t time : ℕ) (c : Call) (asked : Need) → IsAsked S t c asked → None ≡ reply_at asked c time → IsEntryOf (live S t (world time)) None
+none_given S t time c asked h is = subst (IsTried (live S t (world time)) (λ reply. plain_entry (S.clock + 1) t c reply)) (sym is) (tried_at S t time c asked h)
+
+-- this reply is given
+pub one_given : (S : State) (t time : ℕ) (c : Call) (asked : Need) (reply clock : ℕ) (view : EntryView) → IsAsked S t c asked → Some reply ≡ reply_at asked c time → clock ≡ S.clock + 1
+    → entry_of view ≡ plain_entry clock t c reply → IsEntryOf (live S t (world time)) (Some view)
+one_given S t time c asked reply clock view h is next told =
+    let e = subst (IsTried (live S t (world time)) (λ reply. plain_entry (S.clock + 1) t c reply)) (sym is) (tried_at S t time c asked h) in
+    (e.0, e.1, told ∙ ap (λ (n : ℕ). plain_entry n t c reply) next ∙ e.2)
+
+-- its entry is one that a log can have
+pub given_logged : (S : State) (t time : ℕ) (c : Call) (asked : Need) (reply clock : ℕ) (view : EntryView) → IsAsked S t c asked → Some reply ≡ reply_at asked c time → clock ≡ S.clock + 1
+    → entry_of view ≡ plain_entry clock t c reply → AllAgree S t time → IsLogged (entry_of view)
+given_logged S t time c asked reply clock view h is next told agree =
+    let e = one_given S t time c asked reply clock view h is next told in
+    let built : is_built c.kind ≡ true = reply_built S t time reply c (ap (λ (n : Need). reply_at n c time) (sym (asked_need S t c asked h)) ∙ sym is) in
+    subst IsLogged (sym e.2) (record {
+      shape = (agree e.0 e.1).shape;
+      built = ap (λ (e : Entry). is_built e.call.kind) (sym e.2 ∙ told) ∙ built;
+    })

@@ -1,0 +1,10 @@
+use Rattle.std.proofs.Common.{subst}
+use Rattle.wasm_validate.specs.Refusals.{IsFirst}
+use Rattle.wasm_types.specs.Modules.{module_of as shown}
+use Rattle.friday_app.specs.declared.refusal.Reason.TheVariants as reason
+use Rattle.friday_app.proofs.Faults.{bad_import, fault_stops}
+use Rattle.friday_app.proofs.inputs.valid.Goals as goal
+
+pub returns-in-Err-BadImport-clause-answer : goal.returns-in-Err-BadImport-clause-answer
+returns-in-Err-BadImport-clause-answer c =
+    fault_stops c.args.name.now (shown c.args.checked) reason.BadImport c.refuse-in-Err-BadImport.result (bad_import (shown c.args.checked) (subst (IsFirst (shown c.args.checked)) c.in-Err-BadImport.field-0-is c.in-Err-BadImport.ensures.refused)) c.refuse-in-Err-BadImport.ensures

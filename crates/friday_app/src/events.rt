@@ -1,0 +1,103 @@
+// The events of a process, as the world around it lets them be and as entries tell them.
+ghost use Rattle.std.specs.Prelude.{◌≡◌, ◌+◌, ◌<◌, ◌^◌, IfOk, IfSome, None, Some, [], map};
+ghost use Rattle.lib_calls.specs.Entry.{entry_of};
+ghost use Rattle.call_log.specs.Entry.{IsLogged};
+ghost use Rattle.guest_process.specs.Answers.{is_due};
+ghost use Rattle.guest_process.specs.Legal.{reason};
+ghost use Rattle.guest_process.specs.Live.{live};
+ghost use Rattle.guest_process.specs.Next.{next};
+ghost use Rattle.friday_app.specs.History.{world};
+ghost use Rattle.friday_app.specs.Recorded.{IsEntryOf, AllAgree, reply_at};
+
+use guest_process::{Need, Process};
+use lib_calls::{Call, EntryView};
+use std::alloc::AllocError;
+
+/// No memory holds the log of so many events.
+const MOST_EVENTS: u64 = 0x2000_0000_0000_0000;
+
+/// The number of the kind `sleep_until`.
+const SLEEP_UNTIL: u8 = 5;
+
+/// The entry of the event of a try of this thread at this wall time, or nothing where the try is idle.
+pub fn live_entry(
+    process: &Process<'_>,
+    thread: u16,
+    time: u64,
+) -> Result<Option<EntryView<'static>>, AllocError>
+    ensures entry { IfOk result (IsEntryOf (live process.now thread (world time))) }
+    ensures agrees { IfOk result (λ _. AllAgree process.now thread time) }
+    ensures few { IfOk result (λ _. process.now.events < 2 ^ 61) }
+    ensures logged { IfOk result (λ found. IfSome found (λ entry. IsLogged (entry_of entry))) }
+{
+    if process.events() >= MOST_EVENTS {
+        return Err(AllocError);
+    }
+    let Some(call) = process.pending(thread) else {
+        return Ok(None);
+    };
+    let Some(need) = process.need(thread) else {
+        return Ok(None);
+    };
+    let Some(reply) = reply(need, call, time) else {
+        return Ok(None);
+    };
+    let clock = next_clock(process.clock())?;
+    Ok(Some(plain_entry(clock, thread, *call, reply)))
+}
+
+/// Makes the event of an entry that is legal.
+pub fn make_event<'m>(
+    process: Process<'m>,
+    entry: &EntryView<'_>,
+) -> Result<Process<'m>, AllocError>
+    requires { reason process (entry_of entry.now) ≡ None }
+    ensures { IfOk result (λ after. after ≡ next process.entry (entry_of entry.now)) }
+{
+    if process.events() >= MOST_EVENTS {
+        return Err(AllocError);
+    }
+    process.advance(entry)
+}
+
+// The reply to a call at this wall time, where it is given now.
+fn reply(need: Need, call: &Call, time: u64) -> Option<u64>
+    ensures { result ≡ reply_at need call.now time }
+{
+    match need {
+        Need::Fixed(reply) => Some(reply),
+        Need::Blocked => None,
+        Need::World if call.kind == SLEEP_UNTIL && !is_due(call.a0, time) => None,
+        Need::World => Some(time),
+    }
+}
+
+// Whether a thread wakes at this time that sleeps until that one.
+fn is_due(until: u64, time: u64) -> bool
+    ensures { result ≡ is_due until time }
+{
+    until.cast_signed() <= time.cast_signed()
+}
+
+// The clock of the next event. No memory holds a log after which it would not fit.
+fn next_clock(clock: u64) -> Result<u64, AllocError>
+    ensures { IfOk result (λ next. next ≡ clock + 1) }
+{
+    clock.checked_add(1).ok_or(AllocError)
+}
+
+// The entry of an event that took nothing from outside but its reply.
+fn plain_entry(clock: u64, thread: u16, call: Call, reply: u64) -> EntryView<'static>
+    ensures { entry_of result ≡ record { clock = clock; thread = thread; signal = 0; call = call; reply = reply; outgoing = []; incoming = []; tag = None } }
+{
+    EntryView {
+        clock,
+        thread,
+        signal: 0,
+        call,
+        reply,
+        outgoing: &[],
+        incoming: &[],
+        tag: None,
+    }
+}
