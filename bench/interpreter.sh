@@ -1,0 +1,124 @@
+#!/bin/sh
+# Runs guests that compute, and prints how many instructions `friday record` runs in a second, beside
+# wasm-interp of the package wabt on the same guests. Each guest yields after 9 to 10 million instructions,
+# 20 times. Then a guest that notes in a loop is recorded and replayed at 10,000 and at 1,000,000 events: the
+# time of an event, and the peak memory beside the log. The time of a start is subtracted.
+# Usage: bench/interpreter.sh [PROGRAM]   (the program that ./friday builds, if none is given)
+here=$(CDPATH='' cd -- "$(dirname -- "$0")/.." && pwd) || exit 1
+program=${1:-$here/crates/friday/out/friday}
+exec python3 - "$program" <<'PYTHON'
+import os, statistics, subprocess, sys, tempfile, time
+
+program = os.path.abspath(sys.argv[1])
+BURSTS = 20
+# How often each program runs each guest; the median counts.
+TIMES = 3
+
+# A guest's declarations, what it does in each turn but for the count of the turns, how many instructions a
+# turn has with that count, and how many turns a burst has.
+COUNT = "local.get $i i32.const 1 i32.sub local.tee $i br_if 0"
+GUESTS = {
+    "numbers": (
+        "",
+        "local.get $x i64.const 6364136223846793005 i64.mul i64.const 1442695040888963407 i64.add local.tee $x"
+        " i64.const 33 i64.shr_u local.get $x i64.xor local.set $x",
+        16,
+        600000,
+    ),
+    "memory": (
+        "(memory 1)",
+        "local.get $i i32.const 65535 i32.and local.tee $a local.get $a i32.load8_u local.get $i i32.add i32.store8",
+        14,
+        700000,
+    ),
+    "calls": (
+        "(func $triple (param i32) (result i32) local.get 0 i32.const 3 i32.mul)",
+        "local.get $i call $triple drop",
+        11,
+        890000,
+    ),
+    "indirect calls": (
+        "(type $f (func (param i32) (result i32))) (table 2 funcref) (elem (i32.const 0) $triple $same)"
+        "(func $triple (type $f) local.get 0 i32.const 3 i32.mul) (func $same (type $f) local.get 0 nop nop)",
+        "local.get $i local.get $i i32.const 1 i32.and call_indirect (type $f) drop",
+        14,
+        700000,
+    ),
+    "branches": (
+        "",
+        "block block block local.get $i i32.const 3 i32.and br_table 0 1 2 2 end end end",
+        12,
+        800000,
+    ),
+}
+
+COMPUTES = """(module (import "liblog" "yield" (func $yield)) %s
+  (func (export "_start") (local $n i32) (local $i i32) (local $a i32) (local $x i64)
+    i32.const %d local.set $n
+    loop
+      i32.const %d local.set $i
+      loop %s %s end
+      call $yield
+      local.get $n i32.const 1 i32.sub local.tee $n br_if 0
+    end))"""
+
+NOTES = """(module (import "liblog" "note" (func $note (param i64)))
+  (func (export "_start") (local $n i64)
+    i64.const %d local.set $n
+    loop
+      local.get $n call $note
+      local.get $n i64.const 1 i64.sub local.tee $n i64.const 0 i64.ne br_if 0
+    end))"""
+
+
+def build(folder, text):
+    with open(os.path.join(folder, "a.wat"), "w") as file:
+        file.write(text)
+    subprocess.run(["wat2wasm", "a.wat", "-o", "a.wasm"], cwd=folder, check=True)
+
+
+def schedule(folder, tries):
+    with open(os.path.join(folder, "s"), "w") as file:
+        file.write("friday 1\nprocess a a.wasm\nrun 0 0 %d\n" % tries)
+
+
+# The median of the times, and the greatest of the peaks in bytes.
+def measure(words, folder, wanted=None):
+    times, peak = [], 0
+    for _ in range(TIMES):
+        start = time.perf_counter()
+        child = subprocess.Popen(words, cwd=folder, stdout=subprocess.PIPE, text=True)
+        text = child.stdout.read()
+        _, status, usage = os.wait4(child.pid, 0)
+        times.append(time.perf_counter() - start)
+        assert os.waitstatus_to_exitcode(status) == 0, (words, status, text)
+        assert wanted is None or wanted in text, (words, text)
+        peak = max(peak, usage.ru_maxrss * 1024)
+    return statistics.median(times), peak
+
+
+with tempfile.TemporaryDirectory() as folder:
+    record, replay = [program, "record", "s"], [program, "replay", "a.wasm", "a.log"]
+    interp = ["wasm-interp", "--dummy-import-func", "--run-all-exports", "a.wasm"]
+    build(folder, COMPUTES % ("", 1, 1, "nop", COUNT))
+    schedule(folder, 2)
+    start, least = measure(record, folder, "finished")
+    start_of_interp, _ = measure(interp, folder)
+    print("%-16s %14s %14s %10s" % ("millions/second", "friday record", "wasm-interp", "ratio"))
+    for name, (declared, turn, length, turns) in GUESTS.items():
+        build(folder, COMPUTES % (declared, BURSTS, turns, turn, COUNT))
+        schedule(folder, BURSTS + 1)
+        count = BURSTS * turns * length / 1e6
+        ours = count / (measure(record, folder, "%d events, finished" % (BURSTS + 1))[0] - start)
+        theirs = count / (measure(interp, folder)[0] - start_of_interp)
+        print("%-16s %14.1f %14.1f %10.2f" % (name, ours, theirs, ours / theirs))
+    print("%-16s %14s %14s %12s %12s %12s" % ("events", "ns to record", "ns to replay", "bytes of log", "peak, record", "peak, replay"))
+    for events in (10000, 1000000):
+        build(folder, NOTES % (events - 1))
+        schedule(folder, events)
+        recorded, record_peak = measure(record, folder, "%d events, finished" % events)
+        replayed, replay_peak = measure(replay, folder, "%d events, finished, log whole" % events)
+        size = os.path.getsize(os.path.join(folder, "a.log"))
+        shown = tuple((spent - start) / events * 1e9 for spent in (recorded, replayed))
+        print("%-16d %14.0f %14.0f %12d %12d %12d" % (events, *shown, size, record_peak, replay_peak))
+PYTHON
