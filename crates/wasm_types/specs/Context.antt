@@ -1,5 +1,5 @@
 -- What the code of a function may name.
-use Rattle.std.specs.Prelude.{ℕ, Bool, List, [], ◌∷◌, ◌++◌, Option, map, length, replicate, nat_lt, slice_get, option_and_then}
+use Rattle.std.specs.Prelude.{ℕ, Bool, List, [], ◌∷◌, ◌++◌, Option, map, length, replicate, if◌then◌else◌, nat_lt, slice_get, option_and_then}
 use Rattle.wasm_types.specs.declared.code.ValType.{ValType}
 use Rattle.wasm_types.specs.declared.modules.ImportDesc.{ImportDesc}
 use Rattle.wasm_types.specs.declared.modules.ImportDesc.TheVariants as desc
@@ -34,6 +34,15 @@ funcs_of m = imported_funcs m.imports ++ map (λ (f : Func). f.type_index) m.fun
 abbrev pub expand : List (ℕ × ValType) → List ValType
 expand [] = []
 expand (run ∷ runs) = replicate run.0 run.1 ++ expand runs
+
+-- the runs of locals that are not empty
+abbrev pub filled : List (ℕ × ValType) → List (ℕ × ValType)
+filled [] = []
+filled (run ∷ runs) = if nat_lt 0 run.0 then run ∷ filled runs else filled runs
+
+-- those of each of the module's own functions
+abbrev pub filled_locals : Module → List (List (ℕ × ValType))
+filled_locals m = map (λ (f : Func). filled f.locals) m.funcs
 
 -- the code of a function with these parameters and locals, and this result
 abbrev pub context_of : Module → List ValType → Option ValType → Context

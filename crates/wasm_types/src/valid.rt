@@ -1,15 +1,21 @@
 // Modules that are known to be valid.
-ghost use Rattle.std.specs.Prelude.{◌≡◌};
+ghost use Rattle.std.specs.Prelude.{◌≡◌, IfNone, IfOk, IfSome, None, Some, map, option_map, slice_get};
+ghost use Rattle.wasm_types.specs.Context.{filled, filled_locals};
 ghost use Rattle.wasm_types.specs.Modules.{module_of};
 ghost use Rattle.wasm_types.specs.Valid.{IsValid};
 
+use crate::code::ValType;
 use crate::modules::Module;
+use std::alloc::{AllocError, Global};
 use std::marker::Model;
 
 /// A module that is valid. Contracts see it as its module.
 #[derive(Debug, Drop)]
 pub struct ValidModule {
     valid: Module,
+    // For each of the module's own functions, the locals without the runs of count 0, of which a
+    // module can declare millions: a call then walks none of them.
+    runs: Vec<Vec<(u32, ValType)>>,
 }
 
 impl Model for ValidModule {
@@ -21,20 +27,51 @@ impl Model for ValidModule {
 
     ghost coded = { Prim.hlevel (codes, instr.the_row.coded) };
 
+    ghost use Rattle.std.specs.Prelude.{◌≡◌, map};
+    ghost use Rattle.wasm_types.specs.Context.{filled_locals};
     ghost use Rattle.wasm_types.specs.Modules.{module_of};
     ghost use Rattle.wasm_types.specs.Valid.{IsValid};
 
     ghost view = { λ v. v.valid };
 
-    ghost invariant = { λ v. IsValid (module_of v.valid) };
+    ghost invariant = { λ v.
+        IsValid (module_of v.valid) × (map (λ runs. runs.items) v.runs.items ≡ filled_locals (module_of v.valid)) };
 }
 
 /// A valid module as one that is known to be.
-pub fn claim(checked: Module) -> ValidModule
+pub fn claim(alloc: Global, checked: Module) -> Result<ValidModule, AllocError>
     requires { IsValid (module_of checked) }
-    ensures { result ≡ checked }
+    ensures { IfOk result (λ v. v ≡ checked) }
 {
-    ValidModule { valid: checked }
+    let runs = filled_locals(alloc, &checked)?;
+    Ok(ValidModule {
+        valid: checked,
+        runs,
+    })
+}
+
+// The runs of locals that are not empty, of each of the module's own functions.
+fn filled_locals(alloc: Global, checked: &Module) -> Result<Vec<Vec<(u32, ValType)>>, AllocError>
+    ensures { IfOk result (λ all. map (λ runs. runs.items) all.items ≡ filled_locals (module_of checked.now)) }
+{
+    let mut all = Vec::new(alloc);
+    for function in &checked.funcs {
+        all.push(filled(alloc, &function.locals)?)?;
+    }
+    Ok(all)
+}
+
+// The runs that are not empty.
+fn filled(alloc: Global, locals: &[(u32, ValType)]) -> Result<Vec<(u32, ValType)>, AllocError>
+    ensures { IfOk result (λ runs. runs.items ≡ filled locals.now) }
+{
+    let mut runs = Vec::new(alloc);
+    for run in locals {
+        if 0 < run.0 {
+            runs.push(*run)?;
+        }
+    }
+    Ok(runs)
 }
 
 impl ValidModule {
@@ -44,5 +81,17 @@ impl ValidModule {
         ensures valid { IsValid (module_of result.now) }
     {
         &self.valid
+    }
+
+    /// The locals that the module's own function at this place declares, as counts and types, without
+    /// those of count 0. `None` comes exactly where the module has no such function.
+    pub fn declared(&self, place: usize) -> Option<&[(u32, ValType)]>
+        ensures some { IfSome result (λ runs. option_map (λ f. filled f.locals) (slice_get (module_of self.now).funcs place) ≡ Some runs.now) }
+        ensures none { IfNone result (slice_get (module_of self.now).funcs place ≡ None) }
+    {
+        match self.runs.get(place) {
+            Some(runs) => Some(runs.as_slice()),
+            None => None,
+        }
     }
 }

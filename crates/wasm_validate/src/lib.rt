@@ -48,7 +48,7 @@ pub fn validate(alloc: Global, checked: Module) -> Result<ValidModule, Invalid>
     ensures refused { IfErr result (λ e. IsFirst (module_of checked) e) }
 {
     check(alloc, &checked)?;
-    Ok(claim(checked))
+    Ok(claim(alloc, checked)?)
 }
 
 #[cfg(test)]
