@@ -7,10 +7,10 @@ use Rattle.wasm_types.specs.Code.{Tree, Unreachable, Nop, Block, Loop, If, Br, B
 use Rattle.wasm_types.specs.Context.{Context}
 use Rattle.wasm_types.specs.Modules.{Module}
 use Rattle.wasm_types.specs.Valid.{IsValid}
-use Rattle.wasm_step.specs.declared.halt.Halt.{Halt}
-use Rattle.wasm_step.specs.Answer.{stop_of}
+use Rattle.wasm_step.specs.declared.halt.Stopped.{Stopped}
+use Rattle.wasm_step.specs.Answer.{stopped_of}
 use Rattle.wasm_step.specs.Paused.{run_of}
-use Rattle.wasm_step.specs.Burst.{Settled, At, Done, Run, at_next, after_end, settle_by, settle, after_step, at_instr, burst}
+use Rattle.wasm_step.specs.Burst.{Settled, At, Done, Run, at_next, after_end, settle_by, settle, at_further, further, spent, after_step, burst}
 use Rattle.wasm_step.specs.Fits.{kinds_of, Leaves, Fits, Suits, StopFits, AfterFits, RunFits, StandsFit}
 use Rattle.wasm_step.specs.Reduce.{Both, Stop, Traps, After, Goes, Stops, row, reduce, limited, ended, trapped}
 use Rattle.wasm_step.specs.Store.{Store}
@@ -22,6 +22,14 @@ use Rattle.wasm_step.proofs.Plain.{Before, numeric_fits, local_get_fits, local_s
 use Rattle.wasm_step.proofs.Programs.{same_program}
 use Rattle.wasm_step.proofs.Runs.{zero_depth, less_depth}
 use Rattle.wasm_step.proofs.Stored.{global_get_fits, global_set_fits, load_row_fits, store_row_fits, size_fits, grow_fits}
+
+at_further_program : (s : Settled) (g : Store) → (at_further s g).store.program ≡ g.program
+at_further_program (At i t) g = same_program i t g
+at_further_program (Done stop) g = refl
+
+-- an instruction leaves the program as it is
+pub further_program : (t : Thread) (g : Store) → (further t g).store.program ≡ g.program
+further_program t g = at_further_program (settle t) g
 
 module _ (m : Module) where
   abbrev BothFit : Both → Type 0
@@ -86,9 +94,15 @@ module _ (m : Module) where
   settle_by_fits (suc n) t d h =
       next_fits t.todo t _ refl h (λ none. after_end_fits (ended t) _ (ended_fits m t none h) (λ u e hu. settle_by_fits n u (less_depth t u n d e) hu))
 
-  at_instr_fits : (s : Settled) (g : Store) (go : Tree → Thread → Run) → SettledFits s → Suits g → ((i : Tree) (t : Thread) → Fits m (record t { todo = Then i t.todo }) → RunFits m (go i t)) → RunFits m (at_instr s g go)
-  at_instr_fits (At i t) g go h hg next = next i t h
-  at_instr_fits (Done s) g go h hg next = (h, hg)
+  at_further_fits : (s : Settled) (g : Store) → IsValid m → g.program ≡ m → Suits g → SettledFits s → BothFit (at_further s g)
+  at_further_fits (At i t) g v same s h =
+      let b = row_fits h.0.context i t g v same s (rest_of m (record t { todo = Then i t.todo }) h) h.0.todo in
+      (limited_fits (row i t g).after b.0, b.1)
+  at_further_fits (Done stop) g v same s h = (h, s)
+
+  spent_fits : (s : Settled) → SettledFits s → StopFits m (spent s)
+  spent_fits (At i t) h = tt
+  spent_fits (Done stop) h = h
 
   after_step_fits : (a : After) (g : Store) (go : Thread → Store → Run) → AfterFits m a → Suits g → ((t : Thread) → Fits m t → RunFits m (go t g)) → RunFits m (after_step a g go)
   after_step_fits (Goes t) g go h hg next = next t h
@@ -97,20 +111,14 @@ module _ (m : Module) where
   -- a burst keeps what fits, and does not stick
   pub burst_fits : (n : ℕ) (t : Thread) (g : Store) → IsValid m → g.program ≡ m → Suits g → Fits m t → RunFits m (burst n t g)
   unfolding burst
-  burst_fits zero t g v same s h =
-      at_instr_fits (settle t) g _ (settle_by_fits (depth t) t refl h) s (λ i u hu. (tt, s))
+  burst_fits zero t g v same s h = (spent_fits (settle t) (settle_by_fits (depth t) t refl h), s)
   burst_fits (suc n) t g v same s h =
-      at_instr_fits (settle t) g _ (settle_by_fits (depth t) t refl h) s (λ i u hu.
-      let b = row_fits hu.0.context i u g v same s (rest_of m (record u { todo = Then i u.todo }) hu) hu.0.todo in
-      after_step_fits (limited (row i u g).after) (row i u g).store _ (limited_fits (row i u g).after b.0) b.1 (λ u' hu'. burst_fits n u' (row i u g).store v (same_program i u g ∙ same) b.1 hu'))
+      let b = at_further_fits (settle t) g v same s (settle_by_fits (depth t) t refl h) in
+      after_step_fits (further t g).after (further t g).store _ b.0 b.1 (λ u hu. burst_fits n u (further t g).store v (further_program t g ∙ same) b.1 hu)
 
   -- the same of what equals the burst
   pub run_fits : (n : ℕ) (t : Thread) (g : Store) (r : Run) → r ≡ burst n t g → IsValid m → g.program ≡ m → Suits g → Fits m t → RunFits m r
   run_fits n t g r e v same s h = subst (λ r. RunFits m r) (sym e) (burst_fits n t g v same s h)
-
-at_instr_program : (s : Settled) (g : Store) (go : Tree → Thread → Run) → ((i : Tree) (t : Thread) → (go i t).store.program ≡ g.program) → (at_instr s g go).store.program ≡ g.program
-at_instr_program (At i t) g go next = next i t
-at_instr_program (Done s) g go next = refl
 
 after_step_program : (a : After) (g : Store) (go : Thread → Store → Run) → ((t : Thread) → (go t g).store.program ≡ g.program) → (after_step a g go).store.program ≡ g.program
 after_step_program (Goes t) g go next = next t
@@ -119,23 +127,22 @@ after_step_program (Stops s) g go next = refl
 -- a burst leaves the program as it is
 burst_program : (n : ℕ) (t : Thread) (g : Store) → (burst n t g).store.program ≡ g.program
 unfolding burst
-burst_program zero t g = at_instr_program (settle t) g _ (λ i u. refl)
+burst_program zero t g = refl
 burst_program (suc n) t g =
-    at_instr_program (settle t) g _ (λ i u.
-    after_step_program (reduce i u g).after (reduce i u g).store (burst n) (λ u'. burst_program n u' (reduce i u g).store)
-    ∙ same_program i u g)
+    after_step_program (further t g).after (further t g).store (burst n) (λ u. burst_program n u (further t g).store)
+    ∙ further_program t g
 
 pub run_program : (n : ℕ) (t : Thread) (g : Store) (r : Run) → r ≡ burst n t g → r.store.program ≡ g.program
 run_program n t g r e = ap (λ (r : Run). r.store.program) e ∙ burst_program n t g
 
 -- what a burst of the program leaves: a stop that fits, a store that suits, and the program
-pub record Leaving (m : Module) (halt : Halt) (u : Thread) (g : Store) : Type 0 where
-  pub stop : StopFits m (stop_of halt u)
+pub record Leaving (m : Module) (stopped : Stopped) (u : Thread) (g : Store) : Type 0 where
+  pub stop : StopFits m (stopped_of stopped u)
   pub suits : Suits g
   pub program : g.program ≡ m
 
-pub leaving : (m : Module) (t u : Thread) (g g' : Store) (halt : Halt) (call : Option ℕ) → run_of halt u g' ≡ burst 10000000 t g → IsValid m → m ≡ g.program → Suits g → StandsFit m t call → call ≡ None → Leaving m halt u g'
-leaving m t u g g' halt call e v same s stands runs =
+pub leaving : (m : Module) (t u : Thread) (g g' : Store) (stopped : Stopped) (call : Option ℕ) → run_of stopped u g' ≡ burst 10000000 t g → IsValid m → m ≡ g.program → Suits g → StandsFit m t call → call ≡ None → Leaving m stopped u g'
+leaving m t u g g' stopped call e v same s stands runs =
     let fits = subst (λ (call : Option ℕ). StandsFit m t call) runs stands in
-    let r = run_fits m 10000000 t g (run_of halt u g') e v (sym same) s fits in
-    record { stop = r.0; suits = r.1; program = run_program 10000000 t g (run_of halt u g') e ∙ sym same }
+    let r = run_fits m 10000000 t g (run_of stopped u g') e v (sym same) s fits in
+    record { stop = r.0; suits = r.1; program = run_program 10000000 t g (run_of stopped u g') e ∙ sym same }

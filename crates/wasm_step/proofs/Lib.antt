@@ -2,6 +2,7 @@ pub mod Begins
 pub mod Branches
 pub mod Bursts
 pub mod Callees
+pub mod Declared
 pub mod Fits
 pub mod Opcodes
 pub mod Plain

@@ -1,12 +1,15 @@
 -- The ends of levels and frames, and runs.
 use Rattle.std.proofs.Common.{◌≡◌, ℕ, zero, suc, Bool, true, false, List, [], ◌∷◌, length, Option, Some, None, refl, sym, ap, ◌∙◌, arith}
 use Rattle.wasm_types.specs.declared.code.Value.{Value}
-use Rattle.wasm_types.specs.declared.traps.Trap.TheVariants.{Spent}
-use Rattle.wasm_types.specs.Code.{Tree, End}
+use Rattle.wasm_types.specs.Code.{Tree, Trees, End, Then}
+use Rattle.wasm_step.specs.Paused.{settled_of}
+use Rattle.wasm_step.specs.Answer.{after_of, stop_of}
+use Rattle.wasm_step.specs.declared.halt.Next.{Next}
+use Rattle.wasm_step.specs.declared.halt.Next.TheVariants.{Going, Calling, Ended, Trapped, Stuck}
 use Rattle.wasm_step.specs.Store.{Store}
-use Rattle.wasm_step.specs.Thread.{Level, Frame, Thread, closed_to, left, left_to, waiting, depth}
-use Rattle.wasm_step.specs.Reduce.{Stop, Traps, After, Goes, Stops, carried, with_carried, resumed, reduce, at_end, ended}
-use Rattle.wasm_step.specs.Burst.{At, Done, at_next, after_end, settle_by, settle, after_step, after_both, at_instr, burst}
+use Rattle.wasm_step.specs.Thread.{Level, Frame, Thread, is_end, closed_to, left, left_to, waiting, depth}
+use Rattle.wasm_step.specs.Reduce.{Stop, Sticks, After, Goes, Stops, carried, with_carried, resumed, reduce, at_end, ended}
+use Rattle.wasm_step.specs.Burst.{Settled, At, Done, at_next, after_end, settle_by, settle, after_step, after_both, at_further, spent, burst}
 
 -- each end leaves one less to end
 abbrev depth_after : After → ℕ
@@ -30,6 +33,14 @@ at_end_depth (l ∷ ls) t t' eo e = omega (arith, ap length eo, ap depth_after e
 ended_depth : (t t' : Thread) → ended t ≡ Goes t' → depth t ≡ suc (depth t')
 ended_depth t t' e = at_end_depth t.outer t t' refl e
 
+at_next_same : (todo : Trees) (t : Thread) (a b : Settled) → is_end todo ≡ false → at_next todo t a ≡ at_next todo t b
+at_next_same End t a b e = cc
+at_next_same (Then i is) t a b e = refl
+
+settle_by_here : (n : ℕ) (t : Thread) → is_end t.todo ≡ false → settle_by n t ≡ at_next t.todo t (Done Sticks)
+settle_by_here zero t e = at_next_same t.todo t _ _ e
+settle_by_here (suc n) t e = at_next_same t.todo t _ _ e
+
 pub settle_end : (t t' : Thread) → t.todo ≡ End → ended t ≡ Goes t' → settle t' ≡ settle t
 settle_end t t' none e =
     let n = ended_depth t t' e in
@@ -38,28 +49,54 @@ settle_end t t' none e =
     ∙ ap (λ is. at_next is t (after_end (ended t) (settle_by (depth t')))) none
     ∙ ap (λ a. after_end a (settle_by (depth t'))) e)
 
-pub run_done : (n : ℕ) (t : Thread) (g : Store) (s : Stop) → settle t ≡ Done s → burst n t g ≡ record { stop = s; store = g }
-unfolding burst
-run_done zero t g s e = ap (λ x. at_instr x g (λ i t'. record { stop = Traps Spent; store = g })) e
-run_done (suc n) t g s e = ap (λ x. at_instr x g (λ i t'. after_both (reduce i t' g) (burst n))) e
+pub none_left : (todo : Trees) → is_end todo ≡ true → todo ≡ End
+none_left End e = refl
+none_left (Then i is) e = cc
 
-pub run_spent : (t t' : Thread) (g : Store) (i : Tree) → settle t ≡ At i t' → burst 0 t g ≡ record { stop = Traps Spent; store = g }
-unfolding burst
-run_spent t t' g i e = ap (λ x. at_instr x g (λ i t'. record { stop = Traps Spent; store = g })) e
+-- a thread that stands at an instruction, and is then past it
+pub standing : (t u v : Thread) (i : Tree) → settled_of (Goes u) ≡ settle t → u ≡ record v { todo = Then i v.todo } → settle t ≡ At i v
+standing t u v i e f = sym e ∙ ap (λ v. settled_of (Goes v)) f
 
-pub run_stop : (n : ℕ) (t t' : Thread) (g g' : Store) (i : Tree) (s : Stop) → settle t ≡ At i t' → (reduce i t' g).after ≡ Stops s → (reduce i t' g).store ≡ g' → burst (suc n) t g ≡ record { stop = s; store = g' }
+-- a thread with an instruction left stands at it
+pub settle_here : (t : Thread) → is_end t.todo ≡ false → settle t ≡ at_next t.todo t (Done Sticks)
+settle_here t e = settle_by_here (depth t) t e
+
+halted_is : (n : Next) (t : Thread) → (n ≡ Going → ⊥) → after_of n t ≡ Stops (stop_of (after_of n t))
+halted_is Going t h = absurd (h refl)
+halted_is (Calling f n) t h = refl
+halted_is Ended t h = refl
+halted_is (Trapped trap) t h = refl
+halted_is Stuck t h = refl
+
+-- what does not go on is a stop
+pub halts : (n : Next) (t : Thread) (a : After) → after_of n t ≡ a → (n ≡ Going → ⊥) → a ≡ Stops (stop_of (after_of n t))
+halts n t a e h = sym e ∙ halted_is n t h
+
+pub settle_halts : (n : Next) (t u : Thread) → settled_of (after_of n u) ≡ settle t → (n ≡ Going → ⊥) → settle t ≡ Done (stop_of (after_of n u))
+settle_halts n t u e h = sym e ∙ ap settled_of (halted_is n u h)
+
+pub burst_done : (n : ℕ) (t : Thread) (g : Store) (s : Stop) → settle t ≡ Done s → burst n t g ≡ record { stop = s; store = g }
 unfolding burst
-run_stop n t t' g g' i s e f h =
-    ap (λ x. at_instr x g (λ i t'. after_both (reduce i t' g) (burst n))) e
-    ∙ ap (λ a. after_step a (reduce i t' g).store (burst n)) f
+burst_done zero t g s e = ap (λ x. record { stop = spent x; store = g }) e
+burst_done (suc n) t g s e = ap (λ x. after_both (at_further x g) (burst n)) e
+
+pub burst_on : (n : ℕ) (t v u : Thread) (g g' : Store) (i : Tree) → settle t ≡ At i v → (reduce i v g).after ≡ Goes u → (reduce i v g).store ≡ g' → burst (suc n) t g ≡ burst n u g'
+unfolding burst
+burst_on n t v u g g' i e f h =
+    ap (λ x. after_both (at_further x g) (burst n)) e
+    ∙ ap (λ a. after_step a (reduce i v g).store (burst n)) f
+    ∙ ap (burst n u) h
+
+pub burst_stop : (n : ℕ) (t v : Thread) (g g' : Store) (i : Tree) (s : Stop) → settle t ≡ At i v → (reduce i v g).after ≡ Stops s → (reduce i v g).store ≡ g' → burst (suc n) t g ≡ record { stop = s; store = g' }
+unfolding burst
+burst_stop n t v g g' i s e f h =
+    ap (λ x. after_both (at_further x g) (burst n)) e
+    ∙ ap (λ a. after_step a (reduce i v g).store (burst n)) f
     ∙ ap (λ a. record { stop = s; store = a }) h
 
-pub run_on : (n : ℕ) (t t' u : Thread) (g g' : Store) (i : Tree) → settle t ≡ At i t' → (reduce i t' g).after ≡ Goes u → (reduce i t' g).store ≡ g' → burst (suc n) t g ≡ burst n u g'
+pub burst_spent : (t : Thread) (g : Store) (s : Stop) → s ≡ spent (settle t) → burst 0 t g ≡ record { stop = s; store = g }
 unfolding burst
-run_on n t t' u g g' i e f h =
-    ap (λ x. at_instr x g (λ i t'. after_both (reduce i t' g) (burst n))) e
-    ∙ ap (λ a. after_step a (reduce i t' g).store (burst n)) f
-    ∙ ap (λ a. burst n u a) h
+burst_spent t g s e = ap (λ s. record { stop = s; store = g }) (sym e)
 
 pub zero_depth : (t t' : Thread) → depth t ≡ 0 → ended t ≡ Goes t' → ⊥
 zero_depth t t' d e = omega (arith, ended_depth t t' e)

@@ -225,6 +225,15 @@ room_view more s h =
     ap (λ k. nat_lt k 512 && nat_le (length s.operands.items + length s.labels.items + length s.locals.items + more) 16384) (sym frames)
     ∙ ap (λ k. nat_lt (length (thread_of s).callers) 512 && nat_le (k + more) 16384) (sym size)
 
+pub room_without_view : (n more : ℕ) (s : Inside) → IsSound s → n ≤ length (thread_of s).stack → (nat_lt (length s.callers.items) 512 && nat_le (length s.operands.items - n + length s.labels.items + length s.locals.items + more) 16384) ≡ has_room more (without n (thread_of s))
+room_without_view n more s h le =
+    let t = thread_of s in
+    let frames = length_of_frames (reverse s.callers.items) (take s.here.labels_from s.labels.items) (take s.here.locals_from s.locals.items) (take s.here.bottom s.operands.items) ∙ length-reverse s.callers.items in
+    let stack : length t.stack ≡ length s.operands.items - s.here.label.floor = length-reverse (drop s.here.label.floor s.operands.items) ∙ length-drop s.here.label.floor s.operands.items in
+    let rest : length s.operands.items - n + length s.labels.items + length s.locals.items ≡ size (without n t) = omega (arith, size_view s h, length-drop n t.stack, stack, le) in
+    ap (λ k. nat_lt k 512 && nat_le (length s.operands.items - n + length s.labels.items + length s.locals.items + more) 16384) (sym frames)
+    ∙ ap (λ k. nat_lt (length t.callers) 512 && nat_le (k + more) 16384) rest
+
 pub frame_room_view : (more : ℕ) (s : Inside) → IsSound s → (nat_lt (length s.callers.items + 1) 512 && nat_le (length s.operands.items + length s.labels.items + length s.locals.items + more) 16384) ≡ has_frame_room more (thread_of s)
 frame_room_view more s h =
     let frames = length_of_frames (reverse s.callers.items) (take s.here.labels_from s.labels.items) (take s.here.locals_from s.locals.items) (take s.here.bottom s.operands.items) ∙ length-reverse s.callers.items in

@@ -1,22 +1,38 @@
 -- What the program answers, as the definitions have it, with the thread as it then is.
+use Rattle.std.specs.Prelude.{ℕ, List, Option, Some, None}
+use Rattle.wasm_types.specs.declared.code.Value.{Value}
+use Rattle.wasm_step.specs.Call.{site_of}
 use Rattle.wasm_step.specs.declared.halt.Next.{Next}
-use Rattle.wasm_step.specs.declared.halt.Next.TheVariants.{Going, Halted}
-use Rattle.wasm_step.specs.declared.halt.Halt.{Halt}
-use Rattle.wasm_step.specs.declared.halt.Halt.TheVariants.{Calling, Ended, Trapped, Stuck}
+use Rattle.wasm_step.specs.declared.halt.Next.TheVariants.{Going, Calling, Ended, Trapped, Stuck}
+use Rattle.wasm_step.specs.declared.halt.Stopped.{Stopped}
+use Rattle.wasm_step.specs.declared.halt.Stopped.TheVariants as stopped
 use Rattle.wasm_step.specs.declared.control.Carried as code
 use Rattle.wasm_step.specs.declared.control.Carried.TheVariants as code'
-use Rattle.wasm_step.specs.Thread.{Thread}
+use Rattle.wasm_step.specs.Thread.{Thread, arguments, without}
 use Rattle.wasm_step.specs.Reduce.{Stop, Calls, Ends, Traps, Sticks, After, Goes, Stops, Carried, Takes, Lacks}
 
-abbrev pub stop_of : Halt → Thread → Stop
-stop_of (Calling site) t = Calls t site
-stop_of Ended t = Ends
-stop_of (Trapped trap) t = Traps trap
-stop_of Stuck t = Sticks
+-- a call of the library, whose n arguments are the topmost operands
+abbrev pub calling : Option (List Value) → ℕ → ℕ → Thread → Stop
+calling None f n t = Sticks
+calling (Some args) f n t = Calls (without n t) (site_of f args)
 
 abbrev pub after_of : Next → Thread → After
 after_of Going t = Goes t
-after_of (Halted halt) t = Stops (stop_of halt t)
+after_of (Calling f n) t = Stops (calling (arguments n t) f n t)
+after_of Ended t = Stops Ends
+after_of (Trapped trap) t = Stops (Traps trap)
+after_of Stuck t = Stops Sticks
+
+-- how a thread stops that does not go on
+abbrev pub stop_of : After → Stop
+stop_of (Goes t) = Sticks
+stop_of (Stops s) = s
+
+abbrev pub stopped_of : Stopped → Thread → Stop
+stopped_of (stopped.Calling site) t = Calls t site
+stopped_of stopped.Ended t = Ends
+stopped_of (stopped.Trapped trap) t = Traps trap
+stopped_of stopped.Stuck t = Sticks
 
 abbrev pub carried_of : code.Carried → Thread → Carried
 carried_of (code'.Takes o) t = Takes o t

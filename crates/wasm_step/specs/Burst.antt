@@ -4,7 +4,7 @@ use Rattle.wasm_types.specs.declared.traps.Trap.TheVariants.{Spent}
 use Rattle.wasm_types.specs.Code.{Tree, Trees, End, Then}
 use Rattle.wasm_step.specs.Store.{Store}
 use Rattle.wasm_step.specs.Thread.{Thread, depth}
-use Rattle.wasm_step.specs.Reduce.{Both, Stop, Traps, Sticks, After, Goes, Stops, reduce, ended}
+use Rattle.wasm_step.specs.Reduce.{Both, Stop, Traps, Sticks, After, Goes, Stops, keep, reduce, ended}
 
 -- a thread at its next instruction, with those after it, or at a stop
 pub data Settled : Type 0 where
@@ -40,11 +40,20 @@ after_step (Stops s) g go = record { stop = s; store = g }
 abbrev pub after_both : Both → (Thread → Store → Run) → Run
 after_both r go = after_step r.after r.store go
 
-abbrev pub at_instr : Settled → Store → (Tree → Thread → Run) → Run
-at_instr (At i t) g go = go i t
-at_instr (Done s) g go = record { stop = s; store = g }
+-- one instruction more, past the ends before it
+abbrev pub at_further : Settled → Store → Both
+at_further (At i t) g = reduce i t g
+at_further (Done s) g = keep g (Stops s)
+
+abbrev pub further : Thread → Store → Both
+further t g = at_further (settle t) g
+
+-- where there is one instruction too many
+abbrev pub spent : Settled → Stop
+spent (At i t) = Traps Spent
+spent (Done s) = s
 
 -- at most n instructions, and `Spent` where there is one more
 unfoldable pub burst : ℕ → Thread → Store → Run
-burst zero t g = at_instr (settle t) g (λ i t'. record { stop = Traps Spent; store = g })
-burst (suc n) t g = at_instr (settle t) g (λ i t'. after_both (reduce i t' g) (burst n))
+burst zero t g = record { stop = spent (settle t); store = g }
+burst (suc n) t g = after_both (further t g) (burst n)

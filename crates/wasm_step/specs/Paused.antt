@@ -1,16 +1,15 @@
 -- What a burst answers, as the definitions have it.
-use Rattle.wasm_types.specs.Code.{tree}
-use Rattle.wasm_step.specs.declared.halt.Halt.{Halt}
-use Rattle.wasm_step.specs.declared.run.Settled as code
-use Rattle.wasm_step.specs.declared.run.Settled.TheVariants as code'
-use Rattle.wasm_step.specs.Answer.{stop_of}
-use Rattle.wasm_step.specs.Burst.{Settled, At, Done, Run}
+use Rattle.wasm_step.specs.declared.halt.Stopped.{Stopped}
+use Rattle.wasm_step.specs.Answer.{stopped_of}
+use Rattle.wasm_step.specs.Burst.{Settled, Done, Run, at_next}
+use Rattle.wasm_step.specs.Reduce.{After, Goes, Stops, Sticks}
 use Rattle.wasm_step.specs.Store.{Store}
 use Rattle.wasm_step.specs.Thread.{Thread}
 
-abbrev pub settled_of : code.Settled → Thread → Settled
-settled_of (code'.At instr) t = At (tree instr.now) t
-settled_of (code'.Done halt) t = Done (stop_of halt t)
+-- a thread that goes on stands at its next instruction
+abbrev pub settled_of : After → Settled
+settled_of (Goes t) = at_next t.todo t (Done Sticks)
+settled_of (Stops s) = Done s
 
-abbrev pub run_of : Halt → Thread → Store → Run
-run_of halt t g = record { stop = stop_of halt t; store = g }
+abbrev pub run_of : Stopped → Thread → Store → Run
+run_of s t g = record { stop = stopped_of s t; store = g }

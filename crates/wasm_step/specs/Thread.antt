@@ -1,12 +1,12 @@
 -- A thread: the innermost level of its innermost frame, the levels around it, and the frames that wait
 -- for that frame to return (WebAssembly 1.0, section 4.2.12).
-use Rattle.std.specs.Prelude.{ℕ, ◌+◌, Bool, false, nat_lt, nat_le, is_some, ◌&&◌, if◌then◌else◌, reverse, take, drop, replicate, List, [], ◌∷◌, ◌++◌, length, Option, Some, None}
+use Rattle.std.specs.Prelude.{ℕ, ◌+◌, Bool, true, false, nat_lt, nat_le, is_some, ◌&&◌, if◌then◌else◌, reverse, take, drop, replicate, List, [], ◌∷◌, ◌++◌, length, Option, Some, None}
 use Rattle.wasm_types.specs.declared.code.Value.{Value}
 use Rattle.wasm_types.specs.declared.code.Value.TheVariants.{I32, I64}
 use Rattle.wasm_types.specs.declared.code.ValType.{ValType}
 use Rattle.wasm_types.specs.declared.code.ValType.TheVariants as types
 use Rattle.wasm_types.specs.Calls.{result_of}
-use Rattle.wasm_types.specs.Code.{Trees, End}
+use Rattle.wasm_types.specs.Code.{Trees, End, Then}
 use Rattle.wasm_types.specs.Modules.{Func, FuncType}
 
 -- a level: the type of what it leaves to the one around it, the instructions that are left, its operands
@@ -42,6 +42,11 @@ pub record Thread : Type 0 where
   pub locals : List Value
   pub returns : Bool
   pub callers : List Frame
+
+-- whether no instruction is left
+abbrev pub is_end : Trees → Bool
+is_end End = true
+is_end (Then i is) = false
 
 abbrev pub with_operand : Thread → Value → Thread
 with_operand t v = record t { stack = v ∷ t.stack }

@@ -1,29 +1,31 @@
 // Calls: of the library, of the program's own functions, and through the table.
 ghost use Rattle.std.specs.Prelude.{◌≡◌, ◌+◌, ◌&&◌, ◌<◌, ◌≤◌, [], ◌∷◌, IfOk, IfSome, IfNone, None, OnOk, Some, length, slice_get};
-ghost use Rattle.wasm_types.specs.Modules.{func, func_type, module_of};
+ghost use Rattle.wasm_types.specs.Modules.{func_type, module_of};
 ghost use Rattle.wasm_types.specs.Stack.{is_same};
 ghost use Rattle.wasm_step.specs.Answer.{after_of};
 ghost use Rattle.wasm_step.specs.Reduce.{call, call_element, call_indirect, call_library, call_own, go_on, imported_type, limited, own_type, same_kinds, same_type, type_of};
 ghost use Rattle.wasm_step.specs.Strand.{begun};
 ghost use Rattle.wasm_step.specs.Thread.{called, has_frame_room, waiting_frame, zeros};
 
-use crate::halt::{Halt, Next};
+use crate::callee::{Callee, own_func};
+use crate::halt::Next;
 use crate::stack::{SIZE_LIMIT, Stack, result_of};
 use crate::store::Store;
 use std::alloc::AllocError;
-use wasm_types::{Func, FuncType, ImportDesc, Module, Trap, ValType, Value};
+use wasm_types::{FuncType, ImportDesc, Module, Trap, ValType, ValidModule, Value};
 
 impl<'m> Stack<'m> {
     fn call_library(&mut self, kind: &FuncType, index: u32) -> Next
         ensures { after_of result self.new ≡ call_library index (Some (func_type kind.now)) self.old }
     {
-        let Some(site) = self.take_site(index, kind.params.len()) else {
-            return Next::Halted(Halt::Stuck);
-        };
-        if self.has_room(kind.results.len()) {
-            Next::Halted(Halt::Calling(site))
+        let n = kind.params.len();
+        if !self.has_arguments(n) {
+            return Next::Stuck;
+        }
+        if self.has_room_without(n, kind.results.len()) {
+            Next::Calling(index, n)
         } else {
-            Next::Halted(Halt::Trapped(Trap::Exhausted))
+            Next::Trapped(Trap::Exhausted)
         }
     }
 
@@ -31,22 +33,22 @@ impl<'m> Stack<'m> {
     fn call_typed(
         &mut self,
         index: u32,
-        callee: &'m Func,
+        callee: Callee<'m>,
         kind: &FuncType,
     ) -> Result<Next, AllocError>
-        ensures { IfOk result (λ a. limited (after_of a self.new) ≡ limited (go_on (called self.old index (func callee.now) (func_type kind.now)))) }
+        ensures { IfOk result (λ a. limited (after_of a self.new) ≡ limited (go_on (called self.old index callee.entry (func_type kind.now)))) }
     {
         let n = kind.params.len();
         if !self.has_arguments(n) {
-            return Ok(Next::Halted(Halt::Stuck));
+            return Ok(Next::Stuck);
         }
-        if !self.can_enter(&callee.locals) {
-            return Ok(Next::Halted(Halt::Trapped(Trap::Exhausted)));
+        if !self.can_enter(callee.declared()) {
+            return Ok(Next::Trapped(Trap::Exhausted));
         }
         if self.enter(index, callee, n, result_of(kind))? {
             Ok(Next::Going)
         } else {
-            Ok(Next::Halted(Halt::Stuck))
+            Ok(Next::Stuck)
         }
     }
 
@@ -71,8 +73,8 @@ impl<'m> Stack<'m> {
     }
 
     /// A new innermost frame of a handler, which has the signal as its argument.
-    pub fn handle(&mut self, index: u32, callee: &'m Func, signal: u32) -> Result<(), AllocError>
-        ensures { OnOk result (begun (Some (func callee.now)) (waiting_frame self.old ∷ self.old.callers) index (Value.I32 signal ∷ []) ≡ Some self.new) }
+    pub fn handle(&mut self, index: u32, callee: Callee<'m>, signal: u32) -> Result<(), AllocError>
+        ensures { OnOk result (begun (Some callee.entry) (waiting_frame self.old ∷ self.old.callers) index (Value.I32 signal ∷ []) ≡ Some self.new) }
     {
         self.push(Value::I32(signal))?;
         let is_in = self.enter(index, callee, 1, None)?;
@@ -81,8 +83,8 @@ impl<'m> Stack<'m> {
     }
 
     /// A new innermost frame of a function without parameters or a result.
-    pub fn call_start(&mut self, index: u32, callee: &'m Func) -> Result<(), AllocError>
-        ensures { OnOk result (begun (Some (func callee.now)) (waiting_frame self.old ∷ self.old.callers) index [] ≡ Some self.new) }
+    pub fn call_start(&mut self, index: u32, callee: Callee<'m>) -> Result<(), AllocError>
+        ensures { OnOk result (begun (Some callee.entry) (waiting_frame self.old ∷ self.old.callers) index [] ≡ Some self.new) }
     {
         let is_in = self.enter(index, callee, 0, None)?;
         prove!(is_in);
@@ -91,63 +93,65 @@ impl<'m> Stack<'m> {
 
     fn call_own(
         &mut self,
-        program: &'m Module,
+        program: &'m ValidModule,
         index: u32,
         place: usize,
     ) -> Result<Next, AllocError>
         ensures { IfOk result (λ a. limited (after_of a self.new) ≡ limited (call_own (module_of program.now) index (slice_get (module_of program.now).funcs place) self.old)) }
     {
         let Some(callee) = own_func(program, place) else {
-            return Ok(Next::Halted(Halt::Stuck));
+            return Ok(Next::Stuck);
         };
-        let Some(kind) = kind_at(program, callee.type_index) else {
-            return Ok(Next::Halted(Halt::Stuck));
+        let Some(kind) = kind_at(program.module(), callee.type_index()) else {
+            return Ok(Next::Stuck);
         };
         self.call_typed(index, callee, kind)
     }
 
-    pub fn call(&mut self, program: &'m Module, index: u32) -> Result<Next, AllocError>
+    pub fn call(&mut self, program: &'m ValidModule, index: u32) -> Result<Next, AllocError>
         ensures { IfOk result (λ a. limited (after_of a self.new) ≡ limited (call (module_of program.now) index self.old)) }
     {
+        let code = program.module();
         let place = index as usize;
-        if place >= program.imports.len() {
-            return self.call_own(program, index, place - program.imports.len());
+        if place >= code.imports.len() {
+            return self.call_own(program, index, place - code.imports.len());
         }
-        match imported_kind(program, place) {
+        match imported_kind(code, place) {
             Some(kind) => Ok(self.call_library(kind, index)),
-            None => Ok(Next::Halted(Halt::Stuck)),
+            None => Ok(Next::Stuck),
         }
     }
 
     fn call_element(
         &mut self,
-        program: &'m Module,
+        program: &'m ValidModule,
         kind: u32,
         element: Option<Option<u32>>,
     ) -> Result<Next, AllocError>
         ensures { IfOk result (λ a. limited (after_of a self.new) ≡ limited (call_element (module_of program.now) kind element self.old)) }
     {
         let Some(place) = element else {
-            return Ok(Next::Halted(Halt::Trapped(Trap::TableRange)));
+            return Ok(Next::Trapped(Trap::TableRange));
         };
         let Some(index) = place else {
-            return Ok(Next::Halted(Halt::Trapped(Trap::EmptyElement)));
+            return Ok(Next::Trapped(Trap::EmptyElement));
         };
-        let Some(found) = kind_of(program, index) else {
-            return Ok(Next::Halted(Halt::Stuck));
+        let code = program.module();
+        let Some(found) = kind_of(code, index) else {
+            return Ok(Next::Stuck);
         };
-        let Some(wanted) = kind_at(program, kind) else {
-            return Ok(Next::Halted(Halt::Stuck));
+        let Some(wanted) = kind_at(code, kind) else {
+            return Ok(Next::Stuck);
         };
         if !is_same_type(found, wanted) {
-            return Ok(Next::Halted(Halt::Trapped(Trap::TypeDiffers)));
+            return Ok(Next::Trapped(Trap::TypeDiffers));
         }
         self.call(program, index)
     }
 
     pub fn call_indirect(
         &mut self,
-        program: &'m Module,
+        program: &'m ValidModule,
         store: &Store<'m>,
         kind: u32,
     ) -> Result<Next, AllocError>
@@ -156,7 +160,7 @@ impl<'m> Stack<'m> {
     {
         match self.pop() {
             Some(Value::I32(i)) => self.call_element(program, kind, store.element(i)),
-            _ => Ok(Next::Halted(Halt::Stuck)),
+            _ => Ok(Next::Stuck),
         }
     }
 }
@@ -185,14 +189,6 @@ fn kind_at<'m>(program: &'m Module, index: u32) -> Option<&'m FuncType>
     program.types.get(index as usize)
 }
 
-// The program's own function at this place.
-pub(crate) fn own_func<'m>(program: &'m Module, place: usize) -> Option<&'m Func>
-    ensures some { IfSome result (λ callee. slice_get (module_of program.now).funcs place ≡ Some (func callee.now)) }
-    ensures none { IfNone result (slice_get (module_of program.now).funcs place ≡ None) }
-{
-    program.funcs.get(place)
-}
-
 // The type of an imported function.
 fn imported_kind<'m>(program: &'m Module, place: usize) -> Option<&'m FuncType>
     ensures some { IfSome result (λ kind. imported_type (module_of program.now) (slice_get (module_of program.now).imports place) ≡ Some (func_type kind.now)) }
@@ -212,10 +208,10 @@ fn own_kind<'m>(program: &'m Module, place: usize) -> Option<&'m FuncType>
     ensures some { IfSome result (λ kind. own_type (module_of program.now) (slice_get (module_of program.now).funcs place) ≡ Some (func_type kind.now)) }
     ensures none { IfNone result (own_type (module_of program.now) (slice_get (module_of program.now).funcs place) ≡ None) }
 {
-    let Some(callee) = own_func(program, place) else {
+    let Some(own) = program.funcs.get(place) else {
         return None;
     };
-    kind_at(program, callee.type_index)
+    kind_at(program, own.type_index)
 }
 
 // The type of the function with this index.

@@ -5,7 +5,7 @@ ghost use Rattle.wasm_step.specs.Answer.{after_of, carried_of};
 ghost use Rattle.wasm_step.specs.Reduce.{branch, branch_if, branch_table, carried, choose, ended, given, jump, jump_out, label_at, resumed, return_from};
 ghost use Rattle.wasm_step.specs.Thread.{left};
 
-use crate::halt::{Halt, Next};
+use crate::halt::Next;
 use crate::stack::Stack;
 use std::alloc::AllocError;
 use wasm_types::{Instr, ValType, Value};
@@ -46,7 +46,7 @@ impl<'m> Stack<'m> {
         let is_there = self.returns();
         match self.carry(is_there) {
             Carried::Takes(carried) => self.resume(carried),
-            Carried::Lacks => Ok(Next::Halted(Halt::Stuck)),
+            Carried::Lacks => Ok(Next::Stuck),
         }
     }
 
@@ -54,7 +54,7 @@ impl<'m> Stack<'m> {
         ensures { IfOk result (λ n. after_of n self.new ≡ resumed (left self.old) carried) }
     {
         if !self.leave() {
-            return Ok(Next::Halted(Halt::Ended));
+            return Ok(Next::Ended);
         }
         self.give(carried)?;
         Ok(Next::Going)
@@ -90,7 +90,7 @@ impl<'m> Stack<'m> {
                 self.give(carried)?;
                 Ok(Next::Going)
             }
-            Carried::Lacks => Ok(Next::Halted(Halt::Stuck)),
+            Carried::Lacks => Ok(Next::Stuck),
         }
     }
 
@@ -100,7 +100,7 @@ impl<'m> Stack<'m> {
     {
         for _i in 0..n {
             if !self.close() {
-                return Ok(Next::Halted(Halt::Stuck));
+                return Ok(Next::Stuck);
             }
         }
         let next = self.jump()?;
@@ -116,7 +116,7 @@ impl<'m> Stack<'m> {
                 let next = self.branch(n)?;
                 Ok(next)
             }
-            _ => Ok(Next::Halted(Halt::Stuck)),
+            _ => Ok(Next::Stuck),
         }
     }
 
@@ -128,7 +128,7 @@ impl<'m> Stack<'m> {
                 let next = self.branch(label_at(labels, i, default))?;
                 Ok(next)
             }
-            _ => Ok(Next::Halted(Halt::Stuck)),
+            _ => Ok(Next::Stuck),
         }
     }
 
@@ -149,7 +149,7 @@ impl<'m> Stack<'m> {
                 self.open(gives, on_true, self.todo(), gives.is_some(), false)?;
                 Ok(Next::Going)
             }
-            _ => Ok(Next::Halted(Halt::Stuck)),
+            _ => Ok(Next::Stuck),
         }
     }
 

@@ -2,23 +2,24 @@
 ghost use Rattle.std.specs.Prelude.{◌≡◌, IfOk, IsSome, None, Some, bytes_eq, codes, false};
 ghost use Rattle.std.specs.Option.{option_map_or};
 ghost use Rattle.wasm_types.specs.Context.{func_type_at};
-ghost use Rattle.wasm_types.specs.Modules.{export as export_of, func as func_of, func_type, module_of};
+ghost use Rattle.wasm_types.specs.Modules.{export as export_of, func_type, module_of};
 ghost use Rattle.wasm_types.specs.Valid.{IsValid, is_entry, is_plain, is_start_export};
 ghost use Rattle.wasm_step.specs.Strand.{entry_from, exported, first_thread, own_func};
 
-use crate::calls::{kind_of, own_func};
+use crate::callee::{Callee, own_func};
+use crate::calls::kind_of;
 use crate::stack::Stack;
 use std::alloc::{AllocError, Global};
-use wasm_types::{Export, ExportDesc, Func, FuncType, Module, ValidModule};
+use wasm_types::{Export, ExportDesc, FuncType, Module, ValidModule};
 
 /// The program's own function with this index.
-pub(crate) fn own<'m>(program: &'m ValidModule, func: u32) -> &'m Func
+pub(crate) fn own<'m>(program: &'m ValidModule, func: u32) -> Callee<'m>
     requires { IsSome (own_func (module_of program.now) func) }
-    ensures found { own_func (module_of program.now) func ≡ Some (func_of result.now) }
+    ensures found { own_func (module_of program.now) func ≡ Some result }
     ensures valid { IsValid (module_of program.now) }
 {
     let code = program.module();
-    match own_func(code, (func as usize).saturating_sub(code.imports.len())) {
+    match own_func(program, (func as usize).saturating_sub(code.imports.len())) {
         Some(callee) => callee,
         None => unreachable!(),
     }

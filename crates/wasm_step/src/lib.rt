@@ -3,6 +3,7 @@
 
 mod access;
 mod call;
+mod callee;
 mod calls;
 mod control;
 mod first;

@@ -7,7 +7,7 @@ ghost use Rattle.wasm_step.specs.Reduce.{global_get, global_set, grow_answer, lo
 
 use crate::access::{load_value, load_width, store_width};
 use crate::call::bits;
-use crate::halt::{Halt, Next};
+use crate::halt::Next;
 use crate::stack::Stack;
 use crate::store::Store;
 use std::alloc::AllocError;
@@ -26,12 +26,12 @@ impl<'m> Stack<'m> {
         ensures store { store.new ≡ (global_set x store.old self.old).store }
     {
         let Some(v) = self.pop() else {
-            return Next::Halted(Halt::Stuck);
+            return Next::Stuck;
         };
         if store.set_global(x as usize, v) {
             Next::Going
         } else {
-            Next::Halted(Halt::Stuck)
+            Next::Stuck
         }
     }
 
@@ -39,14 +39,14 @@ impl<'m> Stack<'m> {
         ensures { IfOk result (λ n. after_of n self.new ≡ load op offset store.now.memory self.old) }
     {
         let Some(Value::I32(base)) = self.pop() else {
-            return Ok(Next::Halted(Halt::Stuck));
+            return Ok(Next::Stuck);
         };
         let Some(width) = load_width(op) else {
-            return Ok(Next::Halted(Halt::Stuck));
+            return Ok(Next::Stuck);
         };
         match store.memory().load(address(base, offset), width) {
             Some(n) => self.got(load_value(op, n)),
-            None => Ok(Next::Halted(Halt::Trapped(Trap::MemoryRange))),
+            None => Ok(Next::Trapped(Trap::MemoryRange)),
         }
     }
 
@@ -62,12 +62,12 @@ impl<'m> Stack<'m> {
         ensures store { OnOk result (store.new ≡ (write_at width addr bits store.old self.old).store) }
     {
         let Some(width) = width else {
-            return Ok(Next::Halted(Halt::Stuck));
+            return Ok(Next::Stuck);
         };
         if store.write(addr, width, bits)? {
             Ok(Next::Going)
         } else {
-            Ok(Next::Halted(Halt::Trapped(Trap::MemoryRange)))
+            Ok(Next::Trapped(Trap::MemoryRange))
         }
     }
 
@@ -76,10 +76,10 @@ impl<'m> Stack<'m> {
         ensures store { OnOk result (store.new ≡ (write op offset store.old self.old).store) }
     {
         let Some(v) = self.pop() else {
-            return Ok(Next::Halted(Halt::Stuck));
+            return Ok(Next::Stuck);
         };
         let Some(Value::I32(base)) = self.pop() else {
-            return Ok(Next::Halted(Halt::Stuck));
+            return Ok(Next::Stuck);
         };
         self.write_at(
             store,
@@ -101,7 +101,7 @@ impl<'m> Stack<'m> {
         ensures store { OnOk result (store.new ≡ (memory_grow store.old self.old).store) }
     {
         let Some(Value::I32(pages)) = self.pop() else {
-            return Ok(Next::Halted(Halt::Stuck));
+            return Ok(Next::Stuck);
         };
         let before = store.grow(pages)?;
         self.push(grow_answer(before))?;

@@ -4,7 +4,7 @@ ghost use Rattle.wasm_step.specs.Answer.{after_of};
 ghost use Rattle.wasm_step.specs.Numeric.{computed_of};
 ghost use Rattle.wasm_step.specs.Reduce.{drop_top, got, local_get, local_put, local_set, local_tee, numeric, put, select};
 
-use crate::halt::{Halt, Next};
+use crate::halt::Next;
 use crate::numeric::{Number, binary, is_unary, unary};
 use crate::stack::Stack;
 use std::alloc::AllocError;
@@ -12,6 +12,7 @@ use wasm_types::Value;
 
 impl<'m> Stack<'m> {
     /// What was computed goes onto the operands.
+    #[inline(always)]
     fn put(&mut self, number: Number) -> Result<Next, AllocError>
         ensures { IfOk result (λ n. after_of n self.new ≡ put (computed_of number) self.old) }
     {
@@ -20,46 +21,49 @@ impl<'m> Stack<'m> {
                 self.push(v)?;
                 Ok(Next::Going)
             }
-            Number::Failed(trap) => Ok(Next::Halted(Halt::Trapped(trap))),
-            Number::Missing => Ok(Next::Halted(Halt::Stuck)),
+            Number::Failed(trap) => Ok(Next::Trapped(trap)),
+            Number::Missing => Ok(Next::Stuck),
         }
     }
 
+    #[inline(always)]
     pub fn numeric(&mut self, op: u8) -> Result<Next, AllocError>
         ensures { IfOk result (λ n. after_of n self.new ≡ numeric op self.old) }
     {
         let Some(y) = self.pop() else {
-            return Ok(Next::Halted(Halt::Stuck));
+            return Ok(Next::Stuck);
         };
         if is_unary(op) {
             return self.put(unary(op, y));
         }
         let Some(x) = self.pop() else {
-            return Ok(Next::Halted(Halt::Stuck));
+            return Ok(Next::Stuck);
         };
         self.put(binary(op, x, y))
     }
 
+    #[inline(always)]
     pub fn drop_top(&mut self) -> Next
         ensures { after_of result self.new ≡ drop_top self.old }
     {
         match self.pop() {
             Some(_) => Next::Going,
-            None => Next::Halted(Halt::Stuck),
+            None => Next::Stuck,
         }
     }
 
+    #[inline(always)]
     pub fn select(&mut self) -> Result<Next, AllocError>
         ensures { IfOk result (λ n. after_of n self.new ≡ select self.old) }
     {
         let Some(condition) = self.pop() else {
-            return Ok(Next::Halted(Halt::Stuck));
+            return Ok(Next::Stuck);
         };
         let Some(second) = self.pop() else {
-            return Ok(Next::Halted(Halt::Stuck));
+            return Ok(Next::Stuck);
         };
         let Some(first) = self.pop() else {
-            return Ok(Next::Halted(Halt::Stuck));
+            return Ok(Next::Stuck);
         };
         match condition {
             Value::I32(0) => {
@@ -70,11 +74,12 @@ impl<'m> Stack<'m> {
                 self.push(first)?;
                 Ok(Next::Going)
             }
-            Value::I64(_) => Ok(Next::Halted(Halt::Stuck)),
+            Value::I64(_) => Ok(Next::Stuck),
         }
     }
 
     /// A value that was read goes onto the operands.
+    #[inline(always)]
     pub fn got(&mut self, value: Option<Value>) -> Result<Next, AllocError>
         ensures { IfOk result (λ n. after_of n self.new ≡ got value self.old) }
     {
@@ -83,10 +88,11 @@ impl<'m> Stack<'m> {
                 self.push(v)?;
                 Ok(Next::Going)
             }
-            None => Ok(Next::Halted(Halt::Stuck)),
+            None => Ok(Next::Stuck),
         }
     }
 
+    #[inline(always)]
     pub fn local_get(&mut self, x: u32) -> Result<Next, AllocError>
         ensures { IfOk result (λ n. after_of n self.new ≡ local_get x self.old) }
     {
@@ -94,30 +100,33 @@ impl<'m> Stack<'m> {
         self.got(value)
     }
 
+    #[inline(always)]
     fn local_put(&mut self, x: u32, v: Value) -> Next
         ensures { after_of result self.new ≡ local_put x v self.old }
     {
         if self.set_local(x as usize, v) {
             Next::Going
         } else {
-            Next::Halted(Halt::Stuck)
+            Next::Stuck
         }
     }
 
+    #[inline(always)]
     pub fn local_set(&mut self, x: u32) -> Next
         ensures { after_of result self.new ≡ local_set x self.old }
     {
         match self.pop() {
             Some(v) => self.local_put(x, v),
-            None => Next::Halted(Halt::Stuck),
+            None => Next::Stuck,
         }
     }
 
+    #[inline(always)]
     pub fn local_tee(&mut self, x: u32) -> Result<Next, AllocError>
         ensures { IfOk result (λ n. after_of n self.new ≡ local_tee x self.old) }
     {
         let Some(v) = self.pop() else {
-            return Ok(Next::Halted(Halt::Stuck));
+            return Ok(Next::Stuck);
         };
         self.push(v)?;
         Ok(self.local_put(x, v))

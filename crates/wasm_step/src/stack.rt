@@ -1,15 +1,16 @@
 // A thread as an owned value: one stack each of operands, labels, locals and frames.
-ghost use Rattle.std.specs.Prelude.{◌≡◌, ◌+◌, ◌≤◌, [], ◌++◌, length, IfOk, OnOk, Some, None, if◌then◌else◌, IfSome, IfNone, IsTrue, nat_lt, nat_le, ◌&&◌, false, is_some, slice_get, slice_set, take};
+ghost use Rattle.std.specs.Prelude.{◌∷◌, OnErr, ◌≡◌, ◌+◌, ◌≤◌, [], ◌++◌, length, IfOk, OnOk, Some, None, if◌then◌else◌, IfSome, IfNone, IsTrue, nat_lt, nat_le, ◌&&◌, false, is_some, slice_get, slice_set, take};
 ghost use Rattle.wasm_types.specs.Calls.{result_of};
 ghost use Rattle.wasm_types.specs.Code.{End, Then, tree, trees};
-ghost use Rattle.wasm_types.specs.Modules.{func, func_type};
-ghost use Rattle.wasm_step.specs.Thread.{with_operand, opened, closed, left, called_with, arguments, without, has_frame_room, has_room, zero_of, zeros, at_start};
+ghost use Rattle.wasm_types.specs.Modules.{func_type};
+ghost use Rattle.wasm_step.specs.Thread.{is_end, with_operand, opened, closed, left, called_with, arguments, without, has_frame_room, has_room, zero_of, zeros, at_start};
 ghost use Rattle.wasm_step.specs.Call.{sited};
 
 use crate::call::{CallSite, site};
+use crate::callee::Callee;
 use std::alloc::{AllocError, Global};
 use std::marker::Model;
-use wasm_types::{Func, FuncType, Instr, ValType, Value};
+use wasm_types::{FuncType, Instr, ValType, Value};
 
 /// An open level: the type of what it leaves, the instructions that are left, where a branch to it goes
 /// on, whether that carries an operand, whether it begins the level anew, and how many operands lie below it.
@@ -64,20 +65,20 @@ impl<'m> Stack<'m> {
     /// A function at its start, with these arguments.
     pub fn start(
         index: u32,
-        callee: &'m Func,
+        callee: Callee<'m>,
         arguments: Vec<Value>,
         gives: Option<ValType>,
     ) -> Result<Stack<'m>, AllocError>
-        ensures { IfOk result (λ s. s ≡ at_start [] index (func callee.now).body (arguments.items ++ zeros callee.now.locals.items) gives) }
+        ensures { IfOk result (λ s. s ≡ at_start [] index callee.entry.body (arguments.items ++ zeros callee.entry.locals) gives) }
     {
         let alloc = *arguments.allocator();
         let mut locals = arguments;
-        append_zeros(&mut locals, &callee.locals)?;
+        append_zeros(&mut locals, callee.declared())?;
         Ok(Stack {
             here: Held {
                 label: Label {
                     gives,
-                    todo: &callee.body,
+                    todo: callee.body(),
                     target: &[],
                     carries: gives.is_some(),
                     loops: false,
@@ -109,7 +110,19 @@ impl<'m> Stack<'m> {
         })
     }
 
+    /// Whether no instruction is left in the innermost level.
+    #[inline(always)]
+    pub fn is_at_end(&self) -> bool
+        ensures { result ≡ is_end self.now.todo }
+    {
+        match self.here.label.todo {
+            [] => true,
+            [_first, _rest @ ..] => false,
+        }
+    }
+
     /// The next instruction of the innermost level.
+    #[inline(always)]
     pub fn fetch(&mut self) -> Option<&'m Instr>
         ensures none { IfNone result ((self.old.todo ≡ End) × (self.new ≡ self.old)) }
         ensures some { IfSome result (λ instr. self.old ≡ record self.new { todo = Then (tree instr.now) self.new.todo }) }
@@ -164,14 +177,16 @@ impl<'m> Stack<'m> {
     }
 
     /// One more operand.
+    #[inline(always)]
     pub fn push(&mut self, v: Value) -> Result<(), AllocError>
         ensures { OnOk result (self.new ≡ with_operand self.old v) }
     {
-        self.operands.push(v)?;
+        push_to(&mut self.operands, v)?;
         Ok(())
     }
 
     /// The topmost operand of the level, if there is one.
+    #[inline(always)]
     pub fn pop(&mut self) -> Option<Value>
         ensures none { IfNone result ((self.old.stack ≡ []) × (self.new ≡ self.old)) }
         ensures some { IfSome result (λ v. self.old ≡ with_operand self.new v) }
@@ -193,6 +208,7 @@ impl<'m> Stack<'m> {
     }
 
     /// A local of the innermost frame.
+    #[inline(always)]
     pub fn local(&self, x: usize) -> Option<Value>
         ensures { result ≡ slice_get self.now.locals x }
     {
@@ -200,6 +216,7 @@ impl<'m> Stack<'m> {
     }
 
     /// A new value of a local, if there is one of that number.
+    #[inline(always)]
     pub fn set_local(&mut self, x: usize, v: Value) -> bool
         ensures value { result ≡ nat_lt x (length self.old.locals) }
         ensures set { IsTrue result → self.new ≡ record self.old { locals = slice_set self.old.locals x v } }
@@ -212,6 +229,7 @@ impl<'m> Stack<'m> {
     }
 
     /// A new innermost level.
+    #[inline(always)]
     pub fn open(
         &mut self,
         gives: Option<ValType>,
@@ -222,7 +240,7 @@ impl<'m> Stack<'m> {
     ) -> Result<(), AllocError>
         ensures { OnOk result (self.new ≡ opened self.old gives (trees body.now) (trees target.now) carries loops) }
     {
-        self.labels.push(self.here.label)?;
+        push_to(&mut self.labels, self.here.label)?;
         self.here.label = Label {
             gives,
             todo: body,
@@ -295,11 +313,11 @@ impl<'m> Stack<'m> {
     pub fn enter(
         &mut self,
         index: u32,
-        callee: &'m Func,
+        callee: Callee<'m>,
         n: usize,
         gives: Option<ValType>,
     ) -> Result<bool, AllocError>
-        ensures { IfOk result (λ is_in. called_with (arguments n self.old) n self.old index (func callee.now) gives ≡ (if is_in then Some self.new else None)) }
+        ensures { IfOk result (λ is_in. called_with (arguments n self.old) n self.old index callee.entry gives ≡ (if is_in then Some self.new else None)) }
     {
         let height = self.operands.len();
         if height - self.here.label.floor < n {
@@ -308,13 +326,13 @@ impl<'m> Stack<'m> {
         let first = height - n;
         let locals_from = self.locals.len();
         self.locals.extend_from_slice(&self.operands[first..])?;
-        append_zeros(&mut self.locals, &callee.locals)?;
+        append_zeros(&mut self.locals, callee.declared())?;
         self.callers.push(self.here)?;
         self.operands.truncate(first);
         self.here = Held {
             label: Label {
                 gives,
-                todo: &callee.body,
+                todo: callee.body(),
                 target: &[],
                 carries: gives.is_some(),
                 loops: false,
@@ -330,12 +348,27 @@ impl<'m> Stack<'m> {
     }
 
     /// Whether the thread keeps to the limits with this many more operands, locals or labels.
+    #[inline(always)]
     pub fn has_room(&self, more: usize) -> bool
         ensures { result ≡ has_room more self.now }
     {
         keeps_limits(
             self.callers.len(),
             self.operands.len(),
+            self.labels.len(),
+            self.locals.len(),
+            more,
+        )
+    }
+
+    /// Whether the thread keeps to the limits without the n topmost operands and with this many more.
+    pub fn has_room_without(&self, n: usize, more: usize) -> bool
+        requires { n ≤ length self.now.stack }
+        ensures { result ≡ has_room more (without n self.now) }
+    {
+        keeps_limits(
+            self.callers.len(),
+            self.operands.len() - n,
             self.labels.len(),
             self.locals.len(),
             more,
@@ -382,6 +415,29 @@ pub(crate) const FRAME_LIMIT: usize = 512;
 
 /// At most so many operands, locals and open labels of a thread.
 pub(crate) const SIZE_LIMIT: usize = 16384;
+
+// One more item. Room is tested here, so that an item for which there is room is put in place without a call.
+#[inline(always)]
+fn push_to<T: Drop>(items: &mut Vec<T>, item: T) -> Result<(), AllocError>
+    ensures ok { OnOk result (items.new.items ≡ items.old.items ++ item ∷ []) }
+    ensures err { OnErr result (items.new.items ≡ items.old.items) }
+{
+    if items.len() < items.capacity() {
+        items.push_reserved(item);
+        return Ok(());
+    }
+    push_to_full(items, item)
+}
+
+#[cold]
+#[inline(never)]
+fn push_to_full<T: Drop>(items: &mut Vec<T>, item: T) -> Result<(), AllocError>
+    ensures ok { OnOk result (items.new.items ≡ items.old.items ++ item ∷ []) }
+    ensures err { OnErr result (items.new.items ≡ items.old.items) }
+{
+    items.push(item)?;
+    Ok(())
+}
 
 // What declared locals start as.
 fn append_zeros(locals: &mut Vec<Value>, declared: &[(u32, ValType)]) -> Result<(), AllocError>

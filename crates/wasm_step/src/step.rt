@@ -5,16 +5,17 @@ ghost use Rattle.wasm_types.specs.Modules.{module_of};
 ghost use Rattle.wasm_step.specs.Answer.{after_of};
 ghost use Rattle.wasm_step.specs.Reduce.{limited, reduce, row};
 
-use crate::halt::{Halt, Next};
+use crate::halt::Next;
 use crate::stack::Stack;
 use crate::store::Store;
 use std::alloc::AllocError;
-use wasm_types::{Instr, Module, Trap, Value};
+use wasm_types::{Instr, Trap, ValidModule, Value};
 
 impl<'m> Stack<'m> {
+    #[inline(always)]
     fn row(
         &mut self,
-        program: &'m Module,
+        program: &'m ValidModule,
         store: &mut Store<'m>,
         instr: &'m Instr,
     ) -> Result<Next, AllocError>
@@ -23,7 +24,7 @@ impl<'m> Stack<'m> {
         ensures store { OnOk result (store.new ≡ (row (tree instr.now) self.old store.old).store) }
     {
         match instr {
-            Instr::Unreachable => Ok(Next::Halted(Halt::Trapped(Trap::Unreachable))),
+            Instr::Unreachable => Ok(Next::Trapped(Trap::Unreachable)),
             Instr::Nop => Ok(Next::Going),
             Instr::Block(gives, body) => {
                 self.open(*gives, body, self.todo(), gives.is_some(), false)?;
@@ -59,15 +60,16 @@ impl<'m> Stack<'m> {
                 self.push(Value::I64(*bits))?;
                 Ok(Next::Going)
             }
-            Instr::ConstF32(_) | Instr::ConstF64(_) => Ok(Next::Halted(Halt::Stuck)),
+            Instr::ConstF32(_) | Instr::ConstF64(_) => Ok(Next::Stuck),
             Instr::Op(op) => self.numeric(*op),
         }
     }
 
     /// One instruction, which the thread has left behind.
+    #[inline(always)]
     pub fn step(
         &mut self,
-        program: &'m Module,
+        program: &'m ValidModule,
         store: &mut Store<'m>,
         instr: &'m Instr,
     ) -> Result<Next, AllocError>
@@ -78,11 +80,11 @@ impl<'m> Stack<'m> {
         match self.row(program, store, instr)? {
             Next::Going => {
                 if !self.has_room(0) {
-                    return Ok(Next::Halted(Halt::Trapped(Trap::Exhausted)));
+                    return Ok(Next::Trapped(Trap::Exhausted));
                 }
                 Ok(Next::Going)
             }
-            Next::Halted(halt) => Ok(Next::Halted(halt)),
+            halted => Ok(halted),
         }
     }
 }

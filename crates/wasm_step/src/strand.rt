@@ -8,7 +8,7 @@ ghost use Rattle.wasm_step.specs.Strand.{IsAnswer, IsHandler, answered, handling
 
 use crate::call::CallSite;
 use crate::first::{first, own};
-use crate::halt::Halt;
+use crate::halt::Stopped;
 use crate::run::BUDGET;
 use crate::stack::Stack;
 use crate::store::Store;
@@ -126,7 +126,7 @@ impl<'m> Strand<'m> {
         ensures call { IfOk result (λ s. s.call ≡ None) }
     {
         let callee = own(self.program, func);
-        if !self.stack.can_handle(&callee.locals) {
+        if !self.stack.can_handle(callee.declared()) {
             return Err(HandlerError::Exhausted);
         }
         let Strand {
@@ -159,8 +159,10 @@ impl<'m> Strand<'m> {
             mut stack,
             call: _,
         } = self;
-        match stack.burst(program.module(), store)? {
-            Halt::Calling(site) => {
+        // Its `ensures` tells the proof that the program is valid.
+        let _ = program.module();
+        match stack.run(program, store)? {
+            Stopped::Calling(site) => {
                 let strand = Strand {
                     program,
                     stack,
@@ -168,9 +170,9 @@ impl<'m> Strand<'m> {
                 };
                 Ok(Pause::AtCall(strand, site))
             }
-            Halt::Ended => Ok(Pause::Ended),
-            Halt::Trapped(trap) => Ok(Pause::Trapped(trap)),
-            Halt::Stuck => unreachable!(),
+            Stopped::Ended => Ok(Pause::Ended),
+            Stopped::Trapped(trap) => Ok(Pause::Trapped(trap)),
+            Stopped::Stuck => unreachable!(),
         }
     }
 

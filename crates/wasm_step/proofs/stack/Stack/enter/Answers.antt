@@ -1,7 +1,5 @@
 use Rattle.std.proofs.Common.{◌≡◌, ◌≤◌, ◌-◌, ◌++◌, [], Some, length, take, drop, refl, sym, ap, ◌∙◌, arith, append_assoc}
 use Rattle.std.specs.Prelude.{false}
-use Rattle.wasm_types.specs.Code.{trees}
-use Rattle.wasm_types.specs.Modules.{func}
 use Rattle.std.proofs.lemmas.List.{take_rest}
 use Rattle.wasm_step.specs.Thread.{Thread, called_with, arguments, entered, zeros}
 use Rattle.wasm_step.specs.declared.stack.Held.{Held}
@@ -24,15 +22,15 @@ module _ (c : goal.After-self-2-1) where
   kept : c.truncate.new.self.items ≡ take (length c.self.inside.operands.items - c.args.n) c.self.inside.operands.items
   kept = c.truncate.ensures.items ∙ ap (λ k. take (k - c.args.n) c.self.inside.operands.items) height
 
-  added : c.append_zeros.new.locals.items ≡ c.self.inside.locals.items ++ (drop (length c.self.inside.operands.items - c.args.n) c.self.inside.operands.items ++ zeros c.args.callee.now.locals.items)
+  added : c.append_zeros.new.locals.items ≡ c.self.inside.locals.items ++ (drop (length c.self.inside.operands.items - c.args.n) c.self.inside.operands.items ++ zeros c.args.callee.locals)
   added =
       let s = c.self.inside in
       let rest = take_rest c.deref.result.now (c.len-height.result - c.args.n) in
       let read : drop (c.len-height.result - c.args.n) c.deref.result.now ≡ drop (length s.operands.items - c.args.n) s.operands.items = ap (λ o. drop (c.len-height.result - c.args.n) o) c.deref.ensures.value ∙ ap (λ k. drop (k - c.args.n) s.operands.items) height in
       c.in_ok-append_zeros.ensures.ok
-      ∙ ap (λ ds. c.extend_from_slice.new.self.items ++ zeros ds) c.deref-2.ensures.value
-      ∙ ap (λ o. o ++ zeros c.args.callee.now.locals.items) (c.in_ok-extend_from_slice.ensures.items ∙ ap (λ o. s.locals.items ++ o) (rest ∙ read))
-      ∙ append_assoc s.locals.items (drop (length s.operands.items - c.args.n) s.operands.items) (zeros c.args.callee.now.locals.items)
+      ∙ ap (λ zs. c.extend_from_slice.new.self.items ++ zs) c.declared.ensures
+      ∙ ap (λ o. o ++ zeros c.args.callee.locals) (c.in_ok-extend_from_slice.ensures.items ∙ ap (λ o. s.locals.items ++ o) (rest ∙ read))
+      ∙ append_assoc s.locals.items (drop (length s.operands.items - c.args.n) s.operands.items) (zeros c.args.callee.locals)
 
   floor : c.len-height.result - c.args.n ≡ length c.truncate.new.self.items
   floor = omega (arith, height, ap length kept)
@@ -48,13 +46,13 @@ returns c =
     let s = c.self.inside in
     let n = c.args.n in
     let args = drop (length s.operands.items - n) s.operands.items in
-    let callee = func c.args.callee.now in
+    let callee = c.args.callee in
     let without' = IsSound-operands s c.truncate.new.self c.self.invariant (keeps_without s n c.self.invariant (enough c) c.truncate.new.self.items (kept c)) in
     let now : Held = record {
       label = record {
         gives = c.args.gives;
-        todo = c.deref-3.result;
-        target = record { ref_ptr = c.args.callee.ref_ptr; now = [] };
+        todo = c.body.result;
+        target = record { ref_ptr = c.body.result.ref_ptr; now = [] };
         carries = c.is_some.result;
         loops = false;
         floor = c.len-height.result - n;
@@ -69,5 +67,5 @@ returns c =
     ap (λ (t : Thread). called_with (arguments n t) n t c.args.index callee c.args.gives) (sym c.self.view_is)
     ∙ ap (λ a. called_with a n (thread_of s) c.args.index callee c.args.gives) (arguments_view s n c.self.invariant (enough c))
     ∙ ap (λ (t : Thread). Some (entered t c.args.index callee.body (args ++ zeros callee.locals) c.args.gives)) (sym view)
-    ∙ ap (λ is. Some (entered (thread_of (record s { operands = c.truncate.new.self })) c.args.index (trees is) (args ++ zeros callee.locals) c.args.gives)) (sym c.deref-3.ensures.value)
+    ∙ ap (λ body. Some (entered (thread_of (record s { operands = c.truncate.new.self })) c.args.index body (args ++ zeros callee.locals) c.args.gives)) (sym c.body.ensures)
     ∙ ap Some (entered_view _ now c.append_zeros.new.locals c.push.new.self _ without' (floor c) refl (c.len.ensures ∙ s.labels.ok.0) (c.len-locals_from.ensures ∙ s.locals.ok.0) (added c) c.in_ok-push.ensures.items refl c.is_some.ensures refl c.is_some-2.ensures)

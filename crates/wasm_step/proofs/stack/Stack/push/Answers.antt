@@ -5,9 +5,9 @@ use Rattle.wasm_step.proofs.stack.Stack.push.Goals as goal
 
 pub invariant_of-self-2 : goal.invariant_of-self-2
 invariant_of-self-2 c =
-    IsSound-operands c.self.inside c.push.new.self c.self.invariant (keeps_pushed c.self.inside _ c.args.v c.self.invariant c.in_ok-push.ensures.items)
+    IsSound-operands c.self.inside c.push_to.new.items c.self.invariant (keeps_pushed c.self.inside _ c.args.v c.self.invariant c.in_ok-push_to.ensures.ok)
 
 pub returns : goal.returns
 returns c =
-    pushed_view c.self.inside c.push.new.self c.args.v c.self.invariant c.in_ok-push.ensures.items
+    pushed_view c.self.inside c.push_to.new.items c.args.v c.self.invariant c.in_ok-push_to.ensures.ok
     ∙ ap (λ t. with_operand t c.args.v) c.self.view_is

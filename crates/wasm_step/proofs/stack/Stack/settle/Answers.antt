@@ -1,13 +1,11 @@
-use Rattle.std.proofs.Common.{sym, ap, ◌∙◌}
-use Rattle.wasm_step.specs.Thread.{Thread}
+use Rattle.std.proofs.Common.{◌≡◌, true, rules, sym, ap, ◌∙◌}
 use Rattle.wasm_step.specs.Answer.{after_of}
-use Rattle.wasm_step.specs.Burst.{settle}
-use Rattle.wasm_step.proofs.Runs.{settle_end}
+use Rattle.wasm_step.proofs.Runs.{none_left, settle_end}
 use Rattle.wasm_step.proofs.stack.Stack.settle.Goals as goal
 
 pub ends-preserved : goal.ends-preserved
 ends-preserved c =
-    let none = c.in_default.ensures.none in
-    settle_end c.fetch.new.self c.end.new.self (ap (λ (t : Thread). t.todo) none.1 ∙ none.0) (sym c.in_ok-end.ensures ∙ ap (λ n. after_of n c.end.new.self) c.in-Going.is)
-    ∙ ap settle none.1
+    let ended : c.is_at_end.result ≡ true = search rules in
+    let none = none_left c.ends.self.todo (sym c.is_at_end.ensures ∙ ended) in
+    settle_end c.ends.self c.end.new.self none (sym c.in_ok-halted.ensures ∙ ap (λ n. after_of n c.end.new.self) c.in-Going.is)
     ∙ c.ends.invariant

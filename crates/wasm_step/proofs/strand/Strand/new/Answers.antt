@@ -1,7 +1,7 @@
 use Rattle.std.proofs.Common.{◌≡◌, List, [], ◌∷◌, Option, Some, None, ◌++◌, sym, ap, ◌∙◌}
 use Rattle.wasm_types.specs.declared.code.Value.{Value}
 use Rattle.wasm_types.specs.declared.code.Value.TheVariants.{I32}
-use Rattle.wasm_types.specs.Modules.{Func, func, module_of}
+use Rattle.wasm_types.specs.Modules.{Func, module_of}
 use Rattle.wasm_step.specs.Strand.{begun, new_thread}
 use Rattle.wasm_step.specs.Thread.{at_start, zeros}
 use Rattle.wasm_step.proofs.Begins.{new_fits}
@@ -11,6 +11,6 @@ pub invariant_of-result : goal.invariant_of-result
 invariant_of-result c =
     let m = module_of c.args.program.now in
     let f = c.args.func in
-    let callee = func c.own-callee.result.now in
+    let callee = c.own-callee.result in
     let started : new_thread m f c.args.arg ≡ Some c.in_ok-stack.stack = ap (λ (o : Option Func). begun o [] f (I32 c.args.arg ∷ [])) c.own-callee.ensures.found ∙ ap Some (ap (λ (args : List Value). at_start [] f callee.body (args ++ zeros callee.locals) None) (sym c.in_ok-arguments.ensures.items) ∙ sym c.in_ok-stack.ensures) in
     new_fits m f c.args.arg c.in_ok-stack.stack c.own-callee.ensures.valid (record { own = c.requires.own; type = c.requires.type }) started
