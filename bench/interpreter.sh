@@ -1,8 +1,9 @@
 #!/bin/sh
 # Runs guests that compute, and prints how many instructions `friday record` runs in a second, beside
 # wasm-interp of the package wabt on the same guests. Each guest yields after 9 to 10 million instructions,
-# 20 times. Then a guest that notes in a loop is recorded and replayed at 10,000 and at 1,000,000 events: the
-# time of an event, and the peak memory beside the log. The time of a start is subtracted.
+# 4 times; and, to see that a burst is linear, after a tenth of them, 40 times. Then a guest that notes in a
+# loop is recorded and replayed at 10,000 and at 1,000,000 events: the time of an event, and the peak memory
+# beside the log. The time of a start is subtracted.
 # Usage: bench/interpreter.sh [PROGRAM]   (the program that ./friday builds, if none is given)
 here=$(CDPATH='' cd -- "$(dirname -- "$0")/.." && pwd) || exit 1
 program=${1:-$here/crates/friday/out/friday}
@@ -10,9 +11,10 @@ exec python3 - "$program" <<'PYTHON'
 import os, statistics, subprocess, sys, tempfile, time
 
 program = os.path.abspath(sys.argv[1])
-BURSTS = 20
-# How often each program runs each guest; the median counts.
+BURSTS = 4
+# How often each program runs each guest, and the guest that notes little; the median counts.
 TIMES = 3
+MANY_TIMES = 25
 
 # A guest's declarations, what it does in each turn but for the count of the turns, how many instructions a
 # turn has with that count, and how many turns a burst has.
@@ -44,6 +46,24 @@ GUESTS = {
         14,
         700000,
     ),
+    "locals": (
+        "",
+        "local.get $i local.set $l3999 local.get $l3999 local.tee $l0 local.set $l2000",
+        10,
+        950000,
+    ),
+    "deep calls": (
+        "(func $down (param i32) local.get 0 if local.get 0 i32.const 1 i32.sub call $down end)",
+        "i32.const 400 call $down",
+        400 * 6 + 2 + 2 + 5,
+        4000,
+    ),
+    "500 blocks": (
+        "",
+        "block " * 500 + "br 499 " + "end " * 500,
+        500 + 1 + 5,
+        19000,
+    ),
     "branches": (
         "",
         "block block block local.get $i i32.const 3 i32.and br_table 0 1 2 2 end end end",
@@ -52,8 +72,16 @@ GUESTS = {
     ),
 }
 
+# A block costs wasm-interp nothing, so it does not run that guest.
+ALONE = ("500 blocks",)
+
+# The further locals of that guest.
+LOCALS = {
+    "locals": "(local $l0 i32) (local %s) (local $l2000 i32) (local %s) (local $l3999 i32)" % ("i64 " * 1999, "i32 " * 1998),
+}
+
 COMPUTES = """(module (import "liblog" "yield" (func $yield)) %s
-  (func (export "_start") (local $n i32) (local $i i32) (local $a i32) (local $x i64)
+  (func (export "_start") (local $n i32) (local $i i32) (local $a i32) (local $x i64) %s
     i32.const %d local.set $n
     loop
       i32.const %d local.set $i
@@ -83,9 +111,9 @@ def schedule(folder, tries):
 
 
 # The median of the times, and the greatest of the peaks in bytes.
-def measure(words, folder, wanted=None):
+def measure(words, folder, wanted=None, count=TIMES):
     times, peak = [], 0
-    for _ in range(TIMES):
+    for _ in range(count):
         start = time.perf_counter()
         child = subprocess.Popen(words, cwd=folder, stdout=subprocess.PIPE, text=True)
         text = child.stdout.read()
@@ -100,24 +128,29 @@ def measure(words, folder, wanted=None):
 with tempfile.TemporaryDirectory() as folder:
     record, replay = [program, "record", "s"], [program, "replay", "a.wasm", "a.log"]
     interp = ["wasm-interp", "--dummy-import-func", "--run-all-exports", "a.wasm"]
-    build(folder, COMPUTES % ("", 1, 1, "nop", COUNT))
+    build(folder, COMPUTES % ("", "", 1, 1, "nop", COUNT))
     schedule(folder, 2)
-    start, least = measure(record, folder, "finished")
+    start, least = measure(record, folder, "finished", MANY_TIMES)
     start_of_interp, _ = measure(interp, folder)
-    print("%-16s %14s %14s %10s" % ("millions/second", "friday record", "wasm-interp", "ratio"))
+    print("%-16s %14s %14s %14s %10s" % ("millions/second", "friday record", "short bursts", "wasm-interp", "ratio"))
     for name, (declared, turn, length, turns) in GUESTS.items():
-        build(folder, COMPUTES % (declared, BURSTS, turns, turn, COUNT))
-        schedule(folder, BURSTS + 1)
         count = BURSTS * turns * length / 1e6
-        ours = count / (measure(record, folder, "%d events, finished" % (BURSTS + 1))[0] - start)
-        theirs = count / (measure(interp, folder)[0] - start_of_interp)
-        print("%-16s %14.1f %14.1f %10.2f" % (name, ours, theirs, ours / theirs))
+        rates = []
+        for bursts in (10 * BURSTS, BURSTS):
+            build(folder, COMPUTES % (declared, LOCALS.get(name, ""), bursts, turns * BURSTS // bursts, turn, COUNT))
+            schedule(folder, bursts + 1)
+            rates.append(count / (measure(record, folder, "%d events, finished" % (bursts + 1))[0] - start))
+        print("%-16s %14.1f %14.1f" % (name, rates[1], rates[0]), end="")
+        if name not in ALONE:
+            theirs = count / (measure(interp, folder)[0] - start_of_interp)
+            print(" %14.1f %10.2f" % (theirs, rates[1] / theirs), end="")
+        print()
     print("%-16s %14s %14s %12s %12s %12s" % ("events", "ns to record", "ns to replay", "bytes of log", "peak, record", "peak, replay"))
-    for events in (10000, 1000000):
+    for events, count in (10000, MANY_TIMES), (1000000, TIMES):
         build(folder, NOTES % (events - 1))
         schedule(folder, events)
-        recorded, record_peak = measure(record, folder, "%d events, finished" % events)
-        replayed, replay_peak = measure(replay, folder, "%d events, finished, log whole" % events)
+        recorded, record_peak = measure(record, folder, "%d events, finished" % events, count)
+        replayed, replay_peak = measure(replay, folder, "%d events, finished, log whole" % events, count)
         size = os.path.getsize(os.path.join(folder, "a.log"))
         shown = tuple((spent - start) / events * 1e9 for spent in (recorded, replayed))
         print("%-16d %14.0f %14.0f %12d %12d %12d" % (events, *shown, size, record_peak, replay_peak))
