@@ -5,8 +5,6 @@ mod entry;
 mod fields;
 mod head;
 mod put;
-#[cfg(test)]
-mod tests;
 mod view;
 
 pub use head::{BadHead, LogHead};

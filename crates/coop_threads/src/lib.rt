@@ -9,8 +9,6 @@ mod locks;
 mod slot;
 mod spawn_error;
 mod status;
-#[cfg(test)]
-mod tests;
 
 pub use copy_out::CopyOut;
 pub use crew::Crew;

@@ -6,8 +6,6 @@ mod bytes;
 mod cursor;
 mod leb;
 mod put;
-#[cfg(test)]
-mod tests;
 
 pub use bytes::Bytes;
 pub use cursor::Cursor;

@@ -3,8 +3,6 @@
 
 mod error;
 mod line;
-#[cfg(test)]
-mod tests;
 mod text;
 mod word;
 

@@ -3,7 +3,5 @@
 
 mod little_endian;
 mod memory;
-#[cfg(test)]
-mod tests;
 
 pub use memory::Memory;

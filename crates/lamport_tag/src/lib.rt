@@ -6,9 +6,6 @@ ghost use Rattle.lamport_tag.specs.Tag.{IsTagged, IsUntagged, clock_of, next_clo
 
 use byteorder::{ByteOrder, LittleEndian};
 
-#[cfg(test)]
-mod tests;
-
 const MAGIC: [u8; 4] = [0xD7, b'L', b'O', b'G'];
 
 // The length of a tag in bytes.

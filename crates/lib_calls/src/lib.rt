@@ -13,6 +13,3 @@ pub use arguments::{good_arguments, outgoing};
 pub use entry::{Call, Entry, EntryView};
 pub use shape::Signature;
 pub use table::{kind_of, name_of, signature_of};
-
-#[cfg(test)]
-mod tests;

@@ -5,7 +5,5 @@
 mod endpoint;
 mod net;
 mod shared;
-#[cfg(test)]
-mod tests;
 
 pub use net::{Front, Net};

@@ -23,8 +23,6 @@ mod limits;
 mod process;
 mod read;
 mod schedule;
-#[cfg(test)]
-mod tests;
 mod word;
 
 pub use error::ScheduleError;

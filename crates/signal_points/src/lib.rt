@@ -4,8 +4,6 @@
 
 mod handlers;
 mod pending;
-#[cfg(test)]
-mod tests;
 
 pub use handlers::Handlers;
 pub use pending::Pending;

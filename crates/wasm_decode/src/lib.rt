@@ -94,6 +94,3 @@ pub fn one_module()
 pub fn module_is_spelled()
     ensures { (bytes : List ℕ) (m : Shown) → (module_of_bytes bytes ≡ Some m) ↔ Spells bytes m }
 {}
-
-#[cfg(test)]
-mod tests;

@@ -6,8 +6,6 @@
 mod bits_32;
 mod bits_64;
 mod convert;
-#[cfg(test)]
-mod tests;
 
 pub use bits_32::{
     i32_add, i32_and, i32_clz, i32_ctz, i32_div_s, i32_div_u, i32_eq, i32_eqz, i32_ge_s, i32_ge_u,

@@ -13,6 +13,3 @@ pub use modules::{
 };
 pub use traps::Trap;
 pub use valid::{ValidModule, claim};
-
-#[cfg(test)]
-mod tests;

@@ -50,6 +50,3 @@ pub fn validate(alloc: Global, checked: Module) -> Result<ValidModule, Invalid>
     check(alloc, &checked)?;
     Ok(claim(alloc, checked)?)
 }
-
-#[cfg(test)]
-mod tests;
