@@ -20,10 +20,3 @@ mod top;
 
 pub use status::Status;
 pub use top::friday;
-
-#[cfg(test)]
-mod record_tests;
-#[cfg(test)]
-mod sample;
-#[cfg(test)]
-mod tests;

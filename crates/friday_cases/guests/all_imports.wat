@@ -1,0 +1,23 @@
+;; A module may import each call, twice too, and need not make any.
+;; ends finished
+(module
+  (import "liblog" "exit" (func (param i32)))
+  (import "liblog" "note" (func (param i64)))
+  (import "liblog" "print" (func (param i32 i32) (result i32)))
+  (import "liblog" "now" (func (result i64)))
+  (import "liblog" "sleep_until" (func (param i64) (result i64)))
+  (import "liblog" "random" (func (param i32 i32) (result i32)))
+  (import "liblog" "me" (func (result i32)))
+  (import "liblog" "send" (func (param i32 i32 i32) (result i32)))
+  (import "liblog" "recv" (func (param i32 i32 i32) (result i32)))
+  (import "liblog" "try_recv" (func (param i32 i32 i32) (result i32)))
+  (import "liblog" "spawn" (func (param i32 i32) (result i32)))
+  (import "liblog" "yield" (func))
+  (import "liblog" "join" (func (param i32) (result i32)))
+  (import "liblog" "lock" (func (param i32) (result i32)))
+  (import "liblog" "unlock" (func (param i32) (result i32)))
+  (import "liblog" "on_signal" (func (param i32 i32) (result i32)))
+  (import "liblog" "thread" (func (result i32)))
+  (import "liblog" "exit" (func (param i32)))
+  (func (export "_start"))
+)

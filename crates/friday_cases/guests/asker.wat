@@ -1,0 +1,15 @@
+;; Asks for its process's and its thread's number, sleeps until 10, yields and exits with 3.
+(module
+  (import "liblog" "me" (func $me (result i32)))
+  (import "liblog" "thread" (func $thread (result i32)))
+  (import "liblog" "sleep_until" (func $sleep_until (param i64) (result i64)))
+  (import "liblog" "yield" (func $yield))
+  (import "liblog" "exit" (func $exit (param i32)))
+  (func (export "_start")
+    (drop (call $me))
+    (drop (call $thread))
+    (drop (call $sleep_until (i64.const 10)))
+    (call $yield)
+    (call $exit (i32.const 3))
+  )
+)

@@ -1,0 +1,46 @@
+//! Plays a script of cases over files in memory, and prints what came of each command as a transcript.
+//!
+//! A script is text in lines. A line without words, and one whose first byte is `#`, is passed over. NAME has no
+//! blanks. BYTES are pieces between blanks, put together: hexadecimal digits, `N*DIGITS` for N times the same, `=NAME`
+//! for what was kept, and text between quotes, in which `\n`, `\r`, `\t`, `\0`, `\q` and `\\` stand for a line feed, a
+//! carriage return, a tab, a zero, a quote and a backslash. WORDS are the words of a command line between blanks,
+//! where `''` stands for an empty word.
+//!
+//! | line | what it does |
+//! |---|---|
+//! | `keep NAME BYTES` | keeps the bytes for all cases |
+//! | `case TEXT` | begins a case, with no files |
+//! | `file NAME BYTES` | sets the bytes of a file |
+//! | `add NAME BYTES` | puts the bytes at the end of a file |
+//! | `cut NAME N` | leaves the first N bytes of a file |
+//! | `set NAME AT BYTES` | puts the bytes over those of a file, from an offset on |
+//! | `fail files N` | lets the call of this number fail, of those on files that the case makes |
+//! | `fail input N`, `fail output N` | lets the read or the write of this number fail, of those that the next command makes |
+//! | `run WORDS` | makes the call with these words |
+//! | `cuts NAME A B WORDS` | makes the call for each N from A to B, with the first N bytes of a file in its place |
+//! | `turns NAME A B WORDS` | makes the call for each N from A to B, with all bits turned in the byte at N of a file |
+//! | `show NAME` | tells what a file holds: all of a short one, and the SHA-256 of a long one |
+//!
+//! A line that is none of these, or cannot be done, is told with its number, and the script goes on.
+#![tactic(auto)]
+
+mod bytes;
+mod order;
+mod outcome;
+mod play;
+
+use play::Session;
+use std::io::{self, BufRead, BufReader, BufWriter, Write};
+
+fn main(rt: HostRuntime) -> io::Result<()> {
+    let alloc = rt.alloc();
+    let mut out = BufWriter::new(alloc, io::writer(&rt))?;
+    let mut session = Session::new(alloc);
+    for (index, line) in BufReader::new(alloc, rt.reader())?.lines(alloc).enumerate() {
+        match session.perform(line?.as_str()) {
+            Ok(text) => out.write_all(text.as_bytes())?,
+            Err(error) => writeln!(out, "line {}: {error}", index + 1)?,
+        }
+    }
+    out.flush()
+}

@@ -1,0 +1,224 @@
+// The objects of a case, and what the lines of a script do to them.
+
+use crate::bytes::spelled;
+use crate::order::{Change, Order, Side, read_order};
+use crate::outcome::Outcome;
+use anyhow::{Context, bail, ensure};
+use fri_outside::{MemFiles, MemSink, MemSource};
+use friday_app::friday;
+use sha2::{Digest, Sha256};
+use std::alloc::{AllocError, Global};
+use std::fmt::Write;
+
+/// The most bytes of a file that are shown.
+const SHOWN: usize = 512;
+
+/// The bytes of a file that stand in one line.
+const ROW: usize = 32;
+
+/// What was kept for all cases, and the files of the one that was begun last.
+#[derive(Drop)]
+pub struct Session {
+    alloc: Global,
+    kept: MemFiles,
+    files: MemFiles,
+    failing_reads: Vec<u64>,
+    failing_writes: Vec<u64>,
+}
+
+impl Session {
+    pub fn new(alloc: Global) -> Session {
+        Session {
+            alloc,
+            kept: MemFiles::new(alloc),
+            files: MemFiles::new(alloc),
+            failing_reads: Vec::new(alloc),
+            failing_writes: Vec::new(alloc),
+        }
+    }
+
+    /// Does what the line asks for, and gives what is to be printed of it.
+    pub fn perform(&mut self, line: &str) -> anyhow::Result<String> {
+        if line.trim().is_empty() || line.starts_with('#') {
+            return Ok(String::new(self.alloc));
+        }
+        match read_order(line)? {
+            Order::Keep { name, pieces } => self.keep(name, pieces),
+            Order::Case(name) => self.begin(name),
+            Order::File { name, pieces } => {
+                let bytes = spelled(self.alloc, pieces, &self.kept)?;
+                self.put("file", name, &bytes)
+            }
+            Order::Add { name, pieces } => self.add(name, pieces),
+            Order::Cut { name, len } => self.cut(name, len),
+            Order::Set { name, at, pieces } => self.set(name, at, pieces),
+            Order::Fail { side, call } => self.fail(side, call),
+            Order::Run(words) => self.run(words),
+            Order::Each {
+                change,
+                name,
+                first,
+                last,
+                words,
+            } => self.run_each(change, name, first, last, words),
+            Order::Show(name) => self.show(name),
+        }
+    }
+
+    fn keep(&mut self, name: &str, pieces: &str) -> anyhow::Result<String> {
+        let bytes = spelled(self.alloc, pieces, &self.kept)?;
+        self.kept.put(name, &bytes)?;
+        Ok(String::new(self.alloc))
+    }
+
+    fn begin(&mut self, name: &str) -> anyhow::Result<String> {
+        self.files = MemFiles::new(self.alloc);
+        self.failing_reads.clear();
+        self.failing_writes.clear();
+        Ok(format!(in self.alloc; "\ncase {name}\n")?)
+    }
+
+    // Sets the bytes of a file, and tells what was done to it.
+    fn put(&mut self, done: &str, name: &str, bytes: &[u8]) -> anyhow::Result<String> {
+        self.files.put(name, bytes)?;
+        let len = bytes.len();
+        Ok(format!(in self.alloc; "{done} {name}: {len} bytes\n")?)
+    }
+
+    // A copy of a file, which must be there.
+    fn copy(&self, name: &str) -> anyhow::Result<Vec<u8>> {
+        let bytes = self
+            .files
+            .bytes(name)
+            .context(format_args!("there is no file {name}"))?;
+        Ok(Vec::from_slice(self.alloc, bytes)?)
+    }
+
+    fn add(&mut self, name: &str, pieces: &str) -> anyhow::Result<String> {
+        let mut bytes = self.copy(name)?;
+        let more = spelled(self.alloc, pieces, &self.kept)?;
+        bytes.extend_from_slice(&more)?;
+        self.put("add", name, &bytes)
+    }
+
+    fn cut(&mut self, name: &str, len: usize) -> anyhow::Result<String> {
+        let bytes = self.copy(name)?;
+        let front = bytes.get(..len).context("the file is shorter")?;
+        self.put("cut", name, front)
+    }
+
+    fn set(&mut self, name: &str, at: usize, pieces: &str) -> anyhow::Result<String> {
+        let mut bytes = self.copy(name)?;
+        let others = spelled(self.alloc, pieces, &self.kept)?;
+        let end = at.checked_add(others.len()).context("the file is shorter")?;
+        ensure!(end <= bytes.len(), "the file is shorter");
+        bytes[at..end].copy_from_slice(&others);
+        self.put("set", name, &bytes)
+    }
+
+    fn fail(&mut self, side: Side, call: u64) -> anyhow::Result<String> {
+        let name = match side {
+            Side::Files => {
+                self.files.fail_at(call)?;
+                "files"
+            }
+            Side::Input => {
+                self.failing_reads.push(call)?;
+                "input"
+            }
+            Side::Output => {
+                self.failing_writes.push(call)?;
+                "output"
+            }
+        };
+        Ok(format!(in self.alloc; "fail {name} {call}\n")?)
+    }
+
+    fn run(&mut self, words: &str) -> anyhow::Result<String> {
+        let told = self.call(words)?.tell(self.alloc)?;
+        Ok(format!(in self.alloc; "run {words}: {told}")?)
+    }
+
+    // Makes the call with a fresh input and a fresh output.
+    fn call(&mut self, words: &str) -> Result<Outcome, AllocError> {
+        let words = split_words(self.alloc, words)?;
+        let mut input = MemSource::new(Vec::new(self.alloc), 1);
+        for read in &self.failing_reads {
+            input.fail_at(*read)?;
+        }
+        let mut output = MemSink::new(self.alloc);
+        for write in &self.failing_writes {
+            output.fail_at(*write)?;
+        }
+        self.failing_reads.clear();
+        self.failing_writes.clear();
+        let status = friday(self.alloc, &words, &mut self.files, &mut input, &mut output);
+        let printed = Vec::from_slice(self.alloc, output.bytes())?;
+        Ok(Outcome { status, printed })
+    }
+
+    // Makes the call for each changed form of a file, which is as it was after that.
+    fn run_each(
+        &mut self,
+        change: Change,
+        name: &str,
+        first: usize,
+        last: usize,
+        words: &str,
+    ) -> anyhow::Result<String> {
+        let whole = self.copy(name)?;
+        let mut told = format!(in self.alloc; "run {words}, for each\n")?;
+        for at in first..=last {
+            let changed = changed(self.alloc, change, &whole, at)?;
+            self.files.put(name, &changed)?;
+            let outcome = self.call(words)?.tell_in_line(self.alloc)?;
+            write!(told, "    {at}: {outcome}")?;
+        }
+        self.files.put(name, &whole)?;
+        Ok(told)
+    }
+
+    fn show(&self, name: &str) -> anyhow::Result<String> {
+        let Some(bytes) = self.files.bytes(name) else {
+            return Ok(format!(in self.alloc; "show {name}: absent\n")?);
+        };
+        let mut told = format!(in self.alloc; "show {name}: {} bytes\n", bytes.len())?;
+        if bytes.len() > SHOWN {
+            let digest = Sha256::digest(bytes);
+            let digits = hex::encode(self.alloc, digest.as_slice())?;
+            write!(told, "    SHA-256 {digits}\n")?;
+            return Ok(told);
+        }
+        for row in bytes.chunks(ROW) {
+            let digits = hex::encode(self.alloc, row)?;
+            write!(told, "    {digits}\n")?;
+        }
+        Ok(told)
+    }
+}
+
+fn split_words(alloc: Global, words: &str) -> Result<Vec<String>, AllocError> {
+    let mut list = Vec::new(alloc);
+    for word in words.split_whitespace() {
+        let word = if word == "''" { "" } else { word };
+        list.push(String::from_str(alloc, word)?)?;
+    }
+    Ok(list)
+}
+
+fn changed(alloc: Global, change: Change, whole: &[u8], at: usize) -> anyhow::Result<Vec<u8>> {
+    match change {
+        Change::Cut => {
+            let front = whole.get(..at).context("the file is shorter")?;
+            Ok(Vec::from_slice(alloc, front)?)
+        }
+        Change::Turn => {
+            let mut bytes = Vec::from_slice(alloc, whole)?;
+            let Some(byte) = bytes.get_mut(at) else {
+                bail!("the file is shorter");
+            };
+            *byte ^= 0xff;
+            Ok(bytes)
+        }
+    }
+}

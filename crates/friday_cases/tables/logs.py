@@ -1,0 +1,37 @@
+"""Logs: a head, and an entry for each event."""
+
+import struct
+
+# The calls by kind, with their arguments' number.
+KINDS = {"begin": (0, 0), "exit": (1, 1), "note": (2, 1), "now": (4, 0), "sleep_until": (5, 1), "me": (7, 0), "yield": (12, 0), "thread": (17, 0)}
+
+
+def head(name=b"a", version=1, count=1, process=0, mark=b"LLOG"):
+    return mark + struct.pack("<IIIB", version, count, process, len(name)) + name
+
+
+def entry(clock, call, arguments=(), reply=0, thread=0, signal=0):
+    body = struct.pack("<QHBB", clock, thread, KINDS[call][0], signal)
+    assert len(arguments) == KINDS[call][1]
+    for number in (*arguments, reply):
+        body += struct.pack("<Q", number % 2**64)
+    return struct.pack("<I", len(body)) + body
+
+
+def event(written):
+    """An event as `call ARGUMENTS = REPLY`, where a reply of 0 may be left out."""
+    front, _, reply = written.partition("=")
+    call, *arguments = front.split()
+    # The argument of `exit` is a number of 32 bits, which is kept with zeros above.
+    bound = 2**32 if call == "exit" else 2**64
+    return call, [int(word, 0) % bound for word in arguments], int(reply.strip() or "0", 0)
+
+
+def entries(events, first=1):
+    """The entries of events in their written form, with clocks that count up."""
+    return [entry(first + at, *event(written)) for at, written in enumerate(events)]
+
+
+def log(events, **fields):
+    """The log of a process that begins and makes these events."""
+    return head(**fields) + b"".join(entries(["begin"] + events))

@@ -1,0 +1,24 @@
+#!/usr/bin/env python3
+"""Writes the script and the transcript of friday_cases, its files `stdin` and `stdout`, from the tables beside this
+file and the guests in ../guests. It needs wat2wasm of the package wabt.
+
+What the program is to print is put together here from the rules of docs/formats.md, and never from its output."""
+
+import os
+
+import commands, guests, limits, refusals, replays, schedules
+from script import Script
+
+HERE = os.path.dirname(os.path.abspath(__file__))
+
+
+def main():
+    script = Script()
+    for part in (commands, schedules, replays, refusals, guests, limits):
+        part.table(script)
+    for name, lines in (("stdin", script.lines), ("stdout", script.told)):
+        with open(os.path.join(HERE, "..", name), "w") as file:
+            file.write("\n".join(lines) + "\n")
+
+
+main()
