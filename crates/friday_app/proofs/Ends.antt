@@ -11,7 +11,7 @@ use Rattle.friday_app.specs.declared.refusal.Answer.TheVariants as answered
 use Rattle.friday_app.specs.declared.refusal.Refusal.{Refusal}
 use Rattle.friday_app.specs.declared.refusal.Refusal.TheVariants as refusal
 use Rattle.friday_app.specs.Command.{Command, Record, Replay}
-use Rattle.friday_app.specs.Outcome.{Outcome, Stop, Work, refused_line, usage_line, status_of, text_of, writes_of, with_files}
+use Rattle.friday_app.specs.Outcome.{Outcome, Stop, Work, Refuses, Lacks, refused_line, usage_line, status_of, text_of, writes_of, with_files}
 use Rattle.friday_app.specs.Expected.{expected, record_outcome, written_by}
 use Rattle.friday_app.specs.Agreement.{KeepsRecording}
 use Rattle.friday_app.specs.Run.{Outside, Run}
@@ -105,9 +105,6 @@ status_ends (Err refusal.NoMemory) answer outcome is answers fault h = absurd (s
 stops_not : (o : Outcome) (work : Work) (stop : Stop) → o ≡ Ok work → o ≡ Err stop → ⊥
 stops_not o work stop works stops = let e : Ok work ≡ Err stop = sym works ∙ stops in cc
 
-refuses_not : (o : Outcome) (work : Work) (stop : Work → Stop) (done : Work) → o ≡ Ok work → o ≡ Err (stop done) → ⊥
-refuses_not o work stop done works stops = stops_not o work (stop done) works stops
-
 -- a command that stopped before its work had no recording to leave
 none_recorded : (command : Command) (left : Option (List ℕ)) (before after : Option Store) → ((o : Outcome) → expected (Some command) before left ≡ Some o → (work : Work) → o ≡ Ok work → ⊥)
     → WhenTold before (λ old. WhenTold after (KeepsRecording (Some command) old))
@@ -124,9 +121,9 @@ recorded_ends : (command : Command) (ended : Result Answer Refusal) (answer : St
     → WhenTold before (λ old. WhenTold after (KeepsRecording (Some command) old))
 recorded_ends command (Ok given) answer left before after tells fault is holds = holds
 recorded_ends command (Err (refusal.Refused file why)) answer left before after tells fault is holds =
-    none_recorded command left before after (λ o e work works. let t = tells o e in refuses_not o work _ t.0 works t.1)
+    none_recorded command left before after (λ o e work works. let t = tells o e in stops_not o work (Refuses (string_bytes file) why t.0) works t.1)
 recorded_ends command (Err (refusal.Absent file)) answer left before after tells fault is holds =
-    none_recorded command left before after (λ o e work works. stops_not o work _ works (tells o e))
+    none_recorded command left before after (λ o e work works. stops_not o work (Lacks (string_bytes file)) works (tells o e))
 recorded_ends command (Err refusal.ReadFault) answer left before after tells fault is holds = absurd (subst IsAnswer fault is)
 recorded_ends command (Err refusal.WriteFault) answer left before after tells fault is holds = absurd (subst IsAnswer fault is)
 recorded_ends command (Err refusal.NoMemory) answer left before after tells fault is holds = absurd (subst IsAnswer fault is)

@@ -138,7 +138,7 @@ starts_so name (Some found) begun is = cc
 pub log_named : (recorded : Recorded) (name : List ℕ) (begun : State) (items : List Item) → IsRecordedWork recorded (record_work name begun items) → string_bytes recorded.log_name ≡ log_name name
 log_named recorded name begun items told = ap (λ (files : List (List ℕ × List ℕ)). (first_or ([], []) files).0) told.writes
 
-value_or : {A : Type 0} → A → Result A Stop → A
+abbrev value_or : {A : Type 0} → A → Result A Stop → A
 value_or default (Ok value) = value
 value_or default (Err stop) = default
 
