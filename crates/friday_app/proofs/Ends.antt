@@ -1,5 +1,5 @@
 -- What a command's result comes to.
-use Rattle.std.proofs.Common.{◌≡◌, ◌++◌, ℕ, List, [], Option, Some, None, Result, Ok, Err, IfSome, IfNone, refl, sym, ap, subst, ◌∙◌, inl, inr, append-nil, IfErr, IfOk, arith, cond, string_bytes}
+use Rattle.std.proofs.Common.{◌≡◌, ◌++◌, ℕ, List, [], Option, Some, None, option_map, Result, Ok, Err, IfSome, IfNone, refl, sym, ap, subst, ◌∙◌, inl, inr, append-nil, IfErr, IfOk, arith, cond, string_bytes}
 use Rattle.std.specs.Io.KnownBytes.{append_known}
 use Rattle.std.proofs.lemmas.Grind.{common_steps}
 use Rattle.std.proofs.lemmas.Option.{same_Some}
@@ -10,12 +10,13 @@ use Rattle.friday_app.specs.declared.refusal.Answer.{Answer}
 use Rattle.friday_app.specs.declared.refusal.Answer.TheVariants as answered
 use Rattle.friday_app.specs.declared.refusal.Refusal.{Refusal}
 use Rattle.friday_app.specs.declared.refusal.Refusal.TheVariants as refusal
-use Rattle.friday_app.specs.Command.{Command}
-use Rattle.friday_app.specs.Outcome.{Outcome, refused_line, usage_line, status_of, text_of, writes_of, with_files}
-use Rattle.friday_app.specs.Expected.{expected, written_by}
+use Rattle.friday_app.specs.Command.{Command, Record, Replay}
+use Rattle.friday_app.specs.Outcome.{Outcome, Stop, Work, Refuses, Lacks, refused_line, usage_line, status_of, text_of, writes_of, with_files}
+use Rattle.friday_app.specs.Expected.{expected, record_outcome, written_by}
 use Rattle.friday_app.specs.Agreement.{KeepsRecording}
 use Rattle.friday_app.specs.Run.{Outside, Run}
-use Rattle.friday_app.specs.Call.{Prints, PrintsRefusal, DivergesOnlyIn, Leaves, IsAnswer, Tells, Makes, Keeps, Raises, FaultStatus, answer_of, OthersStay, Finishes}
+use Rattle.friday_app.specs.Call.{Prints, PrintsAbsent, PrintsLast, PrintsRefusal, KeepsInput, Untouched, DivergesOnlyIn, Leaves, IsAnswer, Tells, Makes, Keeps, Raises, FaultStatus, answer_of, OthersStay, Finishes}
+use Rattle.friday_app.proofs.Gathered.{records}
 use Rattle.friday_app.proofs.Made.{same_changes, all_changes, same_others}
 
 nothing_more : (o : Option (List ℕ)) → o ≡ append_known o []
@@ -77,7 +78,7 @@ refusal_ends (Ok (answered.Done text)) answer before after old new answers print
 refusal_ends (Ok (answered.Diverged text)) answer before after old new answers prints fault cause is =
     let e : ends.Refused ≡ ends.Diverged = sym is ∙ answers (subst IsAnswer (sym is) tt) in cc
 refusal_ends (Err (refusal.Refused file why)) answer before after old new answers prints fault cause is =
-    ([], (string_bytes file), (why, prints.whole (subst IsAnswer (sym is) tt), λ large. inl (cause large)))
+    ([], (string_bytes file), (why, prints.whole (subst IsAnswer (sym is) tt), cause))
 refusal_ends (Err (refusal.Absent file)) answer before after old new answers prints fault cause is =
     let e : ends.Refused ≡ ends.Absent = sym is ∙ answers (subst IsAnswer (sym is) tt) in cc
 refusal_ends (Err refusal.ReadFault) answer before after old new answers prints fault cause is = let e = sym is ∙ fault in cc
@@ -101,19 +102,65 @@ status_ends (Err refusal.ReadFault) answer outcome is answers fault h = absurd (
 status_ends (Err refusal.WriteFault) answer outcome is answers fault h = absurd (subst IsAnswer fault h)
 status_ends (Err refusal.NoMemory) answer outcome is answers fault h = absurd (subst IsAnswer fault h)
 
--- what an answer says holds at status 0
-done_ends : {P : Type 0} (ended : Result Answer Refusal) (answer : Status)
-    → IfSome (answer_of ended) (λ a. IsAnswer answer → answer ≡ a.0)
+stops_not : (o : Outcome) (work : Work) (stop : Stop) → o ≡ Ok work → o ≡ Err stop → ⊥
+stops_not o work stop works stops = let e : Ok work ≡ Err stop = sym works ∙ stops in cc
+
+-- a command that stopped before its work had no recording to leave
+none_recorded : (command : Command) (left : Option (List ℕ)) (before after : Option Store) → ((o : Outcome) → expected (Some command) before left ≡ Some o → (work : Work) → o ≡ Ok work → ⊥)
+    → WhenTold before (λ old. WhenTold after (KeepsRecording (Some command) old))
+none_recorded (Replay module_name log_name) left before after stops = λ old told new here. tt
+none_recorded (Record schedule_name) left before after stops = λ old told new here schedule m begun spelled found starts.
+    absurd (stops (record_outcome schedule_name old) (ap (option_map (record_outcome schedule_name)) told) _ (records old schedule_name schedule m begun spelled found starts))
+
+-- the recording that a command leaves at an answer
+recorded_ends : (command : Command) (ended : Result Answer Refusal) (answer : Status) (left : Option (List ℕ)) (before after : Option Store)
+    → ((o : Outcome) → expected (Some command) before left ≡ Some o → Tells o ended)
     → FaultStatus ended answer
-    → answer ≡ ends.Done
-    → IfOk ended (λ _. P)
-    → P
-done_ends (Ok given) answer answers fault is holds = holds
-done_ends (Err (refusal.Refused file why)) answer answers fault is holds = let e : ends.Done ≡ ends.Refused = sym is ∙ answers (subst IsAnswer (sym is) tt) in cc
-done_ends (Err (refusal.Absent file)) answer answers fault is holds = let e : ends.Done ≡ ends.Absent = sym is ∙ answers (subst IsAnswer (sym is) tt) in cc
-done_ends (Err refusal.ReadFault) answer answers fault is holds = let e = sym is ∙ fault in cc
-done_ends (Err refusal.WriteFault) answer answers fault is holds = let e = sym is ∙ fault in cc
-done_ends (Err refusal.NoMemory) answer answers fault is holds = let e = sym is ∙ fault in cc
+    → IsAnswer answer
+    → IfOk ended (λ _. WhenTold before (λ old. WhenTold after (KeepsRecording (Some command) old)))
+    → WhenTold before (λ old. WhenTold after (KeepsRecording (Some command) old))
+recorded_ends command (Ok given) answer left before after tells fault is holds = holds
+recorded_ends command (Err (refusal.Refused file why)) answer left before after tells fault is holds =
+    none_recorded command left before after (λ o e work works. let t = tells o e in stops_not o work (Refuses (string_bytes file) why t.0) works t.1)
+recorded_ends command (Err (refusal.Absent file)) answer left before after tells fault is holds =
+    none_recorded command left before after (λ o e work works. stops_not o work (Lacks (string_bytes file)) works (tells o e))
+recorded_ends command (Err refusal.ReadFault) answer left before after tells fault is holds = absurd (subst IsAnswer fault is)
+recorded_ends command (Err refusal.WriteFault) answer left before after tells fault is holds = absurd (subst IsAnswer fault is)
+recorded_ends command (Err refusal.NoMemory) answer left before after tells fault is holds = absurd (subst IsAnswer fault is)
+
+-- the text of an absent file
+absent_ends : (ended : Result Answer Refusal) (answer : Status) (before after : Option (List ℕ))
+    → IfSome (answer_of ended) (λ a. IsAnswer answer → answer ≡ a.0)
+    → IfSome (answer_of ended) (λ a. Prints answer a.1 before after)
+    → FaultStatus ended answer
+    → answer ≡ ends.Absent
+    → PrintsAbsent before after
+absent_ends (Ok (answered.Done text)) answer before after answers prints fault is = let e : ends.Absent ≡ ends.Done = sym is ∙ answers (subst IsAnswer (sym is) tt) in cc
+absent_ends (Ok (answered.Diverged text)) answer before after answers prints fault is = let e : ends.Absent ≡ ends.Diverged = sym is ∙ answers (subst IsAnswer (sym is) tt) in cc
+absent_ends (Err (refusal.Refused file why)) answer before after answers prints fault is = let e : ends.Absent ≡ ends.Refused = sym is ∙ answers (subst IsAnswer (sym is) tt) in cc
+absent_ends (Err (refusal.Absent file)) answer before after answers prints fault is = (string_bytes file, prints.whole (subst IsAnswer (sym is) tt))
+absent_ends (Err refusal.ReadFault) answer before after answers prints fault is = let e = sym is ∙ fault in cc
+absent_ends (Err refusal.WriteFault) answer before after answers prints fault is = let e = sym is ∙ fault in cc
+absent_ends (Err refusal.NoMemory) answer before after answers prints fault is = let e = sym is ∙ fault in cc
+
+-- a text is printed where all files were made, and none where some were not
+last_ends : (ended : Result Answer Refusal) (files : List (List ℕ × List ℕ)) (printed printed_after : Option (List ℕ)) (before after : Option Store)
+    → Makes ended files before after
+    → IfNone (answer_of ended) (printed_after ≡ printed)
+    → PrintsLast files printed printed_after before after
+last_ends (Ok (answered.Done text)) files printed printed_after before after makes silent = inr makes
+last_ends (Ok (answered.Diverged text)) files printed printed_after before after makes silent = inr makes
+last_ends (Err (refusal.Refused file why)) files printed printed_after before after makes silent = inr makes
+last_ends (Err (refusal.Absent file)) files printed printed_after before after makes silent = inr makes
+last_ends (Err refusal.ReadFault) files printed printed_after before after makes silent = inl silent
+last_ends (Err refusal.WriteFault) files printed printed_after before after makes silent = inl silent
+last_ends (Err refusal.NoMemory) files printed printed_after before after makes silent = inl silent
+
+-- an input that is as it was
+pub kept_input : {untouched : Type 0} (command : Option Command) → untouched → KeepsInput command untouched
+kept_input None same = same
+kept_input (Some (Record schedule_name)) same = same
+kept_input (Some (Replay module_name log_name)) same = same
 
 -- a run of a command whose result was finished
 pub run_ends : (command : Command) (ended : Result Answer Refusal) (answer : Status) (old new : Outside)
@@ -125,16 +172,20 @@ pub run_ends : (command : Command) (ended : Result Answer Refusal) (answer : Sta
     → IfErr ended (Raises old.counts new.counts)
     → IfOk ended (λ _. WhenTold old.told (λ before. WhenTold new.told (KeepsRecording (Some command) before)))
     → Finishes ended answer old.taken new.taken old.out_faults new.out_faults
+    → Untouched old.left new.left old.input_faults new.input_faults
     → Run (Some command) old new answer
-run_ends command ended answer old new diverges tells makes others keeps cause recorded f = record {
+run_ends command ended answer old new diverges tells makes others keeps cause recorded f untouched = record {
   usage = grind (arith, common_steps);
   diverged = grind (arith, common_steps);
   status = λ o e h. status_ends ended answer o (tells o e) f.status f.fault h;
   text = λ o e. text_ends ended answer o _ _ (tells o e) f.text f.silent f.fault;
   files = λ o e. files_end ended answer (writes_of o) _ _ (makes o e) f.fault;
   others = others;
-  recorded = λ is. done_ends ended answer f.status f.fault is recorded;
+  recorded = λ is. recorded_ends command ended answer old.left old.told new.told tells f.fault is recorded;
   idle = grind (arith, common_steps);
+  input = kept_input (Some command) untouched;
+  prints_last = λ o e. last_ends ended (writes_of o) _ _ _ _ (makes o e) f.silent;
+  absent_text = absent_ends ended answer _ _ f.status f.text f.fault;
   absent = grind (arith, common_steps);
   refused = refusal_ends ended answer _ _ old.counts new.counts f.status f.text f.fault cause;
   read_fault = grind (arith, common_steps);
@@ -148,8 +199,9 @@ pub run_none : (answer : Status) (old new : Outside) → new.told ≡ old.told
     → Prints answer usage_line old.taken new.taken
     → (answer ≡ ends.ReadFault → ⊥)
     → (answer ≡ ends.WriteFault → Rose old.out_faults new.out_faults)
+    → Untouched old.left new.left old.input_faults new.input_faults
     → Run None old new answer
-run_none answer old new same usage prints reads writes = record {
+run_none answer old new same usage prints reads writes untouched = record {
   usage = record { only = λ _. refl; always = λ _ h. usage h };
   diverged = λ is. let e : ends.Diverged ≡ ends.Usage = sym is ∙ usage (subst IsAnswer (sym is) tt) in absurd (usage_not_diverged e);
   status = λ o e h. usage h ∙ ap status_of (same_Some _ _ e);
@@ -158,12 +210,18 @@ run_none answer old new same usage prints reads writes = record {
   others = same_others _ _ _ same;
   recorded = λ is before told after here. tt;
   idle = λ _. same;
+  input = untouched;
+  prints_last = λ o e. inr (same ∙ ap (λ w. with_files w old.told) (ap writes_of (same_Some _ _ e)));
+  absent_text = λ is. let e : ends.Absent ≡ ends.Usage = sym is ∙ usage (subst IsAnswer (sym is) tt) in absurd (usage_not_absent e);
   absent = λ is. let e : ends.Absent ≡ ends.Usage = sym is ∙ usage (subst IsAnswer (sym is) tt) in cc;
   refused = λ is. let e : ends.Refused ≡ ends.Usage = sym is ∙ usage (subst IsAnswer (sym is) tt) in absurd (usage_not_refused e);
   read_fault = λ is. absurd (reads is);
   write_fault = λ is. inr (writes is);
   out_fault = λ o e is. inr (same ∙ ap (λ w. with_files w old.told) (ap writes_of (same_Some _ _ e)));
 } where
+  usage_not_absent : ends.Absent ≡ ends.Usage → ⊥
+  usage_not_absent e = cc
+
   usage_not_refused : ends.Refused ≡ ends.Usage → ⊥
   usage_not_refused e = cc
 

@@ -1,5 +1,5 @@
 -- What `record` says of its result, from what it gathered.
-use Rattle.std.proofs.Common.{◌≡◌, ◌⊎◌, ℕ, List, [], ◌∷◌, Option, Some, None, option_map, Ok, Err, Result, take, sym, ap, subst, ◌∙◌, string_bytes, ◌≤◌, length, arith}
+use Rattle.std.proofs.Common.{◌≡◌, ◌⊎◌, ℕ, List, [], ◌∷◌, Option, Some, None, option_map, Ok, Err, Result, take, refl, sym, ap, subst, ◌∙◌, string_bytes, ◌≤◌, length, arith}
 use Rattle.std.specs.Prelude.{All}
 use Rattle.std.specs.FinMap.{get}
 use Rattle.std.proofs.lemmas.Option.{same_Some}
@@ -11,6 +11,7 @@ use Rattle.friday_app.specs.declared.refusal.Answer.TheVariants as answered
 use Rattle.friday_app.specs.declared.refusal.Refusal.{Refusal}
 use Rattle.friday_app.specs.declared.summary.Recorded.{Recorded}
 use Rattle.wasm_types.specs.Modules.{Module}
+use Rattle.guest_process.specs.Start.{start}
 use Rattle.guest_process.specs.State.{State}
 use Rattle.schedule_text.specs.declared.item.Item.{Item}
 use Rattle.schedule_text.specs.declared.process.ProcessLine.{ProcessLine}
@@ -137,16 +138,42 @@ starts_so name (Some found) begun is = cc
 pub log_named : (recorded : Recorded) (name : List ℕ) (begun : State) (items : List Item) → IsRecordedWork recorded (record_work name begun items) → string_bytes recorded.log_name ≡ log_name name
 log_named recorded name begun items told = ap (λ (files : List (List ℕ × List ℕ)). (first_or ([], []) files).0) told.writes
 
+abbrev value_or : {A : Type 0} → A → Result A Stop → A
+value_or default (Ok value) = value
+value_or default (Err stop) = default
+
+same_Ok : {A : Type 0} (r : Result A Stop) (x y : A) → r ≡ Ok x → r ≡ Ok y → x ≡ y
+same_Ok r x y one other = ap (value_or x) (sym one ∙ other)
+
+-- the schedule, the module and the first state of a recording are the only ones that the files spell
+one_recording : (before after : Store) (schedule_name file bytes : List ℕ) → HoldsRecording before schedule_name file bytes → get after file ≡ Some bytes → LeavesRecording schedule_name before after
+one_recording before after schedule_name file bytes h held schedule m begun spelled found starts =
+    let schedules : h.schedule ≡ schedule = same_Ok (schedule_in before schedule_name) h.schedule schedule h.spelled spelled in
+    let modules : h.«module» ≡ m = same_Ok (module_of before (process_of schedule).«module») h.«module» m
+        (ap (λ (s : Schedule). module_of before (process_of s).«module») (sym schedules) ∙ h.found) found in
+    let begins : h.begun ≡ begun = same_Some _ _ (sym h.starts ∙ ap (λ (m : Module). start m 0 1) modules ∙ starts) in
+    (
+      bytes,
+      subst (λ (n : List ℕ). get after n ≡ Some bytes) (h.named ∙ ap (λ (s : Schedule). log_name (process_of s).name) schedules) held,
+      subst (λ (s : Schedule). IsRecordingOf bytes (process_of s).name begun s.items) schedules
+          (subst (λ (b : State). IsRecordingOf bytes (process_of h.schedule).name b h.schedule.items) begins h.recorded),
+    )
+
 -- the log that was made holds the recording
 pub leaves_recording : (told middle after : Option Store) (schedule_name : List ℕ) (recorded : Recorded) (name bytes : List ℕ) → IsFileOf recorded name bytes
     → WhenTold told (λ store. HoldsRecording store schedule_name (string_bytes recorded.log_name) recorded.log.items) → middle ≡ told → after ≡ with_file name bytes middle
     → WhenTold told (λ before. WhenTold after (LeavesRecording schedule_name before))
-leaves_recording told middle after schedule_name recorded name bytes file holds same made before is now here = record {
-  file = name;
-  bytes = bytes;
-  held = ap (λ (s : Store). get s name) (same_Some _ _ (sym here ∙ made ∙ ap (with_file name bytes) (same ∙ is))) ∙ get_set before name bytes;
-  holds = subst (λ (n : List ℕ). HoldsRecording before schedule_name n bytes) (sym file.named) (subst (λ (b : List ℕ). HoldsRecording before schedule_name (string_bytes recorded.log_name) b) (sym file.logged) (holds before is));
-}
+leaves_recording told middle after schedule_name recorded name bytes file holds same made before is now here =
+    one_recording before now schedule_name name bytes
+    (subst (λ (n : List ℕ). HoldsRecording before schedule_name n bytes) (sym file.named) (subst (λ (b : List ℕ). HoldsRecording before schedule_name (string_bytes recorded.log_name) b) (sym file.logged) (holds before is)))
+    (ap (λ (s : Store). get s name) (same_Some _ _ (sym here ∙ made ∙ ap (with_file name bytes) (same ∙ is))) ∙ get_set before name bytes)
+
+-- a schedule and a module that begins are recorded
+pub records : (store : Store) (name : List ℕ) (schedule : Schedule) (m : Module) (begun : State) → schedule_in store name ≡ Ok schedule → module_of store (process_of schedule).«module» ≡ Ok m → start m 0 1 ≡ Some begun
+    → record_outcome name store ≡ Ok (record_work (process_of schedule).name begun schedule.items)
+records store name schedule m begun read found starts =
+    begin_next store name (process_of schedule).«module» schedule m read refl found
+    ∙ ap (λ (o : Option State). and_then (begun_or (process_of schedule).«module» o) (λ begun. Ok (record_work (process_of schedule).name begun schedule.items))) starts
 
 -- its process was recorded
 pub work_done : (store : Store) (name file : List ℕ) (schedule : Schedule) (m : Module) (begun : State) (recorded : Recorded) → schedule_in store name ≡ Ok schedule → file ≡ (process_of schedule).«module» → module_of store file ≡ Ok m

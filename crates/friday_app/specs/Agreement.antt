@@ -31,14 +31,14 @@ pub record HoldsRecording (store : Store) (schedule_name file bytes : List ℕ) 
   pub named : file ≡ log_name (process_of schedule).name
   pub recorded : IsRecordingOf bytes (process_of schedule).name begun schedule.items
 
--- such a file is among the files afterwards
-pub record LeavesRecording (schedule_name : List ℕ) (before after : Store) : Type 0 where
-  pub file : List ℕ
-  pub bytes : List ℕ
-  pub held : get after file ≡ Some bytes
-  pub holds : HoldsRecording before schedule_name file bytes
+-- where the files spell a schedule and a module that begins, its log is afterwards a log of that run
+abbrev pub LeavesRecording : List ℕ → Store → Store → Type 0
+LeavesRecording schedule_name before after =
+    (schedule : Schedule) (m : Module) (begun : State)
+    → schedule_in before schedule_name ≡ Ok schedule → module_of before (process_of schedule).«module» ≡ Ok m → start m 0 1 ≡ Some begun
+    → (bytes : List ℕ) × (get after (log_name (process_of schedule).name) ≡ Some bytes) × IsRecordingOf bytes (process_of schedule).name begun schedule.items
 
--- a command that records left its recording
+-- a command that records leaves its recording
 abbrev pub KeepsRecording : Option Command → Store → Store → Type 0
 KeepsRecording None before after = Unit {0}
 KeepsRecording (Some (Record schedule_name)) before after = LeavesRecording schedule_name before after

@@ -13,7 +13,7 @@ use Rattle.friday_app.specs.declared.refusal.Reason.{Reason}
 use Rattle.friday_app.specs.declared.refusal.Reason.TheVariants as reason
 use Rattle.friday_app.specs.declared.refusal.Refusal.{Refusal}
 use Rattle.friday_app.specs.declared.refusal.Refusal.TheVariants as refusal
-use Rattle.friday_app.specs.Command.{Command, IsReplay}
+use Rattle.friday_app.specs.Command.{Command, Record, Replay, IsReplay}
 use Rattle.friday_app.specs.Outcome.{Outcome, Work, Stop, Refuses, Lacks, refuses, refused_line, absent_line, with_files}
 
 -- statuses 0 to 4: the call came to its end, with no fault and no want of memory
@@ -60,11 +60,30 @@ IsIdle ends.Absent = Unit {0}
 IsIdle ends.ReadFault = Unit {0}
 IsIdle answer = ⊥
 
--- a sink took the line that refuses something: for its size only the input, or a file where the cause held
+-- a sink took the line that refuses a file: for its size only where the cause held
 abbrev pub PrintsRefusal : Option (List ℕ) → Option (List ℕ) → Type 0 → Type 0
 PrintsRefusal before after cause =
     (earlier file : List ℕ) × ((why : Reason) × (after ≡ append_known before (earlier ++ refused_line file why))
-    × (why ≡ reason.TooLarge → cause ⊎ (file ≡ codes "input")))
+    × (why ≡ reason.TooLarge → cause))
+
+-- a sink took the line that says of some file that it is absent
+abbrev pub PrintsAbsent : Option (List ℕ) → Option (List ℕ) → Type 0
+PrintsAbsent before after = (file : List ℕ) × (after ≡ append_known before (absent_line file))
+
+-- an input is as it was
+pub record Untouched (left_before left_after : Option (List ℕ)) (faults_before faults_after : ℕ) : Type 0 where
+  pub left : left_after ≡ left_before
+  pub faults : faults_after ≡ faults_before
+
+-- no command that is built reads the input
+abbrev pub KeepsInput : Option Command → Type 0 → Type 0
+KeepsInput None untouched = untouched
+KeepsInput (Some (Record schedule_name)) untouched = untouched
+KeepsInput (Some (Replay module_name log_name)) untouched = untouched
+
+-- nothing was printed, or all files that were to be made were made before
+abbrev pub PrintsLast : List (List ℕ × List ℕ) → Option (List ℕ) → Option (List ℕ) → Option Store → Option Store → Type 0
+PrintsLast files printed printed_after before after = (printed_after ≡ printed) ⊎ (after ≡ with_files files before)
 
 -- A COMMAND'S RESULT, before its text is written
 

@@ -7,7 +7,7 @@ ghost use Rattle.friday_app.specs.Expected.{written_by};
 ghost use Rattle.friday_app.specs.Agreement.{KeepsRecording};
 ghost use Rattle.friday_app.specs.Valid.{IsValid};
 ghost use Rattle.friday_app.specs.Run.{Run, NoFault, Works, Expects};
-ghost use Rattle.friday_app.specs.Call.{IsAnswer, IsExactUsage, IsIdle, Prints, PrintsRefusal, Leaves, OthersStay};
+ghost use Rattle.friday_app.specs.Call.{IsAnswer, IsExactUsage, IsIdle, KeepsInput, Prints, PrintsAbsent, PrintsLast, PrintsRefusal, Leaves, OthersStay, Untouched};
 
 use crate::command::parse;
 use crate::finish::say;
@@ -71,8 +71,15 @@ pub fn friday<F: Files, S: Source, K: Sink>(
     ensures files { Expects (map string_bytes words.now) (F.told files.old) (S.left input.old) (λ outcome.
         Leaves result (writes_of outcome) (F.told files.old) (F.told files.new)) }
 
+    // Nothing is printed before the files are made.
+    ensures prints_last { Expects (map string_bytes words.now) (F.told files.old) (S.left input.old) (λ outcome.
+        PrintsLast (writes_of outcome) (K.taken out.old) (K.taken out.new) (F.told files.old) (F.told files.new)) }
+
+    // The input
+    ensures input { KeepsInput (command_of (map string_bytes words.now)) (Untouched (S.left input.old) (S.left input.new) (S.faults input.old) (S.faults input.new)) }
+
     // The log that a recording leaves holds its events: replay accepts each, and makes the recorded states of them.
-    ensures recorded { result ≡ Status.Done → WhenTold (F.told files.old) (λ before.
+    ensures recorded { IsAnswer result → WhenTold (F.told files.old) (λ before.
         WhenTold (F.told files.new) (KeepsRecording (command_of (map string_bytes words.now)) before)) }
 
     // Valid words, files and input, and no fault: the work is done, unless memory runs out.
@@ -83,6 +90,7 @@ pub fn friday<F: Files, S: Source, K: Sink>(
 
     // The causes, over any objects
     ensures absent { result ≡ Status.Absent → Rose (F.counts files.old).misses (F.counts files.new).misses }
+    ensures absent_text { result ≡ Status.Absent → PrintsAbsent (K.taken out.old) (K.taken out.new) }
     ensures refused { result ≡ Status.Refused → PrintsRefusal (K.taken out.old) (K.taken out.new)
         (Rose (F.counts files.old).misses (F.counts files.new).misses) }
     ensures read_fault { result ≡ Status.ReadFault → Rose (F.counts files.old).reads (F.counts files.new).reads

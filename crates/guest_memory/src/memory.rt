@@ -1,5 +1,5 @@
 // A linear memory.
-ghost use Rattle.std.specs.Prelude.{◌≡◌, ◌↔◌, ◌+◌, ◌≤◌, length, IsSome, IfSome, IfOk, OnOk, OnErr};
+ghost use Rattle.std.specs.Prelude.{◌≡◌, ◌↔◌, ◌+◌, ◌≤◌, length, IsSome, IfSome, IfOk, OnOk, OnErr, Ok, None};
 ghost use Rattle.guest_memory.specs.LittleEndian.{low_bytes, IsWidth};
 ghost use Rattle.guest_memory.specs.Memory.{IsMemory, WritesPrefix, after_store, after_write, bytes_at, fresh, growth, grown, is_inside, loaded, size_of, stretch};
 
@@ -132,6 +132,7 @@ impl Memory {
     pub fn grow(&mut self, pages: u32) -> Result<Option<u32>, AllocError>
         ensures answer { IfOk result (λ before. before ≡ growth self.old pages) }
         ensures ok { OnOk result (self.new ≡ grown self.old pages) }
+        ensures refused { growth self.old pages ≡ None → result ≡ Ok None }
         ensures err { OnErr result (self.new ≡ self.old) }
     {
         let before = self.size();
