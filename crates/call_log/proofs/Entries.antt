@@ -72,11 +72,11 @@ rest-limit (suc n) (suc m) bytes p q = elim (front_cases bytes) [
 
 -- ---- one entry more, and the end
 
-entries-step : (bytes : List ℕ) → entries_of bytes ≡ entry_then (entries_within (length bytes)) (entry_at bytes)
+pub entries-step : (bytes : List ℕ) → entries_of bytes ≡ entry_then (entries_within (length bytes)) (entry_at bytes)
 unfolding entries_of entries_within
 entries-step bytes = entries-limit (length bytes) (suc (length bytes)) bytes (omega arith) (omega arith)
 
-rest-step : (bytes : List ℕ) → rest_of bytes ≡ rest_then (rest_within (length bytes)) bytes (entry_at bytes)
+pub rest-step : (bytes : List ℕ) → rest_of bytes ≡ rest_then (rest_within (length bytes)) bytes (entry_at bytes)
 unfolding rest_of rest_within
 rest-step bytes = rest-limit (length bytes) (suc (length bytes)) bytes (omega arith) (omega arith)
 

@@ -4,3 +4,4 @@ pub mod Sizes
 pub mod EntryLaws
 pub mod HeadLaws
 pub mod Entries
+pub mod Walks

@@ -6,7 +6,9 @@ mod fields;
 mod head;
 mod put;
 mod view;
+mod walk;
 
 pub use head::{BadHead, LogHead};
 pub use put::{entry_length, put_entry, put_head};
 pub use view::{LogView, stops_at_unbuilt};
+pub use walk::entry_by_entry;

@@ -1,9 +1,9 @@
 // Reading a log from its front.
-ghost use Rattle.std.specs.Prelude.{◌≡◌, ◌++◌, None, Some, IfOk, OnErr, IfSome, IfNone};
+ghost use Rattle.std.specs.Prelude.{◌≡◌, ◌++◌, ◌+◌, ◌≤◌, length, option_map, None, Some, IfOk, OnErr, IfSome, IfNone};
 ghost use Rattle.lib_calls.specs.Entry.{entry_of};
 ghost use Rattle.call_log.specs.Entry.{BeginsNoEntry, IsLogged, encoding};
 ghost use Rattle.call_log.specs.Head.{BeginsNoHead, IsHead, head_bytes, head_of};
-ghost use Rattle.call_log.specs.Log.{head_at, stops_at_unbuilt as stops_at_unbuilt_of};
+ghost use Rattle.call_log.specs.Log.{entry_at, head_at, stops_at_unbuilt as stops_at_unbuilt_of};
 
 use crate::entry::read_entry;
 use crate::fields::is_built;
@@ -57,6 +57,8 @@ impl<'a> LogView<'a> {
         ensures taken { IfSome result (λ e. self.old.left ≡ encoding (entry_of e) ++ self.new.left) }
         ensures none { IfNone result (BeginsNoEntry self.old.left) }
         ensures unchanged { IfNone result (self.new ≡ self.old) }
+        ensures exact { option_map (λ e. (entry_of e, self.new.left)) result ≡ entry_at self.old.left }
+        ensures shorter { IfSome result (λ e. length self.new.left + 24 ≤ length self.old.left) }
         ensures head { self.new.head ≡ self.old.head }
     {
         let (entry, rest) = read_entry(self.rest)?;

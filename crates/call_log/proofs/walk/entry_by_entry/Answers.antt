@@ -1,0 +1,8 @@
+use Rattle.call_log.proofs.Walks.{end, step}
+use Rattle.call_log.proofs.walk.entry_by_entry.Goals as goal
+
+pub returns-clause-end : goal.returns-clause-end
+returns-clause-end c = end
+
+pub returns-clause-step : goal.returns-clause-step
+returns-clause-step c = step
