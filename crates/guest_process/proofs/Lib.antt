@@ -6,6 +6,7 @@ pub mod Places
 pub mod Programs
 pub mod Answering
 pub mod Changes
+pub mod EventCounts
 pub mod Judging
 pub mod KeptFits
 pub mod KeptSound

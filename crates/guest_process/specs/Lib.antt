@@ -1,4 +1,5 @@
 pub mod Answers
+pub mod EventCount
 pub mod Fits
 pub mod GoesOn
 pub mod Kinds

@@ -5,6 +5,7 @@
 mod advance;
 mod answer;
 mod calls;
+mod count;
 mod divergence;
 mod end;
 mod judge;
@@ -15,6 +16,7 @@ mod parts;
 mod process;
 mod waiting;
 
+pub use count::counting;
 pub use divergence::Divergence;
 pub use end::End;
 pub use laws::{kept, one_event};

@@ -1,0 +1,86 @@
+-- A process begins with no event, and each legal entry is one event more.
+use Rattle.std.proofs.Common.{◌≡◌, ℕ, ◌+◌, true, false, cond, Bool, Option, Some, None, refl, ap, ◌∙◌, subst}
+use Rattle.std.proofs.lemmas.Option.{same_Some}
+use Rattle.lib_calls.specs.declared.entry.Call.{Call}
+use Rattle.lib_calls.specs.declared.entry.Entry.{Entry}
+use Rattle.wasm_types.specs.Modules.{Module}
+use Rattle.wasm_step.specs.Reduce.{Stop, Calls, Ends, Traps, Sticks}
+use Rattle.wasm_step.specs.Burst.{burst}
+use Rattle.wasm_step.specs.Start.{start as store_of}
+use Rattle.wasm_step.specs.Store.{Store}
+use Rattle.wasm_step.specs.Strand.{answered, first_thread}
+use Rattle.wasm_step.specs.Thread.{Thread}
+use Rattle.wasm_step.specs.declared.call.CallSite.{CallSite}
+use Rattle.guest_process.specs.declared.end.End.TheVariants.{Finished}
+use Rattle.guest_process.specs.declared.kind.Kind.{Kind}
+use Rattle.guest_process.specs.declared.kind.Kind.TheVariants.{Begin, Exit, Note, Now, SleepUntil, Me, Yield, ThreadNumber, Unbuilt}
+use Rattle.guest_process.specs.declared.waiting.Waiting.{Waiting}
+use Rattle.guest_process.specs.Answers.{Answer, effects}
+use Rattle.guest_process.specs.EventCount.{IsBegun, IsCounted, IsFresh}
+use Rattle.guest_process.specs.GoesOn.{all_over, budget, called, counted, entered, handler, kind_at, runs, stopped}
+use Rattle.guest_process.specs.Kinds.{ends_process, kind_of, value_of}
+use Rattle.guest_process.specs.Legal.{reason_at}
+use Rattle.guest_process.specs.Next.{answer_of, next_at}
+use Rattle.guest_process.specs.Start.{begun_with}
+use Rattle.guest_process.specs.State.{State, is_running, thread_at}
+use Rattle.guest_process.proofs.Failing.{unless_none}
+
+-- ---- a process begins with no event
+
+pub begins : IsBegun
+begins m who count S h = by_store (store_of m) (first_thread m) h
+  where
+    by_store : (o : Option Store) (thread : Option Thread) → begun_with m who count o thread ≡ Some S → IsFresh who count S
+    by_store None thread h = cc
+    by_store (Some g) None h = cc
+    by_store (Some g) (Some thread) h = subst (IsFresh who count) (same_Some _ _ h) (record { who = refl; count = refl; events = refl })
+
+-- ---- neither an answer nor a burst counts
+
+answer_events : (k : Kind) (S : State) (t : ℕ) (c : Call) (a : Answer) → (effects k S t c a).events ≡ S.events
+answer_events Begin S t c a = refl
+answer_events Exit S t c a = refl
+answer_events Note S t c a = refl
+answer_events Now S t c a = refl
+answer_events SleepUntil S t c a = refl
+answer_events Me S t c a = refl
+answer_events Yield S t c a = refl
+answer_events ThreadNumber S t c a = refl
+answer_events Unbuilt S t c a = refl
+
+settled_events : (S : State) (b : Bool) → (cond b (record S { end = Finished }) S).events ≡ S.events
+settled_events S true = refl
+settled_events S false = refl
+
+called_events : (S : State) (t : ℕ) (thread : Thread) (site : CallSite) (o : Option ℕ) → (called S t thread site o).events ≡ S.events
+called_events S t thread site (Some kind) = refl
+called_events S t thread site None = refl
+
+stopped_events : (S : State) (t : ℕ) (stop : Stop) → (stopped S t stop).events ≡ S.events
+stopped_events S t (Calls thread site) = called_events S t thread site (kind_at S.store.program site.func)
+stopped_events S t Ends = settled_events _ _
+stopped_events S t (Traps trap) = refl
+stopped_events S t Sticks = refl
+
+runs_events : (S : State) (t : ℕ) (o : Option Thread) → (runs S t o).events ≡ S.events
+runs_events S t None = refl
+runs_events S t (Some thread) =
+    let run = burst budget thread S.store in
+    stopped_events (record S { store = run.store }) t run.stop
+
+event_events : (b : Bool) (S : State) (t : ℕ) (o : Option Thread) → (cond b S (runs S t o)).events ≡ S.events
+event_events true S t o = refl
+event_events false S t o = runs_events S t o
+
+-- ---- a legal entry counts once
+
+counts_at : (S : State) (e : Entry) (o : Option Waiting) → reason_at S e o ≡ None → (next_at S e o).events ≡ S.events + 1
+counts_at S e None h = cc
+counts_at S e (Some w) h =
+    let k = kind_of w.call.kind in
+    let S' = effects k S e.thread w.call (answer_of e) in
+    event_events (ends_process k) (counted S' e.clock) e.thread (entered S'.store.program (answered w.strand (value_of k e.reply)) e.signal (handler S'.handlers e.signal))
+    ∙ ap (λ n. n + 1) (answer_events k S e.thread w.call (answer_of e))
+
+pub counts : IsCounted
+counts S e h = counts_at S e (thread_at S e.thread) (unless_none (is_running S) _ _ h).1
