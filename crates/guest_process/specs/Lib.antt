@@ -1,4 +1,5 @@
 pub mod Answers
+pub mod Coding
 pub mod EventCount
 pub mod Fits
 pub mod GoesOn

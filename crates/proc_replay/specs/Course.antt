@@ -1,0 +1,63 @@
+-- Turn after turn gives the replay of a log's entries.
+use Rattle.std.specs.Prelude.{◌≡◌, ℕ, zero, suc, ◌+◌, ◌<◌, ◌≤◌, List, length, slice_get, Option, Some}
+use Rattle.lib_calls.specs.declared.entry.Entry.{Entry}
+use Rattle.call_log.specs.Log.{entries_of, rest_of}
+use Rattle.guest_process.specs.declared.divergence.Divergence.{Divergence}
+use Rattle.guest_process.specs.Replay.{Verdict, Diverged, accepted, divergence, left_over, state_after, verdict, verdict_by}
+use Rattle.guest_process.specs.State.{State}
+use Rattle.proc_replay.specs.Replaying.{Replaying, Move, Makes, Ends, Diverges, turn, after}
+
+-- ---- so many turns
+
+-- what is there after so many turns
+abbrev pub turns : Replaying → ℕ → Replaying
+turns r zero = r
+turns r (suc n) = turns (after r) n
+
+-- with so many bytes behind the last event, the turn tells this verdict
+abbrev pub Tells : Move → List ℕ → Verdict → Type 0
+Tells (Makes entry) left v = ⊥
+Tells Ends left v = v ≡ left_over left
+Tells (Diverges at why) left v = v ≡ Diverged at why
+
+-- from the first state of a process on: as many turns make events as entries are accepted, each that of the
+-- next entry; after so many of them the state is that of the replay; and each turn behind them tells the verdict
+pub record IsReplay (first : Replaying) (es : List Entry) (rest : List ℕ) : Type 0 where
+  pub states : (n : ℕ) → n ≤ accepted first.state es → (turns first n).state ≡ state_after first.state es n
+  pub events : (n : ℕ) (e : Entry) → n < accepted first.state es → slice_get es n ≡ Some e → turn (turns first n) ≡ Makes e
+  pub verdict : (n : ℕ) → accepted first.state es ≤ n → Tells (turn (turns first n)) (turns first n).left (verdict first.state es rest)
+
+abbrev pub AreReplays : Type 0
+AreReplays = (first : Replaying) → first.state.events ≡ 0 → IsReplay first (entries_of first.left) (rest_of first.left)
+
+-- ---- one turn
+
+-- what a replay comes to: the number of its events, the state after them, the verdict, and the bytes
+-- behind all entries
+pub record Outcome : Type 0 where
+  pub accepted : ℕ
+  pub last : State
+  pub verdict : Verdict
+  pub rest : List ℕ
+
+abbrev pub outcome_by : ℕ → State → Option Divergence → List ℕ → Outcome
+outcome_by count S why rest = record { accepted = count; last = S; verdict = verdict_by why count rest; rest = rest }
+
+-- the events so far and those of the entries ahead
+abbrev pub outcome_at : State → List Entry → List ℕ → Outcome
+outcome_at S es rest = outcome_by (S.events + accepted S es) (state_after S es (accepted S es)) (divergence S es) rest
+
+abbrev pub outcome : Replaying → Outcome
+outcome r = outcome_at r.state (entries_of r.left) (rest_of r.left)
+
+-- a turn changes nothing of what the replay comes to. The turn of an event takes bytes of the log; one that
+-- tells a verdict leaves all as it is, and the replay comes to what is there
+pub record IsTurn (r : Replaying) : Type 0 where
+  pub same : outcome (after r) ≡ outcome r
+  pub takes : (e : Entry) → turn r ≡ Makes e → length (after r).left + 24 ≤ length r.left
+  pub stays : (v : Verdict) → Tells (turn r) r.left v → after r ≡ r
+  pub comes : (v : Verdict) → Tells (turn r) r.left v
+      → outcome r ≡ record { accepted = r.state.events; last = r.state; verdict = v; rest = rest_of r.left }
+
+abbrev pub AreTurns : Type 0
+AreTurns = (r : Replaying) → IsTurn r

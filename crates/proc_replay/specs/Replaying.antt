@@ -1,0 +1,50 @@
+-- A replay that is under way, and its next turn.
+use Rattle.std.specs.Prelude.{◌≡◌, ℕ, ◌+◌, ◌*◌, ◌^◌, ◌<◌, List, length, Option, Some, None}
+use Rattle.lib_calls.specs.declared.entry.Entry.{Entry}
+use Rattle.call_log.specs.Head.{Head}
+use Rattle.call_log.specs.Log.{Log, entry_at}
+use Rattle.guest_process.specs.declared.divergence.Divergence.{Divergence}
+use Rattle.guest_process.specs.Legal.{reason}
+use Rattle.guest_process.specs.Next.{next}
+use Rattle.guest_process.specs.State.{State}
+
+-- the head of the log, the process after the events so far, and the bytes of the log behind their entries
+pub record Replaying : Type 0 where
+  pub head : Head
+  pub state : State
+  pub left : List ℕ
+
+-- what the next turn is: the event of an entry is made, or no entry stands next, or the entry with this
+-- number, from 1 on, is not legal
+pub data Move : Type 0 where
+  Makes : (entry : Entry) → Move
+  Ends : Move
+  Diverges : (at : ℕ) → (why : Divergence) → Move
+
+abbrev pub judged : State → Entry → Option Divergence → Move
+judged S e None = Makes e
+judged S e (Some why) = Diverges (S.events + 1) why
+
+abbrev pub turn_at : State → Option (Entry × List ℕ) → Move
+turn_at S None = Ends
+turn_at S (Some x) = judged S x.0 (reason S x.0)
+
+abbrev pub turn : Replaying → Move
+turn r = turn_at r.state (entry_at r.left)
+
+-- where the entry is legal its event is made, and else nothing changes
+abbrev pub moved : Replaying → Entry → List ℕ → Option Divergence → Replaying
+moved r e behind None = record { head = r.head; state = next r.state e; left = behind }
+moved r e behind (Some why) = r
+
+abbrev pub after_at : Replaying → Option (Entry × List ℕ) → Replaying
+after_at r None = r
+after_at r (Some x) = moved r x.0 x.1 (reason r.state x.0)
+
+-- what is there after the turn
+abbrev pub after : Replaying → Replaying
+after r = after_at r (entry_at r.left)
+
+-- a log has fewer than 2 ^ 64 bytes, and each event took at least 24 of them
+pub record IsRoomy (S : State) (log : Log) : Type 0 where
+  pub room : S.events * 24 + length log.left < 2 ^ 64

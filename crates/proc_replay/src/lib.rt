@@ -1,0 +1,10 @@
+//! The replay of one process from its log, one event at a time.
+#![tactic(auto)]
+
+mod laws;
+mod replayer;
+mod turn;
+
+pub use laws::replays;
+pub use replayer::Replayer;
+pub use turn::Turn;

@@ -1,0 +1,119 @@
+// A process that is replayed from its log.
+ghost use Rattle.std.specs.Prelude.{◌≡◌, IfOk, length};
+ghost use Rattle.call_log.specs.Head.{head_of};
+ghost use Rattle.proc_replay.specs.Replaying.{after, turn};
+ghost use Rattle.proc_replay.specs.Seen.{move_of};
+
+use crate::turn::Turn;
+use call_log::{LogHead, LogView};
+use guest_process::{Process, counting};
+use std::alloc::{AllocError, Global};
+use std::marker::Model;
+
+/// A process after the events so far, and what is left of its log.
+#[derive(Drop)]
+pub struct Replayer<'m, 'a> {
+    process: Process<'m>,
+    log: LogView<'a>,
+}
+
+impl<'m, 'a> Model for Replayer<'m, 'a> {
+    ghost use Rattle.std.specs.Coded.{codes};
+    ghost use Rattle.guest_process.specs.Coding.{crew_code, trees_code};
+    ghost use Rattle.proc_replay.specs.Replaying.{IsRoomy, Replaying};
+
+    ghost Value = { Replaying };
+
+    ghost coded = { Prim.hlevel (codes, trees_code, crew_code) };
+
+    ghost view = { λ r. record { head = r.log.head; state = r.process; left = r.log.left } };
+
+    ghost invariant = { λ r. IsRoomy r.process r.log };
+}
+
+impl<'m, 'a> Replayer<'m, 'a> {
+    /// The replay of a process that has had no event, from the log of that process.
+    pub fn begin(process: Process<'m>, log: LogView<'a>) -> Replayer<'m, 'a>
+        requires who { process.who ≡ log.head.process }
+        requires count { process.count ≡ log.head.count }
+        requires fresh { process.events ≡ 0 }
+        ensures { result ≡ record { head = log.entry.head; state = process.entry; left = log.entry.left } }
+    {
+        let _ = log.rest().len();
+        Replayer { process, log }
+    }
+
+    /// What the next turn gives. It takes no memory.
+    pub fn peek(&self) -> Turn<'a>
+        ensures { move_of result ≡ turn self.now }
+    {
+        let mut log = self.log.copy();
+        match log.next_entry() {
+            Some(entry) => match self.process.legal(&entry) {
+                Ok(()) => Turn::Event(entry),
+                Err(why) => Turn::Diverged(self.process.events() + 1, why),
+            },
+            None => Turn::LogEnd,
+        }
+    }
+
+    /// The next turn. At the log's end and at a divergence nothing changes, and the same comes again.
+    pub fn next_event(self) -> Result<(Replayer<'m, 'a>, Turn<'a>), AllocError>
+        ensures turn { IfOk result (λ r. move_of r.1 ≡ turn self.entry) }
+        ensures after { IfOk result (λ r. r.0 ≡ after self.entry) }
+    {
+        let Replayer { process, mut log } = self;
+        let here = log.copy();
+        let Some(entry) = log.next_entry() else {
+            return Ok((Replayer { process, log }, Turn::LogEnd));
+        };
+        match process.legal(&entry) {
+            Ok(()) => {
+                counting();
+                let process = process.advance(&entry)?;
+                Ok((Replayer { process, log }, Turn::Event(entry)))
+            }
+            Err(why) => {
+                let turn = Turn::Diverged(process.events() + 1, why);
+                Ok((Replayer { process, log: here }, turn))
+            }
+        }
+    }
+
+    /// The process after the events so far.
+    pub fn process(&self) -> &Process<'m>
+        ensures { result.now ≡ self.now.state }
+    {
+        &self.process
+    }
+
+    /// The number of the log's bytes behind the entries of the events so far.
+    pub fn left(&self) -> u64
+        ensures { result ≡ length self.now.left }
+    {
+        self.log.rest().len() as u64
+    }
+
+    /// The log behind the entries of the events so far.
+    pub fn log(&self) -> LogView<'a>
+        ensures { result ≡ record { head = self.now.head; left = self.now.left } }
+    {
+        self.log.copy()
+    }
+
+    /// The log's head.
+    pub fn head(&self) -> LogHead<'a>
+        ensures { head_of result ≡ self.now.head }
+    {
+        self.log.head()
+    }
+
+    /// An equal replay.
+    pub fn copy(&self, alloc: Global) -> Result<Replayer<'m, 'a>, AllocError>
+        ensures { IfOk result (λ r. r ≡ self.now) }
+    {
+        let process = self.process.copy(alloc)?;
+        let log = self.log.copy();
+        Ok(Replayer { process, log })
+    }
+}
