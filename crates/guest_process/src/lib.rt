@@ -8,13 +8,13 @@ mod calls;
 mod divergence;
 mod end;
 mod judge;
-mod kind;
 mod laws;
 mod need;
 mod parts;
 mod process;
 mod waiting;
 
+pub use answer::is_due;
 pub use divergence::Divergence;
 pub use end::End;
 pub use laws::{kept, one_event};

@@ -2,11 +2,13 @@
 #![tactic(auto)]
 
 mod code;
+mod library;
 mod modules;
 mod traps;
 mod valid;
 
 pub use code::{Instr, ValType, Value};
+pub use library::importable;
 pub use modules::{
     Elem, Export, ExportDesc, Func, FuncType, GlobalDef, Import, ImportDesc, Limits, Module,
     Segment,
