@@ -3,7 +3,6 @@ pub mod EachKind
 pub mod OneEvent
 pub mod Over
 pub mod Places
-pub mod Programs
 pub mod Answering
 pub mod Changes
 pub mod Judging
