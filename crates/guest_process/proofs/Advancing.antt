@@ -13,7 +13,8 @@ use Rattle.wasm_types.specs.declared.traps.Trap.TheVariants.{Exhausted, Unreacha
 use Rattle.wasm_step.specs.Reduce.{Stop, Calls, Ends, Traps, Sticks}
 use Rattle.wasm_step.specs.Strand.{answered}
 use Rattle.wasm_step.specs.Burst.{burst}
-use Rattle.wasm_step.specs.Fits.{Suits}
+use Rattle.wasm_step.specs.Suits.{Suits}
+use Rattle.wasm_step.specs.Laws.{KeepsProgram}
 use Rattle.wasm_step.specs.Thread.{Thread}
 use Rattle.wasm_step.specs.declared.call.CallSite.{CallSite}
 use Rattle.guest_process.specs.declared.end.End.{End}
@@ -111,10 +112,10 @@ goes S e w at h = runs_by w.kind S e.thread w (answer_of e) e.signal e.clock h �
 
 -- ---- the parts after a legal entry's event are those of a process
 
-pub process_kept : (p q : Parts) (e : Entry) → IsProcess p → reason (state_of p) e ≡ None → state_of q ≡ next (state_of p) e → q.program ≡ p.program → Suits q.store → IsProcess q
-process_kept p q e is h state program suits = record {
+pub process_kept : KeepsProgram → (p q : Parts) (e : Entry) → IsProcess p → reason (state_of p) e ≡ None → state_of q ≡ next (state_of p) e → q.program ≡ p.program → Suits q.store → IsProcess q
+process_kept keeps p q e is h state program suits = record {
   suits = suits;
-  program = ap (λ r. module_of r.now) program ∙ is.program ∙ sym (ap (λ S. S.store.program) state ∙ next_program (state_of p) e is.sound);
-  fits = subst StateFits (sym state) (state_kept (state_of p) e is.fits h);
-  sound = subst IsSound (sym state) (sound_kept (state_of p) e is.sound h);
+  program = ap (λ r. module_of r.now) program ∙ is.program ∙ sym (ap (λ S. S.store.program) state ∙ next_program keeps (state_of p) e is.sound);
+  fits = subst StateFits (sym state) (state_kept keeps (state_of p) e is.fits h);
+  sound = subst IsSound (sym state) (sound_kept keeps (state_of p) e is.sound h);
 }

@@ -13,6 +13,7 @@ use Rattle.lib_calls.specs.Kinds.{argument_count}
 use Rattle.lib_calls.specs.declared.entry.Entry.{Entry}
 use Rattle.wasm_types.specs.Library.{kind_at}
 use Rattle.wasm_types.specs.Modules.{Module}
+use Rattle.wasm_step.specs.Laws.{KeepsProgram}
 use Rattle.wasm_step.specs.Thread.{Thread}
 use Rattle.wasm_step.specs.declared.call.CallSite.{CallSite}
 use Rattle.guest_process.specs.declared.waiting.Waiting.{Waiting}
@@ -50,15 +51,15 @@ stand_fits m S thread site kind e h = record {
     fits n bits =
         subst (λ count. IsNumberIf (nat_lt n count) (argument kind n bits)) (sym (counted kind)) (argument_fits (nat_lt n (row kind).signature.params) bits)
 
-fits_at : (S : State) (e : Entry) → StateFits S → (o : Option Waiting) → reason_at S e o ≡ None → StateFits (next_at S e o)
-fits_at S e s None h = cc
-fits_at S e s (Some w) h =
+fits_at : KeepsProgram → (S : State) (e : Entry) → StateFits S → (o : Option Waiting) → reason_at S e o ≡ None → StateFits (next_at S e o)
+fits_at keeps S e s None h = cc
+fits_at keeps S e s (Some w) h =
     let k = w.kind in
     let a = answer_of e in
     let holds = all_hold (checks S e w) h in
     let tag : clock_of e.tag ≤ 2 ^ 62 = answer_clock k S w.call (need k S e.thread w.call) a holds.reply in
     let clock : e.clock ≡ next_clock_of S.clock e.tag = eqb-true e.clock (next_clock_of S.clock e.tag) holds.clock in
-    let kept = went_on WaitingFits k S e.thread w.call a w e.signal e.clock s.threads (stand_fits S.store.program) in
+    let kept = went_on WaitingFits keeps k S e.thread w.call a w e.signal e.clock s.threads (stand_fits S.store.program) in
     record {
       clock = omega (arith, kept.clock, kept.events, clock, tag, s.clock);
       room = omega (arith, kept.room, s.room);
@@ -67,5 +68,5 @@ fits_at S e s (Some w) h =
       threads = kept.threads;
     }
 
-pub state_kept : IsKept
-state_kept S e s h = fits_at S e s (thread_at S e.thread) (unless_none (is_running S) _ _ h).1
+pub state_kept : KeepsProgram → IsKept
+state_kept keeps S e s h = fits_at keeps S e s (thread_at S e.thread) (unless_none (is_running S) _ _ h).1

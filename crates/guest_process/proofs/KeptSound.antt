@@ -13,7 +13,8 @@ use Rattle.wasm_types.specs.declared.code.ValType.TheVariants.{I32, I64}
 use Rattle.wasm_types.specs.declared.code.Value.TheVariants as values
 use Rattle.wasm_types.specs.Library.{IsOfLibrary, importable, imported_type, kind_at, type_of, unless_begin}
 use Rattle.wasm_types.specs.Modules.{Module, Import, FuncType}
-use Rattle.wasm_step.specs.Reduce.{described, imported_type as described_in}
+use Rattle.wasm_types.specs.Functions.{described, imported_type as described_in}
+use Rattle.wasm_step.specs.Laws.{KeepsProgram}
 use Rattle.wasm_step.specs.Strand.{IsHandler, IsResult, first_result, library_result}
 use Rattle.wasm_step.specs.Thread.{Thread}
 use Rattle.wasm_step.specs.declared.call.CallSite.{CallSite}
@@ -83,12 +84,12 @@ stand_sound m all S thread site kind e h = record {
   stands = stand_at m (stands S thread site kind) site.func kind all refl (slice_get m.imports site.func) refl h;
 }
 
-sound_at : (S : State) (e : Entry) → IsSound S → (o : Option Waiting) → reason_at S e o ≡ None → IsSound (next_at S e o)
-sound_at S e s None h = cc
-sound_at S e s (Some w) h =
+sound_at : KeepsProgram → (S : State) (e : Entry) → IsSound S → (o : Option Waiting) → reason_at S e o ≡ None → IsSound (next_at S e o)
+sound_at keeps S e s None h = cc
+sound_at keeps S e s (Some w) h =
     let k = w.kind in
     let m = S.store.program in
-    let kept = went_on (IsStanding m) k S e.thread w.call (answer_of e) w e.signal e.clock s.threads (stand_sound m s.imports) in
+    let kept = went_on (IsStanding m) keeps k S e.thread w.call (answer_of e) w e.signal e.clock s.threads (stand_sound m s.imports) in
     let S' = next_at S e (Some w) in
     record {
       imports = subst (λ m. All (IsOfLibrary m.types) m.imports) (sym kept.program) s.imports;
@@ -97,14 +98,14 @@ sound_at S e s (Some w) h =
           subst (λ m. IsHandler m func) (sym kept.program) (s.handlers signal func (ap (λ hs. handler hs signal) (sym kept.handlers) ∙ h));
     }
 
-pub sound_kept : IsKeptSound
-sound_kept S e s h = sound_at S e s (thread_at S e.thread) (unless_none (is_running S) _ _ h).1
+pub sound_kept : KeepsProgram → IsKeptSound
+sound_kept keeps S e s h = sound_at keeps S e s (thread_at S e.thread) (unless_none (is_running S) _ _ h).1
 
-program_at : (S : State) (e : Entry) → IsSound S → (o : Option Waiting) → (next_at S e o).store.program ≡ S.store.program
-program_at S e s None = refl
-program_at S e s (Some w) =
-    (went_on (IsStanding S.store.program) w.kind S e.thread w.call (answer_of e) w e.signal e.clock s.threads (stand_sound S.store.program s.imports)).program
+program_at : KeepsProgram → (S : State) (e : Entry) → IsSound S → (o : Option Waiting) → (next_at S e o).store.program ≡ S.store.program
+program_at keeps S e s None = refl
+program_at keeps S e s (Some w) =
+    (went_on (IsStanding S.store.program) keeps w.kind S e.thread w.call (answer_of e) w e.signal e.clock s.threads (stand_sound S.store.program s.imports)).program
 
 -- an event leaves the program as it is
-pub next_program : (S : State) (e : Entry) → IsSound S → (next S e).store.program ≡ S.store.program
-next_program S e s = program_at S e s (thread_at S e.thread)
+pub next_program : KeepsProgram → (S : State) (e : Entry) → IsSound S → (next S e).store.program ≡ S.store.program
+next_program keeps S e s = program_at keeps S e s (thread_at S e.thread)

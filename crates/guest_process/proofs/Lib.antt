@@ -2,7 +2,6 @@ pub mod Failing
 pub mod EachKind
 pub mod OneEvent
 pub mod Over
-pub mod Programs
 pub mod Answering
 pub mod Changes
 pub mod Judging

@@ -13,7 +13,7 @@ use Rattle.wasm_types.specs.Valid.{IsValid}
 use Rattle.wasm_step.specs.Start.{start as store_of, empty_memory, empty_table, initial_globals, is_elem_inside, is_segment_inside}
 use Rattle.wasm_step.specs.Store.{Store}
 use Rattle.wasm_step.specs.Strand.{first_thread}
-use Rattle.wasm_step.specs.Fits.{Suits}
+use Rattle.wasm_step.specs.Suits.{Suits}
 use Rattle.wasm_step.specs.Thread.{Thread}
 use Rattle.signal_points.specs.Signals.{handler_of, no_handlers}
 use Rattle.guest_process.specs.GoesOn.{handler}

@@ -2,7 +2,7 @@
 use Rattle.std.specs.Prelude.{◌≡◌, ℕ, ⊤, Option, Some, None, Result, Ok, Err, if◌then◌else◌}
 use Rattle.lib_calls.specs.Answer.{Answer}
 use Rattle.wasm_types.specs.Modules.{module_of}
-use Rattle.wasm_step.specs.Fits.{Suits}
+use Rattle.wasm_step.specs.Suits.{Suits}
 use Rattle.guest_process.specs.declared.divergence.Divergence.{Divergence}
 use Rattle.guest_process.specs.declared.need.Need.{Need as PlainNeed}
 use Rattle.guest_process.specs.declared.need.Need.TheVariants as plainly

@@ -4,7 +4,7 @@ ghost use Rattle.coop_threads.specs.Crew.{IsTaken};
 ghost use Rattle.lib_calls.specs.Entry.{entry_of};
 ghost use Rattle.wasm_types.specs.Modules.{module_of};
 ghost use Rattle.wasm_step.specs.Burst.{burst};
-ghost use Rattle.wasm_step.specs.Fits.{Suits};
+ghost use Rattle.wasm_step.specs.Suits.{Suits};
 ghost use Rattle.wasm_step.specs.Strand.{answered as answered_by, IsHandler};
 ghost use Rattle.guest_process.specs.GoesOn.{after_burst, budget, counted, entered as entered_by, handler as handler_of, runs};
 ghost use Rattle.guest_process.specs.Kinds.{value_of};

@@ -4,7 +4,7 @@ ghost use Rattle.coop_threads.specs.Crew.{status_of};
 ghost use Rattle.lib_calls.specs.Answer.{Answer};
 ghost use Rattle.lib_calls.specs.Entry.{entry_of};
 ghost use Rattle.wasm_types.specs.Modules.{module_of};
-ghost use Rattle.wasm_step.specs.Fits.{Suits};
+ghost use Rattle.wasm_step.specs.Suits.{Suits};
 ghost use Rattle.wasm_step.specs.Start.{start as store_of};
 ghost use Rattle.guest_process.specs.Answers.{need};
 ghost use Rattle.guest_process.specs.Fits.{StateFits};
@@ -27,7 +27,7 @@ use lib_calls::{Call, EntryView, Kind};
 use signal_points::Handlers;
 use std::alloc::{AllocError, Global};
 use std::marker::Model;
-use wasm_step::{StartError, Store, Strand};
+use wasm_step::{StartError, Store, Strand, never_stuck};
 use wasm_types::{ValidModule, Value};
 
 /// A process of a guest.
@@ -38,7 +38,7 @@ pub struct Process<'m> {
 
 impl<'m> Model for Process<'m> {
     ghost use Rattle.std.specs.Coded.{codes};
-    ghost use Rattle.wasm_step.specs.Coding.{trees_code};
+    ghost use Rattle.wasm_types.specs.Coding.{trees_code};
     ghost use Rattle.coop_threads.specs.Crew.{crew_code};
     ghost use Rattle.guest_process.specs.Seen.{IsProcess, state_of};
     ghost use Rattle.guest_process.specs.State.{State};
@@ -139,12 +139,13 @@ impl<'m> Process<'m> {
     }
 
     /// The process after the event of a legal entry. Another thread's strand stays as it was.
-    #[tactic(auto, using(crate::proofs::Advancing::process_kept))]
     pub fn advance(self, entry: &EntryView<'_>) -> Result<Process<'m>, AllocError>
         requires legal { reason self (entry_of entry.now) ≡ None }
         requires few { self.events < 2 ^ 61 }
         ensures { IfOk result (λ p. p ≡ next self.entry (entry_of entry.now)) }
     {
+        // Its `ensures` tells the proof that a burst leaves the program as it is.
+        never_stuck();
         let parts = self.parts.advance(entry)?;
         Ok(Process { parts })
     }
