@@ -1,4 +1,5 @@
 pub mod Code
+pub mod CodeLaws
 pub mod Modules
 pub mod Traps
 pub mod Maybe
