@@ -1,5 +1,6 @@
 pub mod Code
 pub mod Coding
+pub mod CodeLaws
 pub mod Modules
 pub mod Traps
 pub mod Maybe

@@ -13,6 +13,7 @@ mod floats;
 mod functions;
 mod imports;
 mod invalid;
+mod laws;
 mod limits;
 mod segments;
 mod shape;
@@ -21,6 +22,7 @@ mod start;
 
 use check::check;
 pub use invalid::Invalid;
+pub use laws::exact_fault;
 use std::alloc::Global;
 use wasm_types::{Module, ValidModule, claim};
 
