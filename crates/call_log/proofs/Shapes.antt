@@ -10,7 +10,7 @@ use Rattle.call_log.specs.Entry.{IsLogged}
 use Rattle.call_log.specs.Kind.{is_built}
 use Rattle.call_table.specs.declared.kind.Kind.{Kind}
 use Rattle.call_table.specs.Table.{kind_numbered, kinds}
-use Rattle.call_table.proofs.Reading.{number_within}
+use Rattle.call_table.specs.Numbers.{number_within}
 use Rattle.lib_calls.specs.Built.{is_built as is_answered}
 use Rattle.std.specs.Option.{option_map_or}
 use Rattle.call_log.specs.Head.{Head, IsHead}

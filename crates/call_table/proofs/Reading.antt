@@ -2,35 +2,13 @@
 use Rattle.std.proofs.Common.{◌≡◌, ℕ, zero, suc, ◌<◌, length, true, false, Bool, List, [], ◌∷◌, slice_get, cond, ◌+◌, Option, Some, ◌↔◌, ◌∙◌, refl, sym, ap, arith}
 use Rattle.std.specs.List.{find}
 use Rattle.std.specs.Prelude.{bytes_eq}
-use Rattle.std.proofs.lemmas.Option.{slice_get_within}
 use Rattle.std.proofs.lemmas.Slice.Eq.{bytes_eq-Decides}
 use Rattle.call_table.specs.declared.kind.Kind.{Kind}
 use Rattle.call_table.specs.declared.kind.Kind.TheVariants.{Begin, Exit, Note, Print, Now, SleepUntil, Random, Me, Send, Recv, TryRecv, Spawn, Yield, Join, Lock, Unlock, OnSignal, Thread}
+use Rattle.call_table.specs.Numbers.{numbered}
 use Rattle.call_table.specs.Table.{row, kinds, kind_numbered, kind_named}
 
 -- ---- by number
-
--- a kind stands at its number
-pub numbered : (kind : Kind) → kind_numbered (row kind).number ≡ Some kind
-unfolding kind_numbered
-numbered Begin = refl
-numbered Exit = refl
-numbered Note = refl
-numbered Print = refl
-numbered Now = refl
-numbered SleepUntil = refl
-numbered Random = refl
-numbered Me = refl
-numbered Send = refl
-numbered Recv = refl
-numbered TryRecv = refl
-numbered Spawn = refl
-numbered Yield = refl
-numbered Join = refl
-numbered Lock = refl
-numbered Unlock = refl
-numbered OnSignal = refl
-numbered Thread = refl
 
 -- these kinds have the numbers from n on
 abbrev Counts : ℕ → List Kind → Type 0
@@ -53,11 +31,6 @@ all_counted =
 pub number_of : (number : ℕ) (kind : Kind) → kind_numbered number ≡ Some kind → (row kind).number ≡ number
 unfolding kind_numbered
 number_of number kind e = omega (arith, counted 0 kinds number kind all_counted e)
-
--- and is below the number of the kinds
-pub number_within : (number : ℕ) (kind : Kind) → kind_numbered number ≡ Some kind → number < length kinds
-unfolding kind_numbered
-number_within number kind e = slice_get_within kinds number kind e
 
 pub by_number : (number : ℕ) (kind : Kind) → (kind_numbered number ≡ Some kind) ↔ ((row kind).number ≡ number)
 by_number number kind = (number_of number kind, λ is. ap kind_numbered (sym is) ∙ numbered kind)

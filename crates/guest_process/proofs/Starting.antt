@@ -3,7 +3,7 @@ use Rattle.std.proofs.Common.{◌≡◌, ℕ, zero, suc, true, false, cond, ◌<
 use Rattle.std.specs.Prelude.{All, ◌==◌, length, replicate}
 use Rattle.std.specs.List.{list_all, slice_index_or}
 use Rattle.std.proofs.lemmas.Option.{same_Some}
-use Rattle.call_table.proofs.Reading.{numbered}
+use Rattle.call_table.specs.Numbers.{numbered}
 use Rattle.call_table.specs.declared.kind.Kind.TheVariants.{Begin}
 use Rattle.coop_threads.specs.Crew.{empty, with_new_thread}
 use Rattle.lib_calls.specs.Entry.{IsNumberIf}
