@@ -1,8 +1,6 @@
 -- The tests of `is_logged` and `is_head` say what the records of facts say.
 use Rattle.std.proofs.Common.{◌≡◌, ℕ, ◌^◌, ◌<◌, ◌≤◌, Bool, true, false, ◌&&◌, List, length, Option, Some, None, refl, arith}
 use Rattle.std.proofs.lemmas.Bool.{leb-true, le-leb, ltb-true, lt-ltb}
-use Rattle.std.proofs.lemmas.Bool.Decides.{nat_tests}
-use Rattle.std.proofs.lemmas.Grind.{common_steps}
 use Rattle.std.proofs.lemmas.List.{nil_from_length}
 use Rattle.lamport_tag.specs.declared.Tag.{Tag}
 use Rattle.lib_calls.specs.declared.entry.Call.{Call}
@@ -10,6 +8,11 @@ use Rattle.lib_calls.specs.declared.entry.Entry.{Entry}
 use Rattle.lib_calls.specs.Entry.{IsShaped, HasArguments, IsNumberIf, IsStringIf, IsTagIf}
 use Rattle.call_log.specs.Entry.{IsLogged}
 use Rattle.call_log.specs.Kind.{is_built}
+use Rattle.call_table.specs.declared.kind.Kind.{Kind}
+use Rattle.call_table.specs.Table.{kind_numbered, kinds}
+use Rattle.call_table.specs.Numbers.{number_within}
+use Rattle.lib_calls.specs.Built.{is_built as is_answered}
+use Rattle.std.specs.Option.{option_map_or}
 use Rattle.call_log.specs.Head.{Head, IsHead}
 use Rattle.call_log.specs.Log.{is_number_if, is_string_if, is_tag_if, has_arguments, is_logged, is_head}
 
@@ -69,9 +72,13 @@ has_arguments-from call h =
     both_true _ _ (both_true _ _ (is_number_if-from _ _ h.first) (is_number_if-from _ _ h.second)) (is_number_if-from _ _ h.third)
 
 -- the kinds of which entries are read are kinds of calls
-pub built_kind : (kind : ℕ) → is_built kind ≡ true → kind < 18
+pub built_kind : (number : ℕ) → is_built number ≡ true → number < length kinds
 unfolding is_built
-built_kind kind built = grind (arith, common_steps, nat_tests)
+built_kind number built = by_kind (kind_numbered number) refl built
+  where
+    by_kind : (o : Option Kind) → kind_numbered number ≡ o → option_map_or is_answered o false ≡ true → number < length kinds
+    by_kind None e h = cc
+    by_kind (Some kind) e h = number_within number kind e
 
 pub logged_from_test : (e : Entry) → is_logged e ≡ true → IsLogged e
 unfolding is_logged

@@ -6,6 +6,10 @@ use Rattle.std.specs.List.{concat}
 use Rattle.std.proofs.lemmas.Bool.Decides.{nat_tests}
 use Rattle.lamport_tag.specs.declared.Tag.{Tag}
 use Rattle.lib_calls.specs.declared.entry.Call.{Call}
+use Rattle.call_table.specs.declared.kind.Kind.{Kind}
+use Rattle.call_table.specs.declared.kind.Kind.TheVariants.{Begin}
+use Rattle.call_table.specs.Table.{kind_numbered, row}
+use Rattle.std.specs.Option.{option_map_or}
 use Rattle.lib_calls.specs.Kinds.{argument_count, has_outgoing, has_incoming, has_tag}
 use Rattle.lib_calls.specs.declared.entry.Entry.{Entry}
 use Rattle.lib_calls.specs.Entry.{IsStringIf, IsShaped}
@@ -33,9 +37,17 @@ length-string_if true s few = omega (arith, length-append (to_le_bytes w32 (leng
 length-string_if false s none = lit≤ tt
 
 -- no call has more than three arguments
-argument_count_le : (kind : ℕ) → argument_count kind ≤ 3
+params_le : (kind : Kind) → (row kind).signature.params ≤ 3
+params_le Begin = lit≤ tt
+params_le _ = lit≤ tt
+
+argument_count_le : (number : ℕ) → argument_count number ≤ 3
 unfolding argument_count
-argument_count_le kind = grind (arith, nat_tests)
+argument_count_le number = by_kind (kind_numbered number)
+  where
+    by_kind : (o : Option Kind) → option_map_or (λ (kind : Kind). (row kind).signature.params) o 0 ≤ 3
+    by_kind None = lit≤ tt
+    by_kind (Some kind) = params_le kind
 
 eights : (count : ℕ) → count ≤ 3 → cond (ltb 0 count) 8 0 + (cond (ltb 1 count) 8 0 + (cond (ltb 2 count) 8 0 + 0)) ≡ 8 * count
 eights count few = grind (arith, nat_tests)

@@ -1,6 +1,9 @@
 -- The kinds of calls of which entries are read.
-use Rattle.std.specs.Prelude.{ℕ, Bool, ◌==◌, ◌||◌}
+use Rattle.std.specs.Prelude.{ℕ, Bool, false}
+use Rattle.std.specs.Option.{option_map_or}
+use Rattle.call_table.specs.Table.{kind_numbered}
+use Rattle.lib_calls.specs.Built.{is_built as is_answered}
 
--- begin, exit, note, now, sleep_until, me, yield and thread
+-- those that are answered yet
 unfoldable pub is_built : ℕ → Bool
-is_built kind = kind == 0 || kind == 1 || kind == 2 || kind == 4 || kind == 5 || kind == 7 || kind == 12 || kind == 17
+is_built number = option_map_or is_answered (kind_numbered number) false

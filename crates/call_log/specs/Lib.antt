@@ -3,4 +3,5 @@ pub mod Entry
 pub mod Head
 pub mod Reading
 pub mod Log
+pub mod Laws
 pub mod Walk

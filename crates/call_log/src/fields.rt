@@ -1,4 +1,4 @@
-// Which fields an entry of each kind has, and reading the fields that not every entry has.
+// Which fields an entry of the kind with a number has, and reading the fields that not every entry has.
 ghost use Rattle.std.specs.Prelude.{◌≡◌, option_map};
 ghost use Rattle.lib_calls.specs.Kinds.{argument_count as argument_count_of, has_incoming as has_incoming_of, has_outgoing as has_outgoing_of, has_tag as has_tag_of};
 ghost use Rattle.call_log.specs.Kind.{is_built as is_built_of};
@@ -6,51 +6,46 @@ ghost use Rattle.call_log.specs.Reading.{Gives, call_at, flagged_at, number_if_a
 
 use fri_bytes::Cursor;
 use lamport_tag::Tag;
-use lib_calls::Call;
+use lib_calls::{Call, Kind, is_built as is_answered};
 
-// The kinds of calls of which entries are read: begin, exit, note, now, sleep_until, me, yield and thread.
+// Whether entries of the kind are read.
 #[tactic(auto, unfolding(crate::specs::Kind::is_built))]
-pub(crate) fn is_built(kind: u8) -> bool
-    ensures { result ≡ is_built_of kind }
+pub(crate) fn is_built(number: u8) -> bool
+    ensures { result ≡ is_built_of number }
 {
-    matches!(kind, 0 | 1 | 2 | 4 | 5 | 7 | 12 | 17)
+    Kind::from_number(number).is_some_and(|kind| is_answered(kind))
 }
 
 // How many arguments the calls of the kind have.
 #[tactic(auto, unfolding(lib_calls::specs::Kinds::argument_count))]
-pub(crate) fn argument_count(kind: u8) -> u8
-    ensures { result ≡ argument_count_of kind }
+pub(crate) fn argument_count(number: u8) -> u8
+    ensures { result ≡ argument_count_of number }
 {
-    match kind {
-        8 | 9 | 10 => 3,
-        3 | 6 | 11 | 16 => 2,
-        1 | 2 | 5 | 13 | 14 | 15 => 1,
-        _ => 0,
-    }
+    Kind::from_number(number).map_or(0, |kind| kind.argument_count())
 }
 
 // Whether entries of the kind have the bytes that went out.
 #[tactic(auto, unfolding(lib_calls::specs::Kinds::has_outgoing))]
-pub(crate) fn has_outgoing(kind: u8) -> bool
-    ensures { result ≡ has_outgoing_of kind }
+pub(crate) fn has_outgoing(number: u8) -> bool
+    ensures { result ≡ has_outgoing_of number }
 {
-    kind == 3 || kind == 8
+    Kind::from_number(number).is_some_and(|kind| kind.has_outgoing())
 }
 
 // Whether entries of the kind have the bytes that came in.
 #[tactic(auto, unfolding(lib_calls::specs::Kinds::has_incoming))]
-pub(crate) fn has_incoming(kind: u8) -> bool
-    ensures { result ≡ has_incoming_of kind }
+pub(crate) fn has_incoming(number: u8) -> bool
+    ensures { result ≡ has_incoming_of number }
 {
-    kind == 6 || kind == 9 || kind == 10
+    Kind::from_number(number).is_some_and(|kind| kind.has_incoming())
 }
 
 // Whether entries of the kind may have the tag of a datagram.
 #[tactic(auto, unfolding(lib_calls::specs::Kinds::has_tag))]
-pub(crate) fn has_tag(kind: u8) -> bool
-    ensures { result ≡ has_tag_of kind }
+pub(crate) fn has_tag(number: u8) -> bool
+    ensures { result ≡ has_tag_of number }
 {
-    kind == 9 || kind == 10
+    Kind::from_number(number).is_some_and(|kind| kind.has_tag())
 }
 
 // A call of the kind, with the arguments that it has.

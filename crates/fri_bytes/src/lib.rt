@@ -4,9 +4,11 @@
 
 mod bytes;
 mod cursor;
+mod laws;
 mod leb;
 mod put;
 
 pub use bytes::Bytes;
 pub use cursor::Cursor;
+pub use laws::exact_readers;
 pub use put::{put_byte, put_bytes, put_u16, put_u32, put_u64};

@@ -50,11 +50,6 @@ line_next bytes rest line left end found same some found-is end-is taken =
     let place : end ≡ position_or_len is_line_feed bytes = end-is ∙ ap (λ (o : Option ℕ). unwrap_or o (length rest)) found-is ∙ unwrap_or-position rest ∙ ap (position_or_len is_line_feed) same in
     line_taken bytes line left end (positive bytes rest same (eqb-false (length rest) 0 some)) place (cond_some _ _ _ taken).1
 
--- no line, nothing left
-pub lines_of_none : (bytes : List ℕ) → line_at bytes ≡ None → lines_of bytes ≡ []
-lines_of_none [] e = refl
-lines_of_none (b ∷ bytes) e = absurd cc
-
 take_more : (k b : ℕ) (bytes : List ℕ) → take (1 + k) (b ∷ bytes) ≡ b ∷ take k bytes
 take_more k b bytes = let e : 1 + k ≡ suc k = omega arith in rw e refl
 

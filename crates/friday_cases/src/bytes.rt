@@ -40,14 +40,23 @@ fn push_pieces(bytes: &mut Vec<u8>, part: &str, kept: &MemFiles) -> anyhow::Resu
 
 fn push_digits(bytes: &mut Vec<u8>, piece: &str) -> anyhow::Result<()> {
     let alloc = *bytes.allocator();
-    let (times, digits) = match piece.split_once('*') {
-        Some((times, digits)) => (times.parse::<usize>()?, digits),
-        None => (1, piece),
-    };
-    let run = hex::decode(alloc, digits)?;
-    ensure!(times <= MOST, "a piece is repeated too often");
-    for _ in 0..times {
+    let Some((times, digits)) = piece.split_once('*') else {
+        let run = hex::decode(alloc, piece)?;
         bytes.extend_from_slice(&run)?;
+        return Ok(());
+    };
+    let times = times.parse::<usize>()?;
+    ensure!(times <= MOST, "a piece is repeated too often");
+    push_times(bytes, times, &hex::decode(alloc, digits)?)
+}
+
+fn push_times(bytes: &mut Vec<u8>, times: usize, run: &[u8]) -> anyhow::Result<()> {
+    if let [byte] = run {
+        bytes.resize(bytes.len().saturating_add(times), *byte)?;
+        return Ok(());
+    }
+    for _ in 0..times {
+        bytes.extend_from_slice(run)?;
     }
     Ok(())
 }

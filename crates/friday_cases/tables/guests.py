@@ -166,9 +166,9 @@ def many_events(script):
     replays(script, 10001, "finished")
     script.cut("a.log", len(log) - 1)
     replays(script, 10000, "running", "31 bytes left over")
-    # The lowest byte of the last entry's argument.
-    script.file("a.log", digits(b""))
     script.run("record s", "Done", *summary(10001, "finished", 10001, 0))
+    script.show("a.log", log)
+    # The lowest byte of the last entry's argument.
     script.set("a.log", len(log) - 16, b"\0")
     replays(script, 10000, "running", "diverged at 10001: 4 OtherArguments")
 

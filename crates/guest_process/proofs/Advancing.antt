@@ -6,35 +6,37 @@ use Rattle.coop_threads.specs.Crew.{Crew, IsTaken, live_at, status_of, value_of 
 use Rattle.coop_threads.specs.declared.slot.Slot.{Slot}
 use Rattle.coop_threads.specs.declared.slot.Slot.TheVariants.{Kept, Lent, Over}
 use Rattle.coop_threads.specs.declared.status.Status.TheVariants.{Taken}
-use Rattle.lib_calls.specs.declared.entry.Call.{Call}
 use Rattle.lib_calls.specs.declared.entry.Entry.{Entry}
+use Rattle.wasm_types.specs.Library.{kind_at}
 use Rattle.wasm_types.specs.Modules.{module_of}
 use Rattle.wasm_types.specs.declared.traps.Trap.TheVariants.{Exhausted, Unreachable}
 use Rattle.wasm_step.specs.Reduce.{Stop, Calls, Ends, Traps, Sticks}
 use Rattle.wasm_step.specs.Strand.{answered}
 use Rattle.wasm_step.specs.Burst.{burst}
-use Rattle.wasm_step.specs.Fits.{Suits}
+use Rattle.wasm_step.specs.Suits.{Suits}
+use Rattle.wasm_step.specs.Laws.{KeepsProgram}
 use Rattle.wasm_step.specs.Thread.{Thread}
 use Rattle.wasm_step.specs.declared.call.CallSite.{CallSite}
 use Rattle.guest_process.specs.declared.end.End.{End}
 use Rattle.guest_process.specs.declared.end.End.TheVariants.{Exited, Trapped}
-use Rattle.guest_process.specs.declared.kind.Kind.{Kind}
-use Rattle.guest_process.specs.declared.kind.Kind.TheVariants.{Begin, Exit, Note, Now, SleepUntil, Me, Yield, ThreadNumber, Unbuilt}
+use Rattle.call_table.specs.declared.kind.Kind.{Kind}
+use Rattle.call_table.specs.declared.kind.Kind.TheVariants.{Exit}
 use Rattle.guest_process.specs.declared.parts.Parts.{Parts}
 use Rattle.guest_process.specs.declared.waiting.Waiting.{Waiting}
-use Rattle.guest_process.specs.Answers.{Answer, effects, exited, need, is_possible}
+use Rattle.lib_calls.specs.Answer.{Answer, answer_of}
+use Rattle.guest_process.specs.Answers.{effects, exited}
 use Rattle.guest_process.specs.Fits.{Each, StateFits}
-use Rattle.guest_process.specs.GoesOn.{budget, called, counted, entered, goes_on, handler, kind_at, runs, settled, stands, stopped}
-use Rattle.guest_process.specs.Kinds.{ends_process, is_built, kind_of, value_of}
-use Rattle.guest_process.specs.Legal.{answers, checks, first_failing, reason, reason_at}
-use Rattle.guest_process.specs.Next.{answer_of, next, next_at}
+use Rattle.guest_process.specs.GoesOn.{budget, called, counted, entered, goes_on, handler, runs, settled, stands, stopped}
+use Rattle.guest_process.specs.Kinds.{ends_process, value_of}
+use Rattle.guest_process.specs.Legal.{reason, reason_at}
+use Rattle.guest_process.specs.Next.{next, next_at}
 use Rattle.guest_process.specs.Seen.{IsProcess, state_of}
 use Rattle.guest_process.specs.Sound.{IsSound, IsStanding}
 use Rattle.guest_process.specs.State.{State, is_running, thread_at, with_thread}
 use Rattle.guest_process.proofs.KeptFits.{state_kept}
 use Rattle.guest_process.proofs.KeptSound.{next_program, sound_kept}
 use Rattle.guest_process.proofs.OneEvent.{live_has}
-use Rattle.guest_process.proofs.Failing.{all_hold, unless_none}
+use Rattle.guest_process.proofs.Failing.{unless_none}
 
 pub none_taken : (P : Waiting → Type 0) (slots : List (Slot Waiting)) (t : ℕ) → Each P slots → status_of (slice_get slots t) ≡ Taken → ⊥
 none_taken P [] t f h = cc
@@ -51,22 +53,6 @@ live_is S e h none = by_thread (thread_at S e.thread) none (unless_none (is_runn
     by_thread : (o : Option Waiting) → o ≡ None → reason_at S e o ≡ None → ⊥
     by_thread None n r = cc
     by_thread (Some w) n r = cc
-
-built_by : (k : Kind) (S : State) (t : ℕ) (c : Call) (a : Answer) → answers (need k S t c) a (is_possible k S c a) ≡ true → is_built k ≡ true
-built_by Begin S t c a h = refl
-built_by Exit S t c a h = refl
-built_by Note S t c a h = refl
-built_by Now S t c a h = refl
-built_by SleepUntil S t c a h = refl
-built_by Me S t c a h = refl
-built_by Yield S t c a h = refl
-built_by ThreadNumber S t c a h = refl
-built_by Unbuilt S t c a h = cc
-
-pub is_built_at : (S : State) (e : Entry) (w : Waiting) → reason S e ≡ None → thread_at S e.thread ≡ Some w → is_built (kind_of w.call.kind) ≡ true
-is_built_at S e w h at =
-    let r : first_failing (checks S e w.call) ≡ None = subst (λ o. reason_at S e o ≡ None) at (unless_none (is_running S) _ _ h).1 in
-    built_by (kind_of w.call.kind) S e.thread w.call (answer_of e) (all_hold (checks S e w.call) r).reply
 
 pub stands_at : (S : State) (t : ℕ) (w : Waiting) → Each (IsStanding S.store.program) S.crew.threads → thread_at S t ≡ Some w → IsStanding S.store.program w
 stands_at S t w f at = live_has (IsStanding S.store.program) S.crew.threads t f w at
@@ -92,7 +78,7 @@ with_again S t slot = ap (λ slots. record S { crew = record S.crew { threads = 
 abbrev ended : State → End → State
 ended S end = record S { end = end }
 
-called_out : (S : State) (t : ℕ) (thread : Thread) (site : CallSite) (o : Option ℕ) → called (with_thread S t Lent) t thread site o ≡ called S t thread site o
+called_out : (S : State) (t : ℕ) (thread : Thread) (site : CallSite) (o : Option Kind) → called (with_thread S t Lent) t thread site o ≡ called S t thread site o
 called_out S t thread site (Some kind) = with_again S t (Kept (stands S thread site kind))
 called_out S t thread site None = ap (λ S'. ended S' (Trapped Unreachable)) (with_again S t Over)
 
@@ -114,29 +100,22 @@ exits_by _ S t w a signal clock h = cc
 
 runs_by : (k : Kind) (S : State) (t : ℕ) (w : Waiting) (a : Answer) (signal clock : ℕ) → ends_process k ≡ false → runs (counted (with_thread S t Lent) clock) t (entered S.store.program (answered w.strand (value_of k a.reply)) signal (handler S.handlers signal)) ≡ goes_on k (effects k S t w.call a) t w.strand a.reply signal clock
 runs_by Exit S t w a signal clock h = cc
-runs_by Begin S t w a signal clock h = runs_out (counted S clock) t _
-runs_by Note S t w a signal clock h = runs_out (counted S clock) t _
-runs_by Now S t w a signal clock h = runs_out (counted S clock) t _
-runs_by SleepUntil S t w a signal clock h = runs_out (counted S clock) t _
-runs_by Me S t w a signal clock h = runs_out (counted S clock) t _
-runs_by Yield S t w a signal clock h = runs_out (counted S clock) t _
-runs_by ThreadNumber S t w a signal clock h = runs_out (counted S clock) t _
-runs_by Unbuilt S t w a signal clock h = runs_out (counted S clock) t _
+runs_by _ S t w a signal clock h = runs_out (counted S clock) t _
 
 -- the event of a thread that calls `exit`
-pub exits : (S : State) (e : Entry) (w : Waiting) → thread_at S e.thread ≡ Some w → ends_process (kind_of w.call.kind) ≡ true → exited (counted (with_thread S e.thread Lent) e.clock) e.thread w.call.a0 ≡ next S e
-exits S e w at h = exits_by (kind_of w.call.kind) S e.thread w (answer_of e) e.signal e.clock h ∙ ap (next_at S e) (sym at)
+pub exits : (S : State) (e : Entry) (w : Waiting) → thread_at S e.thread ≡ Some w → ends_process w.kind ≡ true → exited (counted (with_thread S e.thread Lent) e.clock) e.thread w.call.a0 ≡ next S e
+exits S e w at h = exits_by w.kind S e.thread w (answer_of e) e.signal e.clock h ∙ ap (next_at S e) (sym at)
 
 -- the event of another
-pub goes : (S : State) (e : Entry) (w : Waiting) → thread_at S e.thread ≡ Some w → ends_process (kind_of w.call.kind) ≡ false → runs (counted (with_thread S e.thread Lent) e.clock) e.thread (entered S.store.program (answered w.strand (value_of (kind_of w.call.kind) e.reply)) e.signal (handler S.handlers e.signal)) ≡ next S e
-goes S e w at h = runs_by (kind_of w.call.kind) S e.thread w (answer_of e) e.signal e.clock h ∙ ap (next_at S e) (sym at)
+pub goes : (S : State) (e : Entry) (w : Waiting) → thread_at S e.thread ≡ Some w → ends_process w.kind ≡ false → runs (counted (with_thread S e.thread Lent) e.clock) e.thread (entered S.store.program (answered w.strand (value_of w.kind e.reply)) e.signal (handler S.handlers e.signal)) ≡ next S e
+goes S e w at h = runs_by w.kind S e.thread w (answer_of e) e.signal e.clock h ∙ ap (next_at S e) (sym at)
 
 -- ---- the parts after a legal entry's event are those of a process
 
-pub process_kept : (p q : Parts) (e : Entry) → IsProcess p → reason (state_of p) e ≡ None → state_of q ≡ next (state_of p) e → q.program ≡ p.program → Suits q.store → IsProcess q
-process_kept p q e is h state program suits = record {
+pub process_kept : KeepsProgram → (p q : Parts) (e : Entry) → IsProcess p → reason (state_of p) e ≡ None → state_of q ≡ next (state_of p) e → q.program ≡ p.program → Suits q.store → IsProcess q
+process_kept keeps p q e is h state program suits = record {
   suits = suits;
-  program = ap (λ r. module_of r.now) program ∙ is.program ∙ sym (ap (λ S. S.store.program) state ∙ next_program (state_of p) e is.sound);
-  fits = subst StateFits (sym state) (state_kept (state_of p) e is.fits h);
-  sound = subst IsSound (sym state) (sound_kept (state_of p) e is.sound h);
+  program = ap (λ r. module_of r.now) program ∙ is.program ∙ sym (ap (λ S. S.store.program) state ∙ next_program keeps (state_of p) e is.sound);
+  fits = subst StateFits (sym state) (state_kept keeps (state_of p) e is.fits h);
+  sound = subst IsSound (sym state) (sound_kept keeps (state_of p) e is.sound h);
 }

@@ -5,23 +5,25 @@ use Rattle.std.proofs.lemmas.List.{length-set}
 use Rattle.coop_threads.specs.declared.slot.Slot.{Slot}
 use Rattle.coop_threads.specs.declared.slot.Slot.TheVariants.{Kept, Over}
 use Rattle.lib_calls.specs.declared.entry.Call.{Call}
+use Rattle.wasm_types.specs.Library.{kind_at}
 use Rattle.wasm_types.specs.Modules.{Module}
 use Rattle.wasm_step.specs.Burst.{Run, burst}
+use Rattle.wasm_step.specs.Laws.{KeepsProgram}
 use Rattle.wasm_step.specs.Reduce.{Stop, Calls, Ends, Traps, Sticks}
 use Rattle.wasm_step.specs.Strand.{answered}
 use Rattle.wasm_step.specs.Thread.{Thread}
 use Rattle.wasm_step.specs.declared.call.CallSite.{CallSite}
 use Rattle.guest_process.specs.declared.end.End.{End}
 use Rattle.guest_process.specs.declared.end.End.TheVariants.{Finished}
-use Rattle.guest_process.specs.declared.kind.Kind.{Kind}
-use Rattle.guest_process.specs.declared.kind.Kind.TheVariants.{Begin, Exit, Note, Now, SleepUntil, Me, Yield, ThreadNumber, Unbuilt}
+use Rattle.call_table.specs.declared.kind.Kind.{Kind}
+use Rattle.call_table.specs.declared.kind.Kind.TheVariants.{Exit}
 use Rattle.guest_process.specs.declared.waiting.Waiting.{Waiting}
-use Rattle.guest_process.specs.Answers.{Answer, effects}
+use Rattle.lib_calls.specs.Answer.{Answer}
+use Rattle.guest_process.specs.Answers.{effects}
 use Rattle.guest_process.specs.Fits.{Each, Slotted}
-use Rattle.guest_process.specs.GoesOn.{after_burst, all_over, budget, called, counted, entered, goes_on, handler, kind_at, runs, stands, stopped}
+use Rattle.guest_process.specs.GoesOn.{after_burst, all_over, budget, called, counted, entered, goes_on, handler, runs, stands, stopped}
 use Rattle.guest_process.specs.Kinds.{ends_process, value_of}
 use Rattle.guest_process.specs.State.{State, with_thread}
-use Rattle.guest_process.proofs.Programs.{burst_program}
 
 -- what an event changes of a state where P is to hold of each live thread: its program, its number, its
 -- group and its handlers stay
@@ -74,9 +76,9 @@ module _ (P : Waiting → Type 0) where
 
   -- the thread that stands at a call of the library is such
   abbrev pub Stand : Module → Type 0
-  Stand m = (S : State) (thread : Thread) (site : CallSite) (kind : ℕ) → S.store.program ≡ m → kind_at m site.func ≡ Some kind → P (stands S thread site kind)
+  Stand m = (S : State) (thread : Thread) (site : CallSite) (kind : Kind) → S.store.program ≡ m → kind_at m site.func ≡ Some kind → P (stands S thread site kind)
 
-  called_kept : (S : State) (t : ℕ) (thread : Thread) (site : CallSite) → Each P S.crew.threads → Stand S.store.program → (o : Option ℕ) → kind_at S.store.program site.func ≡ o → Keeps P S (called S t thread site o)
+  called_kept : (S : State) (t : ℕ) (thread : Thread) (site : CallSite) → Each P S.crew.threads → Stand S.store.program → (o : Option Kind) → kind_at S.store.program site.func ≡ o → Keeps P S (called S t thread site o)
   called_kept S t thread site f g (Some kind) e = set_kept S t (Kept (stands S thread site kind)) S.end f (g S thread site kind refl e)
   called_kept S t thread site f g None e = set_kept S t Over _ f tt
 
@@ -92,30 +94,23 @@ module _ (P : Waiting → Type 0) where
       (record { who = refl; count = refl; program = e; room = refl; threads = f; handlers = refl; clock = refl; events = refl })
       (stopped_kept (record S { store = run.store }) t run.stop f (subst Stand (sym e) g))
 
-  runs_kept : (S : State) (t : ℕ) (o : Option Thread) → Each P S.crew.threads → Stand S.store.program → Keeps P S (runs S t o)
-  runs_kept S t None f g = set_kept S t Over _ f tt
-  runs_kept S t (Some thread) f g = burst_kept S t (burst budget thread S.store) (burst_program budget thread S.store) f g
+  runs_kept : KeepsProgram → (S : State) (t : ℕ) (o : Option Thread) → Each P S.crew.threads → Stand S.store.program → Keeps P S (runs S t o)
+  runs_kept keeps S t None f g = set_kept S t Over _ f tt
+  runs_kept keeps S t (Some thread) f g = burst_kept S t (burst budget thread S.store) (keeps budget thread S.store) f g
 
   need_kept : (k : Kind) (S : State) (t : ℕ) (c : Call) (a : Answer) → Each P S.crew.threads → Keeps P S (effects k S t c a)
-  need_kept Begin S t c a f = kept_same S f
   need_kept Exit S t c a f = set_kept S t Over _ f tt
-  need_kept Note S t c a f = kept_same S f
-  need_kept Now S t c a f = kept_same S f
-  need_kept SleepUntil S t c a f = kept_same S f
-  need_kept Me S t c a f = kept_same S f
-  need_kept Yield S t c a f = kept_same S f
-  need_kept ThreadNumber S t c a f = kept_same S f
-  need_kept Unbuilt S t c a f = kept_same S f
+  need_kept _ S t c a f = kept_same S f
 
-  event_kept : (b : Bool) (S : State) (t : ℕ) (o : Option Thread) → Each P S.crew.threads → Stand S.store.program → Keeps P S (cond b S (runs S t o))
-  event_kept true S t o f g = kept_same S f
-  event_kept false S t o f g = runs_kept S t o f g
+  event_kept : KeepsProgram → (b : Bool) (S : State) (t : ℕ) (o : Option Thread) → Each P S.crew.threads → Stand S.store.program → Keeps P S (cond b S (runs S t o))
+  event_kept keeps true S t o f g = kept_same S f
+  event_kept keeps false S t o f g = runs_kept keeps S t o f g
 
   -- all of an event, from its clock on
-  pub went_on : (k : Kind) (S : State) (t : ℕ) (c : Call) (a : Answer) (w : Waiting) (signal clock : ℕ) → Each P S.crew.threads → Stand S.store.program → Keeps P (counted S clock) (goes_on k (effects k S t c a) t w.strand a.reply signal clock)
-  went_on k S t c a w signal clock f g =
+  pub went_on : KeepsProgram → (k : Kind) (S : State) (t : ℕ) (c : Call) (a : Answer) (w : Waiting) (signal clock : ℕ) → Each P S.crew.threads → Stand S.store.program → Keeps P (counted S clock) (goes_on k (effects k S t c a) t w.strand a.reply signal clock)
+  went_on keeps k S t c a w signal clock f g =
       let n = need_kept k S t c a f in
       let S' = effects k S t c a in
       let first : Keeps P (counted S clock) (counted S' clock) = record { who = n.who; count = n.count; program = n.program; room = n.room; threads = n.threads; handlers = n.handlers; clock = refl; events = ap (λ n. n + 1) n.events } in
       then_kept (counted S clock) (counted S' clock) _ first
-      (event_kept (ends_process k) (counted S' clock) t (entered S'.store.program (answered w.strand (value_of k a.reply)) signal (handler S'.handlers signal)) n.threads (subst Stand (sym n.program) g))
+      (event_kept keeps (ends_process k) (counted S' clock) t (entered S'.store.program (answered w.strand (value_of k a.reply)) signal (handler S'.handlers signal)) n.threads (subst Stand (sym n.program) g))

@@ -7,9 +7,10 @@ use Rattle.lamport_tag.specs.declared.Tag.{Tag}
 use Rattle.lamport_tag.specs.Tag.{clock_of}
 use Rattle.lib_calls.specs.declared.entry.Call.{Call}
 use Rattle.lib_calls.specs.Entry.{IsStringIf, IsTagIf}
-use Rattle.guest_process.specs.declared.kind.Kind.{Kind}
-use Rattle.guest_process.specs.declared.kind.Kind.TheVariants.{Begin, Exit, Note, Now, SleepUntil, Me, Yield, ThreadNumber, Unbuilt}
-use Rattle.guest_process.specs.Answers.{Answer, Need, Fixed, Blocked, World, need, is_possible, is_due, is_plain, written}
+use Rattle.call_table.specs.declared.kind.Kind.{Kind}
+use Rattle.call_table.specs.declared.kind.Kind.TheVariants.{Begin, Exit, Note, Now, SleepUntil, Me, Yield, Thread}
+use Rattle.lib_calls.specs.Answer.{Answer}
+use Rattle.guest_process.specs.Answers.{Need, Fixed, Blocked, World, need, is_possible, is_due, is_plain, written}
 use Rattle.guest_process.specs.Fits.{EnvFits, StateFits}
 use Rattle.guest_process.specs.Legal.{answers}
 use Rattle.guest_process.specs.Live.{Env, Answered, from_world}
@@ -47,8 +48,8 @@ reply_fits Now S t c s low = tt
 reply_fits SleepUntil S t c s low = tt
 reply_fits Me S t c s low = omega (arith, s.who, s.count)
 reply_fits Yield S t c s low = omega arith
-reply_fits ThreadNumber S t c s low = omega arith
-reply_fits Unbuilt S t c s low = tt
+reply_fits Thread S t c s low = omega arith
+reply_fits _ S t c s low = tt
 
 pub world_matches : (k : Kind) (S : State) (c : Call) (env : Env) → EnvFits env → (a : Answered) → from_world k S c env ≡ Some a → Matches k S c a
 world_matches Now S c env e a h =

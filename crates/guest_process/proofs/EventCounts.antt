@@ -1,8 +1,12 @@
 -- A process begins with no event, and each legal entry is one event more.
 use Rattle.std.proofs.Common.{◌≡◌, ℕ, ◌+◌, true, false, cond, Bool, Option, Some, None, refl, ap, ◌∙◌, subst}
 use Rattle.std.proofs.lemmas.Option.{same_Some}
+use Rattle.call_table.specs.declared.kind.Kind.{Kind}
+use Rattle.call_table.specs.declared.kind.Kind.TheVariants.{Exit}
+use Rattle.lib_calls.specs.Answer.{Answer, answer_of}
 use Rattle.lib_calls.specs.declared.entry.Call.{Call}
 use Rattle.lib_calls.specs.declared.entry.Entry.{Entry}
+use Rattle.wasm_types.specs.Library.{kind_at}
 use Rattle.wasm_types.specs.Modules.{Module}
 use Rattle.wasm_step.specs.Reduce.{Stop, Calls, Ends, Traps, Sticks}
 use Rattle.wasm_step.specs.Burst.{burst}
@@ -12,15 +16,13 @@ use Rattle.wasm_step.specs.Strand.{answered, first_thread}
 use Rattle.wasm_step.specs.Thread.{Thread}
 use Rattle.wasm_step.specs.declared.call.CallSite.{CallSite}
 use Rattle.guest_process.specs.declared.end.End.TheVariants.{Finished}
-use Rattle.guest_process.specs.declared.kind.Kind.{Kind}
-use Rattle.guest_process.specs.declared.kind.Kind.TheVariants.{Begin, Exit, Note, Now, SleepUntil, Me, Yield, ThreadNumber, Unbuilt}
 use Rattle.guest_process.specs.declared.waiting.Waiting.{Waiting}
-use Rattle.guest_process.specs.Answers.{Answer, effects}
+use Rattle.guest_process.specs.Answers.{effects}
 use Rattle.guest_process.specs.EventCount.{IsBegun, IsCounted, IsFresh}
-use Rattle.guest_process.specs.GoesOn.{all_over, budget, called, counted, entered, handler, kind_at, runs, stopped}
-use Rattle.guest_process.specs.Kinds.{ends_process, kind_of, value_of}
+use Rattle.guest_process.specs.GoesOn.{all_over, budget, called, counted, entered, handler, runs, stopped}
+use Rattle.guest_process.specs.Kinds.{ends_process, value_of}
 use Rattle.guest_process.specs.Legal.{reason_at}
-use Rattle.guest_process.specs.Next.{answer_of, next_at}
+use Rattle.guest_process.specs.Next.{next_at}
 use Rattle.guest_process.specs.Start.{begun_with}
 use Rattle.guest_process.specs.State.{State, is_running, thread_at}
 use Rattle.guest_process.proofs.Failing.{unless_none}
@@ -38,21 +40,14 @@ begins m who count S h = by_store (store_of m) (first_thread m) h
 -- ---- neither an answer nor a burst counts
 
 answer_events : (k : Kind) (S : State) (t : ℕ) (c : Call) (a : Answer) → (effects k S t c a).events ≡ S.events
-answer_events Begin S t c a = refl
 answer_events Exit S t c a = refl
-answer_events Note S t c a = refl
-answer_events Now S t c a = refl
-answer_events SleepUntil S t c a = refl
-answer_events Me S t c a = refl
-answer_events Yield S t c a = refl
-answer_events ThreadNumber S t c a = refl
-answer_events Unbuilt S t c a = refl
+answer_events _ S t c a = refl
 
 settled_events : (S : State) (b : Bool) → (cond b (record S { end = Finished }) S).events ≡ S.events
 settled_events S true = refl
 settled_events S false = refl
 
-called_events : (S : State) (t : ℕ) (thread : Thread) (site : CallSite) (o : Option ℕ) → (called S t thread site o).events ≡ S.events
+called_events : (S : State) (t : ℕ) (thread : Thread) (site : CallSite) (o : Option Kind) → (called S t thread site o).events ≡ S.events
 called_events S t thread site (Some kind) = refl
 called_events S t thread site None = refl
 
@@ -77,7 +72,7 @@ event_events false S t o = runs_events S t o
 counts_at : (S : State) (e : Entry) (o : Option Waiting) → reason_at S e o ≡ None → (next_at S e o).events ≡ S.events + 1
 counts_at S e None h = cc
 counts_at S e (Some w) h =
-    let k = kind_of w.call.kind in
+    let k = w.kind in
     let S' = effects k S e.thread w.call (answer_of e) in
     event_events (ends_process k) (counted S' e.clock) e.thread (entered S'.store.program (answered w.strand (value_of k e.reply)) e.signal (handler S'.handlers e.signal))
     ∙ ap (λ n. n + 1) (answer_events k S e.thread w.call (answer_of e))

@@ -2,12 +2,12 @@
 use Rattle.std.proofs.Common.{◌≡◌, ℕ, Bool, false, ◌&&◌, refl, ap}
 use Rattle.std.specs.Prelude.{◌==◌, Option, Some, None}
 use Rattle.lib_calls.specs.declared.entry.Call.{Call}
-use Rattle.guest_process.specs.declared.kind.Kind.{Kind}
-use Rattle.guest_process.specs.declared.kind.Kind.TheVariants.{Begin, Exit, Note, Now, SleepUntil, Me, Yield, ThreadNumber, Unbuilt}
+use Rattle.call_table.specs.declared.kind.Kind.{Kind}
+use Rattle.call_table.specs.declared.kind.Kind.TheVariants.{Exit}
 use Rattle.guest_process.specs.declared.need.Need.TheVariants as plainly
 use Rattle.guest_process.specs.declared.waiting.Waiting.{Waiting}
-use Rattle.guest_process.specs.Answers.{Answer, Need, Fixed, Blocked, World, effects, is_plain}
-use Rattle.guest_process.specs.Kinds.{kind_of}
+use Rattle.lib_calls.specs.Answer.{Answer}
+use Rattle.guest_process.specs.Answers.{Need, Fixed, Blocked, World, effects, is_plain}
 use Rattle.guest_process.specs.Legal.{answers}
 use Rattle.guest_process.specs.Seen.{answered_at, plain}
 use Rattle.guest_process.specs.State.{State}
@@ -30,18 +30,11 @@ world (Fixed r S) a w h = cc
 world Blocked a w h = cc
 world World a w h = refl
 
--- no answer to a call of a built kind changes a handler
+-- no answer to a call changes a handler
 pub same_handlers : (k : Kind) (S : State) (t : ℕ) (c : Call) (a : Answer) → (effects k S t c a).handlers ≡ S.handlers
-same_handlers Begin S t c a = refl
 same_handlers Exit S t c a = refl
-same_handlers Note S t c a = refl
-same_handlers Now S t c a = refl
-same_handlers SleepUntil S t c a = refl
-same_handlers Me S t c a = refl
-same_handlers Yield S t c a = refl
-same_handlers ThreadNumber S t c a = refl
-same_handlers Unbuilt S t c a = refl
+same_handlers _ S t c a = refl
 
 pub same_handlers_at : (S : State) (t : ℕ) (a : Answer) (o : Option Waiting) → (answered_at S t a o).handlers ≡ S.handlers
 same_handlers_at S t a None = refl
-same_handlers_at S t a (Some w) = same_handlers (kind_of w.call.kind) S t w.call a
+same_handlers_at S t a (Some w) = same_handlers w.kind S t w.call a

@@ -1,82 +1,53 @@
 -- A legal event keeps what the strands and handlers of a process owe its program.
 use Rattle.std.proofs.Common.{◌≡◌, ℕ, zero, suc, Bool, true, false, cond, List, [], ◌∷◌, Option, Some, None, length, arith, ◌<◌, refl, ap, ◌∙◌, sym, subst}
-use Rattle.std.specs.Prelude.{All, bytes_eq, codes, get_or, slice_get}
+use Rattle.std.specs.Prelude.{All, get_or, option_and_then, slice_get, ◌==◌, ◌%◌, ◌^◌}
 use Rattle.std.proofs.lemmas.Option.{same_Some}
-use Rattle.std.proofs.lemmas.Slice.Eq.{bytes_eq-Decides}
-use Rattle.lib_calls.specs.Calls.{names}
+use Rattle.call_table.specs.Table.{kind_named, row}
+use Rattle.call_table.specs.declared.kind.Kind.{Kind}
+use Rattle.call_table.specs.declared.kind.Kind.TheVariants.{Begin}
+use Rattle.lib_calls.specs.Answer.{answer_of}
 use Rattle.lib_calls.specs.declared.entry.Entry.{Entry}
 use Rattle.wasm_types.specs.declared.modules.ImportDesc.{ImportDesc}
 use Rattle.wasm_types.specs.declared.modules.ImportDesc.TheVariants as desc
-use Rattle.wasm_types.specs.Library.{IsOfLibrary, imported_type, library, type_under}
+use Rattle.wasm_types.specs.declared.code.ValType.TheVariants.{I32, I64}
+use Rattle.wasm_types.specs.declared.code.Value.TheVariants as values
+use Rattle.wasm_types.specs.Library.{IsOfLibrary, importable, imported_type, kind_at, type_of, unless_begin}
 use Rattle.wasm_types.specs.Modules.{Module, Import, FuncType}
-use Rattle.wasm_step.specs.Reduce.{described, imported_type as described_in}
+use Rattle.wasm_types.specs.Functions.{described, imported_type as described_in}
+use Rattle.wasm_step.specs.Laws.{KeepsProgram}
 use Rattle.wasm_step.specs.Strand.{IsHandler, IsResult, first_result, library_result}
 use Rattle.wasm_step.specs.Thread.{Thread}
 use Rattle.wasm_step.specs.declared.call.CallSite.{CallSite}
-use Rattle.guest_process.specs.declared.kind.Kind.{Kind}
-use Rattle.guest_process.specs.declared.kind.Kind.TheVariants.{Begin, Exit, Note, Now, SleepUntil, Me, Yield, ThreadNumber, Unbuilt}
 use Rattle.guest_process.specs.declared.waiting.Waiting.{Waiting}
 use Rattle.guest_process.specs.Fits.{Each}
-use Rattle.guest_process.specs.GoesOn.{handler, import_kind, kind_at, place_of, stands}
-use Rattle.guest_process.specs.Kinds.{kind_of, value_of}
+use Rattle.guest_process.specs.GoesOn.{handler, stands}
+use Rattle.guest_process.specs.Kinds.{value_of}
 use Rattle.guest_process.specs.Legal.{reason_at}
-use Rattle.guest_process.specs.Next.{answer_of, next, next_at}
+use Rattle.guest_process.specs.Next.{next, next_at}
 use Rattle.guest_process.specs.OneEvent.{IsKeptSound}
 use Rattle.guest_process.specs.Sound.{IsSound, IsStanding, StandsAt}
 use Rattle.guest_process.specs.State.{State, is_running, thread_at}
 use Rattle.guest_process.proofs.Changes.{went_on}
 use Rattle.guest_process.proofs.Failing.{unless_none}
 
--- the results of a type of the library are those of this kind
-abbrev IsResultOf : FuncType → Kind → Type 0
-IsResultOf type Begin = ⊥
-IsResultOf type Unbuilt = Unit {0}
-IsResultOf type kind = (reply : ℕ) → IsResult (slice_get type.results 0) (value_of kind reply)
+-- a reply is a value of the width of the result
+width_fits : (none narrow : Bool) (reply : ℕ) → IsResult (slice_get (cond none [] (cond narrow (I32 ∷ []) (I64 ∷ []))) 0) (cond none None (cond narrow (Some (values.I32 (reply % 2 ^ 32))) (Some (values.I64 reply))))
+width_fits true narrow reply = tt
+width_fits false true reply = tt
+width_fits false false reply = tt
 
-abbrev Fine : FuncType → Option ℕ → Type 0
-Fine type None = Unit {0}
-Fine type (Some kind) = IsResultOf type (kind_of kind)
+value_fits : (kind : Kind) (reply : ℕ) → IsResult (slice_get (type_of (row kind).signature).results 0) (value_of kind reply)
+value_fits kind reply = let width = (row kind).signature.result in width_fits (width == 0) (width == 32) reply
 
--- a name that stands first, or later
-first_or : (type : FuncType) (name first : List ℕ) (n : ℕ) (rest : Option ℕ) → (first ≡ name → Fine type (Some n)) → Fine type rest → Fine type (cond (bytes_eq first name) (Some n) rest)
-first_or type name first n rest here later = by_test (bytes_eq first name) refl
+-- `begin` is not imported
+not_begin : (name : List ℕ) → importable name ≡ Some Begin → ⊥
+unfolding importable
+not_begin name h = by_kind (kind_named name) h
   where
-    by_test : (b : Bool) → bytes_eq first name ≡ b → Fine type (cond b (Some n) rest)
-    by_test true e = here ((bytes_eq-Decides first name).0 e)
-    by_test false e = later
-
--- a name that the library has with this type
-known : (type : FuncType) (name first : List ℕ) (n : ℕ) (t : FuncType) → type_under name library ≡ Some type → type_under first library ≡ Some t → Fine t (Some n) → first ≡ name → Fine type (Some n)
-known type name first n t u f fine e =
-    subst (λ t. Fine t (Some n)) (same_Some t type (sym f ∙ ap (λ name. type_under name library) e ∙ u)) fine
-
--- `begin` is not in the library
-not_begin : (type : FuncType) (name : List ℕ) → type_under name library ≡ Some type → codes "begin" ≡ name → ⊥
-not_begin type name u e = none (ap (λ name. type_under name library) e ∙ u)
-  where
-    none : type_under (codes "begin") library ≡ Some type → ⊥
-    none h = cc
-
-all_fine : (type : FuncType) (name : List ℕ) → type_under name library ≡ Some type → Fine type (place_of name names 0)
-all_fine type name u =
-    first_or type name (codes "begin") 0 _ (λ e. absurd (not_begin type name u e)) (
-    first_or type name (codes "exit") 1 _ (known type name (codes "exit") 1 _ u refl (λ reply. tt)) (
-    first_or type name (codes "note") 2 _ (known type name (codes "note") 2 _ u refl (λ reply. tt)) (
-    first_or type name (codes "print") 3 _ (λ e. tt) (
-    first_or type name (codes "now") 4 _ (known type name (codes "now") 4 _ u refl (λ reply. tt)) (
-    first_or type name (codes "sleep_until") 5 _ (known type name (codes "sleep_until") 5 _ u refl (λ reply. tt)) (
-    first_or type name (codes "random") 6 _ (λ e. tt) (
-    first_or type name (codes "me") 7 _ (known type name (codes "me") 7 _ u refl (λ reply. tt)) (
-    first_or type name (codes "send") 8 _ (λ e. tt) (
-    first_or type name (codes "recv") 9 _ (λ e. tt) (
-    first_or type name (codes "try_recv") 10 _ (λ e. tt) (
-    first_or type name (codes "spawn") 11 _ (λ e. tt) (
-    first_or type name (codes "yield") 12 _ (known type name (codes "yield") 12 _ u refl (λ reply. tt)) (
-    first_or type name (codes "join") 13 _ (λ e. tt) (
-    first_or type name (codes "lock") 14 _ (λ e. tt) (
-    first_or type name (codes "unlock") 15 _ (λ e. tt) (
-    first_or type name (codes "on_signal") 16 _ (λ e. tt) (
-    first_or type name (codes "thread") 17 _ (known type name (codes "thread") 17 _ u refl (λ reply. tt)) tt)))))))))))))))))
+    by_kind : (o : Option Kind) → option_and_then unless_begin o ≡ Some Begin → ⊥
+    by_kind None h = cc
+    by_kind (Some Begin) h = cc
+    by_kind (Some _) h = cc
 
 -- each import of the library is of its kind's type
 got : (imports : List Import) (f : ℕ) (import : Import) → slice_get imports f ≡ Some import → (f < length imports) × (get_or imports f import ≡ import)
@@ -93,39 +64,32 @@ described_as m (desc.Table limits) index type e h = cc
 described_as m (desc.Memory limits) index type e h = cc
 described_as m (desc.Global kind mutable) index type e h = cc
 
-stand_by : (m : Module) (w : Waiting) (func : ℕ) (type : FuncType) (k : Kind) → w.strand.call ≡ Some func → library_result m func ≡ slice_get type.results 0 → IsResultOf type k → StandsAt m w k
-stand_by m w func type Begin c r h = absurd h
-stand_by m w func type Unbuilt c r h = tt
-stand_by m w func type Exit c r h = (func, c, λ reply. rw r (h reply))
-stand_by m w func type Note c r h = (func, c, λ reply. rw r (h reply))
-stand_by m w func type Now c r h = (func, c, λ reply. rw r (h reply))
-stand_by m w func type SleepUntil c r h = (func, c, λ reply. rw r (h reply))
-stand_by m w func type Me c r h = (func, c, λ reply. rw r (h reply))
-stand_by m w func type Yield c r h = (func, c, λ reply. rw r (h reply))
-stand_by m w func type ThreadNumber c r h = (func, c, λ reply. rw r (h reply))
+stand_by : (m : Module) (w : Waiting) (func : ℕ) (kind : Kind) → (kind ≡ Begin → ⊥) → w.strand.call ≡ Some func → ((reply : ℕ) → IsResult (library_result m func) (value_of kind reply)) → StandsAt m w kind
+stand_by m w func Begin not_begin at gives = absurd (not_begin refl)
+stand_by m w func _ not_begin at gives = (func, at, gives)
 
-stand_at : (m : Module) (w : Waiting) (func kind : ℕ) → All (IsOfLibrary m.types) m.imports → w.strand.call ≡ Some func → (o : Option Import) → slice_get m.imports func ≡ o → import_kind o ≡ Some kind → StandsAt m w (kind_of kind)
+stand_at : (m : Module) (w : Waiting) (func : ℕ) (kind : Kind) → All (IsOfLibrary m.types) m.imports → w.strand.call ≡ Some func → (o : Option Import) → slice_get m.imports func ≡ o → option_and_then (λ (i : Import). importable i.name) o ≡ Some kind → StandsAt m w kind
 stand_at m w func kind all c None at h = cc
 stand_at m w func kind all c (Some import) at h =
     let is = imported m.types m.imports func all import at in
-    let fine : Fine is.type (Some kind) = subst (Fine is.type) h (all_fine is.type import.name is.named) in
-    let result : library_result m func ≡ slice_get is.type.results 0 =
-    ap (λ o. first_result (described_in m o)) at ∙ ap first_result (described_as m import.desc is.type_index is.type is.is_func is.typed) in
-    stand_by m w func is.type (kind_of kind) c result fine
+    let same : is.kind ≡ kind = same_Some _ _ (sym is.named ∙ h) in
+    let result : library_result m func ≡ slice_get (type_of (row is.kind).signature).results 0 =
+    ap (λ o. first_result (described_in m o)) at ∙ ap first_result (described_as m import.desc is.type_index (type_of (row is.kind).signature) is.is_func is.typed) in
+    let results = result ∙ ap (λ (kind : Kind). slice_get (type_of (row kind).signature).results 0) same in
+    stand_by m w func kind (λ begin. not_begin import.name (h ∙ ap Some begin)) c (λ reply. rw results (value_fits kind reply))
 
-stand_sound : (m : Module) → All (IsOfLibrary m.types) m.imports → (S : State) (thread : Thread) (site : CallSite) (kind : ℕ) → S.store.program ≡ m → kind_at m site.func ≡ Some kind → IsStanding m (stands S thread site kind)
-unfolding kind_at
+stand_sound : (m : Module) → All (IsOfLibrary m.types) m.imports → (S : State) (thread : Thread) (site : CallSite) (kind : Kind) → S.store.program ≡ m → kind_at m site.func ≡ Some kind → IsStanding m (stands S thread site kind)
 stand_sound m all S thread site kind e h = record {
   program = e;
   stands = stand_at m (stands S thread site kind) site.func kind all refl (slice_get m.imports site.func) refl h;
 }
 
-sound_at : (S : State) (e : Entry) → IsSound S → (o : Option Waiting) → reason_at S e o ≡ None → IsSound (next_at S e o)
-sound_at S e s None h = cc
-sound_at S e s (Some w) h =
-    let k = kind_of w.call.kind in
+sound_at : KeepsProgram → (S : State) (e : Entry) → IsSound S → (o : Option Waiting) → reason_at S e o ≡ None → IsSound (next_at S e o)
+sound_at keeps S e s None h = cc
+sound_at keeps S e s (Some w) h =
+    let k = w.kind in
     let m = S.store.program in
-    let kept = went_on (IsStanding m) k S e.thread w.call (answer_of e) w e.signal e.clock s.threads (stand_sound m s.imports) in
+    let kept = went_on (IsStanding m) keeps k S e.thread w.call (answer_of e) w e.signal e.clock s.threads (stand_sound m s.imports) in
     let S' = next_at S e (Some w) in
     record {
       imports = subst (λ m. All (IsOfLibrary m.types) m.imports) (sym kept.program) s.imports;
@@ -134,14 +98,14 @@ sound_at S e s (Some w) h =
           subst (λ m. IsHandler m func) (sym kept.program) (s.handlers signal func (ap (λ hs. handler hs signal) (sym kept.handlers) ∙ h));
     }
 
-pub sound_kept : IsKeptSound
-sound_kept S e s h = sound_at S e s (thread_at S e.thread) (unless_none (is_running S) _ _ h).1
+pub sound_kept : KeepsProgram → IsKeptSound
+sound_kept keeps S e s h = sound_at keeps S e s (thread_at S e.thread) (unless_none (is_running S) _ _ h).1
 
-program_at : (S : State) (e : Entry) → IsSound S → (o : Option Waiting) → (next_at S e o).store.program ≡ S.store.program
-program_at S e s None = refl
-program_at S e s (Some w) =
-    (went_on (IsStanding S.store.program) (kind_of w.call.kind) S e.thread w.call (answer_of e) w e.signal e.clock s.threads (stand_sound S.store.program s.imports)).program
+program_at : KeepsProgram → (S : State) (e : Entry) → IsSound S → (o : Option Waiting) → (next_at S e o).store.program ≡ S.store.program
+program_at keeps S e s None = refl
+program_at keeps S e s (Some w) =
+    (went_on (IsStanding S.store.program) keeps w.kind S e.thread w.call (answer_of e) w e.signal e.clock s.threads (stand_sound S.store.program s.imports)).program
 
 -- an event leaves the program as it is
-pub next_program : (S : State) (e : Entry) → IsSound S → (next S e).store.program ≡ S.store.program
-next_program S e s = program_at S e s (thread_at S e.thread)
+pub next_program : KeepsProgram → (S : State) (e : Entry) → IsSound S → (next S e).store.program ≡ S.store.program
+next_program keeps S e s = program_at keeps S e s (thread_at S e.thread)

@@ -2,8 +2,6 @@ pub mod Failing
 pub mod EachKind
 pub mod OneEvent
 pub mod Over
-pub mod Places
-pub mod Programs
 pub mod Answering
 pub mod Changes
 pub mod EventCounts

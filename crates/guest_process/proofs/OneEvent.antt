@@ -3,6 +3,7 @@ use Rattle.std.proofs.Common.{◌≡◌, ℕ, zero, suc, ◌+◌, ◌<◌, ◌�
 use Rattle.std.specs.Prelude.{◌==◌, nat_le, is_some, slice_get, option_and_then}
 use Rattle.std.proofs.lemmas.Bool.{and_parts, and_from, or_right, le-leb as le-leb'}
 use Rattle.std.proofs.lemmas.Option.{same_Some}
+use Rattle.call_table.specs.Numbers.{number_within}
 use Rattle.coop_threads.specs.Crew.{value_of}
 use Rattle.coop_threads.specs.declared.slot.Slot.{Slot}
 use Rattle.coop_threads.specs.declared.slot.Slot.TheVariants.{Kept, Lent, Over}
@@ -10,12 +11,12 @@ use Rattle.lamport_tag.specs.Tag.{clock_of, next_clock_of}
 use Rattle.lib_calls.specs.declared.entry.Call.{Call}
 use Rattle.lib_calls.specs.Entry.{IsStringIf, IsTagIf}
 use Rattle.signal_points.specs.Signals.{is_pending}
-use Rattle.guest_process.specs.declared.kind.Kind.{Kind}
+use Rattle.call_table.specs.declared.kind.Kind.{Kind}
 use Rattle.guest_process.specs.declared.waiting.Waiting.{Waiting}
 use Rattle.guest_process.specs.Answers.{Need, Fixed, Blocked, World, need, is_possible, written, after_need, effects}
 use Rattle.guest_process.specs.Fits.{Each, EnvFits, StateFits, WaitingFits}
 use Rattle.guest_process.specs.GoesOn.{goes_on, handler}
-use Rattle.guest_process.specs.Kinds.{ends_process, kind_of}
+use Rattle.guest_process.specs.Kinds.{ends_process}
 use Rattle.guest_process.specs.Legal.{answers, checks, is_handled}
 use Rattle.guest_process.specs.Live.{Env, Event, Answered, answered, chosen, event, from_world, live_at, lowest}
 use Rattle.guest_process.specs.OneEvent.{Agrees, OneEvent}
@@ -76,15 +77,15 @@ chosen_low : (p : ℕ → Bool) (b : Bool) → cond b 0 (lowest p 31 1) < 2 ^ 8
 chosen_low p true = omega arith
 chosen_low p false = elim (lowest_holds p 31 1) [ inl h ↦ omega arith | inr h ↦ omega (arith, h.1) ]
 
-event_agrees : (S : State) (t : ℕ) (w : Waiting) (env : Env) → StateFits S → S.events < 2 ^ 61 → is_running S ≡ true → thread_at S t ≡ Some w → WaitingFits w → (a : Answered) → Answers (kind_of w.call.kind) S w.call (need (kind_of w.call.kind) S t w.call) a → Agrees S (event S t env w a)
+event_agrees : (S : State) (t : ℕ) (w : Waiting) (env : Env) → StateFits S → S.events < 2 ^ 61 → is_running S ≡ true → thread_at S t ≡ Some w → WaitingFits w → (a : Answered) → Answers w.kind S w.call (need w.kind S t w.call) a → Agrees S (event S t env w a)
 event_agrees S t w env s few running stands fits a m =
-    let k = kind_of w.call.kind in
+    let k = w.kind in
     let now = event S t env w a in
     let effect : effects k S t w.call a.answer ≡ a.after = m.same in
     let handled : is_handled k (effects k S t w.call a.answer).handlers now.entry.signal ≡ true = rw effect (chosen_handled k a.after.handlers env.pending) in
     record {
       shape = record {
-        kind = fits.kind;
+        kind = number_within w.call.kind w.kind fits.kind;
         clock = omega (arith, s.clock, m.clock);
         thread = omega (arith, live_low S.crew.threads t w stands, s.room);
         signal = chosen_low _ (ends_process k);
@@ -94,7 +95,7 @@ event_agrees S t w env s few running stands fits a m =
         incoming = m.incoming _;
         tag = m.tag _;
       };
-      legal = rw (running, stands) (none_failing (checks S now.entry w.call) (record {
+      legal = rw (running, stands) (none_failing (checks S now.entry w) (record {
         call = same w.call.kind;
         arguments = and_from _ _ (same w.call.a0) (and_from _ _ (same w.call.a1) (same w.call.a2));
         bytes = refl;
@@ -108,7 +109,7 @@ event_agrees S t w env s few running stands fits a m =
 one_at : (S : State) (t : ℕ) (env : Env) → StateFits S → S.events < 2 ^ 61 → EnvFits env → is_running S ≡ true → (o : Option Waiting) → thread_at S t ≡ o → (e : Event) → live_at S t env o ≡ Some e → Agrees S e
 one_at S t env s few f running None stands e h = cc
 one_at S t env s few f running (Some w) stands e h =
-    let k = kind_of w.call.kind in
+    let k = w.kind in
     let m = mapped (event S t env w) (answered (need k S t w.call) (from_world k S w.call env)) e h in
     let fits : WaitingFits w = live_has WaitingFits S.crew.threads t s.threads w stands in
     let low : t < 64 = omega (arith, live_low S.crew.threads t w stands, s.room) in

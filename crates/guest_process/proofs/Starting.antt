@@ -3,6 +3,8 @@ use Rattle.std.proofs.Common.{◌≡◌, ℕ, zero, suc, true, false, cond, ◌<
 use Rattle.std.specs.Prelude.{All, ◌==◌, length, replicate}
 use Rattle.std.specs.List.{list_all, slice_index_or}
 use Rattle.std.proofs.lemmas.Option.{same_Some}
+use Rattle.call_table.specs.Numbers.{numbered}
+use Rattle.call_table.specs.declared.kind.Kind.TheVariants.{Begin}
 use Rattle.coop_threads.specs.Crew.{empty, with_new_thread}
 use Rattle.lib_calls.specs.Entry.{IsNumberIf}
 use Rattle.wasm_types.specs.Modules.{Module, module_of}
@@ -11,7 +13,7 @@ use Rattle.wasm_types.specs.Valid.{IsValid}
 use Rattle.wasm_step.specs.Start.{start as store_of, empty_memory, empty_table, initial_globals, is_elem_inside, is_segment_inside}
 use Rattle.wasm_step.specs.Store.{Store}
 use Rattle.wasm_step.specs.Strand.{first_thread}
-use Rattle.wasm_step.specs.Fits.{Suits}
+use Rattle.wasm_step.specs.Suits.{Suits}
 use Rattle.wasm_step.specs.Thread.{Thread}
 use Rattle.signal_points.specs.Signals.{handler_of, no_handlers}
 use Rattle.guest_process.specs.GoesOn.{handler}
@@ -54,7 +56,7 @@ zero_fits false = refl
 begun_holds : (m : Module) (who count : ℕ) (g : Store) (thread : Thread) → who < count → count ≤ 16 → store_of m ≡ Some g → IsValid m → StateFits (begun m who count g thread) × IsSound (begun m who count g thread)
 begun_holds m who count g thread low few store valid =
     let same : g.program ≡ m = store_program m g store in
-    let begin_fits : WaitingFits (beginning m thread) = record { kind = omega arith; arguments = record { first = zero_fits _; second = zero_fits _; third = zero_fits _ } } in
+    let begin_fits : WaitingFits (beginning m thread) = record { kind = numbered Begin; arguments = record { first = zero_fits _; second = zero_fits _; third = zero_fits _ } } in
     let begin_stands : IsStanding g.program (beginning m thread) = record { program = sym same; stands = refl } in (
       record { clock = omega arith; room = omega arith; count = few; who = low; threads = (begin_fits, tt) },
       record {

@@ -1,19 +1,14 @@
 -- How a call is answered: what process and call determine, and what the world gives.
 use Rattle.std.specs.Prelude.{ℕ, int_le, ◌&&◌, ◌%◌, ◌^◌, List, [], ◌∷◌, Option, Some, None, Bool, true, false}
 use Rattle.std.specs.Int.{w32, w64, cast_signed}
+use Rattle.call_table.specs.declared.kind.Kind.{Kind}
+use Rattle.call_table.specs.declared.kind.Kind.TheVariants.{Begin, Exit, Note, Now, SleepUntil, Me, Yield, Thread}
 use Rattle.coop_threads.specs.declared.slot.Slot.TheVariants.{Over}
 use Rattle.lamport_tag.specs.declared.Tag.{Tag}
 use Rattle.lib_calls.specs.declared.entry.Call.{Call}
+use Rattle.lib_calls.specs.Answer.{Answer}
 use Rattle.guest_process.specs.declared.end.End.TheVariants.{Exited}
-use Rattle.guest_process.specs.declared.kind.Kind.{Kind}
-use Rattle.guest_process.specs.declared.kind.Kind.TheVariants.{Begin, Exit, Note, Now, SleepUntil, Me, Yield, ThreadNumber, Unbuilt}
 use Rattle.guest_process.specs.State.{State, with_thread}
-
--- the answer to a call, as an entry has it
-pub record Answer : Type 0 where
-  pub reply : ℕ
-  pub incoming : List ℕ
-  pub tag : Option Tag
 
 -- a reply alone
 abbrev pub replies : ℕ → Answer
@@ -30,7 +25,7 @@ pub data Need : Type 0 where
 abbrev pub exited : State → ℕ → ℕ → State
 exited S t code = record (with_thread S t Over) { end = Exited (cast_signed w32 (code % 2 ^ 32)) }
 
--- what process and call determine
+-- what process and call determine; a call that is not answered yet is never answered
 abbrev pub need : Kind → State → ℕ → Call → Need
 need Begin S t c = Fixed 0 S
 need Exit S t c = Fixed 0 (exited S t c.a0)
@@ -39,8 +34,8 @@ need Now S t c = World
 need SleepUntil S t c = World
 need Me S t c = Fixed S.who S
 need Yield S t c = Fixed 0 S
-need ThreadNumber S t c = Fixed t S
-need Unbuilt S t c = Blocked
+need Thread S t c = Fixed t S
+need _ S t c = Blocked
 
 -- no bytes came in, and no tag
 abbrev pub is_plain : Option Tag → List ℕ → Bool

@@ -1,5 +1,6 @@
 -- What holds of each state that a process of a valid program can have.
-use Rattle.std.specs.Prelude.{◌+◌, ◌^◌, ◌<◌, ◌≤◌, List, [], ◌∷◌, length}
+use Rattle.std.specs.Prelude.{◌≡◌, ◌+◌, ◌^◌, ◌<◌, ◌≤◌, List, [], ◌∷◌, length, Some}
+use Rattle.call_table.specs.Table.{kind_numbered}
 use Rattle.coop_threads.specs.declared.slot.Slot.{Slot}
 use Rattle.coop_threads.specs.declared.slot.Slot.TheVariants.{Kept, Lent, Over}
 use Rattle.lib_calls.specs.Entry.{HasArguments}
@@ -7,9 +8,9 @@ use Rattle.guest_process.specs.declared.waiting.Waiting.{Waiting}
 use Rattle.guest_process.specs.Live.{Env}
 use Rattle.guest_process.specs.State.{State}
 
--- a pending call is one of the library's, and its arguments are in range
+-- a pending call is one of its kind, and its arguments are in range
 pub record WaitingFits (w : Waiting) : Type 0 where
-  pub kind : w.call.kind < 18
+  pub kind : kind_numbered w.call.kind ≡ Some w.kind
   pub arguments : HasArguments w.call
 
 -- each thread that is live is such, and none is taken out

@@ -1,21 +1,21 @@
 -- What follows the answer to a call: the reply's value, the handler of a signal, and the burst.
-use Rattle.std.specs.Prelude.{ℕ, ◌+◌, ◌==◌, ◌%◌, ◌^◌, List, [], ◌∷◌, Bool, true, false, Option, Some, None, if◌then◌else◌, nat_lt, bytes_eq, slice_get}
+use Rattle.std.specs.Prelude.{ℕ, ◌+◌, ◌==◌, ◌%◌, ◌^◌, List, [], ◌∷◌, Bool, true, false, Option, Some, None, if◌then◌else◌, nat_lt}
+use Rattle.call_table.specs.Table.{row}
+use Rattle.call_table.specs.declared.kind.Kind.{Kind}
 use Rattle.coop_threads.specs.declared.slot.Slot.{Slot}
 use Rattle.coop_threads.specs.declared.slot.Slot.TheVariants.{Kept, Lent, Over}
-use Rattle.lib_calls.specs.Calls.{names}
-use Rattle.lib_calls.specs.Kinds.{argument_count}
 use Rattle.lib_calls.specs.declared.entry.Call.{Call}
 use Rattle.signal_points.specs.Signals.{handler_of}
 use Rattle.wasm_types.specs.declared.traps.Trap.{Trap}
 use Rattle.wasm_types.specs.declared.traps.Trap.TheVariants.{Exhausted, Unreachable}
-use Rattle.wasm_types.specs.Modules.{Module, Import}
+use Rattle.wasm_types.specs.Library.{kind_at}
+use Rattle.wasm_types.specs.Modules.{Module}
 use Rattle.wasm_step.specs.Burst.{Run, burst}
 use Rattle.wasm_step.specs.Reduce.{Stop, Calls, Ends, Traps, Sticks}
 use Rattle.wasm_step.specs.Strand.{Strand, answered, handling, is_in}
 use Rattle.wasm_step.specs.Thread.{Thread}
 use Rattle.wasm_step.specs.declared.call.CallSite.{CallSite}
 use Rattle.guest_process.specs.declared.end.End.TheVariants.{Finished, Trapped}
-use Rattle.guest_process.specs.declared.kind.Kind.{Kind}
 use Rattle.guest_process.specs.declared.waiting.Waiting.{Waiting}
 use Rattle.guest_process.specs.Kinds.{ends_process, value_of}
 use Rattle.guest_process.specs.State.{State, with_thread}
@@ -26,31 +26,19 @@ budget = 10000000
 
 -- ---- where a burst stops
 
--- the first place of a name
-abbrev pub place_of : List ℕ → List (List ℕ) → ℕ → Option ℕ
-place_of name [] n = None
-place_of name (first ∷ rest) n = if bytes_eq first name then Some n else place_of name rest (n + 1)
-
--- the kind of the calls of an imported function
-abbrev pub import_kind : Option Import → Option ℕ
-import_kind None = None
-import_kind (Some import) = place_of import.name names 0
-
-unfoldable pub kind_at : Module → ℕ → Option ℕ
-kind_at m f = import_kind (slice_get m.imports f)
-
 -- an argument as 64 bits, and 0 where the kind lacks it
-abbrev pub argument : ℕ → ℕ → ℕ → ℕ
-argument kind n bits = if nat_lt n (argument_count kind) then bits % 2 ^ 64 else 0
+abbrev pub argument : Kind → ℕ → ℕ → ℕ
+argument kind n bits = if nat_lt n (row kind).signature.params then bits % 2 ^ 64 else 0
 
 -- the call of this kind with these arguments
-abbrev pub call_at : ℕ → CallSite → Call
-call_at kind site = record { kind = kind; a0 = argument kind 0 site.a0; a1 = argument kind 1 site.a1; a2 = argument kind 2 site.a2 }
+abbrev pub call_at : Kind → CallSite → Call
+call_at kind site =
+    record { kind = (row kind).number; a0 = argument kind 0 site.a0; a1 = argument kind 1 site.a1; a2 = argument kind 2 site.a2 }
 
 -- a thread that stands at a call of the library
-abbrev pub stands : State → Thread → CallSite → ℕ → Waiting
+abbrev pub stands : State → Thread → CallSite → Kind → Waiting
 stands S thread site kind =
-    record { call = call_at kind site; strand = record { program = S.store.program; thread = thread; call = Some site.func } }
+    record { kind = kind; call = call_at kind site; strand = record { program = S.store.program; thread = thread; call = Some site.func } }
 
 -- thread t has trapped
 abbrev pub trapped : State → ℕ → Trap → State
@@ -70,7 +58,7 @@ abbrev pub settled : State → State
 settled S = if all_over S.crew.threads then record S { end = Finished } else S
 
 -- a valid program imports functions of the library alone and never sticks, so that these two cases don't come up
-abbrev pub called : State → ℕ → Thread → CallSite → Option ℕ → State
+abbrev pub called : State → ℕ → Thread → CallSite → Option Kind → State
 called S t thread site (Some kind) = with_thread S t (Kept (stands S thread site kind))
 called S t thread site None = trapped S t Unreachable
 

@@ -1,15 +1,16 @@
 -- When an entry can be the next event, and why not.
 use Rattle.std.specs.Prelude.{ℕ, ◌==◌, ◌&&◌, ◌||◌, not, nat_le, is_some, List, [], ◌∷◌, Bool, true, false, Option, Some, None}
+use Rattle.call_table.specs.declared.kind.Kind.{Kind}
 use Rattle.lamport_tag.specs.Tag.{next_clock_of}
 use Rattle.lib_calls.specs.declared.entry.Call.{Call}
 use Rattle.lib_calls.specs.declared.entry.Entry.{Entry}
+use Rattle.lib_calls.specs.Answer.{Answer, answer_of}
 use Rattle.guest_process.specs.declared.divergence.Divergence.{Divergence}
 use Rattle.guest_process.specs.declared.divergence.Divergence.TheVariants.{AfterEnd, NoThread, OtherCall, OtherArguments, OtherBytes, OtherReply, NoHandler, OtherClock}
-use Rattle.guest_process.specs.declared.kind.Kind.{Kind}
 use Rattle.guest_process.specs.declared.waiting.Waiting.{Waiting}
-use Rattle.guest_process.specs.Answers.{Answer, Need, Fixed, Blocked, World, need, effects, is_plain, is_possible}
+use Rattle.guest_process.specs.Answers.{Need, Fixed, Blocked, World, need, effects, is_plain, is_possible}
 use Rattle.guest_process.specs.GoesOn.{handler}
-use Rattle.guest_process.specs.Kinds.{ends_process, kind_of}
+use Rattle.guest_process.specs.Kinds.{ends_process}
 use Rattle.guest_process.specs.State.{State, is_running, thread_at}
 
 abbrev pub has_arguments : Call → Call → Bool
@@ -50,8 +51,8 @@ checks_by kind S e c a = record {
   clock = e.clock == next_clock_of S.clock e.tag;
 }
 
-abbrev pub checks : State → Entry → Call → Checks
-checks S e c = checks_by (kind_of c.kind) S e c (record { reply = e.reply; incoming = e.incoming; tag = e.tag })
+abbrev pub checks : State → Entry → Waiting → Checks
+checks S e w = checks_by w.kind S e w.call (answer_of e)
 
 abbrev pub unless : Bool → Divergence → Option Divergence → Option Divergence
 unless true why rest = rest
@@ -64,7 +65,7 @@ first_failing c =
 
 abbrev pub reason_at : State → Entry → Option Waiting → Option Divergence
 reason_at S e None = Some NoThread
-reason_at S e (Some w) = first_failing (checks S e w.call)
+reason_at S e (Some w) = first_failing (checks S e w)
 
 -- why an entry can't be the next event, or nothing where it can
 abbrev pub reason : State → Entry → Option Divergence

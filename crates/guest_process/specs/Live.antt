@@ -1,15 +1,16 @@
 -- The live meaning of one try to run a thread: the event that the world around the process lets it have.
 use Rattle.std.specs.Prelude.{ℕ, zero, suc, ◌+◌, ◌&&◌, not, is_some, List, [], Bool, Option, Some, None, if◌then◌else◌, option_map}
+use Rattle.call_table.specs.declared.kind.Kind.{Kind}
+use Rattle.call_table.specs.declared.kind.Kind.TheVariants.{Now, SleepUntil}
 use Rattle.lamport_tag.specs.Tag.{next_clock_of}
 use Rattle.lib_calls.specs.declared.entry.Call.{Call}
 use Rattle.lib_calls.specs.declared.entry.Entry.{Entry}
+use Rattle.lib_calls.specs.Answer.{Answer}
 use Rattle.signal_points.specs.Signals.{is_pending}
-use Rattle.guest_process.specs.declared.kind.Kind.{Kind}
-use Rattle.guest_process.specs.declared.kind.Kind.TheVariants.{Now, SleepUntil}
 use Rattle.guest_process.specs.declared.waiting.Waiting.{Waiting}
-use Rattle.guest_process.specs.Answers.{Answer, Need, Fixed, Blocked, World, need, replies, is_due}
+use Rattle.guest_process.specs.Answers.{Need, Fixed, Blocked, World, need, replies, is_due}
 use Rattle.guest_process.specs.GoesOn.{goes_on, handler}
-use Rattle.guest_process.specs.Kinds.{ends_process, kind_of}
+use Rattle.guest_process.specs.Kinds.{ends_process}
 use Rattle.guest_process.specs.State.{State, is_running, thread_at}
 
 -- the world around a process: the datagrams that wait for it and the random bytes that are left, the
@@ -53,9 +54,9 @@ pub record Event : Type 0 where
   pub state : State
   pub entry : Entry
 
-abbrev pub event_by : State → ℕ → Waiting → Answered → Kind → ℕ → ℕ → Event
-event_by S t w a kind signal clock = record {
-  state = goes_on kind a.after t w.strand a.answer.reply signal clock;
+abbrev pub event_by : State → ℕ → Waiting → Answered → ℕ → ℕ → Event
+event_by S t w a signal clock = record {
+  state = goes_on w.kind a.after t w.strand a.answer.reply signal clock;
   entry = record {
     clock = clock;
     thread = t;
@@ -69,15 +70,11 @@ event_by S t w a kind signal clock = record {
 }
 
 abbrev pub event : State → ℕ → Env → Waiting → Answered → Event
-event S t env w a =
-    event_by S t w a (kind_of w.call.kind) (chosen (kind_of w.call.kind) a.after.handlers env.pending) (next_clock_of S.clock a.answer.tag)
-
-abbrev pub live_by : State → ℕ → Env → Waiting → Kind → Option Event
-live_by S t env w kind = option_map (event S t env w) (answered (need kind S t w.call) (from_world kind S w.call env))
+event S t env w a = event_by S t w a (chosen w.kind a.after.handlers env.pending) (next_clock_of S.clock a.answer.tag)
 
 abbrev pub live_at : State → ℕ → Env → Option Waiting → Option Event
 live_at S t env None = None
-live_at S t env (Some w) = live_by S t env w (kind_of w.call.kind)
+live_at S t env (Some w) = option_map (event S t env w) (answered (need w.kind S t w.call) (from_world w.kind S w.call env))
 
 -- the event of a try of this thread, or nothing where the try is idle
 abbrev pub live : State → ℕ → Env → Option Event

@@ -1,15 +1,15 @@
 -- What contracts see of a process, and what the code answers.
 use Rattle.std.specs.Prelude.{◌≡◌, ℕ, ⊤, Option, Some, None, Result, Ok, Err, if◌then◌else◌}
+use Rattle.lib_calls.specs.Answer.{Answer}
 use Rattle.wasm_types.specs.Modules.{module_of}
-use Rattle.wasm_step.specs.Fits.{Suits}
+use Rattle.wasm_step.specs.Suits.{Suits}
 use Rattle.guest_process.specs.declared.divergence.Divergence.{Divergence}
 use Rattle.guest_process.specs.declared.need.Need.{Need as PlainNeed}
 use Rattle.guest_process.specs.declared.need.Need.TheVariants as plainly
 use Rattle.guest_process.specs.declared.parts.Parts.{Parts}
 use Rattle.guest_process.specs.declared.waiting.Waiting.{Waiting}
-use Rattle.guest_process.specs.Answers.{Answer, Need, Fixed, Blocked, World, effects}
+use Rattle.guest_process.specs.Answers.{Need, Fixed, Blocked, World, effects}
 use Rattle.guest_process.specs.Fits.{StateFits}
-use Rattle.guest_process.specs.Kinds.{kind_of}
 use Rattle.guest_process.specs.Sound.{IsSound}
 use Rattle.guest_process.specs.State.{State, is_running, thread_at}
 
@@ -45,7 +45,7 @@ able S t = if is_running S then thread_at S t else None
 -- the state after thread t's pending call got this answer, before it runs
 abbrev pub answered_at : State → ℕ → Answer → Option Waiting → State
 answered_at S t a None = S
-answered_at S t a (Some w) = effects (kind_of w.call.kind) S t w.call a
+answered_at S t a (Some w) = effects w.kind S t w.call a
 
 -- why an entry was refused, or nothing where it was not
 abbrev pub refused : Result ⊤ Divergence → Option Divergence

@@ -1,5 +1,7 @@
 -- How a process begins.
 use Rattle.std.specs.Prelude.{ℕ, Option, Some, None}
+use Rattle.call_table.specs.Table.{row}
+use Rattle.call_table.specs.declared.kind.Kind.TheVariants.{Begin}
 use Rattle.coop_threads.specs.Crew.{empty, with_new_thread}
 use Rattle.lib_calls.specs.declared.entry.Call.{Call}
 use Rattle.signal_points.specs.Signals.{no_handlers}
@@ -14,11 +16,11 @@ use Rattle.guest_process.specs.State.{State}
 
 -- the call `begin`
 abbrev pub begin : Call
-begin = record { kind = 0; a0 = 0; a1 = 0; a2 = 0 }
+begin = record { kind = (row Begin).number; a0 = 0; a1 = 0; a2 = 0 }
 
 -- a thread of the program that stands at `begin`
 abbrev pub beginning : Module → Thread → Waiting
-beginning m thread = record { call = begin; strand = record { program = m; thread = thread; call = None } }
+beginning m thread = record { kind = Begin; call = begin; strand = record { program = m; thread = thread; call = None } }
 
 -- thread 0 stands at `begin`, and nothing has happened
 abbrev pub begun : Module → ℕ → ℕ → Store → Thread → State

@@ -1,13 +1,13 @@
 // The event of a legal entry.
-ghost use Rattle.std.specs.Prelude.{◌≡◌, ◌+◌, ◌<◌, ◌^◌, IfOk, OnOk, None, Some, ℕ, true, false};
+ghost use Rattle.std.specs.Prelude.{◌≡◌, ◌+◌, ◌<◌, ◌^◌, IfOk, OnOk, None, Some, ℕ};
 ghost use Rattle.coop_threads.specs.Crew.{IsTaken};
 ghost use Rattle.lib_calls.specs.Entry.{entry_of};
 ghost use Rattle.wasm_types.specs.Modules.{module_of};
 ghost use Rattle.wasm_step.specs.Burst.{burst};
-ghost use Rattle.wasm_step.specs.Fits.{Suits};
+ghost use Rattle.wasm_step.specs.Suits.{Suits};
 ghost use Rattle.wasm_step.specs.Strand.{answered as answered_by, IsHandler};
 ghost use Rattle.guest_process.specs.GoesOn.{after_burst, budget, counted, entered as entered_by, handler as handler_of, runs};
-ghost use Rattle.guest_process.specs.Kinds.{is_built, value_of};
+ghost use Rattle.guest_process.specs.Kinds.{value_of};
 ghost use Rattle.guest_process.specs.Legal.{reason};
 ghost use Rattle.guest_process.specs.Next.{next};
 ghost use Rattle.guest_process.specs.Seen.{IsProcess, state_of};
@@ -15,7 +15,6 @@ ghost use Rattle.guest_process.specs.Sound.{StandsAt};
 
 use crate::answer::{answered, entered, handler};
 use crate::judge::ends_process;
-use crate::kind::{Kind, kind_of};
 use crate::parts::Parts;
 use crate::waiting::Waiting;
 use lib_calls::EntryView;
@@ -36,36 +35,29 @@ impl<'m> Parts<'m> {
         let Some(waiting) = self.crew.take(entry.thread) else {
             unreachable!();
         };
-        let kind = kind_of(waiting.call.kind);
         self.clock = entry.clock;
         self.events += 1;
-        if ends_process(kind) {
+        if ends_process(waiting.kind) {
             self.exit(entry.thread, waiting.call.a0);
             return Ok(self);
         }
-        self.go_on(waiting, kind, entry)?;
+        self.go_on(waiting, entry)?;
         Ok(self)
     }
 
     // A thread that was taken out goes on after the answer to its call.
-    fn go_on(
-        &mut self,
-        waiting: Waiting<'m>,
-        kind: Kind,
-        entry: &EntryView<'_>,
-    ) -> Result<(), AllocError>
+    fn go_on(&mut self, waiting: Waiting<'m>, entry: &EntryView<'_>) -> Result<(), AllocError>
         requires taken { IsTaken self.old.crew entry.now.thread }
         requires program { module_of self.old.program.now ≡ self.old.store.program }
         requires suits { Suits self.old.store }
         requires same { waiting.strand.program ≡ self.old.store.program }
-        requires stands { StandsAt waiting.strand.program waiting kind }
-        requires built { is_built kind ≡ true }
+        requires stands { StandsAt waiting.strand.program waiting waiting.kind }
         requires handlers { (signal func : ℕ) → handler_of self.old.handlers signal ≡ Some func → IsHandler self.old.store.program func }
-        ensures state { OnOk result (state_of self.new ≡ runs (state_of self.old) entry.now.thread (entered_by self.old.store.program (answered_by waiting.entry.strand (value_of kind entry.now.reply)) entry.now.signal (handler_of self.old.handlers entry.now.signal))) }
+        ensures state { OnOk result (state_of self.new ≡ runs (state_of self.old) entry.now.thread (entered_by self.old.store.program (answered_by waiting.entry.strand (value_of waiting.entry.kind entry.now.reply)) entry.now.signal (handler_of self.old.handlers entry.now.signal))) }
         ensures program { OnOk result (self.new.program ≡ self.old.program) }
         ensures suits { OnOk result (Suits self.new.store) }
     {
-        let strand = answered(waiting, kind, entry.reply)?;
+        let strand = answered(waiting, entry.reply)?;
         let func = handler(&self.handlers, entry.signal);
         match entered(strand, entry.signal, func)? {
             None => self.trap(entry.thread, Trap::Exhausted),

@@ -1,12 +1,13 @@
 // How a thread goes on after the answer to its call.
-ghost use Rattle.std.specs.Prelude.{◌≡◌, IfOk, IfSome, None, Some, option_map, true, false};
+ghost use Rattle.std.specs.Prelude.{◌≡◌, IfOk, IfSome, None, Some, option_map};
 ghost use Rattle.wasm_step.specs.Strand.{answered, IsHandler};
 ghost use Rattle.guest_process.specs.GoesOn.{entered, handler as handler_of};
-ghost use Rattle.guest_process.specs.Kinds.{is_built, value_of};
+ghost use Rattle.guest_process.specs.Answers.{is_due};
+ghost use Rattle.guest_process.specs.Kinds.{value_of};
 ghost use Rattle.guest_process.specs.Sound.{StandsAt};
 
-use crate::kind::Kind;
 use crate::waiting::Waiting;
+use lib_calls::Kind;
 use signal_points::Handlers;
 use std::alloc::AllocError;
 use wasm_step::{HandlerError, Strand};
@@ -16,27 +17,29 @@ use wasm_types::Value;
 pub(crate) fn value_of(kind: Kind, reply: u64) -> Option<Value>
     ensures { result ≡ value_of kind reply }
 {
-    match kind {
-        Kind::Now | Kind::SleepUntil => Some(Value::I64(reply)),
-        Kind::Me | Kind::ThreadNumber => Some(Value::I32((reply % 0x1_0000_0000) as u32)),
-        Kind::Begin | Kind::Exit | Kind::Note | Kind::Yield | Kind::Unbuilt => None,
+    match kind.signature().result {
+        0 => None,
+        32 => Some(Value::I32((reply % 0x1_0000_0000) as u32)),
+        _ => Some(Value::I64(reply)),
     }
 }
 
-/// The strand of a thread whose call of this kind was answered.
-#[tactic(auto, using(crate::proofs::Answering::is_answer))]
-pub(crate) fn answered<'m>(
-    waiting: Waiting<'m>,
-    kind: Kind,
-    reply: u64,
-) -> Result<Strand<'m>, AllocError>
-    requires stands { StandsAt waiting.strand.program waiting kind }
-    requires built { is_built kind ≡ true }
-    ensures { IfOk result (λ s. s ≡ answered waiting.entry.strand (value_of kind reply)) }
+/// Whether a thread wakes at this time that sleeps until that one.
+pub fn is_due(until: u64, time: u64) -> bool
+    ensures { result ≡ is_due until time }
 {
-    match kind {
+    until.cast_signed() <= time.cast_signed()
+}
+
+/// The strand of a thread whose call was answered.
+#[tactic(auto, using(crate::proofs::Answering::is_answer))]
+pub(crate) fn answered(waiting: Waiting<'_>, reply: u64) -> Result<Strand<'_>, AllocError>
+    requires { StandsAt waiting.strand.program waiting waiting.kind }
+    ensures { IfOk result (λ s. s ≡ answered waiting.entry.strand (value_of waiting.entry.kind reply)) }
+{
+    match waiting.kind {
         Kind::Begin => Ok(waiting.strand),
-        _ => waiting.strand.answer(value_of(kind, reply)),
+        kind => waiting.strand.answer(value_of(kind, reply)),
     }
 }
 

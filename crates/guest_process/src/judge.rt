@@ -1,53 +1,56 @@
 // What is judged of an entry.
-ghost use Rattle.std.specs.Prelude.{◌≡◌, ◌==◌};
-ghost use Rattle.lamport_tag.specs.Tag.{next_clock_of};
+ghost use Rattle.std.specs.Prelude.{◌≡◌};
+ghost use Rattle.lib_calls.specs.Answer.{answer_of};
 ghost use Rattle.lib_calls.specs.Entry.{entry_of};
-ghost use Rattle.guest_process.specs.Answers.{effects, is_due, is_plain, is_possible, need};
-ghost use Rattle.guest_process.specs.Kinds.{ends_process, kind_of as kind_of_number};
+ghost use Rattle.guest_process.specs.Answers.{effects, is_plain, is_possible, need};
+ghost use Rattle.guest_process.specs.Kinds.{ends_process};
 ghost use Rattle.guest_process.specs.Legal.{answers, checks, first_failing, has_arguments, is_handled};
-ghost use Rattle.guest_process.specs.Next.{answer_of};
 ghost use Rattle.guest_process.specs.Seen.{plain, refused, state_of};
 
-use crate::answer::handler;
+use crate::answer::{handler, is_due};
 use crate::divergence::Divergence;
-use crate::kind::{Kind, kind_of};
 use crate::need::Need;
 use crate::parts::Parts;
-use lamport_tag::Tag;
-use lib_calls::{Call, EntryView};
+use crate::waiting::Waiting;
+use lamport_tag::is_next_clock;
+use lib_calls::{Call, EntryView, Kind};
 use signal_points::Handlers;
 
 impl<'m> Parts<'m> {
     /// What the answer to thread t's pending call depends on.
-    pub(crate) fn need(&self, t: u16, call: &Call) -> Need
-        ensures { result ≡ plain (need (kind_of_number call.now.kind) (state_of self.now) t call.now) }
+    pub(crate) fn need(&self, t: u16, waiting: &Waiting<'m>) -> Need
+        ensures { result ≡ plain (need waiting.now.kind (state_of self.now) t waiting.now.call) }
     {
-        match kind_of(call.kind) {
+        match waiting.kind {
             Kind::Begin | Kind::Exit | Kind::Note | Kind::Yield => Need::Fixed(0),
             Kind::Now | Kind::SleepUntil => Need::World,
             Kind::Me => Need::Fixed(u64::from(self.who)),
-            Kind::ThreadNumber => Need::Fixed(u64::from(t)),
-            Kind::Unbuilt => Need::Blocked,
+            Kind::Thread => Need::Fixed(u64::from(t)),
+            _ => Need::Blocked,
         }
     }
 
     /// The first condition that fails at the pending call.
-    pub(crate) fn judge(&self, entry: &EntryView<'_>, call: &Call) -> Result<(), Divergence>
-        ensures { refused result ≡ first_failing (checks (state_of self.now) (entry_of entry.now) call.now) }
+    pub(crate) fn judge(
+        &self,
+        entry: &EntryView<'_>,
+        waiting: &Waiting<'m>,
+    ) -> Result<(), Divergence>
+        ensures { refused result ≡ first_failing (checks (state_of self.now) (entry_of entry.now) waiting.now) }
     {
-        if entry.call.kind != call.kind {
+        if entry.call.kind != waiting.call.kind {
             return Err(Divergence::OtherCall);
         }
-        if !has_arguments(&entry.call, call) {
+        if !has_arguments(&entry.call, &waiting.call) {
             return Err(Divergence::OtherArguments);
         }
         if !entry.outgoing.is_empty() {
             return Err(Divergence::OtherBytes);
         }
-        if !self.is_answer(entry, call) {
+        if !self.is_answer(entry, waiting) {
             return Err(Divergence::OtherReply);
         }
-        if !self.is_handled(entry, call) {
+        if !self.is_handled(entry, waiting) {
             return Err(Divergence::NoHandler);
         }
         if !is_next_clock(self.clock, entry.tag, entry.clock) {
@@ -58,33 +61,33 @@ impl<'m> Parts<'m> {
 
     // Whether some environment gives the answer.
     #[tactic(auto, using(crate::proofs::Judging::fixed, crate::proofs::Judging::blocked, crate::proofs::Judging::world))]
-    fn is_answer(&self, entry: &EntryView<'_>, call: &Call) -> bool
-        ensures { result ≡ answers (need (kind_of_number call.now.kind) (state_of self.now) entry.now.thread call.now) (answer_of (entry_of entry.now)) (is_possible (kind_of_number call.now.kind) (state_of self.now) call.now (answer_of (entry_of entry.now))) }
+    fn is_answer(&self, entry: &EntryView<'_>, waiting: &Waiting<'m>) -> bool
+        ensures { result ≡ answers (need waiting.now.kind (state_of self.now) entry.now.thread waiting.now.call) (answer_of (entry_of entry.now)) (is_possible waiting.now.kind (state_of self.now) waiting.now.call (answer_of (entry_of entry.now))) }
     {
-        match self.need(entry.thread, call) {
+        match self.need(entry.thread, waiting) {
             Need::Fixed(reply) => entry.reply == reply && is_plain(entry),
             Need::Blocked => false,
-            Need::World => self.is_possible(entry, call),
+            Need::World => self.is_possible(entry, waiting),
         }
     }
 
     // Whether some world gives the answer.
-    fn is_possible(&self, entry: &EntryView<'_>, call: &Call) -> bool
-        ensures { result ≡ is_possible (kind_of_number call.now.kind) (state_of self.now) call.now (answer_of (entry_of entry.now)) }
+    fn is_possible(&self, entry: &EntryView<'_>, waiting: &Waiting<'m>) -> bool
+        ensures { result ≡ is_possible waiting.now.kind (state_of self.now) waiting.now.call (answer_of (entry_of entry.now)) }
     {
-        match kind_of(call.kind) {
+        match waiting.kind {
             Kind::Now => is_plain(entry),
-            Kind::SleepUntil => is_due(call.a0, entry.reply) && is_plain(entry),
+            Kind::SleepUntil => is_due(waiting.call.a0, entry.reply) && is_plain(entry),
             _ => false,
         }
     }
 
     // Whether the signal can be delivered after the answer.
     #[tactic(auto, using(crate::proofs::Judging::same_handlers))]
-    fn is_handled(&self, entry: &EntryView<'_>, call: &Call) -> bool
-        ensures { result ≡ is_handled (kind_of_number call.now.kind) (effects (kind_of_number call.now.kind) (state_of self.now) entry.now.thread call.now (answer_of (entry_of entry.now))).handlers entry.now.signal }
+    fn is_handled(&self, entry: &EntryView<'_>, waiting: &Waiting<'m>) -> bool
+        ensures { result ≡ is_handled waiting.now.kind (effects waiting.now.kind (state_of self.now) entry.now.thread waiting.now.call (answer_of (entry_of entry.now))).handlers entry.now.signal }
     {
-        is_handled(kind_of(call.kind), &self.handlers, entry.signal)
+        is_handled(waiting.kind, &self.handlers, entry.signal)
     }
 }
 
@@ -104,13 +107,6 @@ fn is_plain(entry: &EntryView<'_>) -> bool
     }
 }
 
-// Whether a thread wakes at this time that sleeps until that one.
-fn is_due(until: u64, time: u64) -> bool
-    ensures { result ≡ is_due until time }
-{
-    until.cast_signed() <= time.cast_signed()
-}
-
 // Whether the calls of this kind end the process.
 pub(crate) fn ends_process(kind: Kind) -> bool
     ensures { result ≡ ends_process kind }
@@ -126,17 +122,4 @@ fn is_handled(kind: Kind, handlers: &Handlers, signal: u8) -> bool
     ensures { result ≡ is_handled kind handlers.now signal }
 {
     signal == 0 || (!ends_process(kind) && (signal <= 31 && handler(handlers, signal).is_some()))
-}
-
-// Whether this is the clock of the event after one with the clock `last`. It is not added to, so that a
-// clock without a next one is no fault.
-fn is_next_clock(last: u64, tag: Option<Tag>, clock: u64) -> bool
-    ensures { result ≡ (clock == next_clock_of last tag) }
-{
-    let brought = match tag {
-        Some(tag) => tag.clock,
-        None => 0,
-    };
-    let before = last.max(brought);
-    clock > before && clock - 1 == before
 }

@@ -9,13 +9,13 @@ mod count;
 mod divergence;
 mod end;
 mod judge;
-mod kind;
 mod laws;
 mod need;
 mod parts;
 mod process;
 mod waiting;
 
+pub use answer::is_due;
 pub use count::counting;
 pub use divergence::Divergence;
 pub use end::End;

@@ -9,7 +9,7 @@ ghost use Rattle.guest_process.specs.GoesOn.{all_over, stopped, trapped};
 ghost use Rattle.guest_process.specs.Seen.{state_of};
 ghost use Rattle.guest_process.specs.State.{is_running};
 
-use crate::calls::{call_at, import_kind};
+use crate::calls::call_at;
 use crate::end::End;
 use crate::waiting::Waiting;
 use coop_threads::{Crew, Status};
@@ -63,10 +63,10 @@ impl<'m> Parts<'m> {
         ensures store { self.new.store ≡ self.old.store }
     {
         match pause {
-            Pause::AtCall(strand, site) => match import_kind(self.program, site.func) {
+            Pause::AtCall(strand, site) => match self.program.import_kind(site.func) {
                 Some(kind) => {
                     let call = call_at(kind, site);
-                    self.crew.put(t, Waiting { call, strand });
+                    self.crew.put(t, Waiting { kind, call, strand });
                 }
                 None => self.trap(t, Trap::Unreachable),
             },

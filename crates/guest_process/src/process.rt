@@ -1,14 +1,14 @@
 // A process.
 ghost use Rattle.std.specs.Prelude.{◌≡◌, ◌≢◌, ◌<◌, ◌≤◌, ◌^◌, IfOk, Err, None, Some, Option, option_copied, option_map, length, slice_get, is_some};
 ghost use Rattle.coop_threads.specs.Crew.{status_of};
+ghost use Rattle.lib_calls.specs.Answer.{Answer};
 ghost use Rattle.lib_calls.specs.Entry.{entry_of};
 ghost use Rattle.wasm_types.specs.Modules.{module_of};
-ghost use Rattle.wasm_step.specs.Fits.{Suits};
+ghost use Rattle.wasm_step.specs.Suits.{Suits};
 ghost use Rattle.wasm_step.specs.Start.{start as store_of};
-ghost use Rattle.guest_process.specs.Answers.{Answer, need};
+ghost use Rattle.guest_process.specs.Answers.{need};
 ghost use Rattle.guest_process.specs.Fits.{StateFits};
 ghost use Rattle.guest_process.specs.GoesOn.{handler as handler_of};
-ghost use Rattle.guest_process.specs.Kinds.{kind_of};
 ghost use Rattle.guest_process.specs.Legal.{reason};
 ghost use Rattle.guest_process.specs.Next.{next};
 ghost use Rattle.guest_process.specs.Seen.{able, answered_at, plain, refused};
@@ -23,11 +23,11 @@ use crate::parts::Parts;
 use crate::waiting::Waiting;
 use coop_threads::{Crew, Status};
 use guest_memory::Memory;
-use lib_calls::{Call, EntryView};
+use lib_calls::{Call, EntryView, Kind};
 use signal_points::Handlers;
 use std::alloc::{AllocError, Global};
 use std::marker::Model;
-use wasm_step::{StartError, Store, Strand};
+use wasm_step::{StartError, Store, Strand, never_stuck};
 use wasm_types::{ValidModule, Value};
 
 /// A process of a guest.
@@ -38,7 +38,7 @@ pub struct Process<'m> {
 
 impl<'m> Model for Process<'m> {
     ghost use Rattle.std.specs.Coded.{codes};
-    ghost use Rattle.wasm_step.specs.Coding.{trees_code};
+    ghost use Rattle.wasm_types.specs.Coding.{trees_code};
     ghost use Rattle.coop_threads.specs.Crew.{crew_code};
     ghost use Rattle.guest_process.specs.Seen.{IsProcess, state_of};
     ghost use Rattle.guest_process.specs.State.{State};
@@ -88,10 +88,7 @@ impl<'m> Process<'m> {
     pub fn pending(&self, t: u16) -> Option<&Call>
         ensures { option_copied result ≡ option_map (λ w. w.call) (able self.now t) }
     {
-        if !self.parts.is_running() {
-            return None;
-        }
-        match self.parts.crew.get(t) {
+        match self.able(t) {
             Some(waiting) => Some(&waiting.call),
             None => None,
         }
@@ -100,12 +97,22 @@ impl<'m> Process<'m> {
     /// What the answer to the pending call of a thread depends on. `None` comes exactly where the
     /// process is not running or the thread is not live.
     pub fn need(&self, t: u16) -> Option<Need>
-        ensures { result ≡ option_map (λ w. plain (need (kind_of w.call.kind) self.now t w.call)) (able self.now t) }
+        ensures { result ≡ option_map (λ w. plain (need w.kind self.now t w.call)) (able self.now t) }
     {
-        match self.pending(t) {
-            Some(call) => Some(self.parts.need(t, call)),
+        match self.able(t) {
+            Some(waiting) => Some(self.parts.need(t, waiting)),
             None => None,
         }
+    }
+
+    // The thread with this number, where it is live and the process runs.
+    fn able(&self, t: u16) -> Option<&Waiting<'m>>
+        ensures { option_map (λ w. w.now) result ≡ able self.now t }
+    {
+        if !self.parts.is_running() {
+            return None;
+        }
+        self.parts.crew.get(t)
     }
 
     /// Whether a signal has a handler once the pending call of thread t is answered, however it is.
@@ -126,18 +133,19 @@ impl<'m> Process<'m> {
             return Err(Divergence::AfterEnd);
         }
         match self.parts.crew.get(entry.thread) {
-            Some(waiting) => self.parts.judge(entry, &waiting.call),
+            Some(waiting) => self.parts.judge(entry, waiting),
             None => Err(Divergence::NoThread),
         }
     }
 
     /// The process after the event of a legal entry. Another thread's strand stays as it was.
-    #[tactic(auto, using(crate::proofs::Advancing::process_kept))]
     pub fn advance(self, entry: &EntryView<'_>) -> Result<Process<'m>, AllocError>
         requires legal { reason self (entry_of entry.now) ≡ None }
         requires few { self.events < 2 ^ 61 }
         ensures { IfOk result (λ p. p ≡ next self.entry (entry_of entry.now)) }
     {
+        // Its `ensures` tells the proof that a burst leaves the program as it is.
+        never_stuck();
         let parts = self.parts.advance(entry)?;
         Ok(Process { parts })
     }
@@ -211,15 +219,16 @@ fn begin<'m>(
     requires suits { Suits store }
     ensures { IfOk result (λ p. start (module_of program.now) who count ≡ Some p) }
 {
+    let kind = Kind::Begin;
     let call = Call {
-        kind: 0,
+        kind: kind.number(),
         a0: 0,
         a1: 0,
         a2: 0,
     };
     let strand = Strand::first(alloc, program)?;
     let mut crew = Crew::new(alloc);
-    match crew.spawn(Waiting { call, strand }) {
+    match crew.spawn(Waiting { kind, call, strand }) {
         Ok(_) => {}
         Err(_) => return Err(AllocError),
     }

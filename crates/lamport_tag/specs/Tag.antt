@@ -37,6 +37,20 @@ tag_at count datagram =
     let tag = numbers_at datagram in
     if starts_with nat_eq datagram (tag_bytes tag) && is_sendable count tag then Some (tag, drop 16 datagram) else None
 
+-- In a group of `count` processes the datagram has this tag, or none, and this payload.
+abbrev pub IsReadAs : ℕ → List ℕ → Option Tag → List ℕ → Type 0
+IsReadAs count datagram (Some tag) payload = IsTagged count datagram tag payload
+IsReadAs count datagram None payload = IsUntagged count datagram × (payload ≡ datagram)
+
+-- a datagram's tag, if it has one, and its payload, by what stands at its front
+abbrev pub payload_behind : List ℕ → Option (Tag × List ℕ) → Option Tag × List ℕ
+payload_behind datagram None = (None, datagram)
+payload_behind datagram (Some tagged) = (Some tagged.0, tagged.1)
+
+-- the tag and the payload of a datagram of a group of `count` processes
+abbrev pub read_datagram : ℕ → List ℕ → Option Tag × List ℕ
+read_datagram count datagram = payload_behind datagram (tag_at count datagram)
+
 -- the clock that a taken datagram brought, or 0 where it brought none
 abbrev pub clock_of : Option Tag → ℕ
 clock_of None = 0

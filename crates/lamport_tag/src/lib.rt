@@ -1,10 +1,13 @@
 //! The tag of a datagram: who sent it, and its Lamport clock.
 #![tactic(auto)]
 
-ghost use Rattle.std.specs.Prelude.{◌≡◌, ◌^◌, ◌<◌, IfSome, IfNone, option_map};
+ghost use Rattle.std.specs.Prelude.{◌≡◌, ◌^◌, ◌<◌, ◌==◌, max, IfSome, IfNone, option_map};
 ghost use Rattle.lamport_tag.specs.Tag.{IsTagged, IsUntagged, clock_of, next_clock_of, is_sendable as is_sendable_of, tag_at, tag_bytes};
 
+mod laws;
+
 use byteorder::{ByteOrder, LittleEndian};
+pub use laws::cut_short;
 
 const MAGIC: [u8; 4] = [0xD7, b'L', b'O', b'G'];
 
@@ -31,7 +34,23 @@ pub fn next_clock(last: u64, tag: Option<Tag>) -> u64
     ensures after_last { last < result }
     ensures after_send { clock_of tag < result }
 {
-    last.max(tag.map_or(0, |tag| tag.clock)) + 1
+    clock_before(last, tag) + 1
+}
+
+/// Whether this is the clock of a process's next event. It is not added to, so that a clock without a
+/// next one is no fault.
+pub fn is_next_clock(last: u64, tag: Option<Tag>, clock: u64) -> bool
+    ensures { result ≡ (clock == next_clock_of last tag) }
+{
+    let before = clock_before(last, tag);
+    clock > before && clock - 1 == before
+}
+
+// The greater of the clocks that come before an event.
+fn clock_before(last: u64, tag: Option<Tag>) -> u64
+    ensures { result ≡ max last (clock_of tag) }
+{
+    last.max(tag.map_or(0, |tag| tag.clock))
 }
 
 /// The tag of a datagram in a group of `count` processes, and the payload behind it. Bytes that only

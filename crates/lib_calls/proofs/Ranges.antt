@@ -4,7 +4,8 @@ use Rattle.std.specs.Int.{w32, to_le_bytes}
 use Rattle.std.proofs.lemmas.Bool.{leb-true}
 use Rattle.std.proofs.lemmas.List.{drop-drop, drop-take, length-take-le, take-append-drop, take-take, take_all}
 use Rattle.guest_memory.specs.Memory.{Memory, WritesPrefix, put, stretch, written as with_piece}
-use Rattle.lib_calls.specs.declared.entry.Entry.{Entry}
+use Rattle.lib_calls.specs.declared.entry.Call.{Call}
+use Rattle.lib_calls.specs.Answer.{Answer}
 use Rattle.lib_calls.specs.Effects.{WritesPart, is_range, sender_of}
 
 pub both_true : (a b : Bool) → (a && b) ≡ true → (a ≡ true) × (b ≡ true)
@@ -55,16 +56,16 @@ pub on_err : {T E P : Type 0} (r : Result T E) → P → OnErr r P
 on_err (Ok x) p = tt
 on_err (Err e) p = p
 
-pub part_of_payload : (e : Entry) (old new : Memory) → WritesPrefix old new e.call.a0 e.incoming → WritesPart e old new
-part_of_payload e old new h = record {
+pub part_of_payload : (call : Call) (a : Answer) (old new : Memory) → WritesPrefix old new call.a0 a.incoming → WritesPart call a old new
+part_of_payload call a old new h = record {
   payload = h.count;
   sender = 0;
-  after = h.after ∙ ap (λ (t : List ℕ). record old { bytes = t }) (sym (put-nothing (put old.bytes e.call.a0 (take h.count e.incoming)) e.call.a2));
+  after = h.after ∙ ap (λ (t : List ℕ). record old { bytes = t }) (sym (put-nothing (put old.bytes call.a0 (take h.count a.incoming)) call.a2));
 }
 
-pub part_of_sender : (e : Entry) (old middle new : Memory) (sender : List ℕ) → middle ≡ with_piece old e.call.a0 e.incoming → sender ≡ to_le_bytes w32 (sender_of e.tag) → WritesPrefix middle new e.call.a2 sender → WritesPart e old new
-part_of_sender e old middle new sender first is h = record {
-  payload = length e.incoming;
+pub part_of_sender : (call : Call) (a : Answer) (old middle new : Memory) (sender : List ℕ) → middle ≡ with_piece old call.a0 a.incoming → sender ≡ to_le_bytes w32 (sender_of a.tag) → WritesPrefix middle new call.a2 sender → WritesPart call a old new
+part_of_sender call a old middle new sender first is h = record {
+  payload = length a.incoming;
   sender = h.count;
-  after = h.after ∙ rw (first, is, take_all (length e.incoming) e.incoming (omega arith)) refl;
+  after = h.after ∙ rw (first, is, take_all (length a.incoming) a.incoming (omega arith)) refl;
 }

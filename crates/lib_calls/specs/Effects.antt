@@ -1,13 +1,15 @@
 -- Which arguments of a call are good, which bytes the call sends out, and what its answer writes to the
 -- guest's memory.
-use Rattle.std.specs.Prelude.{◌≡◌, ℕ, ◌-◌, ◌^◌, Bool, true, ◌==◌, ◌&&◌, ◌||◌, not, nat_le, if◌then◌else◌, List, [], length, take, Option, Some, None}
+use Rattle.std.specs.Prelude.{◌≡◌, ℕ, ◌-◌, ◌^◌, Bool, true, ◌==◌, ◌&&◌, ◌||◌, nat_le, if◌then◌else◌, List, [], length, take, Option, Some, None}
 use Rattle.std.specs.Int.{w32, to_le_bytes}
+use Rattle.std.specs.Option.{option_map_or}
+use Rattle.call_table.specs.Table.{kind_numbered}
+use Rattle.call_table.specs.declared.kind.Kind.{Kind}
+use Rattle.call_table.specs.declared.kind.Kind.TheVariants.{Print, Random, Send, Recv, TryRecv}
 use Rattle.guest_memory.specs.Memory.{Memory, is_inside, bytes_at, written as with_piece}
 use Rattle.lamport_tag.specs.declared.Tag.{Tag}
 use Rattle.lib_calls.specs.declared.entry.Call.{Call}
-use Rattle.lib_calls.specs.declared.entry.Entry.{Entry}
-use Rattle.lib_calls.specs.Entry.{IsShaped}
-use Rattle.lib_calls.specs.Kinds.{has_incoming}
+use Rattle.lib_calls.specs.Answer.{Answer}
 
 -- -1 and -2, as a reply of 32 bits has them
 abbrev pub minus_one : ℕ
@@ -24,43 +26,52 @@ is_range memory addr len = nat_le len 60000 && is_inside memory addr len
 
 -- the bytes that print, random, send, recv and try_recv name are such a range, and the 4 bytes in which
 -- recv and try_recv tell the sender lie in the memory too
+abbrev pub has_good : Kind → Call → Memory → Bool
+has_good Print call memory = is_range memory call.a0 call.a1
+has_good Random call memory = is_range memory call.a0 call.a1
+has_good Send call memory = is_range memory call.a1 call.a2
+has_good Recv call memory = is_range memory call.a0 call.a1 && is_inside memory call.a2 4
+has_good TryRecv call memory = is_range memory call.a0 call.a1 && is_inside memory call.a2 4
+has_good _ call memory = true
+
 unfoldable pub is_good : Call → Memory → Bool
-is_good call memory =
-    if call.kind == 3 then is_range memory call.a0 call.a1 else
-    (if call.kind == 6 then is_range memory call.a0 call.a1 else
-    (if call.kind == 8 then is_range memory call.a1 call.a2 else
-    (if call.kind == 9 then is_range memory call.a0 call.a1 && is_inside memory call.a2 4 else
-    (if call.kind == 10 then is_range memory call.a0 call.a1 && is_inside memory call.a2 4 else true))))
+is_good call memory = option_map_or (λ kind. has_good kind call memory) (kind_numbered call.kind) true
+
+-- the bytes of a range that a call may name, and none of another
+abbrev pub named : Memory → ℕ → ℕ → List ℕ
+named memory addr len = if is_range memory addr len then bytes_at memory addr len else []
 
 -- print and send send out the bytes that they name, and nothing where they are bad
+abbrev pub sent_out : Kind → Call → Memory → List ℕ
+sent_out Print call memory = named memory call.a0 call.a1
+sent_out Send call memory = named memory call.a1 call.a2
+sent_out _ call memory = []
+
 unfoldable pub outgoing_of : Call → Memory → List ℕ
-outgoing_of call memory =
-    if not (is_good call memory) then [] else
-    (if call.kind == 3 then bytes_at memory call.a0 call.a1 else
-    (if call.kind == 8 then bytes_at memory call.a1 call.a2 else []))
+outgoing_of call memory = option_map_or (λ kind. sent_out kind call memory) (kind_numbered call.kind) []
 
 -- ---- what an answer writes
 
 -- this is the reply, and no bytes came in
-abbrev pub takes_nothing : ℕ → Entry → Bool
-takes_nothing reply e = e.reply == reply && nat_le (length e.incoming) 0
+abbrev pub takes_nothing : ℕ → Answer → Bool
+takes_nothing reply a = a.reply == reply && nat_le (length a.incoming) 0
 
 -- the reply counts the bytes that came in, and these are no more than the call named
-abbrev pub takes_counted : Entry → Bool
-takes_counted e = e.reply == length e.incoming && nat_le (length e.incoming) e.call.a1
+abbrev pub takes_counted : Call → Answer → Bool
+takes_counted call a = a.reply == length a.incoming && nat_le (length a.incoming) call.a1
 
--- where bytes may come in: bad arguments are answered -1, and others by the count of the bytes, or for
+-- where bytes may come in: bad arguments are answered -1, and good ones by the count of the bytes, or for
 -- try_recv also by -2
-unfoldable pub is_answer : Entry → Memory → Bool
-is_answer e memory =
-    if not (has_incoming e.call.kind) then true else
-    (if not (is_good e.call memory) then takes_nothing minus_one e else
-    (takes_counted e || (e.call.kind == 10 && takes_nothing minus_two e)))
+abbrev pub brings : Kind → Call → Answer → Memory → Bool
+brings Random call a memory = if has_good Random call memory then takes_counted call a else takes_nothing minus_one a
+brings Recv call a memory = if has_good Recv call memory then takes_counted call a else takes_nothing minus_one a
+brings TryRecv call a memory =
+    if has_good TryRecv call memory then takes_counted call a || takes_nothing minus_two a else takes_nothing minus_one a
+brings _ call a memory = true
 
--- an entry whose answer can be written to the memory
-pub record IsAnswer (e : Entry) (memory : Memory) : Type 0 where
-  pub shape : IsShaped e
-  pub answer : is_answer e memory ≡ true
+-- the bytes that came in with an answer are those that the call lets come in
+unfoldable pub is_answer : Call → Answer → Memory → Bool
+is_answer call a memory = option_map_or (λ kind. brings kind call a memory) (kind_numbered call.kind) true
 
 -- the sender of a datagram, or all ones where it had no tag
 abbrev pub sender_of : Option Tag → ℕ
@@ -68,27 +79,31 @@ sender_of None = 2 ^ 32 - 1
 sender_of (Some tag) = tag.sender
 
 -- the bytes that came in stand where the call named them
-abbrev pub filled : Entry → Memory → Memory
-filled e memory = with_piece memory e.call.a0 e.incoming
+abbrev pub filled : Call → Answer → Memory → Memory
+filled call a memory = with_piece memory call.a0 a.incoming
 
 -- these of the bytes that came in, and then these of the sender's, stand where the call named them
-abbrev pub taken : Entry → List ℕ → List ℕ → Memory → Memory
-taken e payload sender memory = with_piece (with_piece memory e.call.a0 payload) e.call.a2 sender
+abbrev pub taken : Call → List ℕ → List ℕ → Memory → Memory
+taken call payload sender memory = with_piece (with_piece memory call.a0 payload) call.a2 sender
 
 -- the payload, and then the sender in 4 bytes, the lowest first; where they overlap, the sender stands
-abbrev pub received : Entry → Memory → Memory
-received e memory = taken e e.incoming (to_le_bytes w32 (sender_of e.tag)) memory
+abbrev pub received : Call → Answer → Memory → Memory
+received call a memory = taken call a.incoming (to_le_bytes w32 (sender_of a.tag)) memory
 
--- the memory after the answer; bad arguments and an empty try_recv write nothing
-unfoldable pub written : Entry → Memory → Memory
-written e memory =
-    if not (is_good e.call memory) then memory else
-    (if e.call.kind == 6 then filled e memory else
-    (if e.call.kind == 9 then received e memory else
-    (if e.call.kind == 10 && not (e.reply == minus_two) then received e memory else memory)))
+-- the memory after the answer to a call with good arguments; an empty try_recv writes nothing
+abbrev pub put_in : Kind → Call → Answer → Memory → Memory
+put_in Random call a memory = filled call a memory
+put_in Recv call a memory = received call a memory
+put_in TryRecv call a memory = if a.reply == minus_two then memory else received call a memory
+put_in _ call a memory = memory
+
+-- the memory after the answer; bad arguments write nothing
+unfoldable pub written : Call → Answer → Memory → Memory
+written call a memory =
+    if is_good call memory then option_map_or (λ kind. put_in kind call a memory) (kind_numbered call.kind) memory else memory
 
 -- of what the answer writes, a first part of the bytes that came in and a first part of the sender's
-pub record WritesPart (e : Entry) (old new : Memory) : Type 0 where
+pub record WritesPart (call : Call) (a : Answer) (old new : Memory) : Type 0 where
   pub payload : ℕ
   pub sender : ℕ
-  pub after : new ≡ taken e (take payload e.incoming) (take sender (to_le_bytes w32 (sender_of e.tag))) old
+  pub after : new ≡ taken call (take payload a.incoming) (take sender (to_le_bytes w32 (sender_of a.tag))) old

@@ -4,6 +4,7 @@ use Rattle.lamport_tag.specs.declared.Tag.{Tag}
 use Rattle.lib_calls.specs.declared.entry.Call.{Call}
 use Rattle.lib_calls.specs.declared.entry.Entry.{Entry}
 use Rattle.lib_calls.specs.declared.entry.EntryView.{EntryView}
+use Rattle.call_table.specs.Table.{kinds}
 use Rattle.lib_calls.specs.Kinds.{argument_count, has_outgoing, has_incoming, has_tag}
 
 -- what an entry whose bytes are lent says
@@ -34,7 +35,7 @@ pub record HasArguments (call : Call) : Type 0 where
 
 -- the entry has the fields of its kind, within their widths, and no others
 pub record IsShaped (e : Entry) : Type 0 where
-  pub kind : e.call.kind < 18
+  pub kind : e.call.kind < length kinds
   pub clock : e.clock < 2 ^ 64
   pub thread : e.thread < 2 ^ 16
   pub signal : e.signal < 2 ^ 8

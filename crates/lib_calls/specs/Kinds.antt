@@ -1,23 +1,21 @@
--- The kinds of calls, from 0 to 17: which fields an entry of each kind has. Every entry has a clock, a
--- thread, a kind, a signal and a reply.
-use Rattle.std.specs.Prelude.{ℕ, Bool, ◌==◌, ◌||◌, if◌then◌else◌}
+-- What the table of calls says of the kind with a number: which fields an entry of the kind has. Every
+-- entry has a clock, a thread, a kind, a signal and a reply.
+use Rattle.std.specs.Prelude.{ℕ, Bool, false}
+use Rattle.std.specs.Option.{option_map_or}
+use Rattle.call_table.specs.Table.{kind_numbered, row}
 
--- send, recv and try_recv have three arguments; print, random, spawn and on_signal two; exit, note,
--- sleep_until, join, lock and unlock one; begin, now, me, yield and thread none
+-- how many arguments the calls of the kind have
 unfoldable pub argument_count : ℕ → ℕ
-argument_count kind =
-    if kind == 8 || kind == 9 || kind == 10 then 3 else
-    (if kind == 3 || kind == 6 || kind == 11 || kind == 16 then 2 else
-    (if kind == 1 || kind == 2 || kind == 5 || kind == 13 || kind == 14 || kind == 15 then 1 else 0))
+argument_count number = option_map_or (λ kind. (row kind).signature.params) (kind_numbered number) 0
 
--- print and send have the bytes that went out
+-- whether its entries have the bytes that went out
 unfoldable pub has_outgoing : ℕ → Bool
-has_outgoing kind = kind == 3 || kind == 8
+has_outgoing number = option_map_or (λ kind. (row kind).entry.outgoing) (kind_numbered number) false
 
--- random, recv and try_recv have the bytes that came in
+-- whether they have the bytes that came in
 unfoldable pub has_incoming : ℕ → Bool
-has_incoming kind = kind == 6 || kind == 9 || kind == 10
+has_incoming number = option_map_or (λ kind. (row kind).entry.incoming) (kind_numbered number) false
 
--- recv and try_recv may have the tag of the datagram that they took
+-- whether they may have the tag of the datagram that was taken
 unfoldable pub has_tag : ℕ → Bool
-has_tag kind = kind == 9 || kind == 10
+has_tag number = option_map_or (λ kind. (row kind).entry.tag) (kind_numbered number) false

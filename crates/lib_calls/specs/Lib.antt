@@ -1,4 +1,5 @@
-pub mod Calls
+pub mod Built
 pub mod Kinds
 pub mod Entry
+pub mod Answer
 pub mod Effects

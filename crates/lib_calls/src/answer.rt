@@ -1,11 +1,13 @@
 // What the answer to a call writes to the guest's memory.
-ghost use Rattle.std.specs.Prelude.{◌≡◌, ◌+◌, ◌≤◌, length, OnOk, OnErr};
+ghost use Rattle.std.specs.Prelude.{◌≡◌, ◌+◌, ◌≤◌, length, OnOk, OnErr, IsTrue};
 ghost use Rattle.guest_memory.specs.Memory.{WritesPrefix, written as with_piece};
+ghost use Rattle.lib_calls.specs.Answer.{answer_of};
 ghost use Rattle.lib_calls.specs.Entry.{entry_of};
-ghost use Rattle.lib_calls.specs.Effects.{IsAnswer, WritesPart, filled, received, sender_of as sender_number, written};
+ghost use Rattle.lib_calls.specs.Effects.{WritesPart, brings, filled, has_good, is_answer, put_in, received, sender_of as sender_number, written};
 
 use crate::arguments::good_arguments;
 use crate::entry::EntryView;
+use call_table::Kind;
 use guest_memory::Memory;
 use lamport_tag::Tag;
 use std::alloc::AllocError;
@@ -16,19 +18,34 @@ const NONE_THERE: u64 = 0xFFFF_FFFE;
 /// Writes to the memory what the entry's answer does: the bytes that random took, or the payload of the
 /// datagram that recv or try_recv took and then its sender. Other answers write nothing. After want of
 /// memory a part of the bytes may stand.
+#[tactic(auto, unfolding(crate::specs::Effects::is_good, crate::specs::Effects::is_answer, crate::specs::Effects::written))]
 pub fn write_back(entry: &EntryView<'_>, memory: &mut Memory) -> Result<(), AllocError>
-    requires { IsAnswer (entry_of entry.now) memory.old }
-    ensures ok { OnOk result (memory.new ≡ written (entry_of entry.now) memory.old) }
-    ensures err { OnErr result (WritesPart (entry_of entry.now) memory.old memory.new) }
+    requires { IsTrue (is_answer entry.now.call (answer_of (entry_of entry.now)) memory.old) }
+    ensures ok { OnOk result (memory.new ≡ written entry.now.call (answer_of (entry_of entry.now)) memory.old) }
+    ensures err { OnErr result (WritesPart entry.now.call (answer_of (entry_of entry.now)) memory.old memory.new) }
     ensures max { memory.new.max ≡ memory.old.max }
 {
     if !good_arguments(&entry.call, memory) {
         return Ok(());
     }
-    match entry.call.kind {
-        6 => put_bytes(entry, memory),
-        9 => put_datagram(entry, memory),
-        10 if entry.reply != NONE_THERE => put_datagram(entry, memory),
+    match Kind::from_number(entry.call.kind) {
+        Some(kind) => write_answer(kind, entry, memory),
+        None => Ok(()),
+    }
+}
+
+// Writes what an answer does to a call of this kind with good arguments.
+fn write_answer(kind: Kind, entry: &EntryView<'_>, memory: &mut Memory) -> Result<(), AllocError>
+    requires good { IsTrue (has_good kind entry.now.call memory.old) }
+    requires answer { IsTrue (brings kind entry.now.call (answer_of (entry_of entry.now)) memory.old) }
+    ensures ok { OnOk result (memory.new ≡ put_in kind entry.now.call (answer_of (entry_of entry.now)) memory.old) }
+    ensures err { OnErr result (WritesPart entry.now.call (answer_of (entry_of entry.now)) memory.old memory.new) }
+    ensures max { memory.new.max ≡ memory.old.max }
+{
+    match kind {
+        Kind::Random => put_bytes(entry, memory),
+        Kind::Recv => put_datagram(entry, memory),
+        Kind::TryRecv if entry.reply != NONE_THERE => put_datagram(entry, memory),
         _ => Ok(()),
     }
 }
@@ -36,8 +53,8 @@ pub fn write_back(entry: &EntryView<'_>, memory: &mut Memory) -> Result<(), Allo
 // Writes the bytes that came in.
 fn put_bytes(entry: &EntryView<'_>, memory: &mut Memory) -> Result<(), AllocError>
     requires { entry.now.call.a0 + length entry.now.incoming.now ≤ length memory.old.bytes }
-    ensures ok { OnOk result (memory.new ≡ filled (entry_of entry.now) memory.old) }
-    ensures err { OnErr result (WritesPart (entry_of entry.now) memory.old memory.new) }
+    ensures ok { OnOk result (memory.new ≡ filled entry.now.call (answer_of (entry_of entry.now)) memory.old) }
+    ensures err { OnErr result (WritesPart entry.now.call (answer_of (entry_of entry.now)) memory.old memory.new) }
     ensures max { memory.new.max ≡ memory.old.max }
 {
     put(memory, entry.call.a0, entry.incoming)
@@ -47,8 +64,8 @@ fn put_bytes(entry: &EntryView<'_>, memory: &mut Memory) -> Result<(), AllocErro
 fn put_datagram(entry: &EntryView<'_>, memory: &mut Memory) -> Result<(), AllocError>
     requires payload { entry.now.call.a0 + length entry.now.incoming.now ≤ length memory.old.bytes }
     requires sender { entry.now.call.a2 + 4 ≤ length memory.old.bytes }
-    ensures ok { OnOk result (memory.new ≡ received (entry_of entry.now) memory.old) }
-    ensures err { OnErr result (WritesPart (entry_of entry.now) memory.old memory.new) }
+    ensures ok { OnOk result (memory.new ≡ received entry.now.call (answer_of (entry_of entry.now)) memory.old) }
+    ensures err { OnErr result (WritesPart entry.now.call (answer_of (entry_of entry.now)) memory.old memory.new) }
     ensures max { memory.new.max ≡ memory.old.max }
 {
     put(memory, entry.call.a0, entry.incoming)?;

@@ -1,9 +1,10 @@
 // The bytes of the guest's memory that a call names.
-ghost use Rattle.std.specs.Prelude.{◌≡◌, ◌+◌, ◌^◌, ◌≤◌, [], length, IfOk, IsTrue, if◌then◌else◌};
+ghost use Rattle.std.specs.Prelude.{◌≡◌, ◌+◌, ◌^◌, ◌≤◌, length, IfOk, IsTrue};
 ghost use Rattle.guest_memory.specs.Memory.{bytes_at, is_inside as is_inside_of};
-ghost use Rattle.lib_calls.specs.Effects.{is_good, is_range as is_range_of, outgoing_of};
+ghost use Rattle.lib_calls.specs.Effects.{has_good, is_good, is_range as is_range_of, named, outgoing_of, sent_out};
 
 use crate::entry::Call;
+use call_table::Kind;
 use fri_bytes::Bytes;
 use guest_memory::Memory;
 use std::alloc::{AllocError, Global};
@@ -21,10 +22,22 @@ const PAGE: u64 = 65_536;
 pub fn good_arguments(call: &Call, memory: &Memory) -> bool
     ensures { result ≡ is_good call.now memory.now }
 {
-    match call.kind {
-        3 | 6 => is_range(memory, call.a0, call.a1),
-        8 => is_range(memory, call.a1, call.a2),
-        9 | 10 => is_range(memory, call.a0, call.a1) && is_inside(memory, call.a2, 4),
+    match Kind::from_number(call.kind) {
+        Some(kind) => has_good(kind, call, memory),
+        None => true,
+    }
+}
+
+// The same for a call of this kind.
+fn has_good(kind: Kind, call: &Call, memory: &Memory) -> bool
+    ensures { result ≡ has_good kind call.now memory.now }
+{
+    match kind {
+        Kind::Print | Kind::Random => is_range(memory, call.a0, call.a1),
+        Kind::Send => is_range(memory, call.a1, call.a2),
+        Kind::Recv | Kind::TryRecv => {
+            is_range(memory, call.a0, call.a1) && is_inside(memory, call.a2, 4)
+        }
         _ => true,
     }
 }
@@ -49,20 +62,30 @@ fn is_inside(memory: &Memory, addr: u64, len: u64) -> bool
 
 /// A copy of the bytes that the call sends out of the memory as it is now: those that print and send
 /// name, where their arguments are good, and none else.
-#[tactic(auto, unfolding(crate::specs::Effects::outgoing_of, crate::specs::Effects::is_good))]
+#[tactic(auto, unfolding(crate::specs::Effects::outgoing_of))]
 pub fn outgoing(alloc: Global, call: &Call, memory: &Memory) -> Result<Bytes, AllocError>
     ensures { IfOk result (λ bytes. bytes ≡ outgoing_of call.now memory.now) }
 {
-    match call.kind {
-        3 => named(alloc, memory, call.a0, call.a1),
-        8 => named(alloc, memory, call.a1, call.a2),
+    match Kind::from_number(call.kind) {
+        Some(kind) => sent_out(alloc, kind, call, memory),
+        None => Ok(Bytes::new(alloc)),
+    }
+}
+
+// The same for a call of this kind.
+fn sent_out(alloc: Global, kind: Kind, call: &Call, memory: &Memory) -> Result<Bytes, AllocError>
+    ensures { IfOk result (λ bytes. bytes ≡ sent_out kind call.now memory.now) }
+{
+    match kind {
+        Kind::Print => named(alloc, memory, call.a0, call.a1),
+        Kind::Send => named(alloc, memory, call.a1, call.a2),
         _ => Ok(Bytes::new(alloc)),
     }
 }
 
 // A copy of a range that a call may name, and of nothing where it may not.
 fn named(alloc: Global, memory: &Memory, addr: u64, len: u64) -> Result<Bytes, AllocError>
-    ensures { IfOk result (λ bytes. bytes ≡ (if is_range_of memory.now addr len then bytes_at memory.now addr len else [])) }
+    ensures { IfOk result (λ bytes. bytes ≡ named memory.now addr len) }
 {
     if !is_range(memory, addr, len) {
         return Ok(Bytes::new(alloc));

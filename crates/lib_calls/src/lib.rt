@@ -4,12 +4,13 @@
 
 mod answer;
 mod arguments;
+mod built;
 mod entry;
-mod shape;
 mod table;
 
 pub use answer::write_back;
 pub use arguments::{good_arguments, outgoing};
+pub use built::is_built;
+pub use call_table::{Kind, Signature};
 pub use entry::{Call, Entry, EntryView};
-pub use shape::Signature;
 pub use table::{kind_of, name_of, signature_of};

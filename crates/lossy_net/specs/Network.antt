@@ -3,7 +3,7 @@
 use Rattle.std.specs.Prelude.{◌≡◌, ℕ, suc, zero, ◌<◌, List, [], ◌∷◌, ◌++◌, length, drop, slice_set, Option, Some, None, option_map}
 use Rattle.std.specs.List.{slice_index_or, slice_get}
 use Rattle.lamport_tag.specs.declared.Tag.{Tag}
-use Rattle.lamport_tag.specs.Tag.{IsTagged, IsUntagged, tag_at}
+use Rattle.lamport_tag.specs.Tag.{IsReadAs, read_datagram}
 
 -- a datagram that a process sent into the group: the process that it is for, and all its bytes
 pub record Sent : Type 0 where
@@ -70,11 +70,6 @@ abbrev pub with_delivered : List Traffic → Option Sent → List Traffic
 with_delivered net None = net
 with_delivered net (Some datagram) = with_waiting net datagram.to datagram.bytes
 
--- In a group of `count` processes the datagram has this tag, or none, and this payload.
-abbrev pub IsReadAs : ℕ → List ℕ → Option Tag → List ℕ → Type 0
-IsReadAs count datagram (Some tag) payload = IsTagged count datagram tag payload
-IsReadAs count datagram None payload = IsUntagged count datagram × (payload ≡ datagram)
-
 -- In a group of `count` processes the first datagram of a mailbox has this tag, or none, and this
 -- payload.
 abbrev pub IsReadFirst : ℕ → List (List ℕ) → Option Tag → List ℕ → Type 0
@@ -84,15 +79,6 @@ IsReadFirst count (datagram ∷ waiting) tag payload = IsReadAs count datagram t
 -- the first datagram of the process's mailbox has this tag, or none, and this payload
 abbrev pub IsFront : List Traffic → ℕ → Option Tag → List ℕ → Type 0
 IsFront net process = IsReadFirst (length net) (mailbox_of net process)
-
--- a datagram's tag, if it has one, and its payload, by what stands at its front
-abbrev pub payload_behind : List ℕ → Option (Tag × List ℕ) → Option Tag × List ℕ
-payload_behind datagram None = (None, datagram)
-payload_behind datagram (Some tagged) = (Some tagged.0, tagged.1)
-
--- the tag and the payload of a datagram of a group of `count` processes
-abbrev pub read_datagram : ℕ → List ℕ → Option Tag × List ℕ
-read_datagram count datagram = payload_behind datagram (tag_at count datagram)
 
 -- the tag and the payload of the first datagram of the process's mailbox, if there is one
 abbrev pub front_of : List Traffic → ℕ → Option (Option Tag × List ℕ)

@@ -8,9 +8,10 @@ use Rattle.wasm_types.specs.declared.code.ValType.{ValType}
 use Rattle.wasm_types.specs.declared.code.ValType.TheVariants as types
 use Rattle.wasm_types.specs.Modules.{Module, Func}
 use Rattle.wasm_types.specs.Valid.{IsValid}
-use Rattle.wasm_step.specs.Fits.{kinds_of, FramesFit, Fits}
-use Rattle.wasm_step.specs.Reduce.{imported_type, own_type, type_of}
-use Rattle.wasm_step.specs.Strand.{IsHandler, own_func, begun, new_thread, handling, entry_from, entry_thread, with_start, first_thread}
+use Rattle.wasm_values.specs.Values.{kinds_of}
+use Rattle.wasm_step.specs.Fits.{FramesFit, Fits}
+use Rattle.wasm_types.specs.Functions.{imported_type, own_type, type_of, own_func}
+use Rattle.wasm_step.specs.Strand.{IsHandler, begun, new_thread, handling, entry_from, entry_thread, with_start, first_thread}
 use Rattle.wasm_step.specs.Thread.{Thread, Frame, waiting_frame}
 use Rattle.wasm_step.proofs.Callees.{enter_fits}
 use Rattle.wasm_step.proofs.Starts.{entry_is_plain, start_is_plain}

@@ -12,7 +12,8 @@ use Rattle.wasm_types.specs.Maybe.{◌>>=◌}
 use Rattle.wasm_types.specs.Modules.{Module}
 use Rattle.wasm_types.specs.Stack.{Stack, empty, jumped, is_exactly, pop_type, pop_result, push_result, jump_with}
 use Rattle.wasm_types.specs.Typing.{after_all}
-use Rattle.wasm_step.specs.Fits.{TargetFits, kinds_of, known, put_kind, label_of, Leaves, Fits, AfterFits}
+use Rattle.wasm_values.specs.Values.{kinds_of}
+use Rattle.wasm_step.specs.Fits.{TargetFits, known, put_kind, label_of, Leaves, Fits, AfterFits}
 use Rattle.wasm_step.specs.Reduce as Reduce
 use Rattle.wasm_step.specs.Reduce.{After, Goes, Stops, branch, label_at}
 use Rattle.wasm_step.specs.Thread.{Thread, opened, here}

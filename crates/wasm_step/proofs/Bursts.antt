@@ -11,9 +11,11 @@ use Rattle.wasm_step.specs.declared.halt.Stopped.{Stopped}
 use Rattle.wasm_step.specs.Answer.{stopped_of}
 use Rattle.wasm_step.specs.Paused.{run_of}
 use Rattle.wasm_step.specs.Burst.{Settled, At, Done, Run, at_next, after_end, settle_by, settle, at_further, further, spent, after_step, burst}
-use Rattle.wasm_step.specs.Fits.{kinds_of, Leaves, Fits, Suits, StopFits, AfterFits, RunFits, StandsFit}
+use Rattle.wasm_values.specs.Values.{kinds_of}
+use Rattle.wasm_store.specs.Suits.{Suits}
+use Rattle.wasm_step.specs.Fits.{Leaves, Fits, StopFits, AfterFits, RunFits, StandsFit}
 use Rattle.wasm_step.specs.Reduce.{Both, Stop, Traps, After, Goes, Stops, row, reduce, limited, ended, trapped}
-use Rattle.wasm_step.specs.Store.{Store}
+use Rattle.wasm_store.specs.Store.{Store}
 use Rattle.wasm_step.specs.Thread.{Thread, with_operand, is_within, depth}
 use Rattle.wasm_step.proofs.Branches.{block_fits, loop_fits, choose_fits, br_fits, br_if_fits, br_table_fits, return_row_fits}
 use Rattle.wasm_step.proofs.Callees.{call_row_fits, call_indirect_fits}
@@ -125,14 +127,14 @@ after_step_program (Goes t) g go next = next t
 after_step_program (Stops s) g go next = refl
 
 -- a burst leaves the program as it is
-burst_program : (n : ℕ) (t : Thread) (g : Store) → (burst n t g).store.program ≡ g.program
+pub burst_program : (n : ℕ) (t : Thread) (g : Store) → (burst n t g).store.program ≡ g.program
 unfolding burst
 burst_program zero t g = refl
 burst_program (suc n) t g =
     after_step_program (further t g).after (further t g).store (burst n) (λ u. burst_program n u (further t g).store)
     ∙ further_program t g
 
-pub run_program : (n : ℕ) (t : Thread) (g : Store) (r : Run) → r ≡ burst n t g → r.store.program ≡ g.program
+run_program : (n : ℕ) (t : Thread) (g : Store) (r : Run) → r ≡ burst n t g → r.store.program ≡ g.program
 run_program n t g r e = ap (λ (r : Run). r.store.program) e ∙ burst_program n t g
 
 -- what a burst of the program leaves: a stop that fits, a store that suits, and the program

@@ -19,13 +19,16 @@ use Rattle.wasm_types.specs.Typing.{IsWellTyped}
 use Rattle.wasm_types.specs.Valid.{IsValid}
 use Rattle.wasm_types.specs.declared.traps.Trap.TheVariants as traps
 use Rattle.wasm_step.specs.Call.{site_of}
-use Rattle.wasm_step.specs.Fits.{kind_of, kinds_of, known, put_kind, label_of, Leaves, FramesFit, Fits, Suits, AfterFits, CallFits}
+use Rattle.wasm_values.specs.Values.{kind_of, kinds_of, zeros, zero_of}
+use Rattle.wasm_store.specs.Suits.{Suits}
+use Rattle.wasm_step.specs.Fits.{known, put_kind, label_of, Leaves, FramesFit, Fits, AfterFits, CallFits}
 use Rattle.wasm_step.specs.Reduce as Reduce
-use Rattle.wasm_step.specs.Reduce.{After, Goes, Stops, Calls, Sticks, given, imported_type, own_type, type_of, same_kinds, same_type}
-use Rattle.wasm_step.specs.Store.{Store}
-use Rattle.wasm_step.specs.Strand.{IsResult, own_func, library_result, first_result}
+use Rattle.wasm_types.specs.Functions.{imported_type, own_type, type_of, same_kinds, same_type, own_func}
+use Rattle.wasm_step.specs.Reduce.{After, Goes, Stops, Calls, Sticks, given}
+use Rattle.wasm_store.specs.Store.{Store}
+use Rattle.wasm_step.specs.Strand.{IsResult, library_result, first_result}
 use Rattle.wasm_step.specs.Thread as Thread'
-use Rattle.wasm_step.specs.Thread.{Thread, Frame, without, zeros, zero_of, arguments, waiting_frame, has_room}
+use Rattle.wasm_step.specs.Thread.{Thread, Frame, without, arguments, waiting_frame, has_room}
 use Rattle.wasm_step.proofs.Fits.{never_none, is_same_equal, pops_type, RestOf, LeavesAt, given_fits}
 use Rattle.wasm_step.proofs.Plain.{neither, step, After', End', Before, on_top_fits, on_i32_fits}
 use Rattle.wasm_step.proofs.Starts.{same_lookup}
@@ -168,7 +171,7 @@ module _ (m : Module) (c : Context) where
       subst (λ o. AfterFits m (Reduce.at_call o f type t)) (sym (args_are t type.params more h)) (by_room (has_room (length type.results) (without n t)) fits)
     where
       by_room : (b : Bool) → CallFits m (without (length type.params) t) f → AfterFits m (if b then Stops (Calls (without (length type.params) t) (site_of f (reverse (take (length type.params) t.stack)))) else Reduce.trapped traps.Exhausted)
-      by_room true k = k
+      by_room true k = (subst (λ o. IsSome o) (sym is) refl, k)
       by_room false k = tt
 
   own_fits : (t : Thread) (f : ℕ) (func : Func) (type : FuncType) (more : List ValType) → IsValid m → RestOf m c t → own_func m f ≡ Some func → slice_get m.types func.type_index ≡ Some type → kinds_of t.stack ≡ reverse type.params ++ more → LeavesAt m c t (put_kind (result_of type) more) → AfterFits m (Reduce.call_own m f (Some func) t)

@@ -12,7 +12,8 @@ use Rattle.wasm_types.specs.Labels.{Labels}
 use Rattle.wasm_types.specs.Maybe.{◌>>=◌}
 use Rattle.wasm_types.specs.Modules.{Module}
 use Rattle.wasm_types.specs.Stack.{Stack, is_same, is_exactly, pop_type, pop_result}
-use Rattle.wasm_step.specs.Fits.{TargetFits, kind_of, kinds_of, known, put_kind, label_of, labels_of, Leaves, LevelsFit, IsContext, FramesFit, Fits, AfterFits}
+use Rattle.wasm_values.specs.Values.{kind_of, kinds_of}
+use Rattle.wasm_step.specs.Fits.{TargetFits, known, put_kind, label_of, labels_of, Leaves, LevelsFit, IsContext, FramesFit, Fits, AfterFits}
 use Rattle.wasm_step.specs.Reduce.{jump_by, After, carried, carry_top, with_carried, given, resumed, return_from, landed, jump, branch, at_end, ended}
 use Rattle.wasm_step.specs.Strand.{IsResult}
 use Rattle.wasm_step.specs.Thread.{Level, Frame, Thread, with_operand, closed, closed_to, left, left_to}

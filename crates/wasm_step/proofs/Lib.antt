@@ -2,7 +2,6 @@ pub mod Begins
 pub mod Branches
 pub mod Bursts
 pub mod Callees
-pub mod Declared
 pub mod Fits
 pub mod Opcodes
 pub mod Plain
@@ -10,6 +9,5 @@ pub mod Programs
 pub mod Runs
 pub mod Starts
 pub mod Stored
-pub mod Suited
 pub mod Views
 pub mod Zeros

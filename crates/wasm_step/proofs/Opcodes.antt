@@ -1,20 +1,21 @@
 -- What the opcodes of numeric instructions, loads and stores compute has the types that typing says.
-use Rattle.std.proofs.Common.{◌≡◌, ℕ, ◌+◌, ◌<◌, ◌≤◌, Bool, true, false, List, [], ◌∷◌, Option, Some, None, refl, sym, subst, arith, rules, tests}
-use Rattle.std.specs.Prelude.{nat_eq, nat_lt, Result, Ok, Err}
-use Rattle.std.specs.Int.{w8, w16, w32, w64}
+use Rattle.std.proofs.Common.{◌≡◌, ℕ, ◌+◌, ◌<◌, ◌≤◌, Bool, true, false, List, [], ◌∷◌, Option, Some, None, refl, sym, ap, ◌∙◌, subst, arith, rules, tests}
+use Rattle.std.specs.Prelude.{◌^◌, nat_eq, nat_lt, if◌then◌else◌, option_and_then, Result, Ok, Err}
+use Rattle.std.specs.Int.{Width, w32, w64}
 use Rattle.std.proofs.lemmas.Bool.{ltb-true, ltb-false, eqb-true, eqb-false}
 use Rattle.wasm_num.specs.declared.Trap.{Trap as NoResult}
-use Rattle.wasm_num.specs.Operators.{idiv_s, idiv_u, irem_s, irem_u, wrap, extend_s}
+use Rattle.wasm_num.specs.Operators.{idiv_s, idiv_u, irem_s, irem_u}
 use Rattle.wasm_types.specs.declared.code.Value.{Value}
 use Rattle.wasm_types.specs.declared.code.Value.TheVariants.{I32, I64}
 use Rattle.wasm_types.specs.declared.code.ValType.{ValType}
 use Rattle.wasm_types.specs.declared.code.ValType.TheVariants as types
 use Rattle.wasm_types.specs.Accesses.{Access, load_of, store_of}
-use Rattle.wasm_types.specs.Floats.{is_float_access, is_float_operator}
+use Rattle.wasm_types.specs.Floats.{is_float, is_float_access, is_float_operator}
 use Rattle.wasm_types.specs.Numeric.{Operator, operator_of}
-use Rattle.wasm_step.specs.Access.{load_width, load_value, store_width}
-use Rattle.wasm_step.specs.Fits.{kind_of}
-use Rattle.wasm_step.specs.Numeric.{Computed, Gives, Fails, IsNone, divided_32, divided_64, is_unary, unary, binary}
+use Rattle.wasm_types.specs.Stack.{is_same}
+use Rattle.wasm_values.specs.Access.{load_width, load_value, loaded_value, loaded_width, operand_of, store_width, stored_width, widened}
+use Rattle.wasm_values.specs.Values.{kind_of}
+use Rattle.wasm_values.specs.Numeric.{Computed, Gives, Fails, IsNone, divided_32, divided_64, is_unary, unary, binary}
 
 -- a number is the first of a range, or it is past that
 each : (P : ℕ → Type 0) (low op : ℕ) → low ≤ op → P low → (low + 1 ≤ op → P op) → P op
@@ -76,6 +77,7 @@ divided_64_fits (Ok x) = refl
 divided_64_fits (Err e) = tt
 
 from_45 : (op : ℕ) → 0x45 ≤ op → (0x55 ≤ op → OpFits op) → OpFits op
+unfolding is_unary
 from_45 op h rest =
     each OpFits 0x45 op h (λ _. (refl, on_32 0x45 types.I32 (λ x. refl))) (λ h.
     each OpFits 0x46 op h (λ _. (refl, refl, both_32 0x46 types.I32 (λ x y. refl))) (λ h.
@@ -96,6 +98,7 @@ from_45 op h rest =
     rest h))))))))))))))))
 
 from_55 : (op : ℕ) → 0x55 ≤ op → (0x65 ≤ op → OpFits op) → OpFits op
+unfolding is_unary
 from_55 op h rest =
     each OpFits 0x55 op h (λ _. (refl, refl, both_64 0x55 types.I32 (λ x y. refl))) (λ h.
     each OpFits 0x56 op h (λ _. (refl, refl, both_64 0x56 types.I32 (λ x y. refl))) (λ h.
@@ -116,6 +119,7 @@ from_55 op h rest =
     rest h))))))))))))))))
 
 from_65 : (op : ℕ) → 0x65 ≤ op → (0x75 ≤ op → OpFits op) → OpFits op
+unfolding is_unary
 from_65 op h rest =
     each OpFits 0x65 op h (λ h. absurd (never h)) (λ h.
     each OpFits 0x66 op h (λ h. absurd (never h)) (λ h.
@@ -136,6 +140,7 @@ from_65 op h rest =
     rest h))))))))))))))))
 
 from_75 : (op : ℕ) → 0x75 ≤ op → (0x85 ≤ op → OpFits op) → OpFits op
+unfolding is_unary
 from_75 op h rest =
     each OpFits 0x75 op h (λ _. (refl, refl, both_32 0x75 types.I32 (λ x y. refl))) (λ h.
     each OpFits 0x76 op h (λ _. (refl, refl, both_32 0x76 types.I32 (λ x y. refl))) (λ h.
@@ -156,6 +161,7 @@ from_75 op h rest =
     rest h))))))))))))))))
 
 from_85 : (op : ℕ) → 0x85 ≤ op → (0x95 ≤ op → OpFits op) → OpFits op
+unfolding is_unary
 from_85 op h rest =
     each OpFits 0x85 op h (λ _. (refl, refl, both_64 0x85 types.I64 (λ x y. refl))) (λ h.
     each OpFits 0x86 op h (λ _. (refl, refl, both_64 0x86 types.I64 (λ x y. refl))) (λ h.
@@ -176,6 +182,7 @@ from_85 op h rest =
     rest h))))))))))))))))
 
 from_95 : (op : ℕ) → 0x95 ≤ op → (0xA5 ≤ op → OpFits op) → OpFits op
+unfolding is_unary
 from_95 op h rest =
     each OpFits 0x95 op h (λ h. absurd (never h)) (λ h.
     each OpFits 0x96 op h (λ h. absurd (never h)) (λ h.
@@ -196,6 +203,7 @@ from_95 op h rest =
     rest h))))))))))))))))
 
 from_A5 : (op : ℕ) → 0xA5 ≤ op → (0xB5 ≤ op → OpFits op) → OpFits op
+unfolding is_unary
 from_A5 op h rest =
     each OpFits 0xA5 op h (λ h. absurd (never h)) (λ h.
     each OpFits 0xA6 op h (λ h. absurd (never h)) (λ h.
@@ -216,6 +224,7 @@ from_A5 op h rest =
     rest h))))))))))))))))
 
 from_B5 : (op : ℕ) → 0xB5 ≤ op → (0xC0 ≤ op → OpFits op) → OpFits op
+unfolding is_unary
 from_B5 op h rest =
     each OpFits 0xB5 op h (λ h. absurd (never h)) (λ h.
     each OpFits 0xB6 op h (λ h. absurd (never h)) (λ h.
@@ -273,77 +282,51 @@ abbrev pub StoreFitsOf : ℕ → Option Access → Type 0
 StoreFitsOf op None = Unit {0}
 StoreFitsOf op (Some a) = is_float_access (Some a) ≡ false → StoreFits op a.moved
 
-abbrev LoadsFit : ℕ → Type 0
-LoadsFit op = LoadFitsOf op (load_of op)
+-- operands of a type that is none of floats
+record OperandFits (k : ValType) (bits : ℕ → Width → ℕ) : Type 0 where
+  value : ℕ → Value
+  makes : (n : ℕ) → operand_of k (bits n) ≡ Some (value n)
+  kind : (n : ℕ) → kind_of (value n) ≡ k
 
-abbrev StoresFit : ℕ → Type 0
-StoresFit op = StoreFitsOf op (store_of op)
-
-stores_32 : (op w : ℕ) → ((x : ℕ) → store_width op (I32 x) ≡ Some w) → StoreFits op types.I32
-stores_32 op w h = record { width = λ v e. w; writes = writes }
-  where
-    writes : (v : Value) → kind_of v ≡ types.I32 → store_width op v ≡ Some w
-    writes (I32 x) e = h x
-    writes (I64 x) e = cc
-
-stores_64 : (op w : ℕ) → ((x : ℕ) → store_width op (I64 x) ≡ Some w) → StoreFits op types.I64
-stores_64 op w h = record { width = λ v e. w; writes = writes }
-  where
-    writes : (v : Value) → kind_of v ≡ types.I64 → store_width op v ≡ Some w
-    writes (I64 x) e = h x
-    writes (I32 x) e = cc
-
-loads : (op : ℕ) → 0x28 ≤ op → LoadsFit op
-loads op h =
-    each LoadsFit 0x28 op h (λ _. record { width = 4; reads = refl; value = λ n. I32 (wrap w32 n); makes = λ n. refl; kind = λ n. refl }) (λ h.
-    each LoadsFit 0x29 op h (λ _. record { width = 8; reads = refl; value = λ n. I64 n; makes = λ n. refl; kind = λ n. refl }) (λ h.
-    each LoadsFit 0x2A op h (λ h. absurd (never h)) (λ h.
-    each LoadsFit 0x2B op h (λ h. absurd (never h)) (λ h.
-    each LoadsFit 0x2C op h (λ _. record { width = 1; reads = refl; value = λ n. I32 (extend_s w8 w32 (wrap w8 n)); makes = λ n. refl; kind = λ n. refl }) (λ h.
-    each LoadsFit 0x2D op h (λ _. record { width = 1; reads = refl; value = λ n. I32 (wrap w8 n); makes = λ n. refl; kind = λ n. refl }) (λ h.
-    each LoadsFit 0x2E op h (λ _. record { width = 2; reads = refl; value = λ n. I32 (extend_s w16 w32 (wrap w16 n)); makes = λ n. refl; kind = λ n. refl }) (λ h.
-    each LoadsFit 0x2F op h (λ _. record { width = 2; reads = refl; value = λ n. I32 (wrap w16 n); makes = λ n. refl; kind = λ n. refl }) (λ h.
-    each LoadsFit 0x30 op h (λ _. record { width = 1; reads = refl; value = λ n. I64 (extend_s w8 w64 (wrap w8 n)); makes = λ n. refl; kind = λ n. refl }) (λ h.
-    each LoadsFit 0x31 op h (λ _. record { width = 1; reads = refl; value = λ n. I64 (wrap w8 n); makes = λ n. refl; kind = λ n. refl }) (λ h.
-    each LoadsFit 0x32 op h (λ _. record { width = 2; reads = refl; value = λ n. I64 (extend_s w16 w64 (wrap w16 n)); makes = λ n. refl; kind = λ n. refl }) (λ h.
-    each LoadsFit 0x33 op h (λ _. record { width = 2; reads = refl; value = λ n. I64 (wrap w16 n); makes = λ n. refl; kind = λ n. refl }) (λ h.
-    each LoadsFit 0x34 op h (λ _. record { width = 4; reads = refl; value = λ n. I64 (extend_s w32 w64 (wrap w32 n)); makes = λ n. refl; kind = λ n. refl }) (λ h.
-    each LoadsFit 0x35 op h (λ _. record { width = 4; reads = refl; value = λ n. I64 (wrap w32 n); makes = λ n. refl; kind = λ n. refl }) (λ h.
-    let none : load_of op ≡ None = search (rules, tests) in
-    subst (λ (o : Option Access). LoadFitsOf op o) (sym none) tt))))))))))))))
-
-stores : (op : ℕ) → 0x36 ≤ op → StoresFit op
-stores op h =
-    each StoresFit 0x36 op h (λ _. stores_32 0x36 4 (λ x. refl)) (λ h.
-    each StoresFit 0x37 op h (λ _. stores_64 0x37 8 (λ x. refl)) (λ h.
-    each StoresFit 0x38 op h (λ h. absurd (never h)) (λ h.
-    each StoresFit 0x39 op h (λ h. absurd (never h)) (λ h.
-    each StoresFit 0x3A op h (λ _. stores_32 0x3A 1 (λ x. refl)) (λ h.
-    each StoresFit 0x3B op h (λ _. stores_32 0x3B 2 (λ x. refl)) (λ h.
-    each StoresFit 0x3C op h (λ _. stores_64 0x3C 1 (λ x. refl)) (λ h.
-    each StoresFit 0x3D op h (λ _. stores_64 0x3D 2 (λ x. refl)) (λ h.
-    each StoresFit 0x3E op h (λ _. stores_64 0x3E 4 (λ x. refl)) (λ h.
-    let none : store_of op ≡ None = search (rules, tests) in
-    subst (λ (o : Option Access). StoreFitsOf op o) (sym none) tt)))))))))
+operand_fits : (k : ValType) (bits : ℕ → Width → ℕ) → is_float k ≡ false → OperandFits k bits
+operand_fits types.I32 bits e = record { value = λ n. I32 (bits n w32); makes = λ n. refl; kind = λ n. refl }
+operand_fits types.I64 bits e = record { value = λ n. I64 (bits n w64); makes = λ n. refl; kind = λ n. refl }
+operand_fits types.F32 bits e = absurd (never e)
+operand_fits types.F64 bits e = absurd (never e)
 
 -- a load makes an operand of the type that typing says
 pub load_fits : (op : ℕ) → LoadFitsOf op (load_of op)
-load_fits op = by_case (nat_lt op 0x28) refl
+unfolding load_width load_value
+load_fits op = by_access (load_of op) refl
   where
-    by_case : (b : Bool) → nat_lt op 0x28 ≡ b → LoadsFit op
-    by_case true e =
-        let h : op < 0x28 = ltb-true op 0x28 e in
-        let none : load_of op ≡ None = search (rules, tests) in
-        subst (λ (o : Option Access). LoadFitsOf op o) (sym none) tt
-    by_case false e = loads op (ltb-false op 0x28 e)
+    by_access : (o : Option Access) → load_of op ≡ o → LoadFitsOf op o
+    by_access None e = tt
+    by_access (Some a) e =
+        λ no_float. let operand = operand_fits a.moved (widened op a.exponent) no_float in record {
+          width = 2 ^ a.exponent;
+          reads = ap (option_and_then loaded_width) e ∙ ap (λ b. if b then None else Some (2 ^ a.exponent)) no_float;
+          value = operand.value;
+          makes = λ n. ap (option_and_then (loaded_value op n)) e ∙ operand.makes n;
+          kind = operand.kind;
+        }
+
+same_itself : (k : ValType) → is_same k k ≡ true
+same_itself types.I32 = refl
+same_itself types.I64 = refl
+same_itself types.F32 = refl
+same_itself types.F64 = refl
 
 -- a store writes an operand of the type that typing says
 pub store_fits : (op : ℕ) → StoreFitsOf op (store_of op)
-store_fits op = by_case (nat_lt op 0x36) refl
+unfolding store_width
+store_fits op = by_access (store_of op) refl
   where
-    by_case : (b : Bool) → nat_lt op 0x36 ≡ b → StoresFit op
-    by_case true e =
-        let h : op < 0x36 = ltb-true op 0x36 e in
-        let none : store_of op ≡ None = search (rules, tests) in
-        subst (λ (o : Option Access). StoreFitsOf op o) (sym none) tt
-    by_case false e = stores op (ltb-false op 0x36 e)
+    by_access : (o : Option Access) → store_of op ≡ o → StoreFitsOf op o
+    by_access None e = tt
+    by_access (Some a) e = λ _. record {
+      width = λ v k. 2 ^ a.exponent;
+      writes =
+          λ v k. ap (option_and_then (stored_width (kind_of v))) e
+          ∙ ap (λ j. if is_same j a.moved then Some (2 ^ a.exponent) else None) k
+          ∙ ap (λ b. if b then Some (2 ^ a.exponent) else None) (same_itself a.moved);
+    }

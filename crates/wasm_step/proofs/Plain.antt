@@ -16,8 +16,9 @@ use Rattle.wasm_types.specs.Modules.{Module}
 use Rattle.wasm_types.specs.Numeric.{Operator, operator_of}
 use Rattle.wasm_types.specs.Stack.{Stack, is_exactly, pop_type, push_result, operate, push}
 use Rattle.wasm_types.specs.Typing.{after_all}
-use Rattle.wasm_step.specs.Fits.{kind_of, kinds_of, known, Leaves, AfterFits}
-use Rattle.wasm_step.specs.Numeric.{Computed, Gives, Fails, IsNone, is_unary, unary, binary}
+use Rattle.wasm_values.specs.Values.{kind_of, kinds_of}
+use Rattle.wasm_step.specs.Fits.{known, Leaves, AfterFits}
+use Rattle.wasm_values.specs.Numeric.{Computed, Gives, Fails, IsNone, is_unary, unary, binary}
 use Rattle.wasm_step.specs.Reduce as Reduce
 use Rattle.wasm_step.specs.Reduce.{Both, Stop, Sticks, Traps, After, Goes, Stops, on_top, with_top, keep, put, numeric, chosen, got, branch, on_test, label_at}
 use Rattle.wasm_step.specs.Thread.{Thread, with_operand}

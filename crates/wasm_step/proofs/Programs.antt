@@ -5,10 +5,10 @@ use Rattle.wasm_types.specs.declared.code.Value.{Value}
 use Rattle.wasm_types.specs.declared.code.Value.TheVariants.{I32, I64}
 use Rattle.wasm_types.specs.Code.{Tree, Unreachable, Nop, Block, Loop, If, Br, BrIf, BrTable, Return, CallFunc, CallIndirect, DropTop, Select, LocalGet, LocalSet, LocalTee, GlobalGet, GlobalSet, Load, Store as StoreIn, MemorySize, MemoryGrow, ConstI32, ConstI64, ConstF32, ConstF64, Op}
 use Rattle.wasm_types.specs.Modules.{Module}
-use Rattle.wasm_step.specs.Access.{store_width}
-use Rattle.wasm_step.specs.Call.{bits_of}
+use Rattle.wasm_values.specs.Access.{store_width}
+use Rattle.wasm_values.specs.Values.{bits_of}
 use Rattle.wasm_step.specs.Reduce.{Both, reduce, set_global, write_at, write_value, write_top, grow_top}
-use Rattle.wasm_step.specs.Store.{Store}
+use Rattle.wasm_store.specs.Store.{Store}
 use Rattle.wasm_step.specs.Thread.{Thread}
 
 choice_program : (b : Bool) (p q : Both) (m : Module) → p.store.program ≡ m → q.store.program ≡ m → (if b then p else q).store.program ≡ m

@@ -6,7 +6,7 @@ use Rattle.wasm_step.specs.Paused.{settled_of}
 use Rattle.wasm_step.specs.Answer.{after_of, stop_of}
 use Rattle.wasm_step.specs.declared.halt.Next.{Next}
 use Rattle.wasm_step.specs.declared.halt.Next.TheVariants.{Going, Calling, Ended, Trapped, Stuck}
-use Rattle.wasm_step.specs.Store.{Store}
+use Rattle.wasm_store.specs.Store.{Store}
 use Rattle.wasm_step.specs.Thread.{Level, Frame, Thread, is_end, closed_to, left, left_to, waiting, depth}
 use Rattle.wasm_step.specs.Reduce.{Stop, Sticks, After, Goes, Stops, carried, with_carried, resumed, reduce, at_end, ended}
 use Rattle.wasm_step.specs.Burst.{Settled, At, Done, at_next, after_end, settle_by, settle, after_step, after_both, at_further, spent, burst}

@@ -14,8 +14,8 @@ use Rattle.wasm_types.specs.declared.modules.ExportDesc.{ExportDesc}
 use Rattle.wasm_types.specs.declared.modules.ExportDesc.TheVariants.{Func as ToFunc, Table as ToTable, Memory as ToMemory, Global as ToGlobal}
 use Rattle.wasm_types.specs.Modules.{Module, Import, Export, Func, FuncType}
 use Rattle.wasm_types.specs.Valid.{IsValid, import_count, is_entry, is_plain, is_start_export}
-use Rattle.wasm_step.specs.Reduce.{described, imported_type, own_type, type_of}
-use Rattle.wasm_step.specs.Strand.{own_func, entry_from, exported}
+use Rattle.wasm_types.specs.Functions.{described, imported_type, own_type, type_of, own_func}
+use Rattle.wasm_step.specs.Strand.{entry_from, exported}
 
 all_rest : {X : Type 0} (P : X → Type 0) (x : X) (xs : List X) → All P (x ∷ xs) → All P xs
 all_rest P x xs h = λ k d lt. h (suc k) d (omega (arith, lt))

@@ -16,12 +16,13 @@ use Rattle.wasm_types.specs.Floats.{have_float, is_float_access}
 use Rattle.wasm_types.specs.Maybe.{◌>>=◌}
 use Rattle.wasm_types.specs.Modules.{Module, GlobalDef, GlobalType, global_type}
 use Rattle.wasm_types.specs.Stack.{Stack, push, push_result, pop_type, operate}
-use Rattle.wasm_step.specs.Access.{load_value}
-use Rattle.wasm_step.specs.Call.{bits_of}
-use Rattle.wasm_step.specs.Fits.{kind_of, kinds_of, known, IsContext, Fits, Suits, AfterFits}
+use Rattle.wasm_values.specs.Access.{load_value}
+use Rattle.wasm_values.specs.Values.{bits_of, kind_of, kinds_of}
+use Rattle.wasm_store.specs.Suits.{Suits}
+use Rattle.wasm_step.specs.Fits.{known, IsContext, Fits, AfterFits}
 use Rattle.wasm_step.specs.Reduce as Reduce
 use Rattle.wasm_step.specs.Reduce.{Both, After, Goes, Stops, Sticks, keep, trapped}
-use Rattle.wasm_step.specs.Store.{Store}
+use Rattle.wasm_store.specs.Store.{Store}
 use Rattle.wasm_step.specs.Thread.{Thread, with_operand}
 use Rattle.wasm_step.proofs.Fits.{never_none, pops_type, RestOf, LeavesAt, goes}
 use Rattle.wasm_step.proofs.Opcodes.{LoadFitsOf, LoadFits, StoreFitsOf, StoreFits, load_fits, store_fits}

@@ -3,7 +3,7 @@ use Rattle.std.proofs.Common.{◌≡◌, ℕ, ◌+◌, ◌<◌, ◌≤◌, List,
 use Rattle.std.proofs.lemmas.List.{take_more, take-append-drop, length-replicate}
 use Rattle.wasm_types.specs.declared.code.ValType.{ValType}
 use Rattle.wasm_types.specs.declared.code.ValType.TheVariants.{I32}
-use Rattle.wasm_step.specs.Thread.{zeros, zero_of}
+use Rattle.wasm_values.specs.Values.{zeros, zero_of}
 
 -- the locals of two declarations, one after the other
 zeros-append : (a b : List (ℕ × ValType)) → zeros (a ++ b) ≡ zeros a ++ zeros b

@@ -2,7 +2,7 @@
 use Rattle.std.specs.Prelude.{ℕ, zero, suc}
 use Rattle.wasm_types.specs.declared.traps.Trap.TheVariants.{Spent}
 use Rattle.wasm_types.specs.Code.{Tree, Trees, End, Then}
-use Rattle.wasm_step.specs.Store.{Store}
+use Rattle.wasm_store.specs.Store.{Store}
 use Rattle.wasm_step.specs.Thread.{Thread, depth}
 use Rattle.wasm_step.specs.Reduce.{Both, Stop, Traps, Sticks, After, Goes, Stops, keep, reduce, ended}
 

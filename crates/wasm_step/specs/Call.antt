@@ -1,14 +1,8 @@
 -- Calls of the library.
 use Rattle.std.specs.Prelude.{ℕ, List, Option, Some, None, slice_get}
 use Rattle.wasm_types.specs.declared.code.Value.{Value}
-use Rattle.wasm_types.specs.declared.code.Value.TheVariants.{I32, I64}
+use Rattle.wasm_values.specs.Values.{bits_of}
 use Rattle.wasm_step.specs.declared.call.CallSite.{CallSite}
-
--- the bits of an argument, and 0 where there is none
-abbrev pub bits_of : Option Value → ℕ
-bits_of None = 0
-bits_of (Some (I32 x)) = x
-bits_of (Some (I64 x)) = x
 
 -- the call of the function f with these arguments; no function of the library has more than three
 abbrev pub site_of : ℕ → List Value → CallSite

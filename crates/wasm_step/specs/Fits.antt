@@ -1,31 +1,23 @@
 -- Threads and stores that fit a program: what is typed is left to do, from operands of its types.
 use Rattle.std.specs.Prelude.{◌≡◌, ℕ, Bool, true, false, List, [], ◌∷◌, ◌++◌, Option, Some, None, map, is_some, length, slice_get, IsSome}
 use Rattle.wasm_types.specs.declared.code.Value.{Value}
-use Rattle.wasm_types.specs.declared.code.Value.TheVariants.{I32, I64}
 use Rattle.wasm_types.specs.declared.code.ValType.{ValType}
-use Rattle.wasm_types.specs.declared.code.ValType.TheVariants as types
 use Rattle.wasm_types.specs.Calls.{result_of}
 use Rattle.wasm_types.specs.Code.{Trees}
 use Rattle.wasm_types.specs.Context.{Context, context_of, expand}
 use Rattle.wasm_types.specs.Floats.{have_float}
+use Rattle.wasm_types.specs.Functions.{imported_type, own_func}
 use Rattle.wasm_types.specs.Labels.{Labels}
 use Rattle.wasm_types.specs.Maybe.{◌>>=◌}
-use Rattle.wasm_types.specs.Modules.{Module, Func, FuncType, GlobalDef}
+use Rattle.wasm_types.specs.Modules.{Module, Func, FuncType}
 use Rattle.wasm_types.specs.Stack.{Stack, is_exactly}
 use Rattle.wasm_types.specs.Typing.{after_all}
+use Rattle.wasm_store.specs.Suits.{Suits}
+use Rattle.wasm_values.specs.Values.{kinds_of}
 use Rattle.wasm_step.specs.Burst.{Run}
-use Rattle.wasm_step.specs.Reduce.{Stop, Calls, Ends, Traps, Sticks, After, Goes, Stops, given, type_of}
-use Rattle.wasm_step.specs.Start.{first_min, first_most}
-use Rattle.wasm_step.specs.Store.{Store}
-use Rattle.wasm_step.specs.Strand.{IsResult, library_result, own_func}
+use Rattle.wasm_step.specs.Reduce.{Stop, Calls, Ends, Traps, Sticks, After, Goes, Stops, given}
+use Rattle.wasm_step.specs.Strand.{IsResult, library_result}
 use Rattle.wasm_step.specs.Thread.{Level, Frame, Thread, here}
-
-abbrev pub kind_of : Value → ValType
-kind_of (I32 x) = types.I32
-kind_of (I64 x) = types.I64
-
-abbrev pub kinds_of : List Value → List ValType
-kinds_of vs = map kind_of vs
 
 -- operands of these types and no others, in code that is reached
 abbrev pub known : List ValType → Stack
@@ -94,21 +86,13 @@ frame_of t = record { here = here t; outer = t.outer; func = t.func; locals = t.
 abbrev pub Fits : Module → Thread → Type 0
 Fits m t = FramesFit m None (frame_of t ∷ t.callers)
 
--- The store has the memory, the table and the globals that the program declares, and each function that
--- the table holds is one of the program.
-pub record Suits (g : Store) : Type 0 where
-  pub most : g.memory.max ≡ first_most g.program.mems
-  pub places : length g.table ≡ first_min g.program.tables
-  pub globals : kinds_of g.globals ≡ map (λ (d : GlobalDef). d.kind) g.program.globals
-  pub elements : (k f : ℕ) → slice_get g.table k ≡ Some (Some f) → IsSome (type_of g.program f)
-
 -- a call that fits with each value that it may give
 abbrev pub CallFits : Module → Thread → ℕ → Type 0
 CallFits m t f = (o : Option Value) → IsResult (library_result m f) o → Fits m (given o t)
 
--- a stop of a thread that fits: it does not stick
+-- a stop of a thread that fits: it does not stick, and what it calls is an imported function
 abbrev pub StopFits : Module → Stop → Type 0
-StopFits m (Calls t site) = CallFits m t site.func
+StopFits m (Calls t site) = IsSome (imported_type m (slice_get m.imports site.func)) × CallFits m t site.func
 StopFits m Ends = Unit {0}
 StopFits m (Traps trap) = Unit {0}
 StopFits m Sticks = ⊥

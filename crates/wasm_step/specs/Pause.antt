@@ -5,7 +5,7 @@ use Rattle.wasm_step.specs.declared.strand.Pause.{Pause}
 use Rattle.wasm_step.specs.declared.strand.Pause.TheVariants.{AtCall, Ended, Trapped}
 use Rattle.wasm_step.specs.Burst.{Run}
 use Rattle.wasm_step.specs.Reduce.{Stop, Calls, Ends, Traps}
-use Rattle.wasm_step.specs.Store.{Store}
+use Rattle.wasm_store.specs.Store.{Store}
 
 abbrev pub stop_of : Pause → Stop
 stop_of (AtCall s site) = Calls s.thread site

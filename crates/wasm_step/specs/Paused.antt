@@ -3,7 +3,7 @@ use Rattle.wasm_step.specs.declared.halt.Stopped.{Stopped}
 use Rattle.wasm_step.specs.Answer.{stopped_of}
 use Rattle.wasm_step.specs.Burst.{Settled, Done, Run, at_next}
 use Rattle.wasm_step.specs.Reduce.{After, Goes, Stops, Sticks}
-use Rattle.wasm_step.specs.Store.{Store}
+use Rattle.wasm_store.specs.Store.{Store}
 use Rattle.wasm_step.specs.Thread.{Thread}
 
 -- a thread that goes on stands at its next instruction

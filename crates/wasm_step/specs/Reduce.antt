@@ -5,18 +5,17 @@ use Rattle.guest_memory.specs.Memory.{Memory, size_of, loaded, is_inside, after_
 use Rattle.wasm_types.specs.declared.code.Value.{Value}
 use Rattle.wasm_types.specs.declared.code.Value.TheVariants.{I32, I64}
 use Rattle.wasm_types.specs.declared.code.ValType.{ValType}
-use Rattle.wasm_types.specs.declared.modules.ImportDesc.{ImportDesc}
-use Rattle.wasm_types.specs.declared.modules.ImportDesc.TheVariants as desc
 use Rattle.wasm_types.specs.declared.traps.Trap.{Trap}
 use Rattle.wasm_types.specs.declared.traps.Trap.TheVariants as traps
 use Rattle.wasm_types.specs.Code.{Tree, Unreachable, Nop, Block, Loop, If, Br, BrIf, BrTable, Return, CallFunc, CallIndirect, DropTop, Select, LocalGet, LocalSet, LocalTee, GlobalGet, GlobalSet, Load, Store as StoreIn, MemorySize, MemoryGrow, ConstI32, ConstI64, ConstF32, ConstF64, Op, Trees}
-use Rattle.wasm_types.specs.Modules.{Module, Import, Func, FuncType}
-use Rattle.wasm_types.specs.Stack.{is_same}
+use Rattle.wasm_types.specs.Functions.{imported_type, type_of, same_type}
+use Rattle.wasm_types.specs.Modules.{Module, Func, FuncType}
 use Rattle.wasm_step.specs.declared.call.CallSite.{CallSite}
-use Rattle.wasm_step.specs.Call.{bits_of, site_of}
-use Rattle.wasm_step.specs.Numeric.{Computed, Gives, Fails, IsNone, is_unary, unary, binary}
-use Rattle.wasm_step.specs.Access.{load_width, load_value, store_width}
-use Rattle.wasm_step.specs.Store.{Store}
+use Rattle.wasm_values.specs.Values.{bits_of}
+use Rattle.wasm_step.specs.Call.{site_of}
+use Rattle.wasm_values.specs.Numeric.{Computed, Gives, Fails, IsNone, is_unary, unary, binary}
+use Rattle.wasm_values.specs.Access.{load_width, load_value, store_width}
+use Rattle.wasm_store.specs.Store.{Store}
 use Rattle.wasm_step.specs.Thread.{Thread, with_operand, opened, closed, left, called, arguments, without, is_within, has_room}
 
 -- how a thread stops: at a call of the library, at its end, by a trap, or where no row is for it
@@ -273,43 +272,12 @@ abbrev pub call_own : Module → ℕ → Option Func → Thread → After
 call_own m f None t = Stops Sticks
 call_own m f (Some func) t = call_typed f func (slice_get m.types func.type_index) t
 
--- the type of an imported function
-abbrev pub described : Module → ImportDesc → Option FuncType
-described m (desc.Func type) = slice_get m.types type
-described m (desc.Table limits) = None
-described m (desc.Memory limits) = None
-described m (desc.Global kind mutable) = None
-
-abbrev pub imported_type : Module → Option Import → Option FuncType
-imported_type m None = None
-imported_type m (Some import) = described m import.desc
-
 -- the imports, which are functions of the library, have the first indices
 abbrev pub call : Module → ℕ → Thread → After
 call m f t =
     if nat_lt f (length m.imports)
     then call_library f (imported_type m (slice_get m.imports f)) t
     else call_own m f (slice_get m.funcs (f - length m.imports)) t
-
-abbrev pub own_type : Module → Option Func → Option FuncType
-own_type m None = None
-own_type m (Some func) = slice_get m.types func.type_index
-
--- the type of the function f
-abbrev pub type_of : Module → ℕ → Option FuncType
-type_of m f =
-    if nat_lt f (length m.imports)
-    then imported_type m (slice_get m.imports f)
-    else own_type m (slice_get m.funcs (f - length m.imports))
-
-abbrev pub same_kinds : List ValType → List ValType → Bool
-same_kinds [] [] = true
-same_kinds [] (b ∷ bs) = false
-same_kinds (a ∷ as') [] = false
-same_kinds (a ∷ as') (b ∷ bs) = is_same a b && same_kinds as' bs
-
-abbrev pub same_type : FuncType → FuncType → Bool
-same_type a b = same_kinds a.params b.params && same_kinds a.results b.results
 
 abbrev pub call_if_same : Module → ℕ → Option FuncType → Option FuncType → Thread → After
 call_if_same m f None wanted t = Stops Sticks

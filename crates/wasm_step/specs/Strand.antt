@@ -8,8 +8,10 @@ use Rattle.wasm_types.specs.declared.modules.ExportDesc.{ExportDesc}
 use Rattle.wasm_types.specs.declared.modules.ExportDesc.TheVariants.{Func as ToFunc, Table as ToTable, Memory as ToMemory, Global as ToGlobal}
 use Rattle.wasm_types.specs.Modules.{Module, Func, FuncType, Export}
 use Rattle.wasm_types.specs.Valid.{is_start_export}
-use Rattle.wasm_step.specs.Thread.{Thread, Frame, at_start, waiting_frame, zeros, is_within}
-use Rattle.wasm_step.specs.Reduce.{type_of, given, imported_type}
+use Rattle.wasm_values.specs.Values.{zeros}
+use Rattle.wasm_step.specs.Thread.{Thread, Frame, at_start, waiting_frame, is_within}
+use Rattle.wasm_types.specs.Functions.{own_func, type_of, imported_type}
+use Rattle.wasm_step.specs.Reduce.{given}
 
 -- a thread with its program, and the function of the library at whose call it stands, if it stands at one
 pub record Strand : Type 0 where
@@ -26,10 +28,6 @@ pub record IsHandler (m : Module) (f : ℕ) : Type 0 where
 abbrev pub begun : Option Func → List Frame → ℕ → List Value → Option Thread
 begun None callers f args = None
 begun (Some func) callers f args = Some (at_start callers f func.body (args ++ zeros func.locals) None)
-
--- the program's own function with this index
-abbrev pub own_func : Module → ℕ → Option Func
-own_func m f = slice_get m.funcs (f - length m.imports)
 
 -- a thread of the program that stands at the start of this function, which has one argument
 abbrev pub new_thread : Module → ℕ → ℕ → Option Thread

@@ -1,13 +1,12 @@
 -- A thread: the innermost level of its innermost frame, the levels around it, and the frames that wait
 -- for that frame to return (WebAssembly 1.0, section 4.2.12).
-use Rattle.std.specs.Prelude.{ℕ, ◌+◌, Bool, true, false, nat_lt, nat_le, is_some, ◌&&◌, if◌then◌else◌, reverse, take, drop, replicate, List, [], ◌∷◌, ◌++◌, length, Option, Some, None}
+use Rattle.std.specs.Prelude.{ℕ, ◌+◌, Bool, true, false, nat_lt, nat_le, is_some, ◌&&◌, if◌then◌else◌, reverse, take, drop, List, [], ◌∷◌, ◌++◌, length, Option, Some, None}
 use Rattle.wasm_types.specs.declared.code.Value.{Value}
-use Rattle.wasm_types.specs.declared.code.Value.TheVariants.{I32, I64}
 use Rattle.wasm_types.specs.declared.code.ValType.{ValType}
-use Rattle.wasm_types.specs.declared.code.ValType.TheVariants as types
 use Rattle.wasm_types.specs.Calls.{result_of}
 use Rattle.wasm_types.specs.Code.{Trees, End, Then}
 use Rattle.wasm_types.specs.Modules.{Func, FuncType}
+use Rattle.wasm_values.specs.Values.{zeros}
 
 -- a level: the type of what it leaves to the one around it, the instructions that are left, its operands
 -- with the topmost first, the instructions at which a branch to it goes on, whether a branch carries an
@@ -143,18 +142,6 @@ is_within t = has_room 0 t
 -- the same with one more frame
 abbrev pub has_frame_room : ℕ → Thread → Bool
 has_frame_room more t = nat_lt (length t.callers + 1) 512 && nat_le (size t + more) 16384
-
--- what a local starts as
-abbrev pub zero_of : ValType → Value
-zero_of types.I32 = I32 0
-zero_of types.I64 = I64 0
-zero_of types.F32 = I32 0
-zero_of types.F64 = I64 0
-
--- the declared locals of a function, each a count and a type, as they start
-abbrev pub zeros : List (ℕ × ValType) → List Value
-zeros [] = []
-zeros (d ∷ ds) = replicate d.0 (zero_of d.1) ++ zeros ds
 
 -- without the n topmost operands
 abbrev pub without : ℕ → Thread → Thread

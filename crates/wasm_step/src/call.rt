@@ -1,8 +1,9 @@
 // Calls of the library.
 ghost use Rattle.std.specs.Prelude.{◌≡◌};
-ghost use Rattle.wasm_step.specs.Call.{site_of, bits_of};
+ghost use Rattle.wasm_step.specs.Call.{site_of};
 
 use wasm_types::Value;
+use wasm_values::bits;
 
 /// A call of the library: the index of the imported function, and the bits of its arguments in their
 /// order, with 0 where it has fewer than three.
@@ -23,15 +24,5 @@ pub(crate) fn site(func: u32, arguments: &[Value]) -> CallSite
         a0: bits(arguments.get(0).copied()),
         a1: bits(arguments.get(1).copied()),
         a2: bits(arguments.get(2).copied()),
-    }
-}
-
-pub(crate) fn bits(v: Option<Value>) -> u64
-    ensures { result ≡ bits_of v }
-{
-    match v {
-        None => 0,
-        Some(Value::I32(x)) => u64::from(x),
-        Some(Value::I64(x)) => x,
     }
 }

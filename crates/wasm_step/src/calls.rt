@@ -1,18 +1,19 @@
 // Calls: of the library, of the program's own functions, and through the table.
 ghost use Rattle.std.specs.Prelude.{◌≡◌, ◌+◌, ◌&&◌, ◌<◌, ◌≤◌, [], ◌∷◌, IfOk, IfSome, IfNone, None, OnOk, Some, length, slice_get};
 ghost use Rattle.wasm_types.specs.Modules.{func_type, module_of};
-ghost use Rattle.wasm_types.specs.Stack.{is_same};
 ghost use Rattle.wasm_step.specs.Answer.{after_of};
-ghost use Rattle.wasm_step.specs.Reduce.{call, call_element, call_indirect, call_library, call_own, go_on, imported_type, limited, own_type, same_kinds, same_type, type_of};
+ghost use Rattle.wasm_step.specs.Reduce.{call, call_element, call_indirect, call_library, call_own, go_on, limited};
 ghost use Rattle.wasm_step.specs.Strand.{begun};
-ghost use Rattle.wasm_step.specs.Thread.{called, has_frame_room, waiting_frame, zeros};
+ghost use Rattle.wasm_values.specs.Values.{zeros};
+ghost use Rattle.wasm_step.specs.Thread.{called, has_frame_room, waiting_frame};
 
-use crate::callee::{Callee, own_func};
 use crate::halt::Next;
-use crate::stack::{SIZE_LIMIT, Stack, result_of};
-use crate::store::Store;
+use crate::stack::{SIZE_LIMIT, Stack};
 use std::alloc::AllocError;
-use wasm_types::{FuncType, ImportDesc, Module, Trap, ValType, ValidModule, Value};
+use wasm_store::{
+    Callee, Store, imported_kind, is_same_type, kind_at, kind_of, own_func, result_of,
+};
+use wasm_types::{FuncType, Trap, ValType, ValidModule, Value};
 
 impl<'m> Stack<'m> {
     fn call_library(&mut self, kind: &FuncType, index: u32) -> Next
@@ -179,82 +180,4 @@ pub(crate) fn count_locals(declared: &[(u32, ValType)]) -> Option<usize>
         count += local.0 as usize;
     }
     Some(count)
-}
-
-// The type with this index.
-fn kind_at<'m>(program: &'m Module, index: u32) -> Option<&'m FuncType>
-    ensures some { IfSome result (λ kind. slice_get (module_of program.now).types index ≡ Some (func_type kind.now)) }
-    ensures none { IfNone result (slice_get (module_of program.now).types index ≡ None) }
-{
-    program.types.get(index as usize)
-}
-
-// The type of an imported function.
-fn imported_kind<'m>(program: &'m Module, place: usize) -> Option<&'m FuncType>
-    ensures some { IfSome result (λ kind. imported_type (module_of program.now) (slice_get (module_of program.now).imports place) ≡ Some (func_type kind.now)) }
-    ensures none { IfNone result (imported_type (module_of program.now) (slice_get (module_of program.now).imports place) ≡ None) }
-{
-    let Some(import) = program.imports.get(place) else {
-        return None;
-    };
-    match import.desc {
-        ImportDesc::Func(kind) => kind_at(program, kind),
-        _ => None,
-    }
-}
-
-// The type of the program's own function at this place.
-fn own_kind<'m>(program: &'m Module, place: usize) -> Option<&'m FuncType>
-    ensures some { IfSome result (λ kind. own_type (module_of program.now) (slice_get (module_of program.now).funcs place) ≡ Some (func_type kind.now)) }
-    ensures none { IfNone result (own_type (module_of program.now) (slice_get (module_of program.now).funcs place) ≡ None) }
-{
-    let Some(own) = program.funcs.get(place) else {
-        return None;
-    };
-    kind_at(program, own.type_index)
-}
-
-// The type of the function with this index.
-pub(crate) fn kind_of<'m>(program: &'m Module, index: u32) -> Option<&'m FuncType>
-    ensures some { IfSome result (λ kind. type_of (module_of program.now) index ≡ Some (func_type kind.now)) }
-    ensures none { IfNone result (type_of (module_of program.now) index ≡ None) }
-{
-    let place = index as usize;
-    if place < program.imports.len() {
-        imported_kind(program, place)
-    } else {
-        own_kind(program, place - program.imports.len())
-    }
-}
-
-fn is_same_type(a: &FuncType, b: &FuncType) -> bool
-    ensures { result ≡ same_type (func_type a.now) (func_type b.now) }
-{
-    same_kinds(&a.params, &b.params) && same_kinds(&a.results, &b.results)
-}
-
-fn same_kinds(a: &[ValType], b: &[ValType]) -> bool
-    ensures { result ≡ same_kinds a.now b.now }
-{
-    if a.len() != b.len() {
-        return false;
-    }
-    for i in 0..a.len() {
-        if !is_same(a[i], b[i]) {
-            return false;
-        }
-    }
-    true
-}
-
-fn is_same(a: ValType, b: ValType) -> bool
-    ensures { result ≡ is_same a b }
-{
-    match (a, b) {
-        (ValType::I32, ValType::I32)
-        | (ValType::I64, ValType::I64)
-        | (ValType::F32, ValType::F32)
-        | (ValType::F64, ValType::F64) => true,
-        _ => false,
-    }
 }

@@ -4,12 +4,12 @@ ghost use Rattle.std.specs.Option.{option_map_or};
 ghost use Rattle.wasm_types.specs.Context.{func_type_at};
 ghost use Rattle.wasm_types.specs.Modules.{export as export_of, func_type, module_of};
 ghost use Rattle.wasm_types.specs.Valid.{IsValid, is_entry, is_plain, is_start_export};
-ghost use Rattle.wasm_step.specs.Strand.{entry_from, exported, first_thread, own_func};
+ghost use Rattle.wasm_types.specs.Functions.{own_func};
+ghost use Rattle.wasm_step.specs.Strand.{entry_from, exported, first_thread};
 
-use crate::callee::{Callee, own_func};
-use crate::calls::kind_of;
 use crate::stack::Stack;
 use std::alloc::{AllocError, Global};
+use wasm_store::{Callee, kind_of, own_func};
 use wasm_types::{Export, ExportDesc, FuncType, Module, ValidModule};
 
 /// The program's own function with this index.

@@ -1,23 +1,20 @@
-//! Threads of a WebAssembly 1.0 program as owned values, and the program's memory, globals and table.
+//! Threads of a WebAssembly 1.0 program as owned values.
 #![tactic(auto)]
 
-mod access;
 mod call;
-mod callee;
 mod calls;
 mod control;
 mod first;
 mod halt;
+mod laws;
 mod memory;
-mod numeric;
 mod rows;
 mod run;
 mod stack;
-mod start;
 mod step;
-mod store;
 mod strand;
 
 pub use call::CallSite;
-pub use store::{StartError, Store};
+pub use laws::never_stuck;
 pub use strand::{HandlerError, Pause, Strand};
+pub use wasm_store::{StartError, Store};

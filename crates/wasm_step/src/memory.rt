@@ -2,16 +2,15 @@
 ghost use Rattle.std.specs.Prelude.{◌≡◌, ◌+◌, IfOk, IfSome, OnOk, Some};
 ghost use Rattle.guest_memory.specs.LittleEndian.{IsWidth};
 ghost use Rattle.wasm_step.specs.Answer.{after_of};
-ghost use Rattle.wasm_step.specs.Call.{bits_of};
+ghost use Rattle.wasm_values.specs.Values.{bits_of};
 ghost use Rattle.wasm_step.specs.Reduce.{global_get, global_set, grow_answer, load, memory_grow, memory_size, write, write_at};
 
-use crate::access::{load_value, load_width, store_width};
-use crate::call::bits;
 use crate::halt::Next;
 use crate::stack::Stack;
-use crate::store::Store;
 use std::alloc::AllocError;
+use wasm_store::Store;
 use wasm_types::{Trap, Value};
+use wasm_values::{bits, load_value, load_width, store_width};
 
 impl<'m> Stack<'m> {
     pub fn global_get(&mut self, store: &Store<'m>, x: u32) -> Result<Next, AllocError>

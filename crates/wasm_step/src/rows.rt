@@ -1,14 +1,14 @@
 // Instructions on operands, locals and numbers.
 ghost use Rattle.std.specs.Prelude.{◌≡◌, IfOk};
 ghost use Rattle.wasm_step.specs.Answer.{after_of};
-ghost use Rattle.wasm_step.specs.Numeric.{computed_of};
+ghost use Rattle.wasm_values.specs.Numeric.{computed_of};
 ghost use Rattle.wasm_step.specs.Reduce.{drop_top, got, local_get, local_put, local_set, local_tee, numeric, put, select};
 
 use crate::halt::Next;
-use crate::numeric::{Number, binary, is_unary, unary};
 use crate::stack::Stack;
 use std::alloc::AllocError;
 use wasm_types::Value;
+use wasm_values::{Number, binary, is_unary, unary};
 
 impl<'m> Stack<'m> {
     /// What was computed goes onto the operands.

@@ -7,8 +7,8 @@ ghost use Rattle.wasm_step.specs.Paused.{run_of, settled_of};
 
 use crate::halt::{Next, Stopped};
 use crate::stack::Stack;
-use crate::store::Store;
 use std::alloc::AllocError;
+use wasm_store::Store;
 use wasm_types::{Trap, ValidModule};
 
 /// A burst has at most so many instructions.

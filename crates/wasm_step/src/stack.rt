@@ -1,16 +1,16 @@
 // A thread as an owned value: one stack each of operands, labels, locals and frames.
 ghost use Rattle.std.specs.Prelude.{◌∷◌, OnErr, ◌≡◌, ◌+◌, ◌≤◌, [], ◌++◌, length, IfOk, OnOk, Some, None, if◌then◌else◌, IfSome, IfNone, IsTrue, nat_lt, nat_le, ◌&&◌, false, is_some, slice_get, slice_set, take};
-ghost use Rattle.wasm_types.specs.Calls.{result_of};
 ghost use Rattle.wasm_types.specs.Code.{End, Then, tree, trees};
-ghost use Rattle.wasm_types.specs.Modules.{func_type};
-ghost use Rattle.wasm_step.specs.Thread.{is_end, with_operand, opened, closed, left, called_with, arguments, without, has_frame_room, has_room, zero_of, zeros, at_start};
+ghost use Rattle.wasm_step.specs.Thread.{is_end, with_operand, opened, closed, left, called_with, arguments, without, has_frame_room, has_room, at_start};
+ghost use Rattle.wasm_values.specs.Values.{zeros};
 ghost use Rattle.wasm_step.specs.Call.{sited};
 
 use crate::call::{CallSite, site};
-use crate::callee::Callee;
 use std::alloc::{AllocError, Global};
 use std::marker::Model;
-use wasm_types::{FuncType, Instr, ValType, Value};
+use wasm_store::Callee;
+use wasm_types::{Instr, ValType, Value};
+use wasm_values::zero_of;
 
 /// An open level: the type of what it leaves, the instructions that are left, where a branch to it goes
 /// on, whether that carries an operand, whether it begins the level anew, and how many operands lie below it.
@@ -47,7 +47,7 @@ pub struct Stack<'m> {
 
 impl<'m> Model for Stack<'m> {
     ghost use Rattle.std.specs.Coded.{codes};
-    ghost use Rattle.wasm_step.specs.Coding.{trees_code};
+    ghost use Rattle.wasm_types.specs.Coding.{trees_code};
     ghost use Rattle.wasm_step.specs.Thread.{Thread};
 
     ghost Value = { Thread };
@@ -389,13 +389,6 @@ impl<'m> Stack<'m> {
     }
 }
 
-/// The type of a function's result, if it has one.
-pub(crate) fn result_of(kind: &FuncType) -> Option<ValType>
-    ensures { result ≡ result_of (func_type kind.now) }
-{
-    kind.results.first().copied()
-}
-
 fn keeps_limits(frames: usize, operands: usize, labels: usize, locals: usize, more: usize) -> bool
     ensures { result ≡ (nat_lt frames 512 && nat_le (operands + labels + locals + more) 16384) }
 {
@@ -448,13 +441,4 @@ fn append_zeros(locals: &mut Vec<Value>, declared: &[(u32, ValType)]) -> Result<
         locals.resize(locals.len() + local.0 as usize, zero_of(local.1))?;
     }
     Ok(())
-}
-
-pub(crate) fn zero_of(kind: ValType) -> Value
-    ensures { result ≡ zero_of kind }
-{
-    match kind {
-        ValType::I32 | ValType::F32 => Value::I32(0),
-        ValType::I64 | ValType::F64 => Value::I64(0),
-    }
 }

@@ -7,8 +7,8 @@ ghost use Rattle.wasm_step.specs.Reduce.{limited, reduce, row};
 
 use crate::halt::Next;
 use crate::stack::Stack;
-use crate::store::Store;
 use std::alloc::AllocError;
+use wasm_store::Store;
 use wasm_types::{Instr, Trap, ValidModule, Value};
 
 impl<'m> Stack<'m> {

@@ -2,7 +2,7 @@
 ghost use Rattle.std.specs.Prelude.{◌≡◌, ◌↔◌, IfOk, None, OnOk, Some, Err, false};
 ghost use Rattle.wasm_types.specs.Modules.{module_of};
 ghost use Rattle.wasm_step.specs.Burst.{burst};
-ghost use Rattle.wasm_step.specs.Fits.{Suits};
+ghost use Rattle.wasm_store.specs.Suits.{Suits};
 ghost use Rattle.wasm_step.specs.Pause.{StandsAt, run_of};
 ghost use Rattle.wasm_step.specs.Strand.{IsAnswer, IsHandler, answered, handling, first_thread, is_in, new_thread};
 
@@ -11,9 +11,9 @@ use crate::first::{first, own};
 use crate::halt::Stopped;
 use crate::run::BUDGET;
 use crate::stack::Stack;
-use crate::store::Store;
 use std::alloc::{AllocError, Global};
 use std::marker::Model;
+use wasm_store::Store;
 use wasm_types::{Trap, ValidModule, Value};
 
 /// A thread of a program, with its whole stack.
@@ -26,7 +26,7 @@ pub struct Strand<'m> {
 
 impl<'m> Model for Strand<'m> {
     ghost use Rattle.std.specs.Coded.{codes};
-    ghost use Rattle.wasm_step.specs.Coding.{trees_code};
+    ghost use Rattle.wasm_types.specs.Coding.{trees_code};
     ghost use Rattle.wasm_step.specs.Strand.{Strand};
 
     ghost Value = { Strand };

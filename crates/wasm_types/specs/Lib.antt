@@ -1,4 +1,6 @@
 pub mod Code
+pub mod Coding
+pub mod CodeLaws
 pub mod Modules
 pub mod Traps
 pub mod Maybe
@@ -6,8 +8,10 @@ pub mod Stack
 pub mod Labels
 pub mod Numeric
 pub mod Accesses
+pub mod Opcodes
 pub mod Calls
 pub mod Context
+pub mod Functions
 pub mod Typing
 pub mod Floats
 pub mod Library

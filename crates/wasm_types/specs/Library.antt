@@ -1,40 +1,33 @@
--- The functions that a module may import, all of the module `liblog`.
-use Rattle.std.specs.Prelude.{◌≡◌, ℕ, List, [], ◌∷◌, Option, Some, None, codes, bytes_eq, slice_get, if◌then◌else◌}
+-- The functions that a module may import, all of the module `liblog`: the calls of the library but `begin`.
+use Rattle.std.specs.Prelude.{◌≡◌, ℕ, List, [], ◌∷◌, Option, Some, None, codes, option_and_then, replicate, slice_get, if◌then◌else◌, ◌==◌}
+use Rattle.call_table.specs.Table.{kind_named, row}
+use Rattle.call_table.specs.declared.kind.Kind.{Kind}
+use Rattle.call_table.specs.declared.kind.Kind.TheVariants.{Begin}
+use Rattle.call_table.specs.declared.signature.Signature.{Signature}
 use Rattle.wasm_types.specs.declared.code.ValType.{ValType}
 use Rattle.wasm_types.specs.declared.code.ValType.TheVariants.{I32, I64}
 use Rattle.wasm_types.specs.declared.modules.ImportDesc.{ImportDesc}
 use Rattle.wasm_types.specs.declared.modules.ImportDesc.TheVariants as desc
-use Rattle.wasm_types.specs.Modules.{FuncType, Import}
+use Rattle.wasm_types.specs.Modules.{FuncType, Import, Module}
 
-abbrev takes_gives : List ValType → List ValType → FuncType
-takes_gives params results = record { params = params; results = results }
+abbrev pub unless_begin : Kind → Option Kind
+unless_begin Begin = None
+unless_begin kind = Some kind
 
--- each function's name and type
-abbrev pub library : List (List ℕ × FuncType)
-library =
-    (codes "exit", takes_gives (I32 ∷ []) [])
-    ∷ (codes "note", takes_gives (I64 ∷ []) [])
-    ∷ (codes "print", takes_gives (I32 ∷ I32 ∷ []) (I32 ∷ []))
-    ∷ (codes "now", takes_gives [] (I64 ∷ []))
-    ∷ (codes "sleep_until", takes_gives (I64 ∷ []) (I64 ∷ []))
-    ∷ (codes "random", takes_gives (I32 ∷ I32 ∷ []) (I32 ∷ []))
-    ∷ (codes "me", takes_gives [] (I32 ∷ []))
-    ∷ (codes "send", takes_gives (I32 ∷ I32 ∷ I32 ∷ []) (I32 ∷ []))
-    ∷ (codes "recv", takes_gives (I32 ∷ I32 ∷ I32 ∷ []) (I32 ∷ []))
-    ∷ (codes "try_recv", takes_gives (I32 ∷ I32 ∷ I32 ∷ []) (I32 ∷ []))
-    ∷ (codes "spawn", takes_gives (I32 ∷ I32 ∷ []) (I32 ∷ []))
-    ∷ (codes "yield", takes_gives [] [])
-    ∷ (codes "join", takes_gives (I32 ∷ []) (I32 ∷ []))
-    ∷ (codes "lock", takes_gives (I32 ∷ []) (I32 ∷ []))
-    ∷ (codes "unlock", takes_gives (I32 ∷ []) (I32 ∷ []))
-    ∷ (codes "on_signal", takes_gives (I32 ∷ I32 ∷ []) (I32 ∷ []))
-    ∷ (codes "thread", takes_gives [] (I32 ∷ []))
-    ∷ []
+-- the kind of the calls that are imported under a name, if there is one
+unfoldable pub importable : List ℕ → Option Kind
+importable name = option_and_then unless_begin (kind_named name)
 
--- the type under a name, if the name stands there
-abbrev pub type_under : List ℕ → List (List ℕ × FuncType) → Option FuncType
-type_under name [] = None
-type_under name (f ∷ fs) = if bytes_eq f.0 name then Some f.1 else type_under name fs
+-- the results, from the result's width in bits
+abbrev pub results_of : ℕ → List ValType
+results_of width = if width == 0 then [] else if width == 32 then I32 ∷ [] else I64 ∷ []
+
+-- the type with this signature
+abbrev pub type_of : Signature → FuncType
+type_of s = record {
+  params = replicate s.params (if s.wide_param then I64 else I32);
+  results = results_of s.result;
+}
 
 -- the index of a function's type
 abbrev pub imported_type : ImportDesc → Option ℕ
@@ -46,6 +39,10 @@ pub record IsOfLibrary (types : List FuncType) (i : Import) : Type 0 where
   pub type_index : ℕ
   pub is_func : imported_type i.desc ≡ Some type_index
   pub from_library : i.«module» ≡ codes "liblog"
-  pub type : FuncType
-  pub named : type_under i.name library ≡ Some type
-  pub typed : slice_get types type_index ≡ Some type
+  pub kind : Kind
+  pub named : importable i.name ≡ Some kind
+  pub typed : slice_get types type_index ≡ Some (type_of (row kind).signature)
+
+-- the kind of the calls of the function with this index, if it is imported
+abbrev pub kind_at : Module → ℕ → Option Kind
+kind_at m func = option_and_then (λ (i : Import). importable i.name) (slice_get m.imports func)

@@ -1,4 +1,6 @@
 // Value types, values and instructions.
+ghost use Rattle.std.specs.Prelude.{◌≡◌};
+ghost use Rattle.wasm_types.specs.Floats.{is_float};
 
 /// A value type (WebAssembly 1.0, section 2.3.1).
 #[derive(Clone, Copy, Debug, PartialEq, Eq, Drop)]
@@ -7,6 +9,16 @@ pub enum ValType {
     I64,
     F32,
     F64,
+}
+
+impl ValType {
+    /// Whether it is a type of floats.
+    #[inline]
+    pub fn is_float(self) -> bool
+        ensures { result ≡ is_float self }
+    {
+        matches!(self, ValType::F32 | ValType::F64)
+    }
 }
 
 /// A value that a program computes with, as its bits. Modules with floats are not run, so there is

@@ -1,15 +1,21 @@
 // WebAssembly 1.0's modules, instructions, values and traps: the types that the other crates share.
 #![tactic(auto)]
 
+mod accesses;
 mod code;
+mod library;
 mod modules;
+mod operators;
 mod traps;
 mod valid;
 
+pub use accesses::{Access, load_of, store_of};
 pub use code::{Instr, ValType, Value};
+pub use library::importable;
 pub use modules::{
     Elem, Export, ExportDesc, Func, FuncType, GlobalDef, Import, ImportDesc, Limits, Module,
     Segment,
 };
+pub use operators::{Operator, operator_of};
 pub use traps::Trap;
 pub use valid::{ValidModule, claim};

@@ -1,11 +1,14 @@
 // Modules that are known to be valid.
 ghost use Rattle.std.specs.Prelude.{◌≡◌, IfNone, IfOk, IfSome, None, Some, map, option_map, slice_get};
 ghost use Rattle.wasm_types.specs.Context.{filled, filled_locals};
+ghost use Rattle.wasm_types.specs.Library.{importable, kind_at};
 ghost use Rattle.wasm_types.specs.Modules.{module_of};
 ghost use Rattle.wasm_types.specs.Valid.{IsValid};
 
 use crate::code::ValType;
-use crate::modules::Module;
+use crate::library::importable;
+use crate::modules::{Import, Module};
+use call_table::Kind;
 use std::alloc::{AllocError, Global};
 use std::marker::Model;
 
@@ -13,6 +16,8 @@ use std::marker::Model;
 #[derive(Debug, Drop)]
 pub struct ValidModule {
     valid: Module,
+    // For each import, the kind of its calls.
+    kinds: Vec<Option<Kind>>,
     // For each of the module's own functions, the locals without the runs of count 0, of which a
     // module can declare millions: a call then walks none of them.
     runs: Vec<Vec<(u32, ValType)>>,
@@ -29,13 +34,16 @@ impl Model for ValidModule {
 
     ghost use Rattle.std.specs.Prelude.{◌≡◌, map};
     ghost use Rattle.wasm_types.specs.Context.{filled_locals};
+    ghost use Rattle.wasm_types.specs.Library.{importable};
     ghost use Rattle.wasm_types.specs.Modules.{module_of};
     ghost use Rattle.wasm_types.specs.Valid.{IsValid};
 
     ghost view = { λ v. v.valid };
 
     ghost invariant = { λ v.
-        IsValid (module_of v.valid) × (map (λ runs. runs.items) v.runs.items ≡ filled_locals (module_of v.valid)) };
+        IsValid (module_of v.valid)
+        × (map (λ runs. runs.items) v.runs.items ≡ filled_locals (module_of v.valid))
+        × (v.kinds.items ≡ map (λ i. importable i.name.items) v.valid.imports.items) };
 }
 
 /// A valid module as one that is known to be.
@@ -43,11 +51,23 @@ pub fn claim(alloc: Global, checked: Module) -> Result<ValidModule, AllocError>
     requires { IsValid (module_of checked) }
     ensures { IfOk result (λ v. v ≡ checked) }
 {
+    let kinds = import_kinds(alloc, &checked.imports)?;
     let runs = filled_locals(alloc, &checked)?;
     Ok(ValidModule {
         valid: checked,
+        kinds,
         runs,
     })
+}
+
+// The kind of each import's calls.
+fn import_kinds(alloc: Global, imports: &[Import]) -> Result<Vec<Option<Kind>>, AllocError>
+    ensures { IfOk result (λ kinds. kinds.items ≡ map (λ i. importable i.name.items) imports.now) }
+{
+    imports
+        .iter()
+        .map(|import| importable(&import.name))
+        .collect(alloc)
 }
 
 // The runs of locals that are not empty, of each of the module's own functions.
@@ -81,6 +101,14 @@ impl ValidModule {
         ensures valid { IsValid (module_of result.now) }
     {
         &self.valid
+    }
+
+    /// The kind of the calls of the function with this index. `None` comes exactly where no such function
+    /// is imported.
+    pub fn import_kind(&self, func: u32) -> Option<Kind>
+        ensures { result ≡ kind_at (module_of self.now) func }
+    {
+        self.kinds.get(func as usize).copied().flatten()
     }
 
     /// The locals that the module's own function at this place declares, as counts and types, without

@@ -8,11 +8,12 @@ use Rattle.std.proofs.lemmas.Bool.Decides.{Decides-and, Decides-by_and, Decides-
 use Rattle.std.proofs.lemmas.Slice.Eq.{bytes_eq-Decides}
 use Rattle.std.specs.List.{IsDistinct, AllByRecursion}
 use Rattle.std.proofs.lemmas.Map.Made.{AllPairs-from_IsDistinct, IsDistinct-from_AllPairs}
+use Rattle.call_table.specs.Table.{row}
 use Rattle.wasm_types.specs.declared.code.ValType.{ValType}
 use Rattle.wasm_types.specs.declared.code.ValType.TheVariants.{I32, I64, F32, F64}
 use Rattle.wasm_types.specs.Stack.{is_same}
 use Rattle.wasm_types.specs.Modules.{FuncType, Import, Func, Export, Module}
-use Rattle.wasm_types.specs.Library.{IsOfLibrary, imported_type, library, type_under}
+use Rattle.wasm_types.specs.Library.{IsOfLibrary, importable, imported_type, type_of}
 use Rattle.wasm_types.specs.Rules.{IsShaped, IsTyped, IsTypedFunc}
 use Rattle.wasm_validate.specs.Shape.{is_linked, is_within_limits}
 use Rattle.wasm_validate.proofs.ShapeLaws.{linked_by, shaped_from, within_by}
@@ -75,9 +76,9 @@ of_library-Decides types i =
     Decides-like _ (λ h.
     let named = is_there _ _ h.1 in
     let found = is_there _ _ named.2 in
-    record { type_index = found.0; is_func = found.1; from_library = h.0; type = named.0; named = named.1; typed = found.2 })
-    (λ l. (l.from_library, from_there _ _ l.type l.named (from_there _ _ l.type_index l.is_func l.typed)))
-    (Decides-and _ _ (bytes_eq-Decides i.«module» (codes "liblog")) (some-Decides _ _ (typed_as-Decides types i) (type_under i.name library)))
+    record { type_index = found.0; is_func = found.1; from_library = h.0; kind = named.0; named = named.1; typed = found.2 })
+    (λ l. (l.from_library, from_there _ _ l.kind l.named (from_there _ _ l.type_index l.is_func l.typed)))
+    (Decides-and _ _ (bytes_eq-Decides i.«module» (codes "liblog")) (some-Decides _ _ (λ kind. typed_as-Decides types i (type_of (row kind).signature)) (importable i.name)))
 
 pub imports-Decides : (m : Module) → Decides (are_of_library m) (All (IsOfLibrary m.types) m.imports)
 imports-Decides m = Decides-by_and _ _ (list_all (is_of_library m.types)) (of_library-Decides m.types) refl (λ _ _. refl) m.imports

@@ -1,12 +1,9 @@
 pub mod ConstantLaws
 pub mod DecidingLaws
+pub mod FaultLaws
 pub mod FloatLaws
-pub mod Heights
 pub mod LibraryLaws
 pub mod Lists
 pub mod Loops
 pub mod NameLaws
-pub mod Runs
 pub mod ShapeLaws
-pub mod Trees
-pub mod Unknown

@@ -4,9 +4,9 @@ use Rattle.std.proofs.lemmas.List.{take_all, length-map}
 use Rattle.std.proofs.lemmas.List.Elements.{All-more, All-map}
 use Rattle.std.proofs.Math.ListN.{get_or-map}
 use Rattle.std.specs.Prelude.{Err}
-use Rattle.wasm_validate.specs.declared.refusal.Refusal.{Refusal}
-use Rattle.wasm_validate.specs.declared.refusal.Refusal.TheVariants.{Invalid, OutOfMemory}
-use Rattle.wasm_validate.specs.Steps.{Judges}
+use Rattle.wasm_typing.specs.declared.refusal.Refusal.{Refusal}
+use Rattle.wasm_typing.specs.declared.refusal.Refusal.TheVariants.{Invalid, OutOfMemory}
+use Rattle.wasm_typing.specs.Steps.{Judges}
 
 module _ {X Y : Type 0} (P : Y → Type 0) (f : X → Y) where
   abbrev pub IsSeen : X → Type 0

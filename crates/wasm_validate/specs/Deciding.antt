@@ -2,10 +2,11 @@
 use Rattle.std.specs.Prelude.{ℕ, Bool, true, false, not, ◌&&◌, List, [], ◌∷◌, ◌++◌, map, codes, bytes_eq, slice_get}
 use Rattle.std.specs.List.{list_all}
 use Rattle.std.specs.Option.{option_map_or, is_some}
+use Rattle.call_table.specs.Table.{row}
 use Rattle.wasm_types.specs.declared.code.ValType.{ValType}
 use Rattle.wasm_types.specs.Calls.{result_of}
 use Rattle.wasm_types.specs.Context.{context_of, expand}
-use Rattle.wasm_types.specs.Library.{imported_type, library, type_under}
+use Rattle.wasm_types.specs.Library.{importable, imported_type, type_of}
 use Rattle.wasm_types.specs.Maybe.{◌>>=◌}
 use Rattle.wasm_types.specs.Modules.{FuncType, Import, Func, Export, Module}
 use Rattle.wasm_types.specs.Stack.{empty, is_exactly, is_same}
@@ -31,7 +32,7 @@ is_typed_as types i type = option_map_or (is_type_at types type) (imported_type 
 -- a function of the library, of exactly its type
 abbrev pub is_of_library : List FuncType → Import → Bool
 is_of_library types i =
-    bytes_eq i.«module» (codes "liblog") && option_map_or (is_typed_as types i) (type_under i.name library) false
+    bytes_eq i.«module» (codes "liblog") && option_map_or (λ kind. is_typed_as types i (type_of (row kind).signature)) (importable i.name) false
 
 abbrev pub are_of_library : Module → Bool
 are_of_library m = list_all (is_of_library m.types) m.imports

@@ -1,10 +1,7 @@
 pub mod Constants
 pub mod Deciding
-pub mod Locals
+pub mod Fault
 pub mod Neighbors
-pub mod Operands
 pub mod Refusals
 pub mod Shape
 pub mod Signatures
-pub mod Steps
-pub mod Views

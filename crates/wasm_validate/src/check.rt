@@ -5,18 +5,18 @@ ghost use Rattle.wasm_types.specs.Modules.{module_of};
 ghost use Rattle.wasm_types.specs.Rules.{IsTyped};
 ghost use Rattle.wasm_types.specs.Valid.{IsValid};
 ghost use Rattle.wasm_validate.specs.Refusals.{IsFirst};
-ghost use Rattle.wasm_validate.specs.Steps.{Judges};
+ghost use Rattle.wasm_typing.specs.Steps.{Judges};
 
 use crate::floats::is_with_floats;
 use crate::functions::{check_functions, type_indices};
 use crate::imports::are_of_library;
 use crate::invalid::Invalid;
-use crate::refusal::Refusal;
 use crate::shape::check_shape;
 use crate::sizes::is_over_limit;
 use crate::start::has_no_start;
 use std::alloc::Global;
 use wasm_types::Module;
+use wasm_typing::Refusal;
 
 /// Whether the module is valid, or else the first refusal that holds.
 pub(crate) fn check(alloc: Global, checked: &Module) -> Result<(), Invalid>

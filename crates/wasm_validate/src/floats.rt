@@ -7,7 +7,9 @@ ghost use Rattle.wasm_types.specs.Floats.{has_float, has_float_func, has_float_g
 ghost use Rattle.wasm_types.specs.Modules.{func, func_type, global_def, module_of};
 ghost use Rattle.wasm_types.specs.Numeric.{operator_of};
 
-use wasm_types::{Func, FuncType, GlobalDef, ImportDesc, Instr, Module, ValType};
+use wasm_types::{
+    Func, FuncType, GlobalDef, ImportDesc, Instr, Module, ValType, load_of, operator_of, store_of,
+};
 
 /// Whether a float value type or an instruction on floats stands anywhere in the module.
 #[tactic(auto, using(crate::proofs::Lists::list_any_map))]
@@ -74,20 +76,20 @@ fn has_float_type(t: &FuncType) -> bool
 fn any_float(kinds: &[ValType]) -> bool
     ensures { result ≡ list_any is_float kinds.now }
 {
-    kinds.iter().any(|kind| is_float(*kind))
+    kinds.iter().any(|kind| kind.is_float())
 }
 
 fn any_float_run(runs: &[(u32, ValType)]) -> bool
     ensures { result ≡ list_any (λ run. is_float run.1) runs.now }
 {
-    runs.iter().any(|run| is_float(run.1))
+    runs.iter().any(|run| run.1.is_float())
 }
 
 fn is_float_import(desc: ImportDesc) -> bool
     ensures { result ≡ is_float_import desc }
 {
     match desc {
-        ImportDesc::Global(kind, _) => is_float(kind),
+        ImportDesc::Global(kind, _) => kind.is_float(),
         _ => false,
     }
 }
@@ -101,7 +103,7 @@ fn has_float_func(f: &Func) -> bool
 fn has_float_global(g: &GlobalDef) -> bool
     ensures { result ≡ has_float_global (global_def g.now) }
 {
-    is_float(g.kind) || have_float(&g.init)
+    g.kind.is_float() || have_float(&g.init)
 }
 
 // Whether one of the instructions is on floats or names a float type.
@@ -143,17 +145,11 @@ fn has_float(instr: &Instr) -> bool
     }
 }
 
-fn is_float(kind: ValType) -> bool
-    ensures { result ≡ is_float kind }
-{
-    matches!(kind, ValType::F32 | ValType::F64)
-}
-
 fn is_float_result(kind: Option<ValType>) -> bool
     ensures { result ≡ is_float_result kind }
 {
     match kind {
-        Some(kind) => is_float(kind),
+        Some(kind) => kind.is_float(),
         None => false,
     }
 }
@@ -161,17 +157,26 @@ fn is_float_result(kind: Option<ValType>) -> bool
 fn is_float_load(opcode: u8) -> bool
     ensures { result ≡ is_float_access (load_of opcode) }
 {
-    0x2A <= opcode && opcode <= 0x2B
+    match load_of(opcode) {
+        Some(found) => found.moved.is_float(),
+        None => false,
+    }
 }
 
 fn is_float_store(opcode: u8) -> bool
     ensures { result ≡ is_float_access (store_of opcode) }
 {
-    0x38 <= opcode && opcode <= 0x39
+    match store_of(opcode) {
+        Some(found) => found.moved.is_float(),
+        None => false,
+    }
 }
 
 fn is_float_operator(opcode: u8) -> bool
     ensures { result ≡ is_float_operator (operator_of opcode) }
 {
-    matches!(opcode, 0x5B..=0x66 | 0x8B..=0xA6 | 0xA8..=0xAB | 0xAE..=0xBF)
+    match operator_of(opcode) {
+        Some(found) => found.operand.is_float() || found.gives.is_float(),
+        None => false,
+    }
 }

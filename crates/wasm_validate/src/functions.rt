@@ -3,15 +3,11 @@ ghost use Rattle.std.specs.Prelude.{◌≡◌, IfOk, MatchOption, None, Some, ma
 ghost use Rattle.wasm_types.specs.Context.{funcs_of};
 ghost use Rattle.wasm_types.specs.Modules.{module_of, func, func_type};
 ghost use Rattle.wasm_types.specs.Rules.{IsTypedFunc, AreTypedFuncs};
-ghost use Rattle.wasm_validate.specs.Steps.{Judges};
+ghost use Rattle.wasm_typing.specs.Steps.{Judges};
 
-use crate::bodies::check_body;
-use crate::calls::result_of;
-use crate::context::Context;
-use crate::locals::Locals;
-use crate::refusal::Refusal;
 use std::alloc::{AllocError, Global};
 use wasm_types::{Func, FuncType, ImportDesc, Module};
+use wasm_typing::{Context, Locals, Refusal, check_body, result_of};
 
 /// Whether each function has a type of the module, and code that is well typed.
 pub(crate) fn check_functions(

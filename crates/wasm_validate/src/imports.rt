@@ -1,15 +1,14 @@
 // Whether imports are functions of the library.
 ghost use Rattle.std.specs.Prelude.{◌≡◌, ◌↔◌, All, IsTrue, codes, map, replicate};
 ghost use Rattle.std.specs.List.{list_all};
-ghost use Rattle.std.specs.Option.{option_map};
-ghost use Rattle.wasm_types.specs.Library.{IsOfLibrary};
+ghost use Rattle.wasm_types.specs.Library.{IsOfLibrary, results_of, type_of};
 ghost use Rattle.wasm_types.specs.Modules.{func_type, import_of, module_of};
 ghost use Rattle.wasm_types.specs.Rules.{has_type};
-ghost use Rattle.wasm_validate.specs.Signatures.{HasTypeUnder, importable_type, results_of, type_of};
+ghost use Rattle.wasm_validate.specs.Signatures.{HasTypeUnder};
 
 use crate::segments::has_index;
-use lib_calls::{Signature, kind_of, signature_of};
-use wasm_types::{FuncType, Import, ImportDesc, Module, ValType};
+use call_table::Signature;
+use wasm_types::{FuncType, Import, ImportDesc, Module, ValType, importable};
 
 /// Whether each import is a function of the library, of exactly its type.
 pub(crate) fn are_of_library(types: &[FuncType], imports: &[Import]) -> bool
@@ -63,24 +62,13 @@ fn is_library(name: &[u8]) -> bool
 fn has_type_under(types: &[FuncType], index: u32, name: &[u8]) -> bool
     ensures { IsTrue result ↔ HasTypeUnder (map func_type types.now) index name.now }
 {
-    let Some(signature) = importable(name) else {
+    let Some(kind) = importable(name) else {
         return false;
     };
     match types.get(index as usize) {
-        Some(found) => has_signature(found, signature),
+        Some(found) => has_signature(found, kind.signature()),
         None => false,
     }
-}
-
-// The signature of the call with this name, if a guest can import it.
-fn importable(name: &[u8]) -> Option<Signature>
-    ensures { option_map type_of result ≡ importable_type name.now }
-{
-    let kind = kind_of(name)?;
-    if kind == 0 {
-        return None;
-    }
-    signature_of(kind)
 }
 
 fn has_signature(found: &FuncType, signature: Signature) -> bool

@@ -6,31 +6,23 @@ ghost use Rattle.wasm_types.specs.Modules.{module_of};
 ghost use Rattle.wasm_types.specs.Valid.{IsValid};
 ghost use Rattle.wasm_validate.specs.Refusals.{IsFirst};
 
-mod accesses;
-mod bodies;
-mod calls;
 mod check;
 mod constants;
-mod context;
 mod exports;
 mod floats;
 mod functions;
 mod imports;
 mod invalid;
-mod labels;
+mod laws;
 mod limits;
-mod locals;
-mod numeric;
-mod operands;
-mod refusal;
 mod segments;
 mod shape;
 mod sizes;
 mod start;
-mod steps;
 
 use check::check;
 pub use invalid::Invalid;
+pub use laws::exact_fault;
 use std::alloc::Global;
 use wasm_types::{Module, ValidModule, claim};
 

@@ -4,17 +4,17 @@ ghost use Rattle.wasm_types.specs.Context.{funcs_of};
 ghost use Rattle.wasm_types.specs.Modules.{module_of};
 ghost use Rattle.wasm_types.specs.Rules.{IsShaped};
 ghost use Rattle.wasm_validate.specs.Shape.{is_linked, is_within_limits};
-ghost use Rattle.wasm_validate.specs.Steps.{Judges};
+ghost use Rattle.wasm_typing.specs.Steps.{Judges};
 
 use crate::constants::are_initial;
 use crate::exports::{are_exports, have_own_names};
 use crate::imports::have_types;
 use crate::limits::{are_memories, are_tables, have_few_results};
-use crate::refusal::Refusal;
 use crate::segments::{are_elems, are_segments};
 use crate::start::is_start;
 use std::alloc::Global;
 use wasm_types::Module;
+use wasm_typing::Refusal;
 
 /// Whether the module keeps all rules but those of its functions' code.
 pub(crate) fn check_shape(

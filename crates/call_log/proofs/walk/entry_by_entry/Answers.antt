@@ -2,7 +2,7 @@ use Rattle.call_log.proofs.Walks.{end, step}
 use Rattle.call_log.proofs.walk.entry_by_entry.Goals as goal
 
 pub returns-clause-end : goal.returns-clause-end
-returns-clause-end c = end
+returns-clause-end c = end c.exact_readers.ensures
 
 pub returns-clause-step : goal.returns-clause-step
-returns-clause-step c = step
+returns-clause-step c = step c.exact_readers.ensures

@@ -1,4 +1,5 @@
-use Rattle.std.proofs.Common.{refl, ap, subst, ◌∙◌}
+use Rattle.std.proofs.Common.{ℕ, refl, ap, subst, ◌∙◌}
+use Rattle.call_table.specs.declared.kind.Kind.TheVariants.{Begin}
 use Rattle.coop_threads.specs.Crew.{empty, with_new_thread}
 use Rattle.wasm_types.specs.Modules.{Module, module_of}
 use Rattle.wasm_types.specs.Valid.{IsValid}
@@ -16,8 +17,9 @@ invariant_of-result c =
     let s = c.in_ok-strand.strand in
     let program = ap {A = Module} {B = Strand} (λ m. record { program = m; thread = s.thread; call = s.call }) c.in_ok-strand.ensures.program in
     let call = ap {B = Strand} (λ o. record { program = m; thread = s.thread; call = o }) c.in_ok-strand.ensures.call in
-    let waiting = ap {A = Strand} {B = Waiting} (λ s. record { call = begin; strand = s }) (program ∙ call) in
-    let crew = c.in-Ok.ensures.ok ∙ ap (λ crew. with_new_thread crew (record { call = begin; strand = s })) c.new-crew.ensures ∙ ap (with_new_thread empty) waiting in
+    let waiting = ap {A = Strand} {B = Waiting} (λ s. record { kind = Begin; call = begin; strand = s }) (program ∙ call) in
+    let made : ℕ → Waiting = λ n. record { kind = Begin; call = record { kind = n; a0 = 0; a1 = 0; a2 = 0 }; strand = s } in
+    let crew = c.in-Ok.ensures.ok ∙ ap (λ crew. with_new_thread crew (made c.number.result)) c.new-crew.ensures ∙ ap (with_new_thread empty) (ap made c.number.ensures ∙ waiting) in
     let valid = subst (λ r. IsValid (module_of r)) c.module.ensures.same c.module.ensures.valid in
     let p : Parts = record {
       program = c.args.program;

@@ -1,5 +1,5 @@
 use Rattle.std.proofs.Common.{◌≡◌, ◌≤◌, length, take}
-use Rattle.wasm_step.specs.Thread.{zeros}
+use Rattle.wasm_values.specs.Values.{zeros}
 use Rattle.wasm_step.proofs.calls.count_locals.Given as goal
 
 abbrev pub invariant-loop-local : goal.invariant-loop-local

@@ -2,7 +2,7 @@ use Rattle.std.proofs.Common.{subst}
 use Rattle.std.specs.Prelude.{IsSome}
 use Rattle.wasm_types.specs.declared.modules.Module.{Module}
 use Rattle.wasm_types.specs.Modules.{module_of}
-use Rattle.wasm_step.specs.Strand.{own_func}
+use Rattle.wasm_types.specs.Functions.{own_func}
 use Rattle.wasm_step.proofs.Starts.{start_is_own}
 use Rattle.wasm_step.proofs.first.first.Goals as goal
 

@@ -2,7 +2,7 @@ use Rattle.std.proofs.Common.{◌≡◌, ℕ, ◌+◌, ◌-◌, List, ◌++◌, 
 use Rattle.std.proofs.lemmas.List.{take_all}
 use Rattle.wasm_types.specs.declared.code.Value.{Value}
 use Rattle.wasm_types.specs.declared.code.ValType.TheVariants.{I32}
-use Rattle.wasm_step.specs.Thread.{zeros, zero_of}
+use Rattle.wasm_values.specs.Values.{zeros, zero_of}
 use Rattle.wasm_step.proofs.Zeros.{zeros_more}
 use Rattle.wasm_step.proofs.stack.append_zeros.Goals as goal
 

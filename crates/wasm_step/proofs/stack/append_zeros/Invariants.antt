@@ -1,5 +1,5 @@
 use Rattle.std.proofs.Common.{◌≡◌, ◌++◌, take}
-use Rattle.wasm_step.specs.Thread.{zeros}
+use Rattle.wasm_values.specs.Values.{zeros}
 use Rattle.wasm_step.proofs.stack.append_zeros.Given as goal
 
 abbrev pub invariant-loop-local : goal.invariant-loop-local

@@ -4,7 +4,7 @@ use Rattle.lib_calls.specs.Entry.{entry_of}
 use Rattle.wasm_step.specs.Strand.{answered}
 use Rattle.guest_process.specs.Answers.{exited}
 use Rattle.guest_process.specs.GoesOn.{counted, entered, handler, runs}
-use Rattle.guest_process.specs.Kinds.{ends_process, kind_of, value_of}
+use Rattle.guest_process.specs.Kinds.{value_of}
 use Rattle.guest_process.specs.Seen.{state_of}
 use Rattle.guest_process.specs.Sound.{StandsAt}
 use Rattle.guest_process.proofs.Advancing.{exits, goes, is_out, stands_at}
@@ -16,7 +16,7 @@ returns-then-ends_process-clause-state c =
     let e = entry_of c.args.entry.now in
     let w = c.in-Some.waiting in
     let at = sym c.take.ensures.value ∙ c.in-Some.is in
-    let ends = ap ends_process (sym c.kind_of-kind.ensures) ∙ sym c.ends_process.ensures ∙ c.if-ends_process.true in
+    let ends = sym c.ends_process.ensures ∙ c.if-ends_process.true in
     c.exit.ensures.state
     ∙ ap (λ crew. exited (counted (record S { crew = crew }) e.clock) e.thread w.call.a0) c.in-Some.ensures.some
     ∙ exits S e w at ends
@@ -34,7 +34,7 @@ pub go_on-requires-clause-stands : goal.go_on-requires-clause-stands
 go_on-requires-clause-stands c =
     let w = c.in-Some.waiting in
     let is = stands_at (state_of c.args.self) c.args.entry.now.thread w c.requires.process.sound.threads (sym c.take.ensures.value ∙ c.in-Some.is) in
-    subst (λ k. StandsAt w.strand.program w k) (sym c.kind_of-kind.ensures) (subst (λ m. StandsAt m w (kind_of w.call.kind)) (sym is.program) is.stands)
+    subst (λ m. StandsAt m w w.kind) (sym is.program) is.stands
 
 pub go_on-requires-clause-handlers : goal.go_on-requires-clause-handlers
 go_on-requires-clause-handlers c = c.requires.process.sound.handlers
@@ -45,8 +45,7 @@ returns-clause-state c =
     let e = entry_of c.args.entry.now in
     let w = c.in-Some.waiting in
     let at = sym c.take.ensures.value ∙ c.in-Some.is in
-    let ends = ap ends_process (sym c.kind_of-kind.ensures) ∙ sym c.ends_process.ensures ∙ c.if-ends_process.false in
+    let ends = sym c.ends_process.ensures ∙ c.if-ends_process.false in
     c.in_ok-go_on.ensures.state
-    ∙ ap (λ k. runs (counted (record S { crew = c.take.new.self }) e.clock) e.thread (entered S.store.program (answered w.strand (value_of k e.reply)) e.signal (handler S.handlers e.signal))) c.kind_of-kind.ensures
-    ∙ ap (λ crew. runs (counted (record S { crew = crew }) e.clock) e.thread (entered S.store.program (answered w.strand (value_of (kind_of w.call.kind) e.reply)) e.signal (handler S.handlers e.signal))) c.in-Some.ensures.some
+    ∙ ap (λ crew. runs (counted (record S { crew = crew }) e.clock) e.thread (entered S.store.program (answered w.strand (value_of w.kind e.reply)) e.signal (handler S.handlers e.signal))) c.in-Some.ensures.some
     ∙ goes S e w at ends

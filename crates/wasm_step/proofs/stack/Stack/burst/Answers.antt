@@ -5,7 +5,7 @@ use Rattle.wasm_step.specs.Answer.{after_of, stop_of}
 use Rattle.wasm_step.specs.Burst.{Done, at_next, burst, settle}
 use Rattle.wasm_step.specs.Paused.{settled_of}
 use Rattle.wasm_step.specs.Reduce.{Sticks}
-use Rattle.wasm_step.specs.Store.{Store}
+use Rattle.wasm_store.specs.Store.{Store}
 use Rattle.wasm_step.proofs.Programs.{same_program}
 use Rattle.wasm_step.proofs.Runs.{standing, halts, settle_halts, burst_done, burst_on, burst_stop, burst_spent}
 use Rattle.wasm_step.proofs.stack.Stack.burst.Goals as goal

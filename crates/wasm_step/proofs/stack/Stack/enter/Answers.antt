@@ -1,7 +1,8 @@
 use Rattle.std.proofs.Common.{◌≡◌, ◌≤◌, ◌-◌, ◌++◌, [], Some, length, take, drop, refl, sym, ap, ◌∙◌, arith, append_assoc}
 use Rattle.std.specs.Prelude.{false}
 use Rattle.std.proofs.lemmas.List.{take_rest}
-use Rattle.wasm_step.specs.Thread.{Thread, called_with, arguments, entered, zeros}
+use Rattle.wasm_values.specs.Values.{zeros}
+use Rattle.wasm_step.specs.Thread.{Thread, called_with, arguments, entered}
 use Rattle.wasm_step.specs.declared.stack.Held.{Held}
 use Rattle.wasm_step.specs.View.{thread_of}
 use Rattle.wasm_step.proofs.Views.{IsSound-operands, keeps_without, without_view, arguments_view, entered_sound, entered_view, IsSound-locals, longer}

@@ -3,7 +3,7 @@ use Rattle.std.specs.Prelude.{false, true}
 use Rattle.std.proofs.lemmas.Result.{IfOk-weaker}
 use Rattle.wasm_types.specs.declared.code.Instr.{Instr}
 use Rattle.wasm_types.specs.Code.{Tree, Trees, tree, trees}
-use Rattle.wasm_types.proofs.CodeLaws.{tree-block, tree-loop, tree-if}
+use Rattle.wasm_types.specs.CodeLaws.{tree-block, tree-loop, tree-if}
 use Rattle.wasm_step.specs.Reduce.{Goes, choose, limited, row}
 use Rattle.wasm_step.specs.Thread.{Thread, opened}
 use Rattle.wasm_step.proofs.stack.Stack.row.Goals as goal

@@ -3,7 +3,8 @@ use Rattle.wasm_types.specs.declared.code.Value.{Value}
 use Rattle.wasm_types.specs.declared.code.Value.TheVariants.{I32}
 use Rattle.wasm_types.specs.Modules.{Func, module_of}
 use Rattle.wasm_step.specs.Strand.{begun, new_thread}
-use Rattle.wasm_step.specs.Thread.{at_start, zeros}
+use Rattle.wasm_values.specs.Values.{zeros}
+use Rattle.wasm_step.specs.Thread.{at_start}
 use Rattle.wasm_step.proofs.Begins.{new_fits}
 use Rattle.wasm_step.proofs.strand.Strand.new.Goals as goal
 

@@ -17,7 +17,7 @@ unreachable-requires c =
 pub invariant_of-strand : goal.invariant_of-strand
 invariant_of-strand c =
     let left = leaving (module_of c.self.inside.program.now) c.self.inside.stack c.run.new.self c.args.store.now c.run.new.store c.in_ok-site.field-0 c.self.inside.call c.in_ok-site.ensures (subst (λ (m : RustModule). IsValid (module_of m)) c.module.ensures.same c.module.ensures.valid) (ap (λ (s : Strand). s.program) c.self.view_is ∙ c.requires.program) c.requires.suits c.self.invariant (ap (λ (s : Strand). s.call) c.self.view_is ∙ c.requires.runs) in
-    subst (λ (stopped : Stopped). StopFits (module_of c.self.inside.program.now) (stopped_of stopped c.run.new.self)) c.in-Calling.is left.stop
+    (subst (λ (stopped : Stopped). StopFits (module_of c.self.inside.program.now) (stopped_of stopped c.run.new.self)) c.in-Calling.is left.stop).1
 
 pub returns-in-Calling-clause-suits : goal.returns-in-Calling-clause-suits
 returns-in-Calling-clause-suits c =

@@ -1,0 +1,14 @@
+use Rattle.fri_bytes.proofs.Le.{le_reads, le_at-to_le_bytes, le_at_spelled}
+use Rattle.fri_bytes.proofs.LebLaws.{unsigned_reads, signed_reads}
+use Rattle.fri_bytes.proofs.Readers.{piece_reads}
+use Rattle.fri_bytes.proofs.laws.exact_readers.Goals as goal
+
+pub returns : goal.returns
+returns c = record {
+  piece = piece_reads;
+  number = le_reads;
+  unsigned = unsigned_reads;
+  signed = signed_reads;
+  written = le_at-to_le_bytes;
+  rewritten = le_at_spelled;
+}

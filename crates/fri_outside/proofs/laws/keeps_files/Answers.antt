@@ -1,0 +1,5 @@
+use Rattle.fri_outside.proofs.Stored.{get_set, with_piece-with_file, within_held}
+use Rattle.fri_outside.proofs.laws.keeps_files.Goals as goal
+
+pub returns : goal.returns
+returns c = record { made = get_set; behind = with_piece-with_file; within = within_held }

@@ -1,0 +1,16 @@
+-- Which calls are answered yet.
+use Rattle.std.specs.Prelude.{Bool, true, false}
+use Rattle.call_table.specs.declared.kind.Kind.{Kind}
+use Rattle.call_table.specs.declared.kind.Kind.TheVariants.{Begin, Exit, Note, Now, SleepUntil, Me, Yield, Thread}
+
+-- the calls of this kind are answered
+abbrev pub is_built : Kind → Bool
+is_built Begin = true
+is_built Exit = true
+is_built Note = true
+is_built Now = true
+is_built SleepUntil = true
+is_built Me = true
+is_built Yield = true
+is_built Thread = true
+is_built _ = false

@@ -1,0 +1,134 @@
+// Spellings of numbers from the WebAssembly standard and from LEB128's usual examples, and numbers of fixed
+// widths.
+use fri_bytes::{Bytes, Cursor, put_byte, put_bytes, put_u16, put_u32, put_u64};
+use std::test::Fail;
+
+// Bytes, and the number that they spell: without a sign, with one in 32 bits, and with one in 64.
+const SPELLINGS: &[(&[u8], Option<u32>, Option<i32>, Option<i64>)] = &[
+    (b"\x00", Some(0), Some(0), Some(0)),
+    (b"\x7f", Some(127), Some(-1), Some(-1)),
+    (b"\x80\x01", Some(128), Some(128), Some(128)),
+    (b"\x83\x00", Some(3), Some(3), Some(3)),
+    (b"\xe5\x8e\x26", Some(624_485), Some(624_485), Some(624_485)),
+    (b"\x80\x80\x80\x80\x00", Some(0), Some(0), Some(0)),
+    (
+        b"\xff\xff\xff\xff\x0f",
+        Some(u32::MAX),
+        None,
+        Some(4_294_967_295),
+    ),
+    (b"\xff\xff\xff\xff\x10", None, None, Some(4_563_402_751)),
+    (b"\x80\x80\x80\x80\x80\x00", None, None, Some(0)),
+    (b"\x80\x80\x80\x80", None, None, None),
+    (b"\xe5\x8e", None, None, None),
+    (b"\x80", None, None, None),
+    (b"", None, None, None),
+    (b"\x3f", Some(63), Some(63), Some(63)),
+    (b"\x40", Some(64), Some(-64), Some(-64)),
+    (b"\xc0\x00", Some(64), Some(64), Some(64)),
+    (
+        b"\xc0\xbb\x78",
+        Some(1_973_696),
+        Some(-123_456),
+        Some(-123_456),
+    ),
+    (
+        b"\x80\x80\x80\x80\x78",
+        None,
+        Some(i32::MIN),
+        Some(-2_147_483_648),
+    ),
+    (
+        b"\xff\xff\xff\xff\x07",
+        Some(2_147_483_647),
+        Some(i32::MAX),
+        Some(2_147_483_647),
+    ),
+    (b"\xff\xff\xff\xff\x7f", None, Some(-1), Some(-1)),
+    (
+        b"\xff\xff\xff\xff\x08",
+        Some(2_415_919_103),
+        None,
+        Some(2_415_919_103),
+    ),
+    (b"\x80\x80\x80\x80\x70", None, None, Some(-4_294_967_296)),
+    (b"\xff\xff\xff\xff\xff\x7f", None, None, Some(-1)),
+    (b"\xc0\xbb", None, None, None),
+    (b"\x7e", Some(126), Some(-2), Some(-2)),
+    (b"\xfe\x7f", Some(16382), Some(-2), Some(-2)),
+    (b"\xfe\xff\x7f", Some(2_097_150), Some(-2), Some(-2)),
+    (
+        b"\x80\x80\x80\x80\x80\x80\x80\x80\x80\x7f",
+        None,
+        None,
+        Some(i64::MIN),
+    ),
+    (
+        b"\xff\xff\xff\xff\xff\xff\xff\xff\xff\x00",
+        None,
+        None,
+        Some(i64::MAX),
+    ),
+    (
+        b"\x80\x80\x80\x80\x80\x80\x80\x80\x80\x00",
+        None,
+        None,
+        Some(0),
+    ),
+    (
+        b"\xff\xff\xff\xff\xff\xff\xff\xff\xff\x7f",
+        None,
+        None,
+        Some(-1),
+    ),
+    (
+        b"\x80\x80\x80\x80\x80\x80\x80\x80\x80\x01",
+        None,
+        None,
+        None,
+    ),
+    (
+        b"\x80\x80\x80\x80\x80\x80\x80\x80\x80\x7e",
+        None,
+        None,
+        None,
+    ),
+    (
+        b"\x80\x80\x80\x80\x80\x80\x80\x80\x80\x80\x00",
+        None,
+        None,
+        None,
+    ),
+    (b"\x80\x80\x80\x80\x80\x80\x80\x80\x80", None, None, None),
+];
+
+#[test]
+fn numbers_are_read_in_leb128(rt: HostRuntime) {
+    for &(bytes, unsigned, signed, wide) in SPELLINGS {
+        assert_eq!(rt; Cursor::new(bytes).leb_u32(), unsigned, "of {bytes:?}");
+        assert_eq!(rt; Cursor::new(bytes).leb_s32(), signed, "of {bytes:?}");
+        assert_eq!(rt; Cursor::new(bytes).leb_s64(), wide, "of {bytes:?}");
+    }
+}
+
+#[test]
+fn numbers_are_put_and_read(rt: HostRuntime) -> Result<(), Fail> {
+    let mut out = Vec::new(rt.alloc());
+    put_u32(&mut out, 20)?;
+    put_u64(&mut out, 0x0102_0304_0506_0708)?;
+    put_u16(&mut out, 0x0a0b)?;
+    put_byte(&mut out, 5)?;
+    put_bytes(&mut out, b"end")?;
+    let mut wanted = Bytes::from_slice(rt.alloc(), b"\x14\0\0\0\x08\x07\x06\x05\x04\x03\x02\x01")?;
+    wanted.push_all(b"\x0b\x0a\x05end")?;
+    assert_eq!(rt; Bytes::from_vec(out), wanted);
+
+    let mut cursor = Cursor::new(wanted.as_slice());
+    assert_eq!(rt; cursor.u32_le(), Some(20));
+    assert_eq!(rt; cursor.u64_le(), Some(0x0102_0304_0506_0708));
+    assert_eq!(rt; cursor.u16_le(), Some(0x0a0b));
+    assert_eq!(rt; cursor.byte(), Some(5));
+    assert_eq!(rt; cursor.take(2).ok_or("three are left")?, b"en".as_slice());
+    assert_eq!(rt; cursor.rest(), b"d".as_slice());
+    Ok(())
+}

@@ -1,0 +1,12 @@
+//! Tests of the lower crates through their public calls: bytes, the outside, tags and datagrams, threads
+//! and signals, and memories. They lie in a crate of their own, since a crate with tests is proved twice.
+#![tactic(auto)]
+
+#[cfg(test)]
+mod bytes;
+#[cfg(test)]
+mod datagrams;
+#[cfg(test)]
+mod outside;
+#[cfg(test)]
+mod states;

@@ -1,0 +1,84 @@
+// What a process has: its threads and locks, its signals, and its memory.
+use coop_threads::{CopyOut, Crew, Grip, SpawnError, Status};
+use guest_memory::Memory;
+use signal_points::{Handlers, Pending};
+use std::alloc::AllocError;
+use std::test::Fail;
+
+// A thread's value.
+#[derive(Drop)]
+struct Script(u32);
+
+impl CopyOut for Script {
+    fn copy_out(&self) -> Result<Self, AllocError> {
+        Ok(Script(self.0))
+    }
+}
+
+#[test]
+fn threads_hold_locks_and_are_copied(rt: HostRuntime) -> Result<(), Fail> {
+    let mut crew = Crew::new(rt.alloc());
+    assert!(rt; matches!(crew.spawn(Script(5)), Ok(0)));
+    assert!(rt; matches!(crew.spawn(Script(6)), Ok(1)));
+    assert_eq!(rt; crew.lock(7, 1)?, Grip::Got);
+    assert!(rt; matches!(crew.take(1), Some(Script(6))));
+    crew.end(1);
+    // A lock stays held by a thread that has ended.
+    let mut copy = crew.copy(rt.alloc())?;
+    assert_eq!(rt; copy.lock(7, 0)?, Grip::Held(1));
+    assert_eq!(rt; copy.status(1), Status::Ended);
+    assert!(rt; matches!(copy.take(0), Some(Script(5))));
+    copy.put(0, Script(8));
+    assert!(rt; matches!(copy.get(0), Some(Script(8))));
+    assert!(rt; matches!(crew.get(0), Some(Script(5))));
+    assert!(rt; crew.unlock(7, 1));
+    assert_eq!(rt; crew.holder(7), None);
+    assert_eq!(rt; copy.holder(7), Some(1));
+    Ok(())
+}
+
+#[test]
+fn sixty_four_threads_are_made(rt: HostRuntime) {
+    let mut crew = Crew::new(rt.alloc());
+    for _ in 0..64 {
+        assert!(rt; crew.spawn(0_u8).is_ok());
+    }
+    assert_eq!(rt; crew.made(), 64);
+    assert!(rt; matches!(crew.spawn(0), Err(SpawnError::Full(0))));
+}
+
+#[test]
+fn signals_are_kept(rt: HostRuntime) {
+    let mut handlers = Handlers::new();
+    handlers.set(31, Some(7));
+    handlers.set(1, Some(u32::MAX));
+    handlers.set(1, None);
+    assert_eq!(rt; handlers.get(31), Some(7));
+    assert_eq!(rt; handlers.get(1), None);
+    assert_eq!(rt; handlers.get(255), None);
+    let mut pending = Pending::new();
+    pending.raise(3);
+    pending.raise(31);
+    pending.clear(3);
+    assert!(rt; pending.has(31));
+    assert!(rt; !pending.has(3));
+}
+
+#[test]
+fn memories_grow_and_are_copied(rt: HostRuntime) -> Result<(), Fail> {
+    let mut memory = Memory::new(rt.alloc(), 1, 2)?;
+    assert!(rt; memory.store(65_534, 2, 0x0102)?);
+    assert!(rt; !memory.store(65_535, 2, 0x0304)?);
+    assert!(rt; memory.write(4094, b"debug")?);
+    let mut copy = memory.copy()?;
+    assert_eq!(rt; copy.grow(2)?, None);
+    assert_eq!(rt; copy.grow(1)?, Some(1));
+    assert_eq!(rt; copy.size(), 2);
+    assert_eq!(rt; memory.size(), 1);
+    assert_eq!(rt; copy.load(65_534, 4), Some(0x0102));
+    assert_eq!(rt; memory.load(65_534, 4), None);
+    // A part ends with its page of 4,096 bytes.
+    assert_eq!(rt; copy.part(4094, 5), Some(b"de".as_slice()));
+    assert_eq!(rt; copy.part(4096, 3), Some(b"bug".as_slice()));
+    Ok(())
+}

@@ -1,0 +1,10 @@
+pub mod Lending
+pub mod Parts
+pub mod Start
+pub mod Store
+pub mod Suits
+pub use Rattle.guest_memory.specs.LittleEndian
+pub use Rattle.guest_memory.specs.Memory
+pub use Rattle.wasm_types.specs.Coding
+pub use Rattle.wasm_types.specs.Functions
+pub use Rattle.wasm_values.specs.Values

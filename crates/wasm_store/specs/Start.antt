@@ -1,0 +1,108 @@
+-- How a program begins: its globals, its table and its memory (WebAssembly 1.0, section 4.5.4), and the
+-- thread that runs first.
+use Rattle.std.specs.Prelude.{ℕ, ◌+◌, Bool, ◌&&◌, nat_le, min, List, [], ◌∷◌, ◌++◌, Option, Some, None, length, map, slice_get, replicate, take, drop, if◌then◌else◌}
+use Rattle.std.specs.List.{list_all}
+use Rattle.guest_memory.specs.Memory.{Memory, fresh, is_inside, after_write}
+use Rattle.wasm_types.specs.declared.code.Value.{Value}
+use Rattle.wasm_types.specs.declared.code.Value.TheVariants.{I32, I64}
+use Rattle.wasm_types.specs.declared.modules.Limits.{Limits}
+use Rattle.wasm_types.specs.Code.{Tree, ConstI32, ConstI64, GlobalGet, Trees, End, Then}
+use Rattle.wasm_types.specs.Modules.{Module, GlobalDef, Elem, Segment}
+use Rattle.wasm_values.specs.Values.{bits_of}
+use Rattle.wasm_store.specs.Store.{Store}
+use Rattle.wasm_values.specs.Values.{zero_of}
+
+-- ---- globals
+
+-- a constant as a value; the initial values of a valid program are all such
+abbrev pub constant : Tree → Value → Value
+constant (ConstI32 bits) otherwise = I32 bits
+constant (ConstI64 bits) otherwise = I64 bits
+constant _ otherwise = otherwise
+
+-- the value of an expression of one instruction
+abbrev pub initial_in : Trees → Value → Value
+initial_in (Then i End) otherwise = constant i otherwise
+initial_in _ otherwise = otherwise
+
+abbrev pub initial : GlobalDef → Value
+initial g = initial_in g.init (zero_of g.kind)
+
+abbrev pub initial_globals : Module → List Value
+initial_globals m = map initial m.globals
+
+-- ---- where segments begin
+
+-- a constant, or the value of a global; the offsets of a valid program are all such
+abbrev pub offset_at : List Value → Tree → ℕ
+offset_at globals (ConstI32 bits) = bits
+offset_at globals (GlobalGet x) = bits_of (slice_get globals x)
+offset_at globals _ = 0
+
+abbrev pub offset_in : List Value → Trees → ℕ
+offset_in globals (Then i End) = offset_at globals i
+offset_in globals _ = 0
+
+-- ---- the table
+
+-- the least size of the first table or memory, if there is one
+abbrev pub first_min : List Limits → ℕ
+first_min [] = 0
+first_min (l ∷ ls) = l.min
+
+-- the table without its segments, all of whose places are empty
+abbrev pub empty_table : Module → List (Option ℕ)
+empty_table m = replicate (first_min m.tables) None
+
+-- the segment lies in a table of this length
+abbrev pub is_elem_inside : List Value → ℕ → Elem → Bool
+is_elem_inside globals len e = nat_le (offset_in globals e.offset + length e.funcs) len
+
+-- the functions in the places from this one on
+abbrev pub put_funcs : List (Option ℕ) → ℕ → List ℕ → List (Option ℕ)
+put_funcs table at funcs = take at table ++ (map Some funcs ++ drop (at + length funcs) table)
+
+abbrev pub put_elems : List Value → List Elem → List (Option ℕ) → List (Option ℕ)
+put_elems globals [] table = table
+put_elems globals (e ∷ es) table = put_elems globals es (put_funcs table (offset_in globals e.offset) e.funcs)
+
+-- ---- the memory
+
+-- the most pages: the declared maximum, and 256 at most
+abbrev pub most_pages : Option ℕ → ℕ
+most_pages None = 256
+most_pages (Some max) = min 256 max
+
+abbrev pub first_most : List Limits → ℕ
+first_most [] = 0
+first_most (l ∷ ls) = most_pages l.max
+
+-- the memory without its segments
+abbrev pub empty_memory : Module → Memory
+empty_memory m = fresh (first_min m.mems) (first_most m.mems)
+
+-- the segment lies in the memory
+abbrev pub is_segment_inside : List Value → Memory → Segment → Bool
+is_segment_inside globals memory s = is_inside memory (offset_in globals s.offset) (length s.bytes)
+
+abbrev pub put_segments : List Value → List Segment → Memory → Memory
+put_segments globals [] memory = memory
+put_segments globals (s ∷ ss) memory =
+    put_segments globals ss (after_write memory (offset_in globals s.offset) s.bytes)
+
+-- ---- the whole
+
+abbrev pub begun_with : Module → List Value → List (Option ℕ) → Memory → Option Store
+begun_with m globals table memory =
+    if list_all (is_elem_inside globals (length table)) m.elems && list_all (is_segment_inside globals memory) m.segments
+    then Some (record {
+      program = m;
+      memory = put_segments globals m.segments memory;
+      globals = globals;
+      table = put_elems globals m.elems table;
+    })
+    else None
+
+-- what the threads of a program share at first, unless some segment ends past the table or the memory
+abbrev pub start : Module → Option Store
+start m = begun_with m (initial_globals m) (empty_table m) (empty_memory m)

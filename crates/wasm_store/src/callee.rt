@@ -1,0 +1,70 @@
+// A function of the program as calls take it.
+ghost use Rattle.std.specs.Prelude.{◌≡◌, IfNone, IfSome, None, Some, slice_get};
+ghost use Rattle.wasm_types.specs.Code.{trees};
+ghost use Rattle.wasm_types.specs.Modules.{module_of};
+ghost use Rattle.wasm_values.specs.Values.{zeros};
+
+use std::marker::Model;
+use wasm_types::{Func, Instr, ValType, ValidModule};
+
+/// A function of the program, and the locals that it declares without the runs of count 0, of which a
+/// module can declare millions: a call walks none of them. Contracts see the function alone.
+#[derive(Drop)]
+pub struct Callee<'m> {
+    func: &'m Func,
+    declared: &'m [(u32, ValType)],
+}
+
+impl<'m> Model for Callee<'m> {
+    ghost use Rattle.std.specs.Coded.{codes};
+    ghost use Rattle.wasm_types.specs.Coding.{trees_code};
+    ghost use Rattle.wasm_types.specs.Modules as modules;
+
+    ghost Value = { modules.Func };
+
+    ghost coded = { Prim.hlevel (codes, trees_code) };
+
+    ghost use Rattle.std.specs.Prelude.{◌≡◌};
+    ghost use Rattle.wasm_values.specs.Values.{zeros};
+
+    ghost view = { λ c. modules.func c.func.now };
+
+    ghost invariant = { λ c. zeros c.declared.now ≡ zeros (modules.func c.func.now).locals };
+}
+
+impl<'m> Callee<'m> {
+    /// The index of its type.
+    pub fn type_index(&self) -> u32
+        ensures { result ≡ self.now.type_index }
+    {
+        self.func.type_index
+    }
+
+    /// Its instructions.
+    pub fn body(&self) -> &'m [Instr]
+        ensures { trees result.now ≡ self.now.body }
+    {
+        &self.func.body
+    }
+
+    /// Its declared locals, without the runs of count 0.
+    pub fn declared(&self) -> &'m [(u32, ValType)]
+        ensures { zeros result.now ≡ zeros self.now.locals }
+    {
+        self.declared
+    }
+}
+
+/// The program's own function at this place.
+pub fn own_func<'m>(program: &'m ValidModule, place: usize) -> Option<Callee<'m>>
+    ensures some { IfSome result (λ callee. slice_get (module_of program.now).funcs place ≡ Some callee) }
+    ensures none { IfNone result (slice_get (module_of program.now).funcs place ≡ None) }
+{
+    let Some(func) = program.module().funcs.get(place) else {
+        return None;
+    };
+    let Some(declared) = program.declared(place) else {
+        return None;
+    };
+    Some(Callee { func, declared })
+}

@@ -1,0 +1,167 @@
+// What the threads of a program share: its memory, its globals and its table.
+ghost use Rattle.std.specs.Prelude.{◌≡◌, Err, IfOk, None, OnOk, Some, length, nat_lt, if◌then◌else◌, slice_get, slice_set};
+ghost use Rattle.std.specs.Borrow.{sem};
+ghost use Rattle.guest_memory.specs.Memory.{after_store, growth, grown, is_inside};
+ghost use Rattle.guest_memory.specs.LittleEndian.{IsWidth};
+ghost use Rattle.wasm_types.specs.Modules.{module_of};
+ghost use Rattle.wasm_store.specs.Suits.{Suits};
+ghost use Rattle.wasm_store.specs.Start.{start};
+ghost use Rattle.wasm_store.specs.Store.{func_at};
+ghost use Rattle.wasm_store.specs.Lending.{LendsMemory};
+
+use crate::start::begin;
+use guest_memory::Memory;
+use std::alloc::{AllocError, Global};
+use std::marker::Model;
+use wasm_types::{Module, ValidModule, Value};
+
+/// A program's memory, the values of its globals, and its table.
+#[derive(Drop)]
+pub struct Store<'m> {
+    program: &'m ValidModule,
+    memory: Memory,
+    globals: Vec<Value>,
+    table: Vec<Option<u32>>,
+}
+
+impl<'m> Model for Store<'m> {
+    ghost use Rattle.std.specs.Coded.{codes};
+    ghost use Rattle.wasm_types.specs.Coding.{trees_code};
+    ghost use Rattle.wasm_store.specs.Store.{Store};
+
+    ghost Value = { Store };
+
+    ghost coded = { Prim.hlevel (codes, trees_code) };
+
+    ghost use Rattle.wasm_types.specs.Modules.{module_of};
+
+    ghost view = { λ s. record { program = module_of s.program.now; memory = s.memory; globals = s.globals.items; table = s.table.items } };
+}
+
+/// Why a program does not begin.
+#[derive(Clone, Copy, Debug, PartialEq, Eq, Drop)]
+pub enum StartError {
+    /// A segment ends past the table or the memory.
+    BadSegment,
+    NoMemory,
+}
+
+impl<'m> Store<'m> {
+    /// What the threads of a program share at first. `BadSegment` comes exactly where an element segment
+    /// ends past the table or a data segment past the memory, unless memory is wanting before.
+    pub fn start(alloc: Global, program: &'m ValidModule) -> Result<Store<'m>, StartError>
+        ensures ok { IfOk result (λ g. start (module_of program.now) ≡ Some g) }
+        ensures suits { IfOk result (λ g. Suits g) }
+        ensures program { IfOk result (λ g. g.program ≡ module_of program.now) }
+        ensures bad { (result ≡ Err StartError.BadSegment) → start (module_of program.now) ≡ None }
+    {
+        match begin(alloc, program) {
+            Ok(Some(parts)) => Ok(Store {
+                program,
+                memory: parts.memory,
+                globals: parts.globals,
+                table: parts.table,
+            }),
+            Ok(None) => Err(StartError::BadSegment),
+            Err(AllocError) => Err(StartError::NoMemory),
+        }
+    }
+
+    /// An equal store.
+    pub fn copy(&self) -> Result<Store<'m>, AllocError>
+        ensures { IfOk result (λ g. g ≡ self.now) }
+    {
+        Ok(Store {
+            program: self.program,
+            memory: self.memory.copy()?,
+            globals: self.globals.clone()?,
+            table: self.table.clone()?,
+        })
+    }
+
+    /// The memory, to be written. Its maximum is to be left as it is.
+    #[inline]
+    pub fn memory_mut(&mut self) -> &mut Memory
+        ensures* lends { sem 𝓛 (LendsMemory self.entry result) }
+        ensures value { result.now ≡ self.old.memory }
+    {
+        &mut self.memory
+    }
+
+    /// The program.
+    #[inline]
+    pub fn program(&self) -> &'m Module
+        ensures { module_of result.now ≡ self.now.program }
+    {
+        self.program.module()
+    }
+
+    /// The memory, which is empty where the program has none.
+    #[inline]
+    pub fn memory(&self) -> &Memory
+        ensures { result.now ≡ self.now.memory }
+    {
+        &self.memory
+    }
+
+    /// The value of a global. `None` comes exactly where the program has no global of that index.
+    #[inline]
+    pub fn global(&self, n: u32) -> Option<Value>
+        ensures { result ≡ slice_get self.now.globals n }
+    {
+        self.globals.get(n as usize).copied()
+    }
+
+    /// What the table holds at this place.
+    #[inline]
+    pub fn element(&self, index: u32) -> Option<Option<u32>>
+        ensures { result ≡ slice_get self.now.table index }
+    {
+        self.table.get(index as usize).copied()
+    }
+
+    /// The index of the function that the table holds at this place. `None` comes exactly where the
+    /// place lies outside the table or is empty.
+    pub fn table_func(&self, index: u32) -> Option<u32>
+        ensures { result ≡ func_at (slice_get self.now.table index) }
+    {
+        match self.element(index) {
+            Some(func) => func,
+            None => None,
+        }
+    }
+
+    /// A new value of a global, if there is one of that index.
+    #[inline]
+    pub fn set_global(&mut self, n: usize, v: Value) -> bool
+        ensures is { result ≡ nat_lt n (length self.old.globals) }
+        ensures new { self.new ≡ (if result then record self.old { globals = slice_set self.old.globals n v } else self.old) }
+    {
+        if n >= self.globals.len() {
+            return false;
+        }
+        self.globals[n] = v;
+        true
+    }
+
+    /// Writes so many bytes of the number, if they lie in the memory.
+    #[inline]
+    pub fn write(&mut self, addr: u64, width: u32, bits: u64) -> Result<bool, AllocError>
+        requires { IsWidth width }
+        ensures is { IfOk result (λ is_in. is_in ≡ is_inside self.old.memory addr width) }
+        ensures new { OnOk result (self.new ≡ record self.old { memory = after_store self.old.memory addr width bits }) }
+    {
+        let is_in = self.memory.store(addr, width, bits)?;
+        Ok(is_in)
+    }
+
+    /// More pages, if the maximum allows them, and the number of pages before.
+    #[inline]
+    pub fn grow(&mut self, pages: u32) -> Result<Option<u32>, AllocError>
+        ensures before { IfOk result (λ before. before ≡ growth self.old.memory pages) }
+        ensures new { OnOk result (self.new ≡ record self.old { memory = grown self.old.memory pages }) }
+    {
+        let before = self.memory.grow(pages)?;
+        Ok(before)
+    }
+}

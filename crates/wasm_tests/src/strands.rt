@@ -1,0 +1,74 @@
+// Threads of a program that begin at a function, under handlers, and the store that they share.
+ghost use Rattle.std.specs.Prelude.{IsTrue};
+ghost use Rattle.wasm_types.specs.Modules.{module_of};
+ghost use Rattle.wasm_step.specs.Strand.{IsHandler};
+
+use std::alloc::Global;
+use std::test::Fail;
+use wasm_decode::decode;
+use wasm_step::{Pause, Store, Strand};
+use wasm_types::{ValType, ValidModule, Value};
+use wasm_validate::validate;
+
+// Its function 1 puts its argument behind the digits of the global 0, which begins as 7. The function
+// stands in the table at 1, and the memory has `log` at 8.
+const GUEST: &[u8] = b"\0asm\x01\0\0\0\x01\x0c\x03`\x01~\0`\x01\x7f\0`\0\0\x02\x0f\x01\x06liblog\
+    \x04note\0\0\x03\x03\x02\x01\x02\x04\x04\x01p\0\x03\x05\x04\x01\x01\x01\x02\x06\x06\x01\x7f\
+    \x01A\x07\x0b\x07\x0a\x01\x06_start\0\x02\x09\x07\x01\0A\x01\x0b\x01\x01\x0a\x15\x02\x0c\0#\
+    \0A\x0al \0j$\0\x0b\x06\0B\x09\x10\0\x0b\x0b\x09\x01\0A\x08\x0b\x03log";
+
+fn program(alloc: Global) -> Result<ValidModule, Fail> {
+    let decoded = decode(alloc, GUEST)?;
+    Ok(validate(alloc, decoded)?)
+}
+
+// Whether the program's own function with this index takes a number of 32 bits and gives nothing.
+fn is_handler(program: &ValidModule, func: u32) -> bool
+    ensures { IsTrue result → IsHandler (module_of program.now) func }
+{
+    let code = program.module();
+    let imports = code.imports.len();
+    let index = func as usize;
+    if index < imports {
+        return false;
+    }
+    let Some(own) = code.funcs.get(index - imports) else {
+        return false;
+    };
+    match code.types.get(own.type_index as usize) {
+        Some(kind) => match (kind.params.as_slice(), kind.results.as_slice()) {
+            ([ValType::I32], []) => true,
+            _ => false,
+        },
+        None => false,
+    }
+}
+
+#[test]
+fn a_handler_runs_above_a_new_thread(rt: HostRuntime) -> Result<(), Fail> {
+    let program = program(rt.alloc())?;
+    assert!(rt; is_handler(&program, 1));
+    let mut store = Store::start(rt.alloc(), &program)?;
+    let strand = Strand::new(rt.alloc(), &program, 1, 3)?.push_handler(1, 5)?;
+    let copy = strand.copy()?;
+    assert!(rt; matches!(strand.run(&mut store)?, Pause::Ended));
+    assert_eq!(rt; store.global(0), Some(Value::I32(753)));
+    // The copy does the same again to what the store has now.
+    assert!(rt; matches!(copy.run(&mut store)?, Pause::Ended));
+    assert_eq!(rt; store.global(0), Some(Value::I32(75_353)));
+    Ok(())
+}
+
+#[test]
+fn a_store_begins_and_is_copied(rt: HostRuntime) -> Result<(), Fail> {
+    let program = program(rt.alloc())?;
+    let store = Store::start(rt.alloc(), &program)?;
+    let mut copy = store.copy()?;
+    assert!(rt; copy.memory_mut().write(8, b"LOG")?);
+    assert_eq!(rt; copy.memory().part(8, 3), Some(b"LOG".as_slice()));
+    assert_eq!(rt; store.memory().part(8, 3), Some(b"log".as_slice()));
+    assert_eq!(rt; copy.global(0), Some(Value::I32(7)));
+    assert_eq!(rt; copy.table_func(1), Some(1));
+    assert_eq!(rt; copy.table_func(2), None);
+    Ok(())
+}

@@ -1,0 +1,4 @@
+pub mod Heights
+pub mod Runs
+pub mod Trees
+pub mod Unknown

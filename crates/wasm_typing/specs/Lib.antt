@@ -1,0 +1,4 @@
+pub mod Locals
+pub mod Operands
+pub mod Steps
+pub mod Views

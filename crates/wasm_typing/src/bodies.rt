@@ -1,0 +1,156 @@
+// The code of a function. It is read by recursion, as deep as its blocks nest: at most 1,000 in a decoded
+// module.
+ghost use Rattle.std.specs.Prelude.{◌≡◌, ◌∷◌, reverse, OnOk};
+ghost use Rattle.wasm_types.specs.Code.{tree, trees};
+ghost use Rattle.wasm_types.specs.Labels.{around, block_of};
+ghost use Rattle.wasm_types.specs.Stack.{empty};
+ghost use Rattle.wasm_types.specs.Typing.{after, after_all, IsWellTyped};
+ghost use Rattle.wasm_typing.specs.Steps.{Follows, Judges};
+
+use crate::accesses::{
+    get_global, get_local, load, memory_grow, memory_size, set_global, set_local, store, tee_local,
+};
+use crate::calls::{call, call_indirect, operator};
+use crate::context::Context;
+use crate::labels::{Label, branch, branch_if, branch_table};
+use crate::operands::Operands;
+use crate::refusal::Refusal;
+use crate::steps::{drop_top, jump_with, pop_result, pop_type, push_result, push_type, select};
+use std::alloc::Global;
+use wasm_types::{Instr, ValType};
+
+/// Whether the body of a function is well typed.
+pub fn check_body(alloc: Global, context: &Context<'_>, body: &[Instr]) -> Result<(), Refusal>
+    ensures { Judges (IsWellTyped context.now (trees body.now)) result }
+{
+    let mut operands = Operands::new(alloc);
+    let mut labels = Vec::new(alloc);
+    check_inside(
+        context,
+        context.gives,
+        context.gives,
+        body,
+        &mut labels,
+        &mut operands,
+    )
+}
+
+// A block or a loop, and its result.
+#[cycle(check)]
+fn check_block(
+    context: &Context<'_>,
+    label: Label,
+    result_type: Option<ValType>,
+    body: &[Instr],
+    labels: &mut Vec<Label>,
+    operands: &mut Operands,
+) -> Result<(), Refusal>
+    ensures typed { Follows
+        (block_of result_type
+        (after_all context.now (trees body.now) (label ∷ reverse labels.old.items) empty)
+        operands.old.current)
+        operands.old operands.new result }
+    ensures labels { OnOk result (labels.new.items ≡ labels.old.items) }
+{
+    check_inside(context, label, result_type, body, labels, operands)?;
+    push_result(operands, result_type)
+}
+
+// The code of a block, from no operands to exactly its result.
+#[cycle(check)]
+fn check_inside(
+    context: &Context<'_>,
+    label: Label,
+    result_type: Option<ValType>,
+    body: &[Instr],
+    labels: &mut Vec<Label>,
+    operands: &mut Operands,
+) -> Result<(), Refusal>
+    ensures typed { Follows
+        (around result_type
+        (after_all context.now (trees body.now) (label ∷ reverse labels.old.items) empty)
+        operands.old.current)
+        operands.old operands.new result }
+    ensures labels { OnOk result (labels.new.items ≡ labels.old.items) }
+{
+    operands.enter()?;
+    labels.push(label)?;
+    check_all(context, body, labels, operands)?;
+    labels.pop();
+    pop_result(operands, result_type)?;
+    if operands.leave() {
+        Ok(())
+    } else {
+        Err(Refusal::Invalid)
+    }
+}
+
+#[cycle(check)]
+fn check_all(
+    context: &Context<'_>,
+    body: &[Instr],
+    labels: &mut Vec<Label>,
+    operands: &mut Operands,
+) -> Result<(), Refusal>
+    ensures typed { Follows
+        (after_all context.now (trees body.now) (reverse labels.old.items) operands.old.current)
+        operands.old operands.new result }
+    ensures labels { OnOk result (labels.new.items ≡ labels.old.items) }
+{
+    for instr in body {
+        check(context, instr, labels, operands)?;
+    }
+    Ok(())
+}
+
+#[cycle(check)]
+fn check(
+    context: &Context<'_>,
+    instr: &Instr,
+    labels: &mut Vec<Label>,
+    operands: &mut Operands,
+) -> Result<(), Refusal>
+    ensures typed { Follows
+        (after context.now (tree instr.now) (reverse labels.old.items) operands.old.current)
+        operands.old operands.new result }
+    ensures labels { OnOk result (labels.new.items ≡ labels.old.items) }
+{
+    match instr {
+        Instr::Unreachable => {
+            operands.jump();
+            Ok(())
+        }
+        Instr::Nop => Ok(()),
+        Instr::Block(gives, body) => check_block(context, *gives, *gives, body, labels, operands),
+        Instr::Loop(gives, body) => check_block(context, None, *gives, body, labels, operands),
+        Instr::If(gives, on_true, on_false) => {
+            pop_type(operands, ValType::I32)?;
+            check_inside(context, *gives, *gives, on_true, labels, operands)?;
+            check_block(context, *gives, *gives, on_false, labels, operands)
+        }
+        Instr::Br(depth) => branch(labels, *depth, operands),
+        Instr::BrIf(depth) => branch_if(labels, *depth, operands),
+        Instr::BrTable(depths, last) => branch_table(labels, depths, *last, operands),
+        Instr::Return => jump_with(operands, context.gives),
+        Instr::CallFunc(index) => call(context.types, context.funcs, *index, operands),
+        Instr::CallIndirect(index) => {
+            call_indirect(context.has_table, context.types, *index, operands)
+        }
+        Instr::DropTop => drop_top(operands),
+        Instr::Select => select(operands),
+        Instr::LocalGet(index) => get_local(&context.locals, *index, operands),
+        Instr::LocalSet(index) => set_local(&context.locals, *index, operands),
+        Instr::LocalTee(index) => tee_local(&context.locals, *index, operands),
+        Instr::GlobalGet(index) => get_global(context.globals, *index, operands),
+        Instr::GlobalSet(index) => set_global(context.globals, *index, operands),
+        Instr::Load { opcode, align, .. } => load(context.has_memory, *opcode, *align, operands),
+        Instr::Store { opcode, align, .. } => store(context.has_memory, *opcode, *align, operands),
+        Instr::MemorySize => memory_size(context.has_memory, operands),
+        Instr::MemoryGrow => memory_grow(context.has_memory, operands),
+        Instr::ConstI32(_) => push_type(operands, ValType::I32),
+        Instr::ConstI64(_) => push_type(operands, ValType::I64),
+        Instr::ConstF32(_) => push_type(operands, ValType::F32),
+        Instr::ConstF64(_) => push_type(operands, ValType::F64),
+        Instr::Op(opcode) => operator(*opcode, operands),
+    }
+}

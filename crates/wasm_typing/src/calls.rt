@@ -1,0 +1,81 @@
+// Calls and operators.
+ghost use Rattle.std.specs.Prelude.{◌≡◌, map};
+ghost use Rattle.wasm_types.specs.Calls.{call, call_type, call_indirect, operator, result_of};
+ghost use Rattle.wasm_types.specs.Modules.{func_type};
+ghost use Rattle.wasm_typing.specs.Steps.{Follows};
+
+use crate::operands::Operands;
+use crate::refusal::Refusal;
+use crate::steps::{operate, pop_type};
+use wasm_types::{FuncType, ValType, operator_of};
+
+/// A call of the function with this index.
+pub(crate) fn call(
+    types: &[FuncType],
+    funcs: &[u32],
+    func: u32,
+    operands: &mut Operands,
+) -> Result<(), Refusal>
+    ensures { Follows
+        (call (map func_type types.now) funcs.now func operands.old.current)
+        operands.old operands.new result }
+{
+    match funcs.get(func as usize) {
+        Some(t) => call_type(types, *t, operands),
+        None => Err(Refusal::Invalid),
+    }
+}
+
+/// A call through the table.
+pub(crate) fn call_indirect(
+    has_table: bool,
+    types: &[FuncType],
+    type_index: u32,
+    operands: &mut Operands,
+) -> Result<(), Refusal>
+    ensures { Follows
+        (call_indirect has_table (map func_type types.now) type_index operands.old.current)
+        operands.old operands.new result }
+{
+    pop_type(operands, ValType::I32)?;
+    if has_table {
+        call_type(types, type_index, operands)
+    } else {
+        Err(Refusal::Invalid)
+    }
+}
+
+// A call of a function of this type.
+fn call_type(types: &[FuncType], type_index: u32, operands: &mut Operands) -> Result<(), Refusal>
+    ensures { Follows
+        (call_type (map func_type types.now) type_index operands.old.current)
+        operands.old operands.new result }
+{
+    match types.get(type_index as usize) {
+        Some(callee) => operate(operands, &callee.params, result_of(callee)),
+        None => Err(Refusal::Invalid),
+    }
+}
+
+/// A function's result, if it has one.
+pub fn result_of(called: &FuncType) -> Option<ValType>
+    ensures { result ≡ result_of (func_type called.now) }
+{
+    called.results.get(0).copied()
+}
+
+/// An operator by its opcode.
+pub(crate) fn operator(opcode: u8, operands: &mut Operands) -> Result<(), Refusal>
+    ensures { Follows (operator opcode operands.old.current) operands.old operands.new result }
+{
+    match operator_of(opcode) {
+        None => Err(Refusal::Invalid),
+        Some(op) => {
+            if op.is_binary {
+                operate(operands, &[op.operand, op.operand], Some(op.gives))
+            } else {
+                operate(operands, &[op.operand], Some(op.gives))
+            }
+        }
+    }
+}

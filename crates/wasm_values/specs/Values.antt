@@ -1,0 +1,31 @@
+-- Values by their bits and their types.
+use Rattle.std.specs.Prelude.{ℕ, replicate, List, [], ◌∷◌, ◌++◌, map, Option, Some, None}
+use Rattle.wasm_types.specs.declared.code.Value.{Value}
+use Rattle.wasm_types.specs.declared.code.Value.TheVariants.{I32, I64}
+use Rattle.wasm_types.specs.declared.code.ValType.{ValType}
+use Rattle.wasm_types.specs.declared.code.ValType.TheVariants as types
+
+-- the bits of a value, and 0 where there is none
+abbrev pub bits_of : Option Value → ℕ
+bits_of None = 0
+bits_of (Some (I32 x)) = x
+bits_of (Some (I64 x)) = x
+
+abbrev pub kind_of : Value → ValType
+kind_of (I32 x) = types.I32
+kind_of (I64 x) = types.I64
+
+abbrev pub kinds_of : List Value → List ValType
+kinds_of vs = map kind_of vs
+
+-- what a local or a global starts as
+abbrev pub zero_of : ValType → Value
+zero_of types.I32 = I32 0
+zero_of types.I64 = I64 0
+zero_of types.F32 = I32 0
+zero_of types.F64 = I64 0
+
+-- the declared locals of a function, each a count and a type, as they start
+abbrev pub zeros : List (ℕ × ValType) → List Value
+zeros [] = []
+zeros (d ∷ ds) = replicate d.0 (zero_of d.1) ++ zeros ds
