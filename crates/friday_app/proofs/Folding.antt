@@ -1,60 +1,45 @@
--- A replay that is under way: what is done so far, and what the entries ahead come to.
-use Rattle.std.proofs.Common.{◌≡◌, ℕ, suc, ◌+◌, List, [], ◌∷◌, Some, None, take, refl, sym, ap, ◌∙◌, arith, add-one}
+-- A replay that has ended, and what is said of it.
+use Rattle.std.proofs.Common.{◌≡◌, ℕ, ◌+◌, List, ap, refl, sym, subst, ◌∙◌, arith}
 use Rattle.lib_calls.specs.declared.entry.Entry.{Entry}
-use Rattle.guest_process.specs.declared.divergence.Divergence.{Divergence}
-use Rattle.guest_process.specs.Legal.{reason}
-use Rattle.guest_process.specs.Next.{next}
-use Rattle.guest_process.specs.Replay.{Diverged, accepted, divergence, replayed, one_more_where, first_of, verdict_by, left_over}
+use Rattle.call_log.specs.Head.{Head}
+use Rattle.call_log.specs.Log.{entries_of, rest_of}
+use Rattle.guest_process.specs.Replay.{Verdict, accepted, divergence, verdict_by}
 use Rattle.guest_process.specs.State.{State}
-use Rattle.friday_app.specs.declared.replayer.Verdict.{Verdict as RustVerdict}
-use Rattle.friday_app.specs.declared.replayer.Verdict.TheVariants as judged
-use Rattle.friday_app.specs.Report.{last_state}
-use Rattle.friday_app.specs.Seen.{Replays, verdict_of}
+use Rattle.proc_replay.specs.Course.{AreTurns, Outcome, Tells, outcome, outcome_at}
+use Rattle.proc_replay.specs.Replaying.{Replaying, after, turn}
+use Rattle.friday_app.specs.declared.refusal.Answer.{Answer}
+use Rattle.friday_app.specs.declared.replayer.Replayed.{Replayed}
+use Rattle.friday_app.specs.Outcome.{Work}
+use Rattle.friday_app.specs.Report.{printed, replay_work}
+use Rattle.friday_app.specs.Seen.{IsWork, Replays, verdict_of}
 
--- from the first state and all entries, so many were accepted, and these state and entries are ahead
-pub record Ahead (first : State) (all : List Entry) (count : ℕ) (now : State) (es : List Entry) : Type 0 where
-  pub count_is : accepted first all ≡ count + accepted now es
-  pub why : divergence first all ≡ divergence now es
-  pub last : last_state first all ≡ last_state now es
-
-pub none_yet : (S : State) (es : List Entry) → Ahead S es 0 S es
-none_yet S es = record { count_is = omega arith; why = refl; last = refl }
-
-one_accepted : (S : State) (e : Entry) (es : List Entry) → reason S e ≡ None → accepted S (e ∷ es) ≡ suc (accepted (next S e) es)
-one_accepted S e es legal = ap (λ r. one_more_where r (accepted (next S e) es)) legal
-
-last_after : (S : State) (e : Entry) (es : List Entry) → reason S e ≡ None → last_state S (e ∷ es) ≡ last_state (next S e) es
-last_after S e es legal = ap (λ n. replayed S (take n (e ∷ es))) (one_accepted S e es legal)
-
--- a legal entry more
-pub one_further : (first : State) (all : List Entry) (count : ℕ) (S : State) (e : Entry) (es : List Entry) → Ahead first all count S (e ∷ es) → reason S e ≡ None → Ahead first all (count + 1) (next S e) es
-one_further first all count S e es a legal = record {
-  count_is = omega (arith, a.count_is, one_accepted S e es legal);
-  why = a.why ∙ ap (λ r. first_of r (divergence (next S e) es)) legal;
-  last = a.last ∙ last_after S e es legal;
-}
-
--- at an entry that is not legal
-pub ends_at : (first : State) (all : List Entry) (rest : List ℕ) (count : ℕ) (S : State) (e : Entry) (es : List Entry) (why : Divergence) → Ahead first all count S (e ∷ es) → reason S e ≡ Some why
-    → Replays first all rest (record { accepted = count; end = S.end; verdict = judged.Diverged (count + 1) why })
-ends_at first all rest count S e es why a differs =
-    let none : accepted S (e ∷ es) ≡ 0 = ap (λ r. one_more_where r (accepted (next S e) es)) differs in
-    let here : accepted first all ≡ count = omega (arith, a.count_is, none) in
-    let at : last_state first all ≡ S = a.last ∙ ap (λ n. replayed S (take n (e ∷ es))) none in
-    let is : divergence first all ≡ Some why = a.why ∙ ap (λ r. first_of r (divergence (next S e) es)) differs in
-    record {
-      accepted = sym here;
-      end = ap (λ (T : State). T.end) (sym at);
-      verdict = ap (λ n. Diverged n why) (add-one count ∙ ap suc (sym here)) ∙ ap (λ d. verdict_by d (accepted first all) rest) (sym is);
+-- it tells what the replay of all entries from the first state comes to
+replays_so : (S T : State) (es : List Entry) (rest behind : List ℕ) (v : Verdict) (replayed : Replayed) → S.events ≡ 0
+    → outcome_at S es rest ≡ record { accepted = T.events; last = T; verdict = v; rest = behind }
+    → replayed.accepted ≡ T.events → replayed.end ≡ T.end → verdict_of replayed.verdict ≡ v → Replays S es rest replayed
+replays_so S T es rest behind v replayed fresh comes count end told =
+    let all : S.events + accepted S es ≡ accepted S es = omega (arith, fresh) in record {
+      accepted = count ∙ sym (ap (λ (o : Outcome). o.accepted) comes) ∙ all;
+      end = end ∙ sym (ap (λ (o : Outcome). o.last.end) comes);
+      verdict = told ∙ sym (ap (λ (o : Outcome). o.verdict) comes) ∙ ap (λ n. verdict_by (divergence S es) n rest) all;
     }
 
--- behind the last entry
-pub ends_whole : (first : State) (all : List Entry) (rest : List ℕ) (count : ℕ) (S : State) (judgement : RustVerdict) → Ahead first all count S [] → verdict_of judgement ≡ left_over rest
-    → Replays first all rest (record { accepted = count; end = S.end; verdict = judgement })
-ends_whole first all rest count S judgement a is =
-    let here : accepted first all ≡ count = omega (arith, a.count_is) in
-    record {
-      accepted = sym here;
-      end = ap (λ (T : State). T.end) (sym a.last);
-      verdict = is ∙ ap (λ d. verdict_by d (accepted first all) rest) (sym a.why);
-    }
+-- a turn that tells a verdict changes nothing
+pub stays_so : AreTurns → (r next : Replaying) (v : Verdict) → next ≡ after r → Tells (turn r) r.left v → next ≡ r
+stays_so turns r next v moves tells = moves ∙ (turns r).stays v tells
+
+-- there the replay ends
+pub ends_so : AreTurns → (S : State) (es : List Entry) (rest : List ℕ) (r next : Replaying) (v : Verdict) (replayed : Replayed) → S.events ≡ 0
+    → outcome r ≡ outcome_at S es rest → next ≡ after r → Tells (turn r) r.left v
+    → replayed.accepted ≡ next.state.events → replayed.end ≡ next.state.end → verdict_of replayed.verdict ≡ v → Replays S es rest replayed
+ends_so turns S es rest r next v replayed fresh so_far moves tells count end told =
+    let here = stays_so turns r next v moves tells in
+    replays_so S r.state es rest (rest_of r.left) v replayed fresh (sym so_far ∙ (turns r).comes v tells)
+    (count ∙ ap (λ (s : Replaying). s.state.events) here) (end ∙ ap (λ (s : Replaying). s.state.end) here) told
+
+-- its work is that of the log
+pub work_so : (answer : Answer) (begun : State) (head : Head) (left : List ℕ) (replayed : Replayed) → Replays begun (entries_of left) (rest_of left) replayed
+    → IsWork answer (printed head.name replayed.accepted replayed.end (verdict_of replayed.verdict)) → IsWork answer (replay_work begun head left)
+work_so answer begun head left replayed r is =
+    let same : printed head.name replayed.accepted replayed.end (verdict_of replayed.verdict) ≡ replay_work begun head left = rw (r.accepted, r.end, r.verdict) refl in
+    subst (IsWork answer) same is

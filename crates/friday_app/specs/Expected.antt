@@ -42,10 +42,14 @@ begun_or name (Some begun) = Ok begun
 abbrev pub begun_of : List ℕ → Module → ℕ → ℕ → Result State Stop
 begun_of name m who count = begun_or name (start m who count)
 
--- the head of a log file, and what is behind it
+-- a log, given by its head and what is behind it, whose entries do not go on with a kind that is not built
+abbrev pub built_or : List ℕ → Head × List ℕ → Result (Head × List ℕ) Stop
+built_or name log = if stops_at_unbuilt (rest_of log.1) then Err (refuses name reason.LogNotBuilt) else Ok log
+
+-- the log of a log file
 abbrev pub head_or : List ℕ → Option (Head × List ℕ) → Result (Head × List ℕ) Stop
 head_or name None = Err (refuses name reason.BadHead)
-head_or name (Some log) = if stops_at_unbuilt (rest_of log.1) then Err (refuses name reason.LogNotBuilt) else Ok log
+head_or name (Some log) = built_or name log
 
 abbrev pub log_of : Store → List ℕ → Result (Head × List ℕ) Stop
 log_of store name = and_then (file_of store name 33554432) (λ bytes. head_or name (head_at bytes))
@@ -61,6 +65,13 @@ replay_outcome module_name log_name store =
     and_then (log_of store log_name) (λ log.
     and_then (begun_of module_name m log.0.process log.0.count) (λ begun.
     Ok (replay_work begun log.0 log.1))))
+
+-- the same, once the module and the log's head are there
+abbrev pub played : List ℕ → List ℕ → Module → Head × List ℕ → Outcome
+played module_name log_name m log =
+    and_then (built_or log_name log) (λ log.
+    and_then (begun_of module_name m log.0.process log.0.count) (λ begun.
+    Ok (replay_work begun log.0 log.1)))
 
 -- the schedule of a schedule file
 abbrev pub schedule_or : List ℕ → Result Schedule Refusal → Result Schedule Stop

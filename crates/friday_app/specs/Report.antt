@@ -61,20 +61,22 @@ last_state S es = replayed S (take (accepted S es) es)
 abbrev pub group_text : List ℕ
 group_text = codes "group: 0 sends, 0 receives, 0 unmatched, 0 untagged\n"
 
-abbrev pub report_of : State → List ℕ → List Entry → List ℕ → List ℕ
-report_of S name es rest =
-    line_text name (accepted S es) (last_state S es).end (verdict S es rest) ++ group_text
-
 abbrev pub is_divergence : Verdict → Bool
 is_divergence (Diverged at why) = true
 is_divergence Whole = false
 is_divergence (Left bytes) = false
 
+-- the work of a replay that came to so many events, this end and this verdict
+abbrev pub printed : List ℕ → ℕ → End → Verdict → Work
+printed name count end judged =
+    record {
+      text = line_text name count end judged ++ group_text;
+      writes = [];
+      diverged = is_divergence judged;
+    }
+
 -- what replay prints of a process, from its first state, and of a log, given by its head and what is behind it
 abbrev pub replay_work : State → Head → List ℕ → Work
 replay_work begun head left =
-    record {
-      text = report_of begun head.name (entries_of left) (rest_of left);
-      writes = [];
-      diverged = is_divergence (verdict begun (entries_of left) (rest_of left));
-    }
+    let es = entries_of left in
+    printed head.name (accepted begun es) (last_state begun es).end (verdict begun es (rest_of left))

@@ -1,5 +1,5 @@
 -- What the values of the code stand for.
-use Rattle.std.specs.Prelude.{◌≡◌, ℕ, List, true, false}
+use Rattle.std.specs.Prelude.{◌≡◌, ℕ, List, Ok, true, false}
 use Rattle.lib_calls.specs.declared.entry.Entry.{Entry}
 use Rattle.friday_app.specs.declared.command.Command.{Command as Words}
 use Rattle.friday_app.specs.declared.command.Command.TheVariants as words
@@ -8,11 +8,16 @@ use Rattle.friday_app.specs.declared.replayer.Verdict.{Verdict as RustVerdict}
 use Rattle.friday_app.specs.declared.replayer.Verdict.TheVariants as judged
 use Rattle.friday_app.specs.declared.refusal.Answer.{Answer}
 use Rattle.friday_app.specs.declared.refusal.Answer.TheVariants as answered
+use Rattle.friday_app.specs.declared.refusal.Reason.TheVariants as reason
+use Rattle.friday_app.specs.declared.refusal.Refusal.{Refusal}
+use Rattle.friday_app.specs.declared.refusal.Refusal.TheVariants as refusal
+use Rattle.friday_app.specs.Call.{Names}
 use Rattle.friday_app.specs.Command.{Command, Record, Replay}
+use Rattle.call_log.specs.Log.{stops_at_unbuilt}
 use Rattle.guest_process.specs.Replay.{Verdict, Whole, Left, Diverged, accepted, verdict}
 use Rattle.guest_process.specs.State.{State}
 use Rattle.friday_app.specs.Report.{last_state}
-use Rattle.friday_app.specs.Outcome.{Work}
+use Rattle.friday_app.specs.Outcome.{Outcome, Work}
 
 abbrev pub meaning : Words → Command
 meaning (words.Record schedule_name) = Record schedule_name.now
@@ -33,3 +38,13 @@ pub record Replays (S : State) (es : List Entry) (rest : List ℕ) (replayed : R
 abbrev pub IsWork : Answer → Work → Type 0
 IsWork (answered.Done text) work = (text ≡ work.text) × (work.diverged ≡ false)
 IsWork (answered.Diverged text) work = (text ≡ work.text) × (work.diverged ≡ true)
+
+-- what is printed at the end of the work of this outcome
+abbrev pub Works : Outcome → Answer → Type 0
+Works outcome answer = (work : Work) × ((outcome ≡ Ok work) × IsWork answer work)
+
+-- want of memory, or the refusal of this log file, whose bytes behind all entries go on with a kind that is
+-- not built
+abbrev pub IsUnbuilt : List ℕ → List ℕ → Refusal → Type 0
+IsUnbuilt name rest refusal.NoMemory = Unit {0}
+IsUnbuilt name rest other = (stops_at_unbuilt rest ≡ true) × Names name reason.LogNotBuilt other

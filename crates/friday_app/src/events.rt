@@ -3,9 +3,7 @@ ghost use Rattle.std.specs.Prelude.{◌≡◌, ◌+◌, ◌<◌, ◌^◌, IfOk, 
 ghost use Rattle.lib_calls.specs.Entry.{entry_of};
 ghost use Rattle.call_log.specs.Entry.{IsLogged};
 ghost use Rattle.guest_process.specs.Answers.{is_due};
-ghost use Rattle.guest_process.specs.Legal.{reason};
 ghost use Rattle.guest_process.specs.Live.{live};
-ghost use Rattle.guest_process.specs.Next.{next};
 ghost use Rattle.friday_app.specs.History.{world};
 ghost use Rattle.friday_app.specs.Recorded.{IsEntryOf, AllAgree, reply_at};
 
@@ -44,20 +42,6 @@ pub fn live_entry(
     };
     let clock = next_clock(process.clock())?;
     Ok(Some(plain_entry(clock, thread, *call, reply)))
-}
-
-/// Makes the event of an entry that is legal.
-pub fn make_event<'m>(
-    process: Process<'m>,
-    entry: &EntryView<'_>,
-) -> Result<Process<'m>, AllocError>
-    requires { reason process (entry_of entry.now) ≡ None }
-    ensures { IfOk result (λ after. after ≡ next process.entry (entry_of entry.now)) }
-{
-    if process.events() >= MOST_EVENTS {
-        return Err(AllocError);
-    }
-    process.advance(entry)
 }
 
 // The reply to a call at this wall time, where it is given now.

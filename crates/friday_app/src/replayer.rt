@@ -1,12 +1,13 @@
-// The fold over a log's entries, up to the first that is not legal.
+// The replay of all of a log, up to the first entry that is not legal.
 ghost use Rattle.std.specs.Prelude.{◌≡◌, IfOk};
 ghost use Rattle.call_log.specs.Log.{entries_of, rest_of};
+ghost use Rattle.guest_process.specs.EventCount.{IsFresh};
 ghost use Rattle.guest_process.specs.Replay.{left_over};
 ghost use Rattle.friday_app.specs.Seen.{Replays, verdict_of};
 
-use crate::events::make_event;
 use call_log::LogView;
 use guest_process::{Divergence, End, Process};
+use proc_replay::{Replayer, Turn, replays};
 use std::alloc::AllocError;
 
 /// What is said of a log: all its entries are accepted and nothing is left, so many bytes are left
@@ -15,13 +16,13 @@ use std::alloc::AllocError;
 pub enum Verdict {
     Whole,
     Left(usize),
-    Diverged(usize, Divergence),
+    Diverged(u64, Divergence),
 }
 
 /// A log that was replayed: how many entries were accepted, how the process stands after them, and the verdict.
 #[derive(Clone, Copy)]
 pub struct Replayed {
-    pub accepted: usize,
+    pub accepted: u64,
     pub end: End,
     pub verdict: Verdict,
 }
@@ -35,31 +36,44 @@ fn left_over(rest: &[u8]) -> Verdict
     }
 }
 
-/// Replays a log from the first state of its process.
-pub fn replay_log(begun: Process<'_>, mut log: LogView<'_>) -> Result<Replayed, AllocError>
-    ensures { IfOk result (λ replayed. Replays begun.entry (entries_of log.entry.left) (rest_of log.entry.left) replayed) }
+// What a replay came to that ended with this verdict.
+fn ended(replayer: &Replayer<'_, '_>, verdict: Verdict) -> Replayed
+    ensures accepted { result.accepted ≡ replayer.now.state.events }
+    ensures end { result.end ≡ replayer.now.state.end }
+    ensures verdict { verdict_of result.verdict ≡ verdict_of verdict }
 {
-    let mut process = begun;
-    let size = log.rest().len();
-    let mut accepted = 0;
-    while let Some(entry) = log.next_entry() {
-        // Each entry took some bytes, so the count stays in range.
-        prove!(accepted < size);
-        match process.legal(&entry) {
-            Ok(()) => process = make_event(process, &entry)?,
-            Err(why) => {
-                return Ok(Replayed {
-                    accepted,
-                    end: process.end(),
-                    verdict: Verdict::Diverged(accepted + 1, why),
-                });
+    let process = replayer.process();
+    Replayed {
+        accepted: process.events(),
+        end: process.end(),
+        verdict,
+    }
+}
+
+/// Replays a log from the first state of its process, and gives the log where the replay ended.
+pub fn replay_log<'a>(
+    begun: Process<'_>,
+    log: LogView<'a>,
+) -> Result<(Replayed, LogView<'a>), AllocError>
+    requires { IsFresh log.head.process log.head.count begun }
+    ensures replays { IfOk result (λ r. Replays begun.entry (entries_of log.entry.left) (rest_of log.entry.left) r.0) }
+    ensures rest { IfOk result (λ r. rest_of r.1.left ≡ rest_of log.entry.left) }
+{
+    replays();
+    let mut replayer = Replayer::begin(begun, log);
+    'turns: loop {
+        let (next, turn) = replayer.next_event()?;
+        match turn {
+            Turn::Event(_) => replayer = next,
+            Turn::LogEnd => {
+                let behind = next.log();
+                let verdict = left_over(behind.rest());
+                return Ok((ended(&next, verdict), behind));
+            }
+            Turn::Diverged(at, why) => {
+                let verdict = Verdict::Diverged(at, why);
+                return Ok((ended(&next, verdict), next.log()));
             }
         }
-        accepted += 1;
     }
-    Ok(Replayed {
-        accepted,
-        end: process.end(),
-        verdict: left_over(log.rest()),
-    })
 }

@@ -1,9 +1,14 @@
 // The report of a replay.
-ghost use Rattle.std.specs.Prelude.{◌≡◌, ◌++◌, IfOk, OnOk};
-ghost use Rattle.friday_app.specs.Report.{replay_work, verdict_text, line_text};
-ghost use Rattle.friday_app.specs.Seen.{IsWork, verdict_of};
+ghost use Rattle.std.specs.Prelude.{◌≡◌, ◌++◌, false, IfOk, IfErr, MatchResult, OnOk};
+ghost use Rattle.fri_outside.specs.Outside.{Counts};
+ghost use Rattle.call_log.specs.Log.{rest_of, stops_at_unbuilt};
+ghost use Rattle.guest_process.specs.EventCount.{IsFresh};
+ghost use Rattle.friday_app.specs.Call.{Raises};
+ghost use Rattle.friday_app.specs.Report.{printed, replay_work, verdict_text, line_text};
+ghost use Rattle.friday_app.specs.Seen.{IsUnbuilt, IsWork, verdict_of};
 
-use crate::refusal::Answer;
+use crate::inputs::read_on;
+use crate::refusal::{Answer, Refusal};
 use crate::replayer::{Replayed, Verdict, replay_log};
 use crate::texts::{divergence_text, push_end};
 use call_log::LogView;
@@ -22,7 +27,7 @@ fn push_verdict(text: &mut Text, verdict: Verdict) -> Result<(), AllocError>
         }
         Verdict::Diverged(at, why) => {
             text.push_str("diverged at ")?;
-            text.push_u64(at as u64)?;
+            text.push_u64(at)?;
             text.push_str(": ")?;
             text.push_str(divergence_text(why))?;
             Ok(())
@@ -35,7 +40,7 @@ fn push_line(text: &mut Text, name: &[u8], replayed: Replayed) -> Result<(), All
 {
     text.push_bytes(name)?;
     text.push_str(": ")?;
-    text.push_u64(replayed.accepted as u64)?;
+    text.push_u64(replayed.accepted)?;
     text.push_str(" events, ")?;
     push_end(text, replayed.end)?;
     text.push_str(", ")?;
@@ -44,17 +49,35 @@ fn push_line(text: &mut Text, name: &[u8], replayed: Replayed) -> Result<(), All
     Ok(())
 }
 
-/// Replays a log, and prints what came of it.
-pub fn report(alloc: Global, begun: Process<'_>, log: LogView<'_>) -> Result<Answer, AllocError>
-    ensures { IfOk result (λ answer. IsWork answer (replay_work begun.entry log.entry.head log.entry.left)) }
+// What is printed of a log that was replayed.
+fn print(alloc: Global, name: &[u8], replayed: Replayed) -> Result<Answer, AllocError>
+    ensures { IfOk result (λ answer. IsWork answer (printed name.now replayed.accepted replayed.end (verdict_of replayed.verdict))) }
 {
-    let head = log.head();
-    let replayed = replay_log(begun, log)?;
     let mut text = Text::new(alloc);
-    push_line(&mut text, head.name, replayed)?;
+    push_line(&mut text, name, replayed)?;
     text.push_str("group: 0 sends, 0 receives, 0 unmatched, 0 untagged\n")?;
     Ok(match replayed.verdict {
         Verdict::Diverged(..) => Answer::Diverged(text),
         _ => Answer::Done(text),
     })
+}
+
+/// Replays the log of a file, and prints what came of it.
+pub fn report(
+    alloc: Global,
+    log_file: &str,
+    begun: Process<'_>,
+    log: LogView<'_>,
+) -> Result<Answer, Refusal>
+    requires { IsFresh log.head.process log.head.count begun }
+    ensures answer { MatchResult result
+        (λ answer. (stops_at_unbuilt (rest_of log.entry.left) ≡ false) × IsWork answer (replay_work begun.entry log.entry.head log.entry.left))
+        (λ e. IsUnbuilt log_file.now (rest_of log.entry.left) e) }
+    ensures cause { (old new : Counts) → IfErr result (Raises old new) }
+{
+    let head = log.head();
+    let (replayed, behind) = replay_log(begun, log)?;
+    read_on(alloc, log_file, behind)?;
+    let answer = print(alloc, head.name, replayed)?;
+    Ok(answer)
 }

@@ -1,44 +1,49 @@
-use Rattle.std.proofs.Common.{◌∙◌, ap, sym, subst, arith, ◌+◌}
-use Rattle.lib_calls.specs.declared.entry.Entry.{Entry}
+use Rattle.std.proofs.Common.{ap, refl, sym, subst, ◌∙◌, ◌≡◌, length, arith}
 use Rattle.lib_calls.specs.Entry.{entry_of}
 use Rattle.call_log.specs.Log.{Log, entries_of, rest_of}
-use Rattle.call_log.proofs.Entries.{entries_of-next, rest_of-next, shorter, entries_of-end, rest_of-end}
-use Rattle.guest_process.specs.Replay.{left_over}
-use Rattle.guest_process.specs.State.{State}
-use Rattle.friday_app.proofs.Folding.{Ahead, one_further, ends_at, ends_whole}
+use Rattle.guest_process.specs.Replay.{Diverged, left_over}
+use Rattle.proc_replay.specs.Course.{Outcome, Tells, outcome}
+use Rattle.proc_replay.specs.Replaying.{Replaying, turn}
+use Rattle.friday_app.proofs.Folding.{ends_so, stays_so}
 use Rattle.friday_app.proofs.replayer.replay_log.Goals as goal
 
-pub loop-entry-preserved : goal.loop-entry-preserved
-loop-entry-preserved c =
-    let legal = rw c.in-Ok.is at c.legal.ensures in
-    let e : Entry = entry_of c.in-Some.entry in
-    let found = c.in-Some.ensures in
-    let here = subst (Ahead c.args.begun (entries_of c.args.log.left) c.loop-entry.accepted c.loop-entry.process) (entries_of-next c.loop-entry.log.left e c.next_entry.new.self.left found.shaped found.taken) c.loop-entry.invariant.ahead in
-    record {
-      ahead = subst (λ (S : State). Ahead c.args.begun (entries_of c.args.log.left) (c.loop-entry.accepted + 1) S (entries_of c.next_entry.new.self.left)) (sym c.in_ok-process-in-Ok.ensures) (one_further _ _ _ _ _ _ here (sym legal));
-      rest = c.loop-entry.invariant.rest ∙ rest_of-next c.loop-entry.log.left e c.next_entry.new.self.left found.shaped found.taken;
-      few = omega (arith, shorter c.loop-entry.log.left e c.next_entry.new.self.left found.taken);
-    }
+pub turns-preserved : goal.turns-preserved
+turns-preserved c = ap outcome c.in_ok-next.ensures.after ∙ (c.replays.ensures.turn c.turns.replayer).same ∙ c.turns.invariant
 
-pub prove-unreachable-requires : goal.prove-unreachable-requires
-prove-unreachable-requires c = omega (arith, shorter c.loop-entry.log.left (entry_of c.in-Some.entry) c.next_entry.new.self.left c.in-Some.ensures.taken)
+pub turns-smaller : goal.turns-smaller
+turns-smaller c =
+    let told = rw c.in-Event.is at c.in_ok-next.ensures.turn in
+    let takes = (c.replays.ensures.turn c.turns.replayer).takes (entry_of c.in-Event.field-0) (sym told) in
+    omega (arith, takes, ap (λ (r : Replaying). length r.left) c.in_ok-next.ensures.after)
 
-pub loop-entry-smaller : goal.loop-entry-smaller
-loop-entry-smaller c = omega (arith, shorter c.loop-entry.log.left (entry_of c.in-Some.entry) c.next_entry.new.self.left c.in-Some.ensures.taken)
+pub returns-in-LogEnd-clause-replays : goal.returns-in-LogEnd-clause-replays
+returns-in-LogEnd-clause-replays c =
+    let r = c.turns.replayer in
+    let moves = c.in_ok-next.ensures.after in
+    let told = rw c.in-LogEnd.is at c.in_ok-next.ensures.turn in
+    let tells : Tells (turn r) r.left (left_over r.left) = subst (λ t. Tells t r.left (left_over r.left)) told refl in
+    let here = stays_so c.replays.ensures.turn r c.in_ok-next.next (left_over r.left) moves tells in
+    let left = c.rest.ensures ∙ ap (λ (log : Log). log.left) c.log-behind.ensures ∙ ap (λ (s : Replaying). s.left) here in
+    ends_so c.replays.ensures.turn c.args.begun (entries_of c.args.log.left) (rest_of c.args.log.left) r c.in_ok-next.next (left_over r.left) c.ended.result
+    c.requires.events (c.turns.invariant ∙ ap outcome c.begin-replayer.ensures) moves tells
+    c.ended.ensures.accepted c.ended.ensures.end (c.ended.ensures.verdict ∙ c.left_over-verdict.ensures ∙ ap left_over left)
 
-pub returns-in-Err : goal.returns-in-Err
-returns-in-Err c =
-    let found = c.in-Some.ensures in
-    let here = subst (Ahead c.args.begun (entries_of c.args.log.left) c.loop-entry.accepted c.loop-entry.process) (entries_of-next c.loop-entry.log.left (entry_of c.in-Some.entry) c.next_entry.new.self.left found.shaped found.taken) c.loop-entry.invariant.ahead in
-    let differs = rw c.in-Err.is at c.legal.ensures in
-    let ended = ends_at _ _ (rest_of c.args.log.left) _ _ _ _ c.in-Err.why here (sym differs) in
-    record { accepted = ended.accepted; end = c.end.ensures ∙ ended.end; verdict = ended.verdict }
+pub returns-in-Diverged-clause-replays : goal.returns-in-Diverged-clause-replays
+returns-in-Diverged-clause-replays c =
+    let r = c.turns.replayer in
+    let v = Diverged c.in-Diverged.at c.in-Diverged.why in
+    let told = rw c.in-Diverged.is at c.in_ok-next.ensures.turn in
+    let tells : Tells (turn r) r.left v = subst (λ t. Tells t r.left v) told refl in
+    ends_so c.replays.ensures.turn c.args.begun (entries_of c.args.log.left) (rest_of c.args.log.left) r c.in_ok-next.next v c.ended-in-Diverged.result
+    c.requires.events (c.turns.invariant ∙ ap outcome c.begin-replayer.ensures) c.in_ok-next.ensures.after tells
+    c.ended-in-Diverged.ensures.accepted c.ended-in-Diverged.ensures.end c.ended-in-Diverged.ensures.verdict
 
-pub returns : goal.returns
-returns c =
-    let ends = c.in_default.ensures in
-    let here = subst (Ahead c.args.begun (entries_of c.args.log.left) c.loop-entry.accepted c.loop-entry.process) (entries_of-end c.loop-entry.log.left ends.none) c.loop-entry.invariant.ahead in
-    let left = ap (λ (log : Log). log.left) ends.unchanged in
-    let rest = c.left_over.ensures ∙ ap left_over (c.rest.ensures ∙ left ∙ sym (rest_of-end c.loop-entry.log.left ends.none) ∙ sym c.loop-entry.invariant.rest) in
-    let whole = ends_whole _ _ (rest_of c.args.log.left) _ _ c.left_over.result here rest in
-    record { accepted = whole.accepted; end = c.end-2.ensures ∙ whole.end; verdict = whole.verdict }
+pub returns-in-LogEnd-clause-rest : goal.returns-in-LogEnd-clause-rest
+returns-in-LogEnd-clause-rest c =
+    let same = ap outcome c.in_ok-next.ensures.after ∙ (c.replays.ensures.turn c.turns.replayer).same ∙ c.turns.invariant ∙ ap outcome c.begin-replayer.ensures in
+    ap (λ (log : Log). rest_of log.left) c.log-behind.ensures ∙ ap (λ (o : Outcome). o.rest) same
+
+pub returns-in-Diverged-clause-rest : goal.returns-in-Diverged-clause-rest
+returns-in-Diverged-clause-rest c =
+    let same = ap outcome c.in_ok-next.ensures.after ∙ (c.replays.ensures.turn c.turns.replayer).same ∙ c.turns.invariant ∙ ap outcome c.begin-replayer.ensures in
+    ap (λ (log : Log). rest_of log.left) c.log.ensures ∙ ap (λ (o : Outcome). o.rest) same
