@@ -6,9 +6,9 @@ use Rattle.std.proofs.lemmas.Bool.{leb-true}
 use Rattle.std.proofs.lemmas.Bool.Decides.{Decides-eqb}
 use Rattle.std.proofs.lemmas.Slice.Eq.{starts_is}
 use Rattle.std.proofs.lemmas.List.{drop_at, nil_from_length}
-use Rattle.std.proofs.lemmas.Option.{cond_some, same_Some, some_pair_parts}
+use Rattle.std.proofs.lemmas.Option.{cond_some, same_Some}
+use Rattle.fri_bytes.specs.Laws.{AreBytes, ExactReaders}
 use Rattle.fri_bytes.specs.Reading.{byte_at, piece_at, le_at}
-use Rattle.fri_bytes.proofs.Readers.{bind_some, front_in_range, piece_reads}
 use Rattle.lib_calls.specs.Kinds.{has_outgoing, has_incoming, has_tag}
 use Rattle.call_log.specs.Kind.{is_built}
 use Rattle.lib_calls.specs.declared.entry.Entry.{Entry}
@@ -18,7 +18,7 @@ use Rattle.call_log.specs.Reading.{read_entry, body_at, call_at, string_if_at, t
 use Rattle.call_log.specs.Log.{entry_at, entry_in}
 use Rattle.call_log.proofs.Sizes.{length-body_lt}
 use Rattle.call_log.proofs.Shapes.{and_true, both_true, built_kind, is_logged-from, logged_from_test}
-use Rattle.call_log.proofs.FieldLaws.{AreBytes, bytes_after, onto, next, when_true, kept, number_field, byte_field, string_if_field, tag_if_field, call_at-kind, call_field}
+use Rattle.call_log.proofs.FieldLaws.{bind_some, front_in_range, bytes_after, onto, next, when_true, kept, number_field, byte_field, string_if_field, tag_if_field, call_at-kind, call_field}
 
 at_most_none : (n : ℕ) → leb n 0 ≡ true → n ≡ 0
 at_most_none n h = let few : n ≤ 0 = leb-true n 0 h in omega arith
@@ -110,146 +110,147 @@ steps_from bytes e read =
     } in
     subst (AnySteps bytes) (same_Some made e end.1) (kind.0.0, steps)
 
--- the readers read what was written, whatever follows
-pub body_at-body : (e : Entry) → IsLogged e → body_at (body e) ≡ Some e
-unfolding body
-body_at-body e logged =
-    let shaped = logged.shape in
-    let tag : List ℕ = tag_if (has_tag e.call.kind) e.tag ++ [] in
-    let incoming : List ℕ = string_if (has_incoming e.call.kind) e.incoming ++ tag in
-    let outgoing : List ℕ = string_if (has_outgoing e.call.kind) e.outgoing ++ incoming in
-    let reply : List ℕ = to_le_bytes w64 e.reply ++ outgoing in
-    let call : List ℕ = argument_bytes e.call ++ reply in
-    let signal : List ℕ = (e.signal ∷ []) ++ call in
-    let kind : List ℕ = (e.call.kind ∷ []) ++ signal in
-    let thread : List ℕ = to_le_bytes w16 e.thread ++ kind in
-    let read : Steps e.call.kind (to_le_bytes w64 e.clock ++ thread) e = record {
-      kind_is = refl;
-      after_clock = thread;
-      after_thread = kind;
-      after_kind = signal;
-      after_signal = call;
-      after_call = reply;
-      after_reply = outgoing;
-      after_outgoing = incoming;
-      after_incoming = tag;
-      clock = (number_field w64).again e.clock thread shaped.clock;
-      thread = (number_field w16).again e.thread kind shaped.thread;
-      number = refl;
-      signal = refl;
-      built = logged.built;
-      call = (call_field e.call.kind).again e.call reply (refl, shaped.arguments);
-      reply = (number_field w64).again e.reply outgoing shaped.reply;
-      outgoing = (string_if_field (has_outgoing e.call.kind)).again e.outgoing incoming shaped.outgoing;
-      incoming = (string_if_field (has_incoming e.call.kind)).again e.incoming tag shaped.incoming;
-      tag = (tag_if_field (has_tag e.call.kind)).again e.tag [] shaped.tag;
-    } in
-    body_at-from e.call.kind (to_le_bytes w64 e.clock ++ thread) e read
+module _ (readers : ExactReaders) where
+  -- the readers read what was written, whatever follows
+  pub body_at-body : (e : Entry) → IsLogged e → body_at (body e) ≡ Some e
+  unfolding body
+  body_at-body e logged =
+      let shaped = logged.shape in
+      let tag : List ℕ = tag_if (has_tag e.call.kind) e.tag ++ [] in
+      let incoming : List ℕ = string_if (has_incoming e.call.kind) e.incoming ++ tag in
+      let outgoing : List ℕ = string_if (has_outgoing e.call.kind) e.outgoing ++ incoming in
+      let reply : List ℕ = to_le_bytes w64 e.reply ++ outgoing in
+      let call : List ℕ = argument_bytes e.call ++ reply in
+      let signal : List ℕ = (e.signal ∷ []) ++ call in
+      let kind : List ℕ = (e.call.kind ∷ []) ++ signal in
+      let thread : List ℕ = to_le_bytes w16 e.thread ++ kind in
+      let read : Steps e.call.kind (to_le_bytes w64 e.clock ++ thread) e = record {
+        kind_is = refl;
+        after_clock = thread;
+        after_thread = kind;
+        after_kind = signal;
+        after_signal = call;
+        after_call = reply;
+        after_reply = outgoing;
+        after_outgoing = incoming;
+        after_incoming = tag;
+        clock = (number_field readers w64).again e.clock thread shaped.clock;
+        thread = (number_field readers w16).again e.thread kind shaped.thread;
+        number = refl;
+        signal = refl;
+        built = logged.built;
+        call = (call_field readers e.call.kind).again e.call reply (refl, shaped.arguments);
+        reply = (number_field readers w64).again e.reply outgoing shaped.reply;
+        outgoing = (string_if_field readers (has_outgoing e.call.kind)).again e.outgoing incoming shaped.outgoing;
+        incoming = (string_if_field readers (has_incoming e.call.kind)).again e.incoming tag shaped.incoming;
+        tag = (tag_if_field readers (has_tag e.call.kind)).again e.tag [] shaped.tag;
+      } in
+      body_at-from e.call.kind (to_le_bytes w64 e.clock ++ thread) e read
 
--- and what they read is an entry that is all of the bytes
-shaped_from : (bytes : List ℕ) (e : Entry) → AreBytes bytes → Steps e.call.kind bytes e → IsLogged e × (bytes ≡ body e)
-unfolding body
-shaped_from bytes e are h =
-    let are_1 = bytes_after (number_field w64) bytes e.clock h.after_clock are h.clock in
-    let are_2 = bytes_after (number_field w16) h.after_clock e.thread h.after_thread are_1 h.thread in
-    let are_3 = bytes_after byte_field h.after_thread e.call.kind h.after_kind are_2 h.number in
-    let are_4 = bytes_after byte_field h.after_kind e.signal h.after_signal are_3 h.signal in
-    let are_5 = bytes_after (call_field e.call.kind) h.after_signal e.call h.after_call are_4 h.call in
-    let are_6 = bytes_after (number_field w64) h.after_call e.reply h.after_reply are_5 h.reply in
-    let are_7 = bytes_after (string_if_field (has_outgoing e.call.kind)) h.after_reply e.outgoing h.after_outgoing are_6 h.outgoing in
-    let are_8 = bytes_after (string_if_field (has_incoming e.call.kind)) h.after_outgoing e.incoming h.after_incoming are_7 h.incoming in
-    let clock = (number_field w64).found bytes e.clock h.after_clock are h.clock in
-    let thread = (number_field w16).found h.after_clock e.thread h.after_thread are_1 h.thread in
-    let number = byte_field.found h.after_thread e.call.kind h.after_kind are_2 h.number in
-    let signal = byte_field.found h.after_kind e.signal h.after_signal are_3 h.signal in
-    let call = (call_field e.call.kind).found h.after_signal e.call h.after_call are_4 h.call in
-    let reply = (number_field w64).found h.after_call e.reply h.after_reply are_5 h.reply in
-    let outgoing = (string_if_field (has_outgoing e.call.kind)).found h.after_reply e.outgoing h.after_outgoing are_6 h.outgoing in
-    let incoming = (string_if_field (has_incoming e.call.kind)).found h.after_outgoing e.incoming h.after_incoming are_7 h.incoming in
-    let tag = (tag_if_field (has_tag e.call.kind)).found h.after_incoming e.tag [] are_8 h.tag in
-    let shaped : IsShaped e = record {
-      kind = built_kind e.call.kind h.built;
-      clock = clock.0;
-      thread = thread.0;
-      signal = signal.0;
-      arguments = call.0.1;
-      reply = reply.0;
-      outgoing = outgoing.0;
-      incoming = incoming.0;
-      tag = tag.0;
-    } in
-    let spelled : bytes ≡ body e =
-    clock.1 ∙ onto (to_le_bytes w64 e.clock) (
-    thread.1 ∙ onto (to_le_bytes w16 e.thread) (
-    number.1 ∙ onto (e.call.kind ∷ []) (
-    signal.1 ∙ onto (e.signal ∷ []) (
-    call.1 ∙ onto (argument_bytes e.call) (
-    reply.1 ∙ onto (to_le_bytes w64 e.reply) (
-    outgoing.1 ∙ onto (string_if (has_outgoing e.call.kind) e.outgoing) (
-    incoming.1 ∙ onto (string_if (has_incoming e.call.kind) e.incoming) tag.1))))))) in
-    (record { shape = shaped; built = h.built }, spelled)
+  -- and what they read is an entry that is all of the bytes
+  shaped_from : (bytes : List ℕ) (e : Entry) → AreBytes bytes → Steps e.call.kind bytes e → IsLogged e × (bytes ≡ body e)
+  unfolding body
+  shaped_from bytes e are h =
+      let are_1 = bytes_after (number_field readers w64) bytes e.clock h.after_clock are h.clock in
+      let are_2 = bytes_after (number_field readers w16) h.after_clock e.thread h.after_thread are_1 h.thread in
+      let are_3 = bytes_after byte_field h.after_thread e.call.kind h.after_kind are_2 h.number in
+      let are_4 = bytes_after byte_field h.after_kind e.signal h.after_signal are_3 h.signal in
+      let are_5 = bytes_after (call_field readers e.call.kind) h.after_signal e.call h.after_call are_4 h.call in
+      let are_6 = bytes_after (number_field readers w64) h.after_call e.reply h.after_reply are_5 h.reply in
+      let are_7 = bytes_after (string_if_field readers (has_outgoing e.call.kind)) h.after_reply e.outgoing h.after_outgoing are_6 h.outgoing in
+      let are_8 = bytes_after (string_if_field readers (has_incoming e.call.kind)) h.after_outgoing e.incoming h.after_incoming are_7 h.incoming in
+      let clock = (number_field readers w64).found bytes e.clock h.after_clock are h.clock in
+      let thread = (number_field readers w16).found h.after_clock e.thread h.after_thread are_1 h.thread in
+      let number = byte_field.found h.after_thread e.call.kind h.after_kind are_2 h.number in
+      let signal = byte_field.found h.after_kind e.signal h.after_signal are_3 h.signal in
+      let call = (call_field readers e.call.kind).found h.after_signal e.call h.after_call are_4 h.call in
+      let reply = (number_field readers w64).found h.after_call e.reply h.after_reply are_5 h.reply in
+      let outgoing = (string_if_field readers (has_outgoing e.call.kind)).found h.after_reply e.outgoing h.after_outgoing are_6 h.outgoing in
+      let incoming = (string_if_field readers (has_incoming e.call.kind)).found h.after_outgoing e.incoming h.after_incoming are_7 h.incoming in
+      let tag = (tag_if_field readers (has_tag e.call.kind)).found h.after_incoming e.tag [] are_8 h.tag in
+      let shaped : IsShaped e = record {
+        kind = built_kind e.call.kind h.built;
+        clock = clock.0;
+        thread = thread.0;
+        signal = signal.0;
+        arguments = call.0.1;
+        reply = reply.0;
+        outgoing = outgoing.0;
+        incoming = incoming.0;
+        tag = tag.0;
+      } in
+      let spelled : bytes ≡ body e =
+      clock.1 ∙ onto (to_le_bytes w64 e.clock) (
+      thread.1 ∙ onto (to_le_bytes w16 e.thread) (
+      number.1 ∙ onto (e.call.kind ∷ []) (
+      signal.1 ∙ onto (e.signal ∷ []) (
+      call.1 ∙ onto (argument_bytes e.call) (
+      reply.1 ∙ onto (to_le_bytes w64 e.reply) (
+      outgoing.1 ∙ onto (string_if (has_outgoing e.call.kind) e.outgoing) (
+      incoming.1 ∙ onto (string_if (has_incoming e.call.kind) e.incoming) tag.1))))))) in
+      (record { shape = shaped; built = h.built }, spelled)
 
-body_at-found : (bytes : List ℕ) (e : Entry) → AreBytes bytes → body_at bytes ≡ Some e → IsLogged e × (bytes ≡ body e)
-body_at-found bytes e are found =
-    let steps = steps_from bytes e found in
-    let at : Steps steps.0 bytes e = steps.1 in
-    shaped_from bytes e are (subst (λ (k : ℕ). Steps k bytes e) (sym at.kind_is) at)
+  body_at-found : (bytes : List ℕ) (e : Entry) → AreBytes bytes → body_at bytes ≡ Some e → IsLogged e × (bytes ≡ body e)
+  body_at-found bytes e are found =
+      let steps = steps_from bytes e found in
+      let at : Steps steps.0 bytes e = steps.1 in
+      shaped_from bytes e are (subst (λ (k : ℕ). Steps k bytes e) (sym at.kind_is) at)
 
--- ---- an entry behind its length
+  -- ---- an entry behind its length
 
-read_entry-from : (bytes after within rest : List ℕ) (n : ℕ) (e : Entry) → le_at w32 bytes ≡ Some (n, after) → piece_at n after ≡ Some (within, rest) → body_at within ≡ Some e → read_entry bytes ≡ Some (e, rest)
-unfolding read_entry
-read_entry-from bytes after within rest n e size piece entry =
-    next _ _ (n, after) _ size (next _ _ (within, rest) _ piece (next _ _ e _ entry refl))
+  read_entry-from : (bytes after within rest : List ℕ) (n : ℕ) (e : Entry) → le_at w32 bytes ≡ Some (n, after) → piece_at n after ≡ Some (within, rest) → body_at within ≡ Some e → read_entry bytes ≡ Some (e, rest)
+  unfolding read_entry
+  read_entry-from bytes after within rest n e size piece entry =
+      next _ _ (n, after) _ size (next _ _ (within, rest) _ piece (next _ _ e _ entry refl))
 
--- the readers read what was written, whatever follows
-pub read_entry-encoding : (e : Entry) (rest : List ℕ) → IsLogged e → read_entry (encoding e ++ rest) ≡ Some (e, rest)
-unfolding encoding
-read_entry-encoding e rest shaped =
-    ap read_entry (append_assoc (to_le_bytes w32 (length (body e))) (body e) rest)
-    ∙ read_entry-from _ (body e ++ rest) (body e) rest (length (body e)) e
-    ((number_field w32).again (length (body e)) (body e ++ rest) (length-body_lt e shaped.shape))
-    ((piece_reads (length (body e))).again (body e) (body e) rest (refl, refl))
-    (body_at-body e shaped)
+  -- the readers read what was written, whatever follows
+  pub read_entry-encoding : (e : Entry) (rest : List ℕ) → IsLogged e → read_entry (encoding e ++ rest) ≡ Some (e, rest)
+  unfolding encoding
+  read_entry-encoding e rest shaped =
+      ap read_entry (append_assoc (to_le_bytes w32 (length (body e))) (body e) rest)
+      ∙ read_entry-from _ (body e ++ rest) (body e) rest (length (body e)) e
+      ((number_field readers w32).again (length (body e)) (body e ++ rest) (length-body_lt e shaped.shape))
+      ((readers.piece (length (body e))).again (body e) (body e) rest (refl, refl))
+      (body_at-body e shaped)
 
-encoding_from : (bytes after within rest : List ℕ) (n : ℕ) (e : Entry) → bytes ≡ to_le_bytes w32 n ++ after → after ≡ within ++ rest → length within ≡ n → within ≡ body e → bytes ≡ encoding e ++ rest
-unfolding encoding
-encoding_from bytes after within rest n e front then size is =
-    front ∙ onto (to_le_bytes w32 n) (then ∙ ap (λ (t : List ℕ). t ++ rest) is)
-    ∙ ap (λ (k : ℕ). to_le_bytes w32 k ++ (body e ++ rest)) (sym size ∙ ap length is)
-    ∙ sym (append_assoc (to_le_bytes w32 (length (body e))) (body e) rest)
+  encoding_from : (bytes after within rest : List ℕ) (n : ℕ) (e : Entry) → bytes ≡ to_le_bytes w32 n ++ after → after ≡ within ++ rest → length within ≡ n → within ≡ body e → bytes ≡ encoding e ++ rest
+  unfolding encoding
+  encoding_from bytes after within rest n e front then size is =
+      front ∙ onto (to_le_bytes w32 n) (then ∙ ap (λ (t : List ℕ). t ++ rest) is)
+      ∙ ap (λ (k : ℕ). to_le_bytes w32 k ++ (body e ++ rest)) (sym size ∙ ap length is)
+      ∙ sym (append_assoc (to_le_bytes w32 (length (body e))) (body e) rest)
 
--- and what they read is an entry that stands there
-pub read_entry-found : (bytes : List ℕ) (e : Entry) (rest : List ℕ) → AreBytes bytes → read_entry bytes ≡ Some (e, rest) → IsLogged e × (bytes ≡ encoding e ++ rest)
-unfolding read_entry encoding
-read_entry-found bytes e rest are found =
-    let size = bind_some _ _ _ found in
-    let piece = bind_some _ _ _ size.2 in
-    let entry = bind_some _ _ _ piece.2 in
-    let number = (number_field w32).found bytes size.0.0 size.0.1 are size.1 in
-    let front = (piece_reads size.0.0).takes size.0.1 piece.0.0 piece.0.1 piece.1 in
-    let after : size.0.1 ≡ piece.0.0 ++ piece.0.1 = front.1 ∙ ap (λ (t : List ℕ). t ++ piece.0.1) front.2.1 in
-    let are_piece : AreBytes piece.0.0 = front_in_range piece.0.0 piece.0.1 (λ i. subst (λ (t : List ℕ). slice_index t i < 256) after (bytes_after (number_field w32) bytes size.0.0 size.0.1 are size.1 i)) in
-    let inside = body_at-found piece.0.0 entry.0 are_piece entry.1 in
-    let spelled : bytes ≡ encoding entry.0 ++ piece.0.1 =
-    encoding_from bytes size.0.1 piece.0.0 piece.0.1 size.0.0 entry.0 number.1 after front.2.0 inside.1 in
-    subst (λ (x : Entry × List ℕ). IsLogged x.0 × (bytes ≡ encoding x.0 ++ x.1)) (same_Some (entry.0, piece.0.1) (e, rest) entry.2) (inside.0, spelled)
+  -- and what they read is an entry that stands there
+  pub read_entry-found : (bytes : List ℕ) (e : Entry) (rest : List ℕ) → AreBytes bytes → read_entry bytes ≡ Some (e, rest) → IsLogged e × (bytes ≡ encoding e ++ rest)
+  unfolding read_entry encoding
+  read_entry-found bytes e rest are found =
+      let size = bind_some _ _ _ found in
+      let piece = bind_some _ _ _ size.2 in
+      let entry = bind_some _ _ _ piece.2 in
+      let number = (number_field readers w32).found bytes size.0.0 size.0.1 are size.1 in
+      let front = (readers.piece size.0.0).takes size.0.1 piece.0.0 piece.0.1 piece.1 in
+      let after : size.0.1 ≡ piece.0.0 ++ piece.0.1 = front.1 ∙ ap (λ (t : List ℕ). t ++ piece.0.1) front.2.1 in
+      let are_piece : AreBytes piece.0.0 = front_in_range piece.0.0 piece.0.1 (λ i. subst (λ (t : List ℕ). slice_index t i < 256) after (bytes_after (number_field readers w32) bytes size.0.0 size.0.1 are size.1 i)) in
+      let inside = body_at-found piece.0.0 entry.0 are_piece entry.1 in
+      let spelled : bytes ≡ encoding entry.0 ++ piece.0.1 =
+      encoding_from bytes size.0.1 piece.0.0 piece.0.1 size.0.0 entry.0 number.1 after front.2.0 inside.1 in
+      subst (λ (x : Entry × List ℕ). IsLogged x.0 × (bytes ≡ encoding x.0 ++ x.1)) (same_Some (entry.0, piece.0.1) (e, rest) entry.2) (inside.0, spelled)
 
--- where they read nothing, no entry stands in front
-pub read_entry-none : (bytes : List ℕ) → read_entry bytes ≡ None → BeginsNoEntry bytes
-read_entry-none bytes none e rest shaped begins =
-    let some : read_entry bytes ≡ Some (e, rest) = ap read_entry begins ∙ read_entry-encoding e rest shaped in
-    cc
+  -- where they read nothing, no entry stands in front
+  pub read_entry-none : (bytes : List ℕ) → read_entry bytes ≡ None → BeginsNoEntry bytes
+  read_entry-none bytes none e rest shaped begins =
+      let some : read_entry bytes ≡ Some (e, rest) = ap read_entry begins ∙ read_entry-encoding e rest shaped in
+      cc
 
--- ---- the entry in front
+  -- ---- the entry in front
 
-pub entry_at-begins : (bytes : List ℕ) (e : Entry) (rest : List ℕ) → IsLogged e → bytes ≡ encoding e ++ rest → entry_at bytes ≡ Some (e, rest)
-unfolding entry_at entry_in
-entry_at-begins bytes e rest shaped begins =
-    let read : read_entry bytes ≡ Some (e, rest) = ap read_entry begins ∙ read_entry-encoding e rest shaped in
-    let starts : starts_with nat_eq bytes (encoding e) ≡ true = (starts_is Decides-eqb bytes (encoding e) _ refl).1 rest begins in
-    let behind : drop (length (encoding e)) bytes ≡ rest = ap (drop (length (encoding e))) begins ∙ drop_at (encoding e) rest (length (encoding e)) refl in
-    next _ _ (e, rest) _ read (when_true _ _ _ _ (both_true _ _ (is_logged-from e shaped) starts) (ap (λ (t : List ℕ). Some (e, t)) behind))
+  pub entry_at-begins : (bytes : List ℕ) (e : Entry) (rest : List ℕ) → IsLogged e → bytes ≡ encoding e ++ rest → entry_at bytes ≡ Some (e, rest)
+  unfolding entry_at entry_in
+  entry_at-begins bytes e rest shaped begins =
+      let read : read_entry bytes ≡ Some (e, rest) = ap read_entry begins ∙ read_entry-encoding e rest shaped in
+      let starts : starts_with nat_eq bytes (encoding e) ≡ true = (starts_is Decides-eqb bytes (encoding e) _ refl).1 rest begins in
+      let behind : drop (length (encoding e)) bytes ≡ rest = ap (drop (length (encoding e))) begins ∙ drop_at (encoding e) rest (length (encoding e)) refl in
+      next _ _ (e, rest) _ read (when_true _ _ _ _ (both_true _ _ (is_logged-from e shaped) starts) (ap (λ (t : List ℕ). Some (e, t)) behind))
 
 pub entry_at-found : (bytes : List ℕ) (e : Entry) (rest : List ℕ) → entry_at bytes ≡ Some (e, rest) → IsLogged e × (bytes ≡ encoding e ++ rest)
 unfolding entry_at entry_in
@@ -269,8 +270,3 @@ pub entry_at-none : (bytes : List ℕ) → BeginsNoEntry bytes → entry_at byte
 entry_at-none bytes none = none_from (entry_at bytes) (λ x found.
     let there = entry_at-found bytes x.0 x.1 found in
     none x.0 x.1 there.0 there.1)
-
--- an entry and what follows it are determined by the bytes
-pub one_entry : (bytes : List ℕ) (e other : Entry) (rest after : List ℕ) → IsLogged e → bytes ≡ encoding e ++ rest → IsLogged other → bytes ≡ encoding other ++ after → (e ≡ other) × (rest ≡ after)
-one_entry bytes e other rest after shaped begins also too =
-    some_pair_parts e other rest after (sym (entry_at-begins bytes e rest shaped begins) ∙ entry_at-begins bytes other after also too)

@@ -1,23 +1,39 @@
 -- Each field of an entry is read exactly as it is written.
-use Rattle.std.proofs.Common.{OnOk, Result, Ok, Err, inl, inr, ◌≡◌, ℕ, ◌^◌, ◌<◌, Bool, true, false, cond, eqb, ltb, List, [], ◌∷◌, ◌++◌, length, slice_index, Option, Some, None, refl, sym, ap, ◌∙◌, subst, arith, append_assoc}
+use Rattle.std.proofs.Common.{OnOk, Result, Ok, Err, inl, inr, ◌⊎◌, ◌≡◌, ℕ, zero, suc, ◌^◌, ◌<◌, Bool, true, false, cond, eqb, ltb, List, [], ◌∷◌, ◌++◌, length, slice_index, Option, Some, None, refl, sym, ap, ◌∙◌, subst, arith, append_assoc}
 use Rattle.std.specs.Prelude.{nat_lt, option_and_then}
 use Rattle.std.specs.List.{concat}
 use Rattle.std.specs.Int.{Width, w32, w64, byte_len, to_le_bytes}
 use Rattle.std.proofs.lemmas.Bool.{eqb-true, ltb-true, lt-ltb}
 use Rattle.std.proofs.lemmas.Option.{some_pair_parts, same_Some}
 use Rattle.lamport_tag.specs.declared.Tag.{Tag}
+use Rattle.fri_bytes.specs.Laws.{AreBytes, ExactReaders}
 use Rattle.fri_bytes.specs.Reading.{byte_at, piece_at, le_at}
-use Rattle.fri_bytes.proofs.Readers.{bind_some, chosen, piece_reads, rest_in_range}
-use Rattle.fri_bytes.proofs.Le.{le_at-to_le_bytes, le_at_spelled}
 use Rattle.lib_calls.specs.declared.entry.Call.{Call}
 use Rattle.lib_calls.specs.Kinds.{argument_count}
 use Rattle.lib_calls.specs.Entry.{IsNumberIf, IsStringIf, IsTagIf, HasArguments}
 use Rattle.call_log.specs.Entry.{number_if, string_if, flagged, tag_if, argument_bytes}
 use Rattle.call_log.specs.Reading.{number_if_at, call_at, string_at, string_if_at, tag_at, flagged_at, tag_if_at}
 
--- each item of the list is a byte
-abbrev pub AreBytes : List ℕ → Type 0
-AreBytes list = (i : ℕ) → slice_index list i < 256
+-- bytes in front of others are in range where all are
+pub front_in_range : (front rest : List ℕ) → AreBytes (front ++ rest) → AreBytes front
+front_in_range [] rest small i = omega arith
+front_in_range (b ∷ front) rest small zero = small 0
+front_in_range (b ∷ front) rest small (suc i) = front_in_range front rest (λ j. small (suc j)) i
+
+-- so are the bytes behind them
+pub rest_in_range : (front rest : List ℕ) → AreBytes (front ++ rest) → AreBytes rest
+rest_in_range [] rest small i = small i
+rest_in_range (b ∷ front) rest small i = rest_in_range front rest (λ j. small (suc j)) i
+
+-- which way a test went
+chosen : {A : Type 0} (b : Bool) (x y z : A) → cond b x y ≡ z → ((b ≡ true) × (x ≡ z)) ⊎ ((b ≡ false) × (y ≡ z))
+chosen true x y z e = inl (refl, e)
+chosen false x y z e = inr (refl, e)
+
+-- the value of a step that did not fail
+pub bind_some : {A B : Type 0} (f : A → Option B) (o : Option A) (y : B) → option_and_then f o ≡ Some y → (x : A) × (o ≡ Some x) × (f x ≡ Some y)
+bind_some f None y e = absurd cc
+bind_some f (Some x) y e = (x, refl, e)
 
 -- a value that fits is read from its spelling, whatever follows, and what is read is a value that fits
 -- and stands there
@@ -64,14 +80,6 @@ pub kept : {A : Type 0} (b : Bool) (x : Option A) (y : A) → cond b x None ≡ 
 kept true x y e = (refl, e)
 kept false x y e = absurd cc
 
-pub number_field : (w : Width) → ReadsBack (λ n. n < 256 ^ byte_len w) (to_le_bytes w) (le_at w)
-number_field w = record {
-  again = λ n rest fits. le_at-to_le_bytes w n rest fits;
-  found = λ bytes n rest are e.
-      let spelled = le_at_spelled w bytes n rest are e in
-      (spelled.1, spelled.0);
-}
-
 byte_found : (bytes : List ℕ) (b : ℕ) (rest : List ℕ) → AreBytes bytes → byte_at bytes ≡ Some (b, rest) → (b < 256) × (bytes ≡ b ∷ rest)
 byte_found [] b rest are e = absurd cc
 byte_found (c ∷ bytes) b rest are e =
@@ -93,104 +101,109 @@ absent_field x = record {
       (sym parts.0, parts.1);
 }
 
-pub number_if_field : (has : Bool) → ReadsBack (IsNumberIf has) (number_if has) (number_if_at has)
-number_if_field true = number_field w64
-number_if_field false = absent_field 0
+module _ (readers : ExactReaders) where
+  -- a number, the lowest byte first
+  pub number_field : (w : Width) → ReadsBack (λ n. n < 256 ^ byte_len w) (to_le_bytes w) (le_at w)
+  number_field w = record { again = readers.written w; found = readers.rewritten w }
 
--- ---- byte strings
+  pub number_if_field : (has : Bool) → ReadsBack (IsNumberIf has) (number_if has) (number_if_at has)
+  number_if_field true = number_field w64
+  number_if_field false = absent_field 0
 
-string_at-from : (bytes after rest piece : List ℕ) (n : ℕ) → le_at w32 bytes ≡ Some (n, after) → n < 2 ^ 31 → piece_at n after ≡ Some (piece, rest) → string_at bytes ≡ Some (piece, rest)
-unfolding string_at
-string_at-from bytes after rest piece n size few found =
-    next _ _ (n, after) _ size (when_true (ltb n (2 ^ 31)) _ _ _ (lt-ltb n (2 ^ 31) few) found)
+  -- ---- byte strings
 
-string_found : (bytes piece rest : List ℕ) → AreBytes bytes → string_at bytes ≡ Some (piece, rest) → (length piece < 2 ^ 31) × (bytes ≡ (to_le_bytes w32 (length piece) ++ piece) ++ rest)
-unfolding string_at
-string_found bytes piece rest are e =
-    let size = bind_some _ _ _ e in
-    let few = kept _ _ _ size.2 in
-    let number = (number_field w32).found bytes size.0.0 size.0.1 are size.1 in
-    let front = (piece_reads size.0.0).takes size.0.1 piece rest few.1 in
-    let long : length piece ≡ size.0.0 = front.2.0 in
-    let after : size.0.1 ≡ piece ++ rest = front.1 ∙ ap (λ (t : List ℕ). t ++ rest) front.2.1 in
-    let spelled : bytes ≡ to_le_bytes w32 (length piece) ++ (piece ++ rest) =
-    number.1 ∙ ap (λ (t : List ℕ). to_le_bytes w32 size.0.0 ++ t) after ∙ ap (λ (n : ℕ). to_le_bytes w32 n ++ (piece ++ rest)) (sym long) in
-    (subst (λ (n : ℕ). n < 2 ^ 31) (sym long) (ltb-true _ _ few.0), spelled ∙ sym (append_assoc (to_le_bytes w32 (length piece)) piece rest))
+  string_at-from : (bytes after rest piece : List ℕ) (n : ℕ) → le_at w32 bytes ≡ Some (n, after) → n < 2 ^ 31 → piece_at n after ≡ Some (piece, rest) → string_at bytes ≡ Some (piece, rest)
+  unfolding string_at
+  string_at-from bytes after rest piece n size few found =
+      next _ _ (n, after) _ size (when_true (ltb n (2 ^ 31)) _ _ _ (lt-ltb n (2 ^ 31) few) found)
 
-pub string_field : ReadsBack (λ s. length s < 2 ^ 31) (λ s. to_le_bytes w32 (length s) ++ s) string_at
-string_field = record {
-  again = λ s rest few.
-      let size = (number_field w32).again (length s) (s ++ rest) (omega arith) in
-      ap string_at (append_assoc (to_le_bytes w32 (length s)) s rest)
-      ∙ string_at-from (to_le_bytes w32 (length s) ++ (s ++ rest)) (s ++ rest) rest s (length s) size few ((piece_reads (length s)).again s s rest (refl, refl));
-  found = string_found;
-}
+  string_found : (bytes piece rest : List ℕ) → AreBytes bytes → string_at bytes ≡ Some (piece, rest) → (length piece < 2 ^ 31) × (bytes ≡ (to_le_bytes w32 (length piece) ++ piece) ++ rest)
+  unfolding string_at
+  string_found bytes piece rest are e =
+      let size = bind_some _ _ _ e in
+      let few = kept _ _ _ size.2 in
+      let number = (number_field w32).found bytes size.0.0 size.0.1 are size.1 in
+      let front = (readers.piece size.0.0).takes size.0.1 piece rest few.1 in
+      let long : length piece ≡ size.0.0 = front.2.0 in
+      let after : size.0.1 ≡ piece ++ rest = front.1 ∙ ap (λ (t : List ℕ). t ++ rest) front.2.1 in
+      let spelled : bytes ≡ to_le_bytes w32 (length piece) ++ (piece ++ rest) =
+      number.1 ∙ ap (λ (t : List ℕ). to_le_bytes w32 size.0.0 ++ t) after ∙ ap (λ (n : ℕ). to_le_bytes w32 n ++ (piece ++ rest)) (sym long) in
+      (subst (λ (n : ℕ). n < 2 ^ 31) (sym long) (ltb-true _ _ few.0), spelled ∙ sym (append_assoc (to_le_bytes w32 (length piece)) piece rest))
 
-pub string_if_field : (has : Bool) → ReadsBack (IsStringIf has) (string_if has) (string_if_at has)
-string_if_field true = string_field
-string_if_field false = absent_field []
+  pub string_field : ReadsBack (λ s. length s < 2 ^ 31) (λ s. to_le_bytes w32 (length s) ++ s) string_at
+  string_field = record {
+    again = λ s rest few.
+        let size = (number_field w32).again (length s) (s ++ rest) (omega arith) in
+        ap string_at (append_assoc (to_le_bytes w32 (length s)) s rest)
+        ∙ string_at-from (to_le_bytes w32 (length s) ++ (s ++ rest)) (s ++ rest) rest s (length s) size few ((readers.piece (length s)).again s s rest (refl, refl));
+    found = string_found;
+  }
 
--- ---- tags
+  pub string_if_field : (has : Bool) → ReadsBack (IsStringIf has) (string_if has) (string_if_at has)
+  string_if_field true = string_field
+  string_if_field false = absent_field []
 
-tag_at-from : (bytes after rest : List ℕ) (tag : Tag) → le_at w32 bytes ≡ Some (tag.sender, after) → le_at w64 after ≡ Some (tag.clock, rest) → tag_at bytes ≡ Some (tag, rest)
-unfolding tag_at
-tag_at-from bytes after rest tag sender clock = next _ _ (tag.sender, after) _ sender (next _ _ (tag.clock, rest) _ clock refl)
+  -- ---- tags
 
-abbrev pub tag_bytes : Tag → List ℕ
-tag_bytes tag = to_le_bytes w32 tag.sender ++ to_le_bytes w64 tag.clock
+  tag_at-from : (bytes after rest : List ℕ) (tag : Tag) → le_at w32 bytes ≡ Some (tag.sender, after) → le_at w64 after ≡ Some (tag.clock, rest) → tag_at bytes ≡ Some (tag, rest)
+  unfolding tag_at
+  tag_at-from bytes after rest tag sender clock = next _ _ (tag.sender, after) _ sender (next _ _ (tag.clock, rest) _ clock refl)
 
-abbrev pub TagFits : Tag → Type 0
-TagFits tag = (tag.sender < 2 ^ 32) × (tag.clock < 2 ^ 64)
+  abbrev pub tag_bytes : Tag → List ℕ
+  tag_bytes tag = to_le_bytes w32 tag.sender ++ to_le_bytes w64 tag.clock
 
-tag_found : (bytes : List ℕ) (tag : Tag) (rest : List ℕ) → AreBytes bytes → tag_at bytes ≡ Some (tag, rest) → TagFits tag × (bytes ≡ tag_bytes tag ++ rest)
-unfolding tag_at
-tag_found bytes tag rest are e =
-    let sender = bind_some _ _ _ e in
-    let clock = bind_some _ _ _ sender.2 in
-    let first = (number_field w32).found bytes sender.0.0 sender.0.1 are sender.1 in
-    let second = (number_field w64).found sender.0.1 clock.0.0 clock.0.1 (bytes_after (number_field w32) bytes sender.0.0 sender.0.1 are sender.1) clock.1 in
-    let made : Tag = record { sender = sender.0.0; clock = clock.0.0 } in
-    subst (λ (x : Tag × List ℕ). TagFits x.0 × (bytes ≡ tag_bytes x.0 ++ x.1)) (same_Some (made, clock.0.1) (tag, rest) clock.2)
-    ((first.0, second.0), first.1 ∙ ap (λ (t : List ℕ). to_le_bytes w32 sender.0.0 ++ t) second.1 ∙ sym (append_assoc (to_le_bytes w32 sender.0.0) (to_le_bytes w64 clock.0.0) clock.0.1))
+  abbrev pub TagFits : Tag → Type 0
+  TagFits tag = (tag.sender < 2 ^ 32) × (tag.clock < 2 ^ 64)
 
-pub tag_field : ReadsBack TagFits tag_bytes tag_at
-tag_field = record {
-  again = λ tag rest fits.
-      ap tag_at (append_assoc (to_le_bytes w32 tag.sender) (to_le_bytes w64 tag.clock) rest)
-      ∙ tag_at-from (to_le_bytes w32 tag.sender ++ (to_le_bytes w64 tag.clock ++ rest)) (to_le_bytes w64 tag.clock ++ rest) rest tag ((number_field w32).again tag.sender _ fits.0) ((number_field w64).again tag.clock rest fits.1);
-  found = tag_found;
-}
+  tag_found : (bytes : List ℕ) (tag : Tag) (rest : List ℕ) → AreBytes bytes → tag_at bytes ≡ Some (tag, rest) → TagFits tag × (bytes ≡ tag_bytes tag ++ rest)
+  unfolding tag_at
+  tag_found bytes tag rest are e =
+      let sender = bind_some _ _ _ e in
+      let clock = bind_some _ _ _ sender.2 in
+      let first = (number_field w32).found bytes sender.0.0 sender.0.1 are sender.1 in
+      let second = (number_field w64).found sender.0.1 clock.0.0 clock.0.1 (bytes_after (number_field w32) bytes sender.0.0 sender.0.1 are sender.1) clock.1 in
+      let made : Tag = record { sender = sender.0.0; clock = clock.0.0 } in
+      subst (λ (x : Tag × List ℕ). TagFits x.0 × (bytes ≡ tag_bytes x.0 ++ x.1)) (same_Some (made, clock.0.1) (tag, rest) clock.2)
+      ((first.0, second.0), first.1 ∙ ap (λ (t : List ℕ). to_le_bytes w32 sender.0.0 ++ t) second.1 ∙ sym (append_assoc (to_le_bytes w32 sender.0.0) (to_le_bytes w64 clock.0.0) clock.0.1))
 
-flagged_again : (tag : Option Tag) (rest : List ℕ) → IsTagIf true tag → flagged_at (flagged tag ++ rest) ≡ Some (tag, rest)
-unfolding flagged_at
-flagged_again None rest fits = refl
-flagged_again (Some tag) rest fits = next _ _ (tag, rest) _ (tag_field.again tag rest fits) refl
+  pub tag_field : ReadsBack TagFits tag_bytes tag_at
+  tag_field = record {
+    again = λ tag rest fits.
+        ap tag_at (append_assoc (to_le_bytes w32 tag.sender) (to_le_bytes w64 tag.clock) rest)
+        ∙ tag_at-from (to_le_bytes w32 tag.sender ++ (to_le_bytes w64 tag.clock ++ rest)) (to_le_bytes w64 tag.clock ++ rest) rest tag ((number_field w32).again tag.sender _ fits.0) ((number_field w64).again tag.clock rest fits.1);
+    found = tag_found;
+  }
 
-flagged_found : (bytes : List ℕ) (tag : Option Tag) (rest : List ℕ) → AreBytes bytes → flagged_at bytes ≡ Some (tag, rest) → IsTagIf true tag × (bytes ≡ flagged tag ++ rest)
-unfolding flagged_at
-flagged_found bytes tag rest are e =
-    let flag = bind_some _ _ _ e in
-    let front = byte_field.found bytes flag.0.0 flag.0.1 are flag.1 in
-    elim (chosen (eqb flag.0.0 0) _ _ _ flag.2) [
-      | inl none ↦
-          let zero : flag.0.0 ≡ 0 = eqb-true _ _ none.0 in
-          subst (λ (x : Option Tag × List ℕ). IsTagIf true x.0 × (bytes ≡ flagged x.0 ++ x.1)) (same_Some (None, flag.0.1) (tag, rest) none.1)
-          (tt, front.1 ∙ ap (λ (b : ℕ). b ∷ flag.0.1) zero)
-      | inr some ↦
-          let one = kept _ _ _ some.1 in
-          let there = bind_some _ _ _ one.1 in
-          let read = tag_field.found flag.0.1 there.0.0 there.0.1 (bytes_after byte_field bytes flag.0.0 flag.0.1 are flag.1) there.1 in
-          let is : flag.0.0 ≡ 1 = eqb-true _ _ one.0 in
-          subst (λ (x : Option Tag × List ℕ). IsTagIf true x.0 × (bytes ≡ flagged x.0 ++ x.1)) (same_Some (Some there.0.0, there.0.1) (tag, rest) there.2)
-          (read.0, front.1 ∙ ap (λ (b : ℕ). b ∷ flag.0.1) is ∙ ap (λ (t : List ℕ). 1 ∷ t) read.1)
-    ]
+  flagged_again : (tag : Option Tag) (rest : List ℕ) → IsTagIf true tag → flagged_at (flagged tag ++ rest) ≡ Some (tag, rest)
+  unfolding flagged_at
+  flagged_again None rest fits = refl
+  flagged_again (Some tag) rest fits = next _ _ (tag, rest) _ (tag_field.again tag rest fits) refl
 
-pub flagged_field : ReadsBack (IsTagIf true) flagged flagged_at
-flagged_field = record { again = flagged_again; found = flagged_found }
+  flagged_found : (bytes : List ℕ) (tag : Option Tag) (rest : List ℕ) → AreBytes bytes → flagged_at bytes ≡ Some (tag, rest) → IsTagIf true tag × (bytes ≡ flagged tag ++ rest)
+  unfolding flagged_at
+  flagged_found bytes tag rest are e =
+      let flag = bind_some _ _ _ e in
+      let front = byte_field.found bytes flag.0.0 flag.0.1 are flag.1 in
+      elim (chosen (eqb flag.0.0 0) _ _ _ flag.2) [
+        | inl none ↦
+            let zero : flag.0.0 ≡ 0 = eqb-true _ _ none.0 in
+            subst (λ (x : Option Tag × List ℕ). IsTagIf true x.0 × (bytes ≡ flagged x.0 ++ x.1)) (same_Some (None, flag.0.1) (tag, rest) none.1)
+            (tt, front.1 ∙ ap (λ (b : ℕ). b ∷ flag.0.1) zero)
+        | inr some ↦
+            let one = kept _ _ _ some.1 in
+            let there = bind_some _ _ _ one.1 in
+            let read = tag_field.found flag.0.1 there.0.0 there.0.1 (bytes_after byte_field bytes flag.0.0 flag.0.1 are flag.1) there.1 in
+            let is : flag.0.0 ≡ 1 = eqb-true _ _ one.0 in
+            subst (λ (x : Option Tag × List ℕ). IsTagIf true x.0 × (bytes ≡ flagged x.0 ++ x.1)) (same_Some (Some there.0.0, there.0.1) (tag, rest) there.2)
+            (read.0, front.1 ∙ ap (λ (b : ℕ). b ∷ flag.0.1) is ∙ ap (λ (t : List ℕ). 1 ∷ t) read.1)
+      ]
 
-pub tag_if_field : (has : Bool) → ReadsBack (IsTagIf has) (tag_if has) (tag_if_at has)
-tag_if_field true = flagged_field
-tag_if_field false = absent_field None
+  pub flagged_field : ReadsBack (IsTagIf true) flagged flagged_at
+  flagged_field = record { again = flagged_again; found = flagged_found }
+
+  pub tag_if_field : (has : Bool) → ReadsBack (IsTagIf has) (tag_if has) (tag_if_at has)
+  tag_if_field true = flagged_field
+  tag_if_field false = absent_field None
 
 -- ---- calls
 
@@ -233,38 +246,39 @@ call_at-kind kind bytes call rest e = (arguments_from kind bytes call rest e).ki
 abbrev pub CallFits : ℕ → Call → Type 0
 CallFits kind call = (call.kind ≡ kind) × HasArguments call
 
-call_again : (kind : ℕ) (call : Call) (rest : List ℕ) → CallFits kind call → call_at kind (argument_bytes call ++ rest) ≡ Some (call, rest)
-unfolding argument_bytes
-call_again kind call rest fits =
-    let has : ℕ → Bool = λ k. nat_lt k (argument_count call.kind) in
-    let third : List ℕ = number_if (has 2) call.a2 ++ rest in
-    let second : List ℕ = number_if (has 1) call.a1 ++ third in
-    let read : Arguments call.kind (number_if (has 0) call.a0 ++ second) call rest = record {
-      kind_is = refl;
-      after_first = second;
-      after_second = third;
-      first = (number_if_field (has 0)).again call.a0 second fits.1.first;
-      second = (number_if_field (has 1)).again call.a1 third fits.1.second;
-      third = (number_if_field (has 2)).again call.a2 rest fits.1.third;
-    } in
-    ap (call_at kind) (concat-append (number_if (has 0) call.a0 ∷ number_if (has 1) call.a1 ∷ number_if (has 2) call.a2 ∷ []) rest)
-    ∙ call_at-from kind _ call rest (subst (λ (k : ℕ). Arguments k (number_if (has 0) call.a0 ++ second) call rest) fits.0 read)
+module _ (readers : ExactReaders) where
+  call_again : (kind : ℕ) (call : Call) (rest : List ℕ) → CallFits kind call → call_at kind (argument_bytes call ++ rest) ≡ Some (call, rest)
+  unfolding argument_bytes
+  call_again kind call rest fits =
+      let has : ℕ → Bool = λ k. nat_lt k (argument_count call.kind) in
+      let third : List ℕ = number_if (has 2) call.a2 ++ rest in
+      let second : List ℕ = number_if (has 1) call.a1 ++ third in
+      let read : Arguments call.kind (number_if (has 0) call.a0 ++ second) call rest = record {
+        kind_is = refl;
+        after_first = second;
+        after_second = third;
+        first = (number_if_field readers (has 0)).again call.a0 second fits.1.first;
+        second = (number_if_field readers (has 1)).again call.a1 third fits.1.second;
+        third = (number_if_field readers (has 2)).again call.a2 rest fits.1.third;
+      } in
+      ap (call_at kind) (concat-append (number_if (has 0) call.a0 ∷ number_if (has 1) call.a1 ∷ number_if (has 2) call.a2 ∷ []) rest)
+      ∙ call_at-from kind _ call rest (subst (λ (k : ℕ). Arguments k (number_if (has 0) call.a0 ++ second) call rest) fits.0 read)
 
-call_found : (kind : ℕ) (bytes : List ℕ) (call : Call) (rest : List ℕ) → AreBytes bytes → call_at kind bytes ≡ Some (call, rest) → CallFits kind call × (bytes ≡ argument_bytes call ++ rest)
-unfolding argument_bytes
-call_found kind bytes call rest are e =
-    let has : ℕ → Bool = λ k. nat_lt k (argument_count call.kind) in
-    let at : Arguments kind bytes call rest = arguments_from kind bytes call rest e in
-    let read : Arguments call.kind bytes call rest = subst (λ (k : ℕ). Arguments k bytes call rest) (sym at.kind_is) at in
-    let are_1 = bytes_after (number_if_field (has 0)) bytes call.a0 read.after_first are read.first in
-    let are_2 = bytes_after (number_if_field (has 1)) read.after_first call.a1 read.after_second are_1 read.second in
-    let first = (number_if_field (has 0)).found bytes call.a0 read.after_first are read.first in
-    let second = (number_if_field (has 1)).found read.after_first call.a1 read.after_second are_1 read.second in
-    let third = (number_if_field (has 2)).found read.after_second call.a2 rest are_2 read.third in
-    let spelled = first.1 ∙ onto (number_if (has 0) call.a0) (second.1 ∙ onto (number_if (has 1) call.a1) third.1) in (
-      (at.kind_is, record { first = first.0; second = second.0; third = third.0 }),
-      spelled ∙ sym (concat-append (number_if (has 0) call.a0 ∷ number_if (has 1) call.a1 ∷ number_if (has 2) call.a2 ∷ []) rest),
-    )
+  call_found : (kind : ℕ) (bytes : List ℕ) (call : Call) (rest : List ℕ) → AreBytes bytes → call_at kind bytes ≡ Some (call, rest) → CallFits kind call × (bytes ≡ argument_bytes call ++ rest)
+  unfolding argument_bytes
+  call_found kind bytes call rest are e =
+      let has : ℕ → Bool = λ k. nat_lt k (argument_count call.kind) in
+      let at : Arguments kind bytes call rest = arguments_from kind bytes call rest e in
+      let read : Arguments call.kind bytes call rest = subst (λ (k : ℕ). Arguments k bytes call rest) (sym at.kind_is) at in
+      let are_1 = bytes_after (number_if_field readers (has 0)) bytes call.a0 read.after_first are read.first in
+      let are_2 = bytes_after (number_if_field readers (has 1)) read.after_first call.a1 read.after_second are_1 read.second in
+      let first = (number_if_field readers (has 0)).found bytes call.a0 read.after_first are read.first in
+      let second = (number_if_field readers (has 1)).found read.after_first call.a1 read.after_second are_1 read.second in
+      let third = (number_if_field readers (has 2)).found read.after_second call.a2 rest are_2 read.third in
+      let spelled = first.1 ∙ onto (number_if (has 0) call.a0) (second.1 ∙ onto (number_if (has 1) call.a1) third.1) in (
+        (at.kind_is, record { first = first.0; second = second.0; third = third.0 }),
+        spelled ∙ sym (concat-append (number_if (has 0) call.a0 ∷ number_if (has 1) call.a1 ∷ number_if (has 2) call.a2 ∷ []) rest),
+      )
 
-pub call_field : (kind : ℕ) → ReadsBack (CallFits kind) argument_bytes (call_at kind)
-call_field kind = record { again = call_again kind; found = call_found kind }
+  pub call_field : (kind : ℕ) → ReadsBack (CallFits kind) argument_bytes (call_at kind)
+  call_field kind = record { again = call_again kind; found = call_found kind }

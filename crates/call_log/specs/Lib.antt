@@ -3,3 +3,4 @@ pub mod Entry
 pub mod Head
 pub mod Reading
 pub mod Log
+pub mod Laws

@@ -7,7 +7,7 @@ ghost use Rattle.call_log.specs.Reading.{Gives, body_at, read_entry as entry_rea
 use crate::fields::{
     has_incoming, has_outgoing, has_tag, is_built, read_call, read_string_if, read_tag_if,
 };
-use fri_bytes::Cursor;
+use fri_bytes::{Cursor, exact_readers};
 use lib_calls::EntryView;
 
 // The entry at the front of the bytes, and the bytes behind it.
@@ -16,6 +16,7 @@ pub(crate) fn read_entry(bytes: &[u8]) -> Option<(EntryView<'_>, &[u8])>
     ensures spelled { IfSome result (λ r. bytes.now ≡ encoding (entry_of r.0) ++ r.1.now) }
     ensures none { IfNone result (BeginsNoEntry bytes.now) }
 {
+    exact_readers();
     let mut cursor = Cursor::new(bytes);
     let entry = read_framed(&mut cursor)?;
     Some((entry, cursor.rest()))

@@ -4,11 +4,13 @@
 mod entry;
 mod fields;
 mod head;
+mod laws;
 mod put;
 #[cfg(test)]
 mod tests;
 mod view;
 
 pub use head::{BadHead, LogHead};
+pub use laws::exact_logs;
 pub use put::{entry_length, put_entry, put_head};
 pub use view::{LogView, stops_at_unbuilt};

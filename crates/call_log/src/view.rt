@@ -1,13 +1,14 @@
 // Reading a log from its front.
-ghost use Rattle.std.specs.Prelude.{◌≡◌, ◌++◌, None, Some, IfOk, OnErr, IfSome, IfNone};
+ghost use Rattle.std.specs.Prelude.{◌≡◌, ◌<◌, [], ◌∷◌, ◌++◌, length, None, Some, IfOk, OnErr, IfSome, IfNone, MatchOption};
 ghost use Rattle.lib_calls.specs.Entry.{entry_of};
 ghost use Rattle.call_log.specs.Entry.{BeginsNoEntry, IsLogged, encoding};
 ghost use Rattle.call_log.specs.Head.{BeginsNoHead, IsHead, head_bytes, head_of};
-ghost use Rattle.call_log.specs.Log.{head_at, stops_at_unbuilt as stops_at_unbuilt_of};
+ghost use Rattle.call_log.specs.Log.{entries_of, head_at, rest_of, stops_at_unbuilt as stops_at_unbuilt_of};
 
 use crate::entry::read_entry;
 use crate::fields::is_built;
 use crate::head::{BadHead, LogHead, read_head};
+use fri_bytes::exact_readers;
 use lib_calls::EntryView;
 use std::marker::Model;
 
@@ -36,6 +37,7 @@ impl<'a> LogView<'a> {
         ensures found { IfOk result (λ log. head_at bytes.now ≡ Some (log.head, log.left)) }
         ensures missing { OnErr result (head_at bytes.now ≡ None) }
     {
+        exact_readers();
         let Some((head, rest)) = read_head(bytes) else {
             return Err(BadHead);
         };
@@ -58,7 +60,15 @@ impl<'a> LogView<'a> {
         ensures none { IfNone result (BeginsNoEntry self.old.left) }
         ensures unchanged { IfNone result (self.new ≡ self.old) }
         ensures head { self.new.head ≡ self.old.head }
+
+        // It is the first of all entries, and the others are those of the bytes that are left.
+        ensures entries { MatchOption result (entries_of self.old.left ≡ [])
+            (λ e. entries_of self.old.left ≡ entry_of e ∷ entries_of self.new.left) }
+        ensures rest { rest_of self.old.left ≡ rest_of self.new.left }
+        ensures end { IfNone result (rest_of self.new.left ≡ self.new.left) }
+        ensures shorter { IfSome result (λ _. length self.new.left < length self.old.left) }
     {
+        exact_readers();
         let (entry, rest) = read_entry(self.rest)?;
         self.rest = rest;
         Some(entry)

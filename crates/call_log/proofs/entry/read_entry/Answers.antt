@@ -12,13 +12,13 @@ if_none (Some x) p = search rules
 
 pub returns-in_err-entry-clause-none : goal.returns-in_err-entry-clause-none
 returns-in_err-entry-clause-none c =
-    if_none c.from_residual.result (read_entry-none c.args.bytes.now (ap read_entry (sym c.new-cursor.ensures.left) ∙ c.in_err-entry.ensures))
+    if_none c.from_residual.result (read_entry-none c.exact_readers.ensures c.args.bytes.now (ap read_entry (sym c.new-cursor.ensures.left) ∙ c.in_err-entry.ensures))
 
 found : (c : goal.After-rest) → IsLogged (entry_of c.in_ok-entry.entry) × (c.args.bytes.now ≡ encoding (entry_of c.in_ok-entry.entry) ++ c.rest.result.now)
 found c =
     let read : read_entry c.args.bytes.now ≡ Some (entry_of c.in_ok-entry.entry, c.rest.result.now) =
     ap read_entry (sym c.new-cursor.ensures.left) ∙ c.in_ok-entry.ensures ∙ ap (λ (t : List ℕ). Some (entry_of c.in_ok-entry.entry, t)) (sym c.rest.ensures) in
-    read_entry-found c.args.bytes.now (entry_of c.in_ok-entry.entry) c.rest.result.now (λ i. search rules) read
+    read_entry-found c.exact_readers.ensures c.args.bytes.now (entry_of c.in_ok-entry.entry) c.rest.result.now (λ i. search rules) read
 
 pub returns-clause-shaped : goal.returns-clause-shaped
 returns-clause-shaped c = (found c).0

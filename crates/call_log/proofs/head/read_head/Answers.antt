@@ -11,13 +11,13 @@ if_none (Some x) p = search rules
 
 pub returns-in_err-head-clause-none : goal.returns-in_err-head-clause-none
 returns-in_err-head-clause-none c =
-    if_none c.from_residual.result (read_head-none c.args.bytes.now (ap read_head (sym c.new-cursor.ensures.left) ∙ c.in_err-head.ensures))
+    if_none c.from_residual.result (read_head-none c.exact_readers.ensures c.args.bytes.now (ap read_head (sym c.new-cursor.ensures.left) ∙ c.in_err-head.ensures))
 
 found : (c : goal.After-rest) → IsHead (head_of c.in_ok-head.head) × (c.args.bytes.now ≡ head_bytes (head_of c.in_ok-head.head) ++ c.rest.result.now)
 found c =
     let read : read_head c.args.bytes.now ≡ Some (head_of c.in_ok-head.head, c.rest.result.now) =
     ap read_head (sym c.new-cursor.ensures.left) ∙ c.in_ok-head.ensures ∙ ap (λ (t : List ℕ). Some (head_of c.in_ok-head.head, t)) (sym c.rest.ensures) in
-    read_head-found c.args.bytes.now (head_of c.in_ok-head.head) c.rest.result.now (λ i. search rules) read
+    read_head-found c.exact_readers.ensures c.args.bytes.now (head_of c.in_ok-head.head) c.rest.result.now (λ i. search rules) read
 
 pub returns-clause-head : goal.returns-clause-head
 returns-clause-head c = (found c).0

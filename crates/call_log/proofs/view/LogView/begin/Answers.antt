@@ -5,4 +5,4 @@ pub returns-in_default-clause-missing : goal.returns-in_default-clause-missing
 returns-in_default-clause-missing c = head_at-none _ c.in_default.ensures.none
 
 pub returns-clause-found : goal.returns-clause-found
-returns-clause-found c = head_at-begins _ _ _ c.in-Some.ensures.head c.in-Some.ensures.spelled
+returns-clause-found c = head_at-begins c.exact_readers.ensures _ _ _ c.in-Some.ensures.head c.in-Some.ensures.spelled

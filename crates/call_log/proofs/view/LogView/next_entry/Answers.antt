@@ -1,0 +1,38 @@
+use Rattle.std.proofs.Common.{rules, ◌≡◌, ℕ, List, Option, Some, None, arith, sym, ap, subst, ◌∙◌}
+use Rattle.std.specs.Prelude.{IfNone}
+use Rattle.lib_calls.specs.Entry.{entry_of}
+use Rattle.call_log.specs.Entry.{BeginsNoEntry}
+use Rattle.call_log.specs.Log.{Log}
+use Rattle.call_log.proofs.Entries.{entries_of-next, rest_of-next, shorter, entries_of-end, rest_of-end}
+use Rattle.call_log.proofs.view.LogView.next_entry.Goals as goal
+
+-- what holds, holds where there is nothing
+if_none : {A : Type 0} (o : Option A) {P : Type 0} → P → IfNone o P
+if_none None p = p
+if_none (Some x) p = search rules
+
+abbrev left_of : Log → List ℕ
+left_of log = log.left
+
+pub returns-in_err-entry-clause-entries : goal.returns-in_err-entry-clause-entries
+returns-in_err-entry-clause-entries c =
+    let ends = subst BeginsNoEntry (ap left_of c.self.view_is) c.in_err-entry.ensures.none in
+    let none : c.from_residual.result ≡ None = search rules in
+    rw none (entries_of-end c.exact_readers.ensures c.args.self.now.left ends)
+
+pub returns-in_err-entry-clause-end : goal.returns-in_err-entry-clause-end
+returns-in_err-entry-clause-end c =
+    let ends = subst BeginsNoEntry (ap left_of c.self.view_is) c.in_err-entry.ensures.none in
+    if_none c.from_residual.result (rest_of-end c.exact_readers.ensures c.args.self.now.left ends)
+
+pub returns-clause-entries : goal.returns-clause-entries
+returns-clause-entries c =
+    entries_of-next c.exact_readers.ensures c.args.self.now.left (entry_of c.in_ok-entry.entry) c.in_ok-entry.rest.now c.in_ok-entry.ensures.shaped (sym (ap left_of c.self.view_is) ∙ c.in_ok-entry.ensures.spelled)
+
+pub returns-clause-rest : goal.returns-clause-rest
+returns-clause-rest c =
+    rest_of-next c.exact_readers.ensures c.args.self.now.left (entry_of c.in_ok-entry.entry) c.in_ok-entry.rest.now c.in_ok-entry.ensures.shaped (sym (ap left_of c.self.view_is) ∙ c.in_ok-entry.ensures.spelled)
+
+pub returns-clause-shorter : goal.returns-clause-shorter
+returns-clause-shorter c =
+    omega (arith, shorter c.args.self.now.left (entry_of c.in_ok-entry.entry) c.in_ok-entry.rest.now (sym (ap left_of c.self.view_is) ∙ c.in_ok-entry.ensures.spelled))
