@@ -6,7 +6,7 @@ use Rattle.std.proofs.lemmas.Bool.{lt-leb}
 use Rattle.std.proofs.lemmas.List.{append_assoc, append-nil, get_or_append_left, get_or_at, length-append}
 use Rattle.schedule_text.specs.declared.item.Item.{Item}
 use Rattle.schedule_text.specs.declared.item.Item.TheVariants.{Run, Clock}
-use Rattle.schedule_text.specs.declared.limits.TheConstants.{MOST_PROCESSES}
+use Rattle.schedule_text.specs.Limits.{most_processes}
 use Rattle.schedule_text.specs.declared.process.ProcessLine.{ProcessLine}
 use Rattle.schedule_text.specs.Fields.{fields_of, is_passed_over}
 use Rattle.schedule_text.specs.Grammar.{IsHeader, IsProcessLine, IsItemLine, lines_kept, AreLinesOf}
@@ -240,9 +240,9 @@ abbrev pub having : List ProcessLine → List Item → Part
 having ps is = record { has_header = true; processes = ps; items = is }
 
 -- a process in range, with room and a new name, is taken
-one_process : (ps : List ProcessLine) (line : ProcessLine) → length ps < MOST_PROCESSES → IsProcess line → IsNew ps line.name → with_fields (having ps []) (codes "process") (line.name ∷ line.module ∷ []) ≡ Some (having (ps ++ line ∷ []) [])
+one_process : (ps : List ProcessLine) (line : ProcessLine) → length ps < most_processes → IsProcess line → IsNew ps line.name → with_fields (having ps []) (codes "process") (line.name ∷ line.module ∷ []) ≡ Some (having (ps ++ line ∷ []) [])
 unfolding with_fields with_process
-one_process ps line room good new = rw (lt-leb MOST_PROCESSES (length ps) room, process_line_again line good, new_any line.name ps new) refl
+one_process ps line room good new = rw (lt-leb most_processes (length ps) room, process_line_again line good, new_any line.name ps new) refl
 
 -- an item in range is taken
 one_item : (ps : List ProcessLine) (is : List Item) (word : List ℕ) (fields : List (List ℕ)) (i : Item) → IsItemLine (word ∷ fields) i → IsInRange (length ps) i → with_fields (having ps is) word fields ≡ Some (having ps (is ++ i ∷ []))
@@ -250,7 +250,7 @@ unfolding with_fields with_item
 one_item ps is word fields i line range = rw ((item_word word fields i line).0, item_again (length ps) word fields i line range) refl
 
 -- the line of such a process is taken
-process_line_gives : (ps : List ProcessLine) (fields : List (List ℕ)) (line : ProcessLine) → length ps < MOST_PROCESSES → IsProcess line → IsNew ps line.name → IsProcessLine fields line → with_line_of (having ps []) fields ≡ Some (having (ps ++ line ∷ []) [])
+process_line_gives : (ps : List ProcessLine) (fields : List (List ℕ)) (line : ProcessLine) → length ps < most_processes → IsProcess line → IsNew ps line.name → IsProcessLine fields line → with_line_of (having ps []) fields ≡ Some (having (ps ++ line ∷ []) [])
 process_line_gives ps fields line room good new is =
     ap (with_line_of (having ps [])) is ∙ kept_fields (having ps []) (codes "process") (line.name ∷ line.module ∷ []) refl ∙ one_process ps line room good new
 
@@ -269,7 +269,7 @@ new_name all ps q qs e apart k d lt same =
     apart k (length ps) d lt (omega arith) (ap (λ (p : ProcessLine). p.name) first ∙ same ∙ ap (λ (p : ProcessLine). p.name) (sym second))
 
 -- all processes, of which `ps` have come
-process_lines_give : (all ps qs : List ProcessLine) (lines : List (List (List ℕ))) → all ≡ ps ++ qs → length all ≤ MOST_PROCESSES → All IsProcess all → AllPairs (λ a b. a.name ≢ b.name) all → AllZip IsProcessLine lines qs → fields_give (having ps []) lines ≡ Some (having all [])
+process_lines_give : (all ps qs : List ProcessLine) (lines : List (List (List ℕ))) → all ≡ ps ++ qs → length all ≤ most_processes → All IsProcess all → AllPairs (λ a b. a.name ≢ b.name) all → AllZip IsProcessLine lines qs → fields_give (having ps []) lines ≡ Some (having all [])
 process_lines_give all ps [] [] e most good apart h = ap (λ (ls : List ProcessLine). Some (having ls [])) (sym (append-nil ps) ∙ sym e)
 process_lines_give all ps (q ∷ qs) [] e most good apart h = absurd h
 process_lines_give all ps [] (fields ∷ lines) e most good apart h = absurd h

@@ -4,12 +4,11 @@ use Rattle.std.specs.Prelude.{codes, All}
 use Rattle.std.proofs.lemmas.Bool.{cases_Bool, cases_lt, ltb-true, ltb-false, leb-true, leb-false}
 use Rattle.std.proofs.Math.Seq.{take-length}
 use Rattle.std.proofs.lemmas.List.{nil_from_length, take-append-drop}
-use Rattle.fri_text.specs.Line.{lines_of, line_at}
-use Rattle.fri_text.proofs.Lines.{lines_of_none, lines_of_some}
+use Rattle.fri_text.specs.Line.{lines_of}
 use Rattle.schedule_text.specs.declared.item.Item.{Item}
 use Rattle.schedule_text.specs.declared.item.Item.TheVariants.{Run, Clock}
 use Rattle.schedule_text.specs.declared.process.ProcessLine.{ProcessLine}
-use Rattle.schedule_text.specs.declared.limits.TheConstants.{MOST_RUNS}
+use Rattle.schedule_text.specs.Limits.{most_runs}
 use Rattle.schedule_text.specs.Grammar.{AreLinesOf, Spells, BeginSchedule, IsFirstBad, BadAt}
 use Rattle.schedule_text.specs.Reading.{◌>>=◌, Refusal, BadLineAt, TooManyRuns, Part, nothing, with_line, with_fields, with_process, process_line_of, schedule_part, whole_of, outcome_of, schedule_of}
 use Rattle.schedule_text.specs.Schedule.{Schedule, IsSchedule, IsInRange, run_count}
@@ -27,8 +26,8 @@ pub record Stops (part : Part) (lines : List (List ℕ)) (good : ℕ) : Type 0 w
 
 -- what an outcome says of the lines
 pub data Came (part : Part) (lines : List (List ℕ)) (number : ℕ) : Result Schedule Refusal → Type 0 where
-  whole : (end : Part) → lines_give part lines ≡ Some end → 0 < length end.processes → run_count end.items ≤ MOST_RUNS → Came part lines number (Ok (schedule_part end))
-  over : (end : Part) → lines_give part lines ≡ Some end → 0 < length end.processes → MOST_RUNS < run_count end.items → Came part lines number (Err TooManyRuns)
+  whole : (end : Part) → lines_give part lines ≡ Some end → 0 < length end.processes → run_count end.items ≤ most_runs → Came part lines number (Ok (schedule_part end))
+  over : (end : Part) → lines_give part lines ≡ Some end → 0 < length end.processes → most_runs < run_count end.items → Came part lines number (Err TooManyRuns)
   stops : (good : ℕ) → Stops part lines good → Came part lines number (Err (BadLineAt (number + good)))
 
 -- where no line is left
@@ -37,9 +36,9 @@ unfolding whole_of
 came_end number part =
     elim (cases_Bool (ltb 0 (length part.processes))) [
       | inl some ↦
-          elim (cases_Bool (leb (run_count part.items) MOST_RUNS)) [
-            | inl few ↦ rw (some, few) (whole part refl (ltb-true 0 (length part.processes) some) (leb-true (run_count part.items) MOST_RUNS few))
-            | inr many ↦ rw (some, many) (over part refl (ltb-true 0 (length part.processes) some) (leb-false (run_count part.items) MOST_RUNS many))
+          elim (cases_Bool (leb (run_count part.items) most_runs)) [
+            | inl few ↦ rw (some, few) (whole part refl (ltb-true 0 (length part.processes) some) (leb-true (run_count part.items) most_runs few))
+            | inr many ↦ rw (some, many) (over part refl (ltb-true 0 (length part.processes) some) (leb-false (run_count part.items) most_runs many))
           ]
       | inr none ↦
           rw none (subst (λ (n : ℕ). Came part [] number (Err (BadLineAt n))) (let e : number + 0 ≡ number = omega arith in e)
@@ -234,7 +233,7 @@ came_ok lines _ s (over end gives some many) e = absurd cc
 came_ok lines _ s (stops good h) e = absurd cc
 
 -- too many run items
-came_over : (lines : List (List ℕ)) (outcome : Result Schedule Refusal) → Came nothing lines 1 outcome → outcome ≡ Err TooManyRuns → (s : Schedule) × AreLinesOf lines s × (MOST_RUNS < run_count s.items)
+came_over : (lines : List (List ℕ)) (outcome : Result Schedule Refusal) → Came nothing lines 1 outcome → outcome ≡ Err TooManyRuns → (s : Schedule) × AreLinesOf lines s × (most_runs < run_count s.items)
 came_over lines _ (whole end gives some few) e = absurd cc
 came_over lines _ (over end gives some many) e = (schedule_part end, lines_take lines end some gives, many)
 came_over lines _ (stops good h) e = absurd cc
@@ -250,7 +249,7 @@ pub schedule_found : (bytes : List ℕ) (s : Schedule) → schedule_of bytes ≡
 schedule_found bytes s e = came_ok (lines_of bytes) (schedule_of bytes) s (came_of bytes) e
 
 -- where too many run items are the answer, a schedule with so many is spelled
-pub schedule_over : (bytes : List ℕ) → schedule_of bytes ≡ Err TooManyRuns → (s : Schedule) × Spells bytes s × (MOST_RUNS < run_count s.items)
+pub schedule_over : (bytes : List ℕ) → schedule_of bytes ≡ Err TooManyRuns → (s : Schedule) × Spells bytes s × (most_runs < run_count s.items)
 schedule_over bytes e = came_over (lines_of bytes) (schedule_of bytes) (came_of bytes) e
 
 -- a line that is given as bad is the first bad one
@@ -262,7 +261,7 @@ spelled_came : (lines : List (List ℕ)) (s : Schedule) (end : Part) → AreLine
 spelled_came lines s end spelled gives = some_is end (having s.processes s.items) (sym gives ∙ lines_again lines s spelled)
 
 -- of lines that spell a schedule
-came_spelled : (lines : List (List ℕ)) (outcome : Result Schedule Refusal) (s : Schedule) → Came nothing lines 1 outcome → AreLinesOf lines s → (run_count s.items ≤ MOST_RUNS → outcome ≡ Ok s) × (MOST_RUNS < run_count s.items → outcome ≡ Err TooManyRuns)
+came_spelled : (lines : List (List ℕ)) (outcome : Result Schedule Refusal) (s : Schedule) → Came nothing lines 1 outcome → AreLinesOf lines s → (run_count s.items ≤ most_runs → outcome ≡ Ok s) × (most_runs < run_count s.items → outcome ≡ Err TooManyRuns)
 came_spelled lines _ s (whole end gives some few) spelled =
     let same = spelled_came lines s end spelled gives in
     (λ _. ap (λ (p : Part). Ok (schedule_part p)) same, λ many. absurd (omega (arith, ap (λ (p : Part). run_count p.items) same)))
@@ -272,11 +271,11 @@ came_spelled lines _ s (over end gives some many) spelled =
 came_spelled lines _ s (stops good h) spelled = absurd (stopped_unspelled lines good s h spelled)
 
 -- a schedule that is spelled, with no more run items than the limit, is given
-pub schedule_again : (bytes : List ℕ) (s : Schedule) → Spells bytes s → run_count s.items ≤ MOST_RUNS → schedule_of bytes ≡ Ok s
+pub schedule_again : (bytes : List ℕ) (s : Schedule) → Spells bytes s → run_count s.items ≤ most_runs → schedule_of bytes ≡ Ok s
 schedule_again bytes s spelled few = (came_spelled (lines_of bytes) (schedule_of bytes) s (came_of bytes) spelled).0 few
 
 -- one with more is refused so
-pub over_again : (bytes : List ℕ) (s : Schedule) → Spells bytes s → MOST_RUNS < run_count s.items → schedule_of bytes ≡ Err TooManyRuns
+pub over_again : (bytes : List ℕ) (s : Schedule) → Spells bytes s → most_runs < run_count s.items → schedule_of bytes ≡ Err TooManyRuns
 over_again bytes s spelled many = (came_spelled (lines_of bytes) (schedule_of bytes) s (came_of bytes) spelled).1 many
 
 -- of lines that have a bad one
@@ -330,16 +329,16 @@ unfolding schedule_of
 read_begins bytes left part same none = rw (same, none) refl
 
 -- it goes on behind a line that is allowed
-pub read_on : (outcome : Result Schedule Refusal) (left line after : List ℕ) (number : ℕ) (part next : Part) → outcome_of number part (lines_of left) ≡ outcome → line_at left ≡ Some (line, after) → with_line part line ≡ Some next → outcome_of (number + 1) next (lines_of after) ≡ outcome
+pub read_on : (outcome : Result Schedule Refusal) (left line after : List ℕ) (number : ℕ) (part next : Part) → outcome_of number part (lines_of left) ≡ outcome → lines_of left ≡ line ∷ lines_of after → with_line part line ≡ Some next → outcome_of (number + 1) next (lines_of after) ≡ outcome
 read_on outcome left line after number part next so_far taken allowed =
-    sym (outcome_on number part next line (lines_of after) allowed) ∙ ap (outcome_of number part) (sym (lines_of_some left line after taken)) ∙ so_far
+    sym (outcome_on number part next line (lines_of after) allowed) ∙ ap (outcome_of number part) (sym taken) ∙ so_far
 
 -- it ends at one that isn't
-pub read_bad : (outcome : Result Schedule Refusal) (left line after : List ℕ) (number : ℕ) (part : Part) → outcome_of number part (lines_of left) ≡ outcome → line_at left ≡ Some (line, after) → with_line part line ≡ None → outcome ≡ Err (BadLineAt number)
+pub read_bad : (outcome : Result Schedule Refusal) (left line after : List ℕ) (number : ℕ) (part : Part) → outcome_of number part (lines_of left) ≡ outcome → lines_of left ≡ line ∷ lines_of after → with_line part line ≡ None → outcome ≡ Err (BadLineAt number)
 read_bad outcome left line after number part so_far taken refused =
-    sym so_far ∙ ap (outcome_of number part) (lines_of_some left line after taken) ∙ outcome_bad number part line (lines_of after) refused
+    sym so_far ∙ ap (outcome_of number part) taken ∙ outcome_bad number part line (lines_of after) refused
 
 -- it ends behind the last
-pub read_ends : (outcome : Result Schedule Refusal) (left : List ℕ) (number : ℕ) (part : Part) → outcome_of number part (lines_of left) ≡ outcome → line_at left ≡ None → outcome ≡ whole_of number part
+pub read_ends : (outcome : Result Schedule Refusal) (left : List ℕ) (number : ℕ) (part : Part) → outcome_of number part (lines_of left) ≡ outcome → lines_of left ≡ [] → outcome ≡ whole_of number part
 read_ends outcome left number part so_far none =
-    sym so_far ∙ ap (outcome_of number part) (lines_of_none left none) ∙ outcome_end number part
+    sym so_far ∙ ap (outcome_of number part) none ∙ outcome_end number part

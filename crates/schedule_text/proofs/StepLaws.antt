@@ -8,7 +8,7 @@ use Rattle.std.proofs.lemmas.List.{length-append}
 use Rattle.std.proofs.lemmas.List.Elements.{All-push}
 use Rattle.std.proofs.lemmas.List.Quantifiers.{all_pairs_push}
 use Rattle.schedule_text.specs.declared.item.Item.{Item}
-use Rattle.schedule_text.specs.declared.limits.TheConstants.{MOST_PROCESSES}
+use Rattle.schedule_text.specs.Limits.{most_processes}
 use Rattle.schedule_text.specs.declared.process.ProcessLine.{ProcessLine}
 use Rattle.schedule_text.specs.Fields.{fields_of, is_comment, is_passed_over}
 use Rattle.schedule_text.specs.Grammar.{IsHeader, IsProcessLine, IsItemLine, lines_kept}
@@ -71,7 +71,7 @@ IsNew processes name = (k : ℕ) (d : ProcessLine) → k < length processes → 
 -- a line with these fields is allowed behind `part`, and gives the part of the last argument
 pub data Step (part : Part) (fields : List (List ℕ)) : Part → Type 0 where
   header : part.has_header ≡ false → IsHeader fields → Step part fields (record part { has_header = true })
-  process : (line : ProcessLine) → part.has_header ≡ true → part.items ≡ [] → length part.processes < MOST_PROCESSES → IsProcessLine fields line → IsProcess line → IsNew part.processes line.name → Step part fields (record part { processes = part.processes ++ line ∷ [] })
+  process : (line : ProcessLine) → part.has_header ≡ true → part.items ≡ [] → length part.processes < most_processes → IsProcessLine fields line → IsProcess line → IsNew part.processes line.name → Step part fields (record part { processes = part.processes ++ line ∷ [] })
   item : (i : Item) → part.has_header ≡ true → IsItemLine fields i → IsInRange (length part.processes) i → Step part fields (record part { items = part.items ++ i ∷ [] })
 
 -- a name that no process compares equal to is new
@@ -102,13 +102,13 @@ none_left (x ∷ xs) e = absurd (let some = lt-ltb 0 (length (x ∷ xs)) (omega 
 process_step : (part : Part) (word : List ℕ) (fields : List (List ℕ)) (next : Part) → part.has_header ≡ true → word ≡ codes "process" → with_process part fields ≡ Some next → Step part (word ∷ fields) next
 unfolding with_process
 process_step part word fields next begun is e =
-    let room = passed (ltb 0 (length part.items) || leb MOST_PROCESSES (length part.processes)) _ next e in
+    let room = passed (ltb 0 (length part.items) || leb most_processes (length part.processes)) _ next e in
     let line = bind_some (process_line_of fields) _ next room.1 in
     let new = passed (list_any (λ other. bytes_eq other.name line.0.name) part.processes) _ next line.2 in
-    let free = or_parts (ltb 0 (length part.items)) (leb MOST_PROCESSES (length part.processes)) room.0 in
+    let free = or_parts (ltb 0 (length part.items)) (leb most_processes (length part.processes)) room.0 in
     let written = process_line_takes word fields line.0 is line.1 in
     let same : record part { processes = part.processes ++ line.0 ∷ [] } ≡ next = (let there = new.1 in cc) in
-    subst (Step part (word ∷ fields)) same (process line.0 begun (none_left part.items free.0) (leb-false MOST_PROCESSES (length part.processes) free.1) written.0 written.1 (any_new line.0.name part.processes new.0))
+    subst (Step part (word ∷ fields)) same (process line.0 begun (none_left part.items free.0) (leb-false most_processes (length part.processes) free.1) written.0 written.1 (any_new line.0.name part.processes new.0))
 
 -- what comes of something that is found
 map_some : {A B : Type 0} (f : A → B) (o : Option A) (y : B) → option_map f o ≡ Some y → (x : A) × (o ≡ Some x) × (f x ≡ y)
@@ -156,7 +156,7 @@ step_of part word fields next e =
 -- what has come is in range
 pub record IsPart (part : Part) : Type 0 where
   pub before : part.has_header ≡ false → length part.processes ≡ 0
-  pub most : length part.processes ≤ MOST_PROCESSES
+  pub most : length part.processes ≤ most_processes
   pub lines : All IsProcess part.processes
   pub names : AllPairs (λ a b. a.name ≢ b.name) part.processes
   pub items : All (IsInRange (length part.processes)) part.items

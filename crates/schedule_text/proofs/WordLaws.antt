@@ -7,7 +7,7 @@ use Rattle.std.proofs.lemmas.Bool.{cases_Bool, ne_eqb, eqb-false, leb-true, le-l
 use Rattle.fri_text.specs.Decimal.{decimal_of, signed_of, up_to, within_i64}
 use Rattle.fri_text.specs.declared.error.TextError.{TextError}
 use Rattle.fri_text.specs.declared.error.TextError.TheVariants.{TooGreat}
-use Rattle.schedule_text.specs.declared.limits.TheConstants.{MOST_TIMES}
+use Rattle.schedule_text.specs.Limits.{most_times}
 use Rattle.schedule_text.specs.Fields.{field_at, last_of}
 use Rattle.schedule_text.specs.Grammar.{IsNumber, IsSignedNumber}
 use Rattle.schedule_text.specs.Reading.{◌>>=◌, number_of, process_number_of, times_of}
@@ -106,18 +106,18 @@ value_again word z is fits = ap (λ (o : Option ℤ). result_ok (within_i64 o)) 
 -- ---- how often is tried
 
 -- the tries that are read are 1, or are written so and in range
-pub times_takes : (fields : List (List ℕ)) (n : ℕ) → times_of fields ≡ Some n → ((fields ≡ []) × (n ≡ 1)) ⊎ ((word : List ℕ) × (fields ≡ word ∷ []) × IsNumber word n × (1 ≤ n) × (n ≤ MOST_TIMES))
+pub times_takes : (fields : List (List ℕ)) (n : ℕ) → times_of fields ≡ Some n → ((fields ≡ []) × (n ≡ 1)) ⊎ ((word : List ℕ) × (fields ≡ word ∷ []) × IsNumber word n × (1 ≤ n) × (n ≤ most_times))
 times_takes [] n e = inl (refl, let same : 1 ≡ n = cc in sym same)
 times_takes (word ∷ []) n e =
-    let some = bind_some (number_of MOST_TIMES word) (λ (k : ℕ). cond (eqb k 0) None (Some k)) n e in
+    let some = bind_some (number_of most_times word) (λ (k : ℕ). cond (eqb k 0) None (Some k)) n e in
     let positive = passed (eqb some.0 0) (Some some.0) n some.2 in
     let same : some.0 ≡ n = (let there = positive.1 in cc) in
-    let number = number_takes MOST_TIMES word some.0 some.1 in
+    let number = number_takes most_times word some.0 some.1 in
     inr (word, refl, number.0 ∙ ap (λ (k : ℕ). Some k) same, omega (arith, same, eqb-false some.0 0 positive.0), omega (arith, same, number.1))
 times_takes (word ∷ other ∷ fields) n e = absurd cc
 
 -- tries in range are read
-pub times_again : (word : List ℕ) (n : ℕ) → IsNumber word n → 1 ≤ n → n ≤ MOST_TIMES → times_of (word ∷ []) ≡ Some n
+pub times_again : (word : List ℕ) (n : ℕ) → IsNumber word n → 1 ≤ n → n ≤ most_times → times_of (word ∷ []) ≡ Some n
 times_again word n is some most =
     let positive : eqb n 0 ≡ false = ne_eqb n 0 (λ e. omega arith) in
-    rw (number_again MOST_TIMES word n is most, positive) refl
+    rw (number_again most_times word n is most, positive) refl

@@ -1,6 +1,6 @@
 -- What holds of the grammar, and of the function that goes over the lines.
 use Rattle.std.specs.Prelude.{◌≡◌, ℕ, ◌<◌, ◌≤◌, ◌⊎◌, ◌↔◌, List, Ok, Err}
-use Rattle.schedule_text.specs.declared.limits.TheConstants.{MOST_RUNS}
+use Rattle.schedule_text.specs.Limits.{most_runs}
 use Rattle.schedule_text.specs.Grammar.{Spells, BadAt}
 use Rattle.schedule_text.specs.Reading.{BadLineAt, TooManyRuns, schedule_of}
 use Rattle.schedule_text.specs.Schedule.{Schedule, run_count}
@@ -23,11 +23,11 @@ OneBadLine = (bytes : List ℕ) (m n : ℕ) → BadAt bytes m → BadAt bytes n 
 
 -- the function gives exactly the schedules that are spelled and have no more run items than the limit
 abbrev pub GivesSchedules : Type 0
-GivesSchedules = (bytes : List ℕ) (s : Schedule) → (schedule_of bytes ≡ Ok s) ↔ (Spells bytes s × (run_count s.items ≤ MOST_RUNS))
+GivesSchedules = (bytes : List ℕ) (s : Schedule) → (schedule_of bytes ≡ Ok s) ↔ (Spells bytes s × (run_count s.items ≤ most_runs))
 
 -- it refuses those with more
 abbrev pub RefusesMore : Type 0
-RefusesMore = (bytes : List ℕ) → (schedule_of bytes ≡ Err TooManyRuns) ↔ ((s : Schedule) × Spells bytes s × (MOST_RUNS < run_count s.items))
+RefusesMore = (bytes : List ℕ) → (schedule_of bytes ≡ Err TooManyRuns) ↔ ((s : Schedule) × Spells bytes s × (most_runs < run_count s.items))
 
 -- it names exactly the first bad line
 abbrev pub NamesBadLine : Type 0

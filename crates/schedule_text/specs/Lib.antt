@@ -1,6 +1,7 @@
 pub mod Fields
 pub mod Grammar
 pub mod Laws
+pub mod Limits
 pub mod Outcome
 pub mod Reading
 pub mod Schedule

@@ -10,7 +10,7 @@ use Rattle.fri_text.specs.Line.{lines_of}
 use Rattle.fri_text.specs.Name.{is_name}
 use Rattle.schedule_text.specs.declared.item.Item.{Item}
 use Rattle.schedule_text.specs.declared.item.Item.TheVariants.{Run, Clock}
-use Rattle.schedule_text.specs.declared.limits.TheConstants.{MOST_PROCESSES, MOST_THREAD, MOST_TIMES, MOST_RUNS}
+use Rattle.schedule_text.specs.Limits.{most_processes, most_thread, most_times, most_runs}
 use Rattle.schedule_text.specs.declared.process.ProcessLine.{ProcessLine}
 use Rattle.schedule_text.specs.Fields.{fields_of, field_at, last_of, is_comment}
 use Rattle.schedule_text.specs.Schedule.{Schedule, is_module_name, run_count}
@@ -39,7 +39,7 @@ process_number_of processes word = if processes == 0 then None else number_of (p
 -- the fields after P and T: how often is tried
 abbrev pub times_of : List (List ℕ) → Option ℕ
 times_of [] = Some 1
-times_of (word ∷ []) = number_of MOST_TIMES word >>= λ n. if n == 0 then None else Some n
+times_of (word ∷ []) = number_of most_times word >>= λ n. if n == 0 then None else Some n
 times_of _ = None
 
 -- ---- one line
@@ -62,7 +62,7 @@ run_of processes fields = do
   p ← field_at fields
   process ← process_number_of processes p.0
   t ← field_at p.1
-  thread ← number_of MOST_THREAD t.0
+  thread ← number_of most_thread t.0
   times ← times_of t.1
   Some (Run process thread times)
 
@@ -96,7 +96,7 @@ nothing = record { has_header = false; processes = []; items = [] }
 -- one more process, where no item has come, there is room for it, and its name is new
 unfoldable pub with_process : Part → List (List ℕ) → Option Part
 with_process part fields =
-    if nat_lt 0 (length part.items) || nat_le MOST_PROCESSES (length part.processes) then None else
+    if nat_lt 0 (length part.items) || nat_le most_processes (length part.processes) then None else
     (process_line_of fields >>= λ line. if list_any (λ other. bytes_eq other.name line.name) part.processes then None else
     Some (record part { processes = part.processes ++ line ∷ [] }))
 
@@ -135,7 +135,7 @@ schedule_part part = record { processes = part.processes; items = part.items }
 unfoldable pub whole_of : ℕ → Part → Result Schedule Refusal
 whole_of number part =
     if nat_lt 0 (length part.processes) then
-    (if nat_le (run_count part.items) MOST_RUNS then Ok (schedule_part part) else Err TooManyRuns) else
+    (if nat_le (run_count part.items) most_runs then Ok (schedule_part part) else Err TooManyRuns) else
     Err (BadLineAt number)
 
 -- what follows of the lines still to come, the first of which has this number

@@ -5,7 +5,7 @@ use Rattle.std.specs.List.{list_all, ends_with}
 use Rattle.fri_text.specs.Name.{is_name}
 use Rattle.schedule_text.specs.declared.item.Item.{Item}
 use Rattle.schedule_text.specs.declared.item.Item.TheVariants.{Run, Clock}
-use Rattle.schedule_text.specs.declared.limits.TheConstants.{MOST_PROCESSES, MOST_THREAD, MOST_TIMES, MOST_RUNS}
+use Rattle.schedule_text.specs.Limits.{most_processes, most_thread, most_times, most_runs}
 use Rattle.schedule_text.specs.declared.process.ProcessLine.{ProcessLine}
 
 -- the processes, numbered from 0, and what happens to them, in order
@@ -29,13 +29,13 @@ pub record IsProcess (line : ProcessLine) : Type 0 where
 
 -- the item is in range where there are this many processes
 abbrev pub IsInRange : ℕ → Item → Type 0
-IsInRange processes (Run process thread times) = (process < processes) × (thread ≤ MOST_THREAD) × (1 ≤ times) × (times ≤ MOST_TIMES)
+IsInRange processes (Run process thread times) = (process < processes) × (thread ≤ most_thread) × (1 ≤ times) × (times ≤ most_times)
 IsInRange processes (Clock process value) = (process < processes) × FitsSigned w64 value
 
 -- the lines and the items are in range, and no two processes have one name
 pub record IsWellFormed (s : Schedule) : Type 0 where
   pub some : 1 ≤ length s.processes
-  pub most : length s.processes ≤ MOST_PROCESSES
+  pub most : length s.processes ≤ most_processes
   pub lines : All IsProcess s.processes
   pub names : AllPairs (λ a b. a.name ≢ b.name) s.processes
   pub items : All (IsInRange (length s.processes)) s.items
@@ -52,4 +52,4 @@ run_count items = sum_by tries items
 -- a schedule that may be run: it is well formed, and has no more run items than the limit
 pub record IsSchedule (s : Schedule) : Type 0 where
   pub formed : IsWellFormed s
-  pub runs : run_count s.items ≤ MOST_RUNS
+  pub runs : run_count s.items ≤ most_runs

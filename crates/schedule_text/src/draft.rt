@@ -2,6 +2,7 @@
 ghost use Rattle.std.specs.Prelude.{◌≡◌, nat_le};
 ghost use Rattle.std.specs.List.{list_any};
 ghost use Rattle.std.specs.Str.{bytes_eq};
+ghost use Rattle.schedule_text.specs.Limits.{most_runs};
 ghost use Rattle.schedule_text.specs.Outcome.{Ends};
 ghost use Rattle.schedule_text.specs.Schedule.{IsSchedule, run_count};
 ghost use Rattle.schedule_text.specs.Reading.{Takes, nothing, schedule_part, whole_of, is_header as is_header_line};
@@ -26,14 +27,14 @@ pub(crate) struct Draft {
 
 impl Model for Draft {
     ghost use Rattle.std.specs.Prelude.{◌≤◌, vec_len};
-    ghost use Rattle.schedule_text.specs.declared.limits.TheConstants.{MOST_PROCESSES};
+    ghost use Rattle.schedule_text.specs.Limits.{most_processes};
     ghost use Rattle.schedule_text.specs.Reading.{Part};
 
     ghost Value = { Part };
 
     ghost view = { λ d. record { has_header = d.has_header; processes = d.processes.items; items = d.items.items } };
 
-    ghost invariant = { λ d. vec_len d.processes ≤ MOST_PROCESSES };
+    ghost invariant = { λ d. vec_len d.processes ≤ most_processes };
 }
 
 impl Draft {
@@ -151,7 +152,7 @@ fn has_name(processes: &[ProcessLine], name: &[u8]) -> bool
 
 /// Whether the run items, repeats counted, are at most `MOST_RUNS`.
 fn is_within_runs(items: &[Item]) -> bool
-    ensures { result ≡ nat_le (run_count items.now) MOST_RUNS }
+    ensures { result ≡ nat_le (run_count items.now) most_runs }
 {
     let mut left = MOST_RUNS;
     for item in items {

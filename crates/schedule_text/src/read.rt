@@ -1,13 +1,13 @@
 // Reading a schedule.
 ghost use Rattle.std.specs.Prelude.{◌≡◌, ℕ, ◌<◌, ◌≤◌, IfOk, IsErrOf, Ok, Err};
 ghost use Rattle.schedule_text.specs.Grammar.{Spells, BadAt};
+ghost use Rattle.schedule_text.specs.Limits.{most_runs};
 ghost use Rattle.schedule_text.specs.Outcome.{Answers, Reads};
 ghost use Rattle.schedule_text.specs.Reading.{schedule_of, BadLineAt, TooManyRuns};
 ghost use Rattle.schedule_text.specs.Schedule.{Schedule as Seen, IsSchedule, run_count};
 
 use crate::draft::Draft;
 use crate::error::ScheduleError;
-use crate::limits::MOST_RUNS;
 use crate::schedule::Schedule;
 use fri_bytes::Cursor;
 use fri_text::next_line;
@@ -21,13 +21,13 @@ pub fn read_schedule(alloc: Global, bytes: &[u8]) -> Result<Schedule, ScheduleEr
     ensures found { IfOk result (λ s. Spells bytes.now s × IsSchedule s) }
     ensures bad_line { (n : ℕ) → IsErrOf result (ScheduleError.BadLine n) → BadAt bytes.now n }
     ensures too_many { IsErrOf result ScheduleError.TooMany →
-        (s : Seen) × Spells bytes.now s × (MOST_RUNS < run_count s.items) }
+        (s : Seen) × Spells bytes.now s × (most_runs < run_count s.items) }
 
     // What is so is answered, unless memory runs out.
-    ensures spelled { (s : Seen) → Spells bytes.now s → run_count s.items ≤ MOST_RUNS →
+    ensures spelled { (s : Seen) → Spells bytes.now s → run_count s.items ≤ most_runs →
         Answers result (Ok s) }
     ensures bad { (n : ℕ) → BadAt bytes.now n → Answers result (Err (BadLineAt n)) }
-    ensures over { (s : Seen) → Spells bytes.now s → MOST_RUNS < run_count s.items →
+    ensures over { (s : Seen) → Spells bytes.now s → most_runs < run_count s.items →
         Answers result (Err TooManyRuns) }
 {
     read_whole(alloc, bytes)

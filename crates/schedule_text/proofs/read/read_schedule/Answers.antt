@@ -2,7 +2,7 @@ use Rattle.std.proofs.Common.{ℕ, ◌<◌, List, Result, Ok, Err, subst}
 use Rattle.std.specs.Prelude.{IfOk, IsErrOf}
 use Rattle.schedule_text.specs.declared.error.ScheduleError.{ScheduleError}
 use Rattle.schedule_text.specs.declared.error.ScheduleError.TheVariants as errors
-use Rattle.schedule_text.specs.declared.limits.TheConstants.{MOST_RUNS}
+use Rattle.schedule_text.specs.Limits.{most_runs}
 use Rattle.schedule_text.specs.Grammar.{Spells, BadAt}
 use Rattle.schedule_text.specs.Outcome.{Answers}
 use Rattle.schedule_text.specs.Reading.{schedule_of}
@@ -17,7 +17,7 @@ is_found bytes (Err e) answer = tt
 is_bad : (bytes : List ℕ) (r : Result Schedule ScheduleError) (n : ℕ) → Answers r (schedule_of bytes) → IsErrOf r (errors.BadLine n) → BadAt bytes n
 is_bad bytes r n answer is = schedule_bad bytes n (subst (λ (r : Result Schedule ScheduleError). Answers r (schedule_of bytes)) is answer)
 
-is_over : (bytes : List ℕ) (r : Result Schedule ScheduleError) → Answers r (schedule_of bytes) → IsErrOf r errors.TooMany → (s : Schedule) × Spells bytes s × (MOST_RUNS < run_count s.items)
+is_over : (bytes : List ℕ) (r : Result Schedule ScheduleError) → Answers r (schedule_of bytes) → IsErrOf r errors.TooMany → (s : Schedule) × Spells bytes s × (most_runs < run_count s.items)
 is_over bytes r answer is = schedule_over bytes (subst (λ (r : Result Schedule ScheduleError). Answers r (schedule_of bytes)) is answer)
 
 pub returns-clause-found : goal.returns-clause-found

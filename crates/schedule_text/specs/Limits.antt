@@ -1,0 +1,18 @@
+-- The limits of what a schedule may say.
+use Rattle.std.specs.Prelude.{ℕ}
+
+-- how many processes a group may have
+abbrev pub most_processes : ℕ
+most_processes = 1
+
+-- the greatest number of a thread
+abbrev pub most_thread : ℕ
+most_thread = 63
+
+-- how often one run item may try
+abbrev pub most_times : ℕ
+most_times = 1000000
+
+-- how many run items a schedule may have, repeats counted
+abbrev pub most_runs : ℕ
+most_runs = 1000000
