@@ -3,9 +3,8 @@
 use Rattle.std.proofs.Common.{◌≡◌, ℕ, cond, eqb, inl, inr, List, [], ◌∷◌, ◌++◌, Option, Some, None, refl, sym, ap, ◌∙◌, subst, append_assoc}
 use Rattle.std.proofs.lemmas.Bool.{eqb-true, eq-eqb}
 use Rattle.fri_bytes.specs.Reading.{Reads, Begins, byte_at}
-use Rattle.fri_bytes.proofs.Readers.{chosen}
 use Rattle.wasm_decode.specs.Values.{Reader, ◌>>=◌, tag_at}
-use Rattle.wasm_decode.proofs.Steps.{bind_some, some_is, kept, joined, joined_byte, joined_three, byte_takes}
+use Rattle.wasm_decode.proofs.Steps.{chosen, bind_some, some_is, kept, joined, joined_byte, joined_three, byte_takes}
 
 -- another way to say the same spellings
 pub read_as : {A : Type 0} (P R : List ℕ → A → Type 0) (p : Reader A) → Reads P p → ((s : List ℕ) (x : A) → P s x → R s x) → ((s : List ℕ) (x : A) → R s x → P s x) → Reads R p

@@ -1,12 +1,13 @@
 -- Reading instructions one after the other, as a loop does, and the instructions that the program makes.
 use Rattle.std.proofs.Common.{◌≡◌, ℕ, zero, suc, ◌-◌, ◌<◌, true, false, nat_eq, List, [], ◌∷◌, ◌++◌, length, Option, Some, None, refl, sym, ap, ◌∙◌, arith, length-append}
 use Rattle.std.specs.Global.{Vec}
+use Rattle.fri_bytes.specs.Laws.{ExactReaders}
 use Rattle.fri_bytes.specs.Reading.{byte_at}
 use Rattle.wasm_types.specs.declared.code.ValType.{ValType}
 use Rattle.wasm_types.specs.declared.code.Instr.{Instr}
 use Rattle.wasm_types.specs.declared.code.Instr.TheVariants as instr
 use Rattle.wasm_types.specs.Code.{Tree, Trees, Then, If, tree, trees, before}
-use Rattle.wasm_types.proofs.CodeLaws.{tree-block, tree-loop, tree-if, before-append}
+use Rattle.wasm_types.specs.CodeLaws.{tree-block, tree-loop, tree-if, before-append}
 use Rattle.wasm_decode.specs.declared.error.DecodeError.{DecodeError}
 use Rattle.wasm_decode.specs.declared.error.DecodeError.TheVariants as errors
 use Rattle.wasm_decode.specs.Gives.{Fails}
@@ -103,8 +104,9 @@ more n (suc count) front bytes b between i after total room byte goes_on one so_
     let step : with_front front (sequence_at (levels_at n) (suc count) bytes) ≡ with_front (front ++ i ∷ []) (sequence_at (levels_at n) count after) = rw (byte, goes_on, one) (regroup front i (sequence_at (levels_at n) count after)) in
     rw less (sym step ∙ so_far)
 
--- an instruction takes a byte at least
-pub shorter : (n : ℕ) (bytes : List ℕ) (b : ℕ) (between : List ℕ) (t : Tree) (after : List ℕ) → byte_at bytes ≡ Some (b, between) → instr_at (levels_at n) b between ≡ Some (t, after) → length after < length bytes
-shorter n bytes b between t after byte one =
-    let behind = instr_takes n (levels_read n) b between t after one in
-    omega (arith, ap length (byte_takes bytes b between byte), ap length behind.1, length-append behind.0 after)
+module _ (readers : ExactReaders) where
+  -- an instruction takes a byte at least
+  pub shorter : (n : ℕ) (bytes : List ℕ) (b : ℕ) (between : List ℕ) (t : Tree) (after : List ℕ) → byte_at bytes ≡ Some (b, between) → instr_at (levels_at n) b between ≡ Some (t, after) → length after < length bytes
+  shorter n bytes b between t after byte one =
+      let behind = instr_takes readers n (levels_read readers n) b between t after one in
+      omega (arith, ap length (byte_takes bytes b between byte), ap length behind.1, length-append behind.0 after)

@@ -1,5 +1,5 @@
 -- Steps of readers that gave something, and spellings in parts.
-use Rattle.std.proofs.Common.{◌≡◌, ℕ, Bool, true, false, cond, List, [], ◌∷◌, ◌++◌, Option, Some, None, refl, sym, ap, ◌∙◌, append_assoc}
+use Rattle.std.proofs.Common.{◌≡◌, ℕ, Bool, true, false, cond, ◌⊎◌, inl, inr, List, [], ◌∷◌, ◌++◌, Option, Some, None, refl, sym, ap, ◌∙◌, append_assoc}
 use Rattle.fri_bytes.specs.Reading.{byte_at}
 use Rattle.wasm_decode.specs.Values.{◌>>=◌}
 
@@ -20,6 +20,11 @@ kept false x y e = absurd cc
 pub guard_some : {A : Type 0} (b : Bool) (x y : A) → cond b (Some x) None ≡ Some y → (b ≡ true) × (x ≡ y)
 guard_some true x y e = (refl, cc)
 guard_some false x y e = absurd cc
+
+-- which way a test went
+pub chosen : {A : Type 0} (b : Bool) (x y z : A) → cond b x y ≡ z → ((b ≡ true) × (x ≡ z)) ⊎ ((b ≡ false) × (y ≡ z))
+chosen true x y z e = inl (refl, e)
+chosen false x y z e = inr (refl, e)
 
 -- two parts, one behind the other
 pub joined : (bytes a between b rest : List ℕ) → bytes ≡ a ++ between → between ≡ b ++ rest → bytes ≡ (a ++ b) ++ rest

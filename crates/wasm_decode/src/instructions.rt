@@ -8,7 +8,7 @@ use crate::error::DecodeError;
 use crate::numbers::{bits_of_f32, bits_of_f64, bits_of_i32, bits_of_i64, byte, number, tag};
 use crate::types::result_type;
 use crate::vectors::{IndexEntry, vector};
-use fri_bytes::Cursor;
+use fri_bytes::{Cursor, exact_readers};
 use std::alloc::Global;
 use wasm_types::Instr;
 
@@ -53,6 +53,8 @@ fn sequence(
     if levels == 0 {
         return Err(DecodeError::Malformed);
     }
+    // An instruction takes a byte at least, since the readers are exact.
+    exact_readers();
     let mut instrs = Vec::new(alloc);
     loop {
         let opcode = byte(cursor)?;

@@ -18,7 +18,7 @@ mod vectors;
 
 use entries::{ElemEntry, ExportEntry, GlobalEntry, ImportEntry, SegmentEntry};
 pub use error::DecodeError;
-use fri_bytes::Cursor;
+use fri_bytes::{Cursor, exact_readers};
 use numbers::end;
 use sections::{code_section, customs, header, section, start_section};
 use std::alloc::Global;
@@ -45,6 +45,7 @@ pub fn decode(alloc: Global, bytes: &[u8]) -> Result<Module, DecodeError>
         (λ m. module_of_bytes bytes.now ≡ Some (module_of m))
         (λ e. e ≡ DecodeError.Malformed → module_of_bytes bytes.now ≡ None) }
 {
+    exact_readers();
     module(alloc, bytes)
 }
 
@@ -88,12 +89,16 @@ fn module(alloc: Global, bytes: &[u8]) -> Result<Module, DecodeError>
 /// A law: bytes spell at most one module.
 pub fn one_module()
     ensures { (bytes : List ℕ) (a b : Shown) → Spells bytes a → Spells bytes b → a ≡ b }
-{}
+{
+    exact_readers();
+}
 
 /// A law: the function that gives the module gives the one that the bytes spell, and no other.
 pub fn module_is_spelled()
     ensures { (bytes : List ℕ) (m : Shown) → (module_of_bytes bytes ≡ Some m) ↔ Spells bytes m }
-{}
+{
+    exact_readers();
+}
 
 #[cfg(test)]
 mod tests;

@@ -57,14 +57,14 @@ sequence-returns-in_err-next t c =
 
 pub sequence-loop-instrs-smaller : goal.sequence-loop-instrs-smaller
 sequence-loop-instrs-smaller t c =
-    shorter (c.args.levels - 1) c.loop-instrs.cursor.left c.in_ok-opcode.opcode c.byte.new.cursor.left (tree c.in_ok-next.next) c.instr.new.cursor.left c.in_ok-opcode.ensures c.in_ok-next.ensures
+    shorter c.exact_readers.ensures (c.args.levels - 1) c.loop-instrs.cursor.left c.in_ok-opcode.opcode c.byte.new.cursor.left (tree c.in_ok-next.next) c.instr.new.cursor.left c.in_ok-opcode.ensures c.in_ok-next.ensures
 
 pub sequence-loop-instrs-preserved : goal.sequence-loop-instrs-preserved
 sequence-loop-instrs-preserved t c =
     let start = length c.args.cursor.now.left in
     let items = c.loop-instrs.instrs.items in
     let goes_on : is_end c.in_ok-opcode.opcode ≡ false = rw (ne_eqb c.in_ok-opcode.opcode 0x0b c.if-opcode-eq-END.false, ne_eqb c.in_ok-opcode.opcode 0x05 c.if-opcode-eq-ELSE.false) refl in
-    let less = shorter (c.args.levels - 1) c.loop-instrs.cursor.left c.in_ok-opcode.opcode c.byte.new.cursor.left (tree c.in_ok-next.next) c.instr.new.cursor.left c.in_ok-opcode.ensures c.in_ok-next.ensures in
+    let less = shorter c.exact_readers.ensures (c.args.levels - 1) c.loop-instrs.cursor.left c.in_ok-opcode.opcode c.byte.new.cursor.left (tree c.in_ok-next.next) c.instr.new.cursor.left c.in_ok-opcode.ensures c.in_ok-next.ensures in
     let fuel : start - length (items ++ c.in_ok-next.next ∷ []) ≡ start - length items - 1 = omega (arith, length-append items (c.in_ok-next.next ∷ [])) in
     let next = more (c.args.levels - 1) (start - length items) items c.loop-instrs.cursor.left c.in_ok-opcode.opcode c.byte.new.cursor.left c.in_ok-next.next c.instr.new.cursor.left _ (omega (arith, less, c.loop-instrs.invariant.room)) c.in_ok-opcode.ensures goes_on c.in_ok-next.ensures c.loop-instrs.invariant.so_far in
     rw c.in_ok-push.ensures.items (record { so_far = rw fuel next; room = omega (arith, less, c.loop-instrs.invariant.room, length-append items (c.in_ok-next.next ∷ [])) })

@@ -7,12 +7,12 @@ pub loop-cursor-init : goal.loop-cursor-init
 loop-cursor-init c = (length c.args.cursor.now.left, omega arith, customs_is c.args.cursor.now.left)
 
 pub loop-cursor-smaller : goal.loop-cursor-smaller
-loop-cursor-smaller c = custom_shorter c.loop-cursor.cursor.left c.in_ok-byte.field-0 c.byte.new.cursor.left c.in_ok-custom.field-0.now c.custom.new.cursor.left c.in_ok-byte.ensures c.in_ok-custom.ensures
+loop-cursor-smaller c = custom_shorter c.exact_readers.ensures c.loop-cursor.cursor.left c.in_ok-byte.field-0 c.byte.new.cursor.left c.in_ok-custom.field-0.now c.custom.new.cursor.left c.in_ok-byte.ensures c.in_ok-custom.ensures
 
 pub loop-cursor-preserved : goal.loop-cursor-preserved
 loop-cursor-preserved c =
     let i = c.loop-cursor.invariant in
-    skip_more i.0 c.loop-cursor.cursor.left c.in_ok-byte.field-0 c.byte.new.cursor.left c.in_ok-custom.field-0.now c.custom.new.cursor.left _ c.in_ok-byte.ensures (sym c.is_next.ensures ∙ c.loop-cursor-test.true) c.in_ok-custom.ensures i.1 i.2
+    skip_more c.exact_readers.ensures i.0 c.loop-cursor.cursor.left c.in_ok-byte.field-0 c.byte.new.cursor.left c.in_ok-custom.field-0.now c.custom.new.cursor.left _ c.in_ok-byte.ensures (sym c.is_next.ensures ∙ c.loop-cursor-test.true) c.in_ok-custom.ensures i.1 i.2
 
 pub returns-in_err-custom : goal.returns-in_err-custom
 returns-in_err-custom c =
