@@ -10,7 +10,7 @@ use Rattle.wasm_types.specs.Modules.{func, func_type, global_def, module_of}
 use Rattle.wasm_types.specs.Floats.{has_float, have_float, is_float_result, has_float_type, has_float_func, has_float_global, is_float_import, is_with_floats}
 use Rattle.std.specs.List.{list_any}
 use Rattle.wasm_validate.proofs.Lists.{list_any_map}
-use Rattle.wasm_types.proofs.CodeLaws.{tree-block, tree-loop, tree-if}
+use Rattle.wasm_types.specs.CodeLaws.{tree-block, tree-loop, tree-if}
 
 -- floats of a block or a loop
 block_floats : (i : Instr) (result : Option ValType) (body : Vec Instr) → (i ≡ instr.Block result body) ⊎ (i ≡ instr.Loop result body) → has_float (tree i) ≡ (is_float_result result || have_float (trees body.items))

@@ -1,5 +1,6 @@
 pub mod ConstantLaws
 pub mod DecidingLaws
+pub mod FaultLaws
 pub mod FloatLaws
 pub mod Heights
 pub mod LibraryLaws

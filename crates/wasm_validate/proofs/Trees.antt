@@ -1,6 +1,6 @@
 -- The stack after an instruction of the program's that holds others.
 use Rattle.std.proofs.Common.{◌≡◌, ◌∷◌, Vec, Global, Option, None, ap}
-use Rattle.wasm_types.proofs.CodeLaws.{tree-block, tree-loop, tree-if}
+use Rattle.wasm_types.specs.CodeLaws.{tree-block, tree-loop, tree-if}
 use Rattle.wasm_types.specs.Code.{Tree, tree, trees}
 use Rattle.wasm_types.specs.declared.code.ValType.{ValType}
 use Rattle.wasm_types.specs.declared.code.Instr.{Instr, Block, Loop, If}

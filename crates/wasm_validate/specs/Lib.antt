@@ -1,5 +1,6 @@
 pub mod Constants
 pub mod Deciding
+pub mod Fault
 pub mod Locals
 pub mod Neighbors
 pub mod Operands

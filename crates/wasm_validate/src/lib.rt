@@ -18,6 +18,7 @@ mod functions;
 mod imports;
 mod invalid;
 mod labels;
+mod laws;
 mod limits;
 mod locals;
 mod numeric;
@@ -31,6 +32,7 @@ mod steps;
 
 use check::check;
 pub use invalid::Invalid;
+pub use laws::exact_fault;
 use std::alloc::Global;
 use wasm_types::{Module, ValidModule, claim};
 
