@@ -3,8 +3,8 @@ use Rattle.std.proofs.Common.{◌≡◌, ◌⊎◌, ℕ, List, [], ◌∷◌, Op
 use Rattle.std.specs.Prelude.{All}
 use Rattle.std.specs.FinMap.{get}
 use Rattle.std.proofs.lemmas.Option.{same_Some}
+use Rattle.fri_outside.specs.Laws.{KeepsFiles}
 use Rattle.fri_outside.specs.Outside.{Store, WhenTold, with_file}
-use Rattle.fri_outside.proofs.Stored.{get_set}
 use Rattle.fri_outside.specs.declared.files.WriteError.{WriteError}
 use Rattle.fri_outside.specs.declared.files.WriteError.TheVariants as writing
 use Rattle.friday_app.specs.declared.refusal.Answer.TheVariants as answered
@@ -138,13 +138,13 @@ pub log_named : (recorded : Recorded) (name : List ℕ) (begun : State) (items :
 log_named recorded name begun items told = ap (λ (files : List (List ℕ × List ℕ)). (first_or ([], []) files).0) told.writes
 
 -- the log that was made holds the recording
-pub leaves_recording : (told middle after : Option Store) (schedule_name : List ℕ) (recorded : Recorded) (name bytes : List ℕ) → IsFileOf recorded name bytes
+pub leaves_recording : KeepsFiles → (told middle after : Option Store) (schedule_name : List ℕ) (recorded : Recorded) (name bytes : List ℕ) → IsFileOf recorded name bytes
     → WhenTold told (λ store. HoldsRecording store schedule_name (string_bytes recorded.log_name) recorded.log.items) → middle ≡ told → after ≡ with_file name bytes middle
     → WhenTold told (λ before. WhenTold after (LeavesRecording schedule_name before))
-leaves_recording told middle after schedule_name recorded name bytes file holds same made before is now here = record {
+leaves_recording keeps told middle after schedule_name recorded name bytes file holds same made before is now here = record {
   file = name;
   bytes = bytes;
-  held = ap (λ (s : Store). get s name) (same_Some _ _ (sym here ∙ made ∙ ap (with_file name bytes) (same ∙ is))) ∙ get_set before name bytes;
+  held = ap (λ (s : Store). get s name) (same_Some _ _ (sym here ∙ made ∙ ap (with_file name bytes) (same ∙ is))) ∙ keeps.made before name bytes;
   holds = subst (λ (n : List ℕ). HoldsRecording before schedule_name n bytes) (sym file.named) (subst (λ (b : List ℕ). HoldsRecording before schedule_name (string_bytes recorded.log_name) b) (sym file.logged) (holds before is));
 }
 

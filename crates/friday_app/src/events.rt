@@ -9,7 +9,7 @@ ghost use Rattle.guest_process.specs.Next.{next};
 ghost use Rattle.friday_app.specs.History.{world};
 ghost use Rattle.friday_app.specs.Recorded.{IsEntryOf, AllAgree, reply_at};
 
-use guest_process::{Need, Process};
+use guest_process::{Need, Process, one_event};
 use lib_calls::{Call, EntryView};
 use std::alloc::AllocError;
 
@@ -30,6 +30,7 @@ pub fn live_entry(
     ensures few { IfOk result (λ _. process.now.events < 2 ^ 61) }
     ensures logged { IfOk result (λ found. IfSome found (λ entry. IsLogged (entry_of entry))) }
 {
+    one_event();
     if process.events() >= MOST_EVENTS {
         return Err(AllocError);
     }
