@@ -10,14 +10,14 @@ use Rattle.lib_calls.specs.declared.entry.EntryView.{EntryView}
 use Rattle.lib_calls.specs.Entry.{entry_of}
 use Rattle.guest_process.specs.declared.need.Need.{Need}
 use Rattle.guest_process.specs.Answers.{need, replies}
-use Rattle.guest_process.specs.Fits.{StateFits, WaitingFits}
+use Rattle.guest_process.specs.Fits.{StateFits, WaitingFits, live_has}
 use Rattle.guest_process.specs.GoesOn.{handler}
 use Rattle.guest_process.specs.Kinds.{ends_process}
 use Rattle.guest_process.specs.declared.waiting.Waiting.{Waiting}
 use Rattle.guest_process.specs.Live.{Answered, Event, answered, chosen, event, from_world, live, live_at, lowest}
 use Rattle.guest_process.specs.Seen.{able, plain}
 use Rattle.guest_process.specs.State.{State, is_running, thread_at}
-use Rattle.guest_process.proofs.OneEvent.{live_has, one_event}
+use Rattle.guest_process.specs.OneEvent.{OneEvent}
 use Rattle.call_log.specs.Entry.{IsLogged}
 use Rattle.call_log.specs.Kind.{is_built}
 use Rattle.friday_app.specs.History.{world}
@@ -29,8 +29,8 @@ abbrev pub plain_entry : ℕ → ℕ → Call → ℕ → Entry
 plain_entry clock thread call reply = record { clock = clock; thread = thread; signal = 0; call = call; reply = reply; outgoing = []; incoming = []; tag = None }
 
 -- each event of a process tells itself by its entry
-pub all_agree : (S : State) (thread time : ℕ) → StateFits S → S.events < 2 ^ 61 → time < 2 ^ 64 → AllAgree S thread time
-all_agree S thread time fits few small e is = one_event S thread (world time) fits few (record { time = small }) e is
+pub all_agree : OneEvent → (S : State) (thread time : ℕ) → StateFits S → S.events < 2 ^ 61 → time < 2 ^ 64 → AllAgree S thread time
+all_agree one_event S thread time fits few small e is = one_event S thread (world time) fits few (record { time = small }) e is
 
 one_more : {A B : Type 0} (f : A → B) (o : Option A) (y : B) → Some y ≡ option_map f o → (x : A) × (o ≡ Some x) × (y ≡ f x)
 one_more f None y h = cc

@@ -8,6 +8,7 @@ use Rattle.guest_process.specs.State.{State}
 use Rattle.friday_app.specs.declared.refusal.Answer.{Answer}
 use Rattle.friday_app.specs.declared.refusal.Answer.TheVariants as answered
 use Rattle.friday_app.specs.declared.refusal.Refusal.{Refusal}
+use Rattle.friday_app.specs.Limits.{most_log}
 use Rattle.friday_app.specs.Call.{StopsAs, Tells}
 use Rattle.friday_app.specs.Expected.{begun_of, head_or, log_of, module_of, replay_outcome}
 use Rattle.friday_app.specs.Outcome.{Outcome, Stop, Work, and_then, file_of}
@@ -21,7 +22,7 @@ work_tells (answered.Done text) work o is told = (work, is, told.0, told.1)
 work_tells (answered.Diverged text) work o is told = (work, is, told.0, told.1)
 
 -- the module and the log were read
-read_next : (store : Store) (module_name log_name bytes : List ℕ) (m : Module) (log : Head × List ℕ) → module_of store module_name ≡ Ok m → file_of store log_name 33554432 ≡ Ok bytes → head_or log_name (head_at bytes) ≡ Ok log
+read_next : (store : Store) (module_name log_name bytes : List ℕ) (m : Module) (log : Head × List ℕ) → module_of store module_name ≡ Ok m → file_of store log_name most_log ≡ Ok bytes → head_or log_name (head_at bytes) ≡ Ok log
     → replay_outcome module_name log_name store ≡ and_then (begun_of module_name m log.0.process log.0.count) (λ begun. Ok (replay_work begun log.0 log.1))
 read_next store module_name log_name bytes m log found read head =
     ap (λ (r : Result Module Stop). and_then r (λ m. and_then (log_of store log_name) (λ log. and_then (begun_of module_name m log.0.process log.0.count) (λ begun. Ok (replay_work begun log.0 log.1))))) found
@@ -29,7 +30,7 @@ read_next store module_name log_name bytes m log found read head =
     ∙ ap (λ (r : Result (Head × List ℕ) Stop). and_then r (λ log. and_then (begun_of module_name m log.0.process log.0.count) (λ begun. Ok (replay_work begun log.0 log.1)))) head
 
 pub replay_tells : (module_name log_name : List ℕ) (told : Option Store) (m : Module) (bytes : List ℕ) (log : Head × List ℕ) (begun : State) (answer : Answer)
-    → WhenTold told (λ store. module_of store module_name ≡ Ok m) → WhenTold told (λ store. file_of store log_name 33554432 ≡ Ok bytes) → head_or log_name (head_at bytes) ≡ Ok log
+    → WhenTold told (λ store. module_of store module_name ≡ Ok m) → WhenTold told (λ store. file_of store log_name most_log ≡ Ok bytes) → head_or log_name (head_at bytes) ≡ Ok log
     → begun_of module_name m log.0.process log.0.count ≡ Ok begun
     → IsWork answer (replay_work begun log.0 log.1) → (o : Outcome) → option_map (replay_outcome module_name log_name) told ≡ Some o → Tells o (Ok answer)
 replay_tells module_name log_name told m bytes log begun answer found read head starts work o is =
@@ -47,19 +48,19 @@ log_stops store module_name log_name m e found stops =
     (stops_then (log_of store log_name) _ e stops)
 
 pub file_stops : (module_name log_name : List ℕ) (told : Option Store) (m : Module) (e : Refusal) → WhenTold told (λ store. module_of store module_name ≡ Ok m)
-    → WhenTold told (λ store. StopsAs (file_of store log_name 33554432) e) → (o : Outcome) → option_map (replay_outcome module_name log_name) told ≡ Some o → Tells o (Err e)
+    → WhenTold told (λ store. StopsAs (file_of store log_name most_log) e) → (o : Outcome) → option_map (replay_outcome module_name log_name) told ≡ Some o → Tells o (Err e)
 file_stops module_name log_name told m e found stops =
-    refused_tells (replay_outcome module_name log_name) told e (λ store is. log_stops store module_name log_name m e (found store is) (stops_then (file_of store log_name 33554432) _ e (stops store is)))
+    refused_tells (replay_outcome module_name log_name) told e (λ store is. log_stops store module_name log_name m e (found store is) (stops_then (file_of store log_name most_log) _ e (stops store is)))
 
 pub head_stops : (module_name log_name : List ℕ) (told : Option Store) (m : Module) (bytes : List ℕ) (e : Refusal) → WhenTold told (λ store. module_of store module_name ≡ Ok m)
-    → WhenTold told (λ store. file_of store log_name 33554432 ≡ Ok bytes) → StopsAs (head_or log_name (head_at bytes)) e → (o : Outcome) → option_map (replay_outcome module_name log_name) told ≡ Some o → Tells o (Err e)
+    → WhenTold told (λ store. file_of store log_name most_log ≡ Ok bytes) → StopsAs (head_or log_name (head_at bytes)) e → (o : Outcome) → option_map (replay_outcome module_name log_name) told ≡ Some o → Tells o (Err e)
 head_stops module_name log_name told m bytes e found read stops =
     refused_tells (replay_outcome module_name log_name) told e (λ store is. log_stops store module_name log_name m e (found store is)
     (subst (λ (r : Result (Head × List ℕ) Stop). StopsAs r e) (sym (ap (λ (r : Result (List ℕ) Stop). and_then r (λ bytes. head_or log_name (head_at bytes))) (read store is))) stops))
 
 -- the module does not begin
 pub begin_stops : (module_name log_name : List ℕ) (told : Option Store) (m : Module) (bytes : List ℕ) (log : Head × List ℕ) (e : Refusal) → WhenTold told (λ store. module_of store module_name ≡ Ok m)
-    → WhenTold told (λ store. file_of store log_name 33554432 ≡ Ok bytes) → head_or log_name (head_at bytes) ≡ Ok log → StopsAs (begun_of module_name m log.0.process log.0.count) e
+    → WhenTold told (λ store. file_of store log_name most_log ≡ Ok bytes) → head_or log_name (head_at bytes) ≡ Ok log → StopsAs (begun_of module_name m log.0.process log.0.count) e
     → (o : Outcome) → option_map (replay_outcome module_name log_name) told ≡ Some o → Tells o (Err e)
 begin_stops module_name log_name told m bytes log e found read head stops =
     refused_tells (replay_outcome module_name log_name) told e (λ store is.

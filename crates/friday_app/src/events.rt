@@ -8,7 +8,7 @@ ghost use Rattle.guest_process.specs.Next.{next};
 ghost use Rattle.friday_app.specs.History.{world};
 ghost use Rattle.friday_app.specs.Recorded.{IsEntryOf, AllAgree, reply_at, world_reply};
 
-use guest_process::{Need, Process, is_due};
+use guest_process::{Need, Process, is_due, one_event};
 use lamport_tag::next_clock;
 use lib_calls::{Call, EntryView, Kind};
 use std::alloc::AllocError;
@@ -27,6 +27,7 @@ pub fn live_entry(
     ensures few { IfOk result (λ _. process.now.events < 2 ^ 61) }
     ensures logged { IfOk result (λ found. IfSome found (λ entry. IsLogged (entry_of entry))) }
 {
+    one_event();
     if process.events() >= MOST_EVENTS {
         return Err(AllocError);
     }

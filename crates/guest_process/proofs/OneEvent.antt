@@ -14,7 +14,7 @@ use Rattle.signal_points.specs.Signals.{is_pending}
 use Rattle.call_table.specs.declared.kind.Kind.{Kind}
 use Rattle.guest_process.specs.declared.waiting.Waiting.{Waiting}
 use Rattle.guest_process.specs.Answers.{Need, Fixed, Blocked, World, need, is_possible, written, after_need, effects}
-use Rattle.guest_process.specs.Fits.{Each, EnvFits, StateFits, WaitingFits}
+use Rattle.guest_process.specs.Fits.{EnvFits, StateFits, WaitingFits, live_has}
 use Rattle.guest_process.specs.GoesOn.{goes_on, handler}
 use Rattle.guest_process.specs.Kinds.{ends_process}
 use Rattle.guest_process.specs.Legal.{answers, checks, is_handled}
@@ -23,14 +23,6 @@ use Rattle.guest_process.specs.OneEvent.{Agrees, OneEvent}
 use Rattle.guest_process.specs.State.{State, is_running, thread_at}
 use Rattle.guest_process.proofs.Failing.{same, kept, mapped, none_failing, lowest_holds}
 use Rattle.guest_process.proofs.EachKind.{no_bytes, no_tag, ReplyFits, reply_fits, world_matches}
-
--- what holds of each live thread holds of one
-pub live_has : (P : Waiting → Type 0) (slots : List (Slot Waiting)) (t : ℕ) → Each P slots → (w : Waiting) → option_and_then value_of (slice_get slots t) ≡ Some w → P w
-live_has P [] t f w h = cc
-live_has P (Kept v ∷ slots) zero f w h = subst P (same_Some _ _ h) f.0
-live_has P (Lent ∷ slots) zero f w h = cc
-live_has P (Over ∷ slots) zero f w h = cc
-live_has P (slot ∷ slots) (suc t) f w h = live_has P slots t f.1 w h
 
 pub live_low : (slots : List (Slot Waiting)) (t : ℕ) (w : Waiting) → option_and_then value_of (slice_get slots t) ≡ Some w → t < length slots
 live_low [] t w h = cc

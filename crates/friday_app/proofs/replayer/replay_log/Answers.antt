@@ -1,8 +1,7 @@
 use Rattle.std.proofs.Common.{◌∙◌, ap, sym, subst, arith, ◌+◌}
 use Rattle.lib_calls.specs.declared.entry.Entry.{Entry}
 use Rattle.lib_calls.specs.Entry.{entry_of}
-use Rattle.call_log.specs.Log.{Log, entries_of, rest_of}
-use Rattle.call_log.proofs.Entries.{entries_of-next, rest_of-next, shorter, entries_of-end, rest_of-end}
+use Rattle.call_log.specs.Log.{entries_of, rest_of}
 use Rattle.guest_process.specs.Replay.{left_over}
 use Rattle.guest_process.specs.State.{State}
 use Rattle.friday_app.proofs.Folding.{Ahead, one_further, ends_at, ends_whole}
@@ -13,23 +12,23 @@ loop-entry-preserved c =
     let legal = rw c.in-Ok.is at c.legal.ensures in
     let e : Entry = entry_of c.in-Some.entry in
     let found = c.in-Some.ensures in
-    let here = subst (Ahead c.args.begun (entries_of c.args.log.left) c.loop-entry.accepted c.loop-entry.process) (entries_of-next c.loop-entry.log.left e c.next_entry.new.self.left found.shaped found.taken) c.loop-entry.invariant.ahead in
+    let here = subst (Ahead c.args.begun (entries_of c.args.log.left) c.loop-entry.accepted c.loop-entry.process) found.entries c.loop-entry.invariant.ahead in
     record {
       ahead = subst (λ (S : State). Ahead c.args.begun (entries_of c.args.log.left) (c.loop-entry.accepted + 1) S (entries_of c.next_entry.new.self.left)) (sym c.in_ok-process-in-Ok.ensures) (one_further _ _ _ _ _ _ here (sym legal));
-      rest = c.loop-entry.invariant.rest ∙ rest_of-next c.loop-entry.log.left e c.next_entry.new.self.left found.shaped found.taken;
-      few = omega (arith, shorter c.loop-entry.log.left e c.next_entry.new.self.left found.taken);
+      rest = c.loop-entry.invariant.rest ∙ found.rest;
+      few = omega (arith, found.shorter);
     }
 
 pub prove-unreachable-requires : goal.prove-unreachable-requires
-prove-unreachable-requires c = omega (arith, shorter c.loop-entry.log.left (entry_of c.in-Some.entry) c.next_entry.new.self.left c.in-Some.ensures.taken)
+prove-unreachable-requires c = omega (arith, c.in-Some.ensures.shorter)
 
 pub loop-entry-smaller : goal.loop-entry-smaller
-loop-entry-smaller c = omega (arith, shorter c.loop-entry.log.left (entry_of c.in-Some.entry) c.next_entry.new.self.left c.in-Some.ensures.taken)
+loop-entry-smaller c = omega (arith, c.in-Some.ensures.shorter)
 
 pub returns-in-Err : goal.returns-in-Err
 returns-in-Err c =
     let found = c.in-Some.ensures in
-    let here = subst (Ahead c.args.begun (entries_of c.args.log.left) c.loop-entry.accepted c.loop-entry.process) (entries_of-next c.loop-entry.log.left (entry_of c.in-Some.entry) c.next_entry.new.self.left found.shaped found.taken) c.loop-entry.invariant.ahead in
+    let here = subst (Ahead c.args.begun (entries_of c.args.log.left) c.loop-entry.accepted c.loop-entry.process) found.entries c.loop-entry.invariant.ahead in
     let differs = rw c.in-Err.is at c.legal.ensures in
     let ended = ends_at _ _ (rest_of c.args.log.left) _ _ _ _ c.in-Err.why here (sym differs) in
     record { accepted = ended.accepted; end = c.end.ensures ∙ ended.end; verdict = ended.verdict }
@@ -37,8 +36,7 @@ returns-in-Err c =
 pub returns : goal.returns
 returns c =
     let ends = c.in_default.ensures in
-    let here = subst (Ahead c.args.begun (entries_of c.args.log.left) c.loop-entry.accepted c.loop-entry.process) (entries_of-end c.loop-entry.log.left ends.none) c.loop-entry.invariant.ahead in
-    let left = ap (λ (log : Log). log.left) ends.unchanged in
-    let rest = c.left_over.ensures ∙ ap left_over (c.rest.ensures ∙ left ∙ sym (rest_of-end c.loop-entry.log.left ends.none) ∙ sym c.loop-entry.invariant.rest) in
+    let here = subst (Ahead c.args.begun (entries_of c.args.log.left) c.loop-entry.accepted c.loop-entry.process) ends.entries c.loop-entry.invariant.ahead in
+    let rest = c.left_over.ensures ∙ ap left_over (c.rest.ensures ∙ sym (c.loop-entry.invariant.rest ∙ ends.rest ∙ ends.end)) in
     let whole = ends_whole _ _ (rest_of c.args.log.left) _ _ c.left_over.result here rest in
     record { accepted = whole.accepted; end = c.end-2.ensures ∙ whole.end; verdict = whole.verdict }
