@@ -10,7 +10,6 @@ use Rattle.coop_threads.specs.declared.slot.Slot.TheVariants.{Kept, Lent, Over}
 use Rattle.lamport_tag.specs.Tag.{clock_of, next_clock_of}
 use Rattle.lib_calls.specs.declared.entry.Call.{Call}
 use Rattle.lib_calls.specs.Entry.{IsStringIf, IsTagIf}
-use Rattle.signal_points.specs.Signals.{is_pending}
 use Rattle.call_table.specs.declared.kind.Kind.{Kind}
 use Rattle.guest_process.specs.declared.waiting.Waiting.{Waiting}
 use Rattle.guest_process.specs.Answers.{Need, Fixed, Blocked, World, need, is_possible, written, after_need, effects}
@@ -61,9 +60,9 @@ handled_by p q true n is = rw is refl
 handled_by p q false n is =
     rw is (elim (lowest_holds (λ s. q s && p s) 31 1) [ inl h ↦ rw h refl | inr h ↦ handled_at p (q (lowest (λ s. q s && p s) 31 1)) (lowest (λ s. q s && p s) 31 1) h.0 h.1 ])
 
-chosen_handled : (k : Kind) (handlers : List (Option ℕ)) (pending : List Bool) → is_handled k handlers (chosen k handlers pending) ≡ true
+chosen_handled : (k : Kind) (handlers : List (Option ℕ)) (pending : ℕ → Bool) → is_handled k handlers (chosen k handlers pending) ≡ true
 chosen_handled k handlers pending =
-    handled_by (λ s. is_some (handler handlers s)) (is_pending pending) (ends_process k) (chosen k handlers pending) refl
+    handled_by (λ s. is_some (handler handlers s)) pending (ends_process k) (chosen k handlers pending) refl
 
 chosen_low : (p : ℕ → Bool) (b : Bool) → cond b 0 (lowest p 31 1) < 2 ^ 8
 chosen_low p true = omega arith

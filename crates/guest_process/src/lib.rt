@@ -17,6 +17,6 @@ mod waiting;
 pub use answer::is_due;
 pub use divergence::Divergence;
 pub use end::End;
-pub use laws::{kept, one_event};
+pub use laws::{kept, one_event, others_stay, possible, rises};
 pub use need::Need;
 pub use process::Process;
