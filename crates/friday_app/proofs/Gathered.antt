@@ -150,9 +150,8 @@ one_recording : (before after : Store) (schedule_name file bytes : List ℕ) →
 one_recording before after schedule_name file bytes h held schedule m begun spelled found starts =
     let schedules : h.schedule ≡ schedule = same_Ok (schedule_in before schedule_name) h.schedule schedule h.spelled spelled in
     let modules : h.«module» ≡ m = same_Ok (module_of before (process_of schedule).«module») h.«module» m
-        (ap (λ (s : Schedule). module_of before (process_of s).«module») (sym schedules) ∙ h.found) found in
-    let begins : h.begun ≡ begun = same_Some _ _ (sym h.starts ∙ ap (λ (m : Module). start m 0 1) modules ∙ starts) in
-    (
+    (ap (λ (s : Schedule). module_of before (process_of s).«module») (sym schedules) ∙ h.found) found in
+    let begins : h.begun ≡ begun = same_Some _ _ (sym h.starts ∙ ap (λ (m : Module). start m 0 1) modules ∙ starts) in (
       bytes,
       subst (λ (n : List ℕ). get after n ≡ Some bytes) (h.named ∙ ap (λ (s : Schedule). log_name (process_of s).name) schedules) held,
       subst (λ (s : Schedule). IsRecordingOf bytes (process_of s).name begun s.items) schedules
