@@ -13,7 +13,7 @@ use crate::need::Need;
 use crate::parts::Parts;
 use crate::waiting::Waiting;
 use lamport_tag::is_next_clock;
-use lib_calls::{Call, EntryView, Kind};
+use lib_calls::{is_outgoing, Call, EntryView, Kind};
 use signal_points::Handlers;
 
 impl<'m> Parts<'m> {
@@ -44,7 +44,7 @@ impl<'m> Parts<'m> {
         if !has_arguments(&entry.call, &waiting.call) {
             return Err(Divergence::OtherArguments);
         }
-        if !entry.outgoing.is_empty() {
+        if !is_outgoing(entry.outgoing, &waiting.call, self.store.memory()) {
             return Err(Divergence::OtherBytes);
         }
         if !self.is_answer(entry, waiting) {

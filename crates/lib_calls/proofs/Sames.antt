@@ -6,8 +6,7 @@ use Rattle.std.proofs.lemmas.Bool.{false_from_ne_true}
 use Rattle.std.proofs.lemmas.Bool.Decides.{Decides-eqb}
 use Rattle.std.proofs.lemmas.List.{drop-drop, drop-take, length-take-le, take-take}
 use Rattle.std.proofs.lemmas.Slice.Eq.{bytes_eq-Decides, slice_eq-Decides}
-use Rattle.guest_memory.specs.Memory.{Memory, bytes_at, stretch}
-use Rattle.lib_calls.specs.Effects.{is_range, named}
+use Rattle.guest_memory.specs.Memory.{stretch}
 use Rattle.lib_calls.proofs.Ranges.{part_more, take-add}
 
 pub differ : (xs ys : List ℕ) → (xs ≡ ys → ⊥) → false ≡ bytes_eq xs ys
