@@ -1,5 +1,5 @@
 -- The event of a try, from what is asked of a process.
-use Rattle.std.proofs.Common.{◌≡◌, ℕ, zero, suc, ◌+◌, ◌<◌, ◌^◌, Bool, true, false, ◌&&◌, cond, List, [], Option, Some, None, refl, ap, sym, subst, ◌∙◌, arith, slice_index_or}
+use Rattle.std.proofs.Common.{◌≡◌, ℕ, zero, suc, ◌+◌, ◌<◌, ◌^◌, Bool, true, false, ◌&&◌, cond, List, [], Option, Some, None, refl, ap, sym, subst, ◌∙◌, arith}
 use Rattle.std.specs.Prelude.{max, option_map, is_some}
 use Rattle.std.proofs.lemmas.Option.{same_Some}
 use Rattle.call_table.specs.Table.{kind_numbered}
@@ -50,13 +50,9 @@ none_by : (p : ℕ → Bool) → ((s : ℕ) → p s ≡ false) → (b : Bool) �
 none_by p none true = refl
 none_by p none false = lowest_none p none 31 1
 
-none_pending : (s : ℕ) → slice_index_or [] s false ≡ false
-none_pending zero = refl
-none_pending (suc s) = refl
-
-none_chosen : (kind : Kind) (handlers : List (Option ℕ)) → chosen kind handlers [] ≡ 0
+none_chosen : (kind : Kind) (handlers : List (Option ℕ)) → chosen kind handlers (λ s. false) ≡ 0
 none_chosen kind handlers =
-    none_by (λ s. slice_index_or [] s false && is_some (handler handlers s)) (λ s. ap (λ b. b && is_some (handler handlers s)) (none_pending s)) (ends_process kind)
+    none_by (λ s. false && is_some (handler handlers s)) (λ s. refl) (ends_process kind)
 
 pub next_plain : (n : ℕ) → 1 + max n 0 ≡ n + 1
 next_plain n = grind arith
