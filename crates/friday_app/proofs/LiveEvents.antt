@@ -22,7 +22,7 @@ use Rattle.call_log.specs.Entry.{IsLogged}
 use Rattle.call_log.specs.Kind.{is_built}
 use Rattle.friday_app.specs.History.{world}
 use Rattle.friday_app.specs.Recorded.{AllAgree, IsEntryOf, reply_at}
-use Rattle.friday_app.proofs.Replies.{IsReply, call_replied, reply_built}
+use Rattle.friday_app.proofs.Replies.{IsReply, call_replied, reply_built, sends_nothing}
 
 -- the entry of an event that took nothing from outside but its reply
 abbrev pub plain_entry : ℕ → ℕ → Call → ℕ → Entry
@@ -57,9 +57,9 @@ none_chosen kind handlers =
 pub next_plain : (n : ℕ) → 1 + max n 0 ≡ n + 1
 next_plain n = grind arith
 
-same_entry : (clock signal n thread : ℕ) (call told : Call) (reply : ℕ) → clock ≡ n → signal ≡ 0 → call ≡ told
-    → plain_entry n thread told reply ≡ record { clock = clock; thread = thread; signal = signal; call = call; reply = reply; outgoing = []; incoming = []; tag = None }
-same_entry clock signal n thread call told reply clocks none calls = rw (clocks, none, calls) refl
+same_entry : (clock signal n thread : ℕ) (call told : Call) (reply : ℕ) (outgoing : List ℕ) → clock ≡ n → signal ≡ 0 → call ≡ told → outgoing ≡ []
+    → plain_entry n thread told reply ≡ record { clock = clock; thread = thread; signal = signal; call = call; reply = reply; outgoing = outgoing; incoming = []; tag = None }
+same_entry clock signal n thread call told reply outgoing clocks none calls nothing = rw (clocks, none, calls, nothing) refl
 
 -- a try that has the event of this entry, or none
 abbrev IsTried : Option Event → (ℕ → Entry) → Option ℕ → Type 0
@@ -67,9 +67,9 @@ IsTried l entry None = l ≡ None
 IsTried l entry (Some reply) = (e : Event) × (l ≡ Some e) × (entry reply ≡ e.entry)
 
 tried_by : (f : Answered → Event) (o : Option Answered) (r : Option ℕ) (l : Option Event) (entry : ℕ → Entry) → l ≡ option_map f o → IsReply o r
-    → ((reply : ℕ) (after : State) → entry reply ≡ (f (record { answer = replies reply; after = after })).entry) → IsTried l entry r
+    → ((reply : ℕ) (after : State) → r ≡ Some reply → entry reply ≡ (f (record { answer = replies reply; after = after })).entry) → IsTried l entry r
 tried_by f o None l entry is none same = is ∙ ap (option_map f) none
-tried_by f o (Some reply) l entry is (after, some) same = (f (record { answer = replies reply; after = after }), is ∙ ap (option_map f) some, same reply after)
+tried_by f o (Some reply) l entry is (after, some) same = (f (record { answer = replies reply; after = after }), is ∙ ap (option_map f) some, same reply after refl)
 
 -- the call at which a thread stands, and what is needed there
 pub record IsAsked (S : State) (t : ℕ) (c : Call) (asked : Need) : Type 0 where
@@ -118,7 +118,10 @@ tried_at S t time c asked h =
     (subst (λ (n : Need). IsReply (answered (need w.kind S t c) (from_world w.kind S c (world time))) (reply_at n c time)) (sym at.need)
     (call_replied w.kind S t time c at.kind)) in
     tried_by (event S t (world time) w) _ (reply_at asked c time) _ _ here given
-    (λ reply after. same_entry _ _ (S.clock + 1) t w.call c reply (next_plain S.clock) (none_chosen w.kind after.handlers) at.call)
+    (λ reply after replied.
+    let built = reply_built w.kind S t time reply c at.kind (ap (λ (n : Need). reply_at n c time) (sym at.need) ∙ replied) in
+    let nothing = sends_nothing w.call S (ap (λ (c : Call). is_built c.kind) at.call ∙ built) in
+    same_entry _ _ (S.clock + 1) t w.call c reply _ (next_plain S.clock) (none_chosen w.kind after.handlers) at.call nothing)
 
 -- no reply is given now
 pub none_given : (S : State) (t time : ℕ) (c : Call) (asked : Need) → IsAsked S t c asked → None ≡ reply_at asked c time → IsEntryOf (live S t (world time)) None

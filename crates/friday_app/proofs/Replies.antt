@@ -1,10 +1,11 @@
 -- How a call is answered where the world is nothing but a time.
-use Rattle.std.proofs.Common.{◌≡◌, ℕ, Bool, true, false, cond, Option, Some, None, refl, ap, ◌∙◌}
+use Rattle.std.proofs.Common.{◌≡◌, ℕ, Bool, true, false, cond, List, [], Option, Some, None, refl, ap, ◌∙◌}
 use Rattle.std.specs.Option.{option_map_or}
 use Rattle.call_table.specs.Table.{kind_numbered}
 use Rattle.call_table.specs.declared.kind.Kind.{Kind}
-use Rattle.call_table.specs.declared.kind.Kind.TheVariants.{Begin, Exit, Note, Now, SleepUntil, Me, Yield, Thread}
+use Rattle.call_table.specs.declared.kind.Kind.TheVariants.{Begin, Exit, Note, Print, Now, SleepUntil, Me, Send, Yield, Thread}
 use Rattle.lib_calls.specs.Built.{is_built as is_answered}
+use Rattle.lib_calls.specs.Effects.{outgoing_of, sent_out}
 use Rattle.lib_calls.specs.declared.entry.Call.{Call}
 use Rattle.guest_process.specs.Answers.{exited, is_due, need, replies}
 use Rattle.guest_process.specs.Live.{Answered, answered, from_world}
@@ -51,3 +52,14 @@ pub reply_built : (k : Kind) (S : State) (t time reply : ℕ) (c : Call) → kin
 unfolding is_built
 reply_built k S t time reply c is given =
     ap (λ (o : Option Kind). option_map_or is_answered o false) is ∙ answered_kind k S t time reply c given
+
+-- no call that is answered yet sends bytes out
+pub sends_nothing : (call : Call) (S : State) → is_built call.kind ≡ true → outgoing_of call S.store.memory ≡ []
+unfolding is_built outgoing_of
+sends_nothing call S built = by_kind (kind_numbered call.kind) built
+  where
+    by_kind : (o : Option Kind) → option_map_or is_answered o false ≡ true → option_map_or (λ kind. sent_out kind call S.store.memory) o [] ≡ []
+    by_kind None h = refl
+    by_kind (Some Print) h = cc
+    by_kind (Some Send) h = cc
+    by_kind (Some _) h = refl

@@ -1,5 +1,6 @@
 pub mod Failing
 pub mod EachKind
+pub mod Outgoing
 pub mod OneEvent
 pub mod Worlds
 pub mod Over

@@ -3,12 +3,14 @@ use Rattle.std.proofs.Common.{◌≡◌, ℕ, zero, suc, ◌+◌, ◌<◌, ◌�
 use Rattle.std.specs.Prelude.{◌==◌, nat_le, is_some, slice_get, option_and_then}
 use Rattle.std.proofs.lemmas.Bool.{and_parts, and_from, or_right, le-leb as le-leb'}
 use Rattle.std.proofs.lemmas.Option.{same_Some}
+use Rattle.std.proofs.lemmas.Slice.Eq.{bytes_eq-Decides}
 use Rattle.call_table.specs.Numbers.{number_within}
 use Rattle.coop_threads.specs.Crew.{value_of}
 use Rattle.coop_threads.specs.declared.slot.Slot.{Slot}
 use Rattle.coop_threads.specs.declared.slot.Slot.TheVariants.{Kept, Lent, Over}
 use Rattle.lamport_tag.specs.Tag.{clock_of, next_clock_of}
 use Rattle.lib_calls.specs.declared.entry.Call.{Call}
+use Rattle.lib_calls.specs.Effects.{outgoing_of}
 use Rattle.lib_calls.specs.Entry.{IsStringIf, IsTagIf}
 use Rattle.call_table.specs.declared.kind.Kind.{Kind}
 use Rattle.guest_process.specs.declared.waiting.Waiting.{Waiting}
@@ -21,6 +23,7 @@ use Rattle.guest_process.specs.Live.{Env, Event, Answered, answered, chosen, eve
 use Rattle.guest_process.specs.OneEvent.{Agrees, OneEvent}
 use Rattle.guest_process.specs.State.{State, is_running, thread_at}
 use Rattle.guest_process.proofs.Failing.{same, kept, mapped, none_failing, lowest_holds}
+use Rattle.guest_process.proofs.Outgoing.{outgoing_fits}
 use Rattle.guest_process.proofs.EachKind.{no_bytes, no_tag, ReplyFits, reply_fits, world_matches}
 
 pub live_low : (slots : List (Slot Waiting)) (t : ℕ) (w : Waiting) → option_and_then value_of (slice_get slots t) ≡ Some w → t < length slots
@@ -82,14 +85,14 @@ event_agrees S t w env s few running stands fits a m =
         signal = chosen_low _ (ends_process k);
         arguments = fits.arguments;
         reply = m.reply;
-        outgoing = no_bytes _;
+        outgoing = outgoing_fits w.call S.store.memory;
         incoming = m.incoming _;
         tag = m.tag _;
       };
       legal = rw (running, stands) (none_failing (checks S now.entry w) (record {
         call = same w.call.kind;
         arguments = and_from _ _ (same w.call.a0) (and_from _ _ (same w.call.a1) (same w.call.a2));
-        bytes = refl;
+        bytes = (bytes_eq-Decides (outgoing_of w.call S.store.memory) (outgoing_of w.call S.store.memory)).1 refl;
         reply = m.possible;
         handler = handled;
         clock = same (next_clock_of S.clock a.answer.tag);

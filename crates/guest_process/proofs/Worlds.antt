@@ -1,6 +1,7 @@
 -- A legal entry is the event of a try in some world.
 use Rattle.std.proofs.Common.{◌≡◌, ℕ, zero, suc, ◌+◌, ◌<◌, ◌≤◌, Bool, true, false, ◌&&◌, ◌||◌, not, cond, List, [], ◌∷◌, Option, Some, None, refl, ap, sym, ◌∙◌, arith}
 use Rattle.std.specs.Prelude.{◌==◌, nat_le, is_some, option_map}
+use Rattle.std.proofs.lemmas.Slice.Eq.{bytes_eq-Decides}
 use Rattle.std.proofs.lemmas.Bool.{and_parts, eqb-true, eqb-false, leb-true}
 use Rattle.call_table.specs.declared.kind.Kind.{Kind}
 use Rattle.call_table.specs.declared.kind.Kind.TheVariants.{Now, SleepUntil}
@@ -9,11 +10,12 @@ use Rattle.lamport_tag.specs.Tag.{next_clock_of}
 use Rattle.lib_calls.specs.declared.entry.Call.{Call}
 use Rattle.lib_calls.specs.declared.entry.Entry.{Entry}
 use Rattle.lib_calls.specs.Answer.{Answer, answer_of}
+use Rattle.lib_calls.specs.Effects.{outgoing_of}
 use Rattle.guest_process.specs.declared.waiting.Waiting.{Waiting}
 use Rattle.guest_process.specs.Answers.{Need, Fixed, Blocked, World, after_need, effects, is_due, is_plain, is_possible, need, replies, written}
 use Rattle.guest_process.specs.GoesOn.{goes_on, handler}
 use Rattle.guest_process.specs.Kinds.{ends_process}
-use Rattle.guest_process.specs.Legal.{answers, checks, is_handled, is_without, reason_at}
+use Rattle.guest_process.specs.Legal.{answers, checks, is_handled, reason_at}
 use Rattle.guest_process.specs.Live.{Env, Event, Answered, answered, chosen, event, from_world, live_at, lowest}
 use Rattle.guest_process.specs.Next.{next_at}
 use Rattle.guest_process.specs.OneEvent.{Possible}
@@ -96,10 +98,6 @@ chosen_is k handlers signal h = chosen_by (λ s. is_some (handler handlers s)) s
 
 -- ---- the event
 
-without : (bytes : List ℕ) → is_without bytes ≡ true → [] ≡ bytes
-without [] h = refl
-without (_ ∷ _) h = cc
-
 same_call : (c d : Call) → c.kind ≡ d.kind → c.a0 ≡ d.a0 → c.a1 ≡ d.a1 → c.a2 ≡ d.a2 → c ≡ d
 same_call c d kind a0 a1 a2 =
     ap {B = Call} (λ n. record { kind = n; a0 = c.a0; a1 = c.a1; a2 = c.a2 }) kind
@@ -143,9 +141,10 @@ lived S e (Some w) h =
     let last = and_parts (e.call.a1 == w.call.a1) (e.call.a2 == w.call.a2) rest.1 in
     let call = same_call e.call w.call (eqb-true _ _ holds.call) (eqb-true _ _ rest.0) (eqb-true _ _ last.0) (eqb-true _ _ last.1) in
     let given = answer_given k S w.call a e.signal (need k S e.thread w.call) holds.reply in
+    let sent = outgoing_of w.call S.store.memory in
     ap (option_map (event S e.thread env w)) given
-    ∙ ap Some (same_told S' e w (chosen k S'.handlers env.pending) (next_clock_of S.clock e.tag) w.call []
-    (chosen_is k S'.handlers e.signal holds.handler) (sym (eqb-true e.clock (next_clock_of S.clock e.tag) holds.clock)) (sym call) (without e.outgoing holds.bytes))
+    ∙ ap Some (same_told S' e w (chosen k S'.handlers env.pending) (next_clock_of S.clock e.tag) w.call sent
+    (chosen_is k S'.handlers e.signal holds.handler) (sym (eqb-true e.clock (next_clock_of S.clock e.tag) holds.clock)) (sym call) (sym ((bytes_eq-Decides e.outgoing sent).0 holds.bytes)))
 
 pub possible : Possible
 possible S e s shape h =

@@ -1,11 +1,12 @@
 -- The live meaning of one try to run a thread: the event that the world around the process lets it have.
-use Rattle.std.specs.Prelude.{ℕ, zero, suc, ◌+◌, ◌&&◌, not, is_some, List, [], Bool, Option, Some, None, if◌then◌else◌, option_map}
+use Rattle.std.specs.Prelude.{ℕ, zero, suc, ◌+◌, ◌&&◌, not, is_some, List, Bool, Option, Some, None, if◌then◌else◌, option_map}
 use Rattle.call_table.specs.declared.kind.Kind.{Kind}
 use Rattle.call_table.specs.declared.kind.Kind.TheVariants.{Now, SleepUntil}
 use Rattle.lamport_tag.specs.Tag.{next_clock_of}
 use Rattle.lib_calls.specs.declared.entry.Call.{Call}
 use Rattle.lib_calls.specs.declared.entry.Entry.{Entry}
 use Rattle.lib_calls.specs.Answer.{Answer}
+use Rattle.lib_calls.specs.Effects.{outgoing_of}
 use Rattle.guest_process.specs.declared.waiting.Waiting.{Waiting}
 use Rattle.guest_process.specs.Answers.{Need, Fixed, Blocked, World, need, replies, is_due}
 use Rattle.guest_process.specs.GoesOn.{goes_on, handler}
@@ -62,7 +63,7 @@ event_by S t w a signal clock = record {
     signal = signal;
     call = w.call;
     reply = a.answer.reply;
-    outgoing = [];
+    outgoing = outgoing_of w.call S.store.memory;
     incoming = a.answer.incoming;
     tag = a.answer.tag;
   };
