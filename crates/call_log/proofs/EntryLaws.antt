@@ -6,7 +6,7 @@ use Rattle.std.proofs.lemmas.Bool.{leb-true}
 use Rattle.std.proofs.lemmas.Bool.Decides.{Decides-eqb}
 use Rattle.std.proofs.lemmas.Slice.Eq.{starts_is}
 use Rattle.std.proofs.lemmas.List.{drop_at, nil_from_length}
-use Rattle.std.proofs.lemmas.Option.{cond_some, same_Some, some_pair_parts}
+use Rattle.std.proofs.lemmas.Option.{cond_some, same_Some}
 use Rattle.fri_bytes.specs.Laws.{AreBytes, ExactReaders}
 use Rattle.fri_bytes.specs.Reading.{byte_at, piece_at, le_at}
 use Rattle.lib_calls.specs.Kinds.{has_outgoing, has_incoming, has_tag}

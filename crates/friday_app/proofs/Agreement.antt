@@ -1,14 +1,12 @@
 -- Every event that was recorded is accepted where it comes, and replay makes the recorded states again.
-use Rattle.std.proofs.Common.{◌≡◌, ℕ, zero, suc, ◌++◌, List, [], ◌∷◌, length, take, Option, Some, None, refl, ap, sym, subst, ◌∙◌, append-nil, arith}
+use Rattle.std.proofs.Common.{◌≡◌, ℕ, zero, suc, ◌++◌, List, [], ◌∷◌, length, take, Option, Some, None, refl, ap, sym, subst, ◌∙◌, arith}
 use Rattle.std.specs.Prelude.{All, IsTrue, slice_get}
 use Rattle.std.proofs.lemmas.Option.{same_Some}
 use Rattle.fri_text.specs.Name.{is_name}
 use Rattle.schedule_text.specs.declared.item.Item.{Item}
 use Rattle.lib_calls.specs.declared.entry.Entry.{Entry}
 use Rattle.call_log.specs.Entry.{IsLogged, encodings}
-use Rattle.call_log.specs.Log.{entries_of, rest_of}
-use Rattle.call_log.proofs.Entries.{entries_of-encodings, entries_of-end, nothing_begins, rest_of-encodings, rest_of-end}
-use Rattle.call_log.proofs.HeadLaws.{head_at-begins}
+use Rattle.call_log.specs.Laws.{ExactLogs}
 use Rattle.guest_process.specs.declared.divergence.Divergence.{Divergence}
 use Rattle.guest_process.specs.Legal.{reason}
 use Rattle.guest_process.specs.Live.{Event}
@@ -60,16 +58,16 @@ event_agrees first done e told h =
     }
 
 -- the bytes of a log tell what was recorded
-pub log_agrees : (name : List ℕ) (begun : State) (items : List Item) (bytes : List ℕ) → IsTrue (is_name name) → Agrees (first_of begun) (run (first_of begun) items) → All IsLogged (entries (history_of begun items) 0)
+pub log_agrees : ExactLogs → (name : List ℕ) (begun : State) (items : List Item) (bytes : List ℕ) → IsTrue (is_name name) → Agrees (first_of begun) (run (first_of begun) items) → All IsLogged (entries (history_of begun items) 0)
     → bytes ≡ log_of_entries name (entries (history_of begun items) 0) → IsRecordingOf bytes name begun items
-log_agrees name begun items bytes named h shaped is =
+log_agrees logs name begun items bytes named h shaped is =
     let es = entries (history_of begun items) 0 in
-    let spelled : encodings es ++ [] ≡ encodings es = append-nil (encodings es) in
+    let held = (logs.all (encodings es) es []).0 (logs.written es shaped) in
     record {
       left = encodings es;
-      head = head_at-begins bytes (log_head name) (encodings es) (record { some = omega arith; few = omega arith; within = omega arith; named = named }) is;
-      entries = ap entries_of (sym spelled) ∙ entries_of-encodings es [] shaped ∙ ap (λ (more : List Entry). es ++ more) (entries_of-end [] nothing_begins) ∙ append-nil es;
-      whole = ap rest_of (sym spelled) ∙ rest_of-encodings es [] shaped ∙ rest_of-end [] nothing_begins;
+      head = (logs.heads bytes (log_head name) (encodings es)).1 (record { some = omega arith; few = omega arith; within = omega arith; named = named }, is);
+      entries = held.0;
+      whole = held.1;
       accepted = h.all;
       states = λ n S at. state-at es begun n S (subst (λ (xs : List State). slice_get (begun ∷ xs) n ≡ Some S) (sym h.same) at);
     }

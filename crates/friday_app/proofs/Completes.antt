@@ -1,68 +1,78 @@
 -- Valid words and files have an outcome that is work, and where no fault comes the work is done.
-use Rattle.std.proofs.Common.{◌≡◌, ◌⊎◌, ◌++◌, ℕ, List, Bool, false, cond, Option, Some, None, Result, Ok, Err, refl, sym, ap, inl, inr, ◌∙◌}
+use Rattle.std.proofs.Common.{◌≡◌, ◌⊎◌, ◌↔◌, ◌++◌, ℕ, List, Bool, false, cond, Option, Some, None, Result, Ok, Err, refl, ap, inl, inr, ◌∙◌}
+use Rattle.fri_outside.specs.Laws.{KeepsFiles}
 use Rattle.fri_outside.specs.Outside.{Store, found_within}
-use Rattle.fri_outside.proofs.Stored.{within_held}
 use Rattle.wasm_types.specs.Modules.{Module}
+use Rattle.wasm_decode.specs.Grammar.{Spells}
 use Rattle.wasm_decode.specs.Sections.{module_of_bytes}
+use Rattle.wasm_validate.specs.Fault.{ExactFault}
 use Rattle.call_log.specs.Head.{Head, head_bytes}
+use Rattle.call_log.specs.Laws.{ExactLogs}
 use Rattle.call_log.specs.Log.{head_at, rest_of, stops_at_unbuilt}
-use Rattle.call_log.proofs.Entries.{holds_once}
-use Rattle.call_log.proofs.HeadLaws.{head_at-begins}
 use Rattle.friday_app.specs.declared.status.Status.{Status}
 use Rattle.friday_app.specs.declared.status.Status.TheVariants as ends
 use Rattle.friday_app.specs.declared.refusal.Reason.TheVariants as reason
+use Rattle.friday_app.specs.Limits.{most_module, most_schedule, most_log}
 use Rattle.friday_app.specs.Command.{Command, Record, Replay}
 use Rattle.guest_process.specs.State.{State}
 use Rattle.friday_app.specs.Outcome.{Work, Stop, and_then, file_of, given, refuses}
 use Rattle.friday_app.specs.Expected.{expected, module_of, begun_of, begun_or, log_of, spelled_or, unless_refused, valid_or, head_or, process_of, schedule_in, schedule_or}
 use Rattle.friday_app.specs.Record.{record_work}
 use Rattle.friday_app.specs.Report.{replay_work}
+use Rattle.schedule_text.specs.Laws.{GivesSchedules}
 use Rattle.schedule_text.specs.Reading.{schedule_of}
-use Rattle.schedule_text.proofs.OutcomeLaws.{schedule_again}
 use Rattle.schedule_text.specs.Schedule.{Schedule}
 use Rattle.friday_app.specs.Call.{IsAnswer}
 use Rattle.friday_app.specs.Run.{Outside, Run, NoFault, Works}
-use Rattle.friday_app.specs.Valid.{IsValid, Begins, IsModuleFile, IsLogFile, IsScheduleFile, Stands}
-use Rattle.wasm_decode.proofs.ModuleLaws.{module_again}
+use Rattle.friday_app.specs.Valid.{HasWork, IsValid, Begins, IsModuleFile, IsLogFile, IsScheduleFile, Stands}
 use Rattle.friday_app.proofs.Faults.{no_fault}
 
-stands_given : (store : Store) (name : List ℕ) (limit : ℕ) (bytes : List ℕ) → Stands store name limit bytes → file_of store name limit ≡ Ok bytes
-stands_given store name limit bytes h = ap (given name) (ap (found_within limit) h.held ∙ within_held limit bytes h.within)
-
-module_stands : (store : Store) (name : List ℕ) (h : IsModuleFile store name) → module_of store name ≡ Ok h.«module»
-module_stands store name h =
-    ap (λ (r : Result (List ℕ) Stop). and_then r (λ bytes. and_then (spelled_or name (module_of_bytes bytes)) (valid_or name))) (stands_given store name 4194304 h.bytes h.stands)
-    ∙ ap (λ (m : Option Module). and_then (spelled_or name m) (valid_or name)) (module_again h.bytes h.«module» h.spelled)
-    ∙ ap (unless_refused name h.«module») (no_fault h.«module» h.valid)
+-- what the crates below say of their definitions
+pub record Laws : Type 0 where
+  pub files : KeepsFiles
+  pub modules : (bytes : List ℕ) (m : Module) → (module_of_bytes bytes ≡ Some m) ↔ Spells bytes m
+  pub faults : ExactFault
+  pub logs : ExactLogs
+  pub schedules : GivesSchedules
 
 begins_at : (name : List ℕ) (m : Module) (who count : ℕ) (h : Begins m who count) → begun_of name m who count ≡ Ok h.0
 begins_at name m who count h = ap (begun_or name) h.1
 
-log_stands : (store : Store) (name : List ℕ) (h : IsLogFile store name) → log_of store name ≡ Ok (h.head, h.left)
-log_stands store name h =
-    let built : stops_at_unbuilt (rest_of h.left) ≡ false = ap stops_at_unbuilt (sym (holds_once h.left h.entries h.rest h.holds).1) ∙ h.built in
-    ap (λ (r : Result (List ℕ) Stop). and_then r (λ bytes. head_or name (head_at bytes))) (stands_given store name 33554432 (head_bytes h.head ++ h.left) h.stands)
-    ∙ ap (head_or name) (head_at-begins (head_bytes h.head ++ h.left) h.head h.left h.in_range refl)
-    ∙ ap (λ (b : Bool). cond b (Err (refuses name reason.LogNotBuilt)) (Ok (h.head, h.left))) built
+module _ (laws : Laws) where
+  stands_given : (store : Store) (name : List ℕ) (limit : ℕ) (bytes : List ℕ) → Stands store name limit bytes → file_of store name limit ≡ Ok bytes
+  stands_given store name limit bytes h = ap (given name) (ap (found_within limit) h.held ∙ laws.files.within limit bytes h.within)
 
-schedule_stands : (store : Store) (name : List ℕ) (schedule : Schedule) (h : IsScheduleFile store name schedule) → schedule_in store name ≡ Ok schedule
-schedule_stands store name schedule h =
-    ap (λ (r : Result (List ℕ) Stop). and_then r (λ bytes. schedule_or name (schedule_of bytes))) (stands_given store name 16777216 h.bytes h.stands)
-    ∙ ap (schedule_or name) (schedule_again h.bytes schedule h.spelled h.few)
+  module_stands : (store : Store) (name : List ℕ) (h : IsModuleFile store name) → module_of store name ≡ Ok h.«module»
+  module_stands store name h =
+      ap (λ (r : Result (List ℕ) Stop). and_then r (λ bytes. and_then (spelled_or name (module_of_bytes bytes)) (valid_or name))) (stands_given store name most_module h.bytes h.stands)
+      ∙ ap (λ (m : Option Module). and_then (spelled_or name m) (valid_or name)) ((laws.modules h.bytes h.«module»).1 h.spelled)
+      ∙ ap (unless_refused name h.«module») (no_fault laws.faults h.«module» h.valid)
 
-valid_works : (command : Command) (store : Store) (left : Option (List ℕ)) → IsValid (Some command) store left → (work : Work) × (expected (Some command) (Some store) left ≡ Some (Ok work))
-valid_works (Record schedule_name) store left (schedule, s, w) = let m = w.0 in let b = w.1 in (
-  record_work (process_of schedule).name b.0 schedule.items,
-  ap Some (ap (λ (r : Result Schedule Stop). and_then r (λ schedule. and_then (module_of store (process_of schedule).«module») (λ m. and_then (begun_of (process_of schedule).«module» m 0 1) (λ begun. Ok (record_work (process_of schedule).name begun schedule.items))))) (schedule_stands store schedule_name schedule s)
-      ∙ ap (λ (r : Result Module Stop). and_then r (λ m. and_then (begun_of (process_of schedule).«module» m 0 1) (λ begun. Ok (record_work (process_of schedule).name begun schedule.items)))) (module_stands store (process_of schedule).«module» m)
-      ∙ ap (λ (r : Result State Stop). and_then r (λ begun. Ok (record_work (process_of schedule).name begun schedule.items))) (begins_at (process_of schedule).«module» m.«module» 0 1 b)),
-)
-valid_works (Replay module_name log_name) store left (m, w) = let l = w.0 in let b = w.1 in (
-  replay_work b.0 l.head l.left,
-  ap Some (ap (λ (r : Result Module Stop). and_then r (λ m. and_then (log_of store log_name) (λ log. and_then (begun_of module_name m log.0.process log.0.count) (λ begun. Ok (replay_work begun log.0 log.1))))) (module_stands store module_name m)
-      ∙ ap (λ (r : Result (Head × List ℕ) Stop). and_then r (λ log. and_then (begun_of module_name m.«module» log.0.process log.0.count) (λ begun. Ok (replay_work begun log.0 log.1)))) (log_stands store log_name l)
-      ∙ ap (λ (r : Result State Stop). and_then r (λ begun. Ok (replay_work begun l.head l.left))) (begins_at module_name m.«module» l.head.process l.head.count b)),
-)
+  log_stands : (store : Store) (name : List ℕ) (h : IsLogFile store name) → log_of store name ≡ Ok (h.head, h.left)
+  log_stands store name h =
+      let built : stops_at_unbuilt (rest_of h.left) ≡ false = ap stops_at_unbuilt ((laws.logs.all h.left h.entries h.rest).0 h.holds).1 ∙ h.built in
+      ap (λ (r : Result (List ℕ) Stop). and_then r (λ bytes. head_or name (head_at bytes))) (stands_given store name most_log (head_bytes h.head ++ h.left) h.stands)
+      ∙ ap (head_or name) ((laws.logs.heads (head_bytes h.head ++ h.left) h.head h.left).1 (h.in_range, refl))
+      ∙ ap (λ (b : Bool). cond b (Err (refuses name reason.LogNotBuilt)) (Ok (h.head, h.left))) built
+
+  schedule_stands : (store : Store) (name : List ℕ) (schedule : Schedule) (h : IsScheduleFile store name schedule) → schedule_in store name ≡ Ok schedule
+  schedule_stands store name schedule h =
+      ap (λ (r : Result (List ℕ) Stop). and_then r (λ bytes. schedule_or name (schedule_of bytes))) (stands_given store name most_schedule h.bytes h.stands)
+      ∙ ap (schedule_or name) ((laws.schedules h.bytes schedule).1 (h.spelled, h.few))
+
+  pub valid_works : (command : Command) (store : Store) (left : Option (List ℕ)) → IsValid (Some command) store left → (work : Work) × (expected (Some command) (Some store) left ≡ Some (Ok work))
+  valid_works (Record schedule_name) store left (schedule, s, w) = let m = w.0 in let b = w.1 in (
+    record_work (process_of schedule).name b.0 schedule.items,
+    ap Some (ap (λ (r : Result Schedule Stop). and_then r (λ schedule. and_then (module_of store (process_of schedule).«module») (λ m. and_then (begun_of (process_of schedule).«module» m 0 1) (λ begun. Ok (record_work (process_of schedule).name begun schedule.items))))) (schedule_stands store schedule_name schedule s)
+        ∙ ap (λ (r : Result Module Stop). and_then r (λ m. and_then (begun_of (process_of schedule).«module» m 0 1) (λ begun. Ok (record_work (process_of schedule).name begun schedule.items)))) (module_stands store (process_of schedule).«module» m)
+        ∙ ap (λ (r : Result State Stop). and_then r (λ begun. Ok (record_work (process_of schedule).name begun schedule.items))) (begins_at (process_of schedule).«module» m.«module» 0 1 b)),
+  )
+  valid_works (Replay module_name log_name) store left (m, w) = let l = w.0 in let b = w.1 in (
+    replay_work b.0 l.head l.left,
+    ap Some (ap (λ (r : Result Module Stop). and_then r (λ m. and_then (log_of store log_name) (λ log. and_then (begun_of module_name m log.0.process log.0.count) (λ begun. Ok (replay_work begun log.0 log.1))))) (module_stands store module_name m)
+        ∙ ap (λ (r : Result (Head × List ℕ) Stop). and_then r (λ log. and_then (begun_of module_name m.«module» log.0.process log.0.count) (λ begun. Ok (replay_work begun log.0 log.1)))) (log_stands store log_name l)
+        ∙ ap (λ (r : Result State Stop). and_then r (λ begun. Ok (replay_work begun l.head l.left))) (begins_at module_name m.«module» l.head.process l.head.count b)),
+  )
 
 settled : (answer wanted : Status) → (IsAnswer answer → answer ≡ wanted) → (answer ≡ ends.ReadFault → ⊥) → (answer ≡ ends.WriteFault → ⊥) → (answer ≡ wanted) ⊎ (answer ≡ ends.NoMemory)
 settled ends.ReadFault wanted answers reads writes = absurd (reads refl)
@@ -79,11 +89,11 @@ either (inl a) f g = f a
 either (inr b) f g = g b
 
 -- valid words and files, and no fault: the command does its work
-pub run_completes : (command : Option Command) (old new : Outside) (answer : Status) (store : Store) → Run command old new answer → old.told ≡ Some store → IsValid command store old.left → NoFault old new
+pub run_completes : HasWork → (command : Option Command) (old new : Outside) (answer : Status) (store : Store) → Run command old new answer → old.told ≡ Some store → IsValid command store old.left → NoFault old new
     → Works command old.told old.left answer
-run_completes None old new answer store run told valid quiet = absurd valid
-run_completes (Some command) old new answer store run told valid quiet =
-    let w = valid_works command store old.left valid in
+run_completes has_work None old new answer store run told valid quiet = absurd valid
+run_completes has_work (Some command) old new answer store run told valid quiet =
+    let w = has_work command store old.left valid in
     let is = ap (λ t. expected (Some command) t old.left) told ∙ w.1 in
     record {
       work = w.0;

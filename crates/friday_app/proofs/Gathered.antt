@@ -3,8 +3,8 @@ use Rattle.std.proofs.Common.{◌≡◌, ◌⊎◌, ℕ, List, [], ◌∷◌, Op
 use Rattle.std.specs.Prelude.{All}
 use Rattle.std.specs.FinMap.{get}
 use Rattle.std.proofs.lemmas.Option.{same_Some}
+use Rattle.fri_outside.specs.Laws.{KeepsFiles}
 use Rattle.fri_outside.specs.Outside.{Store, WhenTold, with_file}
-use Rattle.fri_outside.proofs.Stored.{get_set}
 use Rattle.fri_outside.specs.declared.files.WriteError.{WriteError}
 use Rattle.fri_outside.specs.declared.files.WriteError.TheVariants as writing
 use Rattle.friday_app.specs.declared.refusal.Answer.TheVariants as answered
@@ -159,13 +159,13 @@ one_recording before after schedule_name file bytes h held schedule m begun spel
     )
 
 -- the log that was made holds the recording
-pub leaves_recording : (told middle after : Option Store) (schedule_name : List ℕ) (recorded : Recorded) (name bytes : List ℕ) → IsFileOf recorded name bytes
+pub leaves_recording : KeepsFiles → (told middle after : Option Store) (schedule_name : List ℕ) (recorded : Recorded) (name bytes : List ℕ) → IsFileOf recorded name bytes
     → WhenTold told (λ store. HoldsRecording store schedule_name (string_bytes recorded.log_name) recorded.log.items) → middle ≡ told → after ≡ with_file name bytes middle
     → WhenTold told (λ before. WhenTold after (LeavesRecording schedule_name before))
-leaves_recording told middle after schedule_name recorded name bytes file holds same made before is now here =
+leaves_recording keeps told middle after schedule_name recorded name bytes file holds same made before is now here =
     one_recording before now schedule_name name bytes
     (subst (λ (n : List ℕ). HoldsRecording before schedule_name n bytes) (sym file.named) (subst (λ (b : List ℕ). HoldsRecording before schedule_name (string_bytes recorded.log_name) b) (sym file.logged) (holds before is)))
-    (ap (λ (s : Store). get s name) (same_Some _ _ (sym here ∙ made ∙ ap (with_file name bytes) (same ∙ is))) ∙ get_set before name bytes)
+    (ap (λ (s : Store). get s name) (same_Some _ _ (sym here ∙ made ∙ ap (with_file name bytes) (same ∙ is))) ∙ keeps.made before name bytes)
 
 -- a schedule and a module that begins are recorded
 pub records : (store : Store) (name : List ℕ) (schedule : Schedule) (m : Module) (begun : State) → schedule_in store name ≡ Ok schedule → module_of store (process_of schedule).«module» ≡ Ok m → start m 0 1 ≡ Some begun

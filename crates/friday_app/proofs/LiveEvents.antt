@@ -1,33 +1,36 @@
 -- The event of a try, from what is asked of a process.
-use Rattle.std.proofs.Common.{◌≡◌, ℕ, zero, suc, ◌+◌, ◌<◌, ◌^◌, Bool, true, false, ◌&&◌, cond, List, [], Option, Some, None, refl, ap, sym, subst, ◌∙◌, arith, slice_index_or}
+use Rattle.std.proofs.Common.{◌≡◌, ℕ, zero, suc, ◌+◌, ◌<◌, ◌^◌, Bool, true, false, ◌&&◌, cond, List, [], Option, Some, None, refl, ap, sym, subst, ◌∙◌, arith}
 use Rattle.std.specs.Prelude.{max, option_map, is_some}
 use Rattle.std.proofs.lemmas.Option.{same_Some}
+use Rattle.call_table.specs.Table.{kind_numbered}
+use Rattle.call_table.specs.declared.kind.Kind.{Kind}
 use Rattle.lib_calls.specs.declared.entry.Call.{Call}
 use Rattle.lib_calls.specs.declared.entry.Entry.{Entry}
 use Rattle.lib_calls.specs.declared.entry.EntryView.{EntryView}
 use Rattle.lib_calls.specs.Entry.{entry_of}
 use Rattle.guest_process.specs.declared.need.Need.{Need}
 use Rattle.guest_process.specs.Answers.{need, replies}
-use Rattle.guest_process.specs.Fits.{StateFits}
+use Rattle.guest_process.specs.Fits.{StateFits, WaitingFits, live_has}
 use Rattle.guest_process.specs.GoesOn.{handler}
-use Rattle.guest_process.specs.Kinds.{ends_process, kind_of}
+use Rattle.guest_process.specs.Kinds.{ends_process}
+use Rattle.guest_process.specs.declared.waiting.Waiting.{Waiting}
 use Rattle.guest_process.specs.Live.{Answered, Event, answered, chosen, event, from_world, live, live_at, lowest}
 use Rattle.guest_process.specs.Seen.{able, plain}
 use Rattle.guest_process.specs.State.{State, is_running, thread_at}
-use Rattle.guest_process.proofs.OneEvent.{one_event}
+use Rattle.guest_process.specs.OneEvent.{OneEvent}
 use Rattle.call_log.specs.Entry.{IsLogged}
 use Rattle.call_log.specs.Kind.{is_built}
 use Rattle.friday_app.specs.History.{world}
 use Rattle.friday_app.specs.Recorded.{AllAgree, IsEntryOf, reply_at}
-use Rattle.friday_app.proofs.Replies.{IsReply, call_replied, reply_built}
+use Rattle.friday_app.proofs.Replies.{IsReply, call_replied, reply_built, sends_nothing}
 
 -- the entry of an event that took nothing from outside but its reply
 abbrev pub plain_entry : ℕ → ℕ → Call → ℕ → Entry
 plain_entry clock thread call reply = record { clock = clock; thread = thread; signal = 0; call = call; reply = reply; outgoing = []; incoming = []; tag = None }
 
 -- each event of a process tells itself by its entry
-pub all_agree : (S : State) (thread time : ℕ) → StateFits S → S.events < 2 ^ 61 → time < 2 ^ 64 → AllAgree S thread time
-all_agree S thread time fits few small e is = one_event S thread (world time) fits few (record { time = small }) e is
+pub all_agree : OneEvent → (S : State) (thread time : ℕ) → StateFits S → S.events < 2 ^ 61 → time < 2 ^ 64 → AllAgree S thread time
+all_agree one_event S thread time fits few small e is = one_event S thread (world time) fits few (record { time = small }) e is
 
 one_more : {A B : Type 0} (f : A → B) (o : Option A) (y : B) → Some y ≡ option_map f o → (x : A) × (o ≡ Some x) × (y ≡ f x)
 one_more f None y h = cc
@@ -47,20 +50,16 @@ none_by : (p : ℕ → Bool) → ((s : ℕ) → p s ≡ false) → (b : Bool) �
 none_by p none true = refl
 none_by p none false = lowest_none p none 31 1
 
-none_pending : (s : ℕ) → slice_index_or [] s false ≡ false
-none_pending zero = refl
-none_pending (suc s) = refl
-
-none_chosen : (kind : ℕ) (handlers : List (Option ℕ)) → chosen (kind_of kind) handlers [] ≡ 0
+none_chosen : (kind : Kind) (handlers : List (Option ℕ)) → chosen kind handlers (λ s. false) ≡ 0
 none_chosen kind handlers =
-    none_by (λ s. slice_index_or [] s false && is_some (handler handlers s)) (λ s. ap (λ b. b && is_some (handler handlers s)) (none_pending s)) (ends_process (kind_of kind))
+    none_by (λ s. false && is_some (handler handlers s)) (λ s. refl) (ends_process kind)
 
-next_plain : (n : ℕ) → 1 + max n 0 ≡ n + 1
+pub next_plain : (n : ℕ) → 1 + max n 0 ≡ n + 1
 next_plain n = grind arith
 
-same_entry : (clock signal n thread : ℕ) (call told : Call) (reply : ℕ) → clock ≡ n → signal ≡ 0 → call ≡ told
-    → plain_entry n thread told reply ≡ record { clock = clock; thread = thread; signal = signal; call = call; reply = reply; outgoing = []; incoming = []; tag = None }
-same_entry clock signal n thread call told reply clocks none calls = rw (clocks, none, calls) refl
+same_entry : (clock signal n thread : ℕ) (call told : Call) (reply : ℕ) (outgoing : List ℕ) → clock ≡ n → signal ≡ 0 → call ≡ told → outgoing ≡ []
+    → plain_entry n thread told reply ≡ record { clock = clock; thread = thread; signal = signal; call = call; reply = reply; outgoing = outgoing; incoming = []; tag = None }
+same_entry clock signal n thread call told reply outgoing clocks none calls nothing = rw (clocks, none, calls, nothing) refl
 
 -- a try that has the event of this entry, or none
 abbrev IsTried : Option Event → (ℕ → Entry) → Option ℕ → Type 0
@@ -68,33 +67,61 @@ IsTried l entry None = l ≡ None
 IsTried l entry (Some reply) = (e : Event) × (l ≡ Some e) × (entry reply ≡ e.entry)
 
 tried_by : (f : Answered → Event) (o : Option Answered) (r : Option ℕ) (l : Option Event) (entry : ℕ → Entry) → l ≡ option_map f o → IsReply o r
-    → ((reply : ℕ) (after : State) → entry reply ≡ (f (record { answer = replies reply; after = after })).entry) → IsTried l entry r
+    → ((reply : ℕ) (after : State) → r ≡ Some reply → entry reply ≡ (f (record { answer = replies reply; after = after })).entry) → IsTried l entry r
 tried_by f o None l entry is none same = is ∙ ap (option_map f) none
-tried_by f o (Some reply) l entry is (after, some) same = (f (record { answer = replies reply; after = after }), is ∙ ap (option_map f) some, same reply after)
+tried_by f o (Some reply) l entry is (after, some) same = (f (record { answer = replies reply; after = after }), is ∙ ap (option_map f) some, same reply after refl)
 
 -- the call at which a thread stands, and what is needed there
 pub record IsAsked (S : State) (t : ℕ) (c : Call) (asked : Need) : Type 0 where
+  pub fits : StateFits S
   pub call : Some c ≡ option_map (λ w. w.call) (able S t)
-  pub need : Some asked ≡ option_map (λ w. plain (need (kind_of w.call.kind) S t w.call)) (able S t)
+  pub need : Some asked ≡ option_map (λ w. plain (need w.kind S t w.call)) (able S t)
 
-asked_need : (S : State) (t : ℕ) (c : Call) (asked : Need) → IsAsked S t c asked → asked ≡ plain (need (kind_of c.kind) S t c)
-asked_need S t c asked h =
-    let w = one_more (λ w. w.call) (able S t) c h.call in
-    let n = one_more (λ w. plain (need (kind_of w.call.kind) S t w.call)) (able S t) asked h.need in
-    let calls : n.0.call ≡ c = ap (λ w. w.call) (same_Some _ _ (sym n.1 ∙ w.1)) ∙ sym w.2 in
-    n.2 ∙ ap (λ (c : Call). plain (need (kind_of c.kind) S t c)) calls
+-- the thread that stands there
+record StandsThere (S : State) (t : ℕ) (c : Call) (asked : Need) : Type 0 where
+  waiting : Waiting
+  able : able S t ≡ Some waiting
+  call : waiting.call ≡ c
+  kind : kind_numbered c.kind ≡ Some waiting.kind
+  need : asked ≡ plain (need waiting.kind S t c)
+
+able_is : (S : State) (t : ℕ) (w : Waiting) → able S t ≡ Some w → thread_at S t ≡ Some w
+able_is S t w h = by_test (is_running S) h
+  where
+    by_test : (b : Bool) → cond b (thread_at S t) None ≡ Some w → thread_at S t ≡ Some w
+    by_test true h = h
+    by_test false h = cc
+
+stands_there : (S : State) (t : ℕ) (c : Call) (asked : Need) → IsAsked S t c asked → StandsThere S t c asked
+stands_there S t c asked h =
+    let at = one_more (λ w. w.call) (able S t) c h.call in
+    let needed = one_more (λ w. plain (need w.kind S t w.call)) (able S t) asked h.need in
+    let w = at.0 in
+    let fits : WaitingFits w = live_has WaitingFits S.crew.threads t h.fits.threads w (able_is S t w at.1) in
+    let same : needed.0 ≡ w = same_Some _ _ (sym needed.1 ∙ at.1) in
+    record {
+      waiting = w;
+      able = at.1;
+      call = sym at.2;
+      kind = ap (λ (c : Call). kind_numbered c.kind) at.2 ∙ fits.kind;
+      need = needed.2 ∙ ap (λ (w : Waiting). plain (need w.kind S t w.call)) same ∙ ap (λ (c : Call). plain (need w.kind S t c)) (sym at.2);
+    }
 
 -- the event of that thread, where a reply is given
 tried_at : (S : State) (t time : ℕ) (c : Call) (asked : Need) → IsAsked S t c asked → IsTried (live S t (world time)) (λ reply. plain_entry (S.clock + 1) t c reply) (reply_at asked c time)
 tried_at S t time c asked h =
-    let w = one_more (λ w. w.call) (able S t) c h.call in
-    let here : live S t (world time) ≡ live_at S t (world time) (Some w.0) = tested (live_at S t (world time)) refl (is_running S) (thread_at S t) (Some w.0) w.1 in
-    let given : IsReply (answered (need (kind_of w.0.call.kind) S t w.0.call) (from_world (kind_of w.0.call.kind) S w.0.call (world time))) (reply_at asked c time) =
-    subst (λ (c : Call). IsReply (answered (need (kind_of w.0.call.kind) S t w.0.call) (from_world (kind_of w.0.call.kind) S w.0.call (world time))) (reply_at asked c time)) (sym w.2)
-    (subst (λ (n : Need). IsReply (answered (need (kind_of w.0.call.kind) S t w.0.call) (from_world (kind_of w.0.call.kind) S w.0.call (world time))) (reply_at n w.0.call time))
-    (sym (asked_need S t c asked h ∙ ap (λ (c : Call). plain (need (kind_of c.kind) S t c)) w.2)) (call_replied S t time w.0.call)) in
-    tried_by (event S t (world time) w.0) _ (reply_at asked c time) _ _ here given
-    (λ reply after. same_entry _ _ (S.clock + 1) t w.0.call c reply (next_plain S.clock) (none_chosen w.0.call.kind after.handlers) (sym w.2))
+    let at = stands_there S t c asked h in
+    let w = at.waiting in
+    let here : live S t (world time) ≡ live_at S t (world time) (Some w) = tested (live_at S t (world time)) refl (is_running S) (thread_at S t) (Some w) at.able in
+    let given : IsReply (answered (need w.kind S t w.call) (from_world w.kind S w.call (world time))) (reply_at asked c time) =
+    subst (λ (call : Call). IsReply (answered (need w.kind S t call) (from_world w.kind S call (world time))) (reply_at asked c time)) (sym at.call)
+    (subst (λ (n : Need). IsReply (answered (need w.kind S t c) (from_world w.kind S c (world time))) (reply_at n c time)) (sym at.need)
+    (call_replied w.kind S t time c at.kind)) in
+    tried_by (event S t (world time) w) _ (reply_at asked c time) _ _ here given
+    (λ reply after replied.
+    let built = reply_built w.kind S t time reply c at.kind (ap (λ (n : Need). reply_at n c time) (sym at.need) ∙ replied) in
+    let nothing = sends_nothing w.call S (ap (λ (c : Call). is_built c.kind) at.call ∙ built) in
+    same_entry _ _ (S.clock + 1) t w.call c reply _ (next_plain S.clock) (none_chosen w.kind after.handlers) at.call nothing)
 
 -- no reply is given now
 pub none_given : (S : State) (t time : ℕ) (c : Call) (asked : Need) → IsAsked S t c asked → None ≡ reply_at asked c time → IsEntryOf (live S t (world time)) None
@@ -112,7 +139,8 @@ pub given_logged : (S : State) (t time : ℕ) (c : Call) (asked : Need) (reply c
     → entry_of view ≡ plain_entry clock t c reply → AllAgree S t time → IsLogged (entry_of view)
 given_logged S t time c asked reply clock view h is next told agree =
     let e = one_given S t time c asked reply clock view h is next told in
-    let built : is_built c.kind ≡ true = reply_built S t time reply c (ap (λ (n : Need). reply_at n c time) (sym (asked_need S t c asked h)) ∙ sym is) in
+    let at = stands_there S t c asked h in
+    let built : is_built c.kind ≡ true = reply_built at.waiting.kind S t time reply c at.kind (ap (λ (n : Need). reply_at n c time) (sym at.need) ∙ sym is) in
     subst IsLogged (sym e.2) (record {
       shape = (agree e.0 e.1).shape;
       built = ap (λ (e : Entry). is_built e.call.kind) (sym e.2 ∙ told) ∙ built;

@@ -3,11 +3,12 @@ use Rattle.std.proofs.Common.{◌≡◌, ◌⊎◌, ◌<◌, ℕ, zero, suc, ari
 use Rattle.std.proofs.Math.Seq.{take-length}
 use Rattle.std.proofs.lemmas.List.{length-map}
 use Rattle.std.proofs.lemmas.Option.{same_Some}
-use Rattle.std.specs.Ordering.{nat_cmp, eq_by_cmp}
+use Rattle.std.specs.Ordering.{nat_cmp, eq_by_cmp, is_eq}
+use Rattle.std.specs.declared.cmp.Ordering.{Ordering}
+use Rattle.std.specs.declared.cmp.Ordering.TheVariants.{Less, Equal, Greater}
 use Rattle.std.specs.Cmp.Lexicographic.{slice_cmp, nat_list_cmp_total}
-use Rattle.std.specs.FinMap.{insert, get, get-insert}
+use Rattle.std.specs.FinMap.{insert, get, get-insert, slice_cmp-IsAntisymmetric, nat_cmp-IsAntisymmetric}
 use Rattle.fri_outside.specs.Outside.{Store, WhenTold, with_file}
-use Rattle.fri_outside.proofs.Stored.{is_same}
 use Rattle.friday_app.specs.declared.refusal.Answer.{Answer}
 use Rattle.friday_app.specs.declared.refusal.Answer.TheVariants as answered
 use Rattle.friday_app.specs.Agreement.{KeepsRecording, LeavesRecording}
@@ -20,6 +21,15 @@ use Rattle.friday_app.specs.Call.{ChangesOnly, DivergesOnlyIn, IsLeft, Makes, Ke
 -- what did not change at all changed these files only
 pub same_changes : (before after : Option Store) (files : List (List ℕ × List ℕ)) → after ≡ before → ChangesOnly before files after
 same_changes before after files e = record { each = λ old told. (old, e ∙ told, λ name. inl refl) }
+
+equal_from_is_eq : (r : Ordering) → is_eq r ≡ true → r ≡ Equal
+equal_from_is_eq Less e = cc
+equal_from_is_eq Equal e = refl
+equal_from_is_eq Greater e = cc
+
+-- names that tie are one name
+is_same : (q name : List ℕ) → eq_by_cmp (slice_cmp nat_cmp) q name ≡ true → q ≡ name
+is_same q name tied = slice_cmp-IsAntisymmetric nat_cmp-IsAntisymmetric q name (equal_from_is_eq _ tied)
 
 -- a file that was set to some of its front: that name has it, and the others are as before
 is_left : (old : Store) (name bytes : List ℕ) (n : ℕ) (q : List ℕ) → IsLeft old ((name, bytes) ∷ []) (insert old name (take n bytes)) q

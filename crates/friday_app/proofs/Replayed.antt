@@ -11,6 +11,7 @@ use Rattle.friday_app.specs.declared.refusal.Answer.TheVariants as answered
 use Rattle.friday_app.specs.declared.refusal.Reason.TheVariants as reason
 use Rattle.friday_app.specs.declared.refusal.Refusal.{Refusal}
 use Rattle.friday_app.specs.declared.refusal.Refusal.TheVariants as refusal
+use Rattle.friday_app.specs.Limits.{most_log}
 use Rattle.friday_app.specs.Call.{StopsAs, Tells}
 use Rattle.friday_app.specs.Expected.{begun_of, built_or, head_or, log_of, module_of, played, replay_outcome}
 use Rattle.friday_app.specs.Outcome.{Outcome, Stop, and_then, file_of, refuses}
@@ -49,7 +50,7 @@ reported module_name log_name m log begun (Err e) starts unbuilt = unbuilt_first
 
 -- ---- from the files on
 
-plays : (store : Store) (module_name log_name bytes : List ℕ) (m : Module) (log : Head × List ℕ) → module_of store module_name ≡ Ok m → file_of store log_name 33554432 ≡ Ok bytes → head_at bytes ≡ Some log
+plays : (store : Store) (module_name log_name bytes : List ℕ) (m : Module) (log : Head × List ℕ) → module_of store module_name ≡ Ok m → file_of store log_name most_log ≡ Ok bytes → head_at bytes ≡ Some log
     → replay_outcome module_name log_name store ≡ played module_name log_name m log
 plays store module_name log_name bytes m log found read head =
     ap (λ (r : Result Module Stop). and_then r (λ m. and_then (log_of store log_name) (λ log. and_then (begun_of module_name m log.0.process log.0.count) (λ begun. Ok (replay_work begun log.0 log.1))))) found
@@ -62,7 +63,7 @@ answer_tells o (Ok (answered.Diverged text)) (work, (is, told)) = (work, is, tol
 answer_tells o (Err e) stops = stops_tell o e stops
 
 pub replay_tells : (module_name log_name : List ℕ) (told : Option Store) (m : Module) (bytes : List ℕ) (log : Head × List ℕ) (result : Result Answer Refusal)
-    → WhenTold told (λ store. module_of store module_name ≡ Ok m) → WhenTold told (λ store. file_of store log_name 33554432 ≡ Ok bytes) → head_at bytes ≡ Some log
+    → WhenTold told (λ store. module_of store module_name ≡ Ok m) → WhenTold told (λ store. file_of store log_name most_log ≡ Ok bytes) → head_at bytes ≡ Some log
     → MatchResult result (Works (played module_name log_name m log)) (StopsAs (played module_name log_name m log))
     → (o : Outcome) → option_map (replay_outcome module_name log_name) told ≡ Some o → Tells o result
 replay_tells module_name log_name told m bytes log result found read head does o is =
@@ -78,12 +79,12 @@ log_stops store module_name log_name m e found stops =
     (stops_then (log_of store log_name) _ e stops)
 
 pub file_stops : (module_name log_name : List ℕ) (told : Option Store) (m : Module) (e : Refusal) → WhenTold told (λ store. module_of store module_name ≡ Ok m)
-    → WhenTold told (λ store. StopsAs (file_of store log_name 33554432) e) → (o : Outcome) → option_map (replay_outcome module_name log_name) told ≡ Some o → Tells o (Err e)
+    → WhenTold told (λ store. StopsAs (file_of store log_name most_log) e) → (o : Outcome) → option_map (replay_outcome module_name log_name) told ≡ Some o → Tells o (Err e)
 file_stops module_name log_name told m e found stops =
-    refused_tells (replay_outcome module_name log_name) told e (λ store is. log_stops store module_name log_name m e (found store is) (stops_then (file_of store log_name 33554432) _ e (stops store is)))
+    refused_tells (replay_outcome module_name log_name) told e (λ store is. log_stops store module_name log_name m e (found store is) (stops_then (file_of store log_name most_log) _ e (stops store is)))
 
 pub head_stops : (module_name log_name : List ℕ) (told : Option Store) (m : Module) (bytes : List ℕ) (e : Refusal) → WhenTold told (λ store. module_of store module_name ≡ Ok m)
-    → WhenTold told (λ store. file_of store log_name 33554432 ≡ Ok bytes) → StopsAs (head_or log_name (head_at bytes)) e → (o : Outcome) → option_map (replay_outcome module_name log_name) told ≡ Some o → Tells o (Err e)
+    → WhenTold told (λ store. file_of store log_name most_log ≡ Ok bytes) → StopsAs (head_or log_name (head_at bytes)) e → (o : Outcome) → option_map (replay_outcome module_name log_name) told ≡ Some o → Tells o (Err e)
 head_stops module_name log_name told m bytes e found read stops =
     refused_tells (replay_outcome module_name log_name) told e (λ store is. log_stops store module_name log_name m e (found store is)
     (subst (λ (r : Result (Head × List ℕ) Stop). StopsAs r e) (sym (ap (λ (r : Result (List ℕ) Stop). and_then r (λ bytes. head_or log_name (head_at bytes))) (read store is))) stops))

@@ -10,6 +10,7 @@ use Rattle.call_log.specs.Head.{Head}
 use Rattle.call_log.specs.Log.{head_at, rest_of, stops_at_unbuilt}
 use Rattle.friday_app.specs.declared.refusal.Reason.{Reason}
 use Rattle.friday_app.specs.declared.refusal.Reason.TheVariants as reason
+use Rattle.friday_app.specs.Limits.{most_module, most_log}
 use Rattle.friday_app.specs.Fault.{fault_of}
 use Rattle.friday_app.specs.Outcome.{Stop, Outcome, and_then, given, writes_of, refuses}
 use Rattle.friday_app.specs.Command.{Command, Replay}
@@ -54,10 +55,10 @@ then_none (Ok value) next early later = later value
 then_none (Err stop) next early later = early
 
 module_early : (store : Store) (name : List ℕ) → IsEarly (module_of store name)
-module_early store name = then_early _ _ (given_early name (found store name 4194304)) (λ bytes. then_early _ _ (spelled_early name (module_of_bytes bytes)) (λ m. valid_early name m (fault_of m)))
+module_early store name = then_early _ _ (given_early name (found store name most_module)) (λ bytes. then_early _ _ (spelled_early name (module_of_bytes bytes)) (λ m. valid_early name m (fault_of m)))
 
 log_early : (store : Store) (name : List ℕ) → IsEarly (log_of store name)
-log_early store name = then_early _ _ (given_early name (found store name 33554432)) (λ bytes. head_early name (head_at bytes))
+log_early store name = then_early _ _ (given_early name (found store name most_log)) (λ bytes. head_early name (head_at bytes))
 
 replay_writes_at : (module_name log_name : List ℕ) (store : Store) → writes_of (replay_outcome module_name log_name store) ≡ []
 replay_writes_at module_name log_name store =

@@ -12,6 +12,7 @@ use Rattle.guest_process.specs.Start.{start}
 use Rattle.guest_process.specs.State.{State}
 use Rattle.friday_app.specs.declared.refusal.Reason.{Reason}
 use Rattle.friday_app.specs.declared.refusal.Reason.TheVariants as reason
+use Rattle.friday_app.specs.Limits.{most_module, most_schedule, most_log}
 use Rattle.friday_app.specs.Command.{Command, Record, Replay}
 use Rattle.friday_app.specs.Fault.{fault_of}
 use Rattle.friday_app.specs.Outcome.{Stop, NotACommand, Outcome, refuses, and_then, file_of, writes_of}
@@ -32,7 +33,7 @@ abbrev pub valid_or : List ℕ → Module → Result Module Stop
 valid_or name m = unless_refused name m (fault_of m)
 
 abbrev pub module_of : Store → List ℕ → Result Module Stop
-module_of store name = and_then (file_of store name 4194304) (λ bytes. and_then (spelled_or name (module_of_bytes bytes)) (valid_or name))
+module_of store name = and_then (file_of store name most_module) (λ bytes. and_then (spelled_or name (module_of_bytes bytes)) (valid_or name))
 
 -- the first state of a process of a module, whose file has this name
 abbrev pub begun_or : List ℕ → Option State → Result State Stop
@@ -52,7 +53,7 @@ head_or name None = Err (refuses name reason.BadHead)
 head_or name (Some log) = built_or name log
 
 abbrev pub log_of : Store → List ℕ → Result (Head × List ℕ) Stop
-log_of store name = and_then (file_of store name 33554432) (λ bytes. head_or name (head_at bytes))
+log_of store name = and_then (file_of store name most_log) (λ bytes. head_or name (head_at bytes))
 
 abbrev pub first_or : {A : Type 0} → A → List A → A
 first_or default [] = default
@@ -80,7 +81,7 @@ schedule_or name (Err (BadLineAt line)) = Err (refuses name (reason.BadLine line
 schedule_or name (Err TooManyRuns) = Err (refuses name reason.TooMany)
 
 abbrev pub schedule_in : Store → List ℕ → Result Schedule Stop
-schedule_in store name = and_then (file_of store name 16777216) (λ bytes. schedule_or name (schedule_of bytes))
+schedule_in store name = and_then (file_of store name most_schedule) (λ bytes. schedule_or name (schedule_of bytes))
 
 -- the one process of a schedule
 abbrev pub process_of : Schedule → ProcessLine

@@ -49,7 +49,7 @@ time (Does other ∷ h) p = time h p
 
 -- no datagram and no random byte came, no signal is pending, and nothing was killed
 abbrev pub world : ℕ → Env
-world time = record { mailbox = []; pool = []; time = time; pending = []; killed = false }
+world time = record { mailbox = []; pool = []; time = time; pending = λ s. false; killed = false }
 
 abbrev pub env_of : History → ℕ → Env
 env_of h p = world (time h p)

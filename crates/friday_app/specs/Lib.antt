@@ -1,6 +1,7 @@
 pub mod Numbers
 pub mod Command
 pub mod Fault
+pub mod Limits
 pub mod Report
 pub mod History
 pub mod Outcome

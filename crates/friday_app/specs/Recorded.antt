@@ -1,5 +1,8 @@
 -- What a recorder has done so far.
-use Rattle.std.specs.Prelude.{◌≡◌, ◌==◌, ◌&&◌, not, if◌then◌else◌, All, ℕ, List, [], ◌∷◌, false, length, Option, Some, None, Ok, string_bytes}
+use Rattle.std.specs.Prelude.{◌≡◌, if◌then◌else◌, All, ℕ, List, [], ◌∷◌, false, length, Option, Some, None, Ok, string_bytes}
+use Rattle.call_table.specs.Table.{kind_numbered}
+use Rattle.call_table.specs.declared.kind.Kind.{Kind}
+use Rattle.call_table.specs.declared.kind.Kind.TheVariants.{SleepUntil}
 use Rattle.lib_calls.specs.declared.entry.Entry.{Entry}
 use Rattle.lib_calls.specs.declared.entry.EntryView.{EntryView}
 use Rattle.lib_calls.specs.Entry.{entry_of}
@@ -24,11 +27,17 @@ abbrev pub IsEntryOf : Option Event → Option EntryView → Type 0
 IsEntryOf event None = event ≡ None
 IsEntryOf event (Some view) = (e : Event) × (event ≡ Some e) × (entry_of view ≡ e.entry)
 
--- the reply to a call at this wall time, where it is given now: a sleeping thread wakes no earlier than it asked
+-- the reply that the world gives at this wall time to a call of this kind, where it is given now: a
+-- sleeping thread wakes no earlier than it asked
+abbrev pub world_reply : Option Kind → Call → ℕ → Option ℕ
+world_reply (Some SleepUntil) call time = if is_due call.a0 time then Some time else None
+world_reply _ call time = Some time
+
+-- the reply to a call at this wall time, where it is given now
 abbrev pub reply_at : Need → Call → ℕ → Option ℕ
 reply_at (needs.Fixed reply) call time = Some reply
 reply_at needs.Blocked call time = None
-reply_at needs.World call time = if call.kind == 5 && not (is_due call.a0 time) then None else Some time
+reply_at needs.World call time = world_reply (kind_numbered call.kind) call time
 
 -- the event of this try, where there is one, is one that its entry tells
 abbrev pub AllAgree : State → ℕ → ℕ → Type 0

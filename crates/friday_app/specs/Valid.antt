@@ -1,11 +1,11 @@
 -- Words and files at which a command does its work.
-use Rattle.std.specs.Prelude.{◌≡◌, ℕ, ◌≤◌, List, ◌++◌, length, Option, Some, None, false}
+use Rattle.std.specs.Prelude.{◌≡◌, ℕ, ◌≤◌, List, ◌++◌, length, Option, Some, None, Ok, false}
 use Rattle.std.specs.FinMap.{get}
 use Rattle.fri_outside.specs.Outside.{Store}
 use Rattle.wasm_types.specs.Modules.{Module}
 use Rattle.wasm_types.specs.Valid.{IsValid as IsValidModule}
 use Rattle.wasm_decode.specs.Grammar.{Spells as IsSpelled}
-use Rattle.schedule_text.specs.declared.limits.TheConstants.{MOST_RUNS}
+use Rattle.schedule_text.specs.Limits.{most_runs}
 use Rattle.schedule_text.specs.Grammar.{Spells}
 use Rattle.schedule_text.specs.Schedule.{Schedule, run_count}
 use Rattle.lib_calls.specs.declared.entry.Entry.{Entry}
@@ -13,8 +13,10 @@ use Rattle.call_log.specs.Head.{Head, IsHead, head_bytes}
 use Rattle.call_log.specs.Log.{Holds, stops_at_unbuilt}
 use Rattle.guest_process.specs.Start.{start}
 use Rattle.guest_process.specs.State.{State}
+use Rattle.friday_app.specs.Limits.{most_module, most_schedule, most_log}
 use Rattle.friday_app.specs.Command.{Command, Record, Replay}
-use Rattle.friday_app.specs.Expected.{process_of}
+use Rattle.friday_app.specs.Outcome.{Work}
+use Rattle.friday_app.specs.Expected.{expected, process_of}
 
 -- a file is there and is within its limit
 pub record Stands (store : Store) (name : List ℕ) (limit : ℕ) (bytes : List ℕ) : Type 0 where
@@ -24,7 +26,7 @@ pub record Stands (store : Store) (name : List ℕ) (limit : ℕ) (bytes : List 
 -- a file is a valid module
 pub record IsModuleFile (store : Store) (name : List ℕ) : Type 0 where
   pub bytes : List ℕ
-  pub stands : Stands store name 4194304 bytes
+  pub stands : Stands store name most_module bytes
   pub «module» : Module
   pub spelled : IsSpelled bytes «module»
   pub valid : IsValidModule «module»
@@ -38,7 +40,7 @@ pub record IsLogFile (store : Store) (name : List ℕ) : Type 0 where
   pub head : Head
   pub in_range : IsHead head
   pub left : List ℕ
-  pub stands : Stands store name 33554432 (head_bytes head ++ left)
+  pub stands : Stands store name most_log (head_bytes head ++ left)
   pub entries : List Entry
   pub rest : List ℕ
   pub holds : Holds left entries rest
@@ -47,9 +49,9 @@ pub record IsLogFile (store : Store) (name : List ℕ) : Type 0 where
 -- a file spells this schedule, of which the tries are not too many
 pub record IsScheduleFile (store : Store) (name : List ℕ) (schedule : Schedule) : Type 0 where
   pub bytes : List ℕ
-  pub stands : Stands store name 16777216 bytes
+  pub stands : Stands store name most_schedule bytes
   pub spelled : Spells bytes schedule
-  pub few : run_count schedule.items ≤ MOST_RUNS
+  pub few : run_count schedule.items ≤ most_runs
 
 abbrev pub IsValid : Option Command → Store → Option (List ℕ) → Type 0
 IsValid None store left = ⊥
@@ -58,3 +60,7 @@ IsValid (Some (Record schedule_name)) store left =
     × ((m : IsModuleFile store (process_of schedule).«module») × Begins m.«module» 0 1)
 IsValid (Some (Replay module_name log_name)) store left =
     (m : IsModuleFile store module_name) × ((l : IsLogFile store log_name) × Begins m.«module» l.head.process l.head.count)
+
+-- what is valid has an outcome that is work
+abbrev pub HasWork : Type 0
+HasWork = (command : Command) (store : Store) (left : Option (List ℕ)) → IsValid (Some command) store left → (work : Work) × (expected (Some command) (Some store) left ≡ Some (Ok work))

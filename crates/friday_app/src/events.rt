@@ -1,21 +1,18 @@
 // The events of a process, as the world around it lets them be and as entries tell them.
-ghost use Rattle.std.specs.Prelude.{◌≡◌, ◌+◌, ◌<◌, ◌^◌, IfOk, IfSome, None, Some, [], map};
+ghost use Rattle.std.specs.Prelude.{◌≡◌, ◌<◌, ◌^◌, IfOk, IfSome, None, Some, [], map};
 ghost use Rattle.lib_calls.specs.Entry.{entry_of};
 ghost use Rattle.call_log.specs.Entry.{IsLogged};
-ghost use Rattle.guest_process.specs.Answers.{is_due};
 ghost use Rattle.guest_process.specs.Live.{live};
 ghost use Rattle.friday_app.specs.History.{world};
-ghost use Rattle.friday_app.specs.Recorded.{IsEntryOf, AllAgree, reply_at};
+ghost use Rattle.friday_app.specs.Recorded.{IsEntryOf, AllAgree, reply_at, world_reply};
 
-use guest_process::{Need, Process};
-use lib_calls::{Call, EntryView};
+use guest_process::{Need, Process, is_due, one_event};
+use lamport_tag::next_clock;
+use lib_calls::{Call, EntryView, Kind};
 use std::alloc::AllocError;
 
 /// No memory holds the log of so many events.
 const MOST_EVENTS: u64 = 0x2000_0000_0000_0000;
-
-/// The number of the kind `sleep_until`.
-const SLEEP_UNTIL: u8 = 5;
 
 /// The entry of the event of a try of this thread at this wall time, or nothing where the try is idle.
 pub fn live_entry(
@@ -28,6 +25,7 @@ pub fn live_entry(
     ensures few { IfOk result (λ _. process.now.events < 2 ^ 61) }
     ensures logged { IfOk result (λ found. IfSome found (λ entry. IsLogged (entry_of entry))) }
 {
+    one_event();
     if process.events() >= MOST_EVENTS {
         return Err(AllocError);
     }
@@ -40,7 +38,7 @@ pub fn live_entry(
     let Some(reply) = reply(need, call, time) else {
         return Ok(None);
     };
-    let clock = next_clock(process.clock())?;
+    let clock = next_clock(process.clock(), None);
     Ok(Some(plain_entry(clock, thread, *call, reply)))
 }
 
@@ -51,23 +49,18 @@ fn reply(need: Need, call: &Call, time: u64) -> Option<u64>
     match need {
         Need::Fixed(reply) => Some(reply),
         Need::Blocked => None,
-        Need::World if call.kind == SLEEP_UNTIL && !is_due(call.a0, time) => None,
-        Need::World => Some(time),
+        Need::World => world_reply(Kind::from_number(call.kind), call, time),
     }
 }
 
-// Whether a thread wakes at this time that sleeps until that one.
-fn is_due(until: u64, time: u64) -> bool
-    ensures { result ≡ is_due until time }
+// The reply that the world gives at this time to a call of this kind.
+fn world_reply(kind: Option<Kind>, call: &Call, time: u64) -> Option<u64>
+    ensures { result ≡ world_reply kind call.now time }
 {
-    until.cast_signed() <= time.cast_signed()
-}
-
-// The clock of the next event. No memory holds a log after which it would not fit.
-fn next_clock(clock: u64) -> Result<u64, AllocError>
-    ensures { IfOk result (λ next. next ≡ clock + 1) }
-{
-    clock.checked_add(1).ok_or(AllocError)
+    match kind {
+        Some(Kind::SleepUntil) if !is_due(call.a0, time) => None,
+        _ => Some(time),
+    }
 }
 
 // The entry of an event that took nothing from outside but its reply.

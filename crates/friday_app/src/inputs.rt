@@ -3,6 +3,7 @@ ghost use Rattle.std.specs.Prelude.{◌≡◌, ◌<◌, ◌≤◌, false, vec_le
 ghost use Rattle.fri_outside.specs.Outside.{WhenTold, Counts, NoneFell};
 ghost use Rattle.wasm_types.specs.Modules.{module_of as shown};
 ghost use Rattle.wasm_decode.specs.Sections.{module_of_bytes};
+ghost use Rattle.friday_app.specs.Limits.{most_log};
 ghost use Rattle.friday_app.specs.Outcome.{and_then, file_of};
 ghost use Rattle.schedule_text.specs.Schedule.{IsSchedule};
 ghost use Rattle.call_log.specs.Head.{IsHead};
@@ -21,7 +22,7 @@ use std::alloc::Global;
 use wasm_decode::{DecodeError, decode};
 use wasm_step::StartError;
 use wasm_types::{Module, ValidModule};
-use wasm_validate::{Invalid, validate};
+use wasm_validate::{Invalid, exact_fault, validate};
 
 const MODULE_LIMIT: usize = 4_194_304;
 
@@ -74,6 +75,7 @@ fn valid(alloc: Global, name: &str, checked: Module) -> Result<ValidModule, Refu
         (StopsAs (valid_or name.now (shown checked))) }
     ensures cause { (old new : Counts) → IfErr result (Raises old new) }
 {
+    exact_fault();
     match validate(alloc, checked) {
         Ok(valid) => Ok(valid),
         Err(Invalid::HasFloat) => Err(Refusal::refuse(alloc, name, Reason::HasFloat)),
@@ -163,7 +165,7 @@ pub fn take_schedule<F: Files>(
 /// The bytes of a log file.
 pub fn take_log<F: Files>(alloc: Global, name: &str, files: &mut F) -> Result<Vec<u8>, Refusal>
     ensures answer { WhenTold (F.told files.old) (λ store. MatchResult result
-        (λ bytes. file_of store name.now 33554432 ≡ Ok bytes.items) (StopsAs (file_of store name.now 33554432))) }
+        (λ bytes. file_of store name.now most_log ≡ Ok bytes.items) (StopsAs (file_of store name.now most_log))) }
     ensures same { F.told files.new ≡ F.told files.old }
     ensures counts { NoneFell (F.counts files.old) (F.counts files.new) }
     ensures cause { IfErr result (Raises (F.counts files.old) (F.counts files.new)) }

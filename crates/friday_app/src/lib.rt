@@ -5,6 +5,7 @@ mod command;
 mod events;
 mod finish;
 mod inputs;
+mod laws;
 mod outputs;
 mod record;
 mod recorder;

@@ -4,7 +4,7 @@ ghost use Rattle.fri_outside.specs.Outside.{NoneFell, WriteRaises, with_file};
 ghost use Rattle.friday_app.specs.Call.{stop_of};
 
 use crate::refusal::Refusal;
-use fri_outside::{Files, WriteError};
+use fri_outside::{Files, WriteError, keeps_files};
 
 impl From<WriteError> for Refusal {
     ghost from_gives = { λ error refusal. refusal ≡ stop_of error };
@@ -25,6 +25,7 @@ pub fn write_file<F: Files>(name: &str, bytes: &[u8], files: &mut F) -> Result<(
     ensures counts { NoneFell (F.counts files.old) (F.counts files.new) }
     ensures cause { WriteRaises (F.counts files.old) (F.counts files.new) result }
 {
+    keeps_files();
     files.create(name)?;
     files.append(name, bytes)
 }

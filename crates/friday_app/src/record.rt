@@ -12,7 +12,7 @@ use crate::inputs::{begin_process, take_module, take_schedule};
 use crate::outputs::write_file;
 use crate::refusal::{Answer, Refusal};
 use crate::summary::{Recorded, record_process};
-use fri_outside::Files;
+use fri_outside::{Files, keeps_files};
 use schedule_text::{ProcessLine, Schedule};
 use std::alloc::Global;
 
@@ -63,6 +63,7 @@ pub fn record<F: Files>(
     ensures counts { NoneFell (F.counts files.old) (F.counts files.new) }
     ensures cause { IfErr result (Raises (F.counts files.old) (F.counts files.new)) }
 {
+    keeps_files();
     let recorded = gather(alloc, schedule_file, files)?;
     write_file(&recorded.log_name, &recorded.log, files)?;
     Ok(Answer::Done(recorded.text))

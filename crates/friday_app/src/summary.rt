@@ -8,6 +8,7 @@ ghost use Rattle.friday_app.specs.Agreement.{IsRecordingOf};
 
 use crate::recorder::Recorder;
 use crate::texts::push_end;
+use call_log::exact_logs;
 use fri_text::Text;
 use guest_process::{End, Process};
 use schedule_text::Item;
@@ -65,6 +66,7 @@ pub fn record_process(
     ensures work { IfOk result (λ recorded. IsRecordedWork recorded (record_work name.now begun.entry items.now)) }
     ensures recorded { IfOk result (λ recorded. IsRecordingOf recorded.log.items name.now begun.entry items.now) }
 {
+    exact_logs();
     let recorder = Recorder::new(alloc, begun, name)?.perform_all(items)?;
     let mut text = Text::new(alloc);
     push_process(&mut text, name, recorder.events, recorder.process.end())?;

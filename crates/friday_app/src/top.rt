@@ -11,6 +11,7 @@ ghost use Rattle.friday_app.specs.Call.{IsAnswer, IsExactUsage, IsIdle, KeepsInp
 
 use crate::command::parse;
 use crate::finish::say;
+use crate::laws::has_work;
 use crate::settle::settle;
 use crate::status::Status;
 use fri_outside::{Files, Sink, Source};
@@ -105,5 +106,6 @@ pub fn friday<F: Files, S: Source, K: Sink>(
         result ≡ Status.WriteFault → Rose (F.counts files.old).writes (F.counts files.new).writes
         ⊎ (F.told files.new ≡ with_files (writes_of outcome) (F.told files.old))) }
 {
+    has_work();
     run(alloc, words, files, input, out)
 }

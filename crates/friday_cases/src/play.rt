@@ -110,7 +110,9 @@ impl Session {
     fn set(&mut self, name: &str, at: usize, pieces: &str) -> anyhow::Result<String> {
         let mut bytes = self.copy(name)?;
         let others = spelled(self.alloc, pieces, &self.kept)?;
-        let end = at.checked_add(others.len()).context("the file is shorter")?;
+        let Some(end) = at.checked_add(others.len()) else {
+            bail!("the file is shorter");
+        };
         ensure!(end <= bytes.len(), "the file is shorter");
         bytes[at..end].copy_from_slice(&others);
         self.put("set", name, &bytes)

@@ -25,7 +25,7 @@ use Rattle.guest_process.specs.declared.parts.Parts.{Parts}
 use Rattle.guest_process.specs.declared.waiting.Waiting.{Waiting}
 use Rattle.lib_calls.specs.Answer.{Answer, answer_of}
 use Rattle.guest_process.specs.Answers.{effects, exited}
-use Rattle.guest_process.specs.Fits.{Each, StateFits}
+use Rattle.guest_process.specs.Fits.{Each, StateFits, live_has}
 use Rattle.guest_process.specs.GoesOn.{budget, called, counted, entered, goes_on, handler, runs, settled, stands, stopped}
 use Rattle.guest_process.specs.Kinds.{ends_process, value_of}
 use Rattle.guest_process.specs.Legal.{reason, reason_at}
@@ -35,7 +35,6 @@ use Rattle.guest_process.specs.Sound.{IsSound, IsStanding}
 use Rattle.guest_process.specs.State.{State, is_running, thread_at, with_thread}
 use Rattle.guest_process.proofs.KeptFits.{state_kept}
 use Rattle.guest_process.proofs.KeptSound.{next_program, sound_kept}
-use Rattle.guest_process.proofs.OneEvent.{live_has}
 use Rattle.guest_process.proofs.Failing.{unless_none}
 
 pub none_taken : (P : Waiting → Type 0) (slots : List (Slot Waiting)) (t : ℕ) → Each P slots → status_of (slice_get slots t) ≡ Taken → ⊥

@@ -1,6 +1,6 @@
 -- What a legal event keeps of a state.
-use Rattle.std.proofs.Common.{◌≡◌, ℕ, zero, suc, ◌+◌, Bool, true, false, cond, List, [], ◌∷◌, length, Option, Some, None, refl, ap, ◌∙◌, sym, subst}
-use Rattle.std.specs.Prelude.{slice_set}
+use Rattle.std.proofs.Common.{◌≡◌, ◌≢◌, ℕ, zero, suc, ◌+◌, Bool, true, false, cond, List, [], ◌∷◌, length, Option, Some, None, refl, ap, ◌∙◌, sym, subst}
+use Rattle.std.specs.Prelude.{slice_get, slice_set}
 use Rattle.std.proofs.lemmas.List.{length-set}
 use Rattle.coop_threads.specs.declared.slot.Slot.{Slot}
 use Rattle.coop_threads.specs.declared.slot.Slot.TheVariants.{Kept, Over}
@@ -25,29 +25,38 @@ use Rattle.guest_process.specs.GoesOn.{after_burst, all_over, budget, called, co
 use Rattle.guest_process.specs.Kinds.{ends_process, value_of}
 use Rattle.guest_process.specs.State.{State, with_thread}
 
--- what an event changes of a state where P is to hold of each live thread: its program, its number, its
--- group and its handlers stay
-pub record Keeps (P : Waiting → Type 0) (S S' : State) : Type 0 where
+-- what an event of thread t changes of a state where P is to hold of each live thread: its program, its
+-- number, its group and its handlers stay, and so does each other thread
+pub record Keeps (P : Waiting → Type 0) (t : ℕ) (S S' : State) : Type 0 where
   pub who : S'.who ≡ S.who
   pub count : S'.count ≡ S.count
   pub program : S'.store.program ≡ S.store.program
   pub room : length S'.crew.threads ≡ length S.crew.threads
   pub threads : Each P S'.crew.threads
+  pub others : (u : ℕ) → u ≢ t → slice_get S'.crew.threads u ≡ slice_get S.crew.threads u
   pub handlers : S'.handlers ≡ S.handlers
   pub clock : S'.clock ≡ S.clock
   pub events : S'.events ≡ S.events
 
-module _ (P : Waiting → Type 0) where
-  kept_same : (S : State) → Each P S.crew.threads → Keeps P S S
-  kept_same S f = record { who = refl; count = refl; program = refl; room = refl; threads = f; handlers = refl; clock = refl; events = refl }
+set_other : (slots : List (Slot Waiting)) (t u : ℕ) (slot : Slot Waiting) → u ≢ t → slice_get (slice_set slots t slot) u ≡ slice_get slots u
+set_other [] t u slot h = refl
+set_other (first ∷ rest) zero zero slot h = absurd (h refl)
+set_other (first ∷ rest) zero (suc u) slot h = refl
+set_other (first ∷ rest) (suc t) zero slot h = refl
+set_other (first ∷ rest) (suc t) (suc u) slot h = set_other rest t u slot (λ e. h (ap suc e))
 
-  then_kept : (S S' S'' : State) → Keeps P S S' → Keeps P S' S'' → Keeps P S S''
-  then_kept S S' S'' k l = record {
+module _ (P : Waiting → Type 0) where
+  kept_same : (t : ℕ) (S : State) → Each P S.crew.threads → Keeps P t S S
+  kept_same t S f = record { who = refl; count = refl; program = refl; room = refl; threads = f; others = λ u h. refl; handlers = refl; clock = refl; events = refl }
+
+  then_kept : (t : ℕ) (S S' S'' : State) → Keeps P t S S' → Keeps P t S' S'' → Keeps P t S S''
+  then_kept t S S' S'' k l = record {
     who = l.who ∙ k.who;
     count = l.count ∙ k.count;
     program = l.program ∙ k.program;
     room = l.room ∙ k.room;
     threads = l.threads;
+    others = λ u h. l.others u h ∙ k.others u h;
     handlers = l.handlers ∙ k.handlers;
     clock = l.clock ∙ k.clock;
     events = l.events ∙ k.events;
@@ -58,59 +67,60 @@ module _ (P : Waiting → Type 0) where
   set_each (first ∷ rest) zero slot f g = (g, f.1)
   set_each (first ∷ rest) (suc t) slot f g = (f.0, set_each rest t slot f.1 g)
 
-  set_kept : (S : State) (t : ℕ) (slot : Slot Waiting) (end : End) → Each P S.crew.threads → Slotted P slot → Keeps P S (record (with_thread S t slot) { end = end })
+  set_kept : (S : State) (t : ℕ) (slot : Slot Waiting) (end : End) → Each P S.crew.threads → Slotted P slot → Keeps P t S (record (with_thread S t slot) { end = end })
   set_kept S t slot end f g = record {
     who = refl;
     count = refl;
     program = refl;
     room = length-set S.crew.threads t slot;
     threads = set_each S.crew.threads t slot f g;
+    others = λ u h. set_other S.crew.threads t u slot h;
     handlers = refl;
     clock = refl;
     events = refl;
   }
 
-  settled_kept : (S S' : State) (b : Bool) → Keeps P S S' → Keeps P S (cond b (record S' { end = Finished }) S')
-  settled_kept S S' true k = record { who = k.who; count = k.count; program = k.program; room = k.room; threads = k.threads; handlers = k.handlers; clock = k.clock; events = k.events }
-  settled_kept S S' false k = k
+  settled_kept : (t : ℕ) (S S' : State) (b : Bool) → Keeps P t S S' → Keeps P t S (cond b (record S' { end = Finished }) S')
+  settled_kept t S S' true k = record { who = k.who; count = k.count; program = k.program; room = k.room; threads = k.threads; others = k.others; handlers = k.handlers; clock = k.clock; events = k.events }
+  settled_kept t S S' false k = k
 
   -- the thread that stands at a call of the library is such
   abbrev pub Stand : Module → Type 0
   Stand m = (S : State) (thread : Thread) (site : CallSite) (kind : Kind) → S.store.program ≡ m → kind_at m site.func ≡ Some kind → P (stands S thread site kind)
 
-  called_kept : (S : State) (t : ℕ) (thread : Thread) (site : CallSite) → Each P S.crew.threads → Stand S.store.program → (o : Option Kind) → kind_at S.store.program site.func ≡ o → Keeps P S (called S t thread site o)
+  called_kept : (S : State) (t : ℕ) (thread : Thread) (site : CallSite) → Each P S.crew.threads → Stand S.store.program → (o : Option Kind) → kind_at S.store.program site.func ≡ o → Keeps P t S (called S t thread site o)
   called_kept S t thread site f g (Some kind) e = set_kept S t (Kept (stands S thread site kind)) S.end f (g S thread site kind refl e)
   called_kept S t thread site f g None e = set_kept S t Over _ f tt
 
-  stopped_kept : (S : State) (t : ℕ) (stop : Stop) → Each P S.crew.threads → Stand S.store.program → Keeps P S (stopped S t stop)
+  stopped_kept : (S : State) (t : ℕ) (stop : Stop) → Each P S.crew.threads → Stand S.store.program → Keeps P t S (stopped S t stop)
   stopped_kept S t (Calls thread site) f g = called_kept S t thread site f g (kind_at S.store.program site.func) refl
-  stopped_kept S t Ends f g = settled_kept S (with_thread S t Over) (all_over (with_thread S t Over).crew.threads) (set_kept S t Over S.end f tt)
+  stopped_kept S t Ends f g = settled_kept t S (with_thread S t Over) (all_over (with_thread S t Over).crew.threads) (set_kept S t Over S.end f tt)
   stopped_kept S t (Traps trap) f g = set_kept S t Over _ f tt
   stopped_kept S t Sticks f g = set_kept S t Over _ f tt
 
-  burst_kept : (S : State) (t : ℕ) (run : Run) → run.store.program ≡ S.store.program → Each P S.crew.threads → Stand S.store.program → Keeps P S (after_burst S t run)
+  burst_kept : (S : State) (t : ℕ) (run : Run) → run.store.program ≡ S.store.program → Each P S.crew.threads → Stand S.store.program → Keeps P t S (after_burst S t run)
   burst_kept S t run e f g =
-      then_kept S (record S { store = run.store }) (after_burst S t run)
-      (record { who = refl; count = refl; program = e; room = refl; threads = f; handlers = refl; clock = refl; events = refl })
+      then_kept t S (record S { store = run.store }) (after_burst S t run)
+      (record { who = refl; count = refl; program = e; room = refl; threads = f; others = λ u h. refl; handlers = refl; clock = refl; events = refl })
       (stopped_kept (record S { store = run.store }) t run.stop f (subst Stand (sym e) g))
 
-  runs_kept : KeepsProgram → (S : State) (t : ℕ) (o : Option Thread) → Each P S.crew.threads → Stand S.store.program → Keeps P S (runs S t o)
+  runs_kept : KeepsProgram → (S : State) (t : ℕ) (o : Option Thread) → Each P S.crew.threads → Stand S.store.program → Keeps P t S (runs S t o)
   runs_kept keeps S t None f g = set_kept S t Over _ f tt
   runs_kept keeps S t (Some thread) f g = burst_kept S t (burst budget thread S.store) (keeps budget thread S.store) f g
 
-  need_kept : (k : Kind) (S : State) (t : ℕ) (c : Call) (a : Answer) → Each P S.crew.threads → Keeps P S (effects k S t c a)
+  need_kept : (k : Kind) (S : State) (t : ℕ) (c : Call) (a : Answer) → Each P S.crew.threads → Keeps P t S (effects k S t c a)
   need_kept Exit S t c a f = set_kept S t Over _ f tt
-  need_kept _ S t c a f = kept_same S f
+  need_kept _ S t c a f = kept_same t S f
 
-  event_kept : KeepsProgram → (b : Bool) (S : State) (t : ℕ) (o : Option Thread) → Each P S.crew.threads → Stand S.store.program → Keeps P S (cond b S (runs S t o))
-  event_kept keeps true S t o f g = kept_same S f
+  event_kept : KeepsProgram → (b : Bool) (S : State) (t : ℕ) (o : Option Thread) → Each P S.crew.threads → Stand S.store.program → Keeps P t S (cond b S (runs S t o))
+  event_kept keeps true S t o f g = kept_same t S f
   event_kept keeps false S t o f g = runs_kept keeps S t o f g
 
   -- all of an event, from its clock on
-  pub went_on : KeepsProgram → (k : Kind) (S : State) (t : ℕ) (c : Call) (a : Answer) (w : Waiting) (signal clock : ℕ) → Each P S.crew.threads → Stand S.store.program → Keeps P (counted S clock) (goes_on k (effects k S t c a) t w.strand a.reply signal clock)
+  pub went_on : KeepsProgram → (k : Kind) (S : State) (t : ℕ) (c : Call) (a : Answer) (w : Waiting) (signal clock : ℕ) → Each P S.crew.threads → Stand S.store.program → Keeps P t (counted S clock) (goes_on k (effects k S t c a) t w.strand a.reply signal clock)
   went_on keeps k S t c a w signal clock f g =
       let n = need_kept k S t c a f in
       let S' = effects k S t c a in
-      let first : Keeps P (counted S clock) (counted S' clock) = record { who = n.who; count = n.count; program = n.program; room = n.room; threads = n.threads; handlers = n.handlers; clock = refl; events = ap (λ n. n + 1) n.events } in
-      then_kept (counted S clock) (counted S' clock) _ first
+      let first : Keeps P t (counted S clock) (counted S' clock) = record { who = n.who; count = n.count; program = n.program; room = n.room; threads = n.threads; others = n.others; handlers = n.handlers; clock = refl; events = ap (λ n. n + 1) n.events } in
+      then_kept t (counted S clock) (counted S' clock) _ first
       (event_kept keeps (ends_process k) (counted S' clock) t (entered S'.store.program (answered w.strand (value_of k a.reply)) signal (handler S'.handlers signal)) n.threads (subst Stand (sym n.program) g))

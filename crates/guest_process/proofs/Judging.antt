@@ -1,15 +1,14 @@
 -- What the code judges by.
 use Rattle.std.proofs.Common.{◌≡◌, ℕ, Bool, false, ◌&&◌, refl, ap}
-use Rattle.std.specs.Prelude.{◌==◌, Option, Some, None}
+use Rattle.std.specs.Prelude.{◌==◌}
 use Rattle.lib_calls.specs.declared.entry.Call.{Call}
 use Rattle.call_table.specs.declared.kind.Kind.{Kind}
 use Rattle.call_table.specs.declared.kind.Kind.TheVariants.{Exit}
 use Rattle.guest_process.specs.declared.need.Need.TheVariants as plainly
-use Rattle.guest_process.specs.declared.waiting.Waiting.{Waiting}
 use Rattle.lib_calls.specs.Answer.{Answer}
 use Rattle.guest_process.specs.Answers.{Need, Fixed, Blocked, World, effects, is_plain}
 use Rattle.guest_process.specs.Legal.{answers}
-use Rattle.guest_process.specs.Seen.{answered_at, plain}
+use Rattle.guest_process.specs.Seen.{plain}
 use Rattle.guest_process.specs.State.{State}
 
 pub fixed : (n : Need) (a : Answer) (from_world : Bool) (reply : ℕ) → plain n ≡ plainly.Fixed reply → answers n a from_world ≡ ((a.reply == reply) && is_plain a.tag a.incoming)
@@ -34,7 +33,3 @@ world World a w h = refl
 pub same_handlers : (k : Kind) (S : State) (t : ℕ) (c : Call) (a : Answer) → (effects k S t c a).handlers ≡ S.handlers
 same_handlers Exit S t c a = refl
 same_handlers _ S t c a = refl
-
-pub same_handlers_at : (S : State) (t : ℕ) (a : Answer) (o : Option Waiting) → (answered_at S t a o).handlers ≡ S.handlers
-same_handlers_at S t a None = refl
-same_handlers_at S t a (Some w) = same_handlers w.kind S t w.call a

@@ -1,7 +1,7 @@
 -- A legal event keeps the ranges of a state.
-use Rattle.std.proofs.Common.{◌≡◌, ℕ, ◌≤◌, ◌^◌, ◌%◌, Bool, true, false, cond, Option, Some, None, refl, sym, ap, subst, arith}
+use Rattle.std.proofs.Common.{◌≡◌, ℕ, ◌≤◌, ◌^◌, ◌%◌, Bool, true, false, cond, Option, Some, None, refl, sym, ap, subst, arith, ◌≢◌}
 use Rattle.std.specs.Option.{option_map_or}
-use Rattle.std.specs.Prelude.{nat_lt}
+use Rattle.std.specs.Prelude.{nat_lt, slice_get}
 use Rattle.std.proofs.lemmas.Bool.{eqb-true}
 use Rattle.call_table.specs.Numbers.{numbered}
 use Rattle.call_table.specs.Table.{row}
@@ -19,13 +19,13 @@ use Rattle.wasm_step.specs.declared.call.CallSite.{CallSite}
 use Rattle.guest_process.specs.declared.waiting.Waiting.{Waiting}
 use Rattle.guest_process.specs.Answers.{need}
 use Rattle.guest_process.specs.Fits.{StateFits, WaitingFits}
-use Rattle.guest_process.specs.GoesOn.{argument, stands}
+use Rattle.guest_process.specs.GoesOn.{argument, counted as counted_at, stands}
 use Rattle.guest_process.specs.Legal.{checks, reason_at}
 use Rattle.guest_process.specs.Next.{next_at}
-use Rattle.guest_process.specs.OneEvent.{IsKept}
+use Rattle.guest_process.specs.OneEvent.{IsKept, OthersStay, Rises, RisesTo}
 use Rattle.guest_process.specs.State.{State, is_running, thread_at}
 use Rattle.guest_process.proofs.EachKind.{answer_clock}
-use Rattle.guest_process.proofs.Changes.{went_on}
+use Rattle.guest_process.proofs.Changes.{Keeps, went_on}
 use Rattle.guest_process.proofs.Failing.{all_hold, unless_none}
 
 argument_fits : (b : Bool) (bits : ℕ) → IsNumberIf b (cond b (bits % 2 ^ 64) 0)
@@ -51,17 +51,30 @@ stand_fits m S thread site kind e h = record {
     fits n bits =
         subst (λ count. IsNumberIf (nat_lt n count) (argument kind n bits)) (sym (counted kind)) (argument_fits (nat_lt n (row kind).signature.params) bits)
 
+-- what an event of a thread that stands so changes
+event_keeps : KeepsProgram → (S : State) (e : Entry) → StateFits S → (w : Waiting) → Keeps WaitingFits e.thread (counted_at S e.clock) (next_at S e (Some w))
+event_keeps keeps S e s w = went_on WaitingFits keeps w.kind S e.thread w.call (answer_of e) w e.signal e.clock s.threads (stand_fits S.store.program)
+
+-- its clock is the next one, and no tag bears one past 2 ^ 62
+record NextClock (S : State) (e : Entry) : Type 0 where
+  tag : clock_of e.tag ≤ 2 ^ 62
+  clock : e.clock ≡ next_clock_of S.clock e.tag
+
+next_clock : (S : State) (e : Entry) (w : Waiting) → reason_at S e (Some w) ≡ None → NextClock S e
+next_clock S e w h =
+    let holds = all_hold (checks S e w) h in
+    record {
+      tag = answer_clock w.kind S w.call (need w.kind S e.thread w.call) (answer_of e) holds.reply;
+      clock = eqb-true e.clock (next_clock_of S.clock e.tag) holds.clock;
+    }
+
 fits_at : KeepsProgram → (S : State) (e : Entry) → StateFits S → (o : Option Waiting) → reason_at S e o ≡ None → StateFits (next_at S e o)
 fits_at keeps S e s None h = cc
 fits_at keeps S e s (Some w) h =
-    let k = w.kind in
-    let a = answer_of e in
-    let holds = all_hold (checks S e w) h in
-    let tag : clock_of e.tag ≤ 2 ^ 62 = answer_clock k S w.call (need k S e.thread w.call) a holds.reply in
-    let clock : e.clock ≡ next_clock_of S.clock e.tag = eqb-true e.clock (next_clock_of S.clock e.tag) holds.clock in
-    let kept = went_on WaitingFits keeps k S e.thread w.call a w e.signal e.clock s.threads (stand_fits S.store.program) in
+    let told = next_clock S e w h in
+    let kept = event_keeps keeps S e s w in
     record {
-      clock = omega (arith, kept.clock, kept.events, clock, tag, s.clock);
+      clock = omega (arith, kept.clock, kept.events, told.clock, told.tag, s.clock);
       room = omega (arith, kept.room, s.room);
       count = omega (arith, kept.count, s.count);
       who = omega (arith, kept.who, kept.count, s.who);
@@ -70,3 +83,30 @@ fits_at keeps S e s (Some w) h =
 
 pub state_kept : KeepsProgram → IsKept
 state_kept keeps S e s h = fits_at keeps S e s (thread_at S e.thread) (unless_none (is_running S) _ _ h).1
+
+rises_at : KeepsProgram → (S : State) (e : Entry) → StateFits S → (o : Option Waiting) → reason_at S e o ≡ None → RisesTo S e (next_at S e o)
+rises_at keeps S e s None h = cc
+rises_at keeps S e s (Some w) h =
+    let told = next_clock S e w h in
+    let kept = event_keeps keeps S e s w in
+    record {
+      told = kept.clock;
+      last = omega (arith, kept.clock, told.clock);
+      tag = omega (arith, kept.clock, told.clock);
+      events = kept.events;
+      who = kept.who;
+      count = kept.count;
+      program = kept.program;
+    }
+
+-- the clock rises, and the process stays the same
+pub clock_rises : KeepsProgram → Rises
+clock_rises keeps S e s h = rises_at keeps S e s (thread_at S e.thread) (unless_none (is_running S) _ _ h).1
+
+others_at : KeepsProgram → (S : State) (e : Entry) → StateFits S → (o : Option Waiting) → reason_at S e o ≡ None → (t : ℕ) → t ≢ e.thread → slice_get (next_at S e o).crew.threads t ≡ slice_get S.crew.threads t
+others_at keeps S e s None h t other = cc
+others_at keeps S e s (Some w) h t other = (event_keeps keeps S e s w).others t other
+
+-- the other threads stay as they were
+pub others_kept : KeepsProgram → OthersStay
+others_kept keeps S e s h = others_at keeps S e s (thread_at S e.thread) (unless_none (is_running S) _ _ h).1

@@ -1,6 +1,8 @@
 pub mod Failing
 pub mod EachKind
+pub mod Outgoing
 pub mod OneEvent
+pub mod Worlds
 pub mod Over
 pub mod Answering
 pub mod Changes

@@ -3,18 +3,19 @@ use Rattle.std.proofs.Common.{◌≡◌, ℕ, zero, suc, ◌+◌, ◌<◌, ◌�
 use Rattle.std.specs.Prelude.{◌==◌, nat_le, is_some, slice_get, option_and_then}
 use Rattle.std.proofs.lemmas.Bool.{and_parts, and_from, or_right, le-leb as le-leb'}
 use Rattle.std.proofs.lemmas.Option.{same_Some}
+use Rattle.std.proofs.lemmas.Slice.Eq.{bytes_eq-Decides}
 use Rattle.call_table.specs.Numbers.{number_within}
 use Rattle.coop_threads.specs.Crew.{value_of}
 use Rattle.coop_threads.specs.declared.slot.Slot.{Slot}
 use Rattle.coop_threads.specs.declared.slot.Slot.TheVariants.{Kept, Lent, Over}
 use Rattle.lamport_tag.specs.Tag.{clock_of, next_clock_of}
 use Rattle.lib_calls.specs.declared.entry.Call.{Call}
+use Rattle.lib_calls.specs.Effects.{outgoing_of}
 use Rattle.lib_calls.specs.Entry.{IsStringIf, IsTagIf}
-use Rattle.signal_points.specs.Signals.{is_pending}
 use Rattle.call_table.specs.declared.kind.Kind.{Kind}
 use Rattle.guest_process.specs.declared.waiting.Waiting.{Waiting}
 use Rattle.guest_process.specs.Answers.{Need, Fixed, Blocked, World, need, is_possible, written, after_need, effects}
-use Rattle.guest_process.specs.Fits.{Each, EnvFits, StateFits, WaitingFits}
+use Rattle.guest_process.specs.Fits.{EnvFits, StateFits, WaitingFits, live_has}
 use Rattle.guest_process.specs.GoesOn.{goes_on, handler}
 use Rattle.guest_process.specs.Kinds.{ends_process}
 use Rattle.guest_process.specs.Legal.{answers, checks, is_handled}
@@ -22,15 +23,8 @@ use Rattle.guest_process.specs.Live.{Env, Event, Answered, answered, chosen, eve
 use Rattle.guest_process.specs.OneEvent.{Agrees, OneEvent}
 use Rattle.guest_process.specs.State.{State, is_running, thread_at}
 use Rattle.guest_process.proofs.Failing.{same, kept, mapped, none_failing, lowest_holds}
+use Rattle.guest_process.proofs.Outgoing.{outgoing_fits}
 use Rattle.guest_process.proofs.EachKind.{no_bytes, no_tag, ReplyFits, reply_fits, world_matches}
-
--- what holds of each live thread holds of one
-pub live_has : (P : Waiting → Type 0) (slots : List (Slot Waiting)) (t : ℕ) → Each P slots → (w : Waiting) → option_and_then value_of (slice_get slots t) ≡ Some w → P w
-live_has P [] t f w h = cc
-live_has P (Kept v ∷ slots) zero f w h = subst P (same_Some _ _ h) f.0
-live_has P (Lent ∷ slots) zero f w h = cc
-live_has P (Over ∷ slots) zero f w h = cc
-live_has P (slot ∷ slots) (suc t) f w h = live_has P slots t f.1 w h
 
 pub live_low : (slots : List (Slot Waiting)) (t : ℕ) (w : Waiting) → option_and_then value_of (slice_get slots t) ≡ Some w → t < length slots
 live_low [] t w h = cc
@@ -69,9 +63,9 @@ handled_by p q true n is = rw is refl
 handled_by p q false n is =
     rw is (elim (lowest_holds (λ s. q s && p s) 31 1) [ inl h ↦ rw h refl | inr h ↦ handled_at p (q (lowest (λ s. q s && p s) 31 1)) (lowest (λ s. q s && p s) 31 1) h.0 h.1 ])
 
-chosen_handled : (k : Kind) (handlers : List (Option ℕ)) (pending : List Bool) → is_handled k handlers (chosen k handlers pending) ≡ true
+chosen_handled : (k : Kind) (handlers : List (Option ℕ)) (pending : ℕ → Bool) → is_handled k handlers (chosen k handlers pending) ≡ true
 chosen_handled k handlers pending =
-    handled_by (λ s. is_some (handler handlers s)) (is_pending pending) (ends_process k) (chosen k handlers pending) refl
+    handled_by (λ s. is_some (handler handlers s)) pending (ends_process k) (chosen k handlers pending) refl
 
 chosen_low : (p : ℕ → Bool) (b : Bool) → cond b 0 (lowest p 31 1) < 2 ^ 8
 chosen_low p true = omega arith
@@ -91,14 +85,14 @@ event_agrees S t w env s few running stands fits a m =
         signal = chosen_low _ (ends_process k);
         arguments = fits.arguments;
         reply = m.reply;
-        outgoing = no_bytes _;
+        outgoing = outgoing_fits w.call S.store.memory;
         incoming = m.incoming _;
         tag = m.tag _;
       };
       legal = rw (running, stands) (none_failing (checks S now.entry w) (record {
         call = same w.call.kind;
         arguments = and_from _ _ (same w.call.a0) (and_from _ _ (same w.call.a1) (same w.call.a2));
-        bytes = refl;
+        bytes = (bytes_eq-Decides (outgoing_of w.call S.store.memory) (outgoing_of w.call S.store.memory)).1 refl;
         reply = m.possible;
         handler = handled;
         clock = same (next_clock_of S.clock a.answer.tag);

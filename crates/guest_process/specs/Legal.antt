@@ -1,10 +1,11 @@
 -- When an entry can be the next event, and why not.
-use Rattle.std.specs.Prelude.{ℕ, ◌==◌, ◌&&◌, ◌||◌, not, nat_le, is_some, List, [], ◌∷◌, Bool, true, false, Option, Some, None}
+use Rattle.std.specs.Prelude.{ℕ, ◌==◌, ◌&&◌, ◌||◌, not, nat_le, is_some, bytes_eq, List, Bool, true, false, Option, Some, None}
 use Rattle.call_table.specs.declared.kind.Kind.{Kind}
 use Rattle.lamport_tag.specs.Tag.{next_clock_of}
 use Rattle.lib_calls.specs.declared.entry.Call.{Call}
 use Rattle.lib_calls.specs.declared.entry.Entry.{Entry}
 use Rattle.lib_calls.specs.Answer.{Answer, answer_of}
+use Rattle.lib_calls.specs.Effects.{outgoing_of}
 use Rattle.guest_process.specs.declared.divergence.Divergence.{Divergence}
 use Rattle.guest_process.specs.declared.divergence.Divergence.TheVariants.{AfterEnd, NoThread, OtherCall, OtherArguments, OtherBytes, OtherReply, NoHandler, OtherClock}
 use Rattle.guest_process.specs.declared.waiting.Waiting.{Waiting}
@@ -15,11 +16,6 @@ use Rattle.guest_process.specs.State.{State, is_running, thread_at}
 
 abbrev pub has_arguments : Call → Call → Bool
 has_arguments c pending = (c.a0 == pending.a0) && ((c.a1 == pending.a1) && (c.a2 == pending.a2))
-
--- no call of a built kind names bytes that go out
-abbrev pub is_without : List ℕ → Bool
-is_without [] = true
-is_without (_ ∷ _) = false
 
 -- whether some environment gives the answer
 abbrev pub answers : Need → Answer → Bool → Bool
@@ -45,7 +41,7 @@ abbrev pub checks_by : Kind → State → Entry → Call → Answer → Checks
 checks_by kind S e c a = record {
   call = e.call.kind == c.kind;
   arguments = has_arguments e.call c;
-  bytes = is_without e.outgoing;
+  bytes = bytes_eq e.outgoing (outgoing_of c S.store.memory);
   reply = answers (need kind S e.thread c) a (is_possible kind S c a);
   handler = is_handled kind (effects kind S e.thread c a).handlers e.signal;
   clock = e.clock == next_clock_of S.clock e.tag;

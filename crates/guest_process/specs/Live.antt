@@ -1,12 +1,12 @@
 -- The live meaning of one try to run a thread: the event that the world around the process lets it have.
-use Rattle.std.specs.Prelude.{ℕ, zero, suc, ◌+◌, ◌&&◌, not, is_some, List, [], Bool, Option, Some, None, if◌then◌else◌, option_map}
+use Rattle.std.specs.Prelude.{ℕ, zero, suc, ◌+◌, ◌&&◌, not, is_some, List, Bool, Option, Some, None, if◌then◌else◌, option_map}
 use Rattle.call_table.specs.declared.kind.Kind.{Kind}
 use Rattle.call_table.specs.declared.kind.Kind.TheVariants.{Now, SleepUntil}
 use Rattle.lamport_tag.specs.Tag.{next_clock_of}
 use Rattle.lib_calls.specs.declared.entry.Call.{Call}
 use Rattle.lib_calls.specs.declared.entry.Entry.{Entry}
 use Rattle.lib_calls.specs.Answer.{Answer}
-use Rattle.signal_points.specs.Signals.{is_pending}
+use Rattle.lib_calls.specs.Effects.{outgoing_of}
 use Rattle.guest_process.specs.declared.waiting.Waiting.{Waiting}
 use Rattle.guest_process.specs.Answers.{Need, Fixed, Blocked, World, need, replies, is_due}
 use Rattle.guest_process.specs.GoesOn.{goes_on, handler}
@@ -14,13 +14,13 @@ use Rattle.guest_process.specs.Kinds.{ends_process}
 use Rattle.guest_process.specs.State.{State, is_running, thread_at}
 
 -- the world around a process: the datagrams that wait for it and the random bytes that are left, the
--- wall time as the bits of a signed number of 64 bits, the signals that are pending, and whether the
+-- wall time as the bits of a signed number of 64 bits, whether a signal is pending, and whether the
 -- process was killed
 pub record Env : Type 0 where
   pub mailbox : List (List ℕ)
   pub pool : List ℕ
   pub time : ℕ
-  pub pending : List Bool
+  pub pending : ℕ → Bool
   pub killed : Bool
 
 -- an answer, and the state with its effects
@@ -45,9 +45,9 @@ lowest p zero s = 0
 lowest p (suc n) s = if p s then s else lowest p n (s + 1)
 
 -- the lowest signal that is pending and has a handler, or 0; none is delivered where the process ends
-abbrev pub chosen : Kind → List (Option ℕ) → List Bool → ℕ
+abbrev pub chosen : Kind → List (Option ℕ) → (ℕ → Bool) → ℕ
 chosen kind handlers pending =
-    if ends_process kind then 0 else lowest (λ s. is_pending pending s && is_some (handler handlers s)) 31 1
+    if ends_process kind then 0 else lowest (λ s. pending s && is_some (handler handlers s)) 31 1
 
 -- an event: the state after it, and its entry
 pub record Event : Type 0 where
@@ -63,7 +63,7 @@ event_by S t w a signal clock = record {
     signal = signal;
     call = w.call;
     reply = a.answer.reply;
-    outgoing = [];
+    outgoing = outgoing_of w.call S.store.memory;
     incoming = a.answer.incoming;
     tag = a.answer.tag;
   };

@@ -1,5 +1,7 @@
--- The law over one event: an event that the world let a process have is one that its entry alone tells.
-use Rattle.std.specs.Prelude.{◌≡◌, ℕ, ◌^◌, ◌<◌, ◌≤◌, Some, None}
+-- The laws over one event: those that the world can let a process have are those that are legal, and what
+-- each of them keeps.
+use Rattle.std.specs.Prelude.{◌≡◌, ◌≢◌, ℕ, ◌+◌, ◌^◌, ◌<◌, ◌≤◌, Some, None, slice_get}
+use Rattle.lamport_tag.specs.Tag.{clock_of}
 use Rattle.lib_calls.specs.Entry.{IsShaped}
 use Rattle.lib_calls.specs.declared.entry.Entry.{Entry}
 use Rattle.wasm_types.specs.Modules.{Module}
@@ -20,6 +22,30 @@ pub record Agrees (S : State) (e : Event) : Type 0 where
 
 abbrev pub OneEvent : Type 0
 OneEvent = (S : State) (t : ℕ) (env : Env) → StateFits S → S.events < 2 ^ 61 → EnvFits env → (e : Event) → live S t env ≡ Some e → Agrees S e
+
+-- a legal entry with the shape of its kind is the event of a try of its thread in some world
+abbrev pub Possible : Type 0
+Possible = (S : State) (e : Entry) → StateFits S → IsShaped e → reason S e ≡ None
+    → (env : Env) × EnvFits env × (live S e.thread env ≡ Some (record { state = next S e; entry = e }))
+
+-- the clock rises to the entry's, also above that of the datagram that was taken; the event is counted;
+-- and the process keeps its number, its group and its program
+pub record RisesTo (S : State) (e : Entry) (S' : State) : Type 0 where
+  pub told : S'.clock ≡ e.clock
+  pub last : S.clock < S'.clock
+  pub tag : clock_of e.tag < S'.clock
+  pub events : S'.events ≡ S.events + 1
+  pub who : S'.who ≡ S.who
+  pub count : S'.count ≡ S.count
+  pub program : S'.store.program ≡ S.store.program
+
+abbrev pub Rises : Type 0
+Rises = (S : State) (e : Entry) → StateFits S → reason S e ≡ None → RisesTo S e (next S e)
+
+-- an event of one thread leaves each other one where it stands or ended, and makes none
+abbrev pub OthersStay : Type 0
+OthersStay = (S : State) (e : Entry) → StateFits S → reason S e ≡ None
+    → (t : ℕ) → t ≢ e.thread → slice_get (next S e).crew.threads t ≡ slice_get S.crew.threads t
 
 -- how a process of a valid program begins has what holds of each state
 abbrev pub IsStarted : Type 0

@@ -1,6 +1,6 @@
 // What is judged of an entry.
-ghost use Rattle.std.specs.Prelude.{◌≡◌};
-ghost use Rattle.lib_calls.specs.Answer.{answer_of};
+ghost use Rattle.std.specs.Prelude.{◌≡◌, ℕ};
+ghost use Rattle.lib_calls.specs.Answer.{Answer, answer_of};
 ghost use Rattle.lib_calls.specs.Entry.{entry_of};
 ghost use Rattle.guest_process.specs.Answers.{effects, is_plain, is_possible, need};
 ghost use Rattle.guest_process.specs.Kinds.{ends_process};
@@ -13,7 +13,7 @@ use crate::need::Need;
 use crate::parts::Parts;
 use crate::waiting::Waiting;
 use lamport_tag::is_next_clock;
-use lib_calls::{Call, EntryView, Kind};
+use lib_calls::{Call, EntryView, Kind, is_outgoing};
 use signal_points::Handlers;
 
 impl<'m> Parts<'m> {
@@ -44,7 +44,7 @@ impl<'m> Parts<'m> {
         if !has_arguments(&entry.call, &waiting.call) {
             return Err(Divergence::OtherArguments);
         }
-        if !entry.outgoing.is_empty() {
+        if !is_outgoing(entry.outgoing, &waiting.call, self.store.memory()) {
             return Err(Divergence::OtherBytes);
         }
         if !self.is_answer(entry, waiting) {
@@ -82,12 +82,20 @@ impl<'m> Parts<'m> {
         }
     }
 
-    // Whether the signal can be delivered after the answer.
+    /// The handlers once a pending call was answered, however it is.
     #[tactic(auto, using(crate::proofs::Judging::same_handlers))]
+    pub(crate) fn handlers_after(&self, waiting: &Waiting<'m>) -> Handlers
+        ensures { (t : ℕ) (a : Answer) → result ≡ (effects waiting.now.kind (state_of self.now) t waiting.now.call a).handlers }
+    {
+        let _ = waiting;
+        self.handlers
+    }
+
+    // Whether the signal can be delivered after the answer.
     fn is_handled(&self, entry: &EntryView<'_>, waiting: &Waiting<'m>) -> bool
         ensures { result ≡ is_handled waiting.now.kind (effects waiting.now.kind (state_of self.now) entry.now.thread waiting.now.call (answer_of (entry_of entry.now))).handlers entry.now.signal }
     {
-        is_handled(waiting.kind, &self.handlers, entry.signal)
+        is_handled(waiting.kind, &self.handlers_after(waiting), entry.signal)
     }
 }
 

@@ -1,5 +1,5 @@
 // The laws over one event, as calls that do nothing.
-ghost use Rattle.guest_process.specs.OneEvent.{IsKept, IsKeptSound, IsStarted, OneEvent};
+ghost use Rattle.guest_process.specs.OneEvent.{IsKept, IsKeptSound, IsStarted, OneEvent, OthersStay, Possible, Rises};
 
 use wasm_step::never_stuck;
 
@@ -8,6 +8,27 @@ use wasm_step::never_stuck;
 pub fn one_event()
     ensures { OneEvent }
 {}
+
+/// A legal entry with the shape of its kind is the event of a try of its thread in some world, so that
+/// no answer is legal that no world gives.
+pub fn possible()
+    ensures { Possible }
+{}
+
+/// With a legal event the clock of a process rises, also above that of the datagram that the event took,
+/// and the event is counted. The process keeps its number, its group and its program.
+pub fn rises()
+    ensures { Rises }
+{
+    never_stuck();
+}
+
+/// A legal event of one thread leaves each other thread as it was, and makes none.
+pub fn others_stay()
+    ensures { OthersStay }
+{
+    never_stuck();
+}
 
 /// How a process of a valid program begins is in the ranges on which the law over one event rests, and
 /// its threads and handlers are the program's. A legal event keeps both.

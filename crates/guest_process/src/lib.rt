@@ -19,6 +19,6 @@ pub use answer::is_due;
 pub use count::counting;
 pub use divergence::Divergence;
 pub use end::End;
-pub use laws::{kept, one_event};
+pub use laws::{kept, one_event, others_stay, possible, rises};
 pub use need::Need;
 pub use process::Process;

@@ -116,12 +116,13 @@ impl<'m> Process<'m> {
     }
 
     /// Whether a signal has a handler once the pending call of thread t is answered, however it is.
-    #[tactic(auto, using(crate::proofs::Judging::same_handlers_at))]
     pub fn handles_after(&self, t: u16, s: u8) -> bool
         ensures { (a : Answer) → result ≡ is_some (handler_of (answered_at self.now t a (thread_at self.now t)).handlers s) }
     {
-        let _ = t;
-        handler(&self.parts.handlers, s).is_some()
+        match self.parts.crew.get(t) {
+            Some(waiting) => handler(&self.parts.handlers_after(waiting), s).is_some(),
+            None => handler(&self.parts.handlers, s).is_some(),
+        }
     }
 
     /// Whether the entry can be the process's next event, and else the first condition that fails, in

@@ -1,2 +1,3 @@
 pub mod Ranges
 pub mod Writes
+pub mod Sames

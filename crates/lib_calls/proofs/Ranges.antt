@@ -19,14 +19,14 @@ range_inside memory addr len named = leb-true (addr + len) (length memory.bytes)
 
 -- ---- reading
 
-take-add : (n m : ℕ) (xs : List ℕ) → take (n + m) xs ≡ take n xs ++ take m (drop n xs)
+pub take-add : (n m : ℕ) (xs : List ℕ) → take (n + m) xs ≡ take n xs ++ take m (drop n xs)
 take-add n m xs =
     sym (take-append-drop n (take (n + m) xs))
     ∙ ap (λ (t : List ℕ). t ++ drop n (take (n + m) xs)) (take-take n (n + m) xs (omega arith))
     ∙ ap (λ (t : List ℕ). take n xs ++ t) (drop-take n m xs)
 
 -- a part behind those that were read
-part_more : (bytes : List ℕ) (addr n m : ℕ) → take (n + m) (drop addr bytes) ≡ take n (drop addr bytes) ++ take m (drop (addr + n) bytes)
+pub part_more : (bytes : List ℕ) (addr n m : ℕ) → take (n + m) (drop addr bytes) ≡ take n (drop addr bytes) ++ take m (drop (addr + n) bytes)
 part_more bytes addr n m =
     take-add n m (drop addr bytes)
     ∙ ap (λ (t : List ℕ). take n (drop addr bytes) ++ take m t) (drop-drop n addr bytes)

@@ -1,5 +1,5 @@
 // The bytes of the guest's memory that a call names.
-ghost use Rattle.std.specs.Prelude.{◌≡◌, ◌+◌, ◌^◌, ◌≤◌, length, IfOk, IsTrue};
+ghost use Rattle.std.specs.Prelude.{◌≡◌, ◌+◌, ◌^◌, ◌≤◌, bytes_eq, length, IfOk, IsTrue, []};
 ghost use Rattle.guest_memory.specs.Memory.{bytes_at, is_inside as is_inside_of};
 ghost use Rattle.lib_calls.specs.Effects.{has_good, is_good, is_range as is_range_of, named, outgoing_of, sent_out};
 
@@ -109,4 +109,66 @@ fn read(alloc: Global, memory: &Memory, addr: u64, len: u64) -> Result<Bytes, Al
         count += part.len() as u64;
     }
     Ok(bytes)
+}
+
+/// Whether these are the bytes that the call sends out of the memory as it is now. It takes no memory.
+#[tactic(auto, unfolding(crate::specs::Effects::outgoing_of))]
+pub fn is_outgoing(bytes: &[u8], call: &Call, memory: &Memory) -> bool
+    ensures { result ≡ bytes_eq bytes.now (outgoing_of call.now memory.now) }
+{
+    match Kind::from_number(call.kind) {
+        Some(kind) => is_sent_out(bytes, kind, call, memory),
+        None => is_nothing(bytes),
+    }
+}
+
+// The same for a call of this kind.
+fn is_sent_out(bytes: &[u8], kind: Kind, call: &Call, memory: &Memory) -> bool
+    ensures { result ≡ bytes_eq bytes.now (sent_out kind call.now memory.now) }
+{
+    match kind {
+        Kind::Print => is_named(bytes, memory, call.a0, call.a1),
+        Kind::Send => is_named(bytes, memory, call.a1, call.a2),
+        _ => is_nothing(bytes),
+    }
+}
+
+// Whether there are no bytes.
+fn is_nothing(bytes: &[u8]) -> bool
+    ensures { result ≡ bytes_eq bytes.now [] }
+{
+    bytes.is_empty()
+}
+
+// Whether these are the bytes of a range that a call may name, and none where it may not.
+#[tactic(auto, using(crate::proofs::Ranges::range_inside, crate::proofs::Sames::not_as_long))]
+fn is_named(bytes: &[u8], memory: &Memory, addr: u64, len: u64) -> bool
+    ensures { result ≡ bytes_eq bytes.now (named memory.now addr len) }
+{
+    if !is_range(memory, addr, len) {
+        return is_nothing(bytes);
+    }
+    if bytes.len() as u64 != len {
+        return false;
+    }
+    stands_at(bytes, memory, addr)
+}
+
+// Whether the bytes stand there in the memory, which lends its own in parts.
+fn stands_at(bytes: &[u8], memory: &Memory, addr: u64) -> bool
+    requires inside { addr + length bytes.now ≤ length memory.now.bytes }
+    requires small { addr + length bytes.now ≤ 2 ^ 24 }
+    ensures { result ≡ bytes_eq bytes.now (bytes_at memory.now addr (length bytes.now)) }
+{
+    let mut count = 0;
+    while count < bytes.len() {
+        let Some(part) = memory.part(addr + count as u64, (bytes.len() - count) as u64) else {
+            unreachable!();
+        };
+        if &bytes[count..count + part.len()] != part {
+            return false;
+        }
+        count += part.len();
+    }
+    true
 }

@@ -9,7 +9,7 @@ mod entry;
 mod table;
 
 pub use answer::write_back;
-pub use arguments::{good_arguments, outgoing};
+pub use arguments::{good_arguments, is_outgoing, outgoing};
 pub use built::is_built;
 pub use call_table::{Kind, Signature};
 pub use entry::{Call, Entry, EntryView};

@@ -102,6 +102,9 @@ const SPELLINGS: &[(&[u8], Option<u32>, Option<i32>, Option<i64>)] = &[
     (b"\x80\x80\x80\x80\x80\x80\x80\x80\x80", None, None, None),
 ];
 
+// A number of 2 bytes, of 4, of 8 and of 1, and three bytes.
+const NUMBERS: &[u8] = b"\x0b\x0a\x14\0\0\0\x08\x07\x06\x05\x04\x03\x02\x01\x05end";
+
 #[test]
 fn numbers_are_read_in_leb128(rt: HostRuntime) {
     for &(bytes, unsigned, signed, wide) in SPELLINGS {
@@ -112,23 +115,31 @@ fn numbers_are_read_in_leb128(rt: HostRuntime) {
 }
 
 #[test]
-fn numbers_are_put_and_read(rt: HostRuntime) -> Result<(), Fail> {
+fn numbers_are_put(rt: HostRuntime) -> Result<(), Fail> {
     let mut out = Vec::new(rt.alloc());
+    put_u16(&mut out, 0x0a0b)?;
     put_u32(&mut out, 20)?;
     put_u64(&mut out, 0x0102_0304_0506_0708)?;
-    put_u16(&mut out, 0x0a0b)?;
     put_byte(&mut out, 5)?;
     put_bytes(&mut out, b"end")?;
-    let mut wanted = Bytes::from_slice(rt.alloc(), b"\x14\0\0\0\x08\x07\x06\x05\x04\x03\x02\x01")?;
-    wanted.push_all(b"\x0b\x0a\x05end")?;
-    assert_eq!(rt; Bytes::from_vec(out), wanted);
+    assert_eq!(rt; out.as_slice(), NUMBERS);
+    Ok(())
+}
 
-    let mut cursor = Cursor::new(wanted.as_slice());
+#[test]
+fn numbers_are_read(rt: HostRuntime) {
+    let mut cursor = Cursor::new(NUMBERS);
+    assert_eq!(rt; cursor.u16_le(), Some(0x0a0b));
     assert_eq!(rt; cursor.u32_le(), Some(20));
     assert_eq!(rt; cursor.u64_le(), Some(0x0102_0304_0506_0708));
-    assert_eq!(rt; cursor.u16_le(), Some(0x0a0b));
     assert_eq!(rt; cursor.byte(), Some(5));
-    assert_eq!(rt; cursor.take(2).ok_or("three are left")?, b"en".as_slice());
-    assert_eq!(rt; cursor.rest(), b"d".as_slice());
+    assert_eq!(rt; cursor.rest(), b"end".as_slice());
+}
+
+#[test]
+fn lists_of_bytes_grow(rt: HostRuntime) -> Result<(), Fail> {
+    let mut bytes = Bytes::new(rt.alloc());
+    bytes.push_all(b"log")?;
+    assert_eq!(rt; bytes, Bytes::from_slice(rt.alloc(), b"log")?);
     Ok(())
 }

@@ -16,24 +16,35 @@ impl CopyOut for Script {
 }
 
 #[test]
-fn threads_hold_locks_and_are_copied(rt: HostRuntime) -> Result<(), Fail> {
+fn threads_are_taken_and_put(rt: HostRuntime) {
     let mut crew = Crew::new(rt.alloc());
     assert!(rt; matches!(crew.spawn(Script(5)), Ok(0)));
-    assert!(rt; matches!(crew.spawn(Script(6)), Ok(1)));
+    assert!(rt; matches!(crew.take(0), Some(Script(5))));
+    crew.put(0, Script(8));
+    assert!(rt; matches!(crew.get(0), Some(Script(8))));
+}
+
+#[test]
+fn a_thread_keeps_its_lock_after_its_end(rt: HostRuntime) -> Result<(), Fail> {
+    let mut crew = Crew::new(rt.alloc());
+    assert!(rt; matches!(crew.spawn(Script(5)), Ok(0)));
+    assert_eq!(rt; crew.lock(7, 0)?, Grip::Got);
+    assert!(rt; crew.take(0).is_some());
+    crew.end(0);
+    let copy = crew.copy(rt.alloc())?;
+    assert_eq!(rt; copy.status(0), Status::Ended);
+    assert_eq!(rt; copy.holder(7), Some(0));
+    Ok(())
+}
+
+#[test]
+fn locks_are_given_back(rt: HostRuntime) -> Result<(), Fail> {
+    let mut crew: Crew<u8> = Crew::new(rt.alloc());
     assert_eq!(rt; crew.lock(7, 1)?, Grip::Got);
-    assert!(rt; matches!(crew.take(1), Some(Script(6))));
-    crew.end(1);
-    // A lock stays held by a thread that has ended.
-    let mut copy = crew.copy(rt.alloc())?;
-    assert_eq!(rt; copy.lock(7, 0)?, Grip::Held(1));
-    assert_eq!(rt; copy.status(1), Status::Ended);
-    assert!(rt; matches!(copy.take(0), Some(Script(5))));
-    copy.put(0, Script(8));
-    assert!(rt; matches!(copy.get(0), Some(Script(8))));
-    assert!(rt; matches!(crew.get(0), Some(Script(5))));
+    assert_eq!(rt; crew.lock(7, 2)?, Grip::Held(1));
+    assert!(rt; !crew.unlock(7, 2));
     assert!(rt; crew.unlock(7, 1));
     assert_eq!(rt; crew.holder(7), None);
-    assert_eq!(rt; copy.holder(7), Some(1));
     Ok(())
 }
 
@@ -48,14 +59,17 @@ fn sixty_four_threads_are_made(rt: HostRuntime) {
 }
 
 #[test]
-fn signals_are_kept(rt: HostRuntime) {
+fn handlers_are_kept(rt: HostRuntime) {
     let mut handlers = Handlers::new();
     handlers.set(31, Some(7));
-    handlers.set(1, Some(u32::MAX));
     handlers.set(1, None);
     assert_eq!(rt; handlers.get(31), Some(7));
     assert_eq!(rt; handlers.get(1), None);
     assert_eq!(rt; handlers.get(255), None);
+}
+
+#[test]
+fn pending_signals_are_kept(rt: HostRuntime) {
     let mut pending = Pending::new();
     pending.raise(3);
     pending.raise(31);
@@ -65,20 +79,32 @@ fn signals_are_kept(rt: HostRuntime) {
 }
 
 #[test]
-fn memories_grow_and_are_copied(rt: HostRuntime) -> Result<(), Fail> {
-    let mut memory = Memory::new(rt.alloc(), 1, 2)?;
+fn memories_end_with_their_last_byte(rt: HostRuntime) -> Result<(), Fail> {
+    let mut memory = Memory::new(rt.alloc(), 1, 1)?;
     assert!(rt; memory.store(65_534, 2, 0x0102)?);
     assert!(rt; !memory.store(65_535, 2, 0x0304)?);
+    assert_eq!(rt; memory.load(65_534, 2), Some(0x0102));
+    assert_eq!(rt; memory.load(65_535, 2), None);
+    Ok(())
+}
+
+#[test]
+fn a_memory_is_lent_in_parts(rt: HostRuntime) -> Result<(), Fail> {
+    let mut memory = Memory::new(rt.alloc(), 1, 1)?;
     assert!(rt; memory.write(4094, b"debug")?);
+    // A part ends with its page of 4,096 bytes.
+    assert_eq!(rt; memory.part(4094, 5), Some(b"de".as_slice()));
+    assert_eq!(rt; memory.part(4096, 3), Some(b"bug".as_slice()));
+    Ok(())
+}
+
+#[test]
+fn a_copy_of_a_memory_grows_by_itself(rt: HostRuntime) -> Result<(), Fail> {
+    let memory = Memory::new(rt.alloc(), 1, 2)?;
     let mut copy = memory.copy()?;
     assert_eq!(rt; copy.grow(2)?, None);
     assert_eq!(rt; copy.grow(1)?, Some(1));
     assert_eq!(rt; copy.size(), 2);
     assert_eq!(rt; memory.size(), 1);
-    assert_eq!(rt; copy.load(65_534, 4), Some(0x0102));
-    assert_eq!(rt; memory.load(65_534, 4), None);
-    // A part ends with its page of 4,096 bytes.
-    assert_eq!(rt; copy.part(4094, 5), Some(b"de".as_slice()));
-    assert_eq!(rt; copy.part(4096, 3), Some(b"bug".as_slice()));
     Ok(())
 }

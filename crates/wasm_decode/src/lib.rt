@@ -99,3 +99,6 @@ pub fn module_is_spelled()
 {
     exact_readers();
 }
+
+#[cfg(test)]
+mod tests;

@@ -1,5 +1,5 @@
 -- Threads and stores that fit a program: what is typed is left to do, from operands of its types.
-use Rattle.std.specs.Prelude.{◌≡◌, ℕ, Bool, true, false, List, [], ◌∷◌, ◌++◌, Option, Some, None, map, is_some, length, slice_get, IsSome}
+use Rattle.std.specs.Prelude.{◌≡◌, ℕ, Bool, true, false, List, [], ◌∷◌, ◌++◌, Option, Some, None, map, is_some, slice_get, IsSome}
 use Rattle.wasm_types.specs.declared.code.Value.{Value}
 use Rattle.wasm_types.specs.declared.code.ValType.{ValType}
 use Rattle.wasm_types.specs.Calls.{result_of}

@@ -1,6 +1,6 @@
 -- What one instruction does to a thread and to the store, and what the end of a level or of a frame does
 -- to a thread (WebAssembly 1.0, section 4.4).
-use Rattle.std.specs.Prelude.{ℕ, zero, suc, ◌+◌, ◌-◌, ◌^◌, Bool, true, false, ◌&&◌, List, [], ◌∷◌, Option, Some, None, is_some, slice_get, slice_set, length, nat_lt, if◌then◌else◌}
+use Rattle.std.specs.Prelude.{ℕ, zero, suc, ◌+◌, ◌-◌, ◌^◌, Bool, true, false, List, [], ◌∷◌, Option, Some, None, is_some, slice_get, slice_set, length, nat_lt, if◌then◌else◌}
 use Rattle.guest_memory.specs.Memory.{Memory, size_of, loaded, is_inside, after_store, growth, grown}
 use Rattle.wasm_types.specs.declared.code.Value.{Value}
 use Rattle.wasm_types.specs.declared.code.Value.TheVariants.{I32, I64}

@@ -42,4 +42,4 @@ returns-clause-others g c =
 
 pub returns-clause-recorded : goal.returns-clause-recorded
 returns-clause-recorded g c =
-    leaves_recording (g.F.Files.told c.args.files.now) (g.F.Files.told c.gather.new.files) (g.F.Files.told c.write_file.new.files) c.args.schedule_file.now c.in_ok-recorded.recorded c.deref.result.now c.deref-2.result.now (record { named = c.deref.ensures; logged = c.deref-2.ensures.value }) c.in_ok-recorded.ensures.recorded c.gather.ensures.same c.in_ok-write_file.ensures.ok
+    leaves_recording c.keeps_files.ensures (g.F.Files.told c.args.files.now) (g.F.Files.told c.gather.new.files) (g.F.Files.told c.write_file.new.files) c.args.schedule_file.now c.in_ok-recorded.recorded c.deref.result.now c.deref-2.result.now (record { named = c.deref.ensures; logged = c.deref-2.ensures.value }) c.in_ok-recorded.ensures.recorded c.gather.ensures.same c.in_ok-write_file.ensures.ok

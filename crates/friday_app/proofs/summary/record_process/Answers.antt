@@ -17,4 +17,4 @@ returns-clause-work c =
 pub returns-clause-recorded : goal.returns-clause-recorded
 returns-clause-recorded c =
     let keeps = c.in_ok-recorder.ensures c.args.name.now (first_of c.args.begun) nothing_yet c.in_ok-new.ensures in
-    log_agrees c.args.name.now c.args.begun c.args.items.now c.in_ok-recorder.recorder.log.items c.requires.named keeps.agrees keeps.shaped keeps.log
+    log_agrees c.exact_logs.ensures c.args.name.now c.args.begun c.args.items.now c.in_ok-recorder.recorder.log.items c.requires.named keeps.agrees keeps.shaped keeps.log

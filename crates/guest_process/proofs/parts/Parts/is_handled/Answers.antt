@@ -1,0 +1,10 @@
+use Rattle.std.proofs.Common.{ap, ◌∙◌}
+use Rattle.lib_calls.specs.Answer.{answer_of}
+use Rattle.lib_calls.specs.Entry.{entry_of}
+use Rattle.guest_process.specs.Legal.{is_handled}
+use Rattle.guest_process.proofs.parts.Parts.is_handled.Goals as goal
+
+pub returns : goal.returns
+returns c =
+    let e = entry_of c.args.entry.now in
+    c.is_handled.ensures ∙ ap (λ handlers. is_handled c.args.waiting.now.kind handlers e.signal) (c.handlers_after.ensures e.thread (answer_of e))

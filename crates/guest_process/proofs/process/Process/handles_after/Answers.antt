@@ -1,0 +1,14 @@
+use Rattle.std.proofs.Common.{◌≡◌, ap, sym, subst, ◌∙◌}
+use Rattle.std.specs.Prelude.{is_some, option_copied}
+use Rattle.guest_process.specs.GoesOn.{handler}
+use Rattle.guest_process.specs.Seen.{answered_at, state_of}
+use Rattle.guest_process.specs.State.{thread_at}
+use Rattle.guest_process.proofs.process.Process.handles_after.Goals as goal
+
+pub returns-in-Some : goal.returns-in-Some
+returns-in-Some c a =
+    let S = state_of c.self.inside.parts in
+    let at = sym c.get.ensures ∙ ap option_copied c.in-Some.is in
+    let after = c.handlers_after.ensures c.args.t a ∙ ap (λ o. (answered_at S c.args.t a o).handlers) (sym at) in
+    subst (λ S. c.is_some.result ≡ is_some (handler (answered_at S c.args.t a (thread_at S c.args.t)).handlers c.args.s)) c.self.view_is
+    (c.is_some.ensures ∙ ap is_some (c.handler.ensures ∙ ap (λ handlers. handler handlers c.args.s) after))
