@@ -68,13 +68,19 @@ const INSTRUCTIONS: &[(&[u8], &str)] = &[
     (b"\x0e\xff\xff\xff\xff\x0f", "Malformed"),
 ];
 
+// A number below 16,384 in two bytes of LEB128.
+fn in_two_bytes(n: usize) -> [u8; 2] {
+    [(n % 128) as u8 | 128, (n / 128 % 128) as u8]
+}
+
 // A module with one function, which has these instructions, of less than 16,000 bytes.
 fn with_body(alloc: Global, instrs: &[u8]) -> Result<Vec<u8>, AllocError> {
     let mut bytes = FRONT.to_vec(alloc)?;
-    let high = (instrs.len() / 128 % 128) as u8;
-    let low = (instrs.len() % 128) as u8 | 128;
-    // The sizes of the section and of the function, which count 5 and 2 bytes more, and one function.
-    bytes.extend_from_slice(&[low, high, 5, 1, low, high, 2, 0])?;
+    // The section counts the function, its size, its locals and its end beside the instructions.
+    bytes.extend_from_slice(&in_two_bytes(instrs.len() + 5))?;
+    bytes.push(1)?;
+    bytes.extend_from_slice(&in_two_bytes(instrs.len() + 2))?;
+    bytes.push(0)?;
     bytes.extend_from_slice(instrs)?;
     bytes.push(0x0b)?;
     Ok(bytes)
