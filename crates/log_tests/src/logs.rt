@@ -38,6 +38,7 @@ const SENT: &[u8] = b"\x34\0\0\0\x07\0\0\0\0\0\0\0\x02\0\x08\x05\
     \x04\0\0\0ping";
 
 // The entry of a recv that took these bytes.
+#[tactic(auto, unfolding(lib_calls::specs::Kinds::argument_count, lib_calls::specs::Kinds::has_incoming, lib_calls::specs::Kinds::has_outgoing, lib_calls::specs::Kinds::has_tag, call_table::specs::Table::kind_numbered))]
 fn received(incoming: &[u8], tag: Option<Tag>) -> EntryView<'_>
     requires { length incoming.now < 2 ^ 31 }
     ensures { IsShaped (entry_of result) }
@@ -60,6 +61,7 @@ fn received(incoming: &[u8], tag: Option<Tag>) -> EntryView<'_>
 }
 
 // The entry of a send of these bytes.
+#[tactic(auto, unfolding(lib_calls::specs::Kinds::argument_count, lib_calls::specs::Kinds::has_incoming, lib_calls::specs::Kinds::has_outgoing, lib_calls::specs::Kinds::has_tag, call_table::specs::Table::kind_numbered))]
 fn sent(outgoing: &[u8]) -> EntryView<'_>
     requires { length outgoing.now < 2 ^ 31 }
     ensures { IsShaped (entry_of result) }

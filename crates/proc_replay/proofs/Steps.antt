@@ -1,5 +1,5 @@
 -- One turn of a replay: it makes the event of the next entry, or it stands.
-use Rattle.std.proofs.Common.{◌≡◌, ◌⊎◌, inl, inr, ℕ, suc, ◌+◌, ◌≤◌, List, [], ◌∷◌, length, Option, Some, None, refl, sym, ap, ◌∙◌, add-one, arith}
+use Rattle.std.proofs.Common.{◌≡◌, ◌⊎◌, inl, inr, ℕ, suc, ◌+◌, ◌≤◌, List, ◌∷◌, length, Option, Some, None, refl, sym, ap, ◌∙◌, add-one, arith}
 use Rattle.lib_calls.specs.declared.entry.Entry.{Entry}
 use Rattle.call_log.specs.Log.{entry_at, entries_of, rest_of}
 use Rattle.call_log.specs.Walk.{IsEnd, IsStep}
@@ -7,9 +7,9 @@ use Rattle.guest_process.specs.declared.divergence.Divergence.{Divergence}
 use Rattle.guest_process.specs.EventCount.{IsCounted}
 use Rattle.guest_process.specs.Legal.{reason}
 use Rattle.guest_process.specs.Next.{next}
-use Rattle.guest_process.specs.Replay.{Verdict, Diverged, accepted, divergence, first_of, left_over, one_more_where, state_after, verdict_by}
+use Rattle.guest_process.specs.Replay.{Diverged, accepted, divergence, first_of, left_over, one_more_where, state_after, verdict_by}
 use Rattle.guest_process.specs.State.{State}
-use Rattle.proc_replay.specs.Replaying.{Replaying, Move, Makes, Ends, Diverges, after, after_at, judged, moved, turn, turn_at}
+use Rattle.proc_replay.specs.Replaying.{Replaying, Makes, Ends, Diverges, after, after_at, judged, moved, turn, turn_at}
 use Rattle.proc_replay.specs.Course.{Tells, outcome, outcome_by}
 
 -- the turn makes the event of this entry

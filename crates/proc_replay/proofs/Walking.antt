@@ -1,14 +1,12 @@
 -- Turn after turn: the states, the events, and where no further event comes.
-use Rattle.std.proofs.Common.{◌≡◌, inl, inr, ℕ, zero, suc, ◌<◌, ◌≤◌, ◌+◌, List, [], ◌∷◌, length, Some, refl, sym, ap, ◌∙◌, subst, arith}
+use Rattle.std.proofs.Common.{◌≡◌, inl, inr, ℕ, zero, suc, ◌<◌, ◌≤◌, ◌+◌, List, length, Some, refl, sym, ap, ◌∙◌, subst, arith}
 use Rattle.std.specs.Prelude.{slice_get}
 use Rattle.std.proofs.lemmas.Option.{same_Some}
 use Rattle.lib_calls.specs.declared.entry.Entry.{Entry}
 use Rattle.call_log.specs.Log.{entries_of, rest_of}
 use Rattle.call_log.specs.Walk.{IsEnd, IsStep}
 use Rattle.guest_process.specs.EventCount.{IsCounted}
-use Rattle.guest_process.specs.Next.{next}
 use Rattle.guest_process.specs.Replay.{Verdict, accepted, divergence, state_after, verdict_by}
-use Rattle.guest_process.specs.State.{State}
 use Rattle.proc_replay.specs.Replaying.{Replaying, Move, Makes, Ends, Diverges, after, turn}
 use Rattle.proc_replay.specs.Course.{AreReplays, AreTurns, Outcome, Tells, outcome, turns}
 use Rattle.proc_replay.proofs.Steps.{Goes, Stands, cases, goes_same, one_accepted, stands_at}
