@@ -15,7 +15,7 @@ pub struct Access {
 }
 
 /// The load with this opcode.
-#[inline]
+#[inline(always)]
 pub fn load_of(opcode: u8) -> Option<Access>
     ensures access { option_map access_of result ≡ load_of opcode }
     ensures within { IfSome result (λ a. a.exponent ≤ 3) }
@@ -35,7 +35,7 @@ pub fn load_of(opcode: u8) -> Option<Access>
 }
 
 /// The store with this opcode.
-#[inline]
+#[inline(always)]
 pub fn store_of(opcode: u8) -> Option<Access>
     ensures access { option_map access_of result ≡ store_of opcode }
     ensures within { IfSome result (λ a. a.exponent ≤ 3) }
@@ -54,6 +54,7 @@ pub fn store_of(opcode: u8) -> Option<Access>
     }
 }
 
+#[inline(always)]
 fn moves(moved: ValType, exponent: u32) -> Option<Access>
     ensures access { option_map access_of result ≡ access moved exponent }
     ensures exponent { IfSome result (λ a. a.exponent ≡ exponent) }

@@ -13,7 +13,7 @@ pub enum ValType {
 
 impl ValType {
     /// Whether it is a type of floats.
-    #[inline]
+    #[inline(always)]
     pub fn is_float(self) -> bool
         ensures { result ≡ is_float self }
     {

@@ -17,7 +17,8 @@ pub struct Operator {
 }
 
 /// The operator on numbers with this opcode.
-#[inline]
+// It is put in place, so that a caller that asks for one field has one test of it.
+#[inline(always)]
 pub fn operator_of(opcode: u8) -> Option<Operator>
     ensures { option_map operator result ≡ operator_of opcode }
 {
@@ -56,6 +57,7 @@ pub fn operator_of(opcode: u8) -> Option<Operator>
     }
 }
 
+#[inline(always)]
 fn unary(operand: ValType, gives: ValType) -> Option<Operator>
     ensures { option_map operator result ≡ unary operand gives }
 {
@@ -66,6 +68,7 @@ fn unary(operand: ValType, gives: ValType) -> Option<Operator>
     })
 }
 
+#[inline(always)]
 fn binary(operand: ValType, gives: ValType) -> Option<Operator>
     ensures { option_map operator result ≡ binary operand gives }
 {

@@ -12,7 +12,7 @@ use wasm_types::{ValType, Value, load_of, store_of};
 
 /// How many bytes a load reads.
 #[tactic(auto, unfolding(crate::specs::Access::load_width))]
-#[inline]
+#[inline(always)]
 pub fn load_width(op: u8) -> Option<u32>
     ensures width { result ≡ load_width op }
     ensures named { IfSome result (λ w. IsWidth w) }
@@ -47,7 +47,7 @@ pub fn load_value(op: u8, n: u64) -> Option<Value>
 
 /// How many bytes of the operand a store writes.
 #[tactic(auto, unfolding(crate::specs::Access::store_width))]
-#[inline]
+#[inline(always)]
 pub fn store_width(op: u8, v: Value) -> Option<u32>
     ensures width { result ≡ store_width op v }
     ensures named { IfSome result (λ w. IsWidth w) }
@@ -58,7 +58,7 @@ pub fn store_width(op: u8, v: Value) -> Option<u32>
     }
 }
 
-#[inline]
+#[inline(always)]
 fn has_kind(v: Value, kind: ValType) -> bool
     ensures { result ≡ is_same (kind_of v) kind }
 {
@@ -69,7 +69,7 @@ fn has_kind(v: Value, kind: ValType) -> bool
 }
 
 // The number of bytes with this exponent.
-#[inline]
+#[inline(always)]
 fn bytes(exponent: u32) -> u32
     requires { exponent ≤ 3 }
     ensures bytes { result ≡ 2 ^ exponent }

@@ -23,7 +23,7 @@ pub enum Number {
 }
 
 /// Whether the opcode is one of an instruction on one operand.
-#[inline]
+#[inline(always)]
 #[tactic(auto, unfolding(crate::specs::Numeric::is_unary))]
 pub fn is_unary(op: u8) -> bool
     ensures { result ≡ is_unary op }

@@ -5,7 +5,7 @@ ghost use Rattle.wasm_values.specs.Values.{bits_of, zero_of};
 use wasm_types::{ValType, Value};
 
 /// The bits of a value, and 0 where there is none.
-#[inline]
+#[inline(always)]
 pub fn bits(v: Option<Value>) -> u64
     ensures { result ≡ bits_of v }
 {
