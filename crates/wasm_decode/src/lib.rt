@@ -99,6 +99,3 @@ pub fn module_is_spelled()
 {
     exact_readers();
 }
-
-#[cfg(test)]
-mod tests;
