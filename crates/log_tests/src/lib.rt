@@ -9,4 +9,6 @@ mod logs;
 #[cfg(test)]
 mod processes;
 #[cfg(test)]
+mod replays;
+#[cfg(test)]
 mod schedules;
