@@ -1,5 +1,5 @@
 -- What the code of an event rests on.
-use Rattle.std.proofs.Common.{◌≡◌, ℕ, zero, suc, true, false, List, [], ◌∷◌, Option, Some, None, refl, ap, sym, subst, ◌∙◌}
+use Rattle.std.proofs.Common.{◌≡◌, ℕ, zero, suc, true, false, cond, List, [], ◌∷◌, Option, Some, None, refl, ap, sym, subst, ◌∙◌}
 use Rattle.std.specs.Prelude.{◌%◌, ◌^◌, slice_get, slice_set, option_and_then}
 use Rattle.std.specs.Int.{w32, cast_signed}
 use Rattle.coop_threads.specs.Crew.{Crew, IsTaken, live_at, status_of, value_of as value_in, with_thread as crew_with}
@@ -11,7 +11,7 @@ use Rattle.wasm_types.specs.Library.{kind_at}
 use Rattle.wasm_types.specs.Modules.{module_of}
 use Rattle.wasm_types.specs.declared.traps.Trap.TheVariants.{Exhausted, Unreachable}
 use Rattle.wasm_step.specs.Reduce.{Stop, Calls, Ends, Traps, Sticks}
-use Rattle.wasm_step.specs.Strand.{answered}
+use Rattle.wasm_step.specs.Strand.{Strand, answered}
 use Rattle.wasm_step.specs.Burst.{burst}
 use Rattle.wasm_step.specs.Suits.{Suits}
 use Rattle.wasm_step.specs.Laws.{KeepsProgram}
@@ -19,12 +19,13 @@ use Rattle.wasm_step.specs.Thread.{Thread}
 use Rattle.wasm_step.specs.declared.call.CallSite.{CallSite}
 use Rattle.guest_process.specs.declared.end.End.{End}
 use Rattle.guest_process.specs.declared.end.End.TheVariants.{Exited, Trapped}
+use Rattle.call_table.specs.Table.{kind_numbered}
 use Rattle.call_table.specs.declared.kind.Kind.{Kind}
 use Rattle.call_table.specs.declared.kind.Kind.TheVariants.{Exit}
 use Rattle.guest_process.specs.declared.parts.Parts.{Parts}
 use Rattle.guest_process.specs.declared.waiting.Waiting.{Waiting}
 use Rattle.lib_calls.specs.Answer.{Answer, answer_of}
-use Rattle.guest_process.specs.Answers.{effects, exited}
+use Rattle.guest_process.specs.Answers.{effects, exited, written}
 use Rattle.guest_process.specs.Fits.{Each, StateFits, live_has}
 use Rattle.guest_process.specs.GoesOn.{budget, called, counted, entered, goes_on, handler, runs, settled, stands, stopped}
 use Rattle.guest_process.specs.Kinds.{ends_process, value_of}
@@ -36,6 +37,8 @@ use Rattle.guest_process.specs.State.{State, is_running, thread_at, with_thread}
 use Rattle.guest_process.proofs.KeptFits.{state_kept}
 use Rattle.guest_process.proofs.KeptSound.{next_program, sound_kept}
 use Rattle.guest_process.proofs.Failing.{unless_none}
+use Rattle.guest_process.proofs.Legality.{call_told, fits_at, legal_at}
+use Rattle.guest_process.proofs.Written.{effects_written, exit_written}
 
 pub none_taken : (P : Waiting → Type 0) (slots : List (Slot Waiting)) (t : ℕ) → Each P slots → status_of (slice_get slots t) ≡ Taken → ⊥
 none_taken P [] t f h = cc
@@ -93,21 +96,41 @@ runs_out S t (Some thread) =
     let run = burst budget thread S.store in
     stopped_out (record S { store = run.store }) t run.stop
 
-exits_by : (k : Kind) (S : State) (t : ℕ) (w : Waiting) (a : Answer) (signal clock : ℕ) → ends_process k ≡ true → exited (counted (with_thread S t Lent) clock) t w.call.a0 ≡ goes_on k (effects k S t w.call a) t w.strand a.reply signal clock
-exits_by Exit S t w a signal clock h = ap (λ S'. record (counted S' clock) { end = Exited (cast_signed w32 (w.call.a0 % 2 ^ 32)) }) (with_again S t Over)
-exits_by _ S t w a signal clock h = cc
+exits_by : (k : Kind) (S : State) (t : ℕ) (w : Waiting) (a : Answer) (signal clock : ℕ) → kind_numbered w.call.kind ≡ Some k → ends_process k ≡ true
+    → exited (counted (with_thread (written S w.call a) t Lent) clock) t w.call.a0 ≡ goes_on k (effects k S t w.call a) t w.strand a.reply signal clock
+exits_by Exit S t w a signal clock e h =
+    ap (λ S'. exited (counted (with_thread S' t Lent) clock) t w.call.a0) (exit_written S w.call a e)
+    ∙ ap (λ S'. record (counted S' clock) { end = Exited (cast_signed w32 (w.call.a0 % 2 ^ 32)) }) (with_again S t Over)
+exits_by _ S t w a signal clock e h = cc
 
-runs_by : (k : Kind) (S : State) (t : ℕ) (w : Waiting) (a : Answer) (signal clock : ℕ) → ends_process k ≡ false → runs (counted (with_thread S t Lent) clock) t (entered S.store.program (answered w.strand (value_of k a.reply)) signal (handler S.handlers signal)) ≡ goes_on k (effects k S t w.call a) t w.strand a.reply signal clock
-runs_by Exit S t w a signal clock h = cc
-runs_by _ S t w a signal clock h = runs_out (counted S clock) t _
+-- how a thread goes on that was taken out of the state after its answer
+abbrev pub goes_out : Kind → State → ℕ → Strand → ℕ → ℕ → ℕ → State
+goes_out k S t strand reply signal clock =
+    runs (counted (with_thread S t Lent) clock) t (entered S.store.program (answered strand (value_of k reply)) signal (handler S.handlers signal))
+
+runs_by : (k : Kind) (S : State) (t : ℕ) (strand : Strand) (reply signal clock : ℕ) → ends_process k ≡ false → goes_out k S t strand reply signal clock ≡ goes_on k S t strand reply signal clock
+runs_by k S t strand reply signal clock h =
+    let thread = entered S.store.program (answered strand (value_of k reply)) signal (handler S.handlers signal) in
+    runs_out (counted S clock) t thread
+    ∙ ap (λ ends. cond ends (counted S clock) (runs (counted S clock) t thread)) (sym h)
 
 -- the event of a thread that calls `exit`
-pub exits : (S : State) (e : Entry) (w : Waiting) → thread_at S e.thread ≡ Some w → ends_process w.kind ≡ true → exited (counted (with_thread S e.thread Lent) e.clock) e.thread w.call.a0 ≡ next S e
-exits S e w at h = exits_by w.kind S e.thread w (answer_of e) e.signal e.clock h ∙ ap (next_at S e) (sym at)
+pub exits : (S : State) (e : Entry) (w : Waiting) → StateFits S → reason S e ≡ None → thread_at S e.thread ≡ Some w → ends_process w.kind ≡ true
+    → exited (counted (with_thread (written S e.call (answer_of e)) e.thread Lent) e.clock) e.thread w.call.a0 ≡ next S e
+exits S e w s legal at h =
+    ap (λ call. exited (counted (with_thread (written S call (answer_of e)) e.thread Lent) e.clock) e.thread w.call.a0) (call_told S e w (legal_at S e w legal at))
+    ∙ exits_by w.kind S e.thread w (answer_of e) e.signal e.clock (fits_at S e.thread w s at).kind h
+    ∙ ap (next_at S e) (sym at)
 
 -- the event of another
-pub goes : (S : State) (e : Entry) (w : Waiting) → thread_at S e.thread ≡ Some w → ends_process w.kind ≡ false → runs (counted (with_thread S e.thread Lent) e.clock) e.thread (entered S.store.program (answered w.strand (value_of w.kind e.reply)) e.signal (handler S.handlers e.signal)) ≡ next S e
-goes S e w at h = runs_by w.kind S e.thread w (answer_of e) e.signal e.clock h ∙ ap (next_at S e) (sym at)
+pub goes : (S : State) (e : Entry) (w : Waiting) → StateFits S → reason S e ≡ None → thread_at S e.thread ≡ Some w → ends_process w.kind ≡ false
+    → goes_out w.kind (written S e.call (answer_of e)) e.thread w.strand e.reply e.signal e.clock ≡ next S e
+goes S e w s legal at h =
+    let effect = effects_written w.kind S e.thread w.call (answer_of e) (fits_at S e.thread w s at).kind h in
+    ap (λ call. goes_out w.kind (written S call (answer_of e)) e.thread w.strand e.reply e.signal e.clock) (call_told S e w (legal_at S e w legal at))
+    ∙ ap (λ S'. goes_out w.kind S' e.thread w.strand e.reply e.signal e.clock) (sym effect)
+    ∙ runs_by w.kind (effects w.kind S e.thread w.call (answer_of e)) e.thread w.strand e.reply e.signal e.clock h
+    ∙ ap (next_at S e) (sym at)
 
 -- ---- the parts after a legal entry's event are those of a process
 

@@ -16,14 +16,15 @@ use Rattle.wasm_step.specs.declared.call.CallSite.{CallSite}
 use Rattle.guest_process.specs.declared.end.End.{End}
 use Rattle.guest_process.specs.declared.end.End.TheVariants.{Finished}
 use Rattle.call_table.specs.declared.kind.Kind.{Kind}
-use Rattle.call_table.specs.declared.kind.Kind.TheVariants.{Exit}
+use Rattle.call_table.specs.declared.kind.Kind.TheVariants.{Begin, Exit, Note, Print, Random, Me, Send, Recv, TryRecv, Yield, Thread as Number}
 use Rattle.guest_process.specs.declared.waiting.Waiting.{Waiting}
 use Rattle.lib_calls.specs.Answer.{Answer}
-use Rattle.guest_process.specs.Answers.{effects}
+use Rattle.guest_process.specs.Answers.{after_need, asked, effects, written}
 use Rattle.guest_process.specs.Fits.{Each, Slotted}
 use Rattle.guest_process.specs.GoesOn.{after_burst, all_over, budget, called, counted, entered, goes_on, handler, runs, stands, stopped}
 use Rattle.guest_process.specs.Kinds.{ends_process, value_of}
 use Rattle.guest_process.specs.State.{State, with_thread}
+use Rattle.guest_process.proofs.Written.{asked_has}
 
 -- what an event of thread t changes of a state where P is to hold of each live thread: its program, its
 -- number, its group and its handlers stay, and so does each other thread
@@ -108,9 +109,25 @@ module _ (P : Waiting → Type 0) where
   runs_kept keeps S t None f g = set_kept S t Over _ f tt
   runs_kept keeps S t (Some thread) f g = burst_kept S t (burst budget thread S.store) (keeps budget thread S.store) f g
 
+  written_kept : (t : ℕ) (S : State) (c : Call) (a : Answer) → Each P S.crew.threads → Keeps P t S (written S c a)
+  written_kept t S c a f = record { who = refl; count = refl; program = refl; room = refl; threads = f; others = λ u h. refl; handlers = refl; clock = refl; events = refl }
+
+  asked_kept : (t : ℕ) (S : State) (c : Call) (a : Answer) → Each P S.crew.threads → Keeps P t S (after_need (asked S c) (written S c a))
+  asked_kept t S c a f = asked_has (Keeps P t S) S c (written S c a) (kept_same t S f) (written_kept t S c a f)
+
   need_kept : (k : Kind) (S : State) (t : ℕ) (c : Call) (a : Answer) → Each P S.crew.threads → Keeps P t S (effects k S t c a)
   need_kept Exit S t c a f = set_kept S t Over _ f tt
-  need_kept _ S t c a f = kept_same t S f
+  need_kept Random S t c a f = asked_kept t S c a f
+  need_kept Recv S t c a f = asked_kept t S c a f
+  need_kept TryRecv S t c a f = asked_kept t S c a f
+  need_kept Begin S t c a f = kept_same t S f
+  need_kept Note S t c a f = kept_same t S f
+  need_kept Print S t c a f = kept_same t S f
+  need_kept Me S t c a f = kept_same t S f
+  need_kept Send S t c a f = kept_same t S f
+  need_kept Yield S t c a f = kept_same t S f
+  need_kept Number S t c a f = kept_same t S f
+  need_kept _ S t c a f = written_kept t S c a f
 
   event_kept : KeepsProgram → (b : Bool) (S : State) (t : ℕ) (o : Option Thread) → Each P S.crew.threads → Stand S.store.program → Keeps P t S (cond b S (runs S t o))
   event_kept keeps true S t o f g = kept_same t S f

@@ -1,21 +1,27 @@
 -- What is to be shown of each kind of call.
-use Rattle.std.proofs.Common.{◌≡◌, ℕ, ◌<◌, ◌≤◌, ◌^◌, Bool, true, false, List, [], Option, Some, None, refl, subst, arith}
-use Rattle.std.specs.Prelude.{◌==◌}
-use Rattle.std.proofs.lemmas.Bool.{and_parts, and_from}
+use Rattle.std.proofs.Common.{◌≡◌, ℕ, ◌<◌, ◌≤◌, ◌^◌, Bool, true, false, cond, not, List, [], ◌∷◌, length, take, Option, Some, None, inl, inr, refl, ap, ◌∙◌, subst, arith}
+use Rattle.std.specs.Prelude.{◌==◌, nat_le, is_some}
+use Rattle.std.proofs.lemmas.Bool.{and_parts, and_from, or_cases, or_left, or_right, eq-eqb, leb-true, le-leb}
+use Rattle.std.proofs.lemmas.Bool.Decides.{nat_tests}
+use Rattle.std.proofs.lemmas.List.{length-take, length-take-le}
 use Rattle.std.proofs.lemmas.Option.{same_Some}
 use Rattle.lamport_tag.specs.declared.Tag.{Tag}
-use Rattle.lamport_tag.specs.Tag.{clock_of}
+use Rattle.lamport_tag.specs.Laws.{IsFromGroup, StaysUntagged}
+use Rattle.lamport_tag.specs.Tag.{clock_of, is_sendable, payload_behind, read_datagram, tag_at}
 use Rattle.lib_calls.specs.declared.entry.Call.{Call}
-use Rattle.lib_calls.specs.Entry.{IsStringIf, IsTagIf}
+use Rattle.lib_calls.specs.Effects.{is_good, minus_one, minus_two, received, takes_counted}
+use Rattle.lib_calls.specs.Entry.{HasArguments, IsNumberIf, IsStringIf, IsTagIf}
+use Rattle.call_table.specs.Table.{kind_numbered, row}
 use Rattle.call_table.specs.declared.kind.Kind.{Kind}
-use Rattle.call_table.specs.declared.kind.Kind.TheVariants.{Begin, Exit, Note, Now, SleepUntil, Me, Yield, Thread}
+use Rattle.call_table.specs.declared.kind.Kind.TheVariants.{Begin, Exit, Note, Print, Now, SleepUntil, Random, Me, Send, Recv, TryRecv, Yield, Thread}
 use Rattle.lib_calls.specs.Answer.{Answer}
-use Rattle.guest_process.specs.Answers.{Need, Fixed, Blocked, World, need, is_possible, is_due, is_plain, written}
+use Rattle.guest_process.specs.Answers.{Need, Fixed, Blocked, World, asked, need, is_empty, is_payload, is_possible, is_due, is_plain, is_taken, replied, written}
 use Rattle.guest_process.specs.Fits.{EnvFits, StateFits}
 use Rattle.guest_process.specs.Legal.{answers}
-use Rattle.guest_process.specs.Live.{Env, Answered, from_world}
-use Rattle.guest_process.specs.State.{State}
-use Rattle.guest_process.proofs.Failing.{kept}
+use Rattle.guest_process.specs.Live.{Env, Answered, cut, drawn, fills, first_taken, from_world, or_empty, takes}
+use Rattle.guest_process.specs.State.{State, with_memory}
+use Rattle.guest_process.proofs.Failing.{kept, same}
+use Rattle.guest_process.proofs.Written.{asked_good, good_written, not_minus_two, now_written, random_short, recv_short, sleep_written, try_recv_short}
 
 -- no bytes and no tag, which every kind may have
 pub no_bytes : (b : Bool) → IsStringIf b []
@@ -26,48 +32,198 @@ pub no_tag : (b : Bool) → IsTagIf b None
 no_tag true = tt
 no_tag false = refl
 
--- what the world's answer is to satisfy
-pub record Matches (k : Kind) (S : State) (c : Call) (a : Answered) : Type 0 where
-  pub possible : is_possible k S c a.answer ≡ true
-  pub same : written k S c a.answer ≡ a.after
-  pub reply : a.answer.reply < 2 ^ 64
-  pub incoming : (b : Bool) → IsStringIf b a.answer.incoming
-  pub tag : (b : Bool) → IsTagIf b a.answer.tag
-  pub clock : clock_of a.answer.tag ≤ 2 ^ 62
+-- ---- what the process answers
 
 abbrev pub ReplyFits : Need → Type 0
 ReplyFits (Fixed r S) = r < 2 ^ 64
 ReplyFits Blocked = Unit {0}
 ReplyFits World = Unit {0}
 
-pub reply_fits : (k : Kind) (S : State) (t : ℕ) (c : Call) → StateFits S → t < 64 → ReplyFits (need k S t c)
-reply_fits Begin S t c s low = omega arith
-reply_fits Exit S t c s low = omega arith
-reply_fits Note S t c s low = omega arith
-reply_fits Now S t c s low = tt
-reply_fits SleepUntil S t c s low = tt
-reply_fits Me S t c s low = omega (arith, s.who, s.count)
-reply_fits Yield S t c s low = omega arith
-reply_fits Thread S t c s low = omega arith
-reply_fits _ S t c s low = tt
+number_fits : (b : Bool) (n : ℕ) → IsNumberIf b n → n < 2 ^ 64
+number_fits true n h = h
+number_fits false n h = omega (arith, h)
 
-pub world_matches : (k : Kind) (S : State) (c : Call) (env : Env) → EnvFits env → (a : Answered) → from_world k S c env ≡ Some a → Matches k S c a
-world_matches Now S c env e a h =
-    subst (Matches Now S c) (same_Some _ _ h) (record { possible = refl; same = refl; reply = e.time; incoming = no_bytes; tag = no_tag; clock = omega arith })
-world_matches SleepUntil S c env e a h =
-    let k = kept _ _ a h in
-    subst (Matches SleepUntil S c) (same_Some _ _ k.1) (record { possible = and_from _ _ k.0 refl; same = refl; reply = e.time; incoming = no_bytes; tag = no_tag; clock = omega arith })
-world_matches _ S c env e a h = cc
+replied_fits : (S : State) (c : Call) (reply : ℕ) → reply < 2 ^ 64 → ReplyFits (replied S c reply)
+replied_fits S c reply fits = by_test (is_good c S.store.memory)
+  where
+    by_test : (b : Bool) → cond b reply minus_one < 2 ^ 64
+    by_test true = fits
+    by_test false = omega arith
+
+asked_fits : (S : State) (c : Call) → ReplyFits (asked S c)
+asked_fits S c = by_test (is_good c S.store.memory)
+  where
+    by_test : (b : Bool) → ReplyFits (cond b World (Fixed minus_one S))
+    by_test true = tt
+    by_test false = omega arith
+
+pub reply_fits : (k : Kind) (S : State) (t : ℕ) (c : Call) → StateFits S → t < 64 → HasArguments c → ReplyFits (need k S t c)
+reply_fits Begin S t c s low args = omega arith
+reply_fits Exit S t c s low args = omega arith
+reply_fits Note S t c s low args = omega arith
+reply_fits Print S t c s low args = replied_fits S c c.a1 (number_fits _ c.a1 args.second)
+reply_fits Now S t c s low args = tt
+reply_fits SleepUntil S t c s low args = tt
+reply_fits Random S t c s low args = asked_fits S c
+reply_fits Me S t c s low args = omega (arith, s.who, s.count)
+reply_fits Send S t c s low args = replied_fits S c c.a2 (number_fits _ c.a2 args.third)
+reply_fits Recv S t c s low args = asked_fits S c
+reply_fits TryRecv S t c s low args = asked_fits S c
+reply_fits Yield S t c s low args = omega arith
+reply_fits Thread S t c s low args = omega arith
+reply_fits _ S t c s low args = tt
+
+-- ---- what the world answers
+
+-- what its answer is to satisfy
+pub record Matches (k : Kind) (S : State) (c : Call) (a : Answered) : Type 0 where
+  pub possible : is_possible k S c a.answer ≡ true
+  pub same : written S c a.answer ≡ a.after
+  pub reply : a.answer.reply < 2 ^ 64
+  pub incoming : IsStringIf (row k).entry.incoming a.answer.incoming
+  pub tag : IsTagIf (row k).entry.tag a.answer.tag
+  pub clock : clock_of a.answer.tag ≤ 2 ^ 62
+
+drawn_matches : (S : State) (c : Call) (pool : List ℕ) → kind_numbered c.kind ≡ Some Random → is_good c S.store.memory ≡ true → nat_le c.a1 (length pool) ≡ true → Matches Random S c (fills S c (drawn c (take c.a1 pool)))
+drawn_matches S c pool e good enough =
+    let long : length (take c.a1 pool) ≡ c.a1 = length-take-le c.a1 pool (leb-true c.a1 (length pool) enough) in
+    let short = random_short S c e good in
+    record {
+      possible = and_from _ _ (same c.a1) (and_from _ _ (eq-eqb (length (take c.a1 pool)) c.a1 long) refl);
+      same = good_written Random S c (drawn c (take c.a1 pool)) e good;
+      reply = omega (arith, short);
+      incoming = omega (arith, long, short);
+      tag = refl;
+      clock = omega arith;
+    }
+
+-- the numbers of a tag that a process of the group can have sent
+pub sendable : (count : ℕ) (tag : Tag) → is_sendable count tag ≡ true → (tag.sender < count) × (1 ≤ tag.clock) × (tag.clock ≤ 2 ^ 62)
+sendable count tag tests = grind (arith, nat_tests)
+
+pub payload_clock : (count : ℕ) (tag : Option Tag) (payload : List ℕ) → is_payload count tag payload ≡ true → clock_of tag ≤ 2 ^ 62
+payload_clock count None payload h = omega arith
+payload_clock count (Some tag) payload h = (sendable count tag h).2
+
+payload_tag : (count : ℕ) (tag : Option Tag) (payload : List ℕ) → count ≤ 16 → is_payload count tag payload ≡ true → IsTagIf true tag
+payload_tag count None payload few h = tt
+payload_tag count (Some tag) payload few h =
+    let fits = sendable count tag h in
+    (omega (arith, few, fits.0), omega (arith, fits.2))
+
+module _ (stays : StaysUntagged) (sent : IsFromGroup) where
+  -- the payload of a datagram is such, however it is cut
+  cut_payload : (count cap : ℕ) (datagram : List ℕ) → count ≤ 16 → is_payload count (read_datagram count datagram).0 (take cap (read_datagram count datagram).1) ≡ true
+  cut_payload count cap datagram few = by_tag (tag_at count datagram) refl
+    where
+      by_tag : (o : Option (Tag × List ℕ)) → tag_at count datagram ≡ o → is_payload count (payload_behind datagram o).0 (take cap (payload_behind datagram o).1) ≡ true
+      by_tag None e = ap (λ (o : Option (Tag × List ℕ)). not (is_some o)) (stays count cap datagram (omega (arith, few)) e)
+      by_tag (Some found) e = sent count datagram found.0 found.1 e
+
+  -- what a datagram brings
+  record Brings (S : State) (c : Call) (a : Answer) : Type 0 where
+    taken : is_taken S.count c a ≡ true
+    reply : a.reply ≤ c.a1
+    incoming : length a.incoming ≤ c.a1
+    tag : IsTagIf true a.tag
+    clock : clock_of a.tag ≤ 2 ^ 62
+
+  cut_brings : (S : State) (c : Call) (datagram : List ℕ) → S.count ≤ 16 → Brings S c (cut c.a1 (read_datagram S.count datagram))
+  cut_brings S c datagram few =
+      let read = read_datagram S.count datagram in
+      let bytes = take c.a1 read.1 in
+      let short : length bytes ≤ c.a1 = omega (arith, length-take c.a1 read.1) in
+      let payload = cut_payload S.count c.a1 datagram few in
+      record {
+        taken = and_from _ _ (and_from _ _ (same (length bytes)) (le-leb (length bytes) c.a1 short)) payload;
+        reply = short;
+        incoming = short;
+        tag = payload_tag S.count read.0 bytes few payload;
+        clock = payload_clock S.count read.0 bytes payload;
+      }
+
+  recv_matches : (S : State) (c : Call) (a : Answer) → kind_numbered c.kind ≡ Some Recv → is_good c S.store.memory ≡ true → Brings S c a → Matches Recv S c (takes S c a)
+  recv_matches S c a e good b =
+      let short = recv_short S c e good in
+      record {
+        possible = b.taken;
+        same = good_written Recv S c a e good;
+        reply = omega (arith, short, b.reply);
+        incoming = omega (arith, short, b.incoming);
+        tag = b.tag;
+        clock = b.clock;
+      }
+
+  try_recv_matches : (S : State) (c : Call) (a : Answer) → kind_numbered c.kind ≡ Some TryRecv → is_good c S.store.memory ≡ true → Brings S c a → Matches TryRecv S c (takes S c a)
+  try_recv_matches S c a e good b =
+      let short = try_recv_short S c e good in
+      let there = not_minus_two a.reply (omega (arith, short, b.reply)) in
+      record {
+        possible = or_left _ _ b.taken;
+        same = good_written TryRecv S c a e good ∙ ap (λ none. with_memory S (cond none S.store.memory (received c a S.store.memory))) there;
+        reply = omega (arith, short, b.reply);
+        incoming = omega (arith, short, b.incoming);
+        tag = b.tag;
+        clock = b.clock;
+      }
+
+  none_matches : (S : State) (c : Call) → kind_numbered c.kind ≡ Some TryRecv → is_good c S.store.memory ≡ true → Matches TryRecv S c (or_empty S None)
+  none_matches S c e good = record {
+    possible = or_right (is_taken S.count c (or_empty S None).answer) _ refl;
+    same = good_written TryRecv S c (or_empty S None).answer e good;
+    reply = omega arith;
+    incoming = omega arith;
+    tag = tt;
+    clock = omega arith;
+  }
+
+  first_matches : (S : State) (c : Call) (mailbox : List (List ℕ)) → S.count ≤ 16 → kind_numbered c.kind ≡ Some Recv → is_good c S.store.memory ≡ true → (a : Answered) → first_taken S c mailbox ≡ Some a → Matches Recv S c a
+  first_matches S c [] few e good a h = cc
+  first_matches S c (datagram ∷ waiting) few e good a h =
+      subst (Matches Recv S c) (same_Some _ _ h) (recv_matches S c _ e good (cut_brings S c datagram few))
+
+  tried_matches : (S : State) (c : Call) (mailbox : List (List ℕ)) → S.count ≤ 16 → kind_numbered c.kind ≡ Some TryRecv → is_good c S.store.memory ≡ true → Matches TryRecv S c (or_empty S (first_taken S c mailbox))
+  tried_matches S c [] few e good = none_matches S c e good
+  tried_matches S c (datagram ∷ waiting) few e good = try_recv_matches S c _ e good (cut_brings S c datagram few)
+
+  pub world_matches : (k : Kind) (S : State) (t : ℕ) (c : Call) (env : Env) → S.count ≤ 16 → EnvFits env → kind_numbered c.kind ≡ Some k → need k S t c ≡ World → (a : Answered) → from_world k S c env ≡ Some a → Matches k S c a
+  world_matches Now S t c env few e n w a h =
+      subst (Matches Now S c) (same_Some _ _ h) (record { possible = refl; same = now_written S c _ n; reply = e.time; incoming = refl; tag = refl; clock = omega arith })
+  world_matches SleepUntil S t c env few e n w a h =
+      let k = kept _ _ a h in
+      subst (Matches SleepUntil S c) (same_Some _ _ k.1) (record { possible = and_from _ _ k.0 refl; same = sleep_written S c _ n; reply = e.time; incoming = refl; tag = refl; clock = omega arith })
+  world_matches Random S t c env few e n w a h =
+      let k = kept _ _ a h in
+      subst (Matches Random S c) (same_Some _ _ k.1) (drawn_matches S c env.pool n (asked_good S c w) k.0)
+  world_matches Recv S t c env few e n w a h = first_matches S c env.mailbox few n (asked_good S c w) a h
+  world_matches TryRecv S t c env few e n w a h =
+      subst (Matches TryRecv S c) (same_Some _ _ h) (tried_matches S c env.mailbox few n (asked_good S c w))
+  world_matches _ S t c env few e n w a h = cc
+
+-- ---- the clocks of tags
 
 -- a plain answer has no tag
 pub plain_tag : (tag : Option Tag) (incoming : List ℕ) → is_plain tag incoming ≡ true → tag ≡ None
 plain_tag None incoming h = refl
 plain_tag (Some t) incoming h = cc
 
+drawn_tag : (tag : Option Tag) → not (is_some tag) ≡ true → tag ≡ None
+drawn_tag None h = refl
+drawn_tag (Some t) h = cc
+
+taken_clock : (count : ℕ) (c : Call) (a : Answer) → is_taken count c a ≡ true → clock_of a.tag ≤ 2 ^ 62
+taken_clock count c a h = payload_clock count a.tag a.incoming (and_parts (takes_counted c a) (is_payload count a.tag a.incoming) h).1
+
 -- no tag that an answer of the world can have bears a clock past 2 ^ 62
 possible_clock : (k : Kind) (S : State) (c : Call) (a : Answer) → is_possible k S c a ≡ true → clock_of a.tag ≤ 2 ^ 62
 possible_clock Now S c a h = rw (plain_tag a.tag a.incoming h) (omega arith)
 possible_clock SleepUntil S c a h = rw (plain_tag a.tag a.incoming (and_parts (is_due c.a0 a.reply) (is_plain a.tag a.incoming) h).1) (omega arith)
+possible_clock Random S c a h = rw (drawn_tag a.tag (and_parts (length a.incoming == c.a1) (not (is_some a.tag)) (and_parts (a.reply == c.a1) _ h).1).1) (omega arith)
+possible_clock Recv S c a h = taken_clock S.count c a h
+possible_clock TryRecv S c a h = elim (or_cases (is_taken S.count c a) (is_empty a) h) [
+  | inl taken ↦ taken_clock S.count c a taken
+  | inr empty ↦ rw (plain_tag a.tag a.incoming (and_parts (a.reply == minus_two) (is_plain a.tag a.incoming) empty).1) (omega arith)
+]
 possible_clock _ S c a h = cc
 
 pub answer_clock : (k : Kind) (S : State) (c : Call) (n : Need) (a : Answer) → answers n a (is_possible k S c a) ≡ true → clock_of a.tag ≤ 2 ^ 62

@@ -1,4 +1,6 @@
 pub mod Failing
+pub mod Written
+pub mod Legality
 pub mod EachKind
 pub mod Outgoing
 pub mod OneEvent

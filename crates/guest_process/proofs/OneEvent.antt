@@ -1,17 +1,21 @@
 -- A recorded event agrees with its replay.
-use Rattle.std.proofs.Common.{◌≡◌, ℕ, zero, suc, ◌+◌, ◌<◌, ◌≤◌, ◌^◌, Bool, true, false, ◌&&◌, ◌||◌, not, cond, List, [], ◌∷◌, length, Option, Some, None, refl, ap, subst, arith, inl, inr}
+use Rattle.std.proofs.Common.{◌≡◌, ℕ, zero, suc, ◌+◌, ◌<◌, ◌≤◌, ◌^◌, Bool, true, false, ◌&&◌, ◌||◌, not, cond, List, [], ◌∷◌, length, Option, Some, None, refl, ap, sym, subst, arith, inl, inr}
 use Rattle.std.specs.Prelude.{◌==◌, nat_le, is_some, slice_get, option_and_then}
+use Rattle.std.specs.Option.{option_map_or}
 use Rattle.std.proofs.lemmas.Bool.{and_parts, and_from, or_right, le-leb as le-leb'}
 use Rattle.std.proofs.lemmas.Option.{same_Some}
 use Rattle.std.proofs.lemmas.Slice.Eq.{bytes_eq-Decides}
 use Rattle.call_table.specs.Numbers.{number_within}
+use Rattle.call_table.specs.Table.{kind_numbered, row}
 use Rattle.coop_threads.specs.Crew.{value_of}
 use Rattle.coop_threads.specs.declared.slot.Slot.{Slot}
-use Rattle.coop_threads.specs.declared.slot.Slot.TheVariants.{Kept, Lent, Over}
+use Rattle.lamport_tag.specs.declared.Tag.{Tag}
+use Rattle.lamport_tag.specs.Laws.{IsFromGroup, StaysUntagged}
 use Rattle.lamport_tag.specs.Tag.{clock_of, next_clock_of}
 use Rattle.lib_calls.specs.declared.entry.Call.{Call}
 use Rattle.lib_calls.specs.Effects.{outgoing_of}
 use Rattle.lib_calls.specs.Entry.{IsStringIf, IsTagIf}
+use Rattle.lib_calls.specs.Kinds.{has_incoming, has_tag}
 use Rattle.call_table.specs.declared.kind.Kind.{Kind}
 use Rattle.guest_process.specs.declared.waiting.Waiting.{Waiting}
 use Rattle.guest_process.specs.Answers.{Need, Fixed, Blocked, World, need, is_possible, written, after_need, effects}
@@ -34,25 +38,25 @@ live_low (slot ∷ slots) (suc t) w h = omega (arith, live_low slots t w h)
 -- what the laws of the kinds come to
 record Answers (k : Kind) (S : State) (c : Call) (n : Need) (a : Answered) : Type 0 where
   pub possible : answers n a.answer (is_possible k S c a.answer) ≡ true
-  pub same : after_need n (written k S c a.answer) ≡ a.after
+  pub same : after_need n (written S c a.answer) ≡ a.after
   pub reply : a.answer.reply < 2 ^ 64
-  pub incoming : (b : Bool) → IsStringIf b a.answer.incoming
-  pub tag : (b : Bool) → IsTagIf b a.answer.tag
+  pub incoming : IsStringIf (row k).entry.incoming a.answer.incoming
+  pub tag : IsTagIf (row k).entry.tag a.answer.tag
   pub clock : clock_of a.answer.tag ≤ 2 ^ 62
 
-answered_holds : (k : Kind) (S : State) (c : Call) (env : Env) → EnvFits env → (n : Need) → ReplyFits n → (a : Answered) → answered n (from_world k S c env) ≡ Some a → Answers k S c n a
-answered_holds k S c env e (Fixed r S') fits a h =
+answered_holds : StaysUntagged → IsFromGroup → (k : Kind) (S : State) (t : ℕ) (c : Call) (env : Env) → S.count ≤ 16 → EnvFits env → kind_numbered c.kind ≡ Some k → (n : Need) → need k S t c ≡ n → ReplyFits n → (a : Answered) → answered n (from_world k S c env) ≡ Some a → Answers k S c n a
+answered_holds stays sent k S t c env few e is (Fixed r S') need_is fits a h =
     subst (Answers k S c (Fixed r S')) (same_Some _ _ h) (record {
       possible = and_from _ _ (same r) refl;
       same = refl;
       reply = fits;
-      incoming = no_bytes;
-      tag = no_tag;
+      incoming = no_bytes _;
+      tag = no_tag _;
       clock = omega arith;
     })
-answered_holds k S c env e Blocked fits a h = cc
-answered_holds k S c env e World fits a h =
-    let m = world_matches k S c env e a h in
+answered_holds stays sent k S t c env few e is Blocked need_is fits a h = cc
+answered_holds stays sent k S t c env few e is World need_is fits a h =
+    let m = world_matches stays sent k S t c env few e is need_is a h in
     record { possible = m.possible; same = m.same; reply = m.reply; incoming = m.incoming; tag = m.tag; clock = m.clock }
 
 handled_at : (p : ℕ → Bool) (pending : Bool) (s : ℕ) → (pending && p s) ≡ true → s < 1 + 31 → ((s == 0) || (true && (nat_le s 31 && p s))) ≡ true
@@ -71,6 +75,17 @@ chosen_low : (p : ℕ → Bool) (b : Bool) → cond b 0 (lowest p 31 1) < 2 ^ 8
 chosen_low p true = omega arith
 chosen_low p false = elim (lowest_holds p 31 1) [ inl h ↦ omega arith | inr h ↦ omega (arith, h.1) ]
 
+-- what the table says of a kind, it says of its number
+incoming_fits : (number : ℕ) (k : Kind) (bytes : List ℕ) → kind_numbered number ≡ Some k → IsStringIf (row k).entry.incoming bytes → IsStringIf (has_incoming number) bytes
+unfolding has_incoming
+incoming_fits number k bytes e h =
+    subst (λ (o : Option Kind). IsStringIf (option_map_or (λ kind. (row kind).entry.incoming) o false) bytes) (sym e) h
+
+tag_fits : (number : ℕ) (k : Kind) (tag : Option Tag) → kind_numbered number ≡ Some k → IsTagIf (row k).entry.tag tag → IsTagIf (has_tag number) tag
+unfolding has_tag
+tag_fits number k tag e h =
+    subst (λ (o : Option Kind). IsTagIf (option_map_or (λ kind. (row kind).entry.tag) o false) tag) (sym e) h
+
 event_agrees : (S : State) (t : ℕ) (w : Waiting) (env : Env) → StateFits S → S.events < 2 ^ 61 → is_running S ≡ true → thread_at S t ≡ Some w → WaitingFits w → (a : Answered) → Answers w.kind S w.call (need w.kind S t w.call) a → Agrees S (event S t env w a)
 event_agrees S t w env s few running stands fits a m =
     let k = w.kind in
@@ -86,8 +101,8 @@ event_agrees S t w env s few running stands fits a m =
         arguments = fits.arguments;
         reply = m.reply;
         outgoing = outgoing_fits w.call S.store.memory;
-        incoming = m.incoming _;
-        tag = m.tag _;
+        incoming = incoming_fits w.call.kind k _ fits.kind m.incoming;
+        tag = tag_fits w.call.kind k _ fits.kind m.tag;
       };
       legal = rw (running, stands) (none_failing (checks S now.entry w) (record {
         call = same w.call.kind;
@@ -100,16 +115,18 @@ event_agrees S t w env s few running stands fits a m =
       same = rw stands (ap (λ S'. goes_on k S' t w.strand a.answer.reply now.entry.signal now.entry.clock) effect);
     }
 
-one_at : (S : State) (t : ℕ) (env : Env) → StateFits S → S.events < 2 ^ 61 → EnvFits env → is_running S ≡ true → (o : Option Waiting) → thread_at S t ≡ o → (e : Event) → live_at S t env o ≡ Some e → Agrees S e
-one_at S t env s few f running None stands e h = cc
-one_at S t env s few f running (Some w) stands e h =
+one_at : StaysUntagged → IsFromGroup → (S : State) (t : ℕ) (env : Env) → StateFits S → S.events < 2 ^ 61 → EnvFits env → is_running S ≡ true → (o : Option Waiting) → thread_at S t ≡ o → (e : Event) → live_at S t env o ≡ Some e → Agrees S e
+one_at stays sent S t env s few f running None stands e h = cc
+one_at stays sent S t env s few f running (Some w) stands e h =
     let k = w.kind in
     let m = mapped (event S t env w) (answered (need k S t w.call) (from_world k S w.call env)) e h in
     let fits : WaitingFits w = live_has WaitingFits S.crew.threads t s.threads w stands in
     let low : t < 64 = omega (arith, live_low S.crew.threads t w stands, s.room) in
-    subst (Agrees S) m.2 (event_agrees S t w env s few running stands fits m.0 (answered_holds k S w.call env f (need k S t w.call) (reply_fits k S t w.call s low) m.0 m.1))
+    let n = need k S t w.call in
+    let holds = answered_holds stays sent k S t w.call env s.count f fits.kind n refl (reply_fits k S t w.call s low fits.arguments) m.0 m.1 in
+    subst (Agrees S) m.2 (event_agrees S t w env s few running stands fits m.0 holds)
 
-pub one_event : OneEvent
-one_event S t env s few f e h =
+pub one_event : StaysUntagged → IsFromGroup → OneEvent
+one_event stays sent S t env s few f e h =
     let k = kept _ _ _ h in
-    one_at S t env s few f (and_parts _ _ k.0).1 (thread_at S t) refl e k.1
+    one_at stays sent S t env s few f (and_parts _ _ k.0).1 (thread_at S t) refl e k.1

@@ -1,14 +1,16 @@
 -- How a call is answered: what process and call determine, and what the world gives.
-use Rattle.std.specs.Prelude.{ℕ, int_le, ◌&&◌, ◌%◌, ◌^◌, List, [], ◌∷◌, Option, Some, None, Bool, true, false}
+use Rattle.std.specs.Prelude.{ℕ, int_le, ◌==◌, ◌&&◌, ◌||◌, ◌%◌, ◌^◌, not, is_some, if◌then◌else◌, List, [], ◌∷◌, length, Option, Some, None, Bool, true, false}
 use Rattle.std.specs.Int.{w32, w64, cast_signed}
 use Rattle.call_table.specs.declared.kind.Kind.{Kind}
-use Rattle.call_table.specs.declared.kind.Kind.TheVariants.{Begin, Exit, Note, Now, SleepUntil, Me, Yield, Thread}
+use Rattle.call_table.specs.declared.kind.Kind.TheVariants.{Begin, Exit, Note, Print, Now, SleepUntil, Random, Me, Send, Recv, TryRecv, Yield, Thread}
 use Rattle.coop_threads.specs.declared.slot.Slot.TheVariants.{Over}
 use Rattle.lamport_tag.specs.declared.Tag.{Tag}
+use Rattle.lamport_tag.specs.Tag.{is_sendable, tag_at}
 use Rattle.lib_calls.specs.declared.entry.Call.{Call}
 use Rattle.lib_calls.specs.Answer.{Answer}
+use Rattle.lib_calls.specs.Effects.{is_good, minus_one, minus_two, takes_counted, written as memory_with}
 use Rattle.guest_process.specs.declared.end.End.TheVariants.{Exited}
-use Rattle.guest_process.specs.State.{State, with_thread}
+use Rattle.guest_process.specs.State.{State, with_memory, with_thread}
 
 -- a reply alone
 abbrev pub replies : ℕ → Answer
@@ -25,14 +27,27 @@ pub data Need : Type 0 where
 abbrev pub exited : State → ℕ → ℕ → State
 exited S t code = record (with_thread S t Over) { end = Exited (cast_signed w32 (code % 2 ^ 32)) }
 
+-- the process answers with this reply where the call's arguments are good, and else with -1
+abbrev pub replied : State → Call → ℕ → Need
+replied S c reply = Fixed (if is_good c S.store.memory then reply else minus_one) S
+
+-- the world answers where the call's arguments are good, and else the process does, with -1
+abbrev pub asked : State → Call → Need
+asked S c = if is_good c S.store.memory then World else Fixed minus_one S
+
 -- what process and call determine; a call that is not answered yet is never answered
 abbrev pub need : Kind → State → ℕ → Call → Need
 need Begin S t c = Fixed 0 S
 need Exit S t c = Fixed 0 (exited S t c.a0)
 need Note S t c = Fixed 0 S
+need Print S t c = replied S c c.a1
 need Now S t c = World
 need SleepUntil S t c = World
+need Random S t c = asked S c
 need Me S t c = Fixed S.who S
+need Send S t c = replied S c c.a2
+need Recv S t c = asked S c
+need TryRecv S t c = asked S c
 need Yield S t c = Fixed 0 S
 need Thread S t c = Fixed t S
 need _ S t c = Blocked
@@ -47,15 +62,35 @@ is_plain (Some _) incoming = false
 abbrev pub is_due : ℕ → ℕ → Bool
 is_due until time = int_le (cast_signed w64 until) (cast_signed w64 time)
 
+-- so many bytes came in as the call asks for, and no tag
+abbrev pub is_drawn : Call → Answer → Bool
+is_drawn c a = a.reply == c.a1 && (length a.incoming == c.a1 && not (is_some a.tag))
+
+-- in a group of so many processes some datagram has this tag, or none, and this payload
+abbrev pub is_payload : ℕ → Option Tag → List ℕ → Bool
+is_payload count None payload = not (is_some (tag_at count payload))
+is_payload count (Some tag) payload = is_sendable count tag
+
+-- what came in is the payload of some datagram, cut to the bytes that the call has room for, and its tag
+abbrev pub is_taken : ℕ → Call → Answer → Bool
+is_taken count c a = takes_counted c a && is_payload count a.tag a.incoming
+
+-- no datagram was there
+abbrev pub is_empty : Answer → Bool
+is_empty a = a.reply == minus_two && is_plain a.tag a.incoming
+
 -- whether some world gives this answer
 abbrev pub is_possible : Kind → State → Call → Answer → Bool
 is_possible Now S c a = is_plain a.tag a.incoming
 is_possible SleepUntil S c a = is_due c.a0 a.reply && is_plain a.tag a.incoming
+is_possible Random S c a = is_drawn c a
+is_possible Recv S c a = is_taken S.count c a
+is_possible TryRecv S c a = is_taken S.count c a || is_empty a
 is_possible _ S c a = false
 
 -- the effects of an answer that the world gave, from the answer alone
-abbrev pub written : Kind → State → Call → Answer → State
-written _ S c a = S
+abbrev pub written : State → Call → Answer → State
+written S c a = with_memory S (memory_with c a S.store.memory)
 
 abbrev pub after_need : Need → State → State
 after_need (Fixed reply S) S' = S
@@ -64,4 +99,4 @@ after_need World S' = S'
 
 -- the state with the effects of an answer
 abbrev pub effects : Kind → State → ℕ → Call → Answer → State
-effects kind S t c a = after_need (need kind S t c) (written kind S c a)
+effects kind S t c a = after_need (need kind S t c) (written S c a)

@@ -1,17 +1,18 @@
 -- The live meaning of one try to run a thread: the event that the world around the process lets it have.
-use Rattle.std.specs.Prelude.{ℕ, zero, suc, ◌+◌, ◌&&◌, not, is_some, List, Bool, Option, Some, None, if◌then◌else◌, option_map}
+use Rattle.std.specs.Prelude.{ℕ, zero, suc, ◌+◌, ◌&&◌, not, nat_le, is_some, List, [], ◌∷◌, length, take, Bool, Option, Some, None, if◌then◌else◌, option_map}
 use Rattle.call_table.specs.declared.kind.Kind.{Kind}
-use Rattle.call_table.specs.declared.kind.Kind.TheVariants.{Now, SleepUntil}
-use Rattle.lamport_tag.specs.Tag.{next_clock_of}
+use Rattle.call_table.specs.declared.kind.Kind.TheVariants.{Now, SleepUntil, Random, Recv, TryRecv}
+use Rattle.lamport_tag.specs.declared.Tag.{Tag}
+use Rattle.lamport_tag.specs.Tag.{next_clock_of, read_datagram}
 use Rattle.lib_calls.specs.declared.entry.Call.{Call}
 use Rattle.lib_calls.specs.declared.entry.Entry.{Entry}
 use Rattle.lib_calls.specs.Answer.{Answer}
-use Rattle.lib_calls.specs.Effects.{outgoing_of}
+use Rattle.lib_calls.specs.Effects.{filled, minus_two, outgoing_of, received}
 use Rattle.guest_process.specs.declared.waiting.Waiting.{Waiting}
 use Rattle.guest_process.specs.Answers.{Need, Fixed, Blocked, World, need, replies, is_due}
 use Rattle.guest_process.specs.GoesOn.{goes_on, handler}
 use Rattle.guest_process.specs.Kinds.{ends_process}
-use Rattle.guest_process.specs.State.{State, is_running, thread_at}
+use Rattle.guest_process.specs.State.{State, is_running, thread_at, with_memory}
 
 -- the world around a process: the datagrams that wait for it and the random bytes that are left, the
 -- wall time as the bits of a signed number of 64 bits, whether a signal is pending, and whether the
@@ -28,10 +29,40 @@ pub record Answered : Type 0 where
   pub answer : Answer
   pub after : State
 
+-- the answer that takes these random bytes, as many as the call asks for
+abbrev pub drawn : Call → List ℕ → Answer
+drawn c bytes = record { reply = c.a1; incoming = bytes; tag = None }
+
+-- what came in stands where the call named it
+abbrev pub fills : State → Call → Answer → Answered
+fills S c a = record { answer = a; after = with_memory S (filled c a S.store.memory) }
+
+-- the answer that takes a datagram with this tag, or none, and this payload, of which at most so many
+-- bytes come in
+abbrev pub cut : ℕ → Option Tag × List ℕ → Answer
+cut cap datagram = record { reply = length (take cap datagram.1); incoming = take cap datagram.1; tag = datagram.0 }
+
+-- what came in and its sender stand where the call named them
+abbrev pub takes : State → Call → Answer → Answered
+takes S c a = record { answer = a; after = with_memory S (received c a S.store.memory) }
+
+-- the first datagram that waits, where there is one, is taken
+abbrev pub first_taken : State → Call → List (List ℕ) → Option Answered
+first_taken S c [] = None
+first_taken S c (datagram ∷ waiting) = Some (takes S c (cut c.a1 (read_datagram S.count datagram)))
+
+-- this, or that no datagram is there
+abbrev pub or_empty : State → Option Answered → Answered
+or_empty S None = record { answer = replies minus_two; after = S }
+or_empty S (Some taken) = taken
+
 -- what the world gives, where it gives it now
 abbrev pub from_world : Kind → State → Call → Env → Option Answered
 from_world Now S c env = Some (record { answer = replies env.time; after = S })
 from_world SleepUntil S c env = if is_due c.a0 env.time then Some (record { answer = replies env.time; after = S }) else None
+from_world Random S c env = if nat_le c.a1 (length env.pool) then Some (fills S c (drawn c (take c.a1 env.pool))) else None
+from_world Recv S c env = first_taken S c env.mailbox
+from_world TryRecv S c env = Some (or_empty S (first_taken S c env.mailbox))
 from_world _ S c env = None
 
 abbrev pub answered : Need → Option Answered → Option Answered

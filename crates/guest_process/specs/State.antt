@@ -2,6 +2,7 @@
 use Rattle.std.specs.Prelude.{ℕ, Bool, true, false, List, Option}
 use Rattle.coop_threads.specs.Crew.{Crew, live_at, with_thread as crew_with}
 use Rattle.coop_threads.specs.declared.slot.Slot.{Slot}
+use Rattle.guest_memory.specs.Memory.{Memory}
 use Rattle.wasm_step.specs.Store.{Store}
 use Rattle.guest_process.specs.declared.end.End.{End}
 use Rattle.guest_process.specs.declared.end.End.TheVariants.{Running}
@@ -27,6 +28,10 @@ thread_at S t = live_at S.crew t
 -- thread t stands so
 abbrev pub with_thread : State → ℕ → Slot Waiting → State
 with_thread S t slot = record S { crew = crew_with S.crew t slot }
+
+-- the memory is this one
+abbrev pub with_memory : State → Memory → State
+with_memory S memory = record S { store = record S.store { memory = memory } }
 
 abbrev pub is_running_end : End → Bool
 is_running_end Running = true

@@ -1,11 +1,14 @@
 // The event of a legal entry.
-ghost use Rattle.std.specs.Prelude.{◌≡◌, ◌+◌, ◌<◌, ◌^◌, IfOk, OnOk, None, Some, ℕ};
+ghost use Rattle.std.specs.Prelude.{◌≡◌, ◌+◌, ◌<◌, ◌^◌, IfOk, IsTrue, OnOk, None, Some, ℕ};
 ghost use Rattle.coop_threads.specs.Crew.{IsTaken};
+ghost use Rattle.lib_calls.specs.Answer.{answer_of};
+ghost use Rattle.lib_calls.specs.Effects.{is_answer};
 ghost use Rattle.lib_calls.specs.Entry.{entry_of};
 ghost use Rattle.wasm_types.specs.Modules.{module_of};
 ghost use Rattle.wasm_step.specs.Burst.{burst};
 ghost use Rattle.wasm_step.specs.Suits.{Suits};
 ghost use Rattle.wasm_step.specs.Strand.{answered as answered_by, IsHandler};
+ghost use Rattle.guest_process.specs.Answers.{written};
 ghost use Rattle.guest_process.specs.GoesOn.{after_burst, budget, counted, entered as entered_by, handler as handler_of, runs};
 ghost use Rattle.guest_process.specs.Kinds.{value_of};
 ghost use Rattle.guest_process.specs.Legal.{reason};
@@ -17,7 +20,7 @@ use crate::answer::{answered, entered, handler};
 use crate::judge::ends_process;
 use crate::parts::Parts;
 use crate::waiting::Waiting;
-use lib_calls::EntryView;
+use lib_calls::{EntryView, write_back};
 use std::alloc::AllocError;
 use wasm_step::Strand;
 use wasm_types::Trap;
@@ -32,6 +35,7 @@ impl<'m> Parts<'m> {
         ensures program { IfOk result (λ p. p.program ≡ self.entry.program) }
         ensures suits { IfOk result (λ p. Suits p.store) }
     {
+        self.write(entry)?;
         let Some(waiting) = self.crew.take(entry.thread) else {
             unreachable!();
         };
@@ -43,6 +47,17 @@ impl<'m> Parts<'m> {
         }
         self.go_on(waiting, entry)?;
         Ok(self)
+    }
+
+    // Writes what the answer does to the memory.
+    fn write(&mut self, entry: &EntryView<'_>) -> Result<(), AllocError>
+        requires suits { Suits self.old.store }
+        requires answer { IsTrue (is_answer entry.now.call (answer_of (entry_of entry.now)) self.old.store.memory) }
+        ensures state { OnOk result (state_of self.new ≡ written (state_of self.old) entry.now.call (answer_of (entry_of entry.now))) }
+        ensures program { OnOk result (self.new.program ≡ self.old.program) }
+        ensures suits { OnOk result (Suits self.new.store) }
+    {
+        write_back(entry, self.store.memory_mut())
     }
 
     // A thread that was taken out goes on after the answer to its call.

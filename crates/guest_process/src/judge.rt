@@ -2,7 +2,7 @@
 ghost use Rattle.std.specs.Prelude.{◌≡◌, ℕ};
 ghost use Rattle.lib_calls.specs.Answer.{Answer, answer_of};
 ghost use Rattle.lib_calls.specs.Entry.{entry_of};
-ghost use Rattle.guest_process.specs.Answers.{effects, is_plain, is_possible, need};
+ghost use Rattle.guest_process.specs.Answers.{asked, effects, is_possible, need, replied};
 ghost use Rattle.guest_process.specs.Kinds.{ends_process};
 ghost use Rattle.guest_process.specs.Legal.{answers, checks, first_failing, has_arguments, is_handled};
 ghost use Rattle.guest_process.specs.Seen.{plain, refused, state_of};
@@ -12,8 +12,9 @@ use crate::divergence::Divergence;
 use crate::need::Need;
 use crate::parts::Parts;
 use crate::waiting::Waiting;
+use crate::world::{is_drawn, is_empty, is_plain, is_taken};
 use lamport_tag::is_next_clock;
-use lib_calls::{Call, EntryView, Kind, is_outgoing};
+use lib_calls::{BAD_ARGUMENTS, Call, EntryView, Kind, good_arguments, is_outgoing};
 use signal_points::Handlers;
 
 impl<'m> Parts<'m> {
@@ -23,10 +24,35 @@ impl<'m> Parts<'m> {
     {
         match waiting.kind {
             Kind::Begin | Kind::Exit | Kind::Note | Kind::Yield => Need::Fixed(0),
+            Kind::Print => self.replied(&waiting.call, waiting.call.a1),
             Kind::Now | Kind::SleepUntil => Need::World,
+            Kind::Random | Kind::Recv | Kind::TryRecv => self.asked(&waiting.call),
+            Kind::Send => self.replied(&waiting.call, waiting.call.a2),
             Kind::Me => Need::Fixed(u64::from(self.who)),
             Kind::Thread => Need::Fixed(u64::from(t)),
             _ => Need::Blocked,
+        }
+    }
+
+    // The reply to a call that the process answers so where its arguments are good.
+    fn replied(&self, call: &Call, reply: u64) -> Need
+        ensures { result ≡ plain (replied (state_of self.now) call.now reply) }
+    {
+        if good_arguments(call, self.store.memory()) {
+            Need::Fixed(reply)
+        } else {
+            Need::Fixed(BAD_ARGUMENTS)
+        }
+    }
+
+    // What the answer depends on to a call that the world answers where its arguments are good.
+    fn asked(&self, call: &Call) -> Need
+        ensures { result ≡ plain (asked (state_of self.now) call.now) }
+    {
+        if good_arguments(call, self.store.memory()) {
+            Need::World
+        } else {
+            Need::Fixed(BAD_ARGUMENTS)
         }
     }
 
@@ -78,6 +104,9 @@ impl<'m> Parts<'m> {
         match waiting.kind {
             Kind::Now => is_plain(entry),
             Kind::SleepUntil => is_due(waiting.call.a0, entry.reply) && is_plain(entry),
+            Kind::Random => is_drawn(&waiting.call, entry),
+            Kind::Recv => is_taken(self.count, &waiting.call, entry),
+            Kind::TryRecv => is_taken(self.count, &waiting.call, entry) || is_empty(entry),
             _ => false,
         }
     }
@@ -103,16 +132,6 @@ fn has_arguments(call: &Call, pending: &Call) -> bool
     ensures { result ≡ has_arguments call.now pending.now }
 {
     call.a0 == pending.a0 && (call.a1 == pending.a1 && call.a2 == pending.a2)
-}
-
-// Whether the entry has no bytes that came in and no tag.
-fn is_plain(entry: &EntryView<'_>) -> bool
-    ensures { result ≡ is_plain entry.now.tag entry.now.incoming.now }
-{
-    match (entry.tag, entry.incoming) {
-        (None, []) => true,
-        _ => false,
-    }
 }
 
 // Whether the calls of this kind end the process.

@@ -1,19 +1,25 @@
 // The laws over one event, as calls that do nothing.
 ghost use Rattle.guest_process.specs.OneEvent.{IsKept, IsKeptSound, IsStarted, OneEvent, OthersStay, Possible, Rises};
 
+use lamport_tag::{cut_short, read_back};
 use wasm_step::never_stuck;
 
 /// An event that the world let a process have has the shape of its kind and is legal where it comes,
 /// and the state after it is the one that its entry alone tells.
 pub fn one_event()
     ensures { OneEvent }
-{}
+{
+    cut_short();
+    read_back();
+}
 
 /// A legal entry with the shape of its kind is the event of a try of its thread in some world, so that
 /// no answer is legal that no world gives.
 pub fn possible()
     ensures { Possible }
-{}
+{
+    read_back();
+}
 
 /// With a legal event the clock of a process rises, also above that of the datagram that the event took,
 /// and the event is counted. The process keeps its number, its group and its program.

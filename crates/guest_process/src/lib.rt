@@ -14,6 +14,7 @@ mod need;
 mod parts;
 mod process;
 mod waiting;
+mod world;
 
 pub use answer::is_due;
 pub use count::counting;

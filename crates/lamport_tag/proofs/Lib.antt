@@ -1,3 +1,4 @@
 pub mod LittleEndian
 pub mod TagLaws
 pub mod CutLaws
+pub mod BackLaws

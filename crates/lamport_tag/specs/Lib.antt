@@ -1,1 +1,2 @@
 pub mod Tag
+pub mod Laws

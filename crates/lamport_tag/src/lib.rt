@@ -7,7 +7,7 @@ ghost use Rattle.lamport_tag.specs.Tag.{IsTagged, IsUntagged, clock_of, next_clo
 mod laws;
 
 use byteorder::{ByteOrder, LittleEndian};
-pub use laws::cut_short;
+pub use laws::{cut_short, read_back};
 
 const MAGIC: [u8; 4] = [0xD7, b'L', b'O', b'G'];
 
@@ -85,8 +85,8 @@ pub fn write_tag(tag: Tag) -> [u8; 16]
     bytes
 }
 
-// Whether a process of a group of `count` can have sent the tag.
-fn is_sendable(tag: Tag, count: u32) -> bool
+/// Whether a process of a group of `count` can have sent the tag.
+pub fn is_sendable(tag: Tag, count: u32) -> bool
     ensures { result ≡ is_sendable_of count tag }
 {
     tag.sender < count && 1 <= tag.clock && tag.clock <= LAST_CLOCK

@@ -12,8 +12,11 @@ use guest_memory::Memory;
 use lamport_tag::Tag;
 use std::alloc::AllocError;
 
-// The reply of a try_recv that found no datagram, -2 in 32 bits.
-const NONE_THERE: u64 = 0xFFFF_FFFE;
+/// The reply to bad arguments, -1 in 32 bits.
+pub const BAD_ARGUMENTS: u64 = 0xFFFF_FFFF;
+
+/// The reply of a try_recv that found no datagram, -2 in 32 bits.
+pub const NONE_THERE: u64 = 0xFFFF_FFFE;
 
 /// Writes to the memory what the entry's answer does: the bytes that random took, or the payload of the
 /// datagram that recv or try_recv took and then its sender. Other answers write nothing. After want of

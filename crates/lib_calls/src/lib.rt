@@ -8,7 +8,7 @@ mod built;
 mod entry;
 mod table;
 
-pub use answer::write_back;
+pub use answer::{BAD_ARGUMENTS, NONE_THERE, write_back};
 pub use arguments::{good_arguments, is_outgoing, outgoing};
 pub use built::is_built;
 pub use call_table::{Kind, Signature};

@@ -1,0 +1,59 @@
+// Which answers the world can give.
+ghost use Rattle.std.specs.Prelude.{◌≡◌};
+ghost use Rattle.lib_calls.specs.Answer.{answer_of};
+ghost use Rattle.lib_calls.specs.Effects.{takes_counted};
+ghost use Rattle.lib_calls.specs.Entry.{entry_of};
+ghost use Rattle.guest_process.specs.Answers.{is_drawn, is_empty, is_payload, is_plain, is_taken};
+
+use lamport_tag::{Tag, is_sendable, read_tag};
+use lib_calls::{Call, EntryView, NONE_THERE};
+
+/// Whether so many bytes came in as the call asks for, and no tag.
+pub(crate) fn is_drawn(call: &Call, entry: &EntryView<'_>) -> bool
+    ensures { result ≡ is_drawn call.now (answer_of (entry_of entry.now)) }
+{
+    entry.reply == call.a1 && (entry.incoming.len() as u64 == call.a1 && entry.tag.is_none())
+}
+
+/// Whether what came in is the payload of some datagram, cut to the bytes that the call has room for,
+/// and its tag.
+pub(crate) fn is_taken(count: u32, call: &Call, entry: &EntryView<'_>) -> bool
+    ensures { result ≡ is_taken count call.now (answer_of (entry_of entry.now)) }
+{
+    is_counted(call, entry) && is_payload(count, entry.tag, entry.incoming)
+}
+
+// Whether the reply counts the bytes that came in, and the call has room for them.
+fn is_counted(call: &Call, entry: &EntryView<'_>) -> bool
+    ensures { result ≡ takes_counted call.now (answer_of (entry_of entry.now)) }
+{
+    let length = entry.incoming.len() as u64;
+    entry.reply == length && length <= call.a1
+}
+
+// Whether some datagram of a group of so many processes has this tag, or none, and this payload.
+fn is_payload(count: u32, tag: Option<Tag>, payload: &[u8]) -> bool
+    ensures { result ≡ is_payload count tag payload.now }
+{
+    match tag {
+        Some(tag) => is_sendable(tag, count),
+        None => read_tag(payload, count).is_none(),
+    }
+}
+
+/// Whether no datagram was there.
+pub(crate) fn is_empty(entry: &EntryView<'_>) -> bool
+    ensures { result ≡ is_empty (answer_of (entry_of entry.now)) }
+{
+    entry.reply == NONE_THERE && is_plain(entry)
+}
+
+/// Whether the entry has no bytes that came in and no tag.
+pub(crate) fn is_plain(entry: &EntryView<'_>) -> bool
+    ensures { result ≡ is_plain entry.now.tag entry.now.incoming.now }
+{
+    match (entry.tag, entry.incoming) {
+        (None, []) => true,
+        _ => false,
+    }
+}

@@ -1,0 +1,8 @@
+use Rattle.lamport_tag.proofs.BackLaws.{found_sendable, found_again}
+use Rattle.lamport_tag.proofs.laws.read_back.Goals as goal
+
+pub returns-clause-sent : goal.returns-clause-sent
+returns-clause-sent c = found_sendable
+
+pub returns-clause-again : goal.returns-clause-again
+returns-clause-again c = found_again
