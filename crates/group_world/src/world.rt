@@ -3,8 +3,8 @@ ghost use Rattle.std.specs.Prelude.{◌≡◌, ◌<◌, ◌≤◌, length, IsTru
 ghost use Rattle.lib_calls.specs.Entry.{entry_of};
 ghost use Rattle.lib_calls.specs.Traffic.{drawn as drawn_of, is_taken as is_taken_of};
 ghost use Rattle.lossy_net.specs.Network.{front_of, mailbox_of, nth_of, sent_by};
-ghost use Rattle.group_world.specs.History.{Event, Deliver, Inject, Clock, Random, Kill};
-ghost use Rattle.group_world.specs.World.{after, new_world, place_of, size};
+ghost use Rattle.group_world.specs.History.{Event, Deliver, Inject, Clock, Random, Kill, datagram as datagram_of};
+ghost use Rattle.group_world.specs.World.{after, new_world, place_of, sent_if, size, took_if};
 
 use crate::place::Place;
 use fri_bytes::Bytes;
@@ -95,25 +95,36 @@ impl World {
         ensures err { OnErr result (self.new ≡ self.old) }
         ensures size { size self.new ≡ size self.old }
     {
-        if is_sent(entry, self.count) {
-            self.keep_sent(p, entry)?;
-        }
-        if is_taken(entry) {
-            self.net.pop(p);
-        }
+        self.keep_sent(p, entry)?;
+        self.let_go_taken(p, entry);
         self.places[p as usize].draw(drawn(entry));
         Ok(())
     }
 
-    // Keeps the datagram of a send.
-    fn keep_sent(&mut self, p: u32, entry: &EntryView<'_>) -> Result<(), AllocError> {
-        let tag = Tag {
-            sender: p,
-            clock: entry.clock,
-        };
-        let mut bytes = Bytes::from_slice(self.alloc, &write_tag(tag))?;
-        bytes.push_all(entry.outgoing)?;
+    // Keeps the datagram that the event sent into the group, if it sent one.
+    fn keep_sent(&mut self, p: u32, entry: &EntryView<'_>) -> Result<(), AllocError>
+        requires { p < size self.old }
+        ensures ok { OnOk result (self.new ≡ record self.old {
+            net = sent_if (is_sent_of (size self.old) (entry_of entry.now)) self.old.net p (entry_of entry.now)
+        }) }
+        ensures err { OnErr result (self.new ≡ self.old) }
+    {
+        if !is_sent(entry, self.count) {
+            return Ok(());
+        }
+        let bytes = datagram(self.alloc, p, entry)?;
         self.net.sent(p, entry.call.a0 as u32, bytes)
+    }
+
+    // Lets the datagram go that the event took, if it took one.
+    fn let_go_taken(&mut self, p: u32, entry: &EntryView<'_>)
+        requires process { p < size self.old }
+        requires datagram { IsTrue (is_taken_of (entry_of entry.now)) → 1 ≤ length (mailbox_of self.old.net p) }
+        ensures { self.new ≡ record self.old { net = took_if (is_taken_of (entry_of entry.now)) self.old.net p } }
+    {
+        if is_taken(entry) {
+            self.net.pop(p);
+        }
     }
 
     /// Puts the nth datagram that `p` sent, from 1, at the end of its receiver's mailbox. False where
@@ -166,4 +177,17 @@ impl World {
     {
         self.places[p as usize].killed = true;
     }
+}
+
+// The datagram of a send of `p`: its tag, and what went out.
+fn datagram(alloc: Global, p: u32, entry: &EntryView<'_>) -> Result<Bytes, AllocError>
+    ensures { IfOk result (λ bytes. bytes ≡ datagram_of p (entry_of entry.now)) }
+{
+    let tag = Tag {
+        sender: p,
+        clock: entry.clock,
+    };
+    let mut bytes = Bytes::from_slice(alloc, &write_tag(tag))?;
+    bytes.push_all(entry.outgoing)?;
+    Ok(bytes)
 }
