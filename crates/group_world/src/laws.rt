@@ -1,6 +1,8 @@
 // The laws of the world around a group, as a call that does nothing.
 ghost use Rattle.group_world.specs.Laws.{Counting, HasOrigin, NamesSend};
 
+use lamport_tag::read_back;
+
 /// What is kept around each process is what is counted out of the acts; each datagram in a mailbox came
 /// from outside or is one that was sent; and a datagram that was sent names its send, unless the send's
 /// clock is past those that a tag can bear.
@@ -8,4 +10,6 @@ pub fn by_counting()
     ensures counted { Counting }
     ensures origin { HasOrigin }
     ensures named { NamesSend }
-{}
+{
+    read_back();
+}

@@ -1,7 +1,7 @@
 // The world around the processes of a group.
 ghost use Rattle.std.specs.Prelude.{◌≡◌, ◌<◌, ◌≤◌, length, IsTrue, IfOk, OnOk, OnErr, is_some, option_map};
 ghost use Rattle.lib_calls.specs.Entry.{entry_of};
-ghost use Rattle.lib_calls.specs.Traffic.{drawn as drawn_of, is_taken as is_taken_of};
+ghost use Rattle.lib_calls.specs.Traffic.{drawn as drawn_of, is_sent as is_sent_of, is_taken as is_taken_of};
 ghost use Rattle.lossy_net.specs.Network.{front_of, mailbox_of, nth_of, sent_by};
 ghost use Rattle.group_world.specs.History.{Event, Deliver, Inject, Clock, Random, Kill, datagram as datagram_of};
 ghost use Rattle.group_world.specs.World.{after, new_world, place_of, sent_if, size, took_if};

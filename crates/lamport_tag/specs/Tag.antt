@@ -37,6 +37,11 @@ tag_at count datagram =
     let tag = numbers_at datagram in
     if starts_with nat_eq datagram (tag_bytes tag) && is_sendable count tag then Some (tag, drop 16 datagram) else None
 
+-- a datagram that has a tag is read as that tag and its payload
+abbrev pub ReadsBack : Type 0
+ReadsBack = (count : ℕ) (datagram : List ℕ) (tag : Tag) (payload : List ℕ) → count ≤ 2 ^ 32
+    → IsTagged count datagram tag payload → tag_at count datagram ≡ Some (tag, payload)
+
 -- In a group of `count` processes the datagram has this tag, or none, and this payload.
 abbrev pub IsReadAs : ℕ → List ℕ → Option Tag → List ℕ → Type 0
 IsReadAs count datagram (Some tag) payload = IsTagged count datagram tag payload
