@@ -1,3 +1,4 @@
 pub mod EventLaws
 pub mod NetLaws
 pub mod Counting
+pub mod Origins
