@@ -1,13 +1,13 @@
 -- The world around a group is that which is counted out of the acts.
-use Rattle.std.proofs.Common.{◌≡◌, ℕ, ◌+◌, ◌-◌, ◌<◌, ◌≤◌, Bool, true, false, ◌&&◌, List, [], ◌∷◌, ◌++◌, length, get_or, drop, map, replicate, refl, sym, ap, ◌∙◌, subst, ⊎_elim, arith, length-set, length-append, length-drop, get_or-set_same, get_or-set_other}
+use Rattle.std.proofs.Common.{◌≡◌, ℕ, ◌+◌, ◌-◌, ◌<◌, ◌≤◌, Bool, true, false, ◌&&◌, List, [], ◌∷◌, ◌++◌, length, get_or, drop, map, refl, sym, ap, ◌∙◌, subst, ⊎_elim, arith, length-set, length-append, length-drop, get_or-set_same, get_or-set_other}
 use Rattle.std.specs.Prelude.{◌==◌, ◌||◌, IsTrue, slice_set, if◌then◌else◌}
 use Rattle.std.proofs.lemmas.Bool.{cases_eq, eq-eqb, eqb-true, ne_eqb}
 use Rattle.std.proofs.lemmas.List.{append-nil, drop-append-le, drop-drop, get_or-replicate, length-replicate, map_push}
 use Rattle.lib_calls.specs.declared.entry.Entry.{Entry}
 use Rattle.lib_calls.specs.Traffic.{drawn, is_sent, is_taken}
-use Rattle.lossy_net.specs.Network.{Sent, Traffic, mailbox_of, no_traffic, nth_of, sent_by, traffic_of, with_delivered}
+use Rattle.lossy_net.specs.Network.{Traffic, no_traffic, nth_of, sent_by, traffic_of, with_delivered}
 use Rattle.group_world.specs.History.{Act, Event, Deliver, Inject, Clock, Random, Kill, History, addressed, given, is_killed, mailbox, nth, one_if, pool, put_last_if, sends, supplied, taken, time, used}
-use Rattle.group_world.specs.Laws.{CanBe, CanFollow, CanTake, Counting, IsCounted, sent_as}
+use Rattle.group_world.specs.Laws.{CanBe, CanFollow, Counting, IsCounted, sent_as}
 use Rattle.group_world.specs.World.{Place, World, after, drew, new_world, no_place, place_of, sent_if, size, took_if, world_after}
 use Rattle.group_world.proofs.NetLaws.{length-sent_if, length-took_if, length-with_delivered, nth_of-map, traffic_of-delivered, traffic_of-event, traffic_of-new, traffic_of-waiting}
 
@@ -68,9 +68,9 @@ put_last_is false xs x = sym (append-nil xs)
 within_next : (count : ℕ) (h : History) (a : Act) (p : ℕ) → CanFollow count h a → IsWithin count h p → IsWithin count (a ∷ h) p
 within_next count h (Event q e) p can within = record {
   datagrams = one_more (q == p) (is_taken e) (taken h p) (length (given count h p)) within.datagrams
-    (λ mine takes. subst (λ n. 1 ≤ n) (length-drop (taken h p) (given count h p)) (subst (λ k. 1 ≤ length (mailbox count h k)) (eqb-true q p mine) (can.1.datagrams takes)));
+      (λ mine takes. subst (λ n. 1 ≤ n) (length-drop (taken h p) (given count h p)) (subst (λ k. 1 ≤ length (mailbox count h k)) (eqb-true q p mine) (can.1.datagrams takes)));
   bytes = so_many_more (q == p) (used h p) (drawn e) (length (supplied h p)) within.bytes
-    (λ mine. subst (λ n. drawn e ≤ n) (length-drop (used h p) (supplied h p)) (subst (λ k. drawn e ≤ length (pool h k)) (eqb-true q p mine) can.1.bytes));
+      (λ mine. subst (λ n. drawn e ≤ n) (length-drop (used h p) (supplied h p)) (subst (λ k. drawn e ≤ length (pool h k)) (eqb-true q p mine) can.1.bytes));
 }
 within_next count h (Deliver q n) p can within = record { datagrams = longer _ (given count h p) _ within.datagrams; bytes = within.bytes }
 within_next count h (Inject q bytes) p can within = record {
@@ -108,7 +108,6 @@ pool_drew : (mine : Bool) (place : Place) (n before : ℕ) (all : List ℕ) → 
 pool_drew true place n before all is = ap (drop n) is ∙ drop-drop n before all
 pool_drew false place n before all is = is
 
-
 pool_added : (mine : Bool) (place : Place) (bytes : List ℕ) (before : ℕ) (all : List ℕ) → before ≤ length all → place.pool ≡ drop before all
     → (if mine then record place { pool = place.pool ++ bytes } else place).pool ≡ drop before (if mine then all ++ bytes else all)
 pool_added true place bytes before all within is = ap (λ pool. pool ++ bytes) is ∙ sym (drop-append-le before all bytes within)
@@ -144,11 +143,11 @@ event_counted count h w p q e b =
     let place = place_changed w q p (λ place. drew place (drawn e)) (omega (arith, b.process, b.places)) in
     record {
       sent = ap (λ (t : Traffic). t.sent) traffic
-        ∙ ap (λ xs. put_last_if ((q == p) && is_sent count e) xs (sent_as p e)) b.counted.sent
-        ∙ sym (map_put_last (sent_as p) ((q == p) && is_sent count e) (sends count h p) e);
+          ∙ ap (λ xs. put_last_if ((q == p) && is_sent count e) xs (sent_as p e)) b.counted.sent
+          ∙ sym (map_put_last (sent_as p) ((q == p) && is_sent count e) (sends count h p) e);
       mailbox = ap (λ (t : Traffic). t.waiting) traffic
-        ∙ ap (drop (one_if ((q == p) && is_taken e))) b.counted.mailbox
-        ∙ drop-drop (one_if ((q == p) && is_taken e)) (taken h p) (given count h p);
+          ∙ ap (drop (one_if ((q == p) && is_taken e))) b.counted.mailbox
+          ∙ drop-drop (one_if ((q == p) && is_taken e)) (taken h p) (given count h p);
       pool = ap (λ (s : Place). s.pool) place ∙ pool_drew (q == p) (place_of w p) (drawn e) (used h p) (supplied h p) b.counted.pool;
       time = ap (λ (s : Place). s.time) place ∙ part_stays (λ s. s.time) (λ s. drew s (drawn e)) (q == p) (place_of w p) refl ∙ b.counted.time;
       killed = ap (λ (s : Place). s.killed) place ∙ part_stays (λ s. s.killed) (λ s. drew s (drawn e)) (q == p) (place_of w p) refl ∙ b.counted.killed;
@@ -163,8 +162,8 @@ deliver_counted count h w p q n b sender =
     record {
       sent = ap (λ (t : Traffic). t.sent) traffic ∙ b.counted.sent;
       mailbox = ap (λ (t : Traffic). t.waiting) traffic
-        ∙ ap (λ waiting. waiting ++ addressed q p (nth (sends count h q) n)) b.counted.mailbox
-        ∙ sym (drop-append-le (taken h p) (given count h p) (addressed q p (nth (sends count h q) n)) b.within.datagrams);
+          ∙ ap (λ waiting. waiting ++ addressed q p (nth (sends count h q) n)) b.counted.mailbox
+          ∙ sym (drop-append-le (taken h p) (given count h p) (addressed q p (nth (sends count h q) n)) b.within.datagrams);
       pool = b.counted.pool;
       time = b.counted.time;
       killed = b.counted.killed;
@@ -178,9 +177,9 @@ inject_counted count h w p q bytes b =
     record {
       sent = ap (λ (t : Traffic). t.sent) traffic ∙ b.counted.sent;
       mailbox = ap (λ (t : Traffic). t.waiting) traffic
-        ∙ ap (λ waiting. waiting ++ more) b.counted.mailbox
-        ∙ sym (drop-append-le (taken h p) (given count h p) more b.within.datagrams)
-        ∙ ap (drop (taken h p)) (sym (put_last_is (q == p) (given count h p) bytes));
+          ∙ ap (λ waiting. waiting ++ more) b.counted.mailbox
+          ∙ sym (drop-append-le (taken h p) (given count h p) more b.within.datagrams)
+          ∙ ap (drop (taken h p)) (sym (put_last_is (q == p) (given count h p) bytes));
       pool = b.counted.pool;
       time = b.counted.time;
       killed = b.counted.killed;

@@ -1,11 +1,11 @@
 -- What each change of the network leaves of what one process sent, and of what waits for it.
-use Rattle.std.proofs.Common.{◌≡◌, ◌≢◌, ℕ, zero, suc, ◌<◌, Bool, true, false, ◌&&◌, List, [], ◌∷◌, ◌++◌, length, drop, map, replicate, Option, Some, None, refl, sym, ap, ◌∙◌, subst, ⊎_elim, arith, length-set, get_or-set_same, get_or-set_other}
+use Rattle.std.proofs.Common.{◌≡◌, ◌≢◌, ℕ, zero, suc, ◌<◌, Bool, true, false, ◌&&◌, List, [], ◌∷◌, ◌++◌, length, drop, map, replicate, Option, Some, None, refl, sym, ap, ◌∙◌, subst, ⊎_elim, length-set, get_or-set_same, get_or-set_other}
 use Rattle.std.specs.Prelude.{◌==◌, slice_set, if◌then◌else◌, option_map}
 use Rattle.std.proofs.lemmas.Bool.{cases_eq, eq-eqb, ne_eqb}
-use Rattle.std.proofs.lemmas.List.{append-nil, get_or-replicate, length-replicate}
+use Rattle.std.proofs.lemmas.List.{append-nil, get_or-replicate}
 use Rattle.std.proofs.lemmas.Option.{slice_get-map}
 use Rattle.lib_calls.specs.declared.entry.Entry.{Entry}
-use Rattle.lossy_net.specs.Network.{Sent, Traffic, after_sending, mailbox_of, no_traffic, nth_of, sent_by, traffic_of, with_delivered, with_waiting}
+use Rattle.lossy_net.specs.Network.{Sent, Traffic, after_sending, no_traffic, nth_of, traffic_of, with_delivered, with_waiting}
 use Rattle.group_world.specs.History.{addressed, datagram, nth, one_if, put_last_if}
 use Rattle.group_world.specs.Laws.{sent_as}
 use Rattle.group_world.specs.World.{sent_if, took_if}

@@ -1,12 +1,12 @@
 -- Each datagram of a mailbox came from outside or is one that was sent and delivered.
-use Rattle.std.proofs.Common.{◌≡◌, ℕ, zero, suc, ◌+◌, ◌<◌, Bool, true, false, ◌&&◌, List, [], ◌∷◌, ◌++◌, length, get_or, drop, Option, Some, None, refl, sym, ap, ◌∙◌, subst, ⊎_elim, arith, length-drop}
+use Rattle.std.proofs.Common.{◌≡◌, ℕ, zero, suc, ◌+◌, Bool, true, false, ◌&&◌, List, [], ◌∷◌, ◌++◌, drop, Option, Some, None, refl, sym, ap, ◌∙◌, subst, ⊎_elim, arith, length-drop}
 use Rattle.std.specs.Prelude.{◌==◌, Contains, if◌then◌else◌}
 use Rattle.std.proofs.lemmas.Bool.{eqb-true}
 use Rattle.std.proofs.lemmas.List.{get_or-drop}
 use Rattle.std.proofs.lemmas.List.Elements.{Contains-append_cases, Contains-append_right, Contains-push_cases}
 use Rattle.lib_calls.specs.declared.entry.Entry.{Entry}
 use Rattle.lib_calls.specs.Traffic.{is_sent}
-use Rattle.group_world.specs.History.{Act, Event, Deliver, Inject, Clock, Random, Kill, History, addressed, datagram, given, nth, put_last_if, sends, taken}
+use Rattle.group_world.specs.History.{Act, Event, Deliver, Inject, History, addressed, datagram, given, nth, put_last_if, sends, taken}
 use Rattle.group_world.specs.Laws.{HasOrigin, Origin, FromOutside, FromSend}
 
 -- ---- lists

@@ -1,11 +1,11 @@
 -- What holds of the world around a group: it is that which is counted out of the acts, and each datagram in
 -- it came from outside or is one that was sent.
-use Rattle.std.specs.Prelude.{◌≡◌, ℕ, ◌<◌, ◌≤◌, ◌^◌, IsTrue, List, [], ◌∷◌, length, map, slice_get, Contains, Some}
+use Rattle.std.specs.Prelude.{◌≡◌, ℕ, ◌<◌, ◌≤◌, ◌^◌, IsTrue, List, [], ◌∷◌, length, map, Contains, Some}
 use Rattle.lamport_tag.specs.Tag.{read_datagram}
 use Rattle.lib_calls.specs.declared.entry.Entry.{Entry}
 use Rattle.lib_calls.specs.Traffic.{drawn, is_taken}
 use Rattle.lossy_net.specs.Network.{Sent, mailbox_of, sent_by}
-use Rattle.group_world.specs.History.{Act, Event, Deliver, Inject, Clock, Random, Kill, History, datagram, given, is_killed, mailbox, nth, pool, sends, time}
+use Rattle.group_world.specs.History.{Act, Event, Deliver, Inject, Clock, Random, Kill, History, datagram, is_killed, mailbox, nth, pool, sends, time}
 use Rattle.group_world.specs.World.{World, place_of, world_after}
 
 -- ---- which acts can come

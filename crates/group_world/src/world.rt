@@ -105,7 +105,7 @@ impl World {
     fn keep_sent(&mut self, p: u32, entry: &EntryView<'_>) -> Result<(), AllocError>
         requires { p < size self.old }
         ensures ok { OnOk result (self.new ≡ record self.old {
-            net = sent_if (is_sent_of (size self.old) (entry_of entry.now)) self.old.net p (entry_of entry.now)
+          net = sent_if (is_sent_of (size self.old) (entry_of entry.now)) self.old.net p (entry_of entry.now);
         }) }
         ensures err { OnErr result (self.new ≡ self.old) }
     {

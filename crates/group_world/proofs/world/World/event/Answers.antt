@@ -1,10 +1,9 @@
-use Rattle.std.proofs.Common.{◌≡◌, ℕ, ◌<◌, List, length, get_or, sym, ap, ◌∙◌, arith, rules}
+use Rattle.std.proofs.Common.{◌≡◌, ℕ, ◌<◌, length, get_or, ap, ◌∙◌, rules}
 use Rattle.std.specs.Prelude.{slice_set}
 use Rattle.std.proofs.lemmas.List.{get_or_read}
 use Rattle.lib_calls.specs.declared.entry.Entry.{Entry}
 use Rattle.lib_calls.specs.Entry.{entry_of}
 use Rattle.lib_calls.specs.Traffic.{drawn, is_sent, is_taken}
-use Rattle.lossy_net.specs.Network.{Traffic}
 use Rattle.group_world.specs.World.{Place, World, after_event, drew, no_place, place_of, sent_if, size, took_if}
 use Rattle.group_world.proofs.EventLaws.{either_first, not_both}
 use Rattle.group_world.proofs.world.World.event.Goals as goal
