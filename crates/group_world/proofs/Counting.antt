@@ -2,13 +2,14 @@
 use Rattle.std.proofs.Common.{◌≡◌, ℕ, ◌+◌, ◌-◌, ◌<◌, ◌≤◌, Bool, true, false, ◌&&◌, List, [], ◌∷◌, ◌++◌, length, get_or, drop, map, refl, sym, ap, ◌∙◌, subst, ⊎_elim, arith, length-set, length-append, length-drop, get_or-set_same, get_or-set_other}
 use Rattle.std.specs.Prelude.{◌==◌, ◌||◌, IsTrue, slice_set, if◌then◌else◌}
 use Rattle.std.proofs.lemmas.Bool.{cases_eq, eq-eqb, eqb-true, ne_eqb}
-use Rattle.std.proofs.lemmas.List.{append-nil, drop-append-le, drop-drop, get_or-replicate, length-replicate, map_push}
+use Rattle.std.proofs.lemmas.List.{drop-append-le, drop-drop, get_or-replicate, length-replicate, map_push}
 use Rattle.lib_calls.specs.declared.entry.Entry.{Entry}
 use Rattle.lib_calls.specs.Traffic.{drawn, is_sent, is_taken}
 use Rattle.lossy_net.specs.Network.{Traffic, no_traffic, nth_of, sent_by, traffic_of, with_delivered}
 use Rattle.group_world.specs.History.{Act, Event, Deliver, Inject, Clock, Random, Kill, History, addressed, given, is_killed, mailbox, nth, one_if, pool, put_last_if, sends, supplied, taken, time, used}
 use Rattle.group_world.specs.Laws.{CanBe, CanFollow, Counting, IsCounted, sent_as}
 use Rattle.group_world.specs.World.{Place, World, after, drew, new_world, no_place, place_of, sent_if, size, took_if, world_after}
+use Rattle.group_world.proofs.Lists.{put_last_is}
 use Rattle.group_world.proofs.NetLaws.{length-sent_if, length-took_if, length-with_delivered, nth_of-map, traffic_of-delivered, traffic_of-event, traffic_of-new, traffic_of-waiting}
 
 -- ---- as many processes as before
@@ -60,10 +61,6 @@ longer n xs ys within = omega (arith, length-append xs ys)
 longer_if : {A : Type 0} (b : Bool) (n : ℕ) (xs ys : List A) → n ≤ length xs → n ≤ length (if b then xs ++ ys else xs)
 longer_if true n xs ys within = longer n xs ys within
 longer_if false n xs ys within = within
-
-put_last_is : {A : Type 0} (b : Bool) (xs : List A) (x : A) → put_last_if b xs x ≡ xs ++ (if b then x ∷ [] else [])
-put_last_is true xs x = refl
-put_last_is false xs x = sym (append-nil xs)
 
 within_next : (count : ℕ) (h : History) (a : Act) (p : ℕ) → CanFollow count h a → IsWithin count h p → IsWithin count (a ∷ h) p
 within_next count h (Event q e) p can within = record {

@@ -1,11 +1,11 @@
--- What holds of the world around a group: it is that which is counted out of the acts, and each datagram in
--- it came from outside or is one that was sent.
-use Rattle.std.specs.Prelude.{◌≡◌, ℕ, ◌<◌, ◌≤◌, ◌^◌, IsTrue, List, [], ◌∷◌, length, map, Contains, Some}
+-- What holds of the world around a group: it is that which is counted out of the acts, each datagram in it
+-- came from outside or is one that was sent, and each has an act that gave it.
+use Rattle.std.specs.Prelude.{◌≡◌, ℕ, ◌<◌, ◌≤◌, ◌^◌, ◌==◌, IsTrue, List, [], ◌∷◌, ◌++◌, length, map, slice_get, Contains, Some, if◌then◌else◌}
 use Rattle.lamport_tag.specs.Tag.{read_datagram}
 use Rattle.lib_calls.specs.declared.entry.Entry.{Entry}
 use Rattle.lib_calls.specs.Traffic.{drawn, is_taken}
 use Rattle.lossy_net.specs.Network.{Sent, mailbox_of, sent_by}
-use Rattle.group_world.specs.History.{Act, Event, Deliver, Inject, Clock, Random, Kill, History, datagram, is_killed, mailbox, nth, pool, sends, time}
+use Rattle.group_world.specs.History.{Act, Event, Deliver, Inject, Clock, Random, Kill, History, addressed, datagram, given, is_killed, mailbox, nth, pool, sends, taken, time}
 use Rattle.group_world.specs.World.{World, place_of, world_after}
 
 -- ---- which acts can come
@@ -54,11 +54,39 @@ pub record Counting : Type 0 where
 -- was for p, and which an item delivers
 pub data Origin (count : ℕ) (h : History) (p : ℕ) (bytes : List ℕ) : Type 0 where
   FromOutside : Contains h (Inject p bytes) → Origin count h p bytes
-  FromSend : (q n : ℕ) → (e : Entry) → Contains h (Deliver q n) → nth (sends count h q) n ≡ Some e → e.call.a0 ≡ p → bytes ≡ datagram q e → Origin count h p bytes
+  FromSend : (q n : ℕ) → (e : Entry) → Contains h (Deliver q n) → nth (sends count h q) n ≡ Some e
+      → e.call.a0 ≡ p → bytes ≡ datagram q e → Origin count h p bytes
 
 -- each datagram of a mailbox has such an origin
 abbrev pub HasOrigin : Type 0
 HasOrigin = (count : ℕ) (h : History) (p : ℕ) (bytes : List ℕ) → Contains (mailbox count h p) bytes → Origin count h p bytes
+
+-- ---- which act gave a datagram
+
+-- the datagram, if it is one, that an act which follows these gives to process p
+abbrev pub gives : ℕ → History → Act → ℕ → List (List ℕ)
+gives count h (Deliver q n) p = addressed q p (nth (sends count h q) n)
+gives count h (Inject q bytes) p = if q == p then bytes ∷ [] else []
+gives count h _ p = []
+
+-- the act that gave process p this datagram, which has this number, from 0: before it those of the lesser
+-- numbers had been given, and no others
+pub record Giver (count : ℕ) (h : History) (p number : ℕ) (bytes : List ℕ) : Type 0 where
+  pub later : History
+  pub act : Act
+  pub earlier : History
+  pub split : h ≡ later ++ act ∷ earlier
+  pub number_is : number ≡ length (given count earlier p)
+  pub gives_it : gives count earlier act p ≡ bytes ∷ []
+
+-- the front of a mailbox is the datagram that was given next after those that were taken; and each datagram
+-- was given by an act
+pub record InTurn : Type 0 where
+  pub front : (count : ℕ) (h : History) (p : ℕ) → slice_get (mailbox count h p) 0 ≡ slice_get (given count h p) (taken h p)
+  pub giver : (count : ℕ) (h : History) (p number : ℕ) (bytes : List ℕ) → slice_get (given count h p) number ≡ Some bytes
+      → Giver count h p number bytes
+
+-- ---- what a datagram says
 
 -- the datagram of a send whose clock a tag can bear names the send, and its payload is what went out
 abbrev pub NamesSend : Type 0

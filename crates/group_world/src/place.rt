@@ -49,6 +49,7 @@ impl Place {
     pub(crate) fn add(&mut self, bytes: &[u8]) -> Result<(), AllocError>
         ensures ok { OnOk result (self.new ≡ record self.old { pool = self.old.pool ++ bytes.now }) }
         ensures err { OnErr result (self.new ≡ self.old) }
+        ensures memory { OnErr result (1 ≤ length bytes.now) }
     {
         self.bytes.extend_from_slice(bytes)?;
         Ok(())

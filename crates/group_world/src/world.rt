@@ -93,6 +93,7 @@ impl World {
         requires bytes { drawn_of (entry_of entry.now) ≤ length (place_of self.old p).pool }
         ensures ok { OnOk result (self.new ≡ after self.old (Event p (entry_of entry.now))) }
         ensures err { OnErr result (self.new ≡ self.old) }
+        ensures memory { OnErr result (IsTrue (is_sent_of (size self.old) (entry_of entry.now))) }
         ensures size { size self.new ≡ size self.old }
     {
         self.keep_sent(p, entry)?;
@@ -108,6 +109,7 @@ impl World {
           net = sent_if (is_sent_of (size self.old) (entry_of entry.now)) self.old.net p (entry_of entry.now);
         }) }
         ensures err { OnErr result (self.new ≡ self.old) }
+        ensures memory { OnErr result (IsTrue (is_sent_of (size self.old) (entry_of entry.now))) }
     {
         if !is_sent(entry, self.count) {
             return Ok(());
@@ -134,6 +136,7 @@ impl World {
         ensures found { IfOk result (λ found. found ≡ is_some (nth_of (sent_by self.old.net p) n)) }
         ensures ok { OnOk result (self.new ≡ after self.old (Deliver p n)) }
         ensures err { OnErr result (self.new ≡ self.old) }
+        ensures memory { OnErr result (IsTrue (is_some (nth_of (sent_by self.old.net p) n))) }
         ensures size { size self.new ≡ size self.old }
     {
         self.net.deliver(p, n)
@@ -155,6 +158,7 @@ impl World {
         requires { p < size self.old }
         ensures ok { OnOk result (self.new ≡ after self.old (Random p bytes.now)) }
         ensures err { OnErr result (self.new ≡ self.old) }
+        ensures memory { OnErr result (1 ≤ length bytes.now) }
         ensures size { size self.new ≡ size self.old }
     {
         self.places[p as usize].add(bytes)
