@@ -3,3 +3,4 @@ pub mod Kinds
 pub mod Entry
 pub mod Answer
 pub mod Effects
+pub mod Traffic

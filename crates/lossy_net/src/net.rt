@@ -76,6 +76,7 @@ impl Net {
         ensures value { IfOk result (λ found. found ≡ is_some (nth_of (sent_by self.old p) n)) }
         ensures ok { OnOk result (self.new ≡ with_delivered self.old (nth_of (sent_by self.old p) n)) }
         ensures err { OnErr result (self.new ≡ self.old) }
+        ensures memory { OnErr result (IsTrue (is_some (nth_of (sent_by self.old p) n))) }
         ensures processes { length self.new ≡ length self.old }
     {
         let Some(datagram) = self.endpoints[p as usize].nth_sent(n) else {

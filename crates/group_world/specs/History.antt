@@ -1,0 +1,106 @@
+-- The acted steps of a recording, and the world around each process after them, by counting.
+use Rattle.std.specs.Prelude.{ℕ, zero, suc, ◌+◌, Bool, true, false, ◌||◌, ◌&&◌, ◌==◌, List, [], ◌∷◌, ◌++◌, drop, slice_get, Option, Some, None, if◌then◌else◌}
+use Rattle.lamport_tag.specs.Tag.{tag_bytes}
+use Rattle.lib_calls.specs.declared.entry.Entry.{Entry}
+use Rattle.lib_calls.specs.Traffic.{drawn, is_sent, is_taken}
+
+-- an event of a process, by its entry; the delivery of a datagram of the process by its number, from 1; a
+-- datagram from outside for the process; its wall time, as the bits of a signed number of 64 bits; random
+-- bytes for it; or its end by `kill`
+pub data Act : Type 0 where
+  Event : (process : ℕ) → (entry : Entry) → Act
+  Deliver : (process : ℕ) → (number : ℕ) → Act
+  Inject : (process : ℕ) → (bytes : List ℕ) → Act
+  Clock : (process : ℕ) → (time : ℕ) → Act
+  Random : (process : ℕ) → (bytes : List ℕ) → Act
+  Kill : (process : ℕ) → Act
+
+-- the acted steps, the newest first
+abbrev pub History : Type 0
+History = List Act
+
+abbrev pub put_last_if : {A : Type 0} → Bool → List A → A → List A
+put_last_if true xs x = xs ++ x ∷ []
+put_last_if false xs x = xs
+
+-- the entries of a process's events, in their order
+abbrev pub entries : History → ℕ → List Entry
+entries [] p = []
+entries (Event q e ∷ h) p = put_last_if (q == p) (entries h p) e
+entries (_ ∷ h) p = entries h p
+
+-- ---- datagrams
+
+-- the sends of a process into its group of `count`, in their order
+abbrev pub sends : ℕ → History → ℕ → List Entry
+sends count [] p = []
+sends count (Event q e ∷ h) p = put_last_if ((q == p) && is_sent count e) (sends count h p) e
+sends count (_ ∷ h) p = sends count h p
+
+-- the one with this number, from 1
+abbrev pub nth : {A : Type 0} → List A → ℕ → Option A
+nth xs zero = None
+nth xs (suc before) = slice_get xs before
+
+-- the datagram of a send of a process: the tag with the process and the send's clock, and the bytes that went out
+abbrev pub datagram : ℕ → Entry → List ℕ
+datagram p e = tag_bytes (record { sender = p; clock = e.clock }) ++ e.outgoing
+
+-- the datagram of a send of process q, where it is for process p
+abbrev pub addressed : ℕ → ℕ → Option Entry → List (List ℕ)
+addressed q p None = []
+addressed q p (Some e) = if e.call.a0 == p then datagram q e ∷ [] else []
+
+-- the datagrams that were given to a process: those from outside, and those that were delivered, each as
+-- its sender had sent it by then
+abbrev pub given : ℕ → History → ℕ → List (List ℕ)
+given count [] p = []
+given count (Deliver q n ∷ h) p = given count h p ++ addressed q p (nth (sends count h q) n)
+given count (Inject q bytes ∷ h) p = put_last_if (q == p) (given count h p) bytes
+given count (_ ∷ h) p = given count h p
+
+abbrev pub one_if : Bool → ℕ
+one_if true = 1
+one_if false = 0
+
+-- how many datagrams a process took
+abbrev pub taken : History → ℕ → ℕ
+taken [] p = 0
+taken (Event q e ∷ h) p = taken h p + one_if ((q == p) && is_taken e)
+taken (_ ∷ h) p = taken h p
+
+-- the mailbox of a process
+abbrev pub mailbox : ℕ → History → ℕ → List (List ℕ)
+mailbox count h p = drop (taken h p) (given count h p)
+
+-- ---- random bytes
+
+-- the random bytes that came for a process
+abbrev pub supplied : History → ℕ → List ℕ
+supplied [] p = []
+supplied (Random q bytes ∷ h) p = if q == p then supplied h p ++ bytes else supplied h p
+supplied (_ ∷ h) p = supplied h p
+
+-- how many of them it took
+abbrev pub used : History → ℕ → ℕ
+used [] p = 0
+used (Event q e ∷ h) p = if q == p then used h p + drawn e else used h p
+used (_ ∷ h) p = used h p
+
+-- the pool of a process
+abbrev pub pool : History → ℕ → List ℕ
+pool h p = drop (used h p) (supplied h p)
+
+-- ---- the rest
+
+-- the wall time of a process: that of the last `clock` item, or 0
+abbrev pub time : History → ℕ → ℕ
+time [] p = 0
+time (Clock q value ∷ h) p = if q == p then value else time h p
+time (_ ∷ h) p = time h p
+
+-- whether a process was killed
+abbrev pub is_killed : History → ℕ → Bool
+is_killed [] p = false
+is_killed (Kill q ∷ h) p = (q == p) || is_killed h p
+is_killed (_ ∷ h) p = is_killed h p

@@ -1,0 +1,68 @@
+-- The world around the processes of a group, as it is kept, and what each act makes of it.
+use Rattle.std.specs.Prelude.{ℕ, Bool, true, false, List, [], ◌∷◌, ◌++◌, drop, length, replicate, slice_set, if◌then◌else◌}
+use Rattle.std.specs.List.{slice_index_or}
+use Rattle.lib_calls.specs.declared.entry.Entry.{Entry}
+use Rattle.lib_calls.specs.Traffic.{drawn, is_sent, is_taken}
+use Rattle.lossy_net.specs.Network.{Traffic, no_traffic, nth_of, sent_by, with_delivered, with_sent, with_waiting, without_front}
+use Rattle.group_world.specs.History.{Act, Event, Deliver, Inject, Clock, Random, Kill, History, datagram}
+
+-- what stands around one process beside its datagrams: the random bytes that are left, the wall time as the
+-- bits of a signed number, and whether the process was killed
+pub record Place : Type 0 where
+  pub pool : List ℕ
+  pub time : ℕ
+  pub killed : Bool
+
+abbrev pub no_place : Place
+no_place = record { pool = []; time = 0; killed = false }
+
+-- the network, and a place for each process
+pub record World : Type 0 where
+  pub net : List Traffic
+  pub places : List Place
+
+abbrev pub new_world : ℕ → World
+new_world count = record { net = replicate count no_traffic; places = replicate count no_place }
+
+-- how many processes the group has
+abbrev pub size : World → ℕ
+size w = length w.net
+
+abbrev pub place_of : World → ℕ → Place
+place_of w p = slice_index_or w.places p no_place
+
+abbrev pub with_place : World → ℕ → Place → World
+with_place w p place = record w { places = slice_set w.places p place }
+
+-- ---- an event
+
+abbrev pub took_if : Bool → List Traffic → ℕ → List Traffic
+took_if taken net p = if taken then without_front net p else net
+
+abbrev pub sent_if : Bool → List Traffic → ℕ → Entry → List Traffic
+sent_if sent net p e = if sent then with_sent net p (record { to = e.call.a0; bytes = datagram p e }) else net
+
+abbrev pub drew : Place → ℕ → Place
+drew place n = record place { pool = drop n place.pool }
+
+-- a datagram that the event took is gone, one that it sent is kept, and random bytes that it took are gone
+abbrev pub after_event : World → ℕ → Entry → World
+after_event w p e = record {
+  net = sent_if (is_sent (size w) e) (took_if (is_taken e) w.net p) p e;
+  places = slice_set w.places p (drew (place_of w p) (drawn e));
+}
+
+-- ---- all acts
+
+abbrev pub after : World → Act → World
+after w (Event p e) = after_event w p e
+after w (Deliver p n) = record w { net = with_delivered w.net (nth_of (sent_by w.net p) n) }
+after w (Inject p bytes) = record w { net = with_waiting w.net p bytes }
+after w (Clock p time) = with_place w p (record (place_of w p) { time = time })
+after w (Random p bytes) = with_place w p (record (place_of w p) { pool = (place_of w p).pool ++ bytes })
+after w (Kill p) = with_place w p (record (place_of w p) { killed = true })
+
+-- the world of a group of `count` after these acts
+abbrev pub world_after : ℕ → History → World
+world_after count [] = new_world count
+world_after count (a ∷ h) = after (world_after count h) a

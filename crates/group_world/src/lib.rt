@@ -1,0 +1,11 @@
+//! The world around the processes of a group: the datagrams on their way, random bytes, wall times, and
+//! which processes were killed.
+#![tactic(auto)]
+
+mod laws;
+mod place;
+mod world;
+
+pub use laws::by_counting;
+pub use lossy_net::Front;
+pub use world::World;

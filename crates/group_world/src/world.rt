@@ -1,0 +1,198 @@
+// The world around the processes of a group.
+ghost use Rattle.std.specs.Prelude.{◌≡◌, ◌<◌, ◌≤◌, length, IsTrue, IfOk, OnOk, OnErr, is_some, option_map};
+ghost use Rattle.lib_calls.specs.Entry.{entry_of};
+ghost use Rattle.lib_calls.specs.Traffic.{drawn as drawn_of, is_sent as is_sent_of, is_taken as is_taken_of};
+ghost use Rattle.lossy_net.specs.Network.{front_of, mailbox_of, nth_of, sent_by};
+ghost use Rattle.group_world.specs.History.{Event, Deliver, Inject, Clock, Random, Kill, datagram as datagram_of};
+ghost use Rattle.group_world.specs.World.{after, new_world, place_of, sent_if, size, took_if};
+
+use crate::place::Place;
+use fri_bytes::Bytes;
+use lamport_tag::{Tag, write_tag};
+use lib_calls::{EntryView, drawn, is_sent, is_taken};
+use lossy_net::{Front, Net};
+use std::alloc::{AllocError, Global};
+use std::marker::Model;
+
+/// What is on its way between the processes of a group, and what stands around each of them. Contracts
+/// see the network and a place for each process.
+#[derive(Drop)]
+pub struct World {
+    alloc: Global,
+    count: u32,
+    net: Net,
+    places: Vec<Place>,
+}
+
+impl Model for World {
+    ghost use Rattle.std.specs.Prelude.{◌≡◌, length};
+    ghost use Rattle.group_world.specs.World.{World as WorldOf};
+
+    ghost Value = { WorldOf };
+
+    ghost view = { λ w. record { net = w.net; places = w.places.items } };
+
+    ghost invariant = { λ w. (w.count ≡ length w.net) × (length w.places.items ≡ length w.net) };
+}
+
+impl World {
+    /// The world around a group of `count` processes, before anything is done.
+    pub fn new(alloc: Global, count: u32) -> Result<World, AllocError>
+        ensures { IfOk result (λ w. w ≡ new_world count) }
+    {
+        let net = Net::new(alloc, count)?;
+        let mut places = Vec::new(alloc);
+        for _ in 0..count {
+            places.push(Place::new(alloc))?;
+        }
+        Ok(World {
+            alloc,
+            count,
+            net,
+            places,
+        })
+    }
+
+    /// The first datagram in the mailbox of `p`, as its tag, if it has one, and its payload; None where
+    /// the mailbox is empty.
+    pub fn front(&self, p: u32) -> Option<Front<'_>>
+        requires { p < size self.now }
+        ensures { option_map (λ front. (front.tag, front.payload.now)) result ≡ front_of self.now.net p }
+    {
+        self.net.front(p)
+    }
+
+    /// The random bytes that are left for `p`.
+    pub fn pool(&self, p: u32) -> &[u8]
+        requires { p < size self.now }
+        ensures { result.now ≡ (place_of self.now p).pool }
+    {
+        self.places[p as usize].pool()
+    }
+
+    /// The wall time of `p`, as the bits of a signed number.
+    pub fn time(&self, p: u32) -> u64
+        requires { p < size self.now }
+        ensures { result ≡ (place_of self.now p).time }
+    {
+        self.places[p as usize].time
+    }
+
+    /// Whether `p` was killed.
+    pub fn is_killed(&self, p: u32) -> bool
+        requires { p < size self.now }
+        ensures { result ≡ (place_of self.now p).killed }
+    {
+        self.places[p as usize].killed
+    }
+
+    /// An event of `p`: what it took is gone, and what it sent into the group is kept.
+    pub fn event(&mut self, p: u32, entry: &EntryView<'_>) -> Result<(), AllocError>
+        requires process { p < size self.old }
+        requires datagram { IsTrue (is_taken_of (entry_of entry.now)) → 1 ≤ length (mailbox_of self.old.net p) }
+        requires bytes { drawn_of (entry_of entry.now) ≤ length (place_of self.old p).pool }
+        ensures ok { OnOk result (self.new ≡ after self.old (Event p (entry_of entry.now))) }
+        ensures err { OnErr result (self.new ≡ self.old) }
+        ensures memory { OnErr result (IsTrue (is_sent_of (size self.old) (entry_of entry.now))) }
+        ensures size { size self.new ≡ size self.old }
+    {
+        self.keep_sent(p, entry)?;
+        self.let_go_taken(p, entry);
+        self.places[p as usize].draw(drawn(entry));
+        Ok(())
+    }
+
+    // Keeps the datagram that the event sent into the group, if it sent one.
+    #[tactic(auto, using(crate::proofs::EventLaws::sent_within))]
+    fn keep_sent(&mut self, p: u32, entry: &EntryView<'_>) -> Result<(), AllocError>
+        requires { p < size self.old }
+        ensures ok { OnOk result (self.new ≡ record self.old {
+          net = sent_if (is_sent_of (size self.old) (entry_of entry.now)) self.old.net p (entry_of entry.now);
+        }) }
+        ensures err { OnErr result (self.new ≡ self.old) }
+        ensures memory { OnErr result (IsTrue (is_sent_of (size self.old) (entry_of entry.now))) }
+    {
+        if !is_sent(entry, self.count) {
+            return Ok(());
+        }
+        let bytes = datagram(self.alloc, p, entry)?;
+        self.net.sent(p, entry.call.a0 as u32, bytes)
+    }
+
+    // Lets the datagram go that the event took, if it took one.
+    fn let_go_taken(&mut self, p: u32, entry: &EntryView<'_>)
+        requires process { p < size self.old }
+        requires datagram { IsTrue (is_taken_of (entry_of entry.now)) → 1 ≤ length (mailbox_of self.old.net p) }
+        ensures { self.new ≡ record self.old { net = took_if (is_taken_of (entry_of entry.now)) self.old.net p } }
+    {
+        if is_taken(entry) {
+            self.net.pop(p);
+        }
+    }
+
+    /// Puts the nth datagram that `p` sent, from 1, at the end of its receiver's mailbox. False where
+    /// there is no such datagram.
+    pub fn deliver(&mut self, p: u32, n: u64) -> Result<bool, AllocError>
+        requires { p < size self.old }
+        ensures found { IfOk result (λ found. found ≡ is_some (nth_of (sent_by self.old.net p) n)) }
+        ensures ok { OnOk result (self.new ≡ after self.old (Deliver p n)) }
+        ensures err { OnErr result (self.new ≡ self.old) }
+        ensures memory { OnErr result (IsTrue (is_some (nth_of (sent_by self.old.net p) n))) }
+        ensures size { size self.new ≡ size self.old }
+    {
+        self.net.deliver(p, n)
+    }
+
+    /// Puts bytes from outside at the end of the mailbox of `p`.
+    pub fn inject(&mut self, p: u32, bytes: &[u8]) -> Result<(), AllocError>
+        requires { p < size self.old }
+        ensures ok { OnOk result (self.new ≡ after self.old (Inject p bytes.now)) }
+        ensures err { OnErr result (self.new ≡ self.old) }
+        ensures size { size self.new ≡ size self.old }
+    {
+        let bytes = Bytes::from_slice(self.alloc, bytes)?;
+        self.net.inject(p, bytes)
+    }
+
+    /// Puts random bytes behind those that are left for `p`.
+    pub fn add_random(&mut self, p: u32, bytes: &[u8]) -> Result<(), AllocError>
+        requires { p < size self.old }
+        ensures ok { OnOk result (self.new ≡ after self.old (Random p bytes.now)) }
+        ensures err { OnErr result (self.new ≡ self.old) }
+        ensures memory { OnErr result (1 ≤ length bytes.now) }
+        ensures size { size self.new ≡ size self.old }
+    {
+        self.places[p as usize].add(bytes)
+    }
+
+    /// Sets the wall time of `p`, given as the bits of a signed number.
+    pub fn set_time(&mut self, p: u32, time: u64)
+        requires { p < size self.old }
+        ensures value { self.new ≡ after self.old (Clock p time) }
+        ensures size { size self.new ≡ size self.old }
+    {
+        self.places[p as usize].time = time;
+    }
+
+    /// Notes that `p` was killed.
+    pub fn kill(&mut self, p: u32)
+        requires { p < size self.old }
+        ensures value { self.new ≡ after self.old (Kill p) }
+        ensures size { size self.new ≡ size self.old }
+    {
+        self.places[p as usize].killed = true;
+    }
+}
+
+// The datagram of a send of `p`: its tag, and what went out.
+fn datagram(alloc: Global, p: u32, entry: &EntryView<'_>) -> Result<Bytes, AllocError>
+    ensures { IfOk result (λ bytes. bytes ≡ datagram_of p (entry_of entry.now)) }
+{
+    let tag = Tag {
+        sender: p,
+        clock: entry.clock,
+    };
+    let mut bytes = Bytes::from_slice(alloc, &write_tag(tag))?;
+    bytes.push_all(entry.outgoing)?;
+    Ok(bytes)
+}

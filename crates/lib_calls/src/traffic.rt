@@ -1,0 +1,46 @@
+// What an event's entry tells of datagrams and of random bytes.
+ghost use Rattle.std.specs.Prelude.{◌≡◌};
+ghost use Rattle.lib_calls.specs.Entry.{entry_of};
+ghost use Rattle.lib_calls.specs.Traffic.{drawn as drawn_of, draws_as, is_sent as is_sent_of, is_taken as is_taken_of, sends_as, takes_as};
+
+use crate::entry::EntryView;
+use call_table::Kind;
+
+// The replies -1 and -2 of 32 bits.
+const MINUS_ONE: u64 = 0xFFFF_FFFF;
+const MINUS_TWO: u64 = 0xFFFF_FFFE;
+
+/// Whether the event sent a datagram into a group of `count`: a `send` with good arguments to one of its
+/// processes.
+#[tactic(auto, unfolding(crate::specs::Traffic::is_sent))]
+pub fn is_sent(entry: &EntryView<'_>, count: u32) -> bool
+    ensures { result ≡ is_sent_of count (entry_of entry.now) }
+{
+    match Kind::from_number(entry.call.kind) {
+        Some(Kind::Send) => entry.reply != MINUS_ONE && entry.call.a0 < u64::from(count),
+        _ => false,
+    }
+}
+
+/// Whether the event took a datagram out of the mailbox.
+#[tactic(auto, unfolding(crate::specs::Traffic::is_taken))]
+pub fn is_taken(entry: &EntryView<'_>) -> bool
+    ensures { result ≡ is_taken_of (entry_of entry.now) }
+{
+    match Kind::from_number(entry.call.kind) {
+        Some(Kind::Recv) => entry.reply != MINUS_ONE,
+        Some(Kind::TryRecv) => entry.reply != MINUS_ONE && entry.reply != MINUS_TWO,
+        _ => false,
+    }
+}
+
+/// How many random bytes the event took.
+#[tactic(auto, unfolding(crate::specs::Traffic::drawn))]
+pub fn drawn(entry: &EntryView<'_>) -> usize
+    ensures { result ≡ drawn_of (entry_of entry.now) }
+{
+    match Kind::from_number(entry.call.kind) {
+        Some(Kind::Random) if entry.reply != MINUS_ONE => entry.incoming.len(),
+        _ => 0,
+    }
+}
