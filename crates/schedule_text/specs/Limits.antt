@@ -3,7 +3,7 @@ use Rattle.std.specs.Prelude.{ℕ}
 
 -- how many processes a group may have
 abbrev pub most_processes : ℕ
-most_processes = 1
+most_processes = 16
 
 -- the greatest number of a thread
 abbrev pub most_thread : ℕ
@@ -12,6 +12,10 @@ most_thread = 63
 -- how often one run item may try
 abbrev pub most_times : ℕ
 most_times = 1000000
+
+-- the greatest number of a datagram among those that a process sends, from 1
+abbrev pub most_datagram : ℕ
+most_datagram = 9223372036854775807
 
 -- how many run items a schedule may have, repeats counted
 abbrev pub most_runs : ℕ
