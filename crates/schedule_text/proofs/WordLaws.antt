@@ -9,9 +9,7 @@ use Rattle.hex.specs.Hex.{decode_of}
 use Rattle.hex.proofs.HexLemmas.{decode_of-ok}
 use Rattle.fri_bytes.specs.Laws.{AreBytes}
 use Rattle.fri_text.specs.Decimal.{decimal_of, signed_of, up_to, within_i64}
-use Rattle.fri_text.specs.Hex.{hex_of}
 use Rattle.fri_text.specs.declared.error.TextError.{TextError}
-use Rattle.fri_text.specs.Hex.{hex_of}
 use Rattle.fri_text.specs.declared.error.TextError.TheVariants.{TooGreat}
 use Rattle.schedule_text.specs.Limits.{most_times}
 use Rattle.schedule_text.specs.Fields.{field_at, last_of}

@@ -26,11 +26,13 @@ mod process;
 mod read;
 mod schedule;
 mod word;
+mod write;
 
 pub use error::ScheduleError;
 pub use item::Item;
-pub use laws::{exact_outcome, one_schedule, spelled_or_bad};
+pub use laws::{exact_outcome, one_schedule, spelled_or_bad, written_is_read};
 pub use limits::{MOST_DATAGRAM, MOST_PROCESSES, MOST_RUNS, MOST_THREAD, MOST_TIMES};
 pub use process::ProcessLine;
 pub use read::read_schedule;
 pub use schedule::Schedule;
+pub use write::write_schedule;
