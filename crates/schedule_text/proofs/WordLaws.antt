@@ -1,5 +1,5 @@
 -- Numbers and names of fields: what is read is written so, and what is written so is read.
-use Rattle.std.proofs.Common.{◌≡◌, ℕ, ◌-◌, ◌^◌, ◌<◌, ◌⊎◌, subst, ◌≤◌, Bool, true, false, cond, eqb, ltb, leb, List, [], ◌∷◌, length, Option, Some, None, Result, Ok, Err, refl, sym, ap, ◌∙◌, arith, inl, inr, ℤ, pos, negsuc}
+use Rattle.std.proofs.Common.{◌≡◌, ℕ, ◌-◌, ◌^◌, ◌<◌, ◌⊎◌, subst, ◌≤◌, Bool, true, false, cond, eqb, ltb, leb, List, [], ◌∷◌, Option, Some, None, Result, Ok, Err, refl, sym, ap, ◌∙◌, arith, inl, inr, ℤ, pos, negsuc}
 use Rattle.std.specs.Prelude.{FitsSigned, codes, option_map}
 use Rattle.std.specs.Int.{w64}
 use Rattle.std.specs.Result.{result_ok}
@@ -9,9 +9,10 @@ use Rattle.hex.specs.Hex.{decode_of}
 use Rattle.hex.proofs.HexLemmas.{decode_of-ok}
 use Rattle.fri_bytes.specs.Laws.{AreBytes}
 use Rattle.fri_text.specs.Decimal.{decimal_of, signed_of, up_to, within_i64}
+use Rattle.fri_text.specs.Hex.{are_digits}
 use Rattle.fri_text.specs.declared.error.TextError.{TextError}
 use Rattle.fri_text.specs.declared.error.TextError.TheVariants.{TooGreat}
-use Rattle.schedule_text.specs.Limits.{most_times}
+use Rattle.schedule_text.specs.Limits.{most_runs}
 use Rattle.schedule_text.specs.Fields.{field_at, last_of}
 use Rattle.schedule_text.specs.Grammar.{IsNumber, IsSignedNumber, IsHex}
 use Rattle.schedule_text.specs.Reading.{◌>>=◌, number_of, positive_of, process_number_of, times_of}
@@ -147,17 +148,17 @@ pub hex_takes : (word bytes : List ℕ) → IsHex word bytes → AreBytes bytes
 hex_takes word bytes e =
     elim (cases_Bool (bytes_eq word (codes "-"))) [
       | inl minus ↦ let same : [] ≡ bytes = (let there = rw minus at e in cc) in subst AreBytes same none_are
-      | inr other ↦ decoded word bytes ((passed (eqb (length word) 0) (result_ok (decode_of word)) bytes (rw other at e)).1)
+      | inr other ↦ decoded word bytes (kept (are_digits word) (result_ok (decode_of word)) bytes (rw other at e)).1
     ]
 
 -- ---- how often is tried
 
 -- the tries that are read are 1, or are written so and in range
-pub times_takes : (fields : List (List ℕ)) (n : ℕ) → times_of fields ≡ Some n → ((fields ≡ []) × (n ≡ 1)) ⊎ ((word : List ℕ) × (fields ≡ word ∷ []) × IsNumber word n × (1 ≤ n) × (n ≤ most_times))
+pub times_takes : (fields : List (List ℕ)) (n : ℕ) → times_of fields ≡ Some n → ((fields ≡ []) × (n ≡ 1)) ⊎ ((word : List ℕ) × (fields ≡ word ∷ []) × IsNumber word n × (1 ≤ n) × (n ≤ most_runs))
 times_takes [] n e = inl (refl, let same : 1 ≡ n = cc in sym same)
-times_takes (word ∷ []) n e = let number = positive_takes most_times word n e in inr (word, refl, number.0, number.1, number.2)
+times_takes (word ∷ []) n e = let number = positive_takes most_runs word n e in inr (word, refl, number.0, number.1, number.2)
 times_takes (word ∷ other ∷ fields) n e = absurd cc
 
 -- tries in range are read
-pub times_again : (word : List ℕ) (n : ℕ) → IsNumber word n → 1 ≤ n → n ≤ most_times → times_of (word ∷ []) ≡ Some n
-times_again word n is some most = positive_again most_times word n is some most
+pub times_again : (word : List ℕ) (n : ℕ) → IsNumber word n → 1 ≤ n → n ≤ most_runs → times_of (word ∷ []) ≡ Some n
+times_again word n is some most = positive_again most_runs word n is some most

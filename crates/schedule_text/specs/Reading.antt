@@ -11,7 +11,7 @@ use Rattle.fri_text.specs.Line.{lines_of}
 use Rattle.fri_text.specs.Name.{is_name}
 use Rattle.schedule_text.specs.declared.item.Item.{Item}
 use Rattle.schedule_text.specs.declared.item.Item.TheVariants.{Run, Deliver, Inject, Clock, Random, Kill}
-use Rattle.schedule_text.specs.Limits.{most_processes, most_thread, most_times, most_datagram, most_runs}
+use Rattle.schedule_text.specs.Limits.{most_processes, most_thread, most_datagram, most_runs}
 use Rattle.schedule_text.specs.declared.process.ProcessLine.{ProcessLine}
 use Rattle.schedule_text.specs.Fields.{fields_of, field_at, last_of, is_comment}
 use Rattle.schedule_text.specs.Schedule.{Schedule, is_module_name, run_count}
@@ -44,7 +44,7 @@ process_number_of processes word = if processes == 0 then None else number_of (p
 -- the fields after P and T: how often is tried
 abbrev pub times_of : List (List ℕ) → Option ℕ
 times_of [] = Some 1
-times_of (word ∷ []) = positive_of most_times word
+times_of (word ∷ []) = positive_of most_runs word
 times_of _ = None
 
 -- ---- one line

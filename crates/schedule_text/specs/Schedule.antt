@@ -6,7 +6,7 @@ use Rattle.fri_bytes.specs.Laws.{AreBytes}
 use Rattle.fri_text.specs.Name.{is_name}
 use Rattle.schedule_text.specs.declared.item.Item.{Item}
 use Rattle.schedule_text.specs.declared.item.Item.TheVariants.{Run, Deliver, Inject, Clock, Random, Kill}
-use Rattle.schedule_text.specs.Limits.{most_processes, most_thread, most_times, most_datagram, most_runs}
+use Rattle.schedule_text.specs.Limits.{most_processes, most_thread, most_datagram, most_runs}
 use Rattle.schedule_text.specs.declared.process.ProcessLine.{ProcessLine}
 
 -- the processes, numbered from 0, and what happens to them, in order
@@ -30,7 +30,7 @@ pub record IsProcess (line : ProcessLine) : Type 0 where
 
 -- the item is in range where there are this many processes
 abbrev pub IsInRange : ℕ → Item → Type 0
-IsInRange processes (Run process thread times) = (process < processes) × (thread ≤ most_thread) × (1 ≤ times) × (times ≤ most_times)
+IsInRange processes (Run process thread times) = (process < processes) × (thread ≤ most_thread) × (1 ≤ times) × (times ≤ most_runs)
 IsInRange processes (Deliver process number) = (process < processes) × (1 ≤ number) × (number ≤ most_datagram)
 IsInRange processes (Inject process bytes) = (process < processes) × AreBytes bytes
 IsInRange processes (Clock process value) = (process < processes) × FitsSigned w64 value

@@ -14,7 +14,7 @@ use std::alloc::{AllocError, Global};
 #[derive(Debug, PartialEq, Eq, Drop)]
 pub enum Item {
     /// `times` tries, each by itself, to make an event of the thread. The thread is 0 to `MOST_THREAD`,
-    /// and the tries are 1 to `MOST_TIMES`.
+    /// and the tries are 1 to `MOST_RUNS`.
     Run {
         process: u32,
         thread: u16,

@@ -6,7 +6,7 @@ ghost use Rattle.schedule_text.specs.Schedule.{is_module_name as is_module_word,
 ghost use Rattle.fri_text.specs.Hex.{hex_of};
 
 use crate::fields::Fields;
-use crate::limits::MOST_TIMES;
+use crate::limits::MOST_RUNS;
 use fri_bytes::Bytes;
 use fri_text::{TextError, read_decimal, read_hex};
 use std::alloc::{AllocError, Global};
@@ -47,7 +47,7 @@ pub(crate) fn times(fields: &mut Fields) -> Option<u32>
     if fields.next_field().is_some() {
         return None;
     }
-    let times = positive(word, u64::from(MOST_TIMES))?;
+    let times = positive(word, MOST_RUNS)?;
     u32::try_from(times).ok()
 }
 
