@@ -1,3 +1,5 @@
 pub mod Decimal
+pub mod Hex
+pub mod Laws
 pub mod Line
 pub mod Name

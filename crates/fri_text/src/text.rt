@@ -1,8 +1,8 @@
 // Text that is put together piece by piece.
 ghost use Rattle.std.specs.Prelude.{◌≡◌, [], ◌++◌, decimal, OnOk, OnErr};
 ghost use Rattle.std.specs.Fmt.{signed_decimal};
+ghost use Rattle.fri_text.specs.Hex.{hex_word};
 
-use fri_bytes::Bytes;
 use itoa::Buffer;
 use std::alloc::{AllocError, Global};
 use std::marker::Model;
@@ -11,7 +11,7 @@ use std::marker::Model;
 /// where there is no memory for all of it.
 #[derive(Debug, Drop)]
 pub struct Text {
-    bytes: Bytes,
+    bytes: Vec<u8>,
 }
 
 impl Model for Text {
@@ -19,7 +19,7 @@ impl Model for Text {
 
     ghost Value = { List ℕ };
 
-    ghost view = { λ t. t.bytes };
+    ghost view = { λ t. t.bytes.items };
 }
 
 impl Text {
@@ -28,7 +28,7 @@ impl Text {
         ensures { result ≡ [] }
     {
         Text {
-            bytes: Bytes::new(alloc),
+            bytes: Vec::new(alloc),
         }
     }
 
@@ -39,12 +39,19 @@ impl Text {
         self.bytes.as_slice()
     }
 
+    /// The bytes of the text, which are kept and not copied.
+    pub fn into_vec(self) -> Vec<u8>
+        ensures { result.items ≡ self }
+    {
+        self.bytes
+    }
+
     /// Adds the text.
     pub fn push_str(&mut self, s: &str) -> Result<(), AllocError>
         ensures ok { OnOk result (self.new ≡ self.old ++ s.now) }
         ensures err { OnErr result (self.new ≡ self.old) }
     {
-        self.bytes.push_all(s.as_bytes())
+        self.push_bytes(s.as_bytes())
     }
 
     /// Adds the bytes, which need not be text.
@@ -52,7 +59,7 @@ impl Text {
         ensures ok { OnOk result (self.new ≡ self.old ++ b.now) }
         ensures err { OnErr result (self.new ≡ self.old) }
     {
-        self.bytes.push_all(b)
+        self.bytes.extend_from_slice(b)
     }
 
     /// Adds the number in decimal digits, with no zero in front.
@@ -71,5 +78,17 @@ impl Text {
     {
         let mut buffer = Buffer::new();
         self.push_str(buffer.format(v))
+    }
+
+    /// Adds two lower-case hexadecimal digits for each byte, or `-` where there is none.
+    pub fn push_hex(&mut self, alloc: Global, b: &[u8]) -> Result<(), AllocError>
+        ensures ok { OnOk result (self.new ≡ self.old ++ hex_word b.now) }
+        ensures err { OnErr result (self.new ≡ self.old) }
+    {
+        if b.is_empty() {
+            return self.push_str("-");
+        }
+        let digits = hex::encode(alloc, b)?;
+        self.push_str(digits.as_str())
     }
 }

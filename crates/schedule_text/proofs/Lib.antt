@@ -3,4 +3,5 @@ pub mod ItemLaws
 pub mod LineLaws
 pub mod OutcomeLaws
 pub mod StepLaws
+pub mod TextLaws
 pub mod WordLaws

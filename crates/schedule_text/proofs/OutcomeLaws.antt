@@ -6,7 +6,7 @@ use Rattle.std.proofs.Math.Seq.{take-length}
 use Rattle.std.proofs.lemmas.List.{nil_from_length, take-append-drop}
 use Rattle.fri_text.specs.Line.{lines_of}
 use Rattle.schedule_text.specs.declared.item.Item.{Item}
-use Rattle.schedule_text.specs.declared.item.Item.TheVariants.{Run, Clock}
+use Rattle.schedule_text.specs.declared.item.Item.TheVariants.{Run, Deliver, Inject, Clock, Random, Kill}
 use Rattle.schedule_text.specs.declared.process.ProcessLine.{ProcessLine}
 use Rattle.schedule_text.specs.Limits.{most_runs}
 use Rattle.schedule_text.specs.Grammar.{AreLinesOf, Spells, BeginSchedule, IsFirstBad, BadAt}
@@ -110,7 +110,11 @@ front_lines (line ∷ front) back part end e =
 -- no item is in range where there is no process
 no_process : (i : Item) → IsInRange 0 i → ⊥
 no_process (Run p t n) range = omega (arith, range.0)
+no_process (Deliver p n) range = omega (arith, range.0)
+no_process (Inject p bytes) range = omega (arith, range.0)
 no_process (Clock p v) range = omega (arith, range.0)
+no_process (Random p bytes) range = omega (arith, range.0)
+no_process (Kill p) range = omega arith
 
 -- so there is none
 no_items : (items : List Item) → All (IsInRange 0) items → items ≡ []

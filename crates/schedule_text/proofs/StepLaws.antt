@@ -1,6 +1,6 @@
 -- One more line: what it may be, and that what has come stays in range.
-use Rattle.std.proofs.Common.{◌≡◌, ◌≢◌, ℕ, zero, suc, ◌<◌, ◌≤◌, ◌⊎◌, Bool, true, false, cond, ◌||◌, ltb, leb, List, [], ◌∷◌, ◌++◌, length, get_or, Option, Some, None, refl, sym, ap, subst, ◌∙◌, arith, inl, inr}
-use Rattle.std.specs.Prelude.{codes, option_map, All, AllPairs}
+use Rattle.std.proofs.Common.{◌≡◌, ◌≢◌, ℕ, zero, suc, ◌<◌, ◌≤◌, ◌⊎◌, Bool, true, false, cond, ◌||◌, ltb, leb, List, [], ◌∷◌, ◌++◌, length, get_or, Some, None, refl, sym, ap, subst, ◌∙◌, arith, inl, inr}
+use Rattle.std.specs.Prelude.{codes, All, AllPairs}
 use Rattle.std.specs.List.{list_any}
 use Rattle.std.specs.Str.{bytes_eq}
 use Rattle.std.proofs.lemmas.Bool.{cases_Bool, lt-ltb, leb-false, or_parts, or_from}
@@ -15,7 +15,7 @@ use Rattle.schedule_text.specs.Grammar.{IsHeader, IsProcessLine, IsItemLine, lin
 use Rattle.schedule_text.specs.Reading.{Part, nothing, is_header, process_line_of, item_of, with_process, with_item, with_fields, with_line_of, with_line}
 use Rattle.schedule_text.specs.Schedule.{IsInRange, IsProcess}
 use Rattle.schedule_text.proofs.ItemLaws.{is_word, same_word, item_takes, process_line_takes, header_takes}
-use Rattle.schedule_text.proofs.WordLaws.{bind_some, kept, passed}
+use Rattle.schedule_text.proofs.WordLaws.{bind_some, map_some, kept, passed}
 
 -- ---- lines that are passed over, and others
 
@@ -109,11 +109,6 @@ process_step part word fields next begun is e =
     let written = process_line_takes word fields line.0 is line.1 in
     let same : record part { processes = part.processes ++ line.0 ∷ [] } ≡ next = (let there = new.1 in cc) in
     subst (Step part (word ∷ fields)) same (process line.0 begun (none_left part.items free.0) (leb-false most_processes (length part.processes) free.1) written.0 written.1 (any_new line.0.name part.processes new.0))
-
--- what comes of something that is found
-map_some : {A B : Type 0} (f : A → B) (o : Option A) (y : B) → option_map f o ≡ Some y → (x : A) × (o ≡ Some x) × (f x ≡ y)
-map_some f None y e = absurd cc
-map_some f (Some x) y e = (x, refl, let there = e in cc)
 
 -- what is taken as an item is one that is allowed
 item_step : (part : Part) (word : List ℕ) (fields : List (List ℕ)) (next : Part) → part.has_header ≡ true → with_item part word fields ≡ Some next → Step part (word ∷ fields) next

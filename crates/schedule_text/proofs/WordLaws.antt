@@ -1,16 +1,21 @@
 -- Numbers and names of fields: what is read is written so, and what is written so is read.
-use Rattle.std.proofs.Common.{◌≡◌, ℕ, ◌-◌, ◌^◌, ◌<◌, ◌⊎◌, subst, ◌≤◌, Bool, true, false, cond, eqb, ltb, leb, List, [], ◌∷◌, Option, Some, None, Ok, Err, refl, sym, ap, ◌∙◌, arith, inl, inr, ℤ, pos, negsuc}
-use Rattle.std.specs.Prelude.{FitsSigned}
+use Rattle.std.proofs.Common.{◌≡◌, ℕ, ◌-◌, ◌^◌, ◌<◌, ◌⊎◌, subst, ◌≤◌, Bool, true, false, cond, eqb, ltb, leb, List, [], ◌∷◌, Option, Some, None, Result, Ok, Err, refl, sym, ap, ◌∙◌, arith, inl, inr, ℤ, pos, negsuc}
+use Rattle.std.specs.Prelude.{FitsSigned, codes, option_map}
 use Rattle.std.specs.Int.{w64}
 use Rattle.std.specs.Result.{result_ok}
+use Rattle.std.specs.Str.{bytes_eq}
 use Rattle.std.proofs.lemmas.Bool.{cases_Bool, ne_eqb, eqb-false, leb-true, le-leb, ltb-true, lt-ltb}
+use Rattle.hex.specs.Hex.{decode_of}
+use Rattle.hex.proofs.HexLemmas.{decode_of-ok}
+use Rattle.fri_bytes.specs.Laws.{AreBytes}
 use Rattle.fri_text.specs.Decimal.{decimal_of, signed_of, up_to, within_i64}
+use Rattle.fri_text.specs.Hex.{are_digits}
 use Rattle.fri_text.specs.declared.error.TextError.{TextError}
 use Rattle.fri_text.specs.declared.error.TextError.TheVariants.{TooGreat}
-use Rattle.schedule_text.specs.Limits.{most_times}
+use Rattle.schedule_text.specs.Limits.{most_runs}
 use Rattle.schedule_text.specs.Fields.{field_at, last_of}
-use Rattle.schedule_text.specs.Grammar.{IsNumber, IsSignedNumber}
-use Rattle.schedule_text.specs.Reading.{◌>>=◌, number_of, process_number_of, times_of}
+use Rattle.schedule_text.specs.Grammar.{IsNumber, IsSignedNumber, IsHex}
+use Rattle.schedule_text.specs.Reading.{◌>>=◌, number_of, positive_of, process_number_of, times_of}
 
 -- ---- steps that give something
 
@@ -18,6 +23,11 @@ use Rattle.schedule_text.specs.Reading.{◌>>=◌, number_of, process_number_of,
 pub bind_some : {A B : Type 0} (o : Option A) (f : A → Option B) (y : B) → (o >>= f) ≡ Some y → (x : A) × (o ≡ Some x) × (f x ≡ Some y)
 bind_some (Some x) f y e = (x, refl, e)
 bind_some None f y e = absurd cc
+
+-- what comes of something that is found
+pub map_some : {A B : Type 0} (f : A → B) (o : Option A) (y : B) → option_map f o ≡ Some y → (x : A) × (o ≡ Some x) × (f x ≡ y)
+map_some f None y e = absurd cc
+map_some f (Some x) y e = (x, refl, let there = e in cc)
 
 -- a test without which nothing is given
 pub kept : {A : Type 0} (b : Bool) (x : Option A) (y : A) → cond b x None ≡ Some y → (b ≡ true) × (x ≡ Some y)
@@ -58,6 +68,21 @@ number_takes most word n e = up_to_takes most (decimal_of word) n e
 -- a number that isn't above the limit is read
 pub number_again : (most : ℕ) (word : List ℕ) (n : ℕ) → IsNumber word n → n ≤ most → number_of most word ≡ Some n
 number_again most word n is small = ap (λ (o : Option ℕ). result_ok (up_to most o)) is ∙ rw (le-leb n most small) refl
+
+-- what is read as a number from 1 on is written so, and in range
+pub positive_takes : (most : ℕ) (word : List ℕ) (n : ℕ) → positive_of most word ≡ Some n → IsNumber word n × (1 ≤ n) × (n ≤ most)
+positive_takes most word n e =
+    let some = bind_some (number_of most word) (λ (k : ℕ). cond (eqb k 0) None (Some k)) n e in
+    let positive = passed (eqb some.0 0) (Some some.0) n some.2 in
+    let same : some.0 ≡ n = (let there = positive.1 in cc) in
+    let number = number_takes most word some.0 some.1 in
+    (number.0 ∙ ap (λ (k : ℕ). Some k) same, omega (arith, same, eqb-false some.0 0 positive.0), omega (arith, same, number.1))
+
+-- a number from 1 on that isn't above the limit is read
+pub positive_again : (most : ℕ) (word : List ℕ) (n : ℕ) → IsNumber word n → 1 ≤ n → n ≤ most → positive_of most word ≡ Some n
+positive_again most word n is some small =
+    let positive : eqb n 0 ≡ false = ne_eqb n 0 (λ e. omega arith) in
+    rw (number_again most word n is small, positive) refl
 
 -- what is read as a process's number is written so, and is a process's number
 pub process_takes : (processes : ℕ) (word : List ℕ) (n : ℕ) → process_number_of processes word ≡ Some n → IsNumber word n × (n < processes)
@@ -103,21 +128,37 @@ value_takes word z e = within_takes (signed_of word) z e
 pub value_again : (word : List ℕ) (z : ℤ) → IsSignedNumber word z → FitsSigned w64 z → result_ok (within_i64 (signed_of word)) ≡ Some z
 value_again word z is fits = ap (λ (o : Option ℤ). result_ok (within_i64 o)) is ∙ within_again z fits
 
+-- ---- bytes
+
+-- no bytes are bytes
+none_are : AreBytes []
+none_are i = omega arith
+
+-- a result that gives something is Ok
+given : {A E : Type 0} (r : Result A E) (x : A) → result_ok r ≡ Some x → r ≡ Ok x
+given (Ok y) x e = (let same : y ≡ x = cc in ap (λ (z : _). Ok z) same)
+given (Err fault) x e = absurd cc
+
+-- a word that decodes is one of bytes
+decoded : (word bytes : List ℕ) → result_ok (decode_of word) ≡ Some bytes → AreBytes bytes
+decoded word bytes e = (decode_of-ok word bytes (given (decode_of word) bytes e)).3
+
+-- what is read as bytes are bytes
+pub hex_takes : (word bytes : List ℕ) → IsHex word bytes → AreBytes bytes
+hex_takes word bytes e =
+    elim (cases_Bool (bytes_eq word (codes "-"))) [
+      | inl minus ↦ let same : [] ≡ bytes = (let there = rw minus at e in cc) in subst AreBytes same none_are
+      | inr other ↦ decoded word bytes (kept (are_digits word) (result_ok (decode_of word)) bytes (rw other at e)).1
+    ]
+
 -- ---- how often is tried
 
 -- the tries that are read are 1, or are written so and in range
-pub times_takes : (fields : List (List ℕ)) (n : ℕ) → times_of fields ≡ Some n → ((fields ≡ []) × (n ≡ 1)) ⊎ ((word : List ℕ) × (fields ≡ word ∷ []) × IsNumber word n × (1 ≤ n) × (n ≤ most_times))
+pub times_takes : (fields : List (List ℕ)) (n : ℕ) → times_of fields ≡ Some n → ((fields ≡ []) × (n ≡ 1)) ⊎ ((word : List ℕ) × (fields ≡ word ∷ []) × IsNumber word n × (1 ≤ n) × (n ≤ most_runs))
 times_takes [] n e = inl (refl, let same : 1 ≡ n = cc in sym same)
-times_takes (word ∷ []) n e =
-    let some = bind_some (number_of most_times word) (λ (k : ℕ). cond (eqb k 0) None (Some k)) n e in
-    let positive = passed (eqb some.0 0) (Some some.0) n some.2 in
-    let same : some.0 ≡ n = (let there = positive.1 in cc) in
-    let number = number_takes most_times word some.0 some.1 in
-    inr (word, refl, number.0 ∙ ap (λ (k : ℕ). Some k) same, omega (arith, same, eqb-false some.0 0 positive.0), omega (arith, same, number.1))
+times_takes (word ∷ []) n e = let number = positive_takes most_runs word n e in inr (word, refl, number.0, number.1, number.2)
 times_takes (word ∷ other ∷ fields) n e = absurd cc
 
 -- tries in range are read
-pub times_again : (word : List ℕ) (n : ℕ) → IsNumber word n → 1 ≤ n → n ≤ most_times → times_of (word ∷ []) ≡ Some n
-times_again word n is some most =
-    let positive : eqb n 0 ≡ false = ne_eqb n 0 (λ e. omega arith) in
-    rw (number_again most_times word n is most, positive) refl
+pub times_again : (word : List ℕ) (n : ℕ) → IsNumber word n → 1 ≤ n → n ≤ most_runs → times_of (word ∷ []) ≡ Some n
+times_again word n is some most = positive_again most_runs word n is some most

@@ -2,9 +2,10 @@
 use Rattle.std.specs.Prelude.{◌≡◌, ℕ, ◌+◌, ◌-◌, ◌≤◌, ℤ, not, codes, filter, map, List, [], ◌∷◌, ◌++◌, length, take, Some}
 use Rattle.std.specs.List.{AllZip}
 use Rattle.fri_text.specs.Decimal.{decimal_of, signed_of}
+use Rattle.fri_text.specs.Hex.{hex_of}
 use Rattle.fri_text.specs.Line.{lines_of}
 use Rattle.schedule_text.specs.declared.item.Item.{Item}
-use Rattle.schedule_text.specs.declared.item.Item.TheVariants.{Run, Clock}
+use Rattle.schedule_text.specs.declared.item.Item.TheVariants.{Run, Deliver, Inject, Clock, Random, Kill}
 use Rattle.schedule_text.specs.declared.process.ProcessLine.{ProcessLine}
 use Rattle.schedule_text.specs.Fields.{fields_of, is_passed_over}
 use Rattle.schedule_text.specs.Schedule.{Schedule, IsWellFormed}
@@ -18,6 +19,10 @@ IsNumber word n = decimal_of word ≡ Some n
 -- the same where one minus may stand in front
 abbrev pub IsSignedNumber : List ℕ → ℤ → Type 0
 IsSignedNumber word z = signed_of word ≡ Some z
+
+-- the word writes the bytes in hexadecimal digits of either case, or none by a minus
+abbrev pub IsHex : List ℕ → List ℕ → Type 0
+IsHex word bytes = hex_of word ≡ Some bytes
 
 -- `friday 1`
 abbrev pub IsHeader : List (List ℕ) → Type 0
@@ -33,15 +38,25 @@ IsRun (word ∷ p ∷ t ∷ []) process thread times = (word ≡ codes "run") ×
 IsRun (word ∷ p ∷ t ∷ n ∷ []) process thread times = (word ≡ codes "run") × IsNumber p process × IsNumber t thread × IsNumber n times
 IsRun _ process thread times = ⊥
 
--- `clock P V`
-abbrev pub IsClock : List (List ℕ) → ℕ → ℤ → Type 0
-IsClock (word ∷ p ∷ v ∷ []) process value = (word ≡ codes "clock") × IsNumber p process × IsSignedNumber v value
-IsClock _ process value = ⊥
+-- the word of an item, P, and one more field, of which this holds
+abbrev pub IsPair : List ℕ → List (List ℕ) → ℕ → (List ℕ → Type 0) → Type 0
+IsPair name (word ∷ p ∷ last ∷ []) process IsLast = (word ≡ name) × IsNumber p process × IsLast last
+IsPair name _ process IsLast = ⊥
 
--- the fields write the item, whatever the ranges are
+-- `kill P`
+abbrev pub IsKill : List (List ℕ) → ℕ → Type 0
+IsKill (word ∷ p ∷ []) process = (word ≡ codes "kill") × IsNumber p process
+IsKill _ process = ⊥
+
+-- The fields write the item, whatever the ranges are: `deliver P N`, `inject P HEX`, `clock P V`,
+-- `random P HEX` and those above.
 abbrev pub IsItemLine : List (List ℕ) → Item → Type 0
 IsItemLine fields (Run process thread times) = IsRun fields process thread times
-IsItemLine fields (Clock process value) = IsClock fields process value
+IsItemLine fields (Deliver process number) = IsPair (codes "deliver") fields process (λ n. IsNumber n number)
+IsItemLine fields (Inject process bytes) = IsPair (codes "inject") fields process (λ h. IsHex h bytes)
+IsItemLine fields (Clock process value) = IsPair (codes "clock") fields process (λ v. IsSignedNumber v value)
+IsItemLine fields (Random process bytes) = IsPair (codes "random") fields process (λ h. IsHex h bytes)
+IsItemLine fields (Kill process) = IsKill fields process
 
 -- ---- all lines
 

@@ -3,7 +3,8 @@ use Rattle.std.specs.Prelude.{◌≡◌, ℕ, ◌<◌, ◌≤◌, ◌⊎◌, ◌
 use Rattle.schedule_text.specs.Limits.{most_runs}
 use Rattle.schedule_text.specs.Grammar.{Spells, BadAt}
 use Rattle.schedule_text.specs.Reading.{BadLineAt, TooManyRuns, schedule_of}
-use Rattle.schedule_text.specs.Schedule.{Schedule, run_count}
+use Rattle.schedule_text.specs.Schedule.{Schedule, IsWellFormed, IsSchedule, run_count}
+use Rattle.schedule_text.specs.Text.{text_of}
 
 -- bytes spell at most one schedule
 abbrev pub SpellOne : Type 0
@@ -32,3 +33,11 @@ RefusesMore = (bytes : List ℕ) → (schedule_of bytes ≡ Err TooManyRuns) ↔
 -- it names exactly the first bad line
 abbrev pub NamesBadLine : Type 0
 NamesBadLine = (bytes : List ℕ) (n : ℕ) → (schedule_of bytes ≡ Err (BadLineAt n)) ↔ BadAt bytes n
+
+-- the text of a schedule spells it
+abbrev pub TextSpells : Type 0
+TextSpells = (s : Schedule) → IsWellFormed s → Spells (text_of s) s
+
+-- so it is read back, where it has no more run items than the limit
+abbrev pub TextIsRead : Type 0
+TextIsRead = (s : Schedule) → IsSchedule s → schedule_of (text_of s) ≡ Ok s

@@ -5,3 +5,4 @@ pub mod Limits
 pub mod Outcome
 pub mod Reading
 pub mod Schedule
+pub mod Text

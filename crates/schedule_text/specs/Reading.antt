@@ -6,11 +6,12 @@ use Rattle.std.specs.Result.{result_ok}
 use Rattle.std.specs.Str.{bytes_eq}
 use Rattle.std.specs.declared.alloc.AllocError.{AllocError}
 use Rattle.fri_text.specs.Decimal.{decimal_of, signed_of, up_to, within_i64}
+use Rattle.fri_text.specs.Hex.{hex_of}
 use Rattle.fri_text.specs.Line.{lines_of}
 use Rattle.fri_text.specs.Name.{is_name}
 use Rattle.schedule_text.specs.declared.item.Item.{Item}
-use Rattle.schedule_text.specs.declared.item.Item.TheVariants.{Run, Clock}
-use Rattle.schedule_text.specs.Limits.{most_processes, most_thread, most_times, most_runs}
+use Rattle.schedule_text.specs.declared.item.Item.TheVariants.{Run, Deliver, Inject, Clock, Random, Kill}
+use Rattle.schedule_text.specs.Limits.{most_processes, most_thread, most_datagram, most_runs}
 use Rattle.schedule_text.specs.declared.process.ProcessLine.{ProcessLine}
 use Rattle.schedule_text.specs.Fields.{fields_of, field_at, last_of, is_comment}
 use Rattle.schedule_text.specs.Schedule.{Schedule, is_module_name, run_count}
@@ -32,6 +33,10 @@ pub data Refusal : Type 0 where
 abbrev pub number_of : ℕ → List ℕ → Option ℕ
 number_of most word = result_ok (up_to most (decimal_of word))
 
+-- the same from 1 on
+abbrev pub positive_of : ℕ → List ℕ → Option ℕ
+positive_of most word = number_of most word >>= λ n. if n == 0 then None else Some n
+
 -- the number of a process, of which there are so many
 abbrev pub process_number_of : ℕ → List ℕ → Option ℕ
 process_number_of processes word = if processes == 0 then None else number_of (processes - 1) word
@@ -39,7 +44,7 @@ process_number_of processes word = if processes == 0 then None else number_of (p
 -- the fields after P and T: how often is tried
 abbrev pub times_of : List (List ℕ) → Option ℕ
 times_of [] = Some 1
-times_of (word ∷ []) = number_of most_times word >>= λ n. if n == 0 then None else Some n
+times_of (word ∷ []) = positive_of most_runs word
 times_of _ = None
 
 -- ---- one line
@@ -66,20 +71,59 @@ run_of processes fields = do
   times ← times_of t.1
   Some (Run process thread times)
 
+-- the process of the fields P and one more, which is the last, and that field
+unfoldable pub pair_of : ℕ → List (List ℕ) → Option (ℕ × List ℕ)
+pair_of processes fields = do
+  p ← field_at fields
+  process ← process_number_of processes p.0
+  last ← last_of p.1
+  Some (process, last)
+
+-- the item of the fields after `deliver`
+unfoldable pub deliver_of : ℕ → List (List ℕ) → Option Item
+deliver_of processes fields = do
+  pair ← pair_of processes fields
+  number ← positive_of most_datagram pair.1
+  Some (Deliver pair.0 number)
+
+-- the process and the bytes of the fields P and HEX
+unfoldable pub bytes_of : ℕ → List (List ℕ) → Option (ℕ × List ℕ)
+bytes_of processes fields = do
+  pair ← pair_of processes fields
+  bytes ← hex_of pair.1
+  Some (pair.0, bytes)
+
+-- the item of the fields after `inject`
+unfoldable pub inject_of : ℕ → List (List ℕ) → Option Item
+inject_of processes fields = option_map (λ x. Inject x.0 x.1) (bytes_of processes fields)
+
 -- the item of the fields after `clock`
 unfoldable pub clock_of : ℕ → List (List ℕ) → Option Item
 clock_of processes fields = do
-  p ← field_at fields
-  process ← process_number_of processes p.0
-  v ← last_of p.1
-  value ← result_ok (within_i64 (signed_of v))
-  Some (Clock process value)
+  pair ← pair_of processes fields
+  value ← result_ok (within_i64 (signed_of pair.1))
+  Some (Clock pair.0 value)
+
+-- the item of the fields after `random`
+unfoldable pub random_of : ℕ → List (List ℕ) → Option Item
+random_of processes fields = option_map (λ x. Random x.0 x.1) (bytes_of processes fields)
+
+-- the item of the fields after `kill`
+unfoldable pub kill_of : ℕ → List (List ℕ) → Option Item
+kill_of processes fields = do
+  p ← last_of fields
+  process ← process_number_of processes p
+  Some (Kill process)
 
 -- the item of a line, by its first word
 unfoldable pub item_of : ℕ → List ℕ → List (List ℕ) → Option Item
 item_of processes word fields =
     if bytes_eq word (codes "run") then run_of processes fields else
-    (if bytes_eq word (codes "clock") then clock_of processes fields else None)
+    (if bytes_eq word (codes "deliver") then deliver_of processes fields else
+    (if bytes_eq word (codes "inject") then inject_of processes fields else
+    (if bytes_eq word (codes "clock") then clock_of processes fields else
+    (if bytes_eq word (codes "random") then random_of processes fields else
+    (if bytes_eq word (codes "kill") then kill_of processes fields else None)))))
 
 -- ---- lines
 

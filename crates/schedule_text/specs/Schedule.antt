@@ -2,10 +2,11 @@
 use Rattle.std.specs.Prelude.{◌≢◌, ℕ, ◌<◌, ◌≤◌, FitsSigned, Bool, ◌&&◌, not, nat_le, nat_eq, codes, sum_by, List, length, All, AllPairs, IsTrue}
 use Rattle.std.specs.Int.{is_in_range, w64}
 use Rattle.std.specs.List.{list_all, ends_with}
+use Rattle.fri_bytes.specs.Laws.{AreBytes}
 use Rattle.fri_text.specs.Name.{is_name}
 use Rattle.schedule_text.specs.declared.item.Item.{Item}
-use Rattle.schedule_text.specs.declared.item.Item.TheVariants.{Run, Clock}
-use Rattle.schedule_text.specs.Limits.{most_processes, most_thread, most_times, most_runs}
+use Rattle.schedule_text.specs.declared.item.Item.TheVariants.{Run, Deliver, Inject, Clock, Random, Kill}
+use Rattle.schedule_text.specs.Limits.{most_processes, most_thread, most_datagram, most_runs}
 use Rattle.schedule_text.specs.declared.process.ProcessLine.{ProcessLine}
 
 -- the processes, numbered from 0, and what happens to them, in order
@@ -29,8 +30,12 @@ pub record IsProcess (line : ProcessLine) : Type 0 where
 
 -- the item is in range where there are this many processes
 abbrev pub IsInRange : ℕ → Item → Type 0
-IsInRange processes (Run process thread times) = (process < processes) × (thread ≤ most_thread) × (1 ≤ times) × (times ≤ most_times)
+IsInRange processes (Run process thread times) = (process < processes) × (thread ≤ most_thread) × (1 ≤ times) × (times ≤ most_runs)
+IsInRange processes (Deliver process number) = (process < processes) × (1 ≤ number) × (number ≤ most_datagram)
+IsInRange processes (Inject process bytes) = (process < processes) × AreBytes bytes
 IsInRange processes (Clock process value) = (process < processes) × FitsSigned w64 value
+IsInRange processes (Random process bytes) = (process < processes) × AreBytes bytes
+IsInRange processes (Kill process) = process < processes
 
 -- the lines and the items are in range, and no two processes have one name
 pub record IsWellFormed (s : Schedule) : Type 0 where
@@ -43,7 +48,7 @@ pub record IsWellFormed (s : Schedule) : Type 0 where
 -- how often an item tries to run a thread
 abbrev pub tries : Item → ℕ
 tries (Run process thread times) = times
-tries (Clock process value) = 0
+tries _ = 0
 
 -- the run items, repeats counted
 abbrev pub run_count : List Item → ℕ

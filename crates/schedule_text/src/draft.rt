@@ -79,7 +79,7 @@ impl Draft {
         if word == b"process".as_slice() {
             self.take_process(alloc, fields)
         } else {
-            self.take_item(word, fields)
+            self.take_item(alloc, word, fields)
         }
     }
 
@@ -103,10 +103,15 @@ impl Draft {
 
     /// Takes an item.
     #[tactic(auto, unfolding(crate::specs::Reading::with_item))]
-    fn take_item(&mut self, word: &[u8], fields: &mut Fields) -> Result<bool, AllocError>
+    fn take_item(
+        &mut self,
+        alloc: Global,
+        word: &[u8],
+        fields: &mut Fields,
+    ) -> Result<bool, AllocError>
         ensures { Takes result self.new (with_item self.old word.now fields.old) }
     {
-        let Some(item) = read_item(word, self.processes.len() as u32, fields) else {
+        let Some(item) = read_item(alloc, word, self.processes.len() as u32, fields)? else {
             return Ok(false);
         };
         self.items.push(item)?;

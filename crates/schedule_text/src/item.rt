@@ -1,27 +1,49 @@
 // The items of a schedule.
-ghost use Rattle.std.specs.Prelude.{◌≡◌};
+ghost use Rattle.std.specs.Prelude.{◌≡◌, IfOk, option_map};
 ghost use Rattle.schedule_text.specs.Schedule.{tries as item_tries};
-ghost use Rattle.schedule_text.specs.Reading.{item_of, run_of, clock_of};
+ghost use Rattle.schedule_text.specs.Reading.{item_of, run_of, pair_of, deliver_of, bytes_of, inject_of, clock_of, random_of, kill_of};
 
 use crate::fields::Fields;
-use crate::limits::MOST_THREAD;
-use crate::word::{number, process_number, times};
+use crate::limits::{MOST_DATAGRAM, MOST_THREAD};
+use crate::word::{bytes, number, positive, process_number, times};
+use fri_bytes::Bytes;
 use fri_text::read_signed;
+use std::alloc::{AllocError, Global};
 
 /// What happens next in a group. Processes are numbered from 0 in the order of their lines.
 #[derive(Debug, PartialEq, Eq, Drop)]
 pub enum Item {
     /// `times` tries, each by itself, to make an event of the thread. The thread is 0 to `MOST_THREAD`,
-    /// and the tries are 1 to `MOST_TIMES`.
+    /// and the tries are 1 to `MOST_RUNS`.
     Run {
         process: u32,
         thread: u16,
         times: u32,
     },
+    /// The datagram that the process sent with this number, from 1 to `MOST_DATAGRAM`, comes to its
+    /// receiver.
+    Deliver {
+        process: u32,
+        number: u64,
+    },
+    /// The bytes come to the process as a datagram.
+    Inject {
+        process: u32,
+        bytes: Bytes,
+    },
     /// The wall time of the process is now `value`.
     Clock {
         process: u32,
         value: i64,
+    },
+    /// The bytes come to the pool from which the process takes random bytes.
+    Random {
+        process: u32,
+        bytes: Bytes,
+    },
+    /// The process makes no further event.
+    Kill {
+        process: u32,
     },
 }
 
@@ -32,7 +54,7 @@ impl Item {
     {
         match self {
             Item::Run { times, .. } => u64::from(*times),
-            Item::Clock { .. } => 0,
+            _ => 0,
         }
     }
 }
@@ -40,13 +62,28 @@ impl Item {
 /// The item of a line with this first word and these fields after it, where there are so many
 /// processes.
 #[tactic(auto, unfolding(crate::specs::Reading::item_of))]
-pub(crate) fn read_item(word: &[u8], processes: u32, fields: &mut Fields) -> Option<Item>
-    ensures { result ≡ item_of processes word.now fields.old }
+pub(crate) fn read_item(
+    alloc: Global,
+    word: &[u8],
+    processes: u32,
+    fields: &mut Fields,
+) -> Result<Option<Item>, AllocError>
+    ensures { IfOk result (λ item. item ≡ item_of processes word.now fields.old) }
 {
-    match word {
-        b"run" => read_run(processes, fields),
-        b"clock" => read_clock(processes, fields),
-        _ => None,
+    if word == b"run".as_slice() {
+        Ok(read_run(processes, fields))
+    } else if word == b"deliver".as_slice() {
+        Ok(read_deliver(processes, fields))
+    } else if word == b"inject".as_slice() {
+        read_inject(alloc, processes, fields)
+    } else if word == b"clock".as_slice() {
+        Ok(read_clock(processes, fields))
+    } else if word == b"random".as_slice() {
+        read_random(alloc, processes, fields)
+    } else if word == b"kill".as_slice() {
+        Ok(read_kill(processes, fields))
+    } else {
+        Ok(None)
     }
 }
 
@@ -65,12 +102,89 @@ fn read_run(processes: u32, fields: &mut Fields) -> Option<Item>
     })
 }
 
+/// The process P and the one field after it.
+#[tactic(auto, unfolding(crate::specs::Reading::pair_of))]
+fn read_pair<'a>(processes: u32, fields: &mut Fields<'a>) -> Option<(u32, &'a [u8])>
+    ensures { option_map (λ x. (x.0, x.1.now)) result ≡ pair_of processes fields.old }
+{
+    let process = process_number(fields.next_field()?, processes)?;
+    let last = fields.last_field()?;
+    Some((process, last))
+}
+
+/// `deliver P N`.
+#[tactic(auto, unfolding(crate::specs::Reading::deliver_of))]
+fn read_deliver(processes: u32, fields: &mut Fields) -> Option<Item>
+    ensures { result ≡ deliver_of processes fields.old }
+{
+    let (process, word) = read_pair(processes, fields)?;
+    let number = positive(word, MOST_DATAGRAM)?;
+    Some(Item::Deliver { process, number })
+}
+
+/// The process P and the bytes of the one field after it.
+#[tactic(auto, unfolding(crate::specs::Reading::bytes_of))]
+fn read_bytes(
+    alloc: Global,
+    processes: u32,
+    fields: &mut Fields,
+) -> Result<Option<(u32, Bytes)>, AllocError>
+    ensures { IfOk result (λ found. found ≡ bytes_of processes fields.old) }
+{
+    let Some((process, word)) = read_pair(processes, fields) else {
+        return Ok(None);
+    };
+    match bytes(alloc, word)? {
+        Some(bytes) => Ok(Some((process, bytes))),
+        None => Ok(None),
+    }
+}
+
+/// `inject P HEX`.
+#[tactic(auto, unfolding(crate::specs::Reading::inject_of))]
+fn read_inject(
+    alloc: Global,
+    processes: u32,
+    fields: &mut Fields,
+) -> Result<Option<Item>, AllocError>
+    ensures { IfOk result (λ item. item ≡ inject_of processes fields.old) }
+{
+    match read_bytes(alloc, processes, fields)? {
+        Some((process, bytes)) => Ok(Some(Item::Inject { process, bytes })),
+        None => Ok(None),
+    }
+}
+
 /// `clock P V`.
 #[tactic(auto, unfolding(crate::specs::Reading::clock_of))]
 fn read_clock(processes: u32, fields: &mut Fields) -> Option<Item>
     ensures { result ≡ clock_of processes fields.old }
 {
-    let process = process_number(fields.next_field()?, processes)?;
-    let value = read_signed(fields.last_field()?).ok()?;
+    let (process, word) = read_pair(processes, fields)?;
+    let value = read_signed(word).ok()?;
     Some(Item::Clock { process, value })
+}
+
+/// `random P HEX`.
+#[tactic(auto, unfolding(crate::specs::Reading::random_of))]
+fn read_random(
+    alloc: Global,
+    processes: u32,
+    fields: &mut Fields,
+) -> Result<Option<Item>, AllocError>
+    ensures { IfOk result (λ item. item ≡ random_of processes fields.old) }
+{
+    match read_bytes(alloc, processes, fields)? {
+        Some((process, bytes)) => Ok(Some(Item::Random { process, bytes })),
+        None => Ok(None),
+    }
+}
+
+/// `kill P`.
+#[tactic(auto, unfolding(crate::specs::Reading::kill_of))]
+fn read_kill(processes: u32, fields: &mut Fields) -> Option<Item>
+    ensures { result ≡ kill_of processes fields.old }
+{
+    let process = process_number(fields.last_field()?, processes)?;
+    Some(Item::Kill { process })
 }

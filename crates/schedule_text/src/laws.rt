@@ -1,5 +1,7 @@
 // What holds of the grammar, whatever the bytes are. These calls do nothing.
-ghost use Rattle.schedule_text.specs.Laws.{SpellOne, SpellOrBad, NeverBoth, OneBadLine, GivesSchedules, RefusesMore, NamesBadLine};
+ghost use Rattle.schedule_text.specs.Laws.{SpellOne, SpellOrBad, NeverBoth, OneBadLine, GivesSchedules, RefusesMore, NamesBadLine, TextSpells, TextIsRead};
+
+use fri_text::{exact_hex, read_back};
 
 /// Bytes spell at most one schedule.
 pub fn one_schedule()
@@ -19,3 +21,12 @@ pub fn exact_outcome()
     ensures more { RefusesMore }
     ensures bad_line { NamesBadLine }
 {}
+
+/// The text that is written of a schedule spells it, and is read back.
+pub fn written_is_read()
+    ensures spells { TextSpells }
+    ensures read { TextIsRead }
+{
+    read_back();
+    exact_hex();
+}

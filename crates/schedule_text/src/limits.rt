@@ -1,13 +1,14 @@
 // The limits of what a schedule may say.
 
 /// How many processes a group may have.
-pub const MOST_PROCESSES: usize = 1;
+pub const MOST_PROCESSES: usize = 16;
 
 /// The greatest number of a thread.
 pub const MOST_THREAD: u16 = 63;
 
-/// How often one run item may try.
-pub const MOST_TIMES: u32 = 1_000_000;
+/// The greatest number of a datagram among those that a process sends, from 1.
+pub const MOST_DATAGRAM: u64 = 9_223_372_036_854_775_807;
 
-/// How many run items a schedule may have, where each counts as often as it tries.
+/// How many run items a schedule may have, where each counts as often as it tries. So none tries more
+/// often.
 pub const MOST_RUNS: u64 = 1_000_000;

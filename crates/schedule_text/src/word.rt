@@ -1,12 +1,15 @@
 // The numbers and names that the fields of a line write.
-ghost use Rattle.std.specs.Prelude.{◌≡◌, ◌≤◌, IfSome};
+ghost use Rattle.std.specs.Prelude.{◌≡◌, ◌≤◌, IfOk, IfSome};
 ghost use Rattle.std.specs.List.{list_all};
-ghost use Rattle.schedule_text.specs.Reading.{number_of, process_number_of, times_of};
+ghost use Rattle.schedule_text.specs.Reading.{number_of, positive_of, process_number_of, times_of};
 ghost use Rattle.schedule_text.specs.Schedule.{is_module_name as is_module_word, is_visible};
+ghost use Rattle.fri_text.specs.Hex.{hex_of};
 
 use crate::fields::Fields;
-use crate::limits::MOST_TIMES;
-use fri_text::read_decimal;
+use crate::limits::MOST_RUNS;
+use fri_bytes::Bytes;
+use fri_text::{TextError, read_decimal, read_hex};
+use std::alloc::{AllocError, Global};
 
 /// The number that the word writes, where it is at most `most`.
 pub(crate) fn number(word: &[u8], most: u32) -> Option<u32>
@@ -15,6 +18,15 @@ pub(crate) fn number(word: &[u8], most: u32) -> Option<u32>
 {
     let number = read_decimal(word, u64::from(most)).ok()?;
     u32::try_from(number).ok()
+}
+
+/// The number from 1 on that the word writes, where it is at most `most`.
+pub(crate) fn positive(word: &[u8], most: u64) -> Option<u64>
+    ensures value { result ≡ positive_of most word.now }
+    ensures bound { IfSome result (λ n. n ≤ most) }
+{
+    let number = read_decimal(word, most).ok()?;
+    (number != 0).then_some(number)
 }
 
 /// The number of a process that the word writes, where there are so many processes.
@@ -35,8 +47,19 @@ pub(crate) fn times(fields: &mut Fields) -> Option<u32>
     if fields.next_field().is_some() {
         return None;
     }
-    let times = number(word, MOST_TIMES)?;
-    (times != 0).then_some(times)
+    let times = positive(word, MOST_RUNS)?;
+    u32::try_from(times).ok()
+}
+
+/// The bytes that the word writes.
+pub(crate) fn bytes(alloc: Global, word: &[u8]) -> Result<Option<Bytes>, AllocError>
+    ensures { IfOk result (λ bytes. bytes ≡ hex_of word.now) }
+{
+    match read_hex(alloc, word) {
+        Ok(bytes) => Ok(Some(bytes)),
+        Err(TextError::NoMemory) => Err(AllocError),
+        Err(_) => Ok(None),
+    }
 }
 
 /// Whether the word may name a module's file.

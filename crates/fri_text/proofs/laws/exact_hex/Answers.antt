@@ -1,0 +1,5 @@
+use Rattle.fri_text.proofs.HexLaws.{hex_some, hex_none}
+use Rattle.fri_text.proofs.laws.exact_hex.Goals as goal
+
+pub returns : goal.returns
+returns c = record { some = hex_some; none = hex_none }

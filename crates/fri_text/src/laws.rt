@@ -1,0 +1,12 @@
+// What holds of words, whatever they are. These calls do nothing.
+ghost use Rattle.fri_text.specs.Laws.{ReadBack, ExactHex};
+
+/// A number or bytes are read from the word that writing them gives.
+pub fn read_back()
+    ensures { ReadBack }
+{}
+
+/// Exactly the words of hexadecimal digits, an even number of them and some, and the word `-` write bytes.
+pub fn exact_hex()
+    ensures { ExactHex }
+{}
