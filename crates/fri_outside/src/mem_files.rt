@@ -3,7 +3,7 @@ ghost use Rattle.std.specs.Prelude.{◌≡◌, ◌↔◌, [], Some, OnOk, OnErr,
 ghost use Rattle.std.specs.Option.{option_copied};
 ghost use Rattle.std.specs.FinMap.{empty, get, insert};
 ghost use Rattle.fri_outside.specs.Outside.{Held, found, SaysOf, NoneFell};
-ghost use Rattle.fri_outside.specs.Memory.{no_failures, IsDue, after_call, with_failure, after_read, after_write, grown, half, SameFaults};
+ghost use Rattle.fri_outside.specs.Memory.{no_failures, IsDue, after_call, with_failure, after_read, after_write, appended, half, SameFaults};
 
 use crate::plan::FailurePlan;
 use crate::shelf::Shelf;
@@ -138,8 +138,8 @@ impl Files for MemFiles {
     /// A call that is to fail writes the first half of the piece, rounded down, or answers `NoMemory`
     /// where there is no room for that.
     fn append(&mut self, name: &str, piece: &[u8]) -> Result<(), WriteError>
-        ensures ok { OnOk result (self.new.store ≡ grown name.now piece.now self.old.store) }
-        ensures failed { IsErrOf result WriteError.Failed → self.new.store ≡ grown name.now (half piece.now) self.old.store }
+        ensures ok { OnOk result (self.new.store ≡ appended name.now piece.now self.old.store) }
+        ensures failed { IsErrOf result WriteError.Failed → self.new.store ≡ appended name.now (half piece.now) self.old.store }
         ensures no_memory { IsErrOf result WriteError.NoMemory → self.new.store ≡ self.old.store }
 
         ensures fails { IsErrOf result WriteError.Failed → IsDue self.old.plan }

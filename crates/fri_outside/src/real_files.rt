@@ -3,19 +3,26 @@ ghost use Rattle.std.specs.Prelude.{◌≡◌, ◌≤◌, None, vec_len, IfOk};
 ghost use Rattle.fri_outside.specs.Outside.{NoneFell};
 ghost use Rattle.fri_outside.specs.Memory.{after_read, after_write};
 
+use crate::open_files::{OpenFiles, close};
 use crate::{FileError, Files, WriteError};
 use std::alloc::Global;
-use std::fs::{File, OpenFile, OpenOptions};
+use std::fs::{OpenFile, OpenOptions};
 use std::io::{ErrorKind, Read, Write};
 use std::marker::Model;
+use std::os::fd::IntoRawFd;
 use std::{fs, io, rt};
 
 /// The files of the runtime, by their paths. A file is read up to one byte past the limit. Only a name
 /// that is not found is absent: a folder, a path through a file and a file that may not be read are
 /// faults.
+///
+/// A file that was created stays open until it is created again or all are closed. So a piece at its end
+/// costs one write, and a reader at the other end of a pipe gets all pieces as one stream.
 #[derive(Drop)]
 pub struct RealFiles<'a, R: rt::Files> {
+    alloc: Global,
     rt: &'a R,
+    open: OpenFiles<R::File>,
     read_faults: u64,
     write_faults: u64,
     misses: u64,
@@ -33,16 +40,64 @@ impl<'a, R: rt::Files> Model for RealFiles<'a, R> {
     } };
 }
 
-impl<'a, R: rt::Files> RealFiles<'a, R> {
-    pub fn new(rt: &'a R) -> Self
+impl<'a, R: rt::Files> RealFiles<'a, R>
+where
+    R::File: IntoRawFd,
+{
+    pub fn new(alloc: Global, rt: &'a R) -> Self
         ensures { result ≡ record { reads = 0; writes = 0; misses = 0 } }
     {
         RealFiles {
+            alloc,
             rt,
+            open: OpenFiles::new(alloc),
             read_faults: 0,
             write_faults: 0,
             misses: 0,
         }
+    }
+
+    /// Closes all files that are open. A file that cannot be closed may lack bytes that were written to
+    /// it, which is a write fault; the others are closed all the same.
+    pub fn close(&mut self) -> Result<(), WriteError>
+        ensures counts { NoneFell self.old self.new }
+        ensures counted { self.new ≡ after_write self.old result }
+    {
+        let outcome = self.open.close_all();
+        self.count_write(outcome)
+    }
+
+    // Makes a file without bytes and keeps it open. The memory is asked for first, so that there is none
+    // to want once the file has lost its bytes.
+    fn create_file(&mut self, name: &str) -> Result<(), WriteError>
+        ensures same { self.new ≡ self.old }
+    {
+        let key = String::from_str(self.alloc, name)?;
+        self.open.reserve()?;
+        self.open.close(name)?;
+        let file = fs::create(self.rt, name).map_err(|error| open_error(&error))?;
+        self.open.keep(key, file)
+    }
+
+    // Writes to a file that is open, or opens another and closes it.
+    fn write(&mut self, name: &str, piece: &[u8]) -> Result<(), WriteError>
+        ensures same { self.new ≡ self.old }
+    {
+        match self.open.get_mut(name) {
+            Some(file) => write_piece(file, piece),
+            None => append_to_file(self.rt, name, piece),
+        }
+    }
+
+    fn count_write(&mut self, outcome: Result<(), WriteError>) -> Result<(), WriteError>
+        ensures same { result ≡ outcome }
+        ensures counts { NoneFell self.old self.new }
+        ensures counted { self.new ≡ after_write self.old result }
+    {
+        if outcome == Err(WriteError::Failed) {
+            self.write_faults = self.write_faults.saturating_add(1);
+        }
+        outcome
     }
 }
 
@@ -94,22 +149,28 @@ fn read_file<R: rt::Files>(
     Ok(bytes)
 }
 
-fn create_file<R: rt::Files>(rt: &R, name: &str) -> Result<(), WriteError> {
-    fs::create(rt, name).map_err(|error| open_error(&error))?;
-    Ok(())
+// A write that fails may have written a part, so it is a fault whatever its error says.
+fn write_piece<W: Write>(file: &mut W, piece: &[u8]) -> Result<(), WriteError> {
+    file.write_all(piece).map_err(|_| WriteError::Failed)
 }
 
-// A write that fails may have written a part, so it is a fault whatever its error says.
-fn append_to_file<R: rt::Files>(rt: &R, name: &str, piece: &[u8]) -> Result<(), WriteError> {
+fn append_to_file<R: rt::Files>(rt: &R, name: &str, piece: &[u8]) -> Result<(), WriteError>
+where
+    R::File: IntoRawFd,
+{
     let mut file = OpenOptions::new()
         .append(true)
         .create(true)
         .open(rt, name)
         .map_err(|error| open_error(&error))?;
-    file.write_all(piece).map_err(|_| WriteError::Failed)
+    write_piece(&mut file, piece)?;
+    close(file)
 }
 
-impl<'a, R: rt::Files> Files for RealFiles<'a, R> {
+impl<'a, R: rt::Files> Files for RealFiles<'a, R>
+where
+    R::File: IntoRawFd,
+{
     ghost told = { λ _. None };
 
     ghost counts = { λ files. files };
@@ -136,21 +197,15 @@ impl<'a, R: rt::Files> Files for RealFiles<'a, R> {
         ensures counts { NoneFell self.old self.new }
         ensures counted { self.new ≡ after_write self.old result }
     {
-        let outcome = create_file(self.rt, name);
-        if outcome == Err(WriteError::Failed) {
-            self.write_faults = self.write_faults.saturating_add(1);
-        }
-        outcome
+        let outcome = self.create_file(name);
+        self.count_write(outcome)
     }
 
     fn append(&mut self, name: &str, piece: &[u8]) -> Result<(), WriteError>
         ensures counts { NoneFell self.old self.new }
         ensures counted { self.new ≡ after_write self.old result }
     {
-        let outcome = append_to_file(self.rt, name, piece);
-        if outcome == Err(WriteError::Failed) {
-            self.write_faults = self.write_faults.saturating_add(1);
-        }
-        outcome
+        let outcome = self.write(name, piece);
+        self.count_write(outcome)
     }
 }

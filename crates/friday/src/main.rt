@@ -2,8 +2,12 @@
 //! top call, and ends with its status.
 #![tactic(auto)]
 
-use fri_outside::{ReaderSource, RealFiles, WriterSink};
+ghost use Rattle.std.specs.Prelude.{◌≡◌, OnErr, OnOk};
+ghost use Rattle.friday_app.specs.Call.{IsAnswer};
+
+use fri_outside::{ReaderSource, RealFiles, WriteError, WriterSink};
 use friday_app::{Status, friday};
+use std::os::fd::IntoRawFd;
 use std::process::ExitCode;
 use std::rt::{Env, Files};
 use std::{env, io};
@@ -20,11 +24,29 @@ fn words<R: Env + AllocGlobal>(rt: &R) -> io::Result<Vec<String>> {
     Ok(words)
 }
 
-fn run<R: Files + Input + Print + AllocGlobal>(rt: &R, words: &[String]) -> Status {
-    let mut files = RealFiles::new(rt);
+// How a call ends whose files were closed after it. A file that cannot be closed may lack bytes that were
+// written to it, which is a write fault where nothing failed before.
+fn status_once_closed(status: Status, closed: Result<(), WriteError>) -> Status
+    ensures closed { OnOk closed (result ≡ status) }
+    ensures lost { OnErr closed (IsAnswer status → result ≡ Status.WriteFault) }
+    ensures first { ¬ IsAnswer status → result ≡ status }
+{
+    match status {
+        Status::ReadFault | Status::WriteFault | Status::NoMemory => status,
+        _ if closed.is_err() => Status::WriteFault,
+        _ => status,
+    }
+}
+
+fn run<R: Files + Input + Print + AllocGlobal>(rt: &R, words: &[String]) -> Status
+where
+    R::File: IntoRawFd,
+{
+    let mut files = RealFiles::new(rt.alloc(), rt);
     let mut input = ReaderSource::new(rt.reader());
     let mut out = WriterSink::new(io::writer(rt));
-    friday(rt.alloc(), words, &mut files, &mut input, &mut out)
+    let status = friday(rt.alloc(), words, &mut files, &mut input, &mut out);
+    status_once_closed(status, files.close())
 }
 
 fn main(rt: HostRuntime) -> ExitCode {

@@ -4,6 +4,7 @@ use Rattle.std.specs.Io.KnownBytes.{append_known}
 use Rattle.std.proofs.lemmas.Grind.{common_steps}
 use Rattle.std.proofs.lemmas.Option.{same_Some}
 use Rattle.fri_outside.specs.Outside.{Store, Counts, Rose, WhenTold}
+use Rattle.fri_outside.specs.Several.{with_files, OthersStay}
 use Rattle.friday_app.specs.declared.status.Status.{Status}
 use Rattle.friday_app.specs.declared.status.Status.TheVariants as ends
 use Rattle.friday_app.specs.declared.refusal.Answer.{Answer}
@@ -11,11 +12,11 @@ use Rattle.friday_app.specs.declared.refusal.Answer.TheVariants as answered
 use Rattle.friday_app.specs.declared.refusal.Refusal.{Refusal}
 use Rattle.friday_app.specs.declared.refusal.Refusal.TheVariants as refusal
 use Rattle.friday_app.specs.Command.{Command, Record, Replay}
-use Rattle.friday_app.specs.Outcome.{Outcome, Stop, Work, Refuses, Lacks, refused_line, usage_line, status_of, text_of, writes_of, with_files}
+use Rattle.friday_app.specs.Outcome.{Outcome, Stop, Work, Refuses, Lacks, refused_line, usage_line, status_of, text_of, writes_of}
 use Rattle.friday_app.specs.Expected.{expected, record_outcome, written_by}
 use Rattle.friday_app.specs.Agreement.{KeepsRecording}
 use Rattle.friday_app.specs.Run.{Outside, Run}
-use Rattle.friday_app.specs.Call.{Prints, PrintsAbsent, PrintsLast, PrintsRefusal, KeepsInput, Untouched, DivergesOnlyIn, Leaves, IsAnswer, Tells, Makes, Keeps, Raises, FaultStatus, answer_of, OthersStay, Finishes}
+use Rattle.friday_app.specs.Call.{Prints, PrintsAbsent, PrintsLast, PrintsRefusal, KeepsInput, Untouched, DivergesOnlyIn, Leaves, IsAnswer, Tells, Makes, Keeps, Raises, FaultStatus, answer_of, Finishes}
 use Rattle.friday_app.proofs.Gathered.{records}
 use Rattle.friday_app.proofs.Made.{same_changes, all_changes, same_others}
 

@@ -5,6 +5,7 @@ use Rattle.std.specs.FinMap.{get}
 use Rattle.std.proofs.lemmas.Option.{same_Some}
 use Rattle.fri_outside.specs.Laws.{KeepsFiles}
 use Rattle.fri_outside.specs.Outside.{Store, WhenTold, with_file}
+use Rattle.fri_outside.specs.Several.{with_files, ChangesOnly}
 use Rattle.fri_outside.specs.declared.files.WriteError.{WriteError}
 use Rattle.fri_outside.specs.declared.files.WriteError.TheVariants as writing
 use Rattle.friday_app.specs.declared.refusal.Answer.TheVariants as answered
@@ -20,9 +21,9 @@ use Rattle.friday_app.specs.declared.refusal.Refusal.TheVariants as refusal
 use Rattle.friday_app.specs.Expected.{begun_of, begun_or, first_or, module_of, process_of, record_outcome, schedule_in}
 use Rattle.friday_app.specs.Record.{log_name, record_work}
 use Rattle.friday_app.specs.Agreement.{HoldsRecording, IsRecordingOf, LeavesRecording}
-use Rattle.friday_app.specs.Outcome.{Outcome, Stop, and_then, writes_of, with_files}
+use Rattle.friday_app.specs.Outcome.{Outcome, Stop, and_then, writes_of}
 use Rattle.friday_app.specs.Recorded.{DoesWork, IsRecordedWork}
-use Rattle.friday_app.specs.Call.{ChangesOnly, Makes, StopsAs, Tells, stop_of}
+use Rattle.friday_app.specs.Call.{Makes, StopsAs, Tells, stop_of}
 use Rattle.friday_app.proofs.Made.{all_changes, outcome_at, part_changes, stops_make, stops_tell}
 
 -- what gathering says at a refusal

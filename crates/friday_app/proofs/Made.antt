@@ -9,14 +9,15 @@ use Rattle.std.specs.declared.cmp.Ordering.TheVariants.{Less, Equal, Greater}
 use Rattle.std.specs.Cmp.Lexicographic.{slice_cmp, nat_list_cmp_total}
 use Rattle.std.specs.FinMap.{insert, get, get-insert, slice_cmp-IsAntisymmetric, nat_cmp-IsAntisymmetric}
 use Rattle.fri_outside.specs.Outside.{Store, WhenTold, with_file}
+use Rattle.fri_outside.specs.Several.{with_files, IsLeft, ChangesOnly, OthersStay}
 use Rattle.friday_app.specs.declared.refusal.Answer.{Answer}
 use Rattle.friday_app.specs.declared.refusal.Answer.TheVariants as answered
 use Rattle.friday_app.specs.Agreement.{KeepsRecording, LeavesRecording}
 use Rattle.friday_app.specs.Command.{Command, Record, Replay}
 use Rattle.friday_app.specs.declared.refusal.Refusal.{Refusal}
 use Rattle.friday_app.specs.declared.refusal.Refusal.TheVariants as refusal
-use Rattle.friday_app.specs.Outcome.{Outcome, nothing_done, writes_of, with_files}
-use Rattle.friday_app.specs.Call.{ChangesOnly, DivergesOnlyIn, IsLeft, Makes, Keeps, OthersStay, StopsAs, Tells}
+use Rattle.friday_app.specs.Outcome.{Outcome, nothing_done, writes_of}
+use Rattle.friday_app.specs.Call.{DivergesOnlyIn, Makes, Keeps, StopsAs, Tells}
 
 -- what did not change at all changed these files only
 pub same_changes : (before after : Option Store) (files : List (List ℕ × List ℕ)) → after ≡ before → ChangesOnly before files after

@@ -3,6 +3,7 @@ use Rattle.std.specs.Prelude.{◌≡◌, ◌≢◌, ◌⊎◌, ℕ, List, [], �
 use Rattle.std.specs.FinMap.{get}
 use Rattle.std.specs.Io.KnownBytes.{append_known}
 use Rattle.fri_outside.specs.Outside.{Store, WhenTold, Counts, Rose}
+use Rattle.fri_outside.specs.Several.{with_files, ChangesOnly}
 use Rattle.fri_outside.specs.declared.files.WriteError.{WriteError}
 use Rattle.fri_outside.specs.declared.files.WriteError.TheVariants as writing
 use Rattle.friday_app.specs.declared.status.Status.{Status}
@@ -14,7 +15,7 @@ use Rattle.friday_app.specs.declared.refusal.Reason.TheVariants as reason
 use Rattle.friday_app.specs.declared.refusal.Refusal.{Refusal}
 use Rattle.friday_app.specs.declared.refusal.Refusal.TheVariants as refusal
 use Rattle.friday_app.specs.Command.{Command, Record, Replay, IsReplay}
-use Rattle.friday_app.specs.Outcome.{Outcome, Work, Stop, Refuses, Lacks, refuses, refused_line, absent_line, with_files}
+use Rattle.friday_app.specs.Outcome.{Outcome, Work, Stop, Refuses, Lacks, refuses, refused_line, absent_line}
 
 -- statuses 0 to 4: the call came to its end, with no fault and no want of memory
 abbrev pub IsAnswer : Status → Type 0
@@ -28,25 +29,10 @@ pub record Prints (answer : Status) (text : List ℕ) (before after : Option (Li
   pub whole : IsAnswer answer → after ≡ append_known before text
   pub part : (n : ℕ) × (after ≡ append_known before (take n text))
 
--- a name is as before, or is one of these files and has some of its front
-abbrev pub IsLeft : Store → List (List ℕ × List ℕ) → Store → List ℕ → Type 0
-IsLeft old files new name =
-    (get new name ≡ get old name)
-    ⊎ ((bytes : List ℕ) × Contains files (name, bytes) × ((n : ℕ) × (get new name ≡ Some (take n bytes))))
-
--- each of these files is as before or has some of its front, and no other name changes
-pub record ChangesOnly (before : Option Store) (files : List (List ℕ × List ℕ)) (after : Option Store) : Type 0 where
-  pub each : WhenTold before (λ old. (new : Store) × (after ≡ Some new) × ((name : List ℕ) → IsLeft old files new name))
-
 -- after an answer the files of the work are made; at any status they alone change, each to some of its front
 pub record Leaves (answer : Status) (files : List (List ℕ × List ℕ)) (before after : Option Store) : Type 0 where
   pub whole : IsAnswer answer → after ≡ with_files files before
   pub part : ChangesOnly before files after
-
--- no name but these changes
-pub record OthersStay (names : Store → List (List ℕ)) (before after : Option Store) : Type 0 where
-  pub each : WhenTold before (λ old. (new : Store) × (after ≡ Some new)
-      × ((name : List ℕ) → (Contains (names old) name → ⊥) → get new name ≡ get old name))
 
 -- Usage comes exactly where the words name no command, but for a fault or want of memory in its place
 pub record IsExactUsage (command : Option Command) (answer : Status) : Type 0 where

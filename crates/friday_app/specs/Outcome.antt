@@ -1,6 +1,6 @@
 -- What a command comes to: the work that it does, or the stop at which it ends.
 use Rattle.std.specs.Prelude.{ℕ, List, [], ◌∷◌, ◌++◌, Bool, false, decimal, codes, Option, Result, Ok, Err, if◌then◌else◌}
-use Rattle.fri_outside.specs.Outside.{Store, Found, Missing, Over, Held, found, with_file}
+use Rattle.fri_outside.specs.Outside.{Store, Found, Missing, Over, Held, found}
 use Rattle.friday_app.specs.declared.status.Status.{Status}
 use Rattle.friday_app.specs.declared.status.Status.TheVariants as status
 use Rattle.friday_app.specs.declared.refusal.Reason.{Reason}
@@ -87,8 +87,3 @@ writes_of (Ok work) = work.writes
 writes_of (Err NotACommand) = []
 writes_of (Err (Refuses file why done)) = done.writes
 writes_of (Err (Lacks file)) = []
-
--- the store with these files made, the first of them first
-abbrev pub with_files : List (List ℕ × List ℕ) → Option Store → Option Store
-with_files [] told = told
-with_files (file ∷ files) told = with_files files (with_file file.0 file.1 told)

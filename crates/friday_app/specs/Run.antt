@@ -1,13 +1,14 @@
 -- What a whole run of a command says.
 use Rattle.std.specs.Prelude.{◌≡◌, ◌⊎◌, ℕ, List, Option, Some, Ok}
 use Rattle.fri_outside.specs.Outside.{Store, WhenTold, Counts, Rose}
+use Rattle.fri_outside.specs.Several.{with_files, OthersStay}
 use Rattle.friday_app.specs.declared.status.Status.{Status}
 use Rattle.friday_app.specs.declared.status.Status.TheVariants as ends
 use Rattle.friday_app.specs.Command.{Command, IsReplay, command_of}
-use Rattle.friday_app.specs.Outcome.{Outcome, Work, status_of, text_of, writes_of, with_files}
+use Rattle.friday_app.specs.Outcome.{Outcome, Work, status_of, text_of, writes_of}
 use Rattle.friday_app.specs.Expected.{expected, written_by}
 use Rattle.friday_app.specs.Agreement.{KeepsRecording}
-use Rattle.friday_app.specs.Call.{IsAnswer, IsExactUsage, IsIdle, KeepsInput, Prints, PrintsAbsent, PrintsLast, PrintsRefusal, Leaves, OthersStay, Untouched}
+use Rattle.friday_app.specs.Call.{IsAnswer, IsExactUsage, IsIdle, KeepsInput, Prints, PrintsAbsent, PrintsLast, PrintsRefusal, Leaves, Untouched}
 
 -- what is said of the outcome of these words, as far as the store and the input tell it
 abbrev pub Expects : List (List ℕ) → Option Store → Option (List ℕ) → (Outcome → Type 0) → Type 0

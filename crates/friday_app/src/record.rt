@@ -1,12 +1,13 @@
 // `record SCHEDULE`: runs a process as the schedule says, and writes its log.
 ghost use Rattle.std.specs.Prelude.{◌≡◌, None, map, option_map, string_bytes, IfErr, IfOk, MatchResult};
 ghost use Rattle.fri_outside.specs.Outside.{WhenTold, NoneFell};
+ghost use Rattle.fri_outside.specs.Several.{OthersStay};
 ghost use Rattle.friday_app.specs.Outcome.{writes_of};
 ghost use Rattle.schedule_text.specs.Schedule.{IsProcess, IsSchedule};
 ghost use Rattle.friday_app.specs.Expected.{process_of, record_outcome};
 ghost use Rattle.friday_app.specs.Recorded.{DoesWork};
 ghost use Rattle.friday_app.specs.Agreement.{HoldsRecording, LeavesRecording};
-ghost use Rattle.friday_app.specs.Call.{StopsAs, Tells, Makes, Keeps, DivergesOnlyIn, OthersStay, Raises};
+ghost use Rattle.friday_app.specs.Call.{StopsAs, Tells, Makes, Keeps, DivergesOnlyIn, Raises};
 
 use crate::inputs::{begin_process, take_module, take_schedule};
 use crate::outputs::write_file;

@@ -1,10 +1,11 @@
 // A command from its start to its status.
 ghost use Rattle.std.specs.Prelude.{◌≡◌, List, ℕ, Option, Some, IfErr, IfOk};
 ghost use Rattle.fri_outside.specs.Outside.{WhenTold, NoneFell};
+ghost use Rattle.fri_outside.specs.Several.{OthersStay};
 ghost use Rattle.friday_app.specs.Seen.{meaning};
 ghost use Rattle.friday_app.specs.Outcome.{writes_of};
 ghost use Rattle.friday_app.specs.Expected.{expected, written_by};
-ghost use Rattle.friday_app.specs.Call.{Tells, Makes, Keeps, DivergesOnlyIn, OthersStay, Raises};
+ghost use Rattle.friday_app.specs.Call.{Tells, Makes, Keeps, DivergesOnlyIn, Raises};
 ghost use Rattle.friday_app.specs.Agreement.{KeepsRecording};
 ghost use Rattle.friday_app.specs.Run.{Run};
 

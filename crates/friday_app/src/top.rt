@@ -1,13 +1,14 @@
 // The top call.
 ghost use Rattle.std.specs.Prelude.{◌≡◌, ◌≢◌, ◌⊎◌, codes, map, string_bytes};
 ghost use Rattle.fri_outside.specs.Outside.{WhenTold, Rose};
+ghost use Rattle.fri_outside.specs.Several.{with_files, OthersStay};
 ghost use Rattle.friday_app.specs.Command.{IsReplay, command_of};
-ghost use Rattle.friday_app.specs.Outcome.{status_of, text_of, writes_of, with_files};
+ghost use Rattle.friday_app.specs.Outcome.{status_of, text_of, writes_of};
 ghost use Rattle.friday_app.specs.Expected.{written_by};
 ghost use Rattle.friday_app.specs.Agreement.{KeepsRecording};
 ghost use Rattle.friday_app.specs.Valid.{IsValid};
 ghost use Rattle.friday_app.specs.Run.{Run, NoFault, Works, Expects};
-ghost use Rattle.friday_app.specs.Call.{IsAnswer, IsExactUsage, IsIdle, KeepsInput, Prints, PrintsAbsent, PrintsLast, PrintsRefusal, Leaves, OthersStay, Untouched};
+ghost use Rattle.friday_app.specs.Call.{IsAnswer, IsExactUsage, IsIdle, KeepsInput, Prints, PrintsAbsent, PrintsLast, PrintsRefusal, Leaves, Untouched};
 
 use crate::command::parse;
 use crate::finish::say;

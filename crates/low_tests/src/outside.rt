@@ -72,7 +72,7 @@ fn a_sink_in_memory(rt: HostRuntime) -> Result<(), Fail> {
 fn real_files(rt: HostRuntime) -> Result<(), Fail> {
     let _ = fs::remove_dir_all(&rt, FOLDER);
     fs::create_dir(&rt, FOLDER)?;
-    let mut files = RealFiles::new(&rt);
+    let mut files = RealFiles::new(rt.alloc(), &rt);
     make(&mut files, NAME, b"abc", b"de")?;
     let bytes = text_of(&mut files, rt.alloc(), NAME)?;
     fs::remove_dir_all(&rt, FOLDER)?;
@@ -83,7 +83,7 @@ fn real_files(rt: HostRuntime) -> Result<(), Fail> {
 // A folder is no file, and it is not absent.
 #[test]
 fn folders_are_no_files(rt: HostRuntime) {
-    let mut files = RealFiles::new(&rt);
+    let mut files = RealFiles::new(rt.alloc(), &rt);
     assert_eq!(rt;
         text_of(&mut files, rt.alloc(), "/").err(),
         Some(FileError::Failed)

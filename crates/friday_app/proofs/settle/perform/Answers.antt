@@ -1,5 +1,5 @@
 use Rattle.std.proofs.Common.{Some, ap, sym, subst}
-use Rattle.friday_app.specs.Call.{OthersStay}
+use Rattle.fri_outside.specs.Several.{OthersStay}
 use Rattle.friday_app.specs.Command.{Command}
 use Rattle.friday_app.specs.Expected.{written_by}
 use Rattle.friday_app.specs.Outcome.{writes_of}

@@ -1,0 +1,45 @@
+-- Several files of one call: what makes them all, and what stands where the call was stopped.
+use Rattle.std.specs.Prelude.{◌≡◌, ◌≢◌, ◌⊎◌, ℕ, zero, suc, List, [], ◌∷◌, ◌++◌, map, take, slice_get, Option, Some, AllPairs, Contains}
+use Rattle.std.specs.FinMap.{get}
+use Rattle.fri_outside.specs.Outside.{Store, WhenTold, with_file}
+
+-- the store with these files made, the first of them first
+abbrev pub with_files : List (List ℕ × List ℕ) → Option Store → Option Store
+with_files [] told = told
+with_files (file ∷ files) told = with_files files (with_file file.0 file.1 told)
+
+-- the files with this piece behind the bytes of the one at this place, if there is one
+abbrev pub grown : List (List ℕ × List ℕ) → ℕ → List ℕ → List (List ℕ × List ℕ)
+grown [] place piece = []
+grown (file ∷ files) zero piece = (file.0, file.1 ++ piece) ∷ files
+grown (file ∷ files) (suc place) piece = file ∷ grown files place piece
+
+-- no two of these files have one name
+abbrev pub AreApart : List (List ℕ × List ℕ) → Type 0
+AreApart files = AllPairs (λ one other. one.0 ≢ other.0) files
+
+-- each of these files is the one at its place among the whole ones, with some of the front of its bytes
+abbrev pub AreFronts : List (List ℕ × List ℕ) → List (List ℕ × List ℕ) → Type 0
+AreFronts files whole =
+    (place : ℕ) (name bytes : List ℕ) → slice_get files place ≡ Some (name, bytes)
+    → (more : List ℕ) × (slice_get whole place ≡ Some (name, bytes ++ more))
+
+-- the new store has each of these files, and under every other name what the old one has
+pub record Adds (files : List (List ℕ × List ℕ)) (old new : Store) : Type 0 where
+  pub held : (place : ℕ) (name bytes : List ℕ) → slice_get files place ≡ Some (name, bytes) → get new name ≡ Some bytes
+  pub others : (name : List ℕ) → (Contains (map (λ file. file.0) files) name → ⊥) → get new name ≡ get old name
+
+-- a name is as before, or is one of these files and has some of its front
+abbrev pub IsLeft : Store → List (List ℕ × List ℕ) → Store → List ℕ → Type 0
+IsLeft old files new name =
+    (get new name ≡ get old name)
+    ⊎ ((bytes : List ℕ) × Contains files (name, bytes) × ((n : ℕ) × (get new name ≡ Some (take n bytes))))
+
+-- each of these files is as before or has some of its front, and no other name changes
+pub record ChangesOnly (before : Option Store) (files : List (List ℕ × List ℕ)) (after : Option Store) : Type 0 where
+  pub each : WhenTold before (λ old. (new : Store) × (after ≡ Some new) × ((name : List ℕ) → IsLeft old files new name))
+
+-- no name but these changes
+pub record OthersStay (names : Store → List (List ℕ)) (before after : Option Store) : Type 0 where
+  pub each : WhenTold before (λ old. (new : Store) × (after ≡ Some new)
+      × ((name : List ℕ) → (Contains (names old) name → ⊥) → get new name ≡ get old name))

@@ -1,0 +1,78 @@
+// Files that stay open.
+ghost use Rattle.std.specs.Prelude.{◌≡◌};
+
+use crate::WriteError;
+use std::alloc::{AllocError, Global};
+use std::os::fd::IntoRawFd;
+
+/// A file that is open, and the name by which it was opened.
+#[derive(Drop)]
+struct OpenFile<F: Drop> {
+    name: String,
+    file: F,
+}
+
+/// Files that stay open, each under a name of its own.
+#[derive(Drop)]
+pub(crate) struct OpenFiles<F: Drop> {
+    files: Vec<OpenFile<F>>,
+}
+
+impl<F: IntoRawFd + Drop> OpenFiles<F> {
+    pub(crate) fn new(alloc: Global) -> Self {
+        OpenFiles {
+            files: Vec::new(alloc),
+        }
+    }
+
+    /// The file of this name, where it is open.
+    pub(crate) fn get_mut(&mut self, name: &str) -> Option<&mut F> {
+        let open = self
+            .files
+            .iter_mut()
+            .find(|open| open.name.as_str() == name)?;
+        Some(&mut open.file)
+    }
+
+    /// Makes room for one more file.
+    pub(crate) fn reserve(&mut self) -> Result<(), AllocError> {
+        self.files.reserve(1)
+    }
+
+    /// Keeps a file open. It needs no memory where there is room.
+    pub(crate) fn keep(&mut self, name: String, file: F) -> Result<(), WriteError> {
+        self.files.push(OpenFile { name, file })?;
+        Ok(())
+    }
+
+    /// Closes the file of this name, where it is open.
+    pub(crate) fn close(&mut self, name: &str) -> Result<(), WriteError> {
+        match self
+            .files
+            .iter()
+            .position(|open| open.name.as_str() == name)
+        {
+            Some(place) => close(self.files.swap_remove(place).file),
+            None => Ok(()),
+        }
+    }
+
+    /// Closes all files, also behind one that cannot be closed.
+    pub(crate) fn close_all(&mut self) -> Result<(), WriteError> {
+        let mut closed = Ok(());
+        for open in self.files.drain(..) {
+            closed = closed.and(close(open.file));
+        }
+        closed
+    }
+}
+
+/// Closes a file, and says whether the system could. A file that is let go is closed too, but says
+/// nothing.
+pub(crate) fn close<F: IntoRawFd>(file: F) -> Result<(), WriteError> {
+    if libc::close(file.into_raw_fd()) == 0 {
+        Ok(())
+    } else {
+        Err(WriteError::Failed)
+    }
+}
