@@ -1,2 +1,3 @@
 pub mod Declared
+mod Fitting
 pub mod Suited

@@ -24,7 +24,7 @@ use Rattle.wasm_types.specs.Valid.{IsValid}
 use Rattle.wasm_store.specs.Suits.{Suits}
 use Rattle.wasm_values.specs.Values.{kind_of, kinds_of, zero_of}
 use Rattle.wasm_types.specs.Functions.{described, imported_type, own_func, own_type, type_of}
-use Rattle.wasm_store.specs.Start.{constant, initial, initial_in, initial_globals, offset_in, first_min, empty_table, empty_memory, is_elem_inside, is_segment_inside, put_funcs, put_elems, put_segments, start}
+use Rattle.wasm_store.specs.Start.{begun, constant, initial, initial_in, initial_globals, offset_in, first_min, empty_table, empty_memory, is_elem_inside, put_funcs, put_elems, put_segments, segments_fit}
 use Rattle.wasm_store.specs.Store.{Store}
 
 both : (a b : Bool) → a && b ≡ true → (a ≡ true) × (b ≡ true)
@@ -219,16 +219,7 @@ fourth a b c d e h =
 -- ---- the whole
 
 module _ (m : Module) (v : IsValid m) where
-  begun : Store
-  begun = record {
-    program = m;
-    memory = put_segments (initial_globals m) m.segments (empty_memory m);
-    globals = initial_globals m;
-    table = put_elems (initial_globals m) m.elems (empty_table m);
-  }
-
-  suits : list_all (is_elem_inside (initial_globals m) (length (empty_table m))) m.elems ≡ true → Suits begun
-  unfolding begun
+  suits : list_all (is_elem_inside (initial_globals m) (length (empty_table m))) m.elems ≡ true → Suits (begun m)
   suits inside =
       let n = length (funcs_of m) in
       let plain = fourth (list_any has_float_type m.types) (list_any (λ (i : Import). is_float_import i.desc) m.imports) (list_any has_float_func m.funcs) (list_any has_float_global m.globals) (list_any (λ (e : Elem). have_float e.offset) m.elems || list_any (λ (s : Segment). have_float s.offset) m.segments) v.no_float in
@@ -242,12 +233,5 @@ module _ (m : Module) (v : IsValid m) where
       }
 
   -- what a valid program begins with suits it
-  pub start_suits : (g : Store) → start m ≡ Some g → Suits g × (g.program ≡ m)
-  unfolding begun
-  start_suits g e = by_test _ refl e
-    where
-      by_test : (b : Bool) → list_all (is_elem_inside (initial_globals m) (length (empty_table m))) m.elems && list_all (is_segment_inside (initial_globals m) (empty_memory m)) m.segments ≡ b → (if b then Some begun else None) ≡ Some g → Suits g × (g.program ≡ m)
-      by_test false q e' = cc
-      by_test true q e' =
-          let same : begun ≡ g = cc in
-          (subst (λ (g : Store). Suits g) same (suits (both _ _ q).0), ap (λ (g : Store). g.program) (sym same))
+  pub begun_suits : (g : Store) → g ≡ begun m → segments_fit m ≡ true → Suits g
+  begun_suits g same fit = subst (λ (g : Store). Suits g) (sym same) (suits (both _ _ fit).0)

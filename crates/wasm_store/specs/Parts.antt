@@ -1,9 +1,15 @@
 -- What the parts of a store make.
-use Rattle.std.specs.Prelude.{Option, Some, None}
-use Rattle.wasm_types.specs.Modules.{Module}
+use Rattle.std.specs.Prelude.{List, map}
+use Rattle.wasm_types.specs.declared.code.Value.{Value}
+use Rattle.wasm_types.specs.declared.modules.GlobalDef.{GlobalDef}
+use Rattle.wasm_types.specs.Modules.{Module, global_def}
 use Rattle.wasm_store.specs.declared.start.Parts.{Parts}
+use Rattle.wasm_store.specs.Start.{initial}
 use Rattle.wasm_store.specs.Store.{Store}
 
-abbrev pub store_of : Module → Option Parts → Option Store
-store_of m None = None
-store_of m (Some p) = Some (record { program = m; memory = p.memory; globals = p.globals.items; table = p.table.items })
+abbrev pub store_of : Module → Parts → Store
+store_of m p = record { program = m; memory = p.memory; globals = p.globals.items; table = p.table.items }
+
+-- the first values of these globals
+abbrev pub first_values : List GlobalDef → List Value
+first_values globals = map initial (map global_def globals)

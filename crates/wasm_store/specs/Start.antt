@@ -2,7 +2,7 @@
 -- thread that runs first.
 use Rattle.std.specs.Prelude.{ℕ, ◌+◌, Bool, ◌&&◌, nat_le, min, List, [], ◌∷◌, ◌++◌, Option, Some, None, length, map, slice_get, replicate, take, drop, if◌then◌else◌}
 use Rattle.std.specs.List.{list_all}
-use Rattle.guest_memory.specs.Memory.{Memory, fresh, is_inside, after_write}
+use Rattle.guest_memory.specs.Memory.{Memory, fresh, after_write}
 use Rattle.wasm_types.specs.declared.code.Value.{Value}
 use Rattle.wasm_types.specs.declared.code.Value.TheVariants.{I32, I64}
 use Rattle.wasm_types.specs.declared.modules.Limits.{Limits}
@@ -81,9 +81,9 @@ first_most (l ∷ ls) = most_pages l.max
 abbrev pub empty_memory : Module → Memory
 empty_memory m = fresh (first_min m.mems) (first_most m.mems)
 
--- the segment lies in the memory
-abbrev pub is_segment_inside : List Value → Memory → Segment → Bool
-is_segment_inside globals memory s = is_inside memory (offset_in globals s.offset) (length s.bytes)
+-- the segment lies in a memory of so many bytes
+abbrev pub is_segment_inside : List Value → ℕ → Segment → Bool
+is_segment_inside globals len s = nat_le (offset_in globals s.offset + length s.bytes) len
 
 abbrev pub put_segments : List Value → List Segment → Memory → Memory
 put_segments globals [] memory = memory
@@ -92,17 +92,21 @@ put_segments globals (s ∷ ss) memory =
 
 -- ---- the whole
 
-abbrev pub begun_with : Module → List Value → List (Option ℕ) → Memory → Option Store
-begun_with m globals table memory =
-    if list_all (is_elem_inside globals (length table)) m.elems && list_all (is_segment_inside globals memory) m.segments
-    then Some (record {
-      program = m;
-      memory = put_segments globals m.segments memory;
-      globals = globals;
-      table = put_elems globals m.elems table;
-    })
-    else None
+-- each element segment lies in the table, and each data segment in the memory
+abbrev pub segments_fit : Module → Bool
+segments_fit m =
+    list_all (is_elem_inside (initial_globals m) (length (empty_table m))) m.elems
+    && list_all (is_segment_inside (initial_globals m) (length (empty_memory m).bytes)) m.segments
+
+-- the globals with their first values, and the table and the memory with their segments
+abbrev pub begun : Module → Store
+begun m = record {
+  program = m;
+  memory = put_segments (initial_globals m) m.segments (empty_memory m);
+  globals = initial_globals m;
+  table = put_elems (initial_globals m) m.elems (empty_table m);
+}
 
 -- what the threads of a program share at first, unless some segment ends past the table or the memory
 abbrev pub start : Module → Option Store
-start m = begun_with m (initial_globals m) (empty_table m) (empty_memory m)
+start m = if segments_fit m then Some (begun m) else None

@@ -1,27 +1,36 @@
 // How a program begins: its globals, its table and its memory.
-ghost use Rattle.std.specs.Prelude.{◌≡◌, ◌+◌, ◌≤◌, IfOk, IsTrue, OnOk, None, length, map, min, nat_le, replicate};
+ghost use Rattle.std.specs.Prelude.{◌≡◌, ◌+◌, ◌≤◌, IfOk, IsTrue, OnOk, None, length, map, nat_le, replicate, slice_get};
 ghost use Rattle.std.specs.List.{list_all};
-ghost use Rattle.guest_memory.specs.Memory.{fresh, is_inside};
+ghost use Rattle.guest_memory.specs.Memory.{fresh};
 ghost use Rattle.wasm_types.specs.Code.{tree, trees};
 ghost use Rattle.wasm_types.specs.Modules.{elem, global_def, module_of, segment as segment_of};
-ghost use Rattle.wasm_types.specs.Valid.{IsValid};
-ghost use Rattle.wasm_store.specs.Start.{constant, empty_table, first_min, first_most, initial, initial_globals, initial_in, is_elem_inside, is_segment_inside, most_pages, offset_at, offset_in, put_elems, put_funcs, put_segments, start};
-ghost use Rattle.wasm_store.specs.Parts.{store_of};
+ghost use Rattle.wasm_store.specs.Start.{begun, constant, first_min, first_most, initial, is_elem_inside, is_segment_inside, offset_at, offset_in, put_elems, put_funcs, put_segments, segments_fit};
+ghost use Rattle.wasm_store.specs.Parts.{first_values, store_of};
 
 use guest_memory::Memory;
 use std::alloc::{AllocError, Global};
 use wasm_types::{Elem, GlobalDef, Instr, Limits, Module, Segment, ValidModule, Value};
 use wasm_values::{bits, zero_of};
 
-/// The first values of the globals.
-pub(crate) fn initial_globals(alloc: Global, module: &Module) -> Result<Vec<Value>, AllocError>
-    ensures { IfOk result (λ globals. globals.items ≡ initial_globals (module_of «module».now)) }
+/// How many bytes a page of memory has.
+const PAGE: u64 = 65_536;
+
+// Whether so many places from this one on are among the first `len`.
+fn is_within(at: u64, count: u64, len: u64) -> bool
+    ensures { result ≡ nat_le (at + count) len }
 {
-    let mut globals = Vec::new(alloc);
-    for global in &module.globals {
-        globals.push(initial(global))?;
+    at <= len && count <= len - at
+}
+
+/// The first values of the globals.
+fn first_values(alloc: Global, globals: &[GlobalDef]) -> Result<Vec<Value>, AllocError>
+    ensures { IfOk result (λ values. values.items ≡ first_values globals.now) }
+{
+    let mut values = Vec::new(alloc);
+    for global in globals {
+        values.push(initial(global))?;
     }
-    Ok(globals)
+    Ok(values)
 }
 
 fn initial(global: &GlobalDef) -> Value
@@ -44,19 +53,28 @@ fn constant(instr: &Instr, otherwise: Value) -> Value
     }
 }
 
-fn offset_at(globals: &[Value], instr: &Instr) -> u64
-    ensures { result ≡ offset_at globals.now (tree instr.now) }
+fn first_value(globals: &[GlobalDef], index: usize) -> Option<Value>
+    ensures { result ≡ slice_get (first_values globals.now) index }
+{
+    let Some(global) = globals.get(index) else {
+        return None;
+    };
+    Some(initial(global))
+}
+
+fn offset_at(globals: &[GlobalDef], instr: &Instr) -> u64
+    ensures { result ≡ offset_at (first_values globals.now) (tree instr.now) }
 {
     match instr {
         Instr::ConstI32(bits) => u64::from(*bits),
-        Instr::GlobalGet(x) => bits(globals.get(*x as usize).copied()),
+        Instr::GlobalGet(x) => bits(first_value(globals, *x as usize)),
         _ => 0,
     }
 }
 
-/// Where a segment begins.
-fn offset_in(globals: &[Value], offset: &[Instr]) -> u64
-    ensures { result ≡ offset_in globals.now (trees offset.now) }
+/// Where a segment begins. A global that it names has its first value there, so none has to be made yet.
+fn offset_in(globals: &[GlobalDef], offset: &[Instr]) -> u64
+    ensures { result ≡ offset_in (first_values globals.now) (trees offset.now) }
 {
     match offset {
         [instr] => offset_at(globals, instr),
@@ -80,16 +98,15 @@ fn first_min(limits: &[Limits]) -> u32
     }
 }
 
-fn is_elem_inside(globals: &[Value], len: usize, segment: &Elem) -> bool
-    ensures { result ≡ is_elem_inside globals.now len (elem segment.now) }
+fn is_elem_inside(globals: &[GlobalDef], len: u64, segment: &Elem) -> bool
+    ensures { result ≡ is_elem_inside (first_values globals.now) len (elem segment.now) }
 {
-    let len = len as u64;
     let at = offset_in(globals, &segment.offset);
-    at <= len && segment.funcs.len() as u64 <= len - at
+    is_within(at, segment.funcs.len() as u64, len)
 }
 
-fn are_elems_inside(globals: &[Value], len: usize, segments: &[Elem]) -> bool
-    ensures { result ≡ list_all (is_elem_inside globals.now len) (map elem segments.now) }
+fn are_elems_inside(globals: &[GlobalDef], len: u64, segments: &[Elem]) -> bool
+    ensures { result ≡ list_all (is_elem_inside (first_values globals.now) len) (map elem segments.now) }
 {
     for segment in segments {
         if !is_elem_inside(globals, len, segment) {
@@ -99,22 +116,32 @@ fn are_elems_inside(globals: &[Value], len: usize, segments: &[Elem]) -> bool
     true
 }
 
-fn is_segment_inside(globals: &[Value], memory: &Memory, segment: &Segment) -> bool
-    ensures { result ≡ is_segment_inside globals.now memory.now (segment_of segment.now) }
+fn is_segment_inside(globals: &[GlobalDef], len: u64, segment: &Segment) -> bool
+    ensures { result ≡ is_segment_inside (first_values globals.now) len (segment_of segment.now) }
 {
     let at = offset_in(globals, &segment.offset);
-    memory.part(at, segment.bytes.len() as u64).is_some()
+    is_within(at, segment.bytes.len() as u64, len)
 }
 
-fn are_segments_inside(globals: &[Value], memory: &Memory, segments: &[Segment]) -> bool
-    ensures { result ≡ list_all (is_segment_inside globals.now memory.now) (map segment_of segments.now) }
+fn are_segments_inside(globals: &[GlobalDef], len: u64, segments: &[Segment]) -> bool
+    ensures { result ≡ list_all (is_segment_inside (first_values globals.now) len) (map segment_of segments.now) }
 {
     for segment in segments {
-        if !is_segment_inside(globals, memory, segment) {
+        if !is_segment_inside(globals, len, segment) {
             return false;
         }
     }
     true
+}
+
+/// Whether all segments lie in the table and the memory. It takes no memory.
+pub(crate) fn segments_fit(module: &Module) -> bool
+    ensures { result ≡ segments_fit (module_of «module».now) }
+{
+    let places = u64::from(first_min(&module.tables));
+    let bytes = u64::from(first_min(&module.mems)) * PAGE;
+    are_elems_inside(&module.globals, places, &module.elems)
+        && are_segments_inside(&module.globals, bytes, &module.segments)
 }
 
 /// Writes the functions into the places of the table from this one on.
@@ -128,9 +155,9 @@ fn put_funcs(table: &mut [Option<u32>], at: usize, funcs: &[u32])
 }
 
 /// Writes the segments into the table, in which all of them lie.
-fn put_elems(globals: &[Value], table: &mut [Option<u32>], segments: &[Elem])
-    requires { IsTrue (list_all (is_elem_inside globals.now (length table.old)) (map elem segments.now)) }
-    ensures { table.new ≡ put_elems globals.now (map elem segments.now) table.old }
+fn put_elems(globals: &[GlobalDef], table: &mut [Option<u32>], segments: &[Elem])
+    requires { IsTrue (list_all (is_elem_inside (first_values globals.now) (length table.old)) (map elem segments.now)) }
+    ensures { table.new ≡ put_elems (first_values globals.now) (map elem segments.now) table.old }
 {
     for segment in segments {
         let at = offset_in(globals, &segment.offset);
@@ -140,11 +167,11 @@ fn put_elems(globals: &[Value], table: &mut [Option<u32>], segments: &[Elem])
 
 /// Writes the segments into the memory.
 fn put_segments(
-    globals: &[Value],
+    globals: &[GlobalDef],
     memory: &mut Memory,
     segments: &[Segment],
 ) -> Result<(), AllocError>
-    ensures { OnOk result (memory.new ≡ put_segments globals.now (map segment_of segments.now) memory.old) }
+    ensures { OnOk result (memory.new ≡ put_segments (first_values globals.now) (map segment_of segments.now) memory.old) }
 {
     for segment in segments {
         let at = offset_in(globals, &segment.offset);
@@ -184,26 +211,20 @@ pub(crate) struct Parts {
     pub table: Vec<Option<u32>>,
 }
 
-/// What the threads of a program share at first, unless a segment ends past the table or the memory.
-/// All segments are checked before any is written.
-pub(crate) fn begin(alloc: Global, program: &ValidModule) -> Result<Option<Parts>, AllocError>
-    ensures parts { IfOk result (λ parts. store_of (module_of program.now) parts ≡ start (module_of program.now)) }
-    ensures valid { IfOk result (λ _. IsValid (module_of program.now)) }
+/// What the threads of a program share at first.
+pub(crate) fn begin(alloc: Global, program: &ValidModule) -> Result<Parts, AllocError>
+    requires { IsTrue (segments_fit (module_of program.now)) }
+    ensures { IfOk result (λ parts. store_of (module_of program.now) parts ≡ begun (module_of program.now)) }
 {
     let module = program.module();
-    let globals = initial_globals(alloc, module)?;
+    let globals = first_values(alloc, &module.globals)?;
     let mut table = empty_table(alloc, &module.tables)?;
     let mut memory = empty_memory(alloc, &module.mems)?;
-    if !are_elems_inside(&globals, table.len(), &module.elems)
-        || !are_segments_inside(&globals, &memory, &module.segments)
-    {
-        return Ok(None);
-    }
-    put_elems(&globals, &mut table, &module.elems);
-    put_segments(&globals, &mut memory, &module.segments)?;
-    Ok(Some(Parts {
+    put_elems(&module.globals, &mut table, &module.elems);
+    put_segments(&module.globals, &mut memory, &module.segments)?;
+    Ok(Parts {
         memory,
         globals,
         table,
-    }))
+    })
 }

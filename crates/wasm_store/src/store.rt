@@ -1,5 +1,5 @@
 // What the threads of a program share: its memory, its globals and its table.
-ghost use Rattle.std.specs.Prelude.{◌≡◌, Err, IfOk, None, OnOk, Some, length, nat_lt, if◌then◌else◌, slice_get, slice_set};
+ghost use Rattle.std.specs.Prelude.{◌≡◌, ◌↔◌, Err, IfOk, None, OnOk, Some, length, nat_lt, if◌then◌else◌, slice_get, slice_set};
 ghost use Rattle.std.specs.Borrow.{sem};
 ghost use Rattle.guest_memory.specs.Memory.{after_store, growth, grown, is_inside};
 ghost use Rattle.guest_memory.specs.LittleEndian.{IsWidth};
@@ -9,7 +9,7 @@ ghost use Rattle.wasm_store.specs.Start.{start};
 ghost use Rattle.wasm_store.specs.Store.{func_at};
 ghost use Rattle.wasm_store.specs.Lending.{LendsMemory};
 
-use crate::start::begin;
+use crate::start::{begin, segments_fit};
 use guest_memory::Memory;
 use std::alloc::{AllocError, Global};
 use std::marker::Model;
@@ -48,21 +48,23 @@ pub enum StartError {
 
 impl<'m> Store<'m> {
     /// What the threads of a program share at first. `BadSegment` comes exactly where an element segment
-    /// ends past the table or a data segment past the memory, unless memory is wanting before.
+    /// ends past the table or a data segment past the memory, and is found without memory.
     pub fn start(alloc: Global, program: &'m ValidModule) -> Result<Store<'m>, StartError>
         ensures ok { IfOk result (λ g. start (module_of program.now) ≡ Some g) }
         ensures suits { IfOk result (λ g. Suits g) }
         ensures program { IfOk result (λ g. g.program ≡ module_of program.now) }
-        ensures bad { (result ≡ Err StartError.BadSegment) → start (module_of program.now) ≡ None }
+        ensures bad { (result ≡ Err StartError.BadSegment) ↔ (start (module_of program.now) ≡ None) }
     {
+        if !segments_fit(program.module()) {
+            return Err(StartError::BadSegment);
+        }
         match begin(alloc, program) {
-            Ok(Some(parts)) => Ok(Store {
+            Ok(parts) => Ok(Store {
                 program,
                 memory: parts.memory,
                 globals: parts.globals,
                 table: parts.table,
             }),
-            Ok(None) => Err(StartError::BadSegment),
             Err(AllocError) => Err(StartError::NoMemory),
         }
     }

@@ -2,9 +2,10 @@ use Rattle.std.proofs.Common.{◌≡◌, drop}
 use Rattle.std.specs.Prelude.{map}
 use Rattle.std.specs.List.{list_all}
 use Rattle.wasm_types.specs.Modules.{segment}
+use Rattle.wasm_store.specs.Parts.{first_values}
 use Rattle.wasm_store.specs.Start.{is_segment_inside}
 use Rattle.wasm_store.proofs.start.are_segments_inside.Given as goal
 
 abbrev pub invariant-loop-segment : goal.invariant-loop-segment
 invariant-loop-segment l =
-    list_all (is_segment_inside l.globals l.memory) (map segment l.segments) ≡ list_all (is_segment_inside l.globals l.memory) (map segment (drop l.segment-index l.segments))
+    list_all (is_segment_inside (first_values l.globals) l.len) (map segment l.segments) ≡ list_all (is_segment_inside (first_values l.globals) l.len) (map segment (drop l.segment-index l.segments))

@@ -2,6 +2,7 @@ use Rattle.std.proofs.Common.{◌≡◌, ◌≤◌, List, [], ◌∷◌, length,
 use Rattle.wasm_types.specs.declared.code.Instr.{Instr}
 use Rattle.wasm_types.specs.declared.code.Value.{Value}
 use Rattle.wasm_types.specs.Code.{trees}
+use Rattle.wasm_store.specs.Parts.{first_values}
 use Rattle.wasm_store.specs.Start.{offset_in}
 use Rattle.wasm_store.proofs.start.offset_in.Goals as goal
 
@@ -11,4 +12,4 @@ several globals (i ∷ []) h = absurd (omega arith)
 several globals (i ∷ (j ∷ is)) h = refl
 
 pub returns-in_default-2 : goal.returns-in_default-2
-returns-in_default-2 c = several c.args.globals.now c.args.offset.now c.in_default.len_at_least
+returns-in_default-2 c = several (first_values c.args.globals.now) c.args.offset.now c.in_default.len_at_least

@@ -1,11 +1,12 @@
-use Rattle.std.proofs.Common.{sym, ap, ◌∙◌}
+use Rattle.std.proofs.Common.{sym, ap, subst, ◌∙◌}
 use Rattle.wasm_types.specs.Modules.{module_of}
-use Rattle.wasm_store.specs.Parts.{store_of}
-use Rattle.wasm_store.proofs.Suited.{start_suits}
+use Rattle.wasm_types.specs.Valid.{IsValid}
+use Rattle.wasm_store.specs.Start.{segments_fit}
+use Rattle.wasm_store.proofs.Suited.{begun_suits}
 use Rattle.wasm_store.proofs.store.Store.start.Goals as goal
 
-pub returns-in-Ok-Some-clause-suits : goal.returns-in-Ok-Some-clause-suits
-returns-in-Ok-Some-clause-suits c =
-    let m = module_of c.args.program.now in
-    let suits = start_suits m c.in-Ok-Some.ensures.valid _ (sym c.in-Ok-Some.ensures.parts ∙ ap (store_of m) c.in-Ok-Some.field-0-is) in
-    suits.0
+pub returns-in-Ok-clause-suits : goal.returns-in-Ok-clause-suits
+returns-in-Ok-clause-suits c =
+    let same = ap module_of c.module.ensures.same in
+    begun_suits (module_of c.args.program.now) (subst IsValid same c.module.ensures.valid) _ c.in-Ok.ensures
+    (ap segments_fit (sym same) ∙ sym c.segments_fit.ensures ∙ c.if-not-segments_fit.false)
