@@ -9,7 +9,7 @@ use Rattle.wasm_types.specs.declared.code.Value.{Value}
 use Rattle.wasm_types.specs.declared.modules.GlobalDef.{GlobalDef}
 use Rattle.wasm_types.specs.Modules.{Module, global_def}
 use Rattle.wasm_store.specs.Parts.{first_values}
-use Rattle.wasm_store.specs.Start.{empty_memory, empty_table, first_min, initial, initial_globals, is_elem_inside, is_segment_inside, segments_fit}
+use Rattle.wasm_store.specs.Start.{empty_memory, empty_table, first_min, initial, initial_globals, is_elem_inside, is_segment_within, segments_fit}
 
 -- an empty memory has the bytes of its pages
 empty_bytes : (m : Module) → length (empty_memory m).bytes ≡ first_min m.mems * 65536
@@ -17,10 +17,10 @@ unfolding zeros
 empty_bytes m = length-replicate (65536 * first_min m.mems) 0 ∙ omega arith
 
 pub fit_by_sizes : (m : Module) (places bytes : ℕ) → places ≡ first_min m.tables → bytes ≡ first_min m.mems * 65536
-    → (list_all (is_elem_inside (initial_globals m) places) m.elems && list_all (is_segment_inside (initial_globals m) bytes) m.segments) ≡ segments_fit m
+    → (list_all (is_elem_inside (initial_globals m) places) m.elems && list_all (is_segment_within (initial_globals m) bytes) m.segments) ≡ segments_fit m
 fit_by_sizes m places bytes of_table of_memory =
-    ap (λ n. list_all (is_elem_inside (initial_globals m) n) m.elems && list_all (is_segment_inside (initial_globals m) bytes) m.segments) (of_table ∙ sym (length-replicate (first_min m.tables) None))
-    ∙ ap (λ n. list_all (is_elem_inside (initial_globals m) (length (empty_table m))) m.elems && list_all (is_segment_inside (initial_globals m) n) m.segments) (of_memory ∙ sym (empty_bytes m))
+    ap (λ n. list_all (is_elem_inside (initial_globals m) n) m.elems && list_all (is_segment_within (initial_globals m) bytes) m.segments) (of_table ∙ sym (length-replicate (first_min m.tables) None))
+    ∙ ap (λ n. list_all (is_elem_inside (initial_globals m) (length (empty_table m))) m.elems && list_all (is_segment_within (initial_globals m) n) m.segments) (of_memory ∙ sym (empty_bytes m))
 
 -- the first value of a global that was read
 pub value_read : (globals : List GlobalDef) (k : ℕ) (global : GlobalDef) (value : Value) → k < length globals → global ≡ get_or globals k global → value ≡ initial (global_def global)

@@ -82,8 +82,12 @@ abbrev pub empty_memory : Module → Memory
 empty_memory m = fresh (first_min m.mems) (first_most m.mems)
 
 -- the segment lies in a memory of so many bytes
-abbrev pub is_segment_inside : List Value → ℕ → Segment → Bool
-is_segment_inside globals len s = nat_le (offset_in globals s.offset + length s.bytes) len
+abbrev pub is_segment_within : List Value → ℕ → Segment → Bool
+is_segment_within globals len s = nat_le (offset_in globals s.offset + length s.bytes) len
+
+-- the segment lies in the memory
+abbrev pub is_segment_inside : List Value → Memory → Segment → Bool
+is_segment_inside globals memory s = is_segment_within globals (length memory.bytes) s
 
 abbrev pub put_segments : List Value → List Segment → Memory → Memory
 put_segments globals [] memory = memory
@@ -96,7 +100,7 @@ put_segments globals (s ∷ ss) memory =
 abbrev pub segments_fit : Module → Bool
 segments_fit m =
     list_all (is_elem_inside (initial_globals m) (length (empty_table m))) m.elems
-    && list_all (is_segment_inside (initial_globals m) (length (empty_memory m).bytes)) m.segments
+    && list_all (is_segment_inside (initial_globals m) (empty_memory m)) m.segments
 
 -- the globals with their first values, and the table and the memory with their segments
 abbrev pub begun : Module → Store

@@ -4,7 +4,7 @@ ghost use Rattle.std.specs.List.{list_all};
 ghost use Rattle.guest_memory.specs.Memory.{fresh};
 ghost use Rattle.wasm_types.specs.Code.{tree, trees};
 ghost use Rattle.wasm_types.specs.Modules.{elem, global_def, module_of, segment as segment_of};
-ghost use Rattle.wasm_store.specs.Start.{begun, constant, first_min, first_most, initial, is_elem_inside, is_segment_inside, offset_at, offset_in, put_elems, put_funcs, put_segments, segments_fit};
+ghost use Rattle.wasm_store.specs.Start.{begun, constant, first_min, first_most, initial, is_elem_inside, is_segment_within, offset_at, offset_in, put_elems, put_funcs, put_segments, segments_fit};
 ghost use Rattle.wasm_store.specs.Parts.{first_values, store_of};
 
 use guest_memory::Memory;
@@ -116,18 +116,18 @@ fn are_elems_inside(globals: &[GlobalDef], len: u64, segments: &[Elem]) -> bool
     true
 }
 
-fn is_segment_inside(globals: &[GlobalDef], len: u64, segment: &Segment) -> bool
-    ensures { result ≡ is_segment_inside (first_values globals.now) len (segment_of segment.now) }
+fn is_segment_within(globals: &[GlobalDef], len: u64, segment: &Segment) -> bool
+    ensures { result ≡ is_segment_within (first_values globals.now) len (segment_of segment.now) }
 {
     let at = offset_in(globals, &segment.offset);
     is_within(at, segment.bytes.len() as u64, len)
 }
 
-fn are_segments_inside(globals: &[GlobalDef], len: u64, segments: &[Segment]) -> bool
-    ensures { result ≡ list_all (is_segment_inside (first_values globals.now) len) (map segment_of segments.now) }
+fn are_segments_within(globals: &[GlobalDef], len: u64, segments: &[Segment]) -> bool
+    ensures { result ≡ list_all (is_segment_within (first_values globals.now) len) (map segment_of segments.now) }
 {
     for segment in segments {
-        if !is_segment_inside(globals, len, segment) {
+        if !is_segment_within(globals, len, segment) {
             return false;
         }
     }
@@ -141,7 +141,7 @@ pub(crate) fn segments_fit(module: &Module) -> bool
     let places = u64::from(first_min(&module.tables));
     let bytes = u64::from(first_min(&module.mems)) * PAGE;
     are_elems_inside(&module.globals, places, &module.elems)
-        && are_segments_inside(&module.globals, bytes, &module.segments)
+        && are_segments_within(&module.globals, bytes, &module.segments)
 }
 
 /// Writes the functions into the places of the table from this one on.
