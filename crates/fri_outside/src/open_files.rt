@@ -3,11 +3,12 @@ ghost use Rattle.std.specs.Prelude.{◌≡◌};
 
 use crate::WriteError;
 use std::alloc::{AllocError, Global};
-use std::os::fd::IntoRawFd;
+use std::fs::OpenFile;
+use std::io::ErrorKind;
 
 /// A file that is open, and the name by which it was opened.
 #[derive(Drop)]
-struct OpenFile<F: Drop> {
+struct NamedFile<F: Drop> {
     name: String,
     file: F,
 }
@@ -15,10 +16,10 @@ struct OpenFile<F: Drop> {
 /// Files that stay open, each under a name of its own.
 #[derive(Drop)]
 pub(crate) struct OpenFiles<F: Drop> {
-    files: Vec<OpenFile<F>>,
+    files: Vec<NamedFile<F>>,
 }
 
-impl<F: IntoRawFd + Drop> OpenFiles<F> {
+impl<F: OpenFile + Drop> OpenFiles<F> {
     pub(crate) fn new(alloc: Global) -> Self {
         OpenFiles {
             files: Vec::new(alloc),
@@ -41,7 +42,7 @@ impl<F: IntoRawFd + Drop> OpenFiles<F> {
 
     /// Keeps a file open. It needs no memory where there is room.
     pub(crate) fn keep(&mut self, name: String, file: F) -> Result<(), WriteError> {
-        self.files.push(OpenFile { name, file })?;
+        self.files.push(NamedFile { name, file })?;
         Ok(())
     }
 
@@ -67,12 +68,11 @@ impl<F: IntoRawFd + Drop> OpenFiles<F> {
     }
 }
 
-/// Closes a file, and says whether the system could. A file that is let go is closed too, but says
-/// nothing.
-pub(crate) fn close<F: IntoRawFd>(file: F) -> Result<(), WriteError> {
-    if libc::close(file.into_raw_fd()) == 0 {
-        Ok(())
-    } else {
-        Err(WriteError::Failed)
+/// Closes a file, and says whether the system has all its bytes. A pipe or a terminal has no disk behind
+/// it, and is closed as it is.
+pub(crate) fn close<F: OpenFile + Drop>(file: F) -> Result<(), WriteError> {
+    match file.sync_data() {
+        Err(error) if error.kind() != ErrorKind::InvalidInput => Err(WriteError::Failed),
+        _ => Ok(()),
     }
 }

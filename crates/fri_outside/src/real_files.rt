@@ -9,7 +9,6 @@ use std::alloc::Global;
 use std::fs::{OpenFile, OpenOptions};
 use std::io::{ErrorKind, Read, Write};
 use std::marker::Model;
-use std::os::fd::IntoRawFd;
 use std::{fs, io, rt};
 
 /// The files of the runtime, by their paths. A file is read up to one byte past the limit. Only a name
@@ -40,10 +39,7 @@ impl<'a, R: rt::Files> Model for RealFiles<'a, R> {
     } };
 }
 
-impl<'a, R: rt::Files> RealFiles<'a, R>
-where
-    R::File: IntoRawFd,
-{
+impl<'a, R: rt::Files> RealFiles<'a, R> {
     pub fn new(alloc: Global, rt: &'a R) -> Self
         ensures { result ≡ record { reads = 0; writes = 0; misses = 0 } }
     {
@@ -154,10 +150,7 @@ fn write_piece<W: Write>(file: &mut W, piece: &[u8]) -> Result<(), WriteError> {
     file.write_all(piece).map_err(|_| WriteError::Failed)
 }
 
-fn append_to_file<R: rt::Files>(rt: &R, name: &str, piece: &[u8]) -> Result<(), WriteError>
-where
-    R::File: IntoRawFd,
-{
+fn append_to_file<R: rt::Files>(rt: &R, name: &str, piece: &[u8]) -> Result<(), WriteError> {
     let mut file = OpenOptions::new()
         .append(true)
         .create(true)
@@ -167,10 +160,7 @@ where
     close(file)
 }
 
-impl<'a, R: rt::Files> Files for RealFiles<'a, R>
-where
-    R::File: IntoRawFd,
-{
+impl<'a, R: rt::Files> Files for RealFiles<'a, R> {
     ghost told = { λ _. None };
 
     ghost counts = { λ files. files };

@@ -7,7 +7,6 @@ ghost use Rattle.friday_app.specs.Call.{IsAnswer};
 
 use fri_outside::{ReaderSource, RealFiles, WriteError, WriterSink};
 use friday_app::{Status, friday};
-use std::os::fd::IntoRawFd;
 use std::process::ExitCode;
 use std::rt::{Env, Files};
 use std::{env, io};
@@ -38,10 +37,7 @@ fn status_once_closed(status: Status, closed: Result<(), WriteError>) -> Status
     }
 }
 
-fn run<R: Files + Input + Print + AllocGlobal>(rt: &R, words: &[String]) -> Status
-where
-    R::File: IntoRawFd,
-{
+fn run<R: Files + Input + Print + AllocGlobal>(rt: &R, words: &[String]) -> Status {
     let mut files = RealFiles::new(rt.alloc(), rt);
     let mut input = ReaderSource::new(rt.reader());
     let mut out = WriterSink::new(io::writer(rt));
