@@ -8,6 +8,7 @@ use call_table::Kind;
 
 // The replies -1 and -2 of 32 bits.
 const MINUS_ONE: u64 = 0xFFFF_FFFF;
+
 const MINUS_TWO: u64 = 0xFFFF_FFFE;
 
 /// Whether the event sent a datagram into a group of `count`: a `send` with good arguments to one of its
