@@ -54,8 +54,8 @@ impl<'m> Model for Process<'m> {
 
 impl<'m> Process<'m> {
     /// Process `who` of a group of `count`, whose thread 0 stands at `begin`. `BadSegment` comes exactly
-    /// where an element segment ends past the table or a data segment past the memory, unless memory is
-    /// wanting before.
+    /// where an element segment ends past the table or a data segment past the memory, and is found
+    /// without memory.
     pub fn start(
         alloc: Global,
         program: &'m ValidModule,
@@ -66,6 +66,7 @@ impl<'m> Process<'m> {
         requires count { count ≤ 16 }
         ensures ok { IfOk result (λ p. start (module_of program.now) who count ≡ Some p) }
         ensures bad { (result ≡ Err StartError.BadSegment) → start (module_of program.now) who count ≡ None }
+        ensures sure { store_of (module_of program.now) ≡ None → result ≡ Err StartError.BadSegment }
     {
         match Store::start(alloc, program) {
             Ok(store) => match begin(alloc, program, who, count, store) {
