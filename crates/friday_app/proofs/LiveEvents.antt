@@ -6,8 +6,7 @@ use Rattle.call_table.specs.Table.{kind_numbered}
 use Rattle.call_table.specs.declared.kind.Kind.{Kind}
 use Rattle.lib_calls.specs.declared.entry.Call.{Call}
 use Rattle.lib_calls.specs.declared.entry.Entry.{Entry}
-use Rattle.lib_calls.specs.declared.entry.EntryView.{EntryView}
-use Rattle.lib_calls.specs.Entry.{entry_of}
+use Rattle.lib_calls.specs.Effects.{outgoing_of}
 use Rattle.guest_process.specs.declared.need.Need.{Need}
 use Rattle.guest_process.specs.Answers.{need, replies}
 use Rattle.guest_process.specs.Fits.{StateFits, WaitingFits, live_has}
@@ -22,11 +21,20 @@ use Rattle.call_log.specs.Entry.{IsLogged}
 use Rattle.call_log.specs.Kind.{is_built}
 use Rattle.friday_app.specs.History.{world}
 use Rattle.friday_app.specs.Recorded.{AllAgree, IsEntryOf, reply_at}
-use Rattle.friday_app.proofs.Replies.{IsReply, call_replied, reply_built, sends_nothing}
+use Rattle.friday_app.proofs.Replies.{IsReply, call_replied, reply_built}
 
 -- the entry of an event that took nothing from outside but its reply
-abbrev pub plain_entry : ℕ → ℕ → Call → ℕ → Entry
-plain_entry clock thread call reply = record { clock = clock; thread = thread; signal = 0; call = call; reply = reply; outgoing = []; incoming = []; tag = None }
+abbrev pub plain_entry : ℕ → ℕ → Call → ℕ → List ℕ → Entry
+plain_entry clock thread call reply outgoing = record { clock = clock; thread = thread; signal = 0; call = call; reply = reply; outgoing = outgoing; incoming = []; tag = None }
+
+-- that of a thread of this state
+abbrev pub next_entry : State → ℕ → Call → ℕ → Entry
+next_entry S t c reply = plain_entry (S.clock + 1) t c reply (outgoing_of c S.store.memory)
+
+-- an entry with these parts is that
+pub told_next : (S : State) (t clock : ℕ) (c : Call) (reply : ℕ) (outgoing incoming : List ℕ) → clock ≡ S.clock + 1 → outgoing ≡ outgoing_of c S.store.memory → incoming ≡ []
+    → record { clock = clock; thread = t; signal = 0; call = c; reply = reply; outgoing = outgoing; incoming = incoming; tag = None } ≡ next_entry S t c reply
+told_next S t clock c reply outgoing incoming clocks sent none = rw (clocks, sent, none) refl
 
 -- each event of a process tells itself by its entry
 pub all_agree : OneEvent → (S : State) (thread time : ℕ) → StateFits S → S.events < 2 ^ 61 → time < 2 ^ 64 → AllAgree S thread time
@@ -57,9 +65,9 @@ none_chosen kind handlers =
 pub next_plain : (n : ℕ) → 1 + max n 0 ≡ n + 1
 next_plain n = grind arith
 
-same_entry : (clock signal n thread : ℕ) (call told : Call) (reply : ℕ) (outgoing : List ℕ) → clock ≡ n → signal ≡ 0 → call ≡ told → outgoing ≡ []
-    → plain_entry n thread told reply ≡ record { clock = clock; thread = thread; signal = signal; call = call; reply = reply; outgoing = outgoing; incoming = []; tag = None }
-same_entry clock signal n thread call told reply outgoing clocks none calls nothing = rw (clocks, none, calls, nothing) refl
+same_entry : (clock signal thread : ℕ) (call told : Call) (reply : ℕ) (S : State) → clock ≡ S.clock + 1 → signal ≡ 0 → call ≡ told
+    → next_entry S thread told reply ≡ record { clock = clock; thread = thread; signal = signal; call = call; reply = reply; outgoing = outgoing_of call S.store.memory; incoming = []; tag = None }
+same_entry clock signal thread call told reply S clocks none calls = rw (clocks, none, calls) refl
 
 -- a try that has the event of this entry, or none
 abbrev IsTried : Option Event → (ℕ → Entry) → Option ℕ → Type 0
@@ -108,7 +116,7 @@ stands_there S t c asked h =
     }
 
 -- the event of that thread, where a reply is given
-tried_at : (S : State) (t time : ℕ) (c : Call) (asked : Need) → IsAsked S t c asked → IsTried (live S t (world time)) (λ reply. plain_entry (S.clock + 1) t c reply) (reply_at asked c time)
+tried_at : (S : State) (t time : ℕ) (c : Call) (asked : Need) → IsAsked S t c asked → IsTried (live S t (world time)) (next_entry S t c) (reply_at asked c time)
 tried_at S t time c asked h =
     let at = stands_there S t c asked h in
     let w = at.waiting in
@@ -118,27 +126,22 @@ tried_at S t time c asked h =
     (subst (λ (n : Need). IsReply (answered (need w.kind S t c) (from_world w.kind S c (world time))) (reply_at n c time)) (sym at.need)
     (call_replied w.kind S t time c at.kind)) in
     tried_by (event S t (world time) w) _ (reply_at asked c time) _ _ here given
-    (λ reply after replied.
-    let built = reply_built w.kind S t time reply c at.kind (ap (λ (n : Need). reply_at n c time) (sym at.need) ∙ replied) in
-    let nothing = sends_nothing w.call S (ap (λ (c : Call). is_built c.kind) at.call ∙ built) in
-    same_entry _ _ (S.clock + 1) t w.call c reply _ (next_plain S.clock) (none_chosen w.kind after.handlers) at.call nothing)
+    (λ reply after replied. same_entry _ _ t w.call c reply S (next_plain S.clock) (none_chosen w.kind after.handlers) at.call)
 
 -- no reply is given now
 pub none_given : (S : State) (t time : ℕ) (c : Call) (asked : Need) → IsAsked S t c asked → None ≡ reply_at asked c time → IsEntryOf (live S t (world time)) None
-none_given S t time c asked h is = subst (IsTried (live S t (world time)) (λ reply. plain_entry (S.clock + 1) t c reply)) (sym is) (tried_at S t time c asked h)
+none_given S t time c asked h is = subst (IsTried (live S t (world time)) (next_entry S t c)) (sym is) (tried_at S t time c asked h)
 
 -- this reply is given
-pub one_given : (S : State) (t time : ℕ) (c : Call) (asked : Need) (reply clock : ℕ) (view : EntryView) → IsAsked S t c asked → Some reply ≡ reply_at asked c time → clock ≡ S.clock + 1
-    → entry_of view ≡ plain_entry clock t c reply → IsEntryOf (live S t (world time)) (Some view)
-one_given S t time c asked reply clock view h is next told =
-    let e = subst (IsTried (live S t (world time)) (λ reply. plain_entry (S.clock + 1) t c reply)) (sym is) (tried_at S t time c asked h) in
-    (e.0, e.1, told ∙ ap (λ (n : ℕ). plain_entry n t c reply) next ∙ e.2)
+pub one_given : (S : State) (t time : ℕ) (c : Call) (asked : Need) (reply : ℕ) (entry : Entry) → IsAsked S t c asked → Some reply ≡ reply_at asked c time → entry ≡ next_entry S t c reply → IsEntryOf (live S t (world time)) (Some entry)
+one_given S t time c asked reply entry h is told =
+    let e = subst (IsTried (live S t (world time)) (next_entry S t c)) (sym is) (tried_at S t time c asked h) in
+    (e.0, e.1, told ∙ e.2)
 
 -- its entry is one that a log can have
-pub given_logged : (S : State) (t time : ℕ) (c : Call) (asked : Need) (reply clock : ℕ) (view : EntryView) → IsAsked S t c asked → Some reply ≡ reply_at asked c time → clock ≡ S.clock + 1
-    → entry_of view ≡ plain_entry clock t c reply → AllAgree S t time → IsLogged (entry_of view)
-given_logged S t time c asked reply clock view h is next told agree =
-    let e = one_given S t time c asked reply clock view h is next told in
+pub given_logged : (S : State) (t time : ℕ) (c : Call) (asked : Need) (reply : ℕ) (entry : Entry) → IsAsked S t c asked → Some reply ≡ reply_at asked c time → entry ≡ next_entry S t c reply → AllAgree S t time → IsLogged entry
+given_logged S t time c asked reply entry h is told agree =
+    let e = one_given S t time c asked reply entry h is told in
     let at = stands_there S t c asked h in
     let built : is_built c.kind ≡ true = reply_built at.waiting.kind S t time reply c at.kind (ap (λ (n : Need). reply_at n c time) (sym at.need) ∙ sym is) in
     subst IsLogged (sym e.2) (record {

@@ -5,9 +5,7 @@ use Rattle.std.proofs.lemmas.List.Elements.{All-push}
 use Rattle.schedule_text.specs.declared.item.Item.{Item}
 use Rattle.schedule_text.specs.declared.item.Item.TheVariants as item
 use Rattle.schedule_text.specs.Schedule.{IsInRange}
-use Rattle.lib_calls.specs.declared.entry.EntryView.{EntryView}
 use Rattle.lib_calls.specs.declared.entry.Entry.{Entry}
-use Rattle.lib_calls.specs.Entry.{entry_of}
 use Rattle.call_log.specs.Entry.{IsLogged, encoding, encodings}
 use Rattle.call_log.specs.Head.{head_bytes}
 use Rattle.friday_app.specs.declared.recorder.Recorder.{Recorder}
@@ -53,27 +51,27 @@ idle_step name first done old new thread k none is =
     }))
 
 -- an event
-pub event_step : (name : List ℕ) (first : ℕ → State) (done : Progress) (old new : Recorder) (thread : ℕ) (found : Option EntryView) (view : EntryView) → KeepsUp name first done old
+pub event_step : (name : List ℕ) (first : ℕ → State) (done : Progress) (old new : Recorder) (thread : ℕ) (found : Option Entry) (entry : Entry) → KeepsUp name first done old
     → IsEntryOf (live old.process thread (world old.time)) found
-    → found ≡ Some view
-    → new.process ≡ next old.process (entry_of view)
+    → found ≡ Some entry
+    → new.process ≡ next old.process entry
     → new.time ≡ old.time
-    → new.log.items ≡ old.log.items ++ encoding (entry_of view)
+    → new.log.items ≡ old.log.items ++ encoding entry
     → new.events ≡ old.events + 1
     → new.acted ≡ old.acted + 1
     → new.idle ≡ old.idle
-    → IsLogged (entry_of view)
+    → IsLogged entry
     → AllAgree old.process thread old.time
     → KeepsUp name first (attempt first 0 thread done) new
-event_step name first done old new thread found view k h at state time log events acted idle shaped agree = step (subst (λ (f : Option EntryView). IsEntryOf (live old.process thread (world old.time)) f) at h) where
-  step : IsEntryOf (live old.process thread (world old.time)) (Some view) → KeepsUp name first (attempt first 0 thread done) new
+event_step name first done old new thread found entry k h at state time log events acted idle shaped agree = step (subst (λ (f : Option Entry). IsEntryOf (live old.process thread (world old.time)) f) at h) where
+  step : IsEntryOf (live old.process thread (world old.time)) (Some entry) → KeepsUp name first (attempt first 0 thread done) new
   step (e, is, same) =
       let here : live (state_after first done.history 0) thread (env_of done.history 0) ≡ Some e = sym (world_is name first done old thread k) ∙ is in
       let told : IsTold old.process e = agree e is in
       subst (λ (o : Option Event). KeepsUp name first (tried 0 o done) new) (sym here) (record {
         state = state ∙ ap (next old.process) same ∙ told.same;
         time = time ∙ k.time;
-        log = log ∙ ap (λ t. t ++ encoding (entry_of view)) k.log ∙ append_assoc (head_bytes (log_head name)) (encodings (entries done.history 0)) (encoding (entry_of view))
+        log = log ∙ ap (λ t. t ++ encoding entry) k.log ∙ append_assoc (head_bytes (log_head name)) (encodings (entries done.history 0)) (encoding entry)
             ∙ ap (λ (x : Entry). head_bytes (log_head name) ++ (encodings (entries done.history 0) ++ encoding x)) same
             ∙ ap (λ t. head_bytes (log_head name) ++ t) (sym (encodings-last (entries done.history 0) e.entry));
         events = events ∙ ap (λ n. n + 1) k.events ∙ sym (length-append (entries done.history 0) (e.entry ∷ []));

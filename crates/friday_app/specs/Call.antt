@@ -1,5 +1,5 @@
 -- What a call says of its status, of what it printed, and of the files after it.
-use Rattle.std.specs.Prelude.{◌≡◌, ◌≢◌, ◌⊎◌, ℕ, List, [], ◌++◌, codes, string_bytes, Option, Some, None, take, Contains, IfSome, IfNone, Result, Ok, Err, true, false}
+use Rattle.std.specs.Prelude.{◌≡◌, ◌≢◌, ◌⊎◌, ℕ, List, [], ◌++◌, string_bytes, Option, Some, None, take, Contains, IfSome, IfNone, Result, Ok, Err, true, false}
 use Rattle.std.specs.FinMap.{get}
 use Rattle.std.specs.Io.KnownBytes.{append_known}
 use Rattle.fri_outside.specs.Outside.{Store, WhenTold, Counts, Rose}

@@ -1,11 +1,10 @@
 -- What a recorder has done so far.
-use Rattle.std.specs.Prelude.{◌≡◌, if◌then◌else◌, All, ℕ, List, [], ◌∷◌, false, length, Option, Some, None, Ok, string_bytes}
+use Rattle.std.specs.Prelude.{◌≡◌, ◌==◌, if◌then◌else◌, All, ℕ, List, [], ◌∷◌, false, length, Option, Some, None, Ok, string_bytes}
 use Rattle.call_table.specs.Table.{kind_numbered}
 use Rattle.call_table.specs.declared.kind.Kind.{Kind}
-use Rattle.call_table.specs.declared.kind.Kind.TheVariants.{SleepUntil}
+use Rattle.call_table.specs.declared.kind.Kind.TheVariants.{SleepUntil, Random, Recv, TryRecv}
 use Rattle.lib_calls.specs.declared.entry.Entry.{Entry}
-use Rattle.lib_calls.specs.declared.entry.EntryView.{EntryView}
-use Rattle.lib_calls.specs.Entry.{entry_of}
+use Rattle.lib_calls.specs.Effects.{minus_two}
 use Rattle.call_log.specs.Entry.{IsLogged}
 use Rattle.friday_app.specs.declared.recorder.Recorder.{Recorder}
 use Rattle.friday_app.specs.declared.summary.Recorded.{Recorded}
@@ -23,14 +22,18 @@ use Rattle.friday_app.specs.History.{Progress, entries, state_after, states, tim
 use Rattle.friday_app.specs.Record.{log_of_entries}
 
 -- an entry that was made is that of the event, and none was made where there is no event
-abbrev pub IsEntryOf : Option Event → Option EntryView → Type 0
+abbrev pub IsEntryOf : Option Event → Option Entry → Type 0
 IsEntryOf event None = event ≡ None
-IsEntryOf event (Some view) = (e : Event) × (event ≡ Some e) × (entry_of view ≡ e.entry)
+IsEntryOf event (Some entry) = (e : Event) × (event ≡ Some e) × (entry ≡ e.entry)
 
--- the reply that the world gives at this wall time to a call of this kind, where it is given now: a
--- sleeping thread wakes no earlier than it asked
+-- the reply that the world gives at this wall time to a call of this kind with good arguments, where it is
+-- given now: a sleeping thread wakes no earlier than it asked, and neither a random byte nor a datagram is
+-- there
 abbrev pub world_reply : Option Kind → Call → ℕ → Option ℕ
 world_reply (Some SleepUntil) call time = if is_due call.a0 time then Some time else None
+world_reply (Some Random) call time = if call.a1 == 0 then Some 0 else None
+world_reply (Some Recv) call time = None
+world_reply (Some TryRecv) call time = Some minus_two
 world_reply _ call time = Some time
 
 -- the reply to a call at this wall time, where it is given now

@@ -57,43 +57,44 @@ impl<'m> Recorder<'m> {
     }
 
     // One try of a thread.
-    fn attempt(mut self, thread: u16) -> Result<Recorder<'m>, AllocError>
+    fn attempt(mut self, alloc: Global, thread: u16) -> Result<Recorder<'m>, AllocError>
         ensures { IfOk result (λ now. (name : List ℕ) (first : ℕ → State) (done : Progress) → KeepsUp name first done self.entry → KeepsUp name first (attempt first 0 thread done) now) }
     {
-        match live_entry(&self.process, thread, self.time)? {
+        match live_entry(alloc, &self.process, thread, self.time)? {
             None => {
                 self.idle = next(self.idle)?;
                 Ok(self)
             }
             Some(entry) => {
+                let view = entry.view();
                 self.events = next(self.events)?;
                 self.acted = next(self.acted)?;
-                put_entry(&mut self.log, &entry)?;
-                self.process = self.process.advance(&entry)?;
+                put_entry(&mut self.log, &view)?;
+                self.process = self.process.advance(&view)?;
                 Ok(self)
             }
         }
     }
 
     // So many tries of a thread.
-    fn run(self, thread: u16, times: u32) -> Result<Recorder<'m>, AllocError>
+    fn run(self, alloc: Global, thread: u16, times: u32) -> Result<Recorder<'m>, AllocError>
         ensures { IfOk result (λ now. (name : List ℕ) (first : ℕ → State) (done : Progress) → KeepsUp name first done self.entry → KeepsUp name first (attempts first 0 thread times done) now) }
     {
         let mut recorder = self;
         for _ in 0..times {
-            recorder = recorder.attempt(thread)?;
+            recorder = recorder.attempt(alloc, thread)?;
         }
         Ok(recorder)
     }
 
     // Does an item of the schedule.
-    fn perform(mut self, item: &Item) -> Result<Recorder<'m>, AllocError>
+    fn perform(mut self, alloc: Global, item: &Item) -> Result<Recorder<'m>, AllocError>
         requires { IsInRange 1 item.now }
         ensures { IfOk result (λ now. (name : List ℕ) (first : ℕ → State) (done : Progress) → KeepsUp name first done self.entry → KeepsUp name first (after_item first item.now done) now) }
     {
         match item {
             Item::Run { thread, times, .. } => {
-                let recorder = self.run(*thread, *times)?;
+                let recorder = self.run(alloc, *thread, *times)?;
                 Ok(recorder)
             }
             Item::Clock { value, .. } => {
@@ -105,13 +106,13 @@ impl<'m> Recorder<'m> {
     }
 
     /// Does all items of a schedule.
-    pub fn perform_all(self, items: &[Item]) -> Result<Recorder<'m>, AllocError>
+    pub fn perform_all(self, alloc: Global, items: &[Item]) -> Result<Recorder<'m>, AllocError>
         requires { All (IsInRange 1) items.now }
         ensures { IfOk result (λ now. (name : List ℕ) (first : ℕ → State) (done : Progress) → KeepsUp name first done self.entry → KeepsUp name first (after_items first items.now done) now) }
     {
         let mut recorder = self;
         for item in items {
-            recorder = recorder.perform(item)?;
+            recorder = recorder.perform(alloc, item)?;
         }
         Ok(recorder)
     }

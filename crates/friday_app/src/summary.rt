@@ -67,7 +67,7 @@ pub fn record_process(
     ensures recorded { IfOk result (λ recorded. IsRecordingOf recorded.log.items name.now begun.entry items.now) }
 {
     exact_logs();
-    let recorder = Recorder::new(alloc, begun, name)?.perform_all(items)?;
+    let recorder = Recorder::new(alloc, begun, name)?.perform_all(alloc, items)?;
     let mut text = Text::new(alloc);
     push_process(&mut text, name, recorder.events, recorder.process.end())?;
     push_items(&mut text, recorder.acted, recorder.idle)?;

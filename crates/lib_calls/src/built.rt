@@ -14,9 +14,14 @@ pub fn is_built(kind: Kind) -> bool
         Kind::Begin
             | Kind::Exit
             | Kind::Note
+            | Kind::Print
             | Kind::Now
             | Kind::SleepUntil
+            | Kind::Random
             | Kind::Me
+            | Kind::Send
+            | Kind::Recv
+            | Kind::TryRecv
             | Kind::Yield
             | Kind::Thread
     )

@@ -37,6 +37,9 @@ const SENT: &[u8] = b"\x34\0\0\0\x07\0\0\0\0\0\0\0\x02\0\x08\x05\
     \x01\0\0\0\0\0\0\0\x40\0\0\0\0\0\0\0\x04\0\0\0\0\0\0\0\0\0\0\0\0\0\0\0\
     \x04\0\0\0ping";
 
+// The front of the entry of a spawn.
+const SPAWNED: &[u8] = b"\x2c\0\0\0\x07\0\0\0\0\0\0\0\x02\0\x0b\0";
+
 // The entry of a recv that took these bytes.
 #[tactic(auto, unfolding(lib_calls::specs::Kinds::argument_count, lib_calls::specs::Kinds::has_incoming, lib_calls::specs::Kinds::has_outgoing, lib_calls::specs::Kinds::has_tag, call_table::specs::Table::kind_numbered))]
 fn received(incoming: &[u8], tag: Option<Tag>) -> EntryView<'_>
@@ -103,8 +106,9 @@ fn entries_with_bytes_and_tags_are_written(rt: HostRuntime) -> Result<(), Fail> 
     assert!(rt; is_written(alloc, &received(b"hi", TAG), TAGGED)?);
     assert!(rt; is_written(alloc, &received(b"", None), UNTAGGED)?);
     assert!(rt; is_written(alloc, &sent(b"ping"), SENT)?);
-    // Entries of these kinds are not read yet.
-    assert!(rt; stops_at_unbuilt(TAGGED));
+    // Entries of a kind that is not answered yet are not read.
+    assert!(rt; !stops_at_unbuilt(TAGGED));
+    assert!(rt; stops_at_unbuilt(SPAWNED));
     Ok(())
 }
 
