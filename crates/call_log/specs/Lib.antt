@@ -5,3 +5,4 @@ pub mod Reading
 pub mod Log
 pub mod Laws
 pub mod Walk
+pub mod Limits
