@@ -1,0 +1,4 @@
+pub mod First
+pub mod Least
+pub mod Merging
+pub mod Receivers

@@ -1,0 +1,5 @@
+use Rattle.group_order.proofs.Merging.{merged}
+use Rattle.group_order.proofs.laws.merges.Goals as goal
+
+pub returns : goal.returns
+returns g c = merged

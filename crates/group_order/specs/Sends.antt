@@ -1,0 +1,13 @@
+-- The sends of a group's processes.
+use Rattle.std.specs.Prelude.{ℕ}
+use Rattle.std.specs.Ordering.{nat_cmp, ordering_then}
+use Rattle.std.specs.FinMap as map
+use Rattle.std.specs.declared.cmp.Ordering.{Ordering}
+
+-- by process, and then by clock
+abbrev pub by_sender : ℕ × ℕ → ℕ × ℕ → Ordering
+by_sender x y = ordering_then (nat_cmp x.0 y.0) (nat_cmp x.1 y.1)
+
+-- the receiver of the send of a process at a clock
+abbrev pub Sends : Type 0
+Sends = map.FinMap by_sender ℕ
