@@ -7,10 +7,7 @@ use Rattle.std.specs.BTreeMap.{is_at}
 use Rattle.std.specs.FinMap as map
 use Rattle.std.specs.FinMap.{IsAntisymmetric, find, nat_cmp-IsAntisymmetric}
 use Rattle.std.proofs.lemmas.Map.Lookups.{exact_pairs}
-use Rattle.group_order.specs.Sends.{by_sender}
-
-total : IsTotalOrder by_sender
-total = then_total (on_total (λ (x : ℕ × ℕ). x.0) nat_cmp_total) (on_total (λ (x : ℕ × ℕ). x.1) nat_cmp_total)
+use Rattle.group_order.specs.Sends.{by_sender, by_sender_total}
 
 antisymmetric : IsAntisymmetric by_sender
 antisymmetric = exact_pairs nat_cmp nat_cmp nat_cmp-IsAntisymmetric nat_cmp-IsAntisymmetric
@@ -24,12 +21,12 @@ lookup_find [] sender = refl
 lookup_find (e ∷ entries) sender = ap (λ (o : Option ℕ). cond (eq_by_cmp by_sender sender e.0) (Some e.1) o) (lookup_find entries sender)
 
 pub get-kept : (entries : List ((ℕ × ℕ) × ℕ)) (sender : ℕ × ℕ) → map.get (map.from_entries {R = by_sender} entries) sender ≡ kept_at entries sender
-get-kept entries sender = map.get-from_entries total entries sender ∙ lookup_find entries sender
+get-kept entries sender = map.get-from_x entries sender ∙ lookup_find entries sender
 
 -- one send more
 pub kept-insert : (old new : List ((ℕ × ℕ) × ℕ)) (sender : ℕ × ℕ) (to : ℕ) → ((q : ℕ × ℕ) → kept_at new q ≡ cond (is_eq (by_sender sender q)) (Some to) (kept_at old q))
     → map.from_entries {R = by_sender} new ≡ map.insert (map.from_entries old) sender to
-kept-insert old new sender to updates = map.same_map total antisymmetric _ _ (λ q.
-    get-kept new q ∙ updates q ∙ ap (λ (b : Bool). cond b (Some to) (kept_at old q)) ((eq_by_cmp_equiv total).symm sender q)
+kept-insert old new sender to updates = map.same_map by_sender_total antisymmetric _ _ (λ q.
+    get-kept new q ∙ updates q ∙ ap (λ (b : Bool). cond b (Some to) (kept_at old q)) ((eq_by_cmp_equiv by_sender_total).symm sender q)
     ∙ ap (cond (eq_by_cmp by_sender q sender) (Some to)) (sym (get-kept old q))
-    ∙ sym (map.get-insert total (map.from_entries old) sender to q))
+    ∙ sym (map.get-insert by_sender_total (map.from_entries old) sender to q))

@@ -1,5 +1,5 @@
 -- One turn of a replay: it makes the event of the next entry, or it stands.
-use Rattle.std.proofs.Common.{◌≡◌, ◌⊎◌, inl, inr, ℕ, suc, ◌+◌, ◌≤◌, List, ◌∷◌, length, Option, Some, None, refl, sym, ap, ◌∙◌, add-one, arith}
+use Rattle.std.proofs.Common.{◌≡◌, ◌⊎◌, inl, inr, ℕ, suc, ◌+◌, ◌≤◌, List, [], ◌∷◌, length, take, Option, Some, None, refl, sym, ap, ◌∙◌, add-one, arith}
 use Rattle.lib_calls.specs.declared.entry.Entry.{Entry}
 use Rattle.call_log.specs.Log.{entry_at, entries_of, rest_of}
 use Rattle.call_log.specs.Walk.{IsEnd, IsStep}
@@ -10,7 +10,7 @@ use Rattle.guest_process.specs.Next.{next}
 use Rattle.guest_process.specs.Replay.{Diverged, accepted, divergence, first_of, left_over, one_more_where, state_after, verdict_by}
 use Rattle.guest_process.specs.State.{State}
 use Rattle.proc_replay.specs.Replaying.{Replaying, Makes, Ends, Diverges, after, after_at, judged, moved, turn, turn_at}
-use Rattle.proc_replay.specs.Course.{Tells, outcome, outcome_by}
+use Rattle.proc_replay.specs.Course.{Tells, ahead, outcome, outcome_by}
 
 -- the turn makes the event of this entry
 pub record Goes (r : Replaying) : Type 0 where
@@ -102,3 +102,17 @@ goes_same counted r g =
 pub stands_at : (r : Replaying) → Stands r → outcome r ≡ outcome_by r.state.events r.state (divergence r.state (entries_of r.left)) (rest_of r.left)
 stands_at r s =
     equal _ _ _ _ _ _ _ _ (omega (arith, s.none)) (ap (state_after r.state (entries_of r.left)) s.none) refl refl
+
+-- ---- what is ahead
+
+-- a turn that makes an event makes the first of them
+pub goes_ahead : (r : Replaying) (g : Goes r) → ahead r ≡ g.entry ∷ ahead (after r)
+goes_ahead r g =
+    let es = entries_of g.behind in
+    ap (λ all. take (accepted r.state all) all) g.entries
+    ∙ ap (λ n. take n (g.entry ∷ es)) (one_accepted r.state g.entry es g.legal)
+    ∙ ap (λ (s : Replaying). g.entry ∷ ahead s) (sym g.moves)
+
+-- where it stands nothing is ahead
+pub stands_ahead : (r : Replaying) → Stands r → ahead r ≡ []
+stands_ahead r s = ap (λ n. take n (entries_of r.left)) s.none

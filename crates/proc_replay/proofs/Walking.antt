@@ -1,5 +1,5 @@
 -- Turn after turn: the states, the events, and where no further event comes.
-use Rattle.std.proofs.Common.{◌≡◌, inl, inr, ℕ, zero, suc, ◌<◌, ◌≤◌, ◌+◌, List, length, Some, refl, sym, ap, ◌∙◌, subst, arith}
+use Rattle.std.proofs.Common.{◌≡◌, inl, inr, ℕ, zero, suc, ◌<◌, ◌≤◌, ◌+◌, List, ◌∷◌, length, Some, refl, sym, ap, ◌∙◌, subst, arith}
 use Rattle.std.specs.Prelude.{slice_get}
 use Rattle.std.proofs.lemmas.Option.{same_Some}
 use Rattle.lib_calls.specs.declared.entry.Entry.{Entry}
@@ -8,15 +8,15 @@ use Rattle.call_log.specs.Walk.{IsEnd, IsStep}
 use Rattle.guest_process.specs.EventCount.{IsCounted}
 use Rattle.guest_process.specs.Replay.{Verdict, accepted, divergence, state_after, verdict_by}
 use Rattle.proc_replay.specs.Replaying.{Replaying, Move, Makes, Ends, Diverges, after, turn}
-use Rattle.proc_replay.specs.Course.{AreReplays, AreTurns, Outcome, Tells, outcome, turns}
-use Rattle.proc_replay.proofs.Steps.{Goes, Stands, cases, goes_same, one_accepted, stands_at}
+use Rattle.proc_replay.specs.Course.{AreReplays, AreTurns, Outcome, Tells, ahead, outcome, turns}
+use Rattle.proc_replay.proofs.Steps.{Goes, Stands, cases, goes_ahead, goes_same, one_accepted, stands_ahead, stands_at}
 
 -- the number of events from here on
-abbrev ahead : Replaying → ℕ
-ahead r = accepted r.state (entries_of r.left)
+abbrev left_to_make : Replaying → ℕ
+left_to_make r = accepted r.state (entries_of r.left)
 
 -- an event fewer is ahead after one
-one_fewer : (r : Replaying) (g : Goes r) → ahead r ≡ suc (ahead (after r))
+one_fewer : (r : Replaying) (g : Goes r) → left_to_make r ≡ suc (left_to_make (after r))
 one_fewer r g =
     ap (accepted r.state) g.entries ∙ one_accepted r.state g.entry (entries_of g.behind) g.legal
     ∙ ap (λ (s : Replaying). suc (accepted s.state (entries_of s.left))) (sym g.moves)
@@ -39,8 +39,12 @@ tells_once (Makes e) left v w a b = absurd a
 tells_once Ends left v w a b = a ∙ sym b
 tells_once (Diverges at why) left v w a b = a ∙ sym b
 
+-- an event is that of one entry
+same_entry : (e f : Entry) → Makes e ≡ Makes f → e ≡ f
+same_entry e f same = cc
+
 module _ (step : IsStep) (end : IsEnd) (counted : IsCounted) where
-  states : (n : ℕ) (r : Replaying) → n ≤ ahead r → (turns r n).state ≡ state_after r.state (entries_of r.left) n
+  states : (n : ℕ) (r : Replaying) → n ≤ left_to_make r → (turns r n).state ≡ state_after r.state (entries_of r.left) n
   states zero r few = refl
   states (suc n) r few = elim (cases step end r) [
     | inl g ↦
@@ -50,7 +54,7 @@ module _ (step : IsStep) (end : IsEnd) (counted : IsCounted) where
     | inr s ↦ absurd (omega (arith, s.none))
   ]
 
-  events : (n : ℕ) (r : Replaying) (e : Entry) → n < ahead r → slice_get (entries_of r.left) n ≡ Some e → turn (turns r n) ≡ Makes e
+  events : (n : ℕ) (r : Replaying) (e : Entry) → n < left_to_make r → slice_get (entries_of r.left) n ≡ Some e → turn (turns r n) ≡ Makes e
   events zero r e few at = elim (cases step end r) [
     | inl g ↦ g.makes ∙ ap Makes (same_Some _ _ (subst (λ es. slice_get es 0 ≡ Some e) g.entries at))
     | inr s ↦ absurd (omega (arith, s.none))
@@ -62,7 +66,7 @@ module _ (step : IsStep) (end : IsEnd) (counted : IsCounted) where
     | inr s ↦ absurd (omega (arith, s.none))
   ]
 
-  verdicts : (n : ℕ) (r : Replaying) → ahead r ≤ n → Tells (turn (turns r n)) (turns r n).left (outcome r).verdict
+  verdicts : (n : ℕ) (r : Replaying) → left_to_make r ≤ n → Tells (turn (turns r n)) (turns r n).left (outcome r).verdict
   verdicts zero r many = elim (cases step end r) [
     | inl g ↦ absurd (omega (arith, one_fewer r g))
     | inr s ↦ stands_tells r s zero
@@ -90,12 +94,16 @@ module _ (step : IsStep) (end : IsEnd) (counted : IsCounted) where
     | inl g ↦ record {
       same = goes_same counted r g;
       takes = λ e makes. subst (λ (s : Replaying). length s.left + 24 ≤ length r.left) (sym g.moves) g.shorter;
+      makes = λ e makes. goes_ahead r g ∙ ap (λ x. x ∷ ahead (after r)) (same_entry g.entry e (sym g.makes ∙ makes));
+      none = λ v tells. absurd (subst (λ t. Tells t r.left v) g.makes tells);
       stays = λ v tells. absurd (subst (λ t. Tells t r.left v) g.makes tells);
       comes = λ v tells. absurd (subst (λ t. Tells t r.left v) g.makes tells);
     }
     | inr s ↦ record {
       same = ap outcome s.stays;
       takes = λ e makes. absurd (subst (λ t. Tells t r.left (verdict_by (divergence r.state (entries_of r.left)) r.state.events (rest_of r.left))) makes s.tells);
+      makes = λ e makes. absurd (subst (λ t. Tells t r.left (verdict_by (divergence r.state (entries_of r.left)) r.state.events (rest_of r.left))) makes s.tells);
+      none = λ v tells. stands_ahead r s;
       stays = λ v tells. s.stays;
       comes = λ v tells. stands_at r s ∙ ap (λ w. record { accepted = r.state.events; last = r.state; verdict = w; rest = rest_of r.left }) (tells_once (turn r) r.left _ v s.tells tells);
     }

@@ -1,5 +1,5 @@
 -- Turn after turn gives the replay of a log's entries.
-use Rattle.std.specs.Prelude.{◌≡◌, ℕ, zero, suc, ◌+◌, ◌<◌, ◌≤◌, List, length, slice_get, Option, Some}
+use Rattle.std.specs.Prelude.{◌≡◌, ℕ, zero, suc, ◌+◌, ◌<◌, ◌≤◌, List, [], ◌∷◌, length, slice_get, take, Option, Some}
 use Rattle.lib_calls.specs.declared.entry.Entry.{Entry}
 use Rattle.call_log.specs.Log.{entries_of, rest_of}
 use Rattle.guest_process.specs.declared.divergence.Divergence.{Divergence}
@@ -50,11 +50,18 @@ outcome_at S es rest = outcome_by (S.events + accepted S es) (state_after S es (
 abbrev pub outcome : Replaying → Outcome
 outcome r = outcome_at r.state (entries_of r.left) (rest_of r.left)
 
--- a turn changes nothing of what the replay comes to. The turn of an event takes bytes of the log; one that
--- tells a verdict leaves all as it is, and the replay comes to what is there
+-- the entries whose events are still to be made
+abbrev pub ahead : Replaying → List Entry
+ahead r = take (accepted r.state (entries_of r.left)) (entries_of r.left)
+
+-- a turn changes nothing of what the replay comes to. The turn of an event makes the first that is ahead, and
+-- takes bytes of the log; one that tells a verdict leaves all as it is, nothing is ahead, and the replay comes
+-- to what is there
 pub record IsTurn (r : Replaying) : Type 0 where
   pub same : outcome (after r) ≡ outcome r
   pub takes : (e : Entry) → turn r ≡ Makes e → length (after r).left + 24 ≤ length r.left
+  pub makes : (e : Entry) → turn r ≡ Makes e → ahead r ≡ e ∷ ahead (after r)
+  pub none : (v : Verdict) → Tells (turn r) r.left v → ahead r ≡ []
   pub stays : (v : Verdict) → Tells (turn r) r.left v → after r ≡ r
   pub comes : (v : Verdict) → Tells (turn r) r.left v
       → outcome r ≡ record { accepted = r.state.events; last = r.state; verdict = v; rest = rest_of r.left }
