@@ -1,7 +1,7 @@
 -- The map of the sends, through a change of the tree that keeps it.
 use Rattle.std.proofs.Common.{◌≡◌, ℕ, Bool, cond, List, [], ◌∷◌, Option, Some, refl, sym, ap, ◌∙◌}
 use Rattle.std.specs.Ordering.{is_eq, eq_by_cmp, nat_cmp}
-use Rattle.std.specs.Cmp.{IsTotalOrder, eq_by_cmp_equiv, nat_cmp_total, on_total, then_total}
+use Rattle.std.specs.Cmp.{eq_by_cmp_equiv}
 use Rattle.std.specs.Map.{lookup}
 use Rattle.std.specs.BTreeMap.{is_at}
 use Rattle.std.specs.FinMap as map
@@ -21,7 +21,7 @@ lookup_find [] sender = refl
 lookup_find (e ∷ entries) sender = ap (λ (o : Option ℕ). cond (eq_by_cmp by_sender sender e.0) (Some e.1) o) (lookup_find entries sender)
 
 pub get-kept : (entries : List ((ℕ × ℕ) × ℕ)) (sender : ℕ × ℕ) → map.get (map.from_entries {R = by_sender} entries) sender ≡ kept_at entries sender
-get-kept entries sender = map.get-from_x entries sender ∙ lookup_find entries sender
+get-kept entries sender = map.get-from_entries by_sender_total entries sender ∙ lookup_find entries sender
 
 -- one send more
 pub kept-insert : (old new : List ((ℕ × ℕ) × ℕ)) (sender : ℕ × ℕ) (to : ℕ) → ((q : ℕ × ℕ) → kept_at new q ≡ cond (is_eq (by_sender sender q)) (Some to) (kept_at old q))
