@@ -1,5 +1,5 @@
-// A schedule with a known answer.
-use schedule_text::{Item, read_schedule};
+// Schedules with known answers.
+use schedule_text::{Item, read_schedule, write_schedule};
 use std::test::Fail;
 
 const WHOLE: &[u8] =
@@ -25,5 +25,18 @@ fn a_whole_schedule_is_read(rt: HostRuntime) -> Result<(), Fail> {
         assert_eq!(rt; line.name.as_slice(), b"a".as_slice());
         assert_eq!(rt; line.module.as_slice(), b"a.wasm".as_slice());
     }
+    Ok(())
+}
+
+// Each item, as `write_schedule` writes it.
+const WRITTEN: &[u8] =
+    b"friday 1\nprocess a a.wasm\nprocess b b.wasm\nrun 0 0\nrun 1 63 2\ndeliver 0 1\n\
+    inject 1 00ff\ninject 1 -\nclock 0 -5\nrandom 0 a1\nkill 1\n";
+
+#[test]
+fn a_schedule_is_written_as_it_was_read(rt: HostRuntime) -> Result<(), Fail> {
+    let schedule = read_schedule(rt.alloc(), WRITTEN)?;
+    let text = write_schedule(rt.alloc(), &schedule)?;
+    assert_eq!(rt; text.as_slice(), WRITTEN);
     Ok(())
 }
