@@ -1,0 +1,17 @@
+#!/bin/sh
+# Records ping and pong by both schedules beside this script, replays each log, and compares what is printed.
+# Usage: check.sh [PROGRAM]   (the program that ./friday builds, if none is given)
+here=$(CDPATH='' cd -- "$(dirname -- "$0")" && pwd) || exit 1
+program=$(realpath -- "${1:-$here/../../crates/friday/out/friday}") || exit 1
+folder=$(mktemp -d) || exit 1
+trap 'rm -rf "$folder"' EXIT
+cp "$here"/ping.wasm "$here"/pong.wasm "$here"/schedule "$here"/in_order "$folder" || exit 1
+cd "$folder" || exit 1
+for schedule in in_order schedule; do
+    echo "$schedule:"
+    "$program" record "$schedule" || exit 1
+    for process in ping pong; do
+        "$program" replay "$process.wasm" "$process.log" || exit 1
+    done
+done > printed
+diff "$here/expected" printed && echo "as expected"
