@@ -1,5 +1,5 @@
 -- Valid words and files have an outcome that is work, and where no fault comes the work is done.
-use Rattle.std.proofs.Common.{◌≡◌, ◌⊎◌, ◌↔◌, ◌++◌, ℕ, List, Bool, false, cond, Option, Some, None, Result, Ok, Err, refl, ap, inl, inr, ◌∙◌}
+use Rattle.std.proofs.Common.{◌≡◌, ◌⊎◌, ◌↔◌, ◌++◌, ℕ, suc, List, [], ◌∷◌, length, Bool, false, cond, Option, Some, None, Result, Ok, Err, refl, ap, inl, inr, ◌∙◌}
 use Rattle.fri_outside.specs.Laws.{KeepsFiles}
 use Rattle.fri_outside.specs.Outside.{Store, found_within}
 use Rattle.wasm_types.specs.Modules.{Module}
@@ -12,20 +12,26 @@ use Rattle.call_log.specs.Log.{head_at, rest_of, stops_at_unbuilt}
 use Rattle.friday_app.specs.declared.status.Status.{Status}
 use Rattle.friday_app.specs.declared.status.Status.TheVariants as ends
 use Rattle.friday_app.specs.declared.refusal.Reason.TheVariants as reason
-use Rattle.friday_app.specs.Limits.{most_module, most_schedule, most_log}
+use Rattle.call_log.specs.Limits.{most_log}
+use Rattle.friday_app.specs.Limits.{most_module, most_schedule}
 use Rattle.friday_app.specs.Command.{Command, Record, Replay}
 use Rattle.guest_process.specs.State.{State}
 use Rattle.friday_app.specs.Outcome.{Work, Stop, and_then, file_of, given, refuses}
-use Rattle.friday_app.specs.Expected.{expected, module_of, begun_of, begun_or, log_of, spelled_or, unless_refused, valid_or, head_or, process_of, schedule_in, schedule_or}
-use Rattle.friday_app.specs.Record.{record_work}
+use Rattle.friday_app.specs.Expected.{expected, group_outcome, module_of, modules_of, begun_of, begun_or, log_of, record_outcome, spelled_or, unless_refused, valid_or, head_or, schedule_in, schedule_or}
+use Rattle.friday_app.specs.Record.{by_room, recorded_work}
 use Rattle.friday_app.specs.Report.{replay_work}
 use Rattle.schedule_text.specs.Laws.{GivesSchedules}
 use Rattle.schedule_text.specs.Reading.{schedule_of}
 use Rattle.schedule_text.specs.Schedule.{Schedule}
+use Rattle.schedule_text.specs.declared.process.ProcessLine.{ProcessLine}
+use Rattle.group_record.specs.Answer.{begun, begun_from, begun_then, group_of}
+use Rattle.group_record.specs.Run.{run}
 use Rattle.friday_app.specs.Call.{IsAnswer}
 use Rattle.friday_app.specs.Run.{Outside, Run, NoFault, Works}
-use Rattle.friday_app.specs.Valid.{HasWork, IsValid, Begins, IsModuleFile, IsLogFile, IsScheduleFile, Stands}
+use Rattle.friday_app.specs.Seen.{Gathers}
+use Rattle.friday_app.specs.Valid.{HasWork, IsValid, AreModuleFiles, Begins, IsModuleFile, IsLogFile, IsRecorded, IsScheduleFile, Stands, modules_in}
 use Rattle.friday_app.proofs.Faults.{no_fault}
+use Rattle.friday_app.proofs.Gathered.{gathered}
 
 -- what the crates below say of their definitions
 pub record Laws : Type 0 where
@@ -60,13 +66,40 @@ module _ (laws : Laws) where
       ap (λ (r : Result (List ℕ) Stop). and_then r (λ bytes. schedule_or name (schedule_of bytes))) (stands_given store name most_schedule h.bytes h.stands)
       ∙ ap (schedule_or name) ((laws.schedules h.bytes schedule).1 (h.spelled, h.few))
 
+  modules_stand : (store : Store) (count p : ℕ) (lines : List ProcessLine) (files : AreModuleFiles store count p lines) → modules_of store lines ≡ Ok (modules_in store count p lines files)
+  modules_stand store count p [] files = refl
+  modules_stand store count p (line ∷ lines) files =
+      ap (λ (r : Result Module Stop). and_then r (λ m. and_then (modules_of store lines) (λ ms. Ok (m ∷ ms)))) (module_stands store line.«module» files.0.0)
+      ∙ ap (λ (r : Result (List Module) Stop). and_then r (λ ms. Ok (files.0.0.«module» ∷ ms))) (modules_stand store count (suc p) lines files.1)
+
+  -- the first states of their processes
+  abbrev states_in : (store : Store) (count p : ℕ) (lines : List ProcessLine) → AreModuleFiles store count p lines → List State
+  states_in store count p [] files = []
+  states_in store count p (line ∷ lines) files = files.0.1.0 ∷ states_in store count (suc p) lines files.1
+
+  states_stand : (store : Store) (count p : ℕ) (lines : List ProcessLine) (files : AreModuleFiles store count p lines) → begun_from count p (modules_in store count p lines files) ≡ Ok (states_in store count p lines files)
+  states_stand store count p [] files = refl
+  states_stand store count p (line ∷ lines) files =
+      ap (λ (o : Option State). begun_then o p (begun_from count (suc p) (modules_in store count (suc p) lines files.1))) files.0.1.1
+      ∙ ap (begun_then (Some files.0.1.0) p) (states_stand store count (suc p) lines files.1)
+
+  recording_works : (schedule_name : List ℕ) (store : Store) → IsRecorded store schedule_name → (work : Work) × (record_outcome schedule_name store ≡ Ok work)
+  recording_works schedule_name store h =
+      let schedule = h.schedule in
+      let count = length schedule.processes in
+      let modules = modules_in store count 0 schedule.processes h.files in
+      let first = states_in store count 0 schedule.processes h.files in
+      let group = group_of schedule first in
+      let begins : begun schedule modules ≡ Ok first = states_stand store count 0 schedule.processes h.files in
+      let gathers : Gathers store schedule_name schedule modules =
+      record { spelled = schedule_stands store schedule_name schedule h.file; found = modules_stand store count 0 schedule.processes h.files } in (
+        recorded_work group (run group schedule.items),
+        gathered store schedule_name schedule modules gathers ∙ ap (group_outcome schedule_name schedule) begins
+            ∙ ap (by_room schedule_name group (run group schedule.items)) (h.room first begins),
+      )
+
   pub valid_works : (command : Command) (store : Store) (left : Option (List ℕ)) → IsValid (Some command) store left → (work : Work) × (expected (Some command) (Some store) left ≡ Some (Ok work))
-  valid_works (Record schedule_name) store left (schedule, s, w) = let m = w.0 in let b = w.1 in (
-    record_work (process_of schedule).name b.0 schedule.items,
-    ap Some (ap (λ (r : Result Schedule Stop). and_then r (λ schedule. and_then (module_of store (process_of schedule).«module») (λ m. and_then (begun_of (process_of schedule).«module» m 0 1) (λ begun. Ok (record_work (process_of schedule).name begun schedule.items))))) (schedule_stands store schedule_name schedule s)
-        ∙ ap (λ (r : Result Module Stop). and_then r (λ m. and_then (begun_of (process_of schedule).«module» m 0 1) (λ begun. Ok (record_work (process_of schedule).name begun schedule.items)))) (module_stands store (process_of schedule).«module» m)
-        ∙ ap (λ (r : Result State Stop). and_then r (λ begun. Ok (record_work (process_of schedule).name begun schedule.items))) (begins_at (process_of schedule).«module» m.«module» 0 1 b)),
-  )
+  valid_works (Record schedule_name) store left h = let w = recording_works schedule_name store h in (w.0, ap Some w.1)
   valid_works (Replay module_name log_name) store left (m, w) = let l = w.0 in let b = w.1 in (
     replay_work b.0 l.head l.left,
     ap Some (ap (λ (r : Result Module Stop). and_then r (λ m. and_then (log_of store log_name) (λ log. and_then (begun_of module_name m log.0.process log.0.count) (λ begun. Ok (replay_work begun log.0 log.1))))) (module_stands store module_name m)

@@ -1,5 +1,5 @@
 -- What a command's result comes to.
-use Rattle.std.proofs.Common.{◌≡◌, ◌++◌, ℕ, List, [], Option, Some, None, option_map, Result, Ok, Err, IfSome, IfNone, refl, sym, ap, subst, ◌∙◌, inl, inr, append-nil, IfErr, IfOk, arith, cond, string_bytes}
+use Rattle.std.proofs.Common.{◌≡◌, ◌++◌, ℕ, List, [], Option, Some, None, Result, Ok, Err, IfSome, IfNone, refl, sym, ap, subst, ◌∙◌, inl, inr, append-nil, IfErr, arith, cond, string_bytes}
 use Rattle.std.specs.Io.KnownBytes.{append_known}
 use Rattle.std.proofs.lemmas.Grind.{common_steps}
 use Rattle.std.proofs.lemmas.Option.{same_Some}
@@ -12,12 +12,11 @@ use Rattle.friday_app.specs.declared.refusal.Answer.TheVariants as answered
 use Rattle.friday_app.specs.declared.refusal.Refusal.{Refusal}
 use Rattle.friday_app.specs.declared.refusal.Refusal.TheVariants as refusal
 use Rattle.friday_app.specs.Command.{Command, Record, Replay}
-use Rattle.friday_app.specs.Outcome.{Outcome, Stop, Work, Refuses, Lacks, refused_line, usage_line, status_of, text_of, writes_of}
-use Rattle.friday_app.specs.Expected.{expected, record_outcome, written_by}
-use Rattle.friday_app.specs.Agreement.{KeepsRecording}
+use Rattle.friday_app.specs.Outcome.{Outcome, refused_line, usage_line, status_of, text_of, writes_of}
+use Rattle.friday_app.specs.Expected.{expected, written_by}
+use Rattle.friday_app.specs.Agreement.{KeepsMoment, KeepsRecording}
 use Rattle.friday_app.specs.Run.{Outside, Run}
-use Rattle.friday_app.specs.Call.{Prints, PrintsAbsent, PrintsLast, PrintsRefusal, KeepsInput, Untouched, DivergesOnlyIn, Leaves, IsAnswer, Tells, Makes, Keeps, Raises, FaultStatus, answer_of, Finishes}
-use Rattle.friday_app.proofs.Gathered.{records}
+use Rattle.friday_app.specs.Call.{Prints, PrintsAbsent, PrintsLast, PrintsRefusal, KeepsInput, Untouched, DivergesOnlyIn, Leaves, IsAnswer, IsEnd, Tells, Makes, Keeps, Raises, FaultStatus, answer_of, Finishes}
 use Rattle.friday_app.proofs.Made.{same_changes, all_changes, same_others}
 
 nothing_more : (o : Option (List ℕ)) → o ≡ append_known o []
@@ -103,31 +102,14 @@ status_ends (Err refusal.ReadFault) answer outcome is answers fault h = absurd (
 status_ends (Err refusal.WriteFault) answer outcome is answers fault h = absurd (subst IsAnswer fault h)
 status_ends (Err refusal.NoMemory) answer outcome is answers fault h = absurd (subst IsAnswer fault h)
 
-stops_not : (o : Outcome) (work : Work) (stop : Stop) → o ≡ Ok work → o ≡ Err stop → ⊥
-stops_not o work stop works stops = let e : Ok work ≡ Err stop = sym works ∙ stops in cc
-
--- a command that stopped before its work had no recording to leave
-none_recorded : (command : Command) (left : Option (List ℕ)) (before after : Option Store) → ((o : Outcome) → expected (Some command) before left ≡ Some o → (work : Work) → o ≡ Ok work → ⊥)
-    → WhenTold before (λ old. WhenTold after (KeepsRecording (Some command) old))
-none_recorded (Replay module_name log_name) left before after stops = λ old told new here. tt
-none_recorded (Record schedule_name) left before after stops = λ old told new here schedule m begun spelled found starts.
-    absurd (stops (record_outcome schedule_name old) (ap (option_map (record_outcome schedule_name)) told) _ (records old schedule_name schedule m begun spelled found starts))
-
--- the recording that a command leaves at an answer
-recorded_ends : (command : Command) (ended : Result Answer Refusal) (answer : Status) (left : Option (List ℕ)) (before after : Option Store)
-    → ((o : Outcome) → expected (Some command) before left ≡ Some o → Tells o ended)
-    → FaultStatus ended answer
-    → IsAnswer answer
-    → IfOk ended (λ _. WhenTold before (λ old. WhenTold after (KeepsRecording (Some command) old)))
-    → WhenTold before (λ old. WhenTold after (KeepsRecording (Some command) old))
-recorded_ends command (Ok given) answer left before after tells fault is holds = holds
-recorded_ends command (Err (refusal.Refused file why)) answer left before after tells fault is holds =
-    none_recorded command left before after (λ o e work works. let t = tells o e in stops_not o work (Refuses (string_bytes file) why t.0) works t.1)
-recorded_ends command (Err (refusal.Absent file)) answer left before after tells fault is holds =
-    none_recorded command left before after (λ o e work works. stops_not o work (Lacks (string_bytes file)) works (tells o e))
-recorded_ends command (Err refusal.ReadFault) answer left before after tells fault is holds = absurd (subst IsAnswer fault is)
-recorded_ends command (Err refusal.WriteFault) answer left before after tells fault is holds = absurd (subst IsAnswer fault is)
-recorded_ends command (Err refusal.NoMemory) answer left before after tells fault is holds = absurd (subst IsAnswer fault is)
+-- at an answer a command came to its end
+is_end : (ended : Result Answer Refusal) (answer : Status) → FaultStatus ended answer → IsAnswer answer → IsEnd ended
+is_end (Ok given) answer fault is = tt
+is_end (Err (refusal.Refused file why)) answer fault is = tt
+is_end (Err (refusal.Absent file)) answer fault is = tt
+is_end (Err refusal.ReadFault) answer fault is = subst IsAnswer fault is
+is_end (Err refusal.WriteFault) answer fault is = subst IsAnswer fault is
+is_end (Err refusal.NoMemory) answer fault is = subst IsAnswer fault is
 
 -- the text of an absent file
 absent_ends : (ended : Result Answer Refusal) (answer : Status) (before after : Option (List ℕ))
@@ -171,18 +153,20 @@ pub run_ends : (command : Command) (ended : Result Answer Refusal) (answer : Sta
     → OthersStay (written_by (Some command)) old.told new.told
     → Keeps ended old.told new.told
     → IfErr ended (Raises old.counts new.counts)
-    → IfOk ended (λ _. WhenTold old.told (λ before. WhenTold new.told (KeepsRecording (Some command) before)))
+    → (IsEnd ended → WhenTold old.told (λ before. WhenTold new.told (KeepsRecording (Some command) before)))
+    → WhenTold old.told (λ before. KeepsMoment (Some command) before new.told)
     → Finishes ended answer old.taken new.taken old.out_faults new.out_faults
     → Untouched old.left new.left old.input_faults new.input_faults
     → Run (Some command) old new answer
-run_ends command ended answer old new diverges tells makes others keeps cause recorded f untouched = record {
+run_ends command ended answer old new diverges tells makes others keeps cause recorded moment f untouched = record {
   usage = grind (arith, common_steps);
   diverged = grind (arith, common_steps);
   status = λ o e h. status_ends ended answer o (tells o e) f.status f.fault h;
   text = λ o e. text_ends ended answer o _ _ (tells o e) f.text f.silent f.fault;
   files = λ o e. files_end ended answer (writes_of o) _ _ (makes o e) f.fault;
   others = others;
-  recorded = λ is. recorded_ends command ended answer old.left old.told new.told tells f.fault is recorded;
+  recorded = λ is. recorded (is_end ended answer f.fault is);
+  moment = moment;
   idle = grind (arith, common_steps);
   input = kept_input (Some command) untouched;
   prints_last = λ o e. last_ends ended (writes_of o) _ _ _ _ (makes o e) f.silent;
@@ -210,6 +194,7 @@ run_none answer old new same usage prints reads writes untouched = record {
   files = λ o e. none_left answer o _ _ (sym (ap writes_of (same_Some _ _ e))) same;
   others = same_others _ _ _ same;
   recorded = λ is before told after here. tt;
+  moment = λ before told. tt;
   idle = λ _. same;
   input = untouched;
   prints_last = λ o e. inr (same ∙ ap (λ w. with_files w old.told) (ap writes_of (same_Some _ _ e)));

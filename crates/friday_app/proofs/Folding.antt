@@ -9,6 +9,7 @@ use Rattle.proc_replay.specs.Course.{AreTurns, Outcome, Tells, outcome, outcome_
 use Rattle.proc_replay.specs.Replaying.{Replaying, after, turn}
 use Rattle.friday_app.specs.declared.refusal.Answer.{Answer}
 use Rattle.friday_app.specs.declared.replayer.Replayed.{Replayed}
+use Rattle.friday_app.specs.Outcome.{Work}
 use Rattle.friday_app.specs.Report.{printed, replay_work}
 use Rattle.friday_app.specs.Seen.{IsWork, Replays, verdict_of}
 

@@ -1,5 +1,5 @@
 -- What is made of the files of a command's work.
-use Rattle.std.proofs.Common.{◌≡◌, ◌⊎◌, ◌<◌, ℕ, zero, suc, arith, slice_index_or, Contains, List, [], ◌∷◌, true, false, cond, map, Option, Some, None, option_map, take, length, refl, sym, ap, subst, ◌∙◌, inl, inr, lit<, Ok, Err, Result, IfOk}
+use Rattle.std.proofs.Common.{◌≡◌, ◌<◌, ℕ, zero, suc, arith, slice_index_or, Contains, List, [], ◌∷◌, true, false, cond, map, Option, Some, None, option_map, take, length, refl, sym, ap, subst, ◌∙◌, inl, inr, lit<, Ok, Err, Result}
 use Rattle.std.proofs.Math.Seq.{take-length}
 use Rattle.std.proofs.lemmas.List.{length-map}
 use Rattle.std.proofs.lemmas.Option.{same_Some}
@@ -8,11 +8,11 @@ use Rattle.std.specs.declared.cmp.Ordering.{Ordering}
 use Rattle.std.specs.declared.cmp.Ordering.TheVariants.{Less, Equal, Greater}
 use Rattle.std.specs.Cmp.Lexicographic.{slice_cmp, nat_list_cmp_total}
 use Rattle.std.specs.FinMap.{insert, get, get-insert, slice_cmp-IsAntisymmetric, nat_cmp-IsAntisymmetric}
-use Rattle.fri_outside.specs.Outside.{Store, WhenTold, with_file}
+use Rattle.fri_outside.specs.Outside.{Counts, NoneFell, Store, WhenTold, with_file}
 use Rattle.fri_outside.specs.Several.{with_files, IsLeft, ChangesOnly, OthersStay}
 use Rattle.friday_app.specs.declared.refusal.Answer.{Answer}
 use Rattle.friday_app.specs.declared.refusal.Answer.TheVariants as answered
-use Rattle.friday_app.specs.Agreement.{KeepsRecording, LeavesRecording}
+use Rattle.friday_app.specs.Agreement.{KeepsMoment, KeepsRecording, LeavesMoment, LeavesRecording}
 use Rattle.friday_app.specs.Command.{Command, Record, Replay}
 use Rattle.friday_app.specs.declared.refusal.Refusal.{Refusal}
 use Rattle.friday_app.specs.declared.refusal.Refusal.TheVariants as refusal
@@ -78,6 +78,23 @@ none_made (Err refusal.ReadFault) files before after none same = same_changes be
 none_made (Err refusal.WriteFault) files before after none same = same_changes before after files same
 none_made (Err refusal.NoMemory) files before after none same = same_changes before after files same
 
+-- whatever a command comes to, it changed only the files that it was to make
+pub makes_changes : (ended : Result Answer Refusal) (files : List (List ℕ × List ℕ)) (before after : Option Store) → Makes ended files before after → ChangesOnly before files after
+makes_changes (Ok answer) files before after makes = all_changes files before after makes
+makes_changes (Err (refusal.Refused file why)) files before after makes = all_changes files before after makes
+makes_changes (Err (refusal.Absent file)) files before after makes = all_changes files before after makes
+makes_changes (Err refusal.ReadFault) files before after makes = makes
+makes_changes (Err refusal.WriteFault) files before after makes = makes
+makes_changes (Err refusal.NoMemory) files before after makes = makes
+
+-- no count fell, and none later
+pub still_none_fell : (a b c : Counts) → NoneFell a b → NoneFell b c → NoneFell a c
+still_none_fell a b c first then = record {
+  reads = omega (arith, first.reads, then.reads);
+  writes = omega (arith, first.writes, then.writes);
+  misses = omega (arith, first.misses, then.misses);
+}
+
 -- where no file changed, none was changed at a refusal
 pub same_keeps : (ended : Result Answer Refusal) (before after : Option Store) → after ≡ before → Keeps ended before after
 same_keeps (Ok answer) before after same = tt
@@ -86,13 +103,6 @@ same_keeps (Err (refusal.Absent file)) before after same = same
 same_keeps (Err refusal.ReadFault) before after same = same
 same_keeps (Err refusal.WriteFault) before after same = tt
 same_keeps (Err refusal.NoMemory) before after same = tt
-
--- one file, made in part or not at all
-pub part_changes : (before after : Option Store) (name bytes : List ℕ) → (after ≡ before) ⊎ ((n : ℕ) × (after ≡ with_file name (take n bytes) before)) → ChangesOnly before ((name, bytes) ∷ []) after
-part_changes before after name bytes (inl same) = same_changes before after ((name, bytes) ∷ []) same
-part_changes before after name bytes (inr (n, e)) = record {
-  each = λ old told. (insert old name (take n bytes), e ∙ ap (with_file name (take n bytes)) told, is_left old name bytes n);
-}
 
 -- the name of a file is among their names
 name_among : (files : List (List ℕ × List ℕ)) (file : List ℕ × List ℕ) → Contains files file → Contains (map (λ f. f.0) files) file.0
@@ -140,14 +150,20 @@ never_diverges command (Ok (answered.Diverged text)) h = absurd h
 never_diverges command (Err refusal) h = tt
 
 -- a command that is a recording leaves it where it comes to an answer
-pub keeps_recording : {command : Command} {schedule_name : List ℕ} (result : Result Answer Refusal) (before after : Option Store) → command ≡ Record schedule_name
-    → IfOk result (λ _. WhenTold before (λ old. WhenTold after (LeavesRecording schedule_name old)))
-    → IfOk result (λ _. WhenTold before (λ old. WhenTold after (KeepsRecording (Some command) old)))
-keeps_recording (Ok answer) before after is leaves = λ old told new here. subst (λ (k : Command). KeepsRecording (Some k) old new) (sym is) (leaves old told new here)
-keeps_recording (Err refusal) before after is leaves = tt
+pub keeps_recording : {command : Command} {schedule_name : List ℕ} (before after : Option Store) → command ≡ Record schedule_name
+    → WhenTold before (λ old. WhenTold after (LeavesRecording schedule_name old))
+    → WhenTold before (λ old. WhenTold after (KeepsRecording (Some command) old))
+keeps_recording before after is leaves old told new here = subst (λ (k : Command). KeepsRecording (Some k) old new) (sym is) (leaves old told new here)
+
+-- and at any time that of a moment of its run
+pub keeps_moment : {command : Command} {schedule_name : List ℕ} (before after : Option Store) → command ≡ Record schedule_name
+    → WhenTold before (λ old. LeavesMoment schedule_name old after) → WhenTold before (λ old. KeepsMoment (Some command) old after)
+keeps_moment before after is leaves old told = subst (λ (k : Command). KeepsMoment (Some k) old after) (sym is) (leaves old told)
 
 -- and a replay has none to leave
-pub no_recording : {command : Command} {module_name log_name : List ℕ} (result : Result Answer Refusal) (before after : Option Store) → command ≡ Replay module_name log_name
-    → IfOk result (λ _. WhenTold before (λ old. WhenTold after (KeepsRecording (Some command) old)))
-no_recording (Ok answer) before after is = λ old told new here. subst (λ (k : Command). KeepsRecording (Some k) old new) (sym is) tt
-no_recording (Err refusal) before after is = tt
+pub no_recording : {command : Command} {module_name log_name : List ℕ} (before after : Option Store) → command ≡ Replay module_name log_name
+    → WhenTold before (λ old. WhenTold after (KeepsRecording (Some command) old))
+no_recording before after is old told new here = subst (λ (k : Command). KeepsRecording (Some k) old new) (sym is) tt
+
+pub no_moment : {command : Command} {module_name log_name : List ℕ} (before after : Option Store) → command ≡ Replay module_name log_name → WhenTold before (λ old. KeepsMoment (Some command) old after)
+no_moment before after is old told = subst (λ (k : Command). KeepsMoment (Some k) old after) (sym is) tt

@@ -11,7 +11,7 @@ use Rattle.friday_app.specs.declared.refusal.Answer.TheVariants as answered
 use Rattle.friday_app.specs.declared.refusal.Reason.TheVariants as reason
 use Rattle.friday_app.specs.declared.refusal.Refusal.{Refusal}
 use Rattle.friday_app.specs.declared.refusal.Refusal.TheVariants as refusal
-use Rattle.friday_app.specs.Limits.{most_log}
+use Rattle.call_log.specs.Limits.{most_log}
 use Rattle.friday_app.specs.Call.{StopsAs, Tells}
 use Rattle.friday_app.specs.Expected.{begun_of, built_or, head_or, log_of, module_of, played, replay_outcome}
 use Rattle.friday_app.specs.Outcome.{Outcome, Stop, and_then, file_of, refuses}

@@ -10,7 +10,8 @@ use Rattle.call_log.specs.Head.{Head}
 use Rattle.call_log.specs.Log.{head_at, rest_of, stops_at_unbuilt}
 use Rattle.friday_app.specs.declared.refusal.Reason.{Reason}
 use Rattle.friday_app.specs.declared.refusal.Reason.TheVariants as reason
-use Rattle.friday_app.specs.Limits.{most_module, most_log}
+use Rattle.call_log.specs.Limits.{most_log}
+use Rattle.friday_app.specs.Limits.{most_module}
 use Rattle.friday_app.specs.Fault.{fault_of}
 use Rattle.friday_app.specs.Outcome.{Stop, Outcome, and_then, given, writes_of, refuses}
 use Rattle.friday_app.specs.Command.{Command, Replay}

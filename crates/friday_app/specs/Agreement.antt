@@ -1,45 +1,67 @@
--- The log that a recording left tells what was recorded.
-use Rattle.std.specs.Prelude.{◌≡◌, ℕ, List, Option, Some, None, Ok}
+-- The logs that a recording leaves tell what was recorded, wherever it was stopped.
+use Rattle.std.specs.Prelude.{◌≡◌, ℕ, ◌<◌, IsTrue, List, ◌∷◌, ◌++◌, Option, Some, None, Ok}
 use Rattle.std.specs.FinMap.{get}
 use Rattle.fri_outside.specs.Outside.{Store}
+use Rattle.lib_calls.specs.Traffic.{is_taken}
 use Rattle.wasm_types.specs.Modules.{Module}
-use Rattle.guest_process.specs.Start.{start}
+use Rattle.guest_process.specs.Live.{Event}
 use Rattle.guest_process.specs.State.{State}
-use Rattle.schedule_text.specs.declared.item.Item.{Item}
 use Rattle.schedule_text.specs.Schedule.{Schedule}
+use Rattle.group_record.specs.Answer.{begun, group_of}
+use Rattle.group_record.specs.Files.{IsStopped}
+use Rattle.group_record.specs.Laws.{Takes}
+use Rattle.group_record.specs.Logs.{TellsEvents, log_name}
+use Rattle.group_record.specs.Run.{Group, Had, IsFront, Step, log_of, name_of, run, size}
 use Rattle.friday_app.specs.Command.{Command, Record, Replay}
-use Rattle.friday_app.specs.Expected.{module_of, process_of, schedule_in}
-use Rattle.friday_app.specs.History.{History, entries, states, run}
-use Rattle.friday_app.specs.Record.{IsRecorded, first_of, log_name}
+use Rattle.friday_app.specs.Expected.{modules_of, schedule_in}
 
--- the history of the run of these items, from this first state
-abbrev pub history_of : State → List Item → History
-history_of begun items = (run (first_of begun) items).history
-
--- these bytes are a log of that run
-abbrev pub IsRecordingOf : List ℕ → List ℕ → State → List Item → Type 0
-IsRecordingOf bytes name begun items = IsRecorded bytes name begun (entries (history_of begun items) 0) (states (history_of begun items) 0)
-
--- a file of this name and these bytes is a log of the run of the schedule and the module that the files spell
-pub record HoldsRecording (store : Store) (schedule_name file bytes : List ℕ) : Type 0 where
+-- the files spell a schedule and modules with which its processes begin
+pub record IsRecordable (store : Store) (schedule_name : List ℕ) : Type 0 where
   pub schedule : Schedule
   pub spelled : schedule_in store schedule_name ≡ Ok schedule
-  pub «module» : Module
-  pub found : module_of store (process_of schedule).«module» ≡ Ok «module»
-  pub begun : State
-  pub starts : start «module» 0 1 ≡ Some begun
-  pub named : file ≡ log_name (process_of schedule).name
-  pub recorded : IsRecordingOf bytes (process_of schedule).name begun schedule.items
+  pub modules : List Module
+  pub found : modules_of store schedule.processes ≡ Ok modules
+  pub first : List State
+  pub begins : begun schedule modules ≡ Ok first
 
--- where the files spell a schedule and a module that begins, its log is afterwards a log of that run
+-- its group, and the steps of its run
+abbrev pub group_in : {store : Store} {schedule_name : List ℕ} → IsRecordable store schedule_name → Group
+group_in r = group_of r.schedule r.first
+
+abbrev pub steps_in : {store : Store} {schedule_name : List ℕ} → IsRecordable store schedule_name → List Step
+steps_in r = (run (group_in r) r.schedule.items).steps
+
+-- each process has its log afterwards
+abbrev pub LeavesLogs : Group → List Step → Store → Type 0
+LeavesLogs group steps after = (p : ℕ) → p < size group → get after (log_name (name_of group p)) ≡ Some (log_of group steps p)
+
+-- at each moment of the run the logs tell its events, and each datagram that was taken came first in the
+-- mailbox, and from outside or by a send that an item delivered
+pub record Agrees (group : Group) (steps : List Step) : Type 0 where
+  pub logs : (early : List Step) → IsFront early steps → (p : ℕ) → p < size group → TellsEvents group early p
+  pub datagrams : (later early : List Step) (p : ℕ) (e : Event) → steps ≡ later ++ (Had p e ∷ early) → IsTrue (is_taken e.entry) → Takes (size group) early p e
+
+-- so it is with each recording
+abbrev pub RecordingsAgree : Type 0
+RecordingsAgree = (store : Store) (schedule_name : List ℕ) (r : IsRecordable store schedule_name) → Agrees (group_in r) (steps_in r)
+
+-- where the files can be recorded, the logs that an answer leaves are those of the whole run, which agree with it
 abbrev pub LeavesRecording : List ℕ → Store → Store → Type 0
 LeavesRecording schedule_name before after =
-    (schedule : Schedule) (m : Module) (begun : State)
-    → schedule_in before schedule_name ≡ Ok schedule → module_of before (process_of schedule).«module» ≡ Ok m → start m 0 1 ≡ Some begun
-    → (bytes : List ℕ) × (get after (log_name (process_of schedule).name) ≡ Some bytes) × IsRecordingOf bytes (process_of schedule).name begun schedule.items
+    (r : IsRecordable before schedule_name) → LeavesLogs (group_in r) (steps_in r) after × Agrees (group_in r) (steps_in r)
 
 -- a command that records leaves its recording
 abbrev pub KeepsRecording : Option Command → Store → Store → Type 0
 KeepsRecording None before after = Unit {0}
 KeepsRecording (Some (Record schedule_name)) before after = LeavesRecording schedule_name before after
 KeepsRecording (Some (Replay module_name log_name)) before after = Unit {0}
+
+-- wherever it is stopped, the logs are those of a moment of its run, but for a first part of the next entry
+abbrev pub LeavesMoment : List ℕ → Store → Option Store → Type 0
+LeavesMoment schedule_name before after =
+    (r : IsRecordable before schedule_name) → IsStopped (group_in r) (steps_in r) (Some before) after × Agrees (group_in r) (steps_in r)
+
+abbrev pub KeepsMoment : Option Command → Store → Option Store → Type 0
+KeepsMoment None before after = Unit {0}
+KeepsMoment (Some (Record schedule_name)) before after = LeavesMoment schedule_name before after
+KeepsMoment (Some (Replay module_name log_name)) before after = Unit {0}

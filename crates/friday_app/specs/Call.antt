@@ -1,11 +1,8 @@
 -- What a call says of its status, of what it printed, and of the files after it.
-use Rattle.std.specs.Prelude.{◌≡◌, ◌≢◌, ◌⊎◌, ℕ, List, [], ◌++◌, string_bytes, Option, Some, None, take, Contains, IfSome, IfNone, Result, Ok, Err, true, false}
-use Rattle.std.specs.FinMap.{get}
+use Rattle.std.specs.Prelude.{◌≡◌, ◌≢◌, ◌⊎◌, ℕ, List, [], ◌++◌, string_bytes, Option, Some, None, take, IfSome, IfNone, Result, Ok, Err, true, false}
 use Rattle.std.specs.Io.KnownBytes.{append_known}
-use Rattle.fri_outside.specs.Outside.{Store, WhenTold, Counts, Rose}
+use Rattle.fri_outside.specs.Outside.{Store, Counts, Rose}
 use Rattle.fri_outside.specs.Several.{with_files, ChangesOnly}
-use Rattle.fri_outside.specs.declared.files.WriteError.{WriteError}
-use Rattle.fri_outside.specs.declared.files.WriteError.TheVariants as writing
 use Rattle.friday_app.specs.declared.status.Status.{Status}
 use Rattle.friday_app.specs.declared.status.Status.TheVariants as ends
 use Rattle.friday_app.specs.declared.refusal.Answer.{Answer}
@@ -73,6 +70,15 @@ PrintsLast files printed printed_after before after = (printed_after ≡ printed
 
 -- A COMMAND'S RESULT, before its text is written
 
+-- a command came to an answer: its work, or a refusal
+abbrev pub IsEnd : Result Answer Refusal → Type 0
+IsEnd (Ok answer) = Unit {0}
+IsEnd (Err (refusal.Refused file why)) = Unit {0}
+IsEnd (Err (refusal.Absent file)) = Unit {0}
+IsEnd (Err refusal.ReadFault) = ⊥
+IsEnd (Err refusal.WriteFault) = ⊥
+IsEnd (Err refusal.NoMemory) = ⊥
+
 -- a refusal tells the stop at which this comes to no value
 abbrev pub StopsAs : {A : Type 0} → Result A Stop → Refusal → Type 0
 StopsAs wanted (refusal.Refused file why) = wanted ≡ Err (refuses (string_bytes file) why)
@@ -84,11 +90,6 @@ StopsAs wanted refusal.NoMemory = Unit {0}
 -- a refusal that came before anything was printed
 abbrev pub RefusesWith : Outcome → List ℕ → Reason → Type 0
 RefusesWith outcome file why = (done : Work) × (outcome ≡ Err (Refuses file why done)) × (done.text ≡ [])
-
--- what a failed write comes to
-abbrev pub stop_of : WriteError → Refusal
-stop_of writing.Failed = refusal.WriteFault
-stop_of writing.NoMemory = refusal.NoMemory
 
 -- this refusal of this file, or want of memory
 abbrev pub Names : List ℕ → Reason → Refusal → Type 0

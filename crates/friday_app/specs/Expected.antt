@@ -1,4 +1,5 @@
 -- What each command comes to, given the files and the input.
+use Rattle.std.specs.List.{slice_index_or}
 use Rattle.std.specs.Prelude.{ℕ, List, [], ◌∷◌, Option, Some, None, map, option_map, Result, Ok, Err, if◌then◌else◌}
 use Rattle.fri_outside.specs.Outside.{Store}
 use Rattle.wasm_types.specs.Modules.{Module}
@@ -12,11 +13,14 @@ use Rattle.guest_process.specs.Start.{start}
 use Rattle.guest_process.specs.State.{State}
 use Rattle.friday_app.specs.declared.refusal.Reason.{Reason}
 use Rattle.friday_app.specs.declared.refusal.Reason.TheVariants as reason
-use Rattle.friday_app.specs.Limits.{most_module, most_schedule, most_log}
+use Rattle.call_log.specs.Limits.{most_log}
+use Rattle.group_record.specs.Answer.{begun, group_of}
+use Rattle.group_record.specs.Run.{run}
+use Rattle.friday_app.specs.Limits.{most_module, most_schedule}
 use Rattle.friday_app.specs.Command.{Command, Record, Replay}
 use Rattle.friday_app.specs.Fault.{fault_of}
 use Rattle.friday_app.specs.Outcome.{Stop, NotACommand, Outcome, refuses, and_then, file_of, writes_of}
-use Rattle.friday_app.specs.Record.{record_work}
+use Rattle.friday_app.specs.Record.{run_outcome}
 use Rattle.friday_app.specs.Report.{replay_work}
 
 -- the module that the bytes of a file spell
@@ -55,10 +59,6 @@ head_or name (Some log) = built_or name log
 abbrev pub log_of : Store → List ℕ → Result (Head × List ℕ) Stop
 log_of store name = and_then (file_of store name most_log) (λ bytes. head_or name (head_at bytes))
 
-abbrev pub first_or : {A : Type 0} → A → List A → A
-first_or default [] = default
-first_or default (x ∷ xs) = x
-
 -- THE COMMANDS, each with its refusals in their order
 abbrev pub replay_outcome : List ℕ → List ℕ → Store → Outcome
 replay_outcome module_name log_name store =
@@ -83,16 +83,29 @@ schedule_or name (Err TooManyRuns) = Err (refuses name reason.TooMany)
 abbrev pub schedule_in : Store → List ℕ → Result Schedule Stop
 schedule_in store name = and_then (file_of store name most_schedule) (λ bytes. schedule_or name (schedule_of bytes))
 
--- the one process of a schedule
-abbrev pub process_of : Schedule → ProcessLine
-process_of schedule = first_or (record { name = []; «module» = [] }) schedule.processes
+-- the modules of these processes, in their order
+abbrev pub modules_of : Store → List ProcessLine → Result (List Module) Stop
+modules_of store [] = Ok []
+modules_of store (line ∷ lines) = and_then (module_of store line.«module») (λ m. and_then (modules_of store lines) (λ ms. Ok (m ∷ ms)))
+
+-- the file of the module of process p
+abbrev pub module_name : Schedule → ℕ → List ℕ
+module_name schedule p = slice_index_or (map (λ line. line.«module») schedule.processes) p []
+
+-- the first states of all processes, or the refusal of the first module with which none begins
+abbrev pub states_or : Schedule → Result (List State) ℕ → Result (List State) Stop
+states_or schedule (Ok first) = Ok first
+states_or schedule (Err p) = Err (refuses (module_name schedule p) reason.BadSegment)
+
+-- what the recording of a group comes to, whose processes begin so
+abbrev pub group_outcome : List ℕ → Schedule → Result (List State) ℕ → Outcome
+group_outcome schedule_name schedule states =
+    and_then (states_or schedule states) (λ first. run_outcome schedule_name (group_of schedule first) (run (group_of schedule first) schedule.items))
 
 abbrev pub record_outcome : List ℕ → Store → Outcome
 record_outcome schedule_name store =
     and_then (schedule_in store schedule_name) (λ schedule.
-    and_then (module_of store (process_of schedule).«module») (λ m.
-    and_then (begun_of (process_of schedule).«module» m 0 1) (λ begun.
-    Ok (record_work (process_of schedule).name begun schedule.items))))
+    and_then (modules_of store schedule.processes) (λ modules. group_outcome schedule_name schedule (begun schedule modules)))
 
 -- the outcome, as far as the store and the input tell what it depends on
 abbrev pub expected : Option Command → Option Store → Option (List ℕ) → Option Outcome

@@ -2,14 +2,13 @@ pub mod Numbers
 pub mod Command
 pub mod Fault
 pub mod Limits
+pub mod Tally
 pub mod Report
-pub mod History
 pub mod Outcome
 pub mod Record
 pub mod Expected
 pub mod Agreement
 pub mod Seen
-pub mod Recorded
 pub mod Call
 pub mod Run
 pub mod Valid

@@ -1,4 +1,4 @@
--- The most bytes that files of each kind may have.
+-- The most bytes that files of each kind may have, beside logs.
 use Rattle.std.specs.Prelude.{ℕ}
 
 abbrev pub most_module : ℕ
@@ -6,6 +6,3 @@ most_module = 4194304
 
 abbrev pub most_schedule : ℕ
 most_schedule = 16777216
-
-abbrev pub most_log : ℕ
-most_log = 33554432

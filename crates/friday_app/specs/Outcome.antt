@@ -1,5 +1,5 @@
 -- What a command comes to: the work that it does, or the stop at which it ends.
-use Rattle.std.specs.Prelude.{ℕ, List, [], ◌∷◌, ◌++◌, Bool, false, decimal, codes, Option, Result, Ok, Err, if◌then◌else◌}
+use Rattle.std.specs.Prelude.{ℕ, List, [], ◌++◌, Bool, false, decimal, codes, Result, Ok, Err, if◌then◌else◌}
 use Rattle.fri_outside.specs.Outside.{Store, Found, Missing, Over, Held, found}
 use Rattle.friday_app.specs.declared.status.Status.{Status}
 use Rattle.friday_app.specs.declared.status.Status.TheVariants as status
@@ -48,6 +48,7 @@ abbrev pub reason_text : Reason → List ℕ
 reason_text reason.TooLarge = codes "TooLarge"
 reason_text (reason.BadLine line) = codes "line " ++ (decimal line ++ codes " BadLine")
 reason_text reason.TooMany = codes "TooMany"
+reason_text (reason.LogFull item) = codes "item " ++ (decimal item ++ codes " LogFull")
 reason_text reason.Malformed = codes "1 Malformed"
 reason_text reason.HasFloat = codes "2 HasFloat"
 reason_text reason.BadImport = codes "3 BadImport"

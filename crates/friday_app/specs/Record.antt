@@ -1,57 +1,46 @@
 -- What `record` prints and writes.
-use Rattle.std.specs.Prelude.{◌≡◌, ℕ, List, [], ◌∷◌, ◌++◌, false, length, take, decimal, codes, Some, slice_get}
+use Rattle.std.specs.Prelude.{ℕ, List, [], ◌++◌, Bool, true, false, length, decimal, codes, Option, Some, None, Ok, Err}
+use Rattle.std.specs.List.{flat_map}
 use Rattle.guest_process.specs.declared.end.End.{End}
-use Rattle.guest_process.specs.Replay.{accepted, replayed}
-use Rattle.guest_process.specs.State.{State}
-use Rattle.schedule_text.specs.declared.item.Item.{Item}
-use Rattle.lib_calls.specs.declared.entry.Entry.{Entry}
-use Rattle.call_log.specs.Entry.{encodings}
-use Rattle.call_log.specs.Head.{Head, head_bytes}
-use Rattle.call_log.specs.Log.{entries_of, head_at, rest_of}
+use Rattle.group_record.specs.declared.summary.SummaryLine.{SummaryLine}
+use Rattle.group_record.specs.Answer.{lines_from}
+use Rattle.group_record.specs.Logs.{logs}
+use Rattle.group_record.specs.Run.{Group, Progress}
+use Rattle.friday_app.specs.declared.refusal.Reason.TheVariants as reason
 use Rattle.friday_app.specs.Report.{end_text}
-use Rattle.friday_app.specs.History.{Progress, entries, state_after, run}
-use Rattle.friday_app.specs.Outcome.{Work}
+use Rattle.friday_app.specs.Outcome.{Outcome, Refuses, Work}
 
--- the file of a process's log
-abbrev pub log_name : List ℕ → List ℕ
-log_name name = name ++ codes ".log"
+-- how a process stands, and `killed` where it was killed
+abbrev pub state_text : Bool → End → List ℕ
+state_text true end = codes "killed"
+state_text false end = end_text end
 
--- the head of the log of the one process of a group
-abbrev pub log_head : List ℕ → Head
-log_head name = record { count = 1; process = 0; name = name }
-
-abbrev pub log_of_entries : List ℕ → List Entry → List ℕ
-log_of_entries name es = head_bytes (log_head name) ++ encodings es
-
-abbrev pub process_line : List ℕ → ℕ → End → List ℕ
-process_line name events end = name ++ (codes ": " ++ (decimal events ++ (codes " events, " ++ (end_text end ++ codes "\n"))))
+abbrev pub process_line : SummaryLine → List ℕ
+process_line line = line.name ++ (codes ": " ++ (decimal line.events ++ (codes " events, " ++ (state_text line.killed line.end ++ codes "\n"))))
 
 abbrev pub items_line : ℕ → ℕ → List ℕ
 items_line acted idle = codes "items: " ++ (decimal acted ++ (codes " acted, " ++ (decimal idle ++ codes " idle\n")))
 
--- the first state of the one process of a group
-abbrev pub first_of : State → ℕ → State
-first_of begun p = begun
+-- a line for each process, and the counts of what acted and of what was idle
+abbrev pub summary_text : List SummaryLine → ℕ → ℕ → List ℕ
+summary_text lines acted idle = flat_map process_line lines ++ items_line acted idle
 
-abbrev pub work_of : List ℕ → State → Progress → Work
-work_of name begun done =
-    record {
-      text = process_line name (length (entries done.history 0)) (state_after (first_of begun) done.history 0).end
-          ++ items_line (length done.history) done.idle;
-      writes = (log_name name, log_of_entries name (entries done.history 0)) ∷ [];
-      diverged = false;
-    }
+-- the work of a run that was recorded whole
+abbrev pub recorded_work : Group → Progress → Work
+recorded_work group done = record {
+  text = summary_text (lines_from group done.steps 0 group.names) (length done.steps) done.idle;
+  writes = logs group done.steps;
+  diverged = false;
+}
 
--- what `record` does for a process of this name, from this first state, over these items
-abbrev pub record_work : List ℕ → State → List Item → Work
-record_work name begun items = work_of name begun (run (first_of begun) items)
+-- what was written up to an item for which a log had no room; nothing was printed
+abbrev pub written_before : Group → Progress → Work
+written_before group done = record { text = []; writes = logs group done.steps; diverged = false }
 
--- the bytes of a log tell the recorded events: they are its entries, each is accepted where it comes, and after each
--- n of them the replay is in the recorded state
-pub record IsRecorded (bytes : List ℕ) (name : List ℕ) (begun : State) (es : List Entry) (after : List State) : Type 0 where
-  pub left : List ℕ
-  pub head : head_at bytes ≡ Some (log_head name, left)
-  pub entries : entries_of left ≡ es
-  pub whole : rest_of left ≡ []
-  pub accepted : accepted begun es ≡ length es
-  pub states : (n : ℕ) (S : State) → slice_get (begun ∷ after) n ≡ Some S → replayed begun (take n es) ≡ S
+abbrev pub by_room : List ℕ → Group → Progress → Option ℕ → Outcome
+by_room schedule_name group done None = Ok (recorded_work group done)
+by_room schedule_name group done (Some item) = Err (Refuses schedule_name (reason.LogFull item) (written_before group done))
+
+-- what the run of a schedule comes to, whose file has this name
+abbrev pub run_outcome : List ℕ → Group → Progress → Outcome
+run_outcome schedule_name group done = by_room schedule_name group done done.full

@@ -57,7 +57,7 @@ line_text name count end judged =
 abbrev pub last_state : State → List Entry → State
 last_state S es = replayed S (take (accepted S es) es)
 
--- What was sent and taken is not counted yet.
+-- No call that is built sends or receives.
 abbrev pub group_text : List ℕ
 group_text = codes "group: 0 sends, 0 receives, 0 unmatched, 0 untagged\n"
 

@@ -7,7 +7,7 @@ use Rattle.friday_app.specs.declared.status.Status.TheVariants as ends
 use Rattle.friday_app.specs.Command.{Command, IsReplay, command_of}
 use Rattle.friday_app.specs.Outcome.{Outcome, Work, status_of, text_of, writes_of}
 use Rattle.friday_app.specs.Expected.{expected, written_by}
-use Rattle.friday_app.specs.Agreement.{KeepsRecording}
+use Rattle.friday_app.specs.Agreement.{KeepsMoment, KeepsRecording}
 use Rattle.friday_app.specs.Call.{IsAnswer, IsExactUsage, IsIdle, KeepsInput, Prints, PrintsAbsent, PrintsLast, PrintsRefusal, Leaves, Untouched}
 
 -- what is said of the outcome of these words, as far as the store and the input tell it
@@ -45,6 +45,7 @@ pub record Run (command : Option Command) (old new : Outside) (answer : Status) 
   pub files : WhenTold (expected command old.told old.left) (λ outcome. Leaves answer (writes_of outcome) old.told new.told)
   pub others : OthersStay (written_by command) old.told new.told
   pub recorded : IsAnswer answer → WhenTold old.told (λ before. WhenTold new.told (KeepsRecording command before))
+  pub moment : WhenTold old.told (λ before. KeepsMoment command before new.told)
   pub idle : IsIdle answer → new.told ≡ old.told
   pub input : KeepsInput command (Untouched old.left new.left old.input_faults new.input_faults)
   pub prints_last : WhenTold (expected command old.told old.left) (λ outcome. PrintsLast (writes_of outcome) old.taken new.taken old.told new.told)

@@ -1,5 +1,10 @@
 -- What the values of the code stand for.
 use Rattle.std.specs.Prelude.{◌≡◌, ℕ, List, Ok, true, false}
+use Rattle.fri_outside.specs.Outside.{Store}
+use Rattle.wasm_types.specs.Modules.{Module}
+use Rattle.schedule_text.specs.Schedule.{Schedule}
+use Rattle.group_record.specs.declared.error.RecordError.{RecordError}
+use Rattle.group_record.specs.declared.error.RecordError.TheVariants as errors
 use Rattle.lib_calls.specs.declared.entry.Entry.{Entry}
 use Rattle.friday_app.specs.declared.command.Command.{Command as Words}
 use Rattle.friday_app.specs.declared.command.Command.TheVariants as words
@@ -17,6 +22,7 @@ use Rattle.call_log.specs.Log.{stops_at_unbuilt}
 use Rattle.guest_process.specs.Replay.{Verdict, Whole, Left, Diverged, accepted, verdict}
 use Rattle.guest_process.specs.State.{State}
 use Rattle.friday_app.specs.Report.{last_state}
+use Rattle.friday_app.specs.Expected.{module_name, modules_of, schedule_in}
 use Rattle.friday_app.specs.Outcome.{Outcome, Work}
 
 abbrev pub meaning : Words → Command
@@ -48,3 +54,16 @@ Works outcome answer = (work : Work) × ((outcome ≡ Ok work) × IsWork answer 
 abbrev pub IsUnbuilt : List ℕ → List ℕ → Refusal → Type 0
 IsUnbuilt name rest refusal.NoMemory = Unit {0}
 IsUnbuilt name rest other = (stops_at_unbuilt rest ≡ true) × Names name reason.LogNotBuilt other
+
+-- the schedule of a schedule file, and the modules of its processes
+pub record Gathers (store : Store) (schedule_name : List ℕ) (schedule : Schedule) (modules : List Module) : Type 0 where
+  pub spelled : schedule_in store schedule_name ≡ Ok schedule
+  pub found : modules_of store schedule.processes ≡ Ok modules
+
+-- what a recording that was not done comes to: the refusal of a module or of the schedule, a fault, or want of
+-- memory, which may also come in the place of a refusal
+abbrev pub RefusesAs : List ℕ → Schedule → RecordError → Refusal → Type 0
+RefusesAs schedule_name schedule (errors.BadSegment p) e = Names (module_name schedule p) reason.BadSegment e
+RefusesAs schedule_name schedule (errors.LogFull item) e = Names schedule_name (reason.LogFull item) e
+RefusesAs schedule_name schedule errors.WriteFault e = e ≡ refusal.WriteFault
+RefusesAs schedule_name schedule errors.NoMemory e = e ≡ refusal.NoMemory

@@ -1,5 +1,5 @@
 -- Words and files at which a command does its work.
-use Rattle.std.specs.Prelude.{◌≡◌, ℕ, ◌≤◌, List, ◌++◌, length, Option, Some, None, Ok, false}
+use Rattle.std.specs.Prelude.{◌≡◌, ℕ, suc, ◌≤◌, List, [], ◌∷◌, ◌++◌, length, Option, Some, None, Ok, false}
 use Rattle.std.specs.FinMap.{get}
 use Rattle.fri_outside.specs.Outside.{Store}
 use Rattle.wasm_types.specs.Modules.{Module}
@@ -13,10 +13,14 @@ use Rattle.call_log.specs.Head.{Head, IsHead, head_bytes}
 use Rattle.call_log.specs.Log.{Holds, stops_at_unbuilt}
 use Rattle.guest_process.specs.Start.{start}
 use Rattle.guest_process.specs.State.{State}
-use Rattle.friday_app.specs.Limits.{most_module, most_schedule, most_log}
+use Rattle.call_log.specs.Limits.{most_log}
+use Rattle.schedule_text.specs.declared.process.ProcessLine.{ProcessLine}
+use Rattle.group_record.specs.Answer.{begun, group_of}
+use Rattle.group_record.specs.Run.{run}
+use Rattle.friday_app.specs.Limits.{most_module, most_schedule}
 use Rattle.friday_app.specs.Command.{Command, Record, Replay}
 use Rattle.friday_app.specs.Outcome.{Work}
-use Rattle.friday_app.specs.Expected.{expected, process_of}
+use Rattle.friday_app.specs.Expected.{expected}
 
 -- a file is there and is within its limit
 pub record Stands (store : Store) (name : List ℕ) (limit : ℕ) (bytes : List ℕ) : Type 0 where
@@ -53,14 +57,32 @@ pub record IsScheduleFile (store : Store) (name : List ℕ) (schedule : Schedule
   pub spelled : Spells bytes schedule
   pub few : run_count schedule.items ≤ most_runs
 
+-- these files are the modules of the processes from p on of a group of `count`, and each process begins
+abbrev pub AreModuleFiles : Store → ℕ → ℕ → List ProcessLine → Type 0
+AreModuleFiles store count p [] = Unit {0}
+AreModuleFiles store count p (line ∷ lines) =
+    ((m : IsModuleFile store line.«module») × Begins m.«module» p count) × AreModuleFiles store count (suc p) lines
+
+-- the modules of these files
+abbrev pub modules_in : (store : Store) (count p : ℕ) (lines : List ProcessLine) → AreModuleFiles store count p lines → List Module
+modules_in store count p [] files = []
+modules_in store count p (line ∷ lines) files = files.0.0.«module» ∷ modules_in store count (suc p) lines files.1
+
+-- a group can be recorded whole: the schedule and the modules are valid, and no log passes its limit
+pub record IsRecorded (store : Store) (schedule_name : List ℕ) : Type 0 where
+  pub schedule : Schedule
+  pub file : IsScheduleFile store schedule_name schedule
+  pub files : AreModuleFiles store (length schedule.processes) 0 schedule.processes
+  pub room : (first : List State) → begun schedule (modules_in store (length schedule.processes) 0 schedule.processes files) ≡ Ok first
+      → (run (group_of schedule first) schedule.items).full ≡ None
+
 abbrev pub IsValid : Option Command → Store → Option (List ℕ) → Type 0
 IsValid None store left = ⊥
-IsValid (Some (Record schedule_name)) store left =
-    (schedule : Schedule) × IsScheduleFile store schedule_name schedule
-    × ((m : IsModuleFile store (process_of schedule).«module») × Begins m.«module» 0 1)
+IsValid (Some (Record schedule_name)) store left = IsRecorded store schedule_name
 IsValid (Some (Replay module_name log_name)) store left =
     (m : IsModuleFile store module_name) × ((l : IsLogFile store log_name) × Begins m.«module» l.head.process l.head.count)
 
 -- what is valid has an outcome that is work
 abbrev pub HasWork : Type 0
-HasWork = (command : Command) (store : Store) (left : Option (List ℕ)) → IsValid (Some command) store left → (work : Work) × (expected (Some command) (Some store) left ≡ Some (Ok work))
+HasWork = (command : Command) (store : Store) (left : Option (List ℕ)) → IsValid (Some command) store left
+    → (work : Work) × (expected (Some command) (Some store) left ≡ Some (Ok work))

@@ -22,6 +22,12 @@ fn push_reason(text: &mut Text, reason: Reason) -> Result<(), AllocError>
             Ok(())
         }
         Reason::TooMany => text.push_str("TooMany"),
+        Reason::LogFull(item) => {
+            text.push_str("item ")?;
+            text.push_u64(item)?;
+            text.push_str(" LogFull")?;
+            Ok(())
+        }
         Reason::Malformed => text.push_str("1 Malformed"),
         Reason::HasFloat => text.push_str("2 HasFloat"),
         Reason::BadImport => text.push_str("3 BadImport"),

@@ -1,15 +1,15 @@
 // Reads the files that a command asks for.
-ghost use Rattle.std.specs.Prelude.{◌≡◌, ◌<◌, ◌≤◌, false, vec_len, Ok, Some, IfOk, IfErr, MatchResult};
+ghost use Rattle.std.specs.Prelude.{◌≡◌, ◌<◌, ◌≤◌, All, false, length, map, vec_len, Ok, Some, IfOk, IfErr, MatchResult};
 ghost use Rattle.fri_outside.specs.Outside.{WhenTold, Counts, NoneFell};
 ghost use Rattle.wasm_types.specs.Modules.{module_of as shown};
 ghost use Rattle.wasm_decode.specs.Sections.{module_of_bytes};
-ghost use Rattle.friday_app.specs.Limits.{most_log};
+ghost use Rattle.call_log.specs.Limits.{most_log};
 ghost use Rattle.friday_app.specs.Outcome.{and_then, file_of};
-ghost use Rattle.schedule_text.specs.Schedule.{IsSchedule};
+ghost use Rattle.schedule_text.specs.Schedule.{IsProcess, IsSchedule};
 ghost use Rattle.call_log.specs.Head.{IsHead};
 ghost use Rattle.call_log.specs.Log.{head_at, rest_of, stops_at_unbuilt as stops_at_unbuilt_of};
 ghost use Rattle.guest_process.specs.EventCount.{IsFresh};
-ghost use Rattle.friday_app.specs.Expected.{spelled_or, valid_or, module_of, begun_of, schedule_in, head_or};
+ghost use Rattle.friday_app.specs.Expected.{spelled_or, valid_or, module_of, modules_of, begun_of, schedule_in, head_or};
 ghost use Rattle.friday_app.specs.Call.{StopsAs, Raises};
 ghost use Rattle.friday_app.specs.Seen.{IsUnbuilt};
 
@@ -17,7 +17,7 @@ use crate::refusal::{Reason, Refusal};
 use call_log::{LogView, stops_at_unbuilt};
 use fri_outside::{FileError, Files};
 use guest_process::{Process, counting};
-use schedule_text::{Schedule, ScheduleError, read_schedule};
+use schedule_text::{ProcessLine, Schedule, ScheduleError, read_schedule};
 use std::alloc::Global;
 use wasm_decode::{DecodeError, decode};
 use wasm_step::StartError;
@@ -112,6 +112,44 @@ pub fn take_module<F: Files>(
 {
     let bytes = take_file(alloc, name, MODULE_LIMIT, files)?;
     read_module(alloc, name, &bytes)
+}
+
+// The module of a process.
+fn take_module_of<F: Files>(
+    alloc: Global,
+    line: &ProcessLine,
+    files: &mut F,
+) -> Result<ValidModule, Refusal>
+    requires { IsProcess line.now }
+    ensures answer { WhenTold (F.told files.old) (λ store. MatchResult result
+        (λ m. module_of store line.now.«module» ≡ Ok (shown m)) (StopsAs (module_of store line.now.«module»))) }
+    ensures same { F.told files.new ≡ F.told files.old }
+    ensures counts { NoneFell (F.counts files.old) (F.counts files.new) }
+    ensures cause { IfErr result (Raises (F.counts files.old) (F.counts files.new)) }
+{
+    let file = String::from_utf8_lossy(alloc, line.module.as_slice())?;
+    take_module(alloc, &file, files)
+}
+
+/// The valid modules of these processes, in their order.
+pub fn take_modules<F: Files>(
+    alloc: Global,
+    lines: &[ProcessLine],
+    files: &mut F,
+) -> Result<Vec<ValidModule>, Refusal>
+    requires { All IsProcess lines.now }
+    ensures answer { WhenTold (F.told files.old) (λ store. MatchResult result
+        (λ modules. modules_of store lines.now ≡ Ok (map shown modules.items)) (StopsAs (modules_of store lines.now))) }
+    ensures count { IfOk result (λ modules. length modules.items ≡ length lines.now) }
+    ensures same { F.told files.new ≡ F.told files.old }
+    ensures counts { NoneFell (F.counts files.old) (F.counts files.new) }
+    ensures cause { IfErr result (Raises (F.counts files.old) (F.counts files.new)) }
+{
+    let mut modules = Vec::new(alloc);
+    for line in lines {
+        modules.push(take_module_of(alloc, line, files)?)?;
+    }
+    Ok(modules)
 }
 
 /// Process `who` of a group of `count`, of the module that the file of this name holds.

@@ -1,8 +1,10 @@
-// The law of valid files, as a call that does nothing.
+// The laws of the commands, as calls that do nothing.
+ghost use Rattle.friday_app.specs.Agreement.{RecordingsAgree};
 ghost use Rattle.friday_app.specs.Valid.{HasWork};
 
 use call_log::exact_logs;
 use fri_outside::keeps_files;
+use group_record::{agreement, beginning, delivery};
 use schedule_text::exact_outcome;
 use wasm_decode::module_is_spelled;
 use wasm_validate::exact_fault;
@@ -16,4 +18,16 @@ pub fn has_work()
     exact_fault();
     exact_logs();
     exact_outcome();
+}
+
+/// The logs of a recording tell its events at each moment, and each datagram that was taken came from
+/// outside or is one that was sent.
+pub fn recordings_agree()
+    ensures { RecordingsAgree }
+{
+    exact_fault();
+    exact_outcome();
+    beginning();
+    agreement();
+    delivery();
 }

@@ -2,13 +2,10 @@
 #![tactic(auto)]
 
 mod command;
-mod events;
 mod finish;
 mod inputs;
 mod laws;
-mod outputs;
 mod record;
-mod recorder;
 mod refusal;
 mod replay;
 mod replayer;

@@ -1,52 +1,103 @@
-// `record SCHEDULE`: runs a process as the schedule says, and writes its log.
-ghost use Rattle.std.specs.Prelude.{◌≡◌, None, map, option_map, string_bytes, IfErr, IfOk, MatchResult};
+// `record SCHEDULE`: runs a group as the schedule says, and writes the log of each process.
+ghost use Rattle.std.specs.Prelude.{◌≡◌, ◌<◌, ℕ, None, length, map, option_map, IfErr, IfOk, MatchResult};
 ghost use Rattle.fri_outside.specs.Outside.{WhenTold, NoneFell};
 ghost use Rattle.fri_outside.specs.Several.{OthersStay};
+ghost use Rattle.wasm_types.specs.Modules.{module_of as shown};
+ghost use Rattle.group_record.specs.Answer.{StoppedWhere, begun};
 ghost use Rattle.friday_app.specs.Outcome.{writes_of};
-ghost use Rattle.schedule_text.specs.Schedule.{IsProcess, IsSchedule};
-ghost use Rattle.friday_app.specs.Expected.{process_of, record_outcome};
-ghost use Rattle.friday_app.specs.Recorded.{DoesWork};
-ghost use Rattle.friday_app.specs.Agreement.{HoldsRecording, LeavesRecording};
-ghost use Rattle.friday_app.specs.Call.{StopsAs, Tells, Makes, Keeps, DivergesOnlyIn, Raises};
+ghost use Rattle.friday_app.specs.Expected.{group_outcome, module_name, record_outcome};
+ghost use Rattle.friday_app.specs.Agreement.{LeavesMoment, LeavesRecording};
+ghost use Rattle.friday_app.specs.Call.{StopsAs, Tells, Makes, Keeps, DivergesOnlyIn, IsEnd, Names, Raises};
+ghost use Rattle.friday_app.specs.Seen.{Gathers, RefusesAs};
 
-use crate::inputs::{begin_process, take_module, take_schedule};
-use crate::outputs::write_file;
-use crate::refusal::{Answer, Refusal};
-use crate::summary::{Recorded, record_process};
+use crate::inputs::{take_modules, take_schedule};
+use crate::laws::recordings_agree;
+use crate::refusal::{Answer, Reason, Refusal};
+use crate::summary::print_summary;
 use fri_outside::{Files, keeps_files};
-use schedule_text::{ProcessLine, Schedule};
+use group_record::{RecordError, run_record};
+use schedule_text::{Schedule, exact_outcome};
 use std::alloc::Global;
+use wasm_types::ValidModule;
 
-// The one process of a schedule.
-fn process_of(schedule: &Schedule) -> &ProcessLine
-    requires { IsSchedule schedule.now }
-    ensures value { result.now ≡ process_of schedule.now }
-    ensures in_range { IsProcess result.now }
+// Refuses the module of process p, with which it does not begin.
+fn refuse_module(alloc: Global, schedule: &Schedule, p: u32) -> Refusal
+    requires { p < length schedule.now.processes }
+    ensures { Names (module_name schedule.now p) Reason.BadSegment result }
 {
-    match schedule.processes() {
-        [process] => process,
-        _ => unreachable!(),
+    let module = &schedule.processes()[p as usize].module;
+    match String::from_utf8_lossy(alloc, module.as_slice()) {
+        Ok(file) => Refusal::Refused(file, Reason::BadSegment),
+        Err(_) => Refusal::NoMemory,
     }
 }
 
-// What is to be printed and written. No file has changed.
-fn gather<F: Files>(alloc: Global, schedule_file: &str, files: &mut F) -> Result<Recorded, Refusal>
+// What a recording that was not done comes to.
+fn refusal_of(
+    alloc: Global,
+    schedule_file: &str,
+    schedule: &Schedule,
+    error: RecordError,
+) -> Refusal
+    requires { (p : ℕ) → error ≡ RecordError.BadSegment p → p < length schedule.now.processes }
+    ensures { RefusesAs schedule_file.now schedule.now error result }
+{
+    match error {
+        RecordError::BadSegment(p) => refuse_module(alloc, schedule, p),
+        RecordError::LogFull(item) => Refusal::refuse(alloc, schedule_file, Reason::LogFull(item)),
+        RecordError::WriteFault => Refusal::WriteFault,
+        RecordError::NoMemory => Refusal::NoMemory,
+    }
+}
+
+// A schedule, and the module of each of its processes.
+#[derive(Drop)]
+struct Inputs {
+    schedule: Schedule,
+    modules: Vec<ValidModule>,
+}
+
+// Reads what a recording needs. No file has changed.
+fn gather<F: Files>(alloc: Global, schedule_file: &str, files: &mut F) -> Result<Inputs, Refusal>
     ensures answer { WhenTold (F.told files.old) (λ store. MatchResult result
-        (λ recorded. DoesWork recorded (record_outcome schedule_file.now store))
+        (λ inputs. Gathers store schedule_file.now inputs.schedule (map shown inputs.modules.items))
         (StopsAs (record_outcome schedule_file.now store))) }
-    ensures recorded { WhenTold (F.told files.old) (λ store. IfOk result (λ recorded. HoldsRecording store schedule_file.now (string_bytes recorded.log_name) recorded.log.items)) }
+    ensures count { IfOk result (λ inputs. length inputs.modules.items ≡ length inputs.schedule.processes) }
     ensures same { F.told files.new ≡ F.told files.old }
     ensures counts { NoneFell (F.counts files.old) (F.counts files.new) }
     ensures cause { IfErr result (Raises (F.counts files.old) (F.counts files.new)) }
 {
     let schedule = take_schedule(alloc, schedule_file, files)?;
-    let process = process_of(&schedule);
-    let module_file = String::from_utf8_lossy(alloc, process.module.as_slice())?;
-    let file: &str = &module_file;
-    let guest = take_module(alloc, file, files)?;
-    let begun = begin_process(alloc, file, &guest, 0, 1)?;
-    let recorded = record_process(alloc, process.name.as_slice(), begun, schedule.items())?;
-    Ok(recorded)
+    let modules = take_modules(alloc, schedule.processes(), files)?;
+    Ok(Inputs { schedule, modules })
+}
+
+// Records a group, and prints what came of it.
+fn record_group<F: Files>(
+    alloc: Global,
+    schedule_file: &str,
+    schedule: &Schedule,
+    modules: &[ValidModule],
+    files: &mut F,
+) -> Result<Answer, Refusal>
+    requires { length modules.now ≡ length schedule.now.processes }
+    ensures tells { Tells (group_outcome schedule_file.now schedule.now (begun schedule.now (map shown modules.now))) result }
+    ensures makes { Makes result (writes_of (group_outcome schedule_file.now schedule.now (begun schedule.now (map shown modules.now))))
+        (F.told files.old) (F.told files.new) }
+    ensures stopped { StoppedWhere schedule.now (begun schedule.now (map shown modules.now)) (F.told files.old) (F.told files.new) }
+    ensures keeps { Keeps result (F.told files.old) (F.told files.new) }
+    ensures done { DivergesOnlyIn None result }
+    ensures counts { NoneFell (F.counts files.old) (F.counts files.new) }
+    ensures cause { IfErr result (Raises (F.counts files.old) (F.counts files.new)) }
+{
+    keeps_files();
+    match run_record(alloc, schedule, modules, files) {
+        Ok(summary) => {
+            let text = print_summary(alloc, &summary)?;
+            Ok(Answer::Done(text))
+        }
+        Err(error) => Err(refusal_of(alloc, schedule_file, schedule, error)),
+    }
 }
 
 pub fn record<F: Files>(
@@ -60,12 +111,20 @@ pub fn record<F: Files>(
     ensures others { OthersStay (λ store. map (λ file. file.0) (writes_of (record_outcome schedule_file.now store))) (F.told files.old) (F.told files.new) }
     ensures keeps { Keeps result (F.told files.old) (F.told files.new) }
     ensures done { DivergesOnlyIn None result }
-    ensures recorded { IfOk result (λ _. WhenTold (F.told files.old) (λ before. WhenTold (F.told files.new) (LeavesRecording schedule_file.now before))) }
+    ensures recorded { IsEnd result → WhenTold (F.told files.old) (λ before. WhenTold (F.told files.new) (LeavesRecording schedule_file.now before)) }
+    ensures moment { WhenTold (F.told files.old) (λ before. LeavesMoment schedule_file.now before (F.told files.new)) }
     ensures counts { NoneFell (F.counts files.old) (F.counts files.new) }
     ensures cause { IfErr result (Raises (F.counts files.old) (F.counts files.new)) }
 {
     keeps_files();
-    let recorded = gather(alloc, schedule_file, files)?;
-    write_file(&recorded.log_name, &recorded.log, files)?;
-    Ok(Answer::Done(recorded.text))
+    exact_outcome();
+    recordings_agree();
+    let inputs = gather(alloc, schedule_file, files)?;
+    record_group(
+        alloc,
+        schedule_file,
+        &inputs.schedule,
+        &inputs.modules,
+        files,
+    )
 }

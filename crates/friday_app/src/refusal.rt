@@ -11,6 +11,8 @@ pub enum Reason {
     TooLarge,
     BadLine(u64),
     TooMany,
+    /// The next event of the item with this number, from 1, would carry a log past its limit.
+    LogFull(u64),
     Malformed,
     HasFloat,
     BadImport,

@@ -1,12 +1,12 @@
 // A command from its start to its status.
-ghost use Rattle.std.specs.Prelude.{◌≡◌, List, ℕ, Option, Some, IfErr, IfOk};
+ghost use Rattle.std.specs.Prelude.{◌≡◌, List, ℕ, Option, Some, IfErr};
 ghost use Rattle.fri_outside.specs.Outside.{WhenTold, NoneFell};
 ghost use Rattle.fri_outside.specs.Several.{OthersStay};
 ghost use Rattle.friday_app.specs.Seen.{meaning};
 ghost use Rattle.friday_app.specs.Outcome.{writes_of};
 ghost use Rattle.friday_app.specs.Expected.{expected, written_by};
-ghost use Rattle.friday_app.specs.Call.{Tells, Makes, Keeps, DivergesOnlyIn, Raises};
-ghost use Rattle.friday_app.specs.Agreement.{KeepsRecording};
+ghost use Rattle.friday_app.specs.Call.{Tells, Makes, Keeps, DivergesOnlyIn, IsEnd, Raises};
+ghost use Rattle.friday_app.specs.Agreement.{KeepsMoment, KeepsRecording};
 ghost use Rattle.friday_app.specs.Run.{Run};
 
 use crate::command::Command;
@@ -27,7 +27,9 @@ fn perform<F: Files>(alloc: Global, command: Command<'_>, files: &mut F) -> Resu
     ensures others { OthersStay (written_by (Some (meaning command.entry))) (F.told files.old) (F.told files.new) }
     ensures keeps { Keeps result (F.told files.old) (F.told files.new) }
     ensures diverges { DivergesOnlyIn (Some (meaning command.entry)) result }
-    ensures recorded { IfOk result (λ _. WhenTold (F.told files.old) (λ before. WhenTold (F.told files.new) (KeepsRecording (Some (meaning command.entry)) before))) }
+    ensures recorded { IsEnd result → WhenTold (F.told files.old) (λ before.
+        WhenTold (F.told files.new) (KeepsRecording (Some (meaning command.entry)) before)) }
+    ensures moment { WhenTold (F.told files.old) (λ before. KeepsMoment (Some (meaning command.entry)) before (F.told files.new)) }
     ensures counts { NoneFell (F.counts files.old) (F.counts files.new) }
     ensures cause { IfErr result (Raises (F.counts files.old) (F.counts files.new)) }
 {

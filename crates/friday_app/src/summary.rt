@@ -1,37 +1,33 @@
-// What comes of the recording of a process.
-ghost use Rattle.std.specs.Prelude.{◌≡◌, ◌++◌, All, IfOk, OnOk, IsTrue, string_bytes};
-ghost use Rattle.fri_text.specs.Name.{is_name as is_name_word};
-ghost use Rattle.schedule_text.specs.Schedule.{IsInRange};
-ghost use Rattle.friday_app.specs.Record.{record_work, process_line, items_line, log_name};
-ghost use Rattle.friday_app.specs.Recorded.{IsRecordedWork};
-ghost use Rattle.friday_app.specs.Agreement.{IsRecordingOf};
+// What is printed of a recording.
+ghost use Rattle.std.specs.Prelude.{◌≡◌, ◌++◌, IfOk, OnOk};
+ghost use Rattle.friday_app.specs.Record.{process_line, items_line, state_text, summary_text};
 
-use crate::recorder::Recorder;
 use crate::texts::push_end;
-use call_log::exact_logs;
 use fri_text::Text;
-use guest_process::{End, Process};
-use schedule_text::Item;
+use group_record::{Summary, SummaryLine};
 use std::alloc::{AllocError, Global};
 
-/// A process that was recorded: its log, the log's name, and the summary.
-#[derive(Drop)]
-pub struct Recorded {
-    pub log_name: String,
-    pub log: Vec<u8>,
-    pub text: Text,
-}
-
-fn push_process(text: &mut Text, name: &[u8], events: u64, end: End) -> Result<(), AllocError>
-    ensures { OnOk result (text.new ≡ text.old ++ process_line name.now events end) }
+fn push_process(text: &mut Text, line: &SummaryLine) -> Result<(), AllocError>
+    ensures { OnOk result (text.new ≡ text.old ++ process_line line.now) }
 {
-    text.push_bytes(name)?;
+    text.push_bytes(line.name.as_slice())?;
     text.push_str(": ")?;
-    text.push_u64(events)?;
+    text.push_u64(line.events)?;
     text.push_str(" events, ")?;
-    push_end(text, end)?;
+    push_state(text, line)?;
     text.push_str("\n")?;
     Ok(())
+}
+
+// How a process stands, and that it was killed where it was.
+fn push_state(text: &mut Text, line: &SummaryLine) -> Result<(), AllocError>
+    ensures { OnOk result (text.new ≡ text.old ++ state_text line.now.killed line.now.end) }
+{
+    if line.killed {
+        text.push_str("killed")
+    } else {
+        push_end(text, line.end)
+    }
 }
 
 fn push_items(text: &mut Text, acted: u64, idle: u64) -> Result<(), AllocError>
@@ -45,35 +41,14 @@ fn push_items(text: &mut Text, acted: u64, idle: u64) -> Result<(), AllocError>
     Ok(())
 }
 
-fn log_name(alloc: Global, name: &[u8]) -> Result<String, AllocError>
-    requires { IsTrue (is_name_word name.now) }
-    ensures { IfOk result (λ file. string_bytes file ≡ log_name name.now) }
+/// The lines of the processes, and the line of the items.
+pub fn print_summary(alloc: Global, summary: &Summary) -> Result<Text, AllocError>
+    ensures { IfOk result (λ text. text ≡ summary_text summary.now.lines.items summary.now.acted summary.now.idle) }
 {
-    let mut file = String::from_utf8_lossy(alloc, name)?;
-    file.push_str(".log")?;
-    Ok(file)
-}
-
-/// Records a process of this name, from its first state, over the items of a schedule.
-pub fn record_process(
-    alloc: Global,
-    name: &[u8],
-    begun: Process<'_>,
-    items: &[Item],
-) -> Result<Recorded, AllocError>
-    requires named { IsTrue (is_name_word name.now) }
-    requires in_range { All (IsInRange 1) items.now }
-    ensures work { IfOk result (λ recorded. IsRecordedWork recorded (record_work name.now begun.entry items.now)) }
-    ensures recorded { IfOk result (λ recorded. IsRecordingOf recorded.log.items name.now begun.entry items.now) }
-{
-    exact_logs();
-    let recorder = Recorder::new(alloc, begun, name)?.perform_all(alloc, items)?;
     let mut text = Text::new(alloc);
-    push_process(&mut text, name, recorder.events, recorder.process.end())?;
-    push_items(&mut text, recorder.acted, recorder.idle)?;
-    Ok(Recorded {
-        log_name: log_name(alloc, name)?,
-        log: recorder.log,
-        text,
-    })
+    for line in &summary.lines {
+        push_process(&mut text, line)?;
+    }
+    push_items(&mut text, summary.acted, summary.idle)?;
+    Ok(text)
 }

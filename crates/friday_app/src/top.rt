@@ -5,7 +5,7 @@ ghost use Rattle.fri_outside.specs.Several.{with_files, OthersStay};
 ghost use Rattle.friday_app.specs.Command.{IsReplay, command_of};
 ghost use Rattle.friday_app.specs.Outcome.{status_of, text_of, writes_of};
 ghost use Rattle.friday_app.specs.Expected.{written_by};
-ghost use Rattle.friday_app.specs.Agreement.{KeepsRecording};
+ghost use Rattle.friday_app.specs.Agreement.{KeepsMoment, KeepsRecording};
 ghost use Rattle.friday_app.specs.Valid.{IsValid};
 ghost use Rattle.friday_app.specs.Run.{Run, NoFault, Works, Expects};
 ghost use Rattle.friday_app.specs.Call.{IsAnswer, IsExactUsage, IsIdle, KeepsInput, Prints, PrintsAbsent, PrintsLast, PrintsRefusal, Leaves, Untouched};
@@ -80,9 +80,14 @@ pub fn friday<F: Files, S: Source, K: Sink>(
     // The input
     ensures input { KeepsInput (command_of (map string_bytes words.now)) (Untouched (S.left input.old) (S.left input.new) (S.faults input.old) (S.faults input.new)) }
 
-    // The log that a recording leaves holds its events: replay accepts each, and makes the recorded states of them.
+    // The logs that a recording leaves hold its events: replay accepts each, and makes the recorded states of them.
+    // So it is where a log was full, too. Each datagram that was taken came from outside or is one that was sent.
     ensures recorded { IsAnswer result → WhenTold (F.told files.old) (λ before.
         WhenTold (F.told files.new) (KeepsRecording (command_of (map string_bytes words.now)) before)) }
+
+    // Wherever a recording was stopped, its logs are those of a moment of its run, but that behind one of them a
+    // first part of the next entry may stand; or the logs hold a first part of their heads, or are not made yet.
+    ensures moment { WhenTold (F.told files.old) (λ before. KeepsMoment (command_of (map string_bytes words.now)) before (F.told files.new)) }
 
     // Valid words, files and input, and no fault: the work is done, unless memory runs out.
     ensures complete { WhenTold (F.told files.old) (λ store. IsValid (command_of (map string_bytes words.now)) store (S.left input.old)

@@ -61,7 +61,7 @@ def files_of_a_replay(script):
 def files_of_a_record(script):
     script.case("files of a record that are refused or absent: the schedule is judged before the module is read")
     script.file("s", text("friday 1\nprocess a x\n"))
-    script.file("bad", text("friday 1\nprocess a x\nkill 0\n"))
+    script.file("bad", text("friday 1\nprocess a x\nkill 1\n"))
     script.file("t", text("friday 1\nprocess a s\n"))
     for line, status, said in (
         ("y", "Absent", "absent y"),
@@ -117,7 +117,10 @@ def failing_records(script):
         (1, "the schedule cannot be read", "ReadFault", b"old"),
         (2, "the module cannot be read", "ReadFault", b"old"),
         (3, "the log cannot be made", "WriteFault", b"old"),
-        (4, "the log cannot be written, of which half is", "WriteFault", LOG[:49]),
+        (4, "the head cannot be written, of which half is", "WriteFault", LOG[:9]),
+        (5, "the first entry cannot be written, of which half is", "WriteFault", LOG[:30]),
+        (6, "the second entry cannot be written, of which half is", "WriteFault", LOG[:54]),
+        (7, "the last entry cannot be written, of which half is", "WriteFault", LOG[:82]),
     ):
         begin(script, name, script.kept("now"), ITEMS)
         script.file("a.log", text("old"))

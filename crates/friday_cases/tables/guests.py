@@ -147,8 +147,8 @@ def later_ends(script):
 
 def unbuilt(script):
     """A thread stays at a call that is not answered yet."""
-    declared = '(import "liblog" "join" (func $join (param i32) (result i32)))'
-    begin(script, "a call that is not answered", digits(start(dropped("call $join (i32.const 1)"), declared)), "run 0 0 5\n")
+    declared = '(import "liblog" "lock" (func $lock (param i32) (result i32)))'
+    begin(script, "a call that is not answered", digits(start(dropped("call $lock (i32.const 0)"), declared)), "run 0 0 5\n")
     script.run("record s", "Done", *summary(1, "running", 1, 4))
     script.show("a.log", logs.log([]))
     replays(script, 1, "running")

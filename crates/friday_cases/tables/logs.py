@@ -3,18 +3,47 @@
 import struct
 
 # The calls by kind, with their arguments' number.
-KINDS = {"begin": (0, 0), "exit": (1, 1), "note": (2, 1), "now": (4, 0), "sleep_until": (5, 1), "me": (7, 0), "yield": (12, 0), "thread": (17, 0)}
+KINDS = {
+    "begin": (0, 0),
+    "exit": (1, 1),
+    "note": (2, 1),
+    "print": (3, 2),
+    "now": (4, 0),
+    "sleep_until": (5, 1),
+    "random": (6, 2),
+    "me": (7, 0),
+    "send": (8, 3),
+    "recv": (9, 3),
+    "try_recv": (10, 3),
+    "yield": (12, 0),
+    "thread": (17, 0),
+}
+BYTES_OUT, BYTES_IN, TAGGED = ("print", "send"), ("random", "recv", "try_recv"), ("recv", "try_recv")
 
 
 def head(name=b"a", version=1, count=1, process=0, mark=b"LLOG"):
     return mark + struct.pack("<IIIB", version, count, process, len(name)) + name
 
 
-def entry(clock, call, arguments=(), reply=0, thread=0, signal=0):
+def counted(data):
+    return struct.pack("<I", len(data)) + data
+
+
+def flagged(tag):
+    """Whether a datagram has a tag, and which: the sender's number and the clock of the send."""
+    return b"\0" if tag is None else b"\1" + struct.pack("<IQ", *tag)
+
+
+def entry(clock, call, arguments=(), reply=0, thread=0, signal=0, data=b"", tag=None):
+    """The data are the bytes that went out or came in."""
     body = struct.pack("<QHBB", clock, thread, KINDS[call][0], signal)
     assert len(arguments) == KINDS[call][1]
     for number in (*arguments, reply):
         body += struct.pack("<Q", number % 2**64)
+    if call in BYTES_OUT + BYTES_IN:
+        body += counted(data)
+    if call in TAGGED:
+        body += flagged(tag)
     return struct.pack("<I", len(body)) + body
 
 

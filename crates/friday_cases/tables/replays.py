@@ -170,7 +170,7 @@ def shapes(script):
         ("an argument too many", b"\x1c\0\0\0" + logs.entry(3, "thread")[4:] + bytes(8), "left"),
         ("fourteen bytes", logs.entry(3, "thread")[:14], "left"),
         ("a kind that is not built", logs.entry(3, "thread")[:14] + b"\x12", "kind"),
-        ("kind 11, which is not built, behind a bad length", bytes(14) + b"\x0b", "kind"),
+        ("kind 13, which is not built, behind a bad length", bytes(14) + b"\x0d", "kind"),
         ("kind 255", bytes(14) + b"\xff" + bytes(40), "kind"),
         ("kind 16 behind a whole entry", logs.entry(3, "thread") + bytes(14) + b"\x10", "kind"),
     ):

@@ -92,7 +92,8 @@ def bad_front(script):
         ("friday 1\nprocess a a.wasm a.wasm\n", 2),
         ("friday 1\nprocess %s a.wasm\n" % ("a" * 33), 2),
         ("friday 1\nprocess a %s\n" % ("a" * 256), 2),
-        ("friday 1\nprocess a a.wasm\nprocess b a.wasm\n", 3),
+        ("friday 1\nprocess a a.wasm\nprocess a b.wasm\n", 3),
+        ("friday 1\n" + "".join("process p%d a.wasm\n" % p for p in range(17)), 18),
     ):
         script.file("s", text(schedule))
         script.run("record s", *refused("s", "line %d BadLine" % line))
@@ -123,8 +124,24 @@ BAD_ITEMS = (
     "clock 0 --1",
     "clock 0",
     "clock 1 0",
-    "kill 0",
-    "process b b.wasm",
+    "kill 1",
+    "kill",
+    "kill 0 0",
+    "deliver 0 0",
+    "deliver 1 1",
+    "deliver 0 9223372036854775808",
+    "deliver 0 1 1",
+    "deliver 0",
+    "inject 0 0",
+    "inject 0 0g",
+    "inject 0 --",
+    "inject 0 00 00",
+    "inject 0",
+    "inject 1 00",
+    "random 0 000",
+    "random 0 x",
+    "random 0",
+    "random 1 00",
 )
 
 
@@ -134,6 +151,8 @@ def bad_items(script):
     rows = [(item, "line 3 BadLine") for item in BAD_ITEMS]
     rows += [
         ("run 0 0\n\nfriday 1\nrun 0", "line 5 BadLine"),
+        ("run 0 0\nprocess b a.wasm", "line 4 BadLine"),
+        ("process b a.wasm\nkill 2", "line 4 BadLine"),
         ("run 0 0 600000\nrun 0 0 600000", "TooMany"),
         ("run 0 0 1000000\nclock 0 1\nrun 0 63", "TooMany"),
         # A bad line is named, wherever it stands.

@@ -1,4 +1,4 @@
-use Rattle.std.proofs.Common.{ap, refl, sym, subst, ◌∙◌, length, arith}
+use Rattle.std.proofs.Common.{ap, refl, sym, subst, ◌∙◌, ◌≡◌, length, arith}
 use Rattle.lib_calls.specs.Entry.{entry_of}
 use Rattle.call_log.specs.Log.{Log, entries_of, rest_of}
 use Rattle.guest_process.specs.Replay.{Diverged, left_over}

@@ -4,7 +4,7 @@ use Rattle.friday_app.specs.Command.{Command}
 use Rattle.friday_app.specs.Expected.{written_by}
 use Rattle.friday_app.specs.Outcome.{writes_of}
 use Rattle.friday_app.specs.Seen.{meaning}
-use Rattle.friday_app.proofs.Made.{none_made, same_others, never_diverges, keeps_recording, no_recording}
+use Rattle.friday_app.proofs.Made.{none_made, same_others, never_diverges, keeps_moment, keeps_recording, no_moment, no_recording}
 use Rattle.friday_app.proofs.Stops.{replay_writes_none}
 use Rattle.friday_app.proofs.settle.perform.Goals as goal
 
@@ -22,7 +22,13 @@ pub returns-in-Record-clause-diverges : goal.returns-in-Record-clause-diverges
 returns-in-Record-clause-diverges g c = never_diverges (Some (meaning c.args.command)) c.record.result c.record.ensures.done
 
 pub returns-in-Record-clause-recorded : goal.returns-in-Record-clause-recorded
-returns-in-Record-clause-recorded g c = keeps_recording c.record.result _ _ (ap meaning c.in-Record.is) c.record.ensures.recorded
+returns-in-Record-clause-recorded g c = λ end. keeps_recording _ _ (ap meaning c.in-Record.is) (c.record.ensures.recorded end)
 
 pub returns-in-Replay-clause-recorded : goal.returns-in-Replay-clause-recorded
-returns-in-Replay-clause-recorded g c = no_recording c.replay.result _ _ (ap meaning c.in-Replay.is)
+returns-in-Replay-clause-recorded g c = λ end. no_recording _ _ (ap meaning c.in-Replay.is)
+
+pub returns-in-Record-clause-moment : goal.returns-in-Record-clause-moment
+returns-in-Record-clause-moment g c = keeps_moment _ _ (ap meaning c.in-Record.is) c.record.ensures.moment
+
+pub returns-in-Replay-clause-moment : goal.returns-in-Replay-clause-moment
+returns-in-Replay-clause-moment g c = no_moment _ _ (ap meaning c.in-Replay.is)

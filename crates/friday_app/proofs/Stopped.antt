@@ -1,0 +1,189 @@
+-- The files of a recording that was stopped are first parts of those of its whole run, which stand in the store
+-- that it leaves.
+use Rattle.std.proofs.Common.{◌≡◌, ◌≢◌, ◌<◌, ◌+◌, ◌==◌, ℕ, zero, suc, List, [], ◌∷◌, ◌++◌, Bool, true, false, length, map, take, drop, slice_get, slice_index_or, Option, Some, refl, sym, ap, subst, ◌∙◌, arith, append_assoc, append-nil}
+use Rattle.std.specs.Prelude.{AllPairs, codes}
+use Rattle.std.specs.FinMap.{get}
+use Rattle.std.proofs.Math.ListN.{get_or-map}
+use Rattle.std.proofs.lemmas.Grind.{flat_map-append}
+use Rattle.std.proofs.lemmas.List.{append_cancel_right, length-map, take-append-drop}
+use Rattle.std.proofs.lemmas.Option.{same_Some}
+use Rattle.fri_outside.specs.Laws.{KeepsFiles}
+use Rattle.fri_outside.specs.Outside.{Store}
+use Rattle.fri_outside.specs.Several.{AreApart, AreFronts, ChangesOnly, grown, with_files}
+use Rattle.call_log.specs.Entry.{encoding, encodings}
+use Rattle.call_log.specs.Head.{head_bytes}
+use Rattle.lib_calls.specs.declared.entry.Entry.{Entry}
+use Rattle.guest_process.specs.Live.{Event}
+use Rattle.schedule_text.specs.declared.process.ProcessLine.{ProcessLine}
+use Rattle.group_world.specs.History.{Act, History}
+use Rattle.group_world.specs.History as world
+use Rattle.group_record.specs.Files.{IsStopped, InHeads, Between, InEntry, heads_cut}
+use Rattle.group_record.specs.Logs.{files_from, log_name, logs}
+use Rattle.group_record.specs.Run.{Group, Had, IsFront, Step, act_of, entries, head_of, history, log_of}
+use Rattle.friday_app.specs.Agreement.{LeavesLogs}
+
+-- ---- logs grow
+
+-- the bytes go on from a first part of them
+IsGrown : List ℕ → List ℕ → Type 0
+IsGrown whole part = (more : List ℕ) × (whole ≡ part ++ more)
+
+one_more : (a : Act) (h : History) (p : ℕ) → (more : List Entry) × (world.entries (a ∷ h) p ≡ world.entries h p ++ more)
+one_more (world.Event q e) h p =
+    elim (q == p) as (λ b. (more : List Entry) × (world.put_last_if b (world.entries h p) e ≡ world.entries h p ++ more)) [
+      | true ↦ (e ∷ [], refl)
+      | false ↦ ([], sym (append-nil (world.entries h p)))
+    ]
+one_more (world.Deliver q n) h p = ([], sym (append-nil (world.entries h p)))
+one_more (world.Inject q bytes) h p = ([], sym (append-nil (world.entries h p)))
+one_more (world.Clock q time) h p = ([], sym (append-nil (world.entries h p)))
+one_more (world.Random q bytes) h p = ([], sym (append-nil (world.entries h p)))
+one_more (world.Kill q) h p = ([], sym (append-nil (world.entries h p)))
+
+-- a log with some entries more
+log_with : (head : List ℕ) (es more : List Entry) → head ++ encodings (es ++ more) ≡ (head ++ encodings es) ++ encodings more
+log_with head es more = ap (λ (bytes : List ℕ). head ++ bytes) (flat_map-append encoding es more) ∙ sym (append_assoc head (encodings es) (encodings more))
+
+step_grows : (group : Group) (step : Step) (steps : List Step) (p : ℕ) → IsGrown (log_of group (step ∷ steps) p) (log_of group steps p)
+unfolding IsGrown
+step_grows group step steps p =
+    let m = one_more (act_of step) (history steps) p in
+    (encodings m.0, ap (λ (es : List Entry). head_bytes (head_of group p) ++ encodings es) m.1 ∙ log_with (head_bytes (head_of group p)) (entries steps p) m.0)
+
+steps_grow : (group : Group) (later early : List Step) (p : ℕ) → IsGrown (log_of group (later ++ early) p) (log_of group early p)
+unfolding IsGrown
+steps_grow group [] early p = ([], sym (append-nil (log_of group early p)))
+steps_grow group (step ∷ later) early p =
+    let last = step_grows group step (later ++ early) p in
+    let rest = steps_grow group later early p in
+    (rest.0 ++ last.0, last.1 ∙ ap (λ (bytes : List ℕ). bytes ++ last.0) rest.1 ∙ append_assoc (log_of group early p) rest.0 last.0)
+
+log_grows : (group : Group) (early steps : List Step) → IsFront early steps → (p : ℕ) → IsGrown (log_of group steps p) (log_of group early p)
+log_grows group early steps (later, is) p = subst (λ (s : List Step). IsGrown (log_of group s p) (log_of group early p)) (sym is) (steps_grow group later early p)
+
+same_number : (p : ℕ) → (p == p) ≡ true
+same_number p = grind arith
+
+-- the entry of an event stands behind the log
+event_log : (group : Group) (early : List Step) (p : ℕ) (e : Event) → log_of group (Had p e ∷ early) p ≡ log_of group early p ++ encoding e.entry
+event_log group early p e =
+    ap (λ (b : Bool). head_bytes (head_of group p) ++ encodings (world.put_last_if b (entries early p) e.entry)) (same_number p)
+    ∙ log_with (head_bytes (head_of group p)) (entries early p) (e.entry ∷ [])
+    ∙ ap (λ (bytes : List ℕ). log_of group early p ++ bytes) (append-nil (encoding e.entry))
+
+-- behind a first part of that entry comes the rest of it, and then what follows
+entry_grows : (group : Group) (steps later early : List Step) (p n : ℕ) (e : Event) → steps ≡ later ++ (Had p e ∷ early) → IsGrown (log_of group steps p) (log_of group early p ++ take n (encoding e.entry))
+unfolding IsGrown
+entry_grows group steps later early p n e is =
+    let rest = steps_grow group later (Had p e ∷ early) p in
+    let log = log_of group early p in
+    let cut = take-append-drop n (encoding e.entry) in (
+      drop n (encoding e.entry) ++ rest.0,
+      ap (λ (s : List Step). log_of group s p) is ∙ rest.1
+          ∙ ap (λ (bytes : List ℕ). bytes ++ rest.0) (event_log group early p e ∙ ap (λ (bytes : List ℕ). log ++ bytes) (sym cut)
+          ∙ sym (append_assoc log (take n (encoding e.entry)) (drop n (encoding e.entry))))
+          ∙ append_assoc (log ++ take n (encoding e.entry)) (drop n (encoding e.entry)) rest.0,
+    )
+
+-- a first part of a head
+head_grows : (group : Group) (steps : List Step) (cut : ℕ → ℕ) (p : ℕ) → IsGrown (log_of group steps p) (heads_cut group cut p)
+unfolding IsGrown
+head_grows group steps cut p =
+    let head = head_bytes (head_of group p) in (
+      drop (cut p) head ++ encodings (entries steps p),
+      ap (λ (bytes : List ℕ). bytes ++ encodings (entries steps p)) (sym (take-append-drop (cut p) head))
+          ∙ append_assoc (take (cut p) head) (drop (cut p) head) (encodings (entries steps p)),
+    )
+
+-- ---- the files of a part of the run
+
+abbrev a_file : List ℕ → List ℕ → Option (List ℕ × List ℕ)
+a_file name bytes = Some (name, bytes)
+
+first_front : (name part whole : List ℕ) (n bytes : List ℕ) → IsGrown whole part → a_file name part ≡ a_file n bytes → (more : List ℕ) × (a_file name whole ≡ a_file n (bytes ++ more))
+unfolding IsGrown
+first_front name part whole n bytes (more, is) at =
+    (more, ap (a_file name) is ∙ ap (λ (file : List ℕ × List ℕ). a_file file.0 (file.1 ++ more)) (same_Some _ _ at))
+
+files_fronts : (q : ℕ) (names : List (List ℕ)) (parts wholes : ℕ → List ℕ) → ((p : ℕ) → IsGrown (wholes p) (parts p)) → AreFronts (files_from q names parts) (files_from q names wholes)
+files_fronts q [] parts wholes grow place n bytes at = cc
+files_fronts q (name ∷ names) parts wholes grow zero n bytes at = first_front (log_name name) (parts q) (wholes q) n bytes (grow q) at
+files_fronts q (name ∷ names) parts wholes grow (suc place) n bytes at = files_fronts (suc q) names parts wholes grow place n bytes at
+
+-- the same where one of the files has a piece more
+grown_fronts : (q : ℕ) (names : List (List ℕ)) (parts wholes : ℕ → List ℕ) (p : ℕ) (piece : List ℕ) → ((p : ℕ) → IsGrown (wholes p) (parts p)) → IsGrown (wholes (q + p)) (parts (q + p) ++ piece)
+    → AreFronts (grown (files_from q names parts) p piece) (files_from q names wholes)
+grown_fronts q [] parts wholes p piece grow more place n bytes at = cc
+grown_fronts q (name ∷ names) parts wholes zero piece grow more zero n bytes at =
+    let here : q + 0 ≡ q = omega arith in
+    first_front (log_name name) (parts q ++ piece) (wholes q) n bytes (subst (λ (p : ℕ). IsGrown (wholes p) (parts p ++ piece)) here more) at
+grown_fronts q (name ∷ names) parts wholes zero piece grow more (suc place) n bytes at = files_fronts (suc q) names parts wholes grow place n bytes at
+grown_fronts q (name ∷ names) parts wholes (suc p) piece grow more zero n bytes at = first_front (log_name name) (parts q) (wholes q) n bytes (grow q) at
+grown_fronts q (name ∷ names) parts wholes (suc p) piece grow more (suc place) n bytes at =
+    let here : q + suc p ≡ suc q + p = omega arith in
+    grown_fronts (suc q) names parts wholes p piece grow (subst (λ (p : ℕ). IsGrown (wholes p) (parts p ++ piece)) here more) place n bytes at
+
+taken_at : {A : Type 0} (many : ℕ) (xs : List A) (k : ℕ) (x : A) → slice_get (take many xs) k ≡ Some x → slice_get xs k ≡ Some x
+taken_at zero xs k x at = cc
+taken_at (suc many) [] k x at = cc
+taken_at (suc many) (y ∷ xs) zero x at = at
+taken_at (suc many) (y ∷ xs) (suc k) x at = taken_at many xs k x at
+
+taken_fronts : (many : ℕ) (files whole : List (List ℕ × List ℕ)) → AreFronts files whole → AreFronts (take many files) whole
+taken_fronts many files whole fronts place n bytes at = fronts place n bytes (taken_at many files place (n, bytes) at)
+
+-- where a recording was stopped, each log is as before or has some of its front, and no other file changes
+pub stopped_changes : KeepsFiles → (group : Group) (steps : List Step) (before after : Option Store) → IsStopped group steps before after → ChangesOnly before (logs group steps) after
+stopped_changes keeps group steps before after (InHeads many cut is) =
+    subst (ChangesOnly before (logs group steps)) (sym is)
+    (keeps.left before _ _ (taken_fronts many _ _ (files_fronts 0 group.names (heads_cut group cut) (log_of group steps) (head_grows group steps cut))))
+stopped_changes keeps group steps before after (Between early front is) =
+    subst (ChangesOnly before (logs group steps)) (sym is)
+    (keeps.left before _ _ (files_fronts 0 group.names (log_of group early) (log_of group steps) (log_grows group early steps front)))
+stopped_changes keeps group steps before after (InEntry early later p n e at is) =
+    subst (ChangesOnly before (logs group steps)) (sym is)
+    (keeps.left before _ _ (grown_fronts 0 group.names (log_of group early) (log_of group steps) p (take n (encoding e.entry))
+    (log_grows group early steps (later ++ (Had p e ∷ []), at ∙ sym (append_assoc later (Had p e ∷ []) early))) entry)) where
+      here : p ≡ 0 + p
+      here = omega arith
+
+      entry : IsGrown (log_of group steps (0 + p)) (log_of group early (0 + p) ++ take n (encoding e.entry))
+      entry = subst (λ (k : ℕ). IsGrown (log_of group steps k) (log_of group early k ++ take n (encoding e.entry))) here (entry_grows group steps later early p n e at)
+
+-- ---- the whole run's logs
+
+files_count : (q : ℕ) (names : List (List ℕ)) (bytes : ℕ → List ℕ) → length (files_from q names bytes) ≡ length names
+files_count q [] bytes = refl
+files_count q (name ∷ names) bytes = ap suc (files_count (suc q) names bytes)
+
+file_at : (q : ℕ) (names : List (List ℕ)) (bytes : ℕ → List ℕ) (p : ℕ) → p < length names → slice_get (files_from q names bytes) p ≡ Some (log_name (slice_index_or names p []), bytes (q + p))
+file_at q [] bytes p below = absurd (omega (arith, below))
+file_at q (name ∷ names) bytes zero below = let here : q ≡ q + 0 = omega arith in ap (λ (k : ℕ). Some (log_name name, bytes k)) here
+file_at q (name ∷ names) bytes (suc p) below =
+    let here : suc q + p ≡ q + suc p = omega arith in
+    file_at (suc q) names bytes p (omega (arith, below)) ∙ ap (λ (k : ℕ). Some (log_name (slice_index_or names p []), bytes k)) here
+
+name_at : (q : ℕ) (names : List (List ℕ)) (bytes : ℕ → List ℕ) (i : ℕ) (d : List ℕ × List ℕ) → i < length names → (slice_index_or (files_from q names bytes) i d).0 ≡ log_name (slice_index_or names i [])
+name_at q [] bytes i d below = absurd (omega (arith, below))
+name_at q (name ∷ names) bytes zero d below = refl
+name_at q (name ∷ names) bytes (suc i) d below = name_at (suc q) names bytes i d (omega (arith, below))
+
+-- processes with names that differ have logs of names that differ
+pub logs_apart : (lines : List ProcessLine) (q : ℕ) (bytes : ℕ → List ℕ) → AllPairs (λ a b. a.name ≢ b.name) lines → AreApart (files_from q (map (λ line. line.name) lines) bytes)
+logs_apart lines q bytes apart i j d before within same =
+    let names = map (λ (line : ProcessLine). line.name) lines in
+    let none : ProcessLine = record { name = []; «module» = [] } in
+    let count = length-map lines (λ (line : ProcessLine). line.name) in
+    let inside : j < length names = omega (arith, within, files_count q names bytes) in
+    let logs_same = sym (name_at q names bytes i d (omega (arith, before, inside))) ∙ same ∙ name_at q names bytes j d inside in
+    let names_same = append_cancel_right (slice_index_or names i []) (slice_index_or names j []) (codes ".log") logs_same in
+    apart i j none before (omega (arith, inside, count))
+    (sym (get_or-map (λ (line : ProcessLine). line.name) lines i none) ∙ names_same ∙ get_or-map (λ (line : ProcessLine). line.name) lines j none)
+
+-- the logs that were made stand in the store
+pub logs_stand : KeepsFiles → (group : Group) (steps : List Step) (before after : Store) → AreApart (logs group steps) → with_files (logs group steps) (Some before) ≡ Some after → LeavesLogs group steps after
+logs_stand keeps group steps before after apart made p below =
+    let stands = keeps.stands before (logs group steps) apart in
+    let whole : 0 + p ≡ p = omega arith in
+    let here = file_at 0 group.names (log_of group steps) p below ∙ ap (λ (k : ℕ). a_file (log_name (slice_index_or group.names p [])) (log_of group steps k)) whole in
+    subst (λ (s : Store). get s (log_name (slice_index_or group.names p [])) ≡ Some (log_of group steps p)) (same_Some _ _ (sym stands.1 ∙ made)) (stands.2.held p _ _ here)

@@ -1,0 +1,208 @@
+"""Groups: what the items of a schedule do to them, and their logs, wherever a recording is stopped."""
+
+import logs
+from common import refused
+from modules import Guest, MAGIC, start
+from script import digits, text
+
+PING, PONG = Guest("ping"), Guest("pong")
+TO_ALL = 2**32 - 1
+
+SCHEDULE = """friday 1
+process ping ping.wasm
+process pong pong.wasm
+run 0 0 2
+run 1 0
+deliver 0 1
+# the same datagram again
+deliver 0 1
+run 1 0 4
+# the second echo overtakes the first
+deliver 1 2
+run 0 0 2
+deliver 1 1
+run 0 0 2
+run 0 0
+kill 1
+"""
+
+
+def number(value):
+    return value.to_bytes(4, "little")
+
+
+def sent(clock, to, data, at=64):
+    return logs.entry(clock, "send", (to, at, len(data)), len(data), data=data)
+
+
+def taken(clock, at, cap, data, tag, call="recv"):
+    return logs.entry(clock, call, (at, cap, 32), len(data), data=data, tag=tag)
+
+
+BEGIN = logs.entry(1, "begin")
+PINGS = [
+    BEGIN,
+    sent(2, 1, number(1)),
+    taken(7, 128, 4, number(1), (1, 6)),
+    sent(8, 1, number(2)),
+    taken(9, 128, 4, number(1), (1, 4)),
+    sent(10, 1, number(3)),
+]
+PONGS = [
+    BEGIN,
+    taken(3, 64, 16, number(1), (0, 2)),
+    sent(4, 0, number(1)),
+    taken(5, 64, 16, number(1), (0, 2)),
+    sent(6, 0, number(1)),
+]
+# The process of each event in its turn.
+TURNS = (0, 0, 1, 1, 1, 1, 1, 0, 0, 0, 0)
+NAMES = (b"ping", b"pong")
+SUMMARY = ("ping: 6 events, running", "pong: 5 events, killed", "items: 16 acted, 1 idle")
+
+
+def head(p):
+    return logs.head(name=NAMES[p], count=2, process=p)
+
+
+def log(p, count):
+    """The log of a process with its first entries."""
+    return head(p) + b"".join((PINGS, PONGS)[p][:count])
+
+
+def shown(script, *held):
+    for name, data in zip(NAMES, held):
+        script.show(name.decode() + ".log", data)
+
+
+def group(script, name):
+    script.case(name)
+    script.file("ping.wasm", script.kept("ping"))
+    script.file("pong.wasm", script.kept("pong"))
+    script.file("s", text(SCHEDULE))
+
+
+def ping_and_pong(script):
+    group(script, "ping and pong")
+    whole = log(0, 6), log(1, 5)
+    assert tuple(map(len, whole)) == (351, 295)
+    script.run("record s", "Done", *SUMMARY)
+    shown(script, *whole)
+
+
+def half(data):
+    return data[: len(data) // 2]
+
+
+def stopped_at(call):
+    """How the logs stand where this call fails, of which the first three read, two make the logs, two write the
+    heads, and each other writes an entry."""
+    if call < 6:
+        return [b"" if 4 + p < call else None for p in (0, 1)]
+    if call < 8:
+        return [head(p) if 6 + p < call else half(head(p)) if 6 + p == call else b"" for p in (0, 1)]
+    turns, p = TURNS[: call - 8], TURNS[call - 8]
+    counts = [turns.count(0), turns.count(1)]
+    part = half((PINGS, PONGS)[p][counts[p]])
+    return [log(q, counts[q]) + (part if p == q else b"") for q in (0, 1)]
+
+
+def each_call(script):
+    assert list(map(len, stopped_at(12))) == [101, 142]
+    for call in range(1, 19):
+        group(script, "ping and pong, and call %d fails" % call)
+        script.fail("files", call)
+        script.run("record s", "ReadFault" if call < 4 else "WriteFault")
+        shown(script, *stopped_at(call))
+
+
+def alone(script, name, injected, events):
+    """`pong` in a group of its own, with a datagram from outside."""
+    script.case(name)
+    script.file("pong.wasm", script.kept("pong"))
+    script.file("s", text("friday 1\nprocess pong pong.wasm\nrun 0 0\ninject 0 %s\nrun 0 0 2\n" % injected))
+    script.run("record s", "Done", "pong: 3 events, running", "items: 4 acted, 0 idle")
+    script.show("pong.log", logs.head(name=b"pong") + BEGIN + b"".join(events))
+
+
+def from_outside(script):
+    hi = b"hi"
+    alone(script, "a datagram from outside, which has no tag", "6869", [taken(2, 64, 16, hi, None), sent(3, TO_ALL, hi)])
+    tag = "d74c4f47 00000000 0000000000000040 aa".replace(" ", "")
+    late = 2**62
+    alone(script, "a tag that no process gave", tag, [taken(late + 1, 64, 16, b"\xaa", (0, late)), sent(late + 2, 0, b"\xaa")])
+    past = "d74c4f47 00000000 0100000000000040 aa".replace(" ", "")
+    data = bytes.fromhex(past)[:16]
+    alone(script, "a tag whose clock is too great", past, [taken(2, 64, 16, data, None), sent(3, TO_ALL, data)])
+
+
+def one(script, name, module, items):
+    script.case(name)
+    script.file("a.wasm", digits(Guest(module).module))
+    script.file("s", text("friday 1\nprocess a a.wasm\n" + items))
+
+
+def cut_short(script):
+    one(script, "datagrams that are cut, and a place past memory", "taker", "run 0 0 3\ninject 0 0102030405\ninject 0 0708\ninject 0 01020304\nrun 0 0 5\n")
+    script.run("record s", "Done", "a: 6 events, finished", "items: 9 acted, 2 idle")
+    none = logs.entry(2, "try_recv", (64, 3, 32), 2**32 - 2)
+    bad = logs.entry(5, "recv", (65533, 4, 32), TO_ALL)
+    events = [none, taken(3, 64, 3, b"\1\2\3", None), taken(4, 64, 0, b"", None), bad, taken(6, 65532, 4, b"\1\2\3\4", None)]
+    script.show("a.log", logs.head() + BEGIN + b"".join(events))
+
+
+def random_bytes(script):
+    one(script, "random bytes", "drawer", "run 0 0 2\nrandom 0 0A\nrun 0 0\nrandom 0 -\nrandom 0 ff0b\nrun 0 0 5\n")
+    script.run("record s", "Done", "a: 5 events, finished", "items: 8 acted, 3 idle")
+    events = [
+        logs.entry(2, "random", (0, 2), 2, data=b"\x0a\xff"),
+        logs.entry(3, "random", (0, 0), 0),
+        logs.entry(4, "random", (65536, 1), TO_ALL),
+        logs.entry(5, "random", (0, 1), 1, data=b"\x0b"),
+    ]
+    script.show("a.log", logs.head() + BEGIN + b"".join(events))
+
+
+def kills(script):
+    group(script, "a process that is killed makes no event, and one that has ended is not killed")
+    script.file("least.wasm", digits(start("")))
+    script.file("s", text("friday 1\nprocess a ping.wasm\nprocess b least.wasm\nkill 0\nrun 0 0\nkill 0\nrun 1 0\nkill 1\ndeliver 0 1\ninject 0 00\nclock 1 5\n"))
+    script.run("record s", "Done", "a: 0 events, killed", "b: 1 events, finished", "items: 4 acted, 4 idle")
+    script.show("a.log", logs.head(count=2))
+    script.show("b.log", logs.head(name=b"b", count=2, process=1) + BEGIN)
+
+
+def order(script):
+    script.case("all modules are read before a process begins, and none that is refused leaves a log")
+    far = '(memory 1) (data (i32.const 65536) "a")'
+    script.file("far", digits(start("", far)))
+    script.file("bad", digits(MAGIC))
+    script.file("least", digits(start("")))
+    for first, second, status, said in (
+        ("far", "bad", "Refused", "refused bad: 6 NoStart"),
+        ("far", "x", "Absent", "absent x"),
+        ("x", "bad", "Absent", "absent x"),
+        ("least", "far", "Refused", "refused far: 7 BadSegment"),
+    ):
+        script.file("s", text("friday 1\nprocess a %s\nprocess b %s\n" % (first, second)))
+        script.run("record s", status, "friday: " + said)
+    script.show("a.log", None)
+    script.file("s", text("friday 1\nprocess a least\nprocess b least\nrun 1 0\n"))
+    script.run("record s", "Done", "a: 0 events, running", "b: 1 events, finished", "items: 1 acted, 0 idle")
+
+
+def full_log(script):
+    one(script, "a log that is full", "printer", "clock 0 1\nrun 0 0 1000\n")
+    script.run("record s", *refused("s", "item 2 LogFull"))
+    events = [logs.entry(2 + at, "print", (0, 60000), 60000, data=bytes(60000)) for at in range(558)]
+    held = logs.head() + BEGIN + b"".join(events)
+    assert len(held) == 33504594
+    script.show("a.log", held)
+
+
+def table(script):
+    script.title("Groups")
+    script.keep("ping", PING.module)
+    script.keep("pong", PONG.module)
+    for part in (ping_and_pong, each_call, from_outside, cut_short, random_bytes, kills, order, full_log):
+        part(script)
