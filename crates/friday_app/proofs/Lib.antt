@@ -1,4 +1,5 @@
 pub mod Completes
+pub mod Counting
 pub mod Ends
 pub mod Faults
 pub mod Folding
@@ -13,3 +14,4 @@ pub mod Replayed
 pub mod Stopped
 pub mod Stops
 pub mod Summaries
+pub mod Tallied

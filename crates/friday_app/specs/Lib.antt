@@ -3,6 +3,7 @@ pub mod Command
 pub mod Fault
 pub mod Limits
 pub mod Tally
+pub mod Tallying
 pub mod Report
 pub mod Outcome
 pub mod Record

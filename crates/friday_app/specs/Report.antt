@@ -12,7 +12,9 @@ use Rattle.guest_process.specs.State.{State}
 use Rattle.lib_calls.specs.declared.entry.Entry.{Entry}
 use Rattle.call_log.specs.Head.{Head}
 use Rattle.call_log.specs.Log.{entries_of, rest_of}
+use Rattle.friday_app.specs.declared.tally.GroupCounts.{GroupCounts}
 use Rattle.friday_app.specs.Outcome.{Work}
+use Rattle.friday_app.specs.Tally.{Accepted, of_process, tally}
 
 -- a divergence by its number and name
 abbrev pub divergence_text : Divergence → List ℕ
@@ -57,26 +59,36 @@ line_text name count end judged =
 abbrev pub last_state : State → List Entry → State
 last_state S es = replayed S (take (accepted S es) es)
 
--- No call that is built sends or receives.
-abbrev pub group_text : List ℕ
-group_text = codes "group: 0 sends, 0 receives, 0 unmatched, 0 untagged\n"
+abbrev pub count_text : ℕ → List ℕ → List ℕ
+count_text number what = decimal number ++ what
+
+-- what the events of the group's logs say of datagrams
+abbrev pub group_text : GroupCounts → List ℕ
+group_text c =
+    codes "group: " ++ (count_text c.sends (codes " sends, ") ++ (count_text c.receives (codes " receives, ")
+    ++ (count_text c.unmatched (codes " unmatched, ") ++ count_text c.untagged (codes " untagged\n"))))
 
 abbrev pub is_divergence : Verdict → Bool
 is_divergence (Diverged at why) = true
 is_divergence Whole = false
 is_divergence (Left bytes) = false
 
--- the work of a replay that came to so many events, this end and this verdict
-abbrev pub printed : List ℕ → ℕ → End → Verdict → Work
-printed name count end judged =
+-- the work of a replay that came to so many events, this end and this verdict, and whose events say so
+-- much of datagrams
+abbrev pub printed : List ℕ → ℕ → End → Verdict → GroupCounts → Work
+printed name count end judged counts =
     record {
-      text = line_text name count end judged ++ group_text;
+      text = line_text name count end judged ++ group_text counts;
       writes = [];
       diverged = is_divergence judged;
     }
+
+-- the accepted events of a log, given by its head and its entries, from the first state of its process
+abbrev pub events_of : State → Head → List Entry → List Accepted
+events_of begun head es = of_process head.process (take (accepted begun es) es)
 
 -- what replay prints of a process, from its first state, and of a log, given by its head and what is behind it
 abbrev pub replay_work : State → Head → List ℕ → Work
 replay_work begun head left =
     let es = entries_of left in
-    printed head.name (accepted begun es) (last_state begun es).end (verdict begun es (rest_of left))
+    printed head.name (accepted begun es) (last_state begun es).end (verdict begun es (rest_of left)) (tally head.count (events_of begun head es))

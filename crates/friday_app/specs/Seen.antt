@@ -18,11 +18,13 @@ use Rattle.friday_app.specs.declared.refusal.Refusal.{Refusal}
 use Rattle.friday_app.specs.declared.refusal.Refusal.TheVariants as refusal
 use Rattle.friday_app.specs.Call.{Names}
 use Rattle.friday_app.specs.Command.{Command, Record, Replay}
+use Rattle.call_log.specs.Head.{Head}
 use Rattle.call_log.specs.Log.{stops_at_unbuilt}
 use Rattle.guest_process.specs.Replay.{Verdict, Whole, Left, Diverged, accepted, verdict}
 use Rattle.guest_process.specs.State.{State}
-use Rattle.friday_app.specs.Report.{last_state}
 use Rattle.friday_app.specs.Expected.{module_name, modules_of, schedule_in}
+use Rattle.friday_app.specs.Report.{events_of, last_state}
+use Rattle.friday_app.specs.Tally.{tally}
 use Rattle.friday_app.specs.Outcome.{Outcome, Work}
 
 abbrev pub meaning : Words → Command
@@ -34,11 +36,12 @@ verdict_of judged.Whole = Whole
 verdict_of (judged.Left bytes) = Left bytes
 verdict_of (judged.Diverged at why) = Diverged at why
 
--- a log that was replayed from this state
-pub record Replays (S : State) (es : List Entry) (rest : List ℕ) (replayed : Replayed) : Type 0 where
+-- a log with this head that was replayed from this state
+pub record Replays (head : Head) (S : State) (es : List Entry) (rest : List ℕ) (replayed : Replayed) : Type 0 where
   pub accepted : replayed.accepted ≡ accepted S es
   pub end : replayed.end ≡ (last_state S es).end
   pub verdict : verdict_of replayed.verdict ≡ verdict S es rest
+  pub counts : replayed.counts ≡ tally head.count (events_of S head es)
 
 -- what is printed at the end of this work
 abbrev pub IsWork : Answer → Work → Type 0

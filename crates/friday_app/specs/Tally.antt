@@ -1,9 +1,10 @@
 -- What the accepted events of a group's logs say of datagrams.
-use Rattle.std.specs.Prelude.{ℕ, Bool, true, false, not, ◌&&◌, ◌==◌, is_some, List, [], ◌∷◌, length, filter, map, Option, Some, None}
+use Rattle.std.specs.Prelude.{ℕ, Bool, false, not, ◌&&◌, ◌==◌, is_some, List, length, filter, map, Option, Some, None}
 use Rattle.std.specs.List.{list_any}
 use Rattle.lamport_tag.specs.declared.Tag.{Tag}
 use Rattle.lib_calls.specs.declared.entry.Entry.{Entry}
 use Rattle.lib_calls.specs.Traffic.{is_sent, is_taken}
+use Rattle.friday_app.specs.declared.tally.GroupCounts.{GroupCounts}
 
 -- an accepted event: the number of its process, and its entry
 pub record Accepted : Type 0 where
@@ -37,14 +38,8 @@ is_unmatched_by count events p (Some tag) = not (list_any (is_send_of count p ta
 abbrev pub is_unmatched : ℕ → List Accepted → Accepted → Bool
 is_unmatched count events a = receives a && is_unmatched_by count events a.process a.entry.tag
 
-pub record Tally : Type 0 where
-  pub sends : ℕ
-  pub receives : ℕ
-  pub unmatched : ℕ
-  pub untagged : ℕ
-
 -- the counts over the accepted events of the logs of a group of `count`
-abbrev pub tally : ℕ → List Accepted → Tally
+abbrev pub tally : ℕ → List Accepted → GroupCounts
 tally count events = record {
   sends = count_of (sends count) events;
   receives = count_of receives events;

@@ -13,6 +13,7 @@ mod report;
 mod settle;
 mod status;
 mod summary;
+mod tally;
 mod texts;
 mod top;
 

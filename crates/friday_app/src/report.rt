@@ -4,12 +4,13 @@ ghost use Rattle.fri_outside.specs.Outside.{Counts};
 ghost use Rattle.call_log.specs.Log.{rest_of, stops_at_unbuilt};
 ghost use Rattle.guest_process.specs.EventCount.{IsFresh};
 ghost use Rattle.friday_app.specs.Call.{Raises};
-ghost use Rattle.friday_app.specs.Report.{printed, replay_work, verdict_text, line_text};
+ghost use Rattle.friday_app.specs.Report.{count_text, group_text, line_text, printed, replay_work, verdict_text};
 ghost use Rattle.friday_app.specs.Seen.{IsUnbuilt, IsWork, verdict_of};
 
 use crate::inputs::read_on;
 use crate::refusal::{Answer, Refusal};
 use crate::replayer::{Replayed, Verdict, replay_log};
+use crate::tally::GroupCounts;
 use crate::texts::{divergence_text, push_end};
 use call_log::LogView;
 use fri_text::Text;
@@ -49,13 +50,33 @@ fn push_line(text: &mut Text, name: &[u8], replayed: Replayed) -> Result<(), All
     Ok(())
 }
 
+// A number, and what it is that is so many.
+fn push_count(text: &mut Text, number: u64, what: &str) -> Result<(), AllocError>
+    ensures { OnOk result (text.new ≡ text.old ++ count_text number what.now) }
+{
+    text.push_u64(number)?;
+    text.push_str(what)?;
+    Ok(())
+}
+
+fn push_counts(text: &mut Text, counts: GroupCounts) -> Result<(), AllocError>
+    ensures { OnOk result (text.new ≡ text.old ++ group_text counts) }
+{
+    text.push_str("group: ")?;
+    push_count(text, counts.sends, " sends, ")?;
+    push_count(text, counts.receives, " receives, ")?;
+    push_count(text, counts.unmatched, " unmatched, ")?;
+    push_count(text, counts.untagged, " untagged\n")?;
+    Ok(())
+}
+
 // What is printed of a log that was replayed.
 fn print(alloc: Global, name: &[u8], replayed: Replayed) -> Result<Answer, AllocError>
-    ensures { IfOk result (λ answer. IsWork answer (printed name.now replayed.accepted replayed.end (verdict_of replayed.verdict))) }
+    ensures { IfOk result (λ answer. IsWork answer (printed name.now replayed.accepted replayed.end (verdict_of replayed.verdict) replayed.counts)) }
 {
     let mut text = Text::new(alloc);
     push_line(&mut text, name, replayed)?;
-    text.push_str("group: 0 sends, 0 receives, 0 unmatched, 0 untagged\n")?;
+    push_counts(&mut text, replayed.counts)?;
     Ok(match replayed.verdict {
         Verdict::Diverged(..) => Answer::Diverged(text),
         _ => Answer::Done(text),
@@ -76,7 +97,7 @@ pub fn report(
     ensures cause { (old new : Counts) → IfErr result (Raises old new) }
 {
     let head = log.head();
-    let (replayed, behind) = replay_log(begun, log)?;
+    let (replayed, behind) = replay_log(alloc, begun, log)?;
     read_on(alloc, log_file, behind)?;
     let answer = print(alloc, head.name, replayed)?;
     Ok(answer)

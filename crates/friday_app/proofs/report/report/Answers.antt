@@ -1,15 +1,17 @@
 use Rattle.std.proofs.lemmas.Result.{err_from_is_err_and}
-use Rattle.std.proofs.Common.{◌≡◌, List, ℕ, false, subst}
+use Rattle.std.proofs.Common.{◌≡◌, List, ℕ, false, subst, sym}
 use Rattle.call_log.specs.Head.{Head, head_of}
-use Rattle.call_log.specs.Log.{stops_at_unbuilt}
+use Rattle.call_log.specs.Log.{entries_of, rest_of, stops_at_unbuilt}
 use Rattle.friday_app.specs.Report.{replay_work}
-use Rattle.friday_app.specs.Seen.{IsUnbuilt, IsWork}
+use Rattle.friday_app.specs.Seen.{IsUnbuilt, IsWork, Replays}
 use Rattle.friday_app.proofs.Folding.{work_so}
 use Rattle.friday_app.proofs.report.report.Goals as goal
 
 pub returns-clause-answer : goal.returns-clause-answer
 returns-clause-answer c =
-    let work = work_so c.in_ok-answer.answer c.args.begun (head_of c.head-head.result) c.args.log.left c.in_ok-replayed.replayed c.in_ok-replayed.ensures.replays c.in_ok-answer.ensures in (
+    let replays =
+    subst (λ (h : Head). Replays h c.args.begun (entries_of c.args.log.left) (rest_of c.args.log.left) c.in_ok-replayed.replayed) (sym c.head-head.ensures) c.in_ok-replayed.ensures.replays in
+    let work = work_so c.in_ok-answer.answer c.args.begun (head_of c.head-head.result) c.args.log.left c.in_ok-replayed.replayed replays c.in_ok-answer.ensures in (
       subst (λ (rest : List ℕ). stops_at_unbuilt rest ≡ false) c.in_ok-replayed.ensures.rest c.in_ok-read_on.ensures.answer,
       subst (λ (h : Head). IsWork c.in_ok-answer.answer (replay_work c.args.begun h c.args.log.left)) c.head-head.ensures work,
     )
