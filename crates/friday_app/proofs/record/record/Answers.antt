@@ -20,6 +20,11 @@ returns-in_err-inputs-clause-others g c = same_others _ _ _ c.gather.ensures.sam
 pub returns-in_err-inputs-clause-moment : goal.returns-in_err-inputs-clause-moment
 returns-in_err-inputs-clause-moment g c = moment_before c.recordings_agree.ensures (g.F.Files.told c.args.files.now) (g.F.Files.told c.gather.new.files) c.args.schedule_file.now c.gather.ensures.same
 
+pub returns-in_err-inputs-clause-recorded : goal.returns-in_err-inputs-clause-recorded
+returns-in_err-inputs-clause-recorded g c = λ end.
+    recording_left c.keeps_files.ensures c.exact_outcome.ensures.schedules c.recordings_agree.ensures (g.F.Files.told c.args.files.now) (g.F.Files.told c.gather.new.files) c.args.schedule_file.now c.from_residual.result
+    (returns-in_err-inputs-clause-makes g c) end
+
 pub returns-clause-makes : goal.returns-clause-makes
 returns-clause-makes g c =
     (group_makes (g.F.Files.told c.args.files.now) (g.F.Files.told c.gather.new.files) (g.F.Files.told c.record_group.new.files) c.args.schedule_file.now c.in_ok-inputs.inputs.schedule (map shown c.deref.result.now) c.record_group.result (λ store told. subst (λ (ms : List _). Gathers store c.args.schedule_file.now c.in_ok-inputs.inputs.schedule (map shown ms)) (sym c.deref.ensures.value) (c.in_ok-inputs.ensures.answer store told)) c.gather.ensures.same c.record_group.ensures.makes)
