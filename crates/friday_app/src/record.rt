@@ -100,6 +100,8 @@ fn record_group<F: Files>(
     }
 }
 
+/// Runs the group of a schedule file, of the modules that it names, and makes the log of each process. At a
+/// fault, and where a log is full, the logs stay as they stand.
 pub fn record<F: Files>(
     alloc: Global,
     schedule_file: &str,
