@@ -1,16 +1,22 @@
 -- How a call is answered: what process and call determine, and what the world gives.
-use Rattle.std.specs.Prelude.{ℕ, int_le, ◌==◌, ◌&&◌, ◌||◌, ◌%◌, ◌^◌, not, is_some, if◌then◌else◌, List, [], ◌∷◌, length, Option, Some, None, Bool, true, false}
+use Rattle.std.specs.Prelude.{ℕ, int_le, ◌==◌, ◌&&◌, ◌||◌, ◌%◌, ◌^◌, not, is_some, if◌then◌else◌, List, [], ◌∷◌, length, slice_get, Option, Some, None, Bool, true, false}
 use Rattle.std.specs.Int.{w32, w64, cast_signed}
 use Rattle.call_table.specs.declared.kind.Kind.{Kind}
-use Rattle.call_table.specs.declared.kind.Kind.TheVariants.{Begin, Exit, Note, Print, Now, SleepUntil, Random, Me, Send, Recv, TryRecv, Yield, Thread}
+use Rattle.call_table.specs.declared.kind.Kind.TheVariants.{Begin, Exit, Note, Print, Now, SleepUntil, Random, Me, Send, Recv, TryRecv, Yield, Join, Lock, Unlock, Thread}
+use Rattle.coop_threads.specs.Crew.{holder_of, status_of}
+use Rattle.coop_threads.specs.Locks.{grip_of}
+use Rattle.coop_threads.specs.declared.grip.Grip.{Grip}
+use Rattle.coop_threads.specs.declared.grip.Grip.TheVariants.{Got, Already, Held}
 use Rattle.coop_threads.specs.declared.slot.Slot.TheVariants.{Over}
+use Rattle.coop_threads.specs.declared.status.Status.{Status}
+use Rattle.coop_threads.specs.declared.status.Status.TheVariants.{Unknown, Live, Taken, Ended}
 use Rattle.lamport_tag.specs.declared.Tag.{Tag}
 use Rattle.lamport_tag.specs.Tag.{is_sendable, tag_at}
 use Rattle.lib_calls.specs.declared.entry.Call.{Call}
 use Rattle.lib_calls.specs.Answer.{Answer}
 use Rattle.lib_calls.specs.Effects.{is_good, minus_one, minus_two, takes_counted, written as memory_with}
 use Rattle.guest_process.specs.declared.end.End.TheVariants.{Exited}
-use Rattle.guest_process.specs.State.{State, with_memory, with_thread}
+use Rattle.guest_process.specs.State.{State, with_lock, with_memory, with_thread, without_lock}
 
 -- a reply alone
 abbrev pub replies : ℕ → Answer
@@ -35,6 +41,41 @@ replied S c reply = Fixed (if is_good c S.store.memory then reply else minus_one
 abbrev pub asked : State → Call → Need
 asked S c = if is_good c S.store.memory then World else Fixed minus_one S
 
+-- ---- threads and locks
+
+-- an argument of 32 bits
+abbrev pub narrow : ℕ → ℕ
+narrow bits = bits % 2 ^ 32
+
+-- a thread that joins one which stands so
+abbrev pub joins : State → Status → Need
+joins S Unknown = Fixed minus_one S
+joins S Live = Blocked
+joins S Taken = Blocked
+joins S Ended = Fixed 0 S
+
+-- thread t joins thread u
+abbrev pub joined : State → ℕ → ℕ → Need
+joined S t u = if u == t then Fixed minus_one S else joins S (status_of (slice_get S.crew.threads u))
+
+-- thread t asks for the lock m, and this is what it finds
+abbrev pub locks : State → ℕ → ℕ → Grip → Need
+locks S m t Got = Fixed 0 (with_lock S m t)
+locks S m t Already = Fixed minus_one S
+locks S m t (Held holder) = Blocked
+
+abbrev pub locked : State → ℕ → ℕ → Need
+locked S m t = locks S m t (grip_of (holder_of S.crew m) t)
+
+-- thread t is this holder of a lock
+abbrev pub is_holder : Option ℕ → ℕ → Bool
+is_holder None t = false
+is_holder (Some holder) t = holder == t
+
+-- thread t gives the lock m back
+abbrev pub unlocked : State → ℕ → ℕ → Need
+unlocked S m t = if is_holder (holder_of S.crew m) t then Fixed 0 (without_lock S m) else Fixed minus_one S
+
 -- what process and call determine; a call that is not answered yet is never answered
 abbrev pub need : Kind → State → ℕ → Call → Need
 need Begin S t c = Fixed 0 S
@@ -49,6 +90,9 @@ need Send S t c = replied S c c.a2
 need Recv S t c = asked S c
 need TryRecv S t c = asked S c
 need Yield S t c = Fixed 0 S
+need Join S t c = joined S t (narrow c.a0)
+need Lock S t c = locked S (narrow c.a0) t
+need Unlock S t c = unlocked S (narrow c.a0) t
 need Thread S t c = Fixed t S
 need _ S t c = Blocked
 
@@ -96,6 +140,12 @@ abbrev pub after_need : Need → State → State
 after_need (Fixed reply S) S' = S
 after_need Blocked S' = S'
 after_need World S' = S'
+
+-- the state after an answer, but for the end of a thread that calls `exit`
+abbrev pub acted : Option Kind → State → ℕ → Call → Answer → State
+acted (Some Lock) S t c a = after_need (locked S (narrow c.a0) t) S
+acted (Some Unlock) S t c a = after_need (unlocked S (narrow c.a0) t) S
+acted _ S t c a = written S c a
 
 -- the state with the effects of an answer
 abbrev pub effects : Kind → State → ℕ → Call → Answer → State

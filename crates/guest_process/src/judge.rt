@@ -11,6 +11,7 @@ use crate::answer::{handler, is_due};
 use crate::divergence::Divergence;
 use crate::need::Need;
 use crate::parts::Parts;
+use crate::threads::narrow;
 use crate::waiting::Waiting;
 use crate::world::{is_drawn, is_empty, is_plain, is_taken};
 use lamport_tag::is_next_clock;
@@ -29,6 +30,9 @@ impl<'m> Parts<'m> {
             Kind::Random | Kind::Recv | Kind::TryRecv => self.asked(&waiting.call),
             Kind::Send => self.replied(&waiting.call, waiting.call.a2),
             Kind::Me => Need::Fixed(u64::from(self.who)),
+            Kind::Join => self.joined(t, narrow(waiting.call.a0)),
+            Kind::Lock => self.locked(narrow(waiting.call.a0), t),
+            Kind::Unlock => self.unlocked(narrow(waiting.call.a0), t),
             Kind::Thread => Need::Fixed(u64::from(t)),
             _ => Need::Blocked,
         }

@@ -13,6 +13,7 @@ mod laws;
 mod need;
 mod parts;
 mod process;
+mod threads;
 mod waiting;
 mod world;
 
@@ -20,6 +21,6 @@ pub use answer::is_due;
 pub use count::counting;
 pub use divergence::Divergence;
 pub use end::End;
-pub use laws::{kept, one_event, others_stay, possible, rises};
+pub use laws::{kept, lock_kept, one_event, others_stay, possible, rises};
 pub use need::Need;
 pub use process::Process;

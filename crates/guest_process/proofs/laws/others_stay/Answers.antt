@@ -1,4 +1,4 @@
-use Rattle.guest_process.proofs.KeptFits.{others_kept}
+use Rattle.guest_process.proofs.CrewLaws.{others_kept}
 use Rattle.guest_process.proofs.laws.others_stay.Goals as goal
 
 pub returns : goal.returns

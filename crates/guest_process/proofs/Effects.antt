@@ -1,0 +1,88 @@
+-- What the answers to calls do, kind by kind.
+use Rattle.std.proofs.Common.{◌≡◌, ℕ, Bool, true, false, cond, Option, Some, None, refl, ap, ◌∙◌}
+use Rattle.std.specs.Prelude.{◌==◌, slice_get}
+use Rattle.std.proofs.lemmas.Bool.{eqb-true}
+use Rattle.call_table.specs.declared.kind.Kind.{Kind}
+use Rattle.call_table.specs.declared.kind.Kind.TheVariants.{Begin, Exit, Note, Print, Random, Me, Send, Recv, TryRecv, Yield, Join, Lock, Unlock, Thread}
+use Rattle.coop_threads.specs.Crew.{holder_of, status_of}
+use Rattle.coop_threads.specs.Locks.{grip_of}
+use Rattle.coop_threads.specs.declared.grip.Grip.TheVariants.{Already, Held}
+use Rattle.coop_threads.specs.declared.status.Status.{Status}
+use Rattle.coop_threads.specs.declared.status.Status.TheVariants.{Unknown, Live, Taken, Ended}
+use Rattle.lib_calls.specs.Answer.{Answer}
+use Rattle.lib_calls.specs.Effects.{is_good, minus_one}
+use Rattle.lib_calls.specs.declared.entry.Call.{Call}
+use Rattle.guest_process.specs.Answers.{Fixed, World, acted, after_need, asked, effects, exited, is_holder, joined, joins, locked, locks, narrow, unlocked, written}
+use Rattle.guest_process.specs.State.{State, with_lock, without_lock}
+
+-- what holds with bad arguments and what holds where the world answers holds after a call that asks the world
+pub asked_has : (Q : State → Type 0) (S : State) (c : Call) (S' : State) → Q S → Q S' → Q (after_need (asked S c) S')
+asked_has Q S c S' bad good = by_test (is_good c S.store.memory)
+  where
+    by_test : (b : Bool) → Q (after_need (cond b World (Fixed minus_one S)) S')
+    by_test true = good
+    by_test false = bad
+
+joined_has : (Q : State → Type 0) (S : State) (t u : ℕ) (S' : State) → Q S → Q S' → Q (after_need (joined S t u) S')
+joined_has Q S t u S' same other = by_test (u == t)
+  where
+    by_status : (status : Status) → Q (after_need (joins S status) S')
+    by_status Unknown = same
+    by_status Live = other
+    by_status Taken = other
+    by_status Ended = same
+
+    by_test : (b : Bool) → Q (after_need (cond b (Fixed minus_one S) (joins S (status_of (slice_get S.crew.threads u)))) S')
+    by_test true = same
+    by_test false = by_status (status_of (slice_get S.crew.threads u))
+
+locked_has : (Q : State → Type 0) (S : State) (m t : ℕ) (S' : State) → Q S → Q S' → (holder_of S.crew m ≡ None → Q (with_lock S m t)) → Q (after_need (locked S m t) S')
+locked_has Q S m t S' same other taken = by_holder (holder_of S.crew m) refl
+  where
+    by_test : (holder : ℕ) (b : Bool) → Q (after_need (locks S m t (cond b Already (Held holder))) S')
+    by_test holder true = same
+    by_test holder false = other
+
+    by_holder : (o : Option ℕ) → holder_of S.crew m ≡ o → Q (after_need (locks S m t (grip_of o t)) S')
+    by_holder None free = taken free
+    by_holder (Some holder) held = by_test holder (holder == t)
+
+unlocked_has : (Q : State → Type 0) (S : State) (m t : ℕ) (S' : State) → Q S → (holder_of S.crew m ≡ Some t → Q (without_lock S m)) → Q (after_need (unlocked S m t) S')
+unlocked_has Q S m t S' same freed = by_holder (holder_of S.crew m) refl
+  where
+    by_test : (holder : ℕ) (b : Bool) → (holder == t) ≡ b → holder_of S.crew m ≡ Some holder → Q (after_need (cond b (Fixed 0 (without_lock S m)) (Fixed minus_one S)) S')
+    by_test holder true test held = freed (held ∙ ap Some (eqb-true holder t test))
+    by_test holder false test held = same
+
+    by_holder : (o : Option ℕ) → holder_of S.crew m ≡ o → Q (after_need (cond (is_holder o t) (Fixed 0 (without_lock S m)) (Fixed minus_one S)) S')
+    by_holder None free = same
+    by_holder (Some holder) held = by_test holder (holder == t) refl held
+
+-- what is to hold after the answers that change more than the memory
+pub record Cases (Q : State → Type 0) (k : Kind) (S : State) (t : ℕ) (c : Call) : Type 0 where
+  pub locks : k ≡ Lock → holder_of S.crew (narrow c.a0) ≡ None → Q (with_lock S (narrow c.a0) t)
+  pub unlocks : k ≡ Unlock → holder_of S.crew (narrow c.a0) ≡ Some t → Q (without_lock S (narrow c.a0))
+
+-- holds after each answer
+pub effects_has : (Q : State → Type 0) (k : Kind) (S : State) (t : ℕ) (c : Call) (a : Answer) → Cases Q k S t c → Q S → Q (written S c a) → (k ≡ Exit → Q (exited S t c.a0)) → Q (effects k S t c a)
+effects_has Q Exit S t c a cases same writes exits = exits refl
+effects_has Q Random S t c a cases same writes exits = asked_has Q S c (written S c a) same writes
+effects_has Q Recv S t c a cases same writes exits = asked_has Q S c (written S c a) same writes
+effects_has Q TryRecv S t c a cases same writes exits = asked_has Q S c (written S c a) same writes
+effects_has Q Join S t c a cases same writes exits = joined_has Q S t (narrow c.a0) (written S c a) same writes
+effects_has Q Lock S t c a cases same writes exits = locked_has Q S (narrow c.a0) t (written S c a) same writes (cases.locks refl)
+effects_has Q Unlock S t c a cases same writes exits = unlocked_has Q S (narrow c.a0) t (written S c a) same (cases.unlocks refl)
+effects_has Q Begin S t c a cases same writes exits = same
+effects_has Q Note S t c a cases same writes exits = same
+effects_has Q Print S t c a cases same writes exits = same
+effects_has Q Me S t c a cases same writes exits = same
+effects_has Q Send S t c a cases same writes exits = same
+effects_has Q Yield S t c a cases same writes exits = same
+effects_has Q Thread S t c a cases same writes exits = same
+effects_has Q _ S t c a cases same writes exits = writes
+
+-- and but for the end of the thread
+pub acted_has : (Q : State → Type 0) (o : Option Kind) (S : State) (t : ℕ) (c : Call) (a : Answer) → ((k : Kind) → Cases Q k S t c) → Q S → Q (written S c a) → Q (acted o S t c a)
+acted_has Q (Some Lock) S t c a cases same writes = locked_has Q S (narrow c.a0) t S same same ((cases Lock).locks refl)
+acted_has Q (Some Unlock) S t c a cases same writes = unlocked_has Q S (narrow c.a0) t S same ((cases Unlock).unlocks refl)
+acted_has Q _ S t c a cases same writes = writes
