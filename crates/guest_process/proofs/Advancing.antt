@@ -26,7 +26,7 @@ use Rattle.call_table.specs.declared.kind.Kind.TheVariants.{Exit}
 use Rattle.guest_process.specs.declared.parts.Parts.{Parts}
 use Rattle.guest_process.specs.declared.waiting.Waiting.{Waiting}
 use Rattle.lib_calls.specs.Answer.{Answer, answer_of}
-use Rattle.guest_process.specs.Answers.{acted, effects, exited}
+use Rattle.guest_process.specs.Answers.{acted, effects, exited, narrow}
 use Rattle.guest_process.specs.Fits.{Each, StateFits, live_has}
 use Rattle.guest_process.specs.GoesOn.{budget, called, counted, entered, goes_on, handler, runs, settled, stands, stopped}
 use Rattle.guest_process.specs.Kinds.{ends_process, value_of}
@@ -36,11 +36,12 @@ use Rattle.guest_process.specs.Seen.{IsProcess, state_of}
 use Rattle.guest_process.specs.Sound.{IsSound, IsStanding}
 use Rattle.guest_process.specs.State.{State, is_running, kind_at as kind_of, thread_at, with_thread}
 use Rattle.guest_process.proofs.KeptFits.{state_kept}
-use Rattle.guest_process.proofs.KeptSound.{AreHandlers, next_program, sound_kept}
+use Rattle.guest_process.proofs.KeptSound.{next_program, sound_kept}
 use Rattle.guest_process.proofs.Failing.{unless_none}
 use Rattle.guest_process.proofs.Legality.{call_told, fits_at, legal_at}
 use Rattle.guest_process.proofs.Written.{effects_acted, exit_written}
 use Rattle.guest_process.proofs.Effects.{acted_has}
+use Rattle.guest_process.proofs.Signalled.{AreHandlers, given_is, set_sound}
 
 pub none_taken : (P : Waiting → Type 0) (slots : List (Slot Waiting)) (t : ℕ) → Each P slots → status_of (slice_get slots t) ≡ Taken → ⊥
 none_taken P [] t f h = cc
@@ -121,7 +122,7 @@ runs_by k S t strand reply signal clock h =
 -- the thread stands as it stood
 same_thread : (o : Option Kind) (S : State) (t : ℕ) (c : Call) (a : Answer) (w : Waiting) → thread_at S t ≡ Some w → thread_at (acted o S t c a) t ≡ Some w
 same_thread o S t c a w at =
-    acted_has (λ S'. thread_at S' t ≡ Some w) o S t c a (λ k. record { locks = λ e free. at; unlocks = λ e held. at }) at at
+    acted_has (λ S'. thread_at S' t ≡ Some w) o S t c a (λ k. record { locks = λ e free. at; unlocks = λ e held. at; handles = λ e h given. at }) at at
 
 pub taken_is : (S : State) (e : Entry) (o : Option Kind) (w : Waiting) → reason S e ≡ None → thread_at (acted o S e.thread e.call (answer_of e)) e.thread ≡ Some w → thread_at S e.thread ≡ Some w
 taken_is S e o w legal after = by_thread (thread_at S e.thread) refl
@@ -132,15 +133,20 @@ taken_is S e o w legal after = by_thread (thread_at S e.thread) refl
 
 pub acted_program : (S : State) (e : Entry) (o : Option Kind) → (acted o S e.thread e.call (answer_of e)).store.program ≡ S.store.program
 acted_program S e o =
-    acted_has (λ S'. S'.store.program ≡ S.store.program) o S e.thread e.call (answer_of e) (λ k. record { locks = λ h free. refl; unlocks = λ h held. refl }) refl refl
+    acted_has (λ S'. S'.store.program ≡ S.store.program) o S e.thread e.call (answer_of e) (λ k. record { locks = λ h free. refl; unlocks = λ h held. refl; handles = λ e h given. refl }) refl refl
 
 pub acted_events : (S : State) (e : Entry) (o : Option Kind) → (acted o S e.thread e.call (answer_of e)).events ≡ S.events
 acted_events S e o =
-    acted_has (λ S'. S'.events ≡ S.events) o S e.thread e.call (answer_of e) (λ k. record { locks = λ h free. refl; unlocks = λ h held. refl }) refl refl
+    acted_has (λ S'. S'.events ≡ S.events) o S e.thread e.call (answer_of e) (λ k. record { locks = λ h free. refl; unlocks = λ h held. refl; handles = λ e h given. refl }) refl refl
 
 pub acted_handlers : (S : State) (e : Entry) (o : Option Kind) → AreHandlers S.store.program S.handlers → AreHandlers S.store.program (acted o S e.thread e.call (answer_of e)).handlers
 acted_handlers S e o sound =
-    acted_has (λ S'. AreHandlers S.store.program S'.handlers) o S e.thread e.call (answer_of e) (λ k. record { locks = λ h free. sound; unlocks = λ h held. sound }) sound sound
+    acted_has (λ S'. AreHandlers S.store.program S'.handlers) o S e.thread e.call (answer_of e) (λ k. record {
+      locks = λ h free. sound;
+      unlocks = λ h held. sound;
+      handles = λ h set given. set_sound S.store.program S.handlers (narrow e.call.a0) set (λ f is. given_is S (narrow e.call.a0) (narrow e.call.a1) f (given ∙ ap Some is)) sound;
+    })
+    sound sound
 
 -- the event of a thread that calls `exit`
 pub exits : (S : State) (e : Entry) (w : Waiting) → StateFits S → reason S e ≡ None → thread_at S e.thread ≡ Some w → ends_process w.kind ≡ true

@@ -142,6 +142,7 @@ module _ (P : Waiting → Type 0) where
       (record {
         locks = λ e free. record { who = refl; count = refl; program = refl; room = λ few. few; threads = f; clock = refl; events = refl };
         unlocks = λ e held. record { who = refl; count = refl; program = refl; room = λ few. few; threads = f; clock = refl; events = refl };
+        handles = λ e h given. record { who = refl; count = refl; program = refl; room = λ few. few; threads = f; clock = refl; events = refl };
       })
       (affects_none S f)
       (record { who = refl; count = refl; program = refl; room = λ few. few; threads = f; clock = refl; events = refl })

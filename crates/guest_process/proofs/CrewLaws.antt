@@ -38,7 +38,7 @@ goes keeps S e s w =
 answer_others : (S : State) (e : Entry) (w : Waiting) (u : ℕ) → u ≢ e.thread → u < length S.crew.threads → slice_get (effects w.kind S e.thread w.call (answer_of e)).crew.threads u ≡ slice_get S.crew.threads u
 answer_others S e w u other low =
     effects_has (λ S'. slice_get S'.crew.threads u ≡ slice_get S.crew.threads u) w.kind S e.thread w.call (answer_of e)
-    (record { locks = λ k free. refl; unlocks = λ k held. refl })
+    (record { locks = λ k free. refl; unlocks = λ k held. refl; handles = λ k h given. refl })
     refl refl (λ k. set_other S.crew.threads e.thread u Over other)
 
 others_at : KeepsProgram → (S : State) (e : Entry) → StateFits S → (o : Option Waiting) → reason_at S e o ≡ None → (u : ℕ) → u ≢ e.thread → u < length S.crew.threads → slice_get (next_at S e o).crew.threads u ≡ slice_get S.crew.threads u
@@ -117,6 +117,7 @@ lock_at keeps S e s (Some w) at h m =
     (record {
       locks = λ k free. lock_taken S e w m (kind ∙ ap Some k) call free;
       unlocks = λ k held. lock_freed S e w m (kind ∙ ap Some k) call held;
+      handles = λ k h given. Same refl;
     })
     (Same refl) (Same refl) (λ k. Same refl))
 

@@ -19,9 +19,9 @@ use Rattle.lib_calls.specs.Effects.{is_good, minus_one, minus_two, received, tak
 use Rattle.lib_calls.specs.Entry.{HasArguments, IsNumberIf, IsStringIf, IsTagIf}
 use Rattle.call_table.specs.Table.{kind_numbered, row}
 use Rattle.call_table.specs.declared.kind.Kind.{Kind}
-use Rattle.call_table.specs.declared.kind.Kind.TheVariants.{Begin, Exit, Note, Print, Now, SleepUntil, Random, Me, Send, Recv, TryRecv, Yield, Join, Lock, Unlock, Thread}
+use Rattle.call_table.specs.declared.kind.Kind.TheVariants.{Begin, Exit, Note, Print, Now, SleepUntil, Random, Me, Send, Recv, TryRecv, Yield, Join, Lock, Unlock, OnSignal, Thread}
 use Rattle.lib_calls.specs.Answer.{Answer}
-use Rattle.guest_process.specs.Answers.{Need, Fixed, Blocked, World, asked, need, is_empty, is_holder, is_payload, is_possible, is_due, is_plain, is_taken, joined, joins, locked, locks, narrow, replied, unlocked, written}
+use Rattle.guest_process.specs.Answers.{Need, Fixed, Blocked, World, asked, need, handled, handler_given, handles, is_empty, is_holder, is_payload, is_possible, is_due, is_plain, is_taken, joined, joins, locked, locks, narrow, replied, unlocked, written}
 use Rattle.guest_process.specs.Fits.{EnvFits, StateFits}
 use Rattle.guest_process.specs.Legal.{answers}
 use Rattle.guest_process.specs.Live.{Env, Answered, cut, drawn, fills, first_taken, from_world, or_empty, takes}
@@ -91,6 +91,13 @@ unlocked_fits S m t = by_test (is_holder (holder_of S.crew m) t)
     by_test true = omega arith
     by_test false = omega arith
 
+handled_fits : (S : State) (signal number : ℕ) → ReplyFits (handled S signal number)
+handled_fits S signal number = by_given (handler_given S signal number)
+  where
+    by_given : (o : Option (Option ℕ)) → ReplyFits (handles S signal o)
+    by_given None = omega arith
+    by_given (Some h) = omega arith
+
 pub reply_fits : (k : Kind) (S : State) (t : ℕ) (c : Call) → StateFits S → t < 64 → HasArguments c → ReplyFits (need k S t c)
 reply_fits Begin S t c s low args = omega arith
 reply_fits Exit S t c s low args = omega arith
@@ -107,6 +114,7 @@ reply_fits Yield S t c s low args = omega arith
 reply_fits Join S t c s low args = joined_fits S t (narrow c.a0)
 reply_fits Lock S t c s low args = locked_fits S (narrow c.a0) t
 reply_fits Unlock S t c s low args = unlocked_fits S (narrow c.a0) t
+reply_fits OnSignal S t c s low args = handled_fits S (narrow c.a0) (narrow c.a1)
 reply_fits Thread S t c s low args = omega arith
 reply_fits _ S t c s low args = tt
 

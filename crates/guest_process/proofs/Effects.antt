@@ -3,7 +3,7 @@ use Rattle.std.proofs.Common.{◌≡◌, ℕ, Bool, true, false, cond, Option, S
 use Rattle.std.specs.Prelude.{◌==◌, slice_get}
 use Rattle.std.proofs.lemmas.Bool.{eqb-true}
 use Rattle.call_table.specs.declared.kind.Kind.{Kind}
-use Rattle.call_table.specs.declared.kind.Kind.TheVariants.{Begin, Exit, Note, Print, Random, Me, Send, Recv, TryRecv, Yield, Join, Lock, Unlock, Thread}
+use Rattle.call_table.specs.declared.kind.Kind.TheVariants.{Begin, Exit, Note, Print, Random, Me, Send, Recv, TryRecv, Yield, Join, Lock, Unlock, OnSignal, Thread}
 use Rattle.coop_threads.specs.Crew.{holder_of, status_of}
 use Rattle.coop_threads.specs.Locks.{grip_of}
 use Rattle.coop_threads.specs.declared.grip.Grip.TheVariants.{Already, Held}
@@ -12,8 +12,9 @@ use Rattle.coop_threads.specs.declared.status.Status.TheVariants.{Unknown, Live,
 use Rattle.lib_calls.specs.Answer.{Answer}
 use Rattle.lib_calls.specs.Effects.{is_good, minus_one}
 use Rattle.lib_calls.specs.declared.entry.Call.{Call}
-use Rattle.guest_process.specs.Answers.{Fixed, World, acted, after_need, asked, effects, exited, is_holder, joined, joins, locked, locks, narrow, unlocked, written}
-use Rattle.guest_process.specs.State.{State, with_lock, without_lock}
+use Rattle.signal_points.specs.Signals.{with_handler}
+use Rattle.guest_process.specs.Answers.{Fixed, World, acted, after_need, asked, effects, exited, handled, handler_given, handles, is_holder, joined, joins, locked, locks, narrow, unlocked, written}
+use Rattle.guest_process.specs.State.{State, with_handlers, with_lock, without_lock}
 
 -- what holds with bad arguments and what holds where the world answers holds after a call that asks the world
 pub asked_has : (Q : State → Type 0) (S : State) (c : Call) (S' : State) → Q S → Q S' → Q (after_need (asked S c) S')
@@ -58,10 +59,18 @@ unlocked_has Q S m t S' same freed = by_holder (holder_of S.crew m) refl
     by_holder None free = same
     by_holder (Some holder) held = by_test holder (holder == t) refl held
 
+handled_has : (Q : State → Type 0) (S : State) (signal number : ℕ) (S' : State) → Q S → ((h : Option ℕ) → handler_given S signal number ≡ Some h → Q (with_handlers S (with_handler S.handlers signal h))) → Q (after_need (handled S signal number) S')
+handled_has Q S signal number S' same set = by_given (handler_given S signal number) refl
+  where
+    by_given : (o : Option (Option ℕ)) → handler_given S signal number ≡ o → Q (after_need (handles S signal o) S')
+    by_given None given = same
+    by_given (Some h) given = set h given
+
 -- what is to hold after the answers that change more than the memory
 pub record Cases (Q : State → Type 0) (k : Kind) (S : State) (t : ℕ) (c : Call) : Type 0 where
   pub locks : k ≡ Lock → holder_of S.crew (narrow c.a0) ≡ None → Q (with_lock S (narrow c.a0) t)
   pub unlocks : k ≡ Unlock → holder_of S.crew (narrow c.a0) ≡ Some t → Q (without_lock S (narrow c.a0))
+  pub handles : k ≡ OnSignal → (h : Option ℕ) → handler_given S (narrow c.a0) (narrow c.a1) ≡ Some h → Q (with_handlers S (with_handler S.handlers (narrow c.a0) h))
 
 -- holds after each answer
 pub effects_has : (Q : State → Type 0) (k : Kind) (S : State) (t : ℕ) (c : Call) (a : Answer) → Cases Q k S t c → Q S → Q (written S c a) → (k ≡ Exit → Q (exited S t c.a0)) → Q (effects k S t c a)
@@ -72,6 +81,7 @@ effects_has Q TryRecv S t c a cases same writes exits = asked_has Q S c (written
 effects_has Q Join S t c a cases same writes exits = joined_has Q S t (narrow c.a0) (written S c a) same writes
 effects_has Q Lock S t c a cases same writes exits = locked_has Q S (narrow c.a0) t (written S c a) same writes (cases.locks refl)
 effects_has Q Unlock S t c a cases same writes exits = unlocked_has Q S (narrow c.a0) t (written S c a) same (cases.unlocks refl)
+effects_has Q OnSignal S t c a cases same writes exits = handled_has Q S (narrow c.a0) (narrow c.a1) (written S c a) same (cases.handles refl)
 effects_has Q Begin S t c a cases same writes exits = same
 effects_has Q Note S t c a cases same writes exits = same
 effects_has Q Print S t c a cases same writes exits = same
@@ -85,4 +95,5 @@ effects_has Q _ S t c a cases same writes exits = writes
 pub acted_has : (Q : State → Type 0) (o : Option Kind) (S : State) (t : ℕ) (c : Call) (a : Answer) → ((k : Kind) → Cases Q k S t c) → Q S → Q (written S c a) → Q (acted o S t c a)
 acted_has Q (Some Lock) S t c a cases same writes = locked_has Q S (narrow c.a0) t S same same ((cases Lock).locks refl)
 acted_has Q (Some Unlock) S t c a cases same writes = unlocked_has Q S (narrow c.a0) t S same ((cases Unlock).unlocks refl)
+acted_has Q (Some OnSignal) S t c a cases same writes = handled_has Q S (narrow c.a0) (narrow c.a1) S same ((cases OnSignal).handles refl)
 acted_has Q _ S t c a cases same writes = writes

@@ -28,8 +28,3 @@ pub world : (n : Need) (a : Answer) (from_world : Bool) → plain n ≡ plainly.
 world (Fixed r S) a w h = cc
 world Blocked a w h = cc
 world World a w h = refl
-
--- no answer to a call changes a handler
-pub same_handlers : (k : Kind) (S : State) (t : ℕ) (c : Call) (a : Answer) → (effects k S t c a).handlers ≡ S.handlers
-same_handlers k S t c a =
-    effects_has (λ S'. S'.handlers ≡ S.handlers) k S t c a (record { locks = λ e free. refl; unlocks = λ e held. refl }) refl refl (λ e. refl)

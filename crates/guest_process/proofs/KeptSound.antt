@@ -20,7 +20,7 @@ use Rattle.wasm_step.specs.Strand.{IsHandler, IsResult, first_result, library_re
 use Rattle.wasm_step.specs.Thread.{Thread}
 use Rattle.wasm_step.specs.declared.call.CallSite.{CallSite}
 use Rattle.guest_process.specs.declared.waiting.Waiting.{Waiting}
-use Rattle.guest_process.specs.Answers.{effects}
+use Rattle.guest_process.specs.Answers.{effects, narrow}
 use Rattle.guest_process.specs.Fits.{Each}
 use Rattle.guest_process.specs.GoesOn.{handler, stands}
 use Rattle.guest_process.specs.Kinds.{value_of}
@@ -31,6 +31,7 @@ use Rattle.guest_process.specs.Sound.{IsSound, IsStanding, StandsAt}
 use Rattle.guest_process.specs.State.{State, is_running, thread_at}
 use Rattle.guest_process.proofs.Changes.{Stand, affected, event_affects, went_on}
 use Rattle.guest_process.proofs.Effects.{effects_has}
+use Rattle.guest_process.proofs.Signalled.{AreHandlers, given_is, set_sound}
 use Rattle.guest_process.proofs.Failing.{unless_none}
 
 -- a reply is a value of the width of the result
@@ -87,12 +88,15 @@ stand_sound m all S thread site kind e h = record {
   stands = stand_at m (stands S thread site kind) site.func kind all refl (slice_get m.imports site.func) refl h;
 }
 
-abbrev pub AreHandlers : Module → List (Option ℕ) → Type 0
-AreHandlers m handlers = (signal func : ℕ) → handler handlers signal ≡ Some func → IsHandler m func
-
 pub handlers_sound : (k : Kind) (S : State) (t : ℕ) (c : Call) (a : Answer) → AreHandlers S.store.program S.handlers → AreHandlers S.store.program (effects k S t c a).handlers
 handlers_sound k S t c a sound =
-    effects_has (λ S'. AreHandlers S.store.program S'.handlers) k S t c a (record { locks = λ e free. sound; unlocks = λ e held. sound }) sound sound (λ e. sound)
+    effects_has (λ S'. AreHandlers S.store.program S'.handlers) k S t c a
+    (record {
+      locks = λ e free. sound;
+      unlocks = λ e held. sound;
+      handles = λ e h given. set_sound S.store.program S.handlers (narrow c.a0) h (λ f is. given_is S (narrow c.a0) (narrow c.a1) f (given ∙ ap Some is)) sound;
+    })
+    sound sound (λ e. sound)
 
 -- what an answer leaves of the handlers is of the program, and so they stay as the thread goes on
 sound_at : KeepsProgram → (S : State) (e : Entry) → IsSound S → (o : Option Waiting) → reason_at S e o ≡ None → IsSound (next_at S e o)

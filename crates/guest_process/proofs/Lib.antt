@@ -1,6 +1,7 @@
 pub mod Failing
 pub mod Crews
 pub mod Effects
+pub mod Signalled
 pub mod Written
 pub mod Legality
 pub mod EachKind

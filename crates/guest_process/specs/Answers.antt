@@ -1,8 +1,8 @@
 -- How a call is answered: what process and call determine, and what the world gives.
-use Rattle.std.specs.Prelude.{ℕ, int_le, ◌==◌, ◌&&◌, ◌||◌, ◌%◌, ◌^◌, not, is_some, if◌then◌else◌, List, [], ◌∷◌, length, slice_get, Option, Some, None, Bool, true, false}
+use Rattle.std.specs.Prelude.{ℕ, int_le, nat_le, ◌==◌, ◌&&◌, ◌||◌, ◌-◌, ◌%◌, ◌^◌, not, is_some, option_map, if◌then◌else◌, List, [], ◌∷◌, length, slice_get, Option, Some, None, Bool, true, false}
 use Rattle.std.specs.Int.{w32, w64, cast_signed}
 use Rattle.call_table.specs.declared.kind.Kind.{Kind}
-use Rattle.call_table.specs.declared.kind.Kind.TheVariants.{Begin, Exit, Note, Print, Now, SleepUntil, Random, Me, Send, Recv, TryRecv, Yield, Join, Lock, Unlock, Thread}
+use Rattle.call_table.specs.declared.kind.Kind.TheVariants.{Begin, Exit, Note, Print, Now, SleepUntil, Random, Me, Send, Recv, TryRecv, Yield, Join, Lock, Unlock, OnSignal, Thread}
 use Rattle.coop_threads.specs.Crew.{holder_of, status_of}
 use Rattle.coop_threads.specs.Locks.{grip_of}
 use Rattle.coop_threads.specs.declared.grip.Grip.{Grip}
@@ -15,8 +15,10 @@ use Rattle.lamport_tag.specs.Tag.{is_sendable, tag_at}
 use Rattle.lib_calls.specs.declared.entry.Call.{Call}
 use Rattle.lib_calls.specs.Answer.{Answer}
 use Rattle.lib_calls.specs.Effects.{is_good, minus_one, minus_two, takes_counted, written as memory_with}
+use Rattle.signal_points.specs.Signals.{with_handler}
+use Rattle.wasm_step.specs.Store.{Store, handler_at}
 use Rattle.guest_process.specs.declared.end.End.TheVariants.{Exited}
-use Rattle.guest_process.specs.State.{State, with_lock, with_memory, with_thread, without_lock}
+use Rattle.guest_process.specs.State.{State, with_handlers, with_lock, with_memory, with_thread, without_lock}
 
 -- a reply alone
 abbrev pub replies : ℕ → Answer
@@ -76,6 +78,32 @@ is_holder (Some holder) t = holder == t
 abbrev pub unlocked : State → ℕ → ℕ → Need
 unlocked S m t = if is_holder (holder_of S.crew m) t then Fixed 0 (without_lock S m) else Fixed minus_one S
 
+-- ---- handlers
+
+-- the number at which no function handles a signal
+abbrev pub removal : ℕ
+removal = 2 ^ 32 - 1
+
+-- what this number names: no handler, or the function at that place of the table, where it is one
+abbrev pub handler_named : Store → ℕ → Option (Option ℕ)
+handler_named store number = if number == removal then Some None else option_map (λ func. Some func) (handler_at store number)
+
+-- signals are numbered from 1 to 31
+abbrev pub is_signal : ℕ → Bool
+is_signal signal = nat_le 1 signal && nat_le signal 31
+
+-- the handler, or none, that a call gives a signal with this number, where there is that signal
+abbrev pub handler_given : State → ℕ → ℕ → Option (Option ℕ)
+handler_given S signal number = if is_signal signal then handler_named S.store number else None
+
+abbrev pub handles : State → ℕ → Option (Option ℕ) → Need
+handles S signal None = Fixed minus_one S
+handles S signal (Some handler) = Fixed 0 (with_handlers S (with_handler S.handlers signal handler))
+
+-- the function that this number names is to handle the signal
+abbrev pub handled : State → ℕ → ℕ → Need
+handled S signal number = handles S signal (handler_given S signal number)
+
 -- what process and call determine; a call that is not answered yet is never answered
 abbrev pub need : Kind → State → ℕ → Call → Need
 need Begin S t c = Fixed 0 S
@@ -93,6 +121,7 @@ need Yield S t c = Fixed 0 S
 need Join S t c = joined S t (narrow c.a0)
 need Lock S t c = locked S (narrow c.a0) t
 need Unlock S t c = unlocked S (narrow c.a0) t
+need OnSignal S t c = handled S (narrow c.a0) (narrow c.a1)
 need Thread S t c = Fixed t S
 need _ S t c = Blocked
 
@@ -145,6 +174,7 @@ after_need World S' = S'
 abbrev pub acted : Option Kind → State → ℕ → Call → Answer → State
 acted (Some Lock) S t c a = after_need (locked S (narrow c.a0) t) S
 acted (Some Unlock) S t c a = after_need (unlocked S (narrow c.a0) t) S
+acted (Some OnSignal) S t c a = after_need (handled S (narrow c.a0) (narrow c.a1)) S
 acted _ S t c a = written S c a
 
 -- the state with the effects of an answer

@@ -66,6 +66,10 @@ impl<'m> Parts<'m> {
                 self.unlock(narrow(entry.call.a0), t);
                 Ok(())
             }
+            Some(Kind::OnSignal) => {
+                self.set_handler(narrow(entry.call.a0), narrow(entry.call.a1));
+                Ok(())
+            }
             _ => self.write(entry),
         }
     }

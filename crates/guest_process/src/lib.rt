@@ -8,6 +8,7 @@ mod calls;
 mod count;
 mod divergence;
 mod end;
+mod handlers;
 mod judge;
 mod laws;
 mod need;
