@@ -1,5 +1,5 @@
 -- What the code of an event rests on.
-use Rattle.std.proofs.Common.{◌≡◌, ℕ, zero, suc, true, false, cond, List, [], ◌∷◌, Option, Some, None, refl, ap, sym, subst, ◌∙◌}
+use Rattle.std.proofs.Common.{◌≡◌, ℕ, zero, suc, true, false, cond, List, [], ◌∷◌, ◌++◌, Option, Some, None, refl, ap, sym, subst, ◌∙◌}
 use Rattle.std.specs.Prelude.{◌%◌, ◌^◌, slice_get, slice_set, option_and_then, option_map}
 use Rattle.std.specs.Int.{w32, cast_signed}
 use Rattle.coop_threads.specs.Crew.{Crew, IsTaken, live_at, status_of, value_of as value_in, with_thread as crew_with}
@@ -34,6 +34,7 @@ use Rattle.guest_process.specs.Legal.{reason, reason_at}
 use Rattle.guest_process.specs.Next.{next, next_at}
 use Rattle.guest_process.specs.Seen.{IsProcess, state_of}
 use Rattle.guest_process.specs.Sound.{IsSound, IsStanding}
+use Rattle.guest_process.specs.Start.{beginning}
 use Rattle.guest_process.specs.State.{State, is_running, kind_at as kind_of, thread_at, with_thread}
 use Rattle.guest_process.proofs.KeptFits.{state_kept}
 use Rattle.guest_process.proofs.KeptSound.{next_program, sound_kept}
@@ -119,10 +120,16 @@ runs_by k S t strand reply signal clock h =
 
 -- ---- what is done before the thread is taken out
 
+-- a thread that is made leaves those that are there
+kept_before : (slots : List (Slot Waiting)) (t : ℕ) (new w : Waiting) → option_and_then value_in (slice_get slots t) ≡ Some w → option_and_then value_in (slice_get (slots ++ Kept new ∷ []) t) ≡ Some w
+kept_before [] t new w at = cc
+kept_before (slot ∷ slots) zero new w at = at
+kept_before (slot ∷ slots) (suc t) new w at = kept_before slots t new w at
+
 -- the thread stands as it stood
 same_thread : (o : Option Kind) (S : State) (t : ℕ) (c : Call) (a : Answer) (w : Waiting) → thread_at S t ≡ Some w → thread_at (acted o S t c a) t ≡ Some w
 same_thread o S t c a w at =
-    acted_has (λ S'. thread_at S' t ≡ Some w) o S t c a (λ k. record { locks = λ e free. at; unlocks = λ e held. at; handles = λ e h given. at }) at at
+    acted_has (λ S'. thread_at S' t ≡ Some w) o S t c a (λ k. record { locks = λ e free. at; unlocks = λ e held. at; handles = λ e h given. at; spawns = λ e f found thread starts. kept_before S.crew.threads t (beginning S.store.program thread) w at }) at at
 
 pub taken_is : (S : State) (e : Entry) (o : Option Kind) (w : Waiting) → reason S e ≡ None → thread_at (acted o S e.thread e.call (answer_of e)) e.thread ≡ Some w → thread_at S e.thread ≡ Some w
 taken_is S e o w legal after = by_thread (thread_at S e.thread) refl
@@ -131,13 +138,20 @@ taken_is S e o w legal after = by_thread (thread_at S e.thread) refl
     by_thread None at = absurd (live_is S e legal at)
     by_thread (Some found) at = at ∙ sym (same_thread o S e.thread e.call (answer_of e) found at) ∙ after
 
+pub still_live : (S : State) (e : Entry) (o : Option Kind) → reason S e ≡ None → thread_at (acted o S e.thread e.call (answer_of e)) e.thread ≡ None → ⊥
+still_live S e o legal after = by_thread (thread_at S e.thread) refl
+  where
+    by_thread : (found : Option Waiting) → thread_at S e.thread ≡ found → ⊥
+    by_thread None at = live_is S e legal at
+    by_thread (Some found) at = let there = same_thread o S e.thread e.call (answer_of e) found at in cc
+
 pub acted_program : (S : State) (e : Entry) (o : Option Kind) → (acted o S e.thread e.call (answer_of e)).store.program ≡ S.store.program
 acted_program S e o =
-    acted_has (λ S'. S'.store.program ≡ S.store.program) o S e.thread e.call (answer_of e) (λ k. record { locks = λ h free. refl; unlocks = λ h held. refl; handles = λ e h given. refl }) refl refl
+    acted_has (λ S'. S'.store.program ≡ S.store.program) o S e.thread e.call (answer_of e) (λ k. record { locks = λ h free. refl; unlocks = λ h held. refl; handles = λ e h given. refl; spawns = λ e f found thread starts. refl }) refl refl
 
 pub acted_events : (S : State) (e : Entry) (o : Option Kind) → (acted o S e.thread e.call (answer_of e)).events ≡ S.events
 acted_events S e o =
-    acted_has (λ S'. S'.events ≡ S.events) o S e.thread e.call (answer_of e) (λ k. record { locks = λ h free. refl; unlocks = λ h held. refl; handles = λ e h given. refl }) refl refl
+    acted_has (λ S'. S'.events ≡ S.events) o S e.thread e.call (answer_of e) (λ k. record { locks = λ h free. refl; unlocks = λ h held. refl; handles = λ e h given. refl; spawns = λ e f found thread starts. refl }) refl refl
 
 pub acted_handlers : (S : State) (e : Entry) (o : Option Kind) → AreHandlers S.store.program S.handlers → AreHandlers S.store.program (acted o S e.thread e.call (answer_of e)).handlers
 acted_handlers S e o sound =
@@ -145,6 +159,7 @@ acted_handlers S e o sound =
       locks = λ h free. sound;
       unlocks = λ h held. sound;
       handles = λ h set given. set_sound S.store.program S.handlers (narrow e.call.a0) set (λ f is. given_is S (narrow e.call.a0) (narrow e.call.a1) f (given ∙ ap Some is)) sound;
+      spawns = λ e f found thread starts. sound;
     })
     sound sound
 

@@ -1,5 +1,5 @@
 -- What a legal event keeps of a state.
-use Rattle.std.proofs.Common.{◌≡◌, ◌≢◌, ℕ, zero, suc, ◌+◌, ◌≤◌, Bool, true, false, cond, List, [], ◌∷◌, length, Option, Some, None, refl, ap, ◌∙◌, sym, subst, arith}
+use Rattle.std.proofs.Common.{◌≡◌, ◌≢◌, ℕ, zero, suc, ◌+◌, ◌≤◌, Bool, true, false, cond, List, [], ◌∷◌, ◌++◌, ◌<◌, length, Option, Some, None, refl, ap, ◌∙◌, sym, subst, arith}
 use Rattle.std.specs.Prelude.{slice_get, slice_set}
 use Rattle.std.proofs.lemmas.List.{length-set}
 use Rattle.coop_threads.specs.declared.slot.Slot.{Slot}
@@ -18,12 +18,14 @@ use Rattle.guest_process.specs.declared.end.End.TheVariants.{Finished}
 use Rattle.call_table.specs.declared.kind.Kind.{Kind}
 use Rattle.guest_process.specs.declared.waiting.Waiting.{Waiting}
 use Rattle.lib_calls.specs.Answer.{Answer}
-use Rattle.guest_process.specs.Answers.{effects}
+use Rattle.guest_process.specs.Answers.{effects, narrow}
 use Rattle.guest_process.specs.Fits.{Each, Slotted}
 use Rattle.guest_process.specs.GoesOn.{after_burst, all_over, budget, called, counted, entered, goes_on, handler, runs, stands, stopped}
 use Rattle.guest_process.specs.Kinds.{ends_process, value_of}
-use Rattle.guest_process.specs.State.{State, with_thread}
+use Rattle.guest_process.specs.Start.{beginning}
+use Rattle.guest_process.specs.State.{State, with_new_thread, with_thread}
 use Rattle.guest_process.proofs.Effects.{effects_has}
+use Rattle.guest_process.proofs.Spawning.{has_room}
 
 -- what an answer changes of a state where P is to hold of each live thread: its program, its number and its
 -- group stay, and it makes no more threads than there is room for
@@ -56,6 +58,10 @@ set_other (first ∷ rest) zero zero slot h = absurd (h refl)
 set_other (first ∷ rest) zero (suc u) slot h = refl
 set_other (first ∷ rest) (suc t) zero slot h = refl
 set_other (first ∷ rest) (suc t) (suc u) slot h = set_other rest t u slot (λ e. h (ap suc e))
+
+pub one_more : (slots : List (Slot Waiting)) (w : Waiting) → length (slots ++ Kept w ∷ []) ≡ length slots + 1
+one_more [] w = refl
+one_more (slot ∷ slots) w = omega (arith, one_more slots w)
 
 module _ (P : Waiting → Type 0) where
   kept_same : (t : ℕ) (S : State) → Each P S.crew.threads → Keeps P t S S
@@ -136,22 +142,42 @@ module _ (P : Waiting → Type 0) where
   affects_none : (S : State) → Each P S.crew.threads → Affects P S S
   affects_none S f = record { who = refl; count = refl; program = refl; room = λ few. few; threads = f; clock = refl; events = refl }
 
-  pub affected : (k : Kind) (S : State) (t : ℕ) (c : Call) (a : Answer) → Each P S.crew.threads → Affects P S (effects k S t c a)
-  affected k S t c a f =
+  -- a thread that begins is such
+  abbrev pub Begins : Module → Type 0
+  Begins m = (thread : Thread) → P (beginning m thread)
+
+  each_more : (slots : List (Slot Waiting)) (w : Waiting) → Each P slots → P w → Each P (slots ++ Kept w ∷ [])
+  each_more [] w f p = (p, tt)
+  each_more (slot ∷ slots) w f p = (f.0, each_more slots w f.1 p)
+
+  made_affects : (S : State) (w : Waiting) → length S.crew.threads < 64 → Each P S.crew.threads → P w → Affects P S (with_new_thread S w)
+  made_affects S w room f p = record {
+    who = refl;
+    count = refl;
+    program = refl;
+    room = λ few. omega (arith, room, one_more S.crew.threads w);
+    threads = each_more S.crew.threads w f p;
+    clock = refl;
+    events = refl;
+  }
+
+  pub affected : (k : Kind) (S : State) (t : ℕ) (c : Call) (a : Answer) → Each P S.crew.threads → Begins S.store.program → Affects P S (effects k S t c a)
+  affected k S t c a f b =
       effects_has (Affects P S) k S t c a
       (record {
         locks = λ e free. record { who = refl; count = refl; program = refl; room = λ few. few; threads = f; clock = refl; events = refl };
         unlocks = λ e held. record { who = refl; count = refl; program = refl; room = λ few. few; threads = f; clock = refl; events = refl };
         handles = λ e h given. record { who = refl; count = refl; program = refl; room = λ few. few; threads = f; clock = refl; events = refl };
+        spawns = λ e func found thread starts. made_affects S (beginning S.store.program thread) (has_room S (narrow c.a0) func found) f (b thread);
       })
       (affects_none S f)
       (record { who = refl; count = refl; program = refl; room = λ few. few; threads = f; clock = refl; events = refl })
       (λ e. let over = set_kept S t Over S.end f tt in record { who = refl; count = refl; program = refl; room = λ few. omega (arith, over.room, few); threads = over.threads; clock = refl; events = refl })
 
   -- all of an event, from its clock on
-  pub event_affects : KeepsProgram → (k : Kind) (S : State) (t : ℕ) (c : Call) (a : Answer) (w : Waiting) (signal clock : ℕ) → Each P S.crew.threads → Stand S.store.program → Affects P (counted S clock) (goes_on k (effects k S t c a) t w.strand a.reply signal clock)
-  event_affects keeps k S t c a w signal clock f g =
-      let n = affected k S t c a f in
+  pub event_affects : KeepsProgram → (k : Kind) (S : State) (t : ℕ) (c : Call) (a : Answer) (w : Waiting) (signal clock : ℕ) → Each P S.crew.threads → Begins S.store.program → Stand S.store.program → Affects P (counted S clock) (goes_on k (effects k S t c a) t w.strand a.reply signal clock)
+  event_affects keeps k S t c a w signal clock f b g =
+      let n = affected k S t c a f b in
       let l = went_on keeps k (effects k S t c a) t w a.reply signal clock n.threads (subst Stand (sym n.program) g) in
       record {
         who = l.who ∙ n.who;

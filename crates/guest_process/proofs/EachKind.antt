@@ -19,9 +19,11 @@ use Rattle.lib_calls.specs.Effects.{is_good, minus_one, minus_two, received, tak
 use Rattle.lib_calls.specs.Entry.{HasArguments, IsNumberIf, IsStringIf, IsTagIf}
 use Rattle.call_table.specs.Table.{kind_numbered, row}
 use Rattle.call_table.specs.declared.kind.Kind.{Kind}
-use Rattle.call_table.specs.declared.kind.Kind.TheVariants.{Begin, Exit, Note, Print, Now, SleepUntil, Random, Me, Send, Recv, TryRecv, Yield, Join, Lock, Unlock, OnSignal, Thread}
+use Rattle.call_table.specs.declared.kind.Kind.TheVariants.{Begin, Exit, Note, Print, Now, SleepUntil, Random, Me, Send, Recv, TryRecv, Spawn, Yield, Join, Lock, Unlock, OnSignal, Thread as Number}
 use Rattle.lib_calls.specs.Answer.{Answer}
-use Rattle.guest_process.specs.Answers.{Need, Fixed, Blocked, World, asked, need, handled, handler_given, handles, is_empty, is_holder, is_payload, is_possible, is_due, is_plain, is_taken, joined, joins, locked, locks, narrow, replied, unlocked, written}
+use Rattle.wasm_step.specs.Strand.{new_thread}
+use Rattle.wasm_step.specs.Thread.{Thread}
+use Rattle.guest_process.specs.Answers.{Need, Fixed, Blocked, World, asked, need, handled, handler_given, handles, is_empty, is_holder, is_payload, is_possible, is_due, is_plain, is_taken, joined, joins, locked, locks, narrow, replied, spawnable, spawned, spawned_at, spawns, unlocked, written}
 use Rattle.guest_process.specs.Fits.{EnvFits, StateFits}
 use Rattle.guest_process.specs.Legal.{answers}
 use Rattle.guest_process.specs.Live.{Env, Answered, cut, drawn, fills, first_taken, from_world, or_empty, takes}
@@ -98,6 +100,17 @@ handled_fits S signal number = by_given (handler_given S signal number)
     by_given None = omega arith
     by_given (Some h) = omega arith
 
+spawned_fits : (S : State) (index arg : ℕ) → length S.crew.threads ≤ 64 → ReplyFits (spawned S index arg)
+spawned_fits S index arg few = by_func (spawnable S index)
+  where
+    by_thread : (o : Option Thread) → ReplyFits (spawns S o)
+    by_thread None = omega arith
+    by_thread (Some thread) = omega (arith, few)
+
+    by_func : (o : Option ℕ) → ReplyFits (spawned_at S arg o)
+    by_func None = omega arith
+    by_func (Some f) = by_thread (new_thread S.store.program f arg)
+
 pub reply_fits : (k : Kind) (S : State) (t : ℕ) (c : Call) → StateFits S → t < 64 → HasArguments c → ReplyFits (need k S t c)
 reply_fits Begin S t c s low args = omega arith
 reply_fits Exit S t c s low args = omega arith
@@ -110,13 +123,13 @@ reply_fits Me S t c s low args = omega (arith, s.who, s.count)
 reply_fits Send S t c s low args = replied_fits S c c.a2 (number_fits _ c.a2 args.third)
 reply_fits Recv S t c s low args = asked_fits S c
 reply_fits TryRecv S t c s low args = asked_fits S c
+reply_fits Spawn S t c s low args = spawned_fits S (narrow c.a0) (narrow c.a1) s.room
 reply_fits Yield S t c s low args = omega arith
 reply_fits Join S t c s low args = joined_fits S t (narrow c.a0)
 reply_fits Lock S t c s low args = locked_fits S (narrow c.a0) t
 reply_fits Unlock S t c s low args = unlocked_fits S (narrow c.a0) t
 reply_fits OnSignal S t c s low args = handled_fits S (narrow c.a0) (narrow c.a1)
-reply_fits Thread S t c s low args = omega arith
-reply_fits _ S t c s low args = tt
+reply_fits Number S t c s low args = omega arith
 
 -- ---- what the world answers
 

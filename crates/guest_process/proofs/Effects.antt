@@ -3,7 +3,7 @@ use Rattle.std.proofs.Common.{◌≡◌, ℕ, Bool, true, false, cond, Option, S
 use Rattle.std.specs.Prelude.{◌==◌, slice_get}
 use Rattle.std.proofs.lemmas.Bool.{eqb-true}
 use Rattle.call_table.specs.declared.kind.Kind.{Kind}
-use Rattle.call_table.specs.declared.kind.Kind.TheVariants.{Begin, Exit, Note, Print, Random, Me, Send, Recv, TryRecv, Yield, Join, Lock, Unlock, OnSignal, Thread}
+use Rattle.call_table.specs.declared.kind.Kind.TheVariants.{Begin, Exit, Note, Print, Random, Me, Send, Recv, TryRecv, Spawn, Yield, Join, Lock, Unlock, OnSignal, Thread as Number}
 use Rattle.coop_threads.specs.Crew.{holder_of, status_of}
 use Rattle.coop_threads.specs.Locks.{grip_of}
 use Rattle.coop_threads.specs.declared.grip.Grip.TheVariants.{Already, Held}
@@ -13,8 +13,11 @@ use Rattle.lib_calls.specs.Answer.{Answer}
 use Rattle.lib_calls.specs.Effects.{is_good, minus_one}
 use Rattle.lib_calls.specs.declared.entry.Call.{Call}
 use Rattle.signal_points.specs.Signals.{with_handler}
-use Rattle.guest_process.specs.Answers.{Fixed, World, acted, after_need, asked, effects, exited, handled, handler_given, handles, is_holder, joined, joins, locked, locks, narrow, unlocked, written}
-use Rattle.guest_process.specs.State.{State, with_handlers, with_lock, without_lock}
+use Rattle.wasm_step.specs.Strand.{new_thread}
+use Rattle.wasm_step.specs.Thread.{Thread}
+use Rattle.guest_process.specs.Answers.{Fixed, World, acted, after_need, asked, effects, exited, handled, handler_given, handles, is_holder, joined, joins, locked, locks, narrow, spawnable, spawned, spawned_at, spawns, unlocked, written}
+use Rattle.guest_process.specs.Start.{beginning}
+use Rattle.guest_process.specs.State.{State, with_handlers, with_lock, with_new_thread, without_lock}
 
 -- what holds with bad arguments and what holds where the world answers holds after a call that asks the world
 pub asked_has : (Q : State → Type 0) (S : State) (c : Call) (S' : State) → Q S → Q S' → Q (after_need (asked S c) S')
@@ -66,11 +69,23 @@ handled_has Q S signal number S' same set = by_given (handler_given S signal num
     by_given None given = same
     by_given (Some h) given = set h given
 
+spawned_has : (Q : State → Type 0) (S : State) (index arg : ℕ) (S' : State) → Q S → ((f : ℕ) → spawnable S index ≡ Some f → (thread : Thread) → new_thread S.store.program f arg ≡ Some thread → Q (with_new_thread S (beginning S.store.program thread))) → Q (after_need (spawned S index arg) S')
+spawned_has Q S index arg S' same made = by_func (spawnable S index) refl
+  where
+    by_thread : (f : ℕ) → spawnable S index ≡ Some f → (o : Option Thread) → new_thread S.store.program f arg ≡ o → Q (after_need (spawns S o) S')
+    by_thread f found None starts = same
+    by_thread f found (Some thread) starts = made f found thread starts
+
+    by_func : (o : Option ℕ) → spawnable S index ≡ o → Q (after_need (spawned_at S arg o) S')
+    by_func None found = same
+    by_func (Some f) found = by_thread f found (new_thread S.store.program f arg) refl
+
 -- what is to hold after the answers that change more than the memory
 pub record Cases (Q : State → Type 0) (k : Kind) (S : State) (t : ℕ) (c : Call) : Type 0 where
   pub locks : k ≡ Lock → holder_of S.crew (narrow c.a0) ≡ None → Q (with_lock S (narrow c.a0) t)
   pub unlocks : k ≡ Unlock → holder_of S.crew (narrow c.a0) ≡ Some t → Q (without_lock S (narrow c.a0))
   pub handles : k ≡ OnSignal → (h : Option ℕ) → handler_given S (narrow c.a0) (narrow c.a1) ≡ Some h → Q (with_handlers S (with_handler S.handlers (narrow c.a0) h))
+  pub spawns : k ≡ Spawn → (f : ℕ) → spawnable S (narrow c.a0) ≡ Some f → (thread : Thread) → new_thread S.store.program f (narrow c.a1) ≡ Some thread → Q (with_new_thread S (beginning S.store.program thread))
 
 -- holds after each answer
 pub effects_has : (Q : State → Type 0) (k : Kind) (S : State) (t : ℕ) (c : Call) (a : Answer) → Cases Q k S t c → Q S → Q (written S c a) → (k ≡ Exit → Q (exited S t c.a0)) → Q (effects k S t c a)
@@ -82,13 +97,14 @@ effects_has Q Join S t c a cases same writes exits = joined_has Q S t (narrow c.
 effects_has Q Lock S t c a cases same writes exits = locked_has Q S (narrow c.a0) t (written S c a) same writes (cases.locks refl)
 effects_has Q Unlock S t c a cases same writes exits = unlocked_has Q S (narrow c.a0) t (written S c a) same (cases.unlocks refl)
 effects_has Q OnSignal S t c a cases same writes exits = handled_has Q S (narrow c.a0) (narrow c.a1) (written S c a) same (cases.handles refl)
+effects_has Q Spawn S t c a cases same writes exits = spawned_has Q S (narrow c.a0) (narrow c.a1) (written S c a) same (cases.spawns refl)
 effects_has Q Begin S t c a cases same writes exits = same
 effects_has Q Note S t c a cases same writes exits = same
 effects_has Q Print S t c a cases same writes exits = same
 effects_has Q Me S t c a cases same writes exits = same
 effects_has Q Send S t c a cases same writes exits = same
 effects_has Q Yield S t c a cases same writes exits = same
-effects_has Q Thread S t c a cases same writes exits = same
+effects_has Q Number S t c a cases same writes exits = same
 effects_has Q _ S t c a cases same writes exits = writes
 
 -- and but for the end of the thread
@@ -96,4 +112,5 @@ pub acted_has : (Q : State → Type 0) (o : Option Kind) (S : State) (t : ℕ) (
 acted_has Q (Some Lock) S t c a cases same writes = locked_has Q S (narrow c.a0) t S same same ((cases Lock).locks refl)
 acted_has Q (Some Unlock) S t c a cases same writes = unlocked_has Q S (narrow c.a0) t S same ((cases Unlock).unlocks refl)
 acted_has Q (Some OnSignal) S t c a cases same writes = handled_has Q S (narrow c.a0) (narrow c.a1) S same ((cases OnSignal).handles refl)
+acted_has Q (Some Spawn) S t c a cases same writes = spawned_has Q S (narrow c.a0) (narrow c.a1) S same ((cases Spawn).spawns refl)
 acted_has Q _ S t c a cases same writes = writes

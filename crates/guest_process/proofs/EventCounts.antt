@@ -40,7 +40,7 @@ begins m who count S h = by_store (store_of m) (first_thread m) h
 
 answer_events : (k : Kind) (S : State) (t : ℕ) (c : Call) (a : Answer) → (effects k S t c a).events ≡ S.events
 answer_events k S t c a =
-    effects_has (λ S'. S'.events ≡ S.events) k S t c a (record { locks = λ e free. refl; unlocks = λ e held. refl; handles = λ e h given. refl }) refl refl (λ e. refl)
+    effects_has (λ S'. S'.events ≡ S.events) k S t c a (record { locks = λ e free. refl; unlocks = λ e held. refl; handles = λ e h given. refl; spawns = λ e f found thread starts. refl }) refl refl (λ e. refl)
 
 settled_events : (S : State) (b : Bool) → (cond b (record S { end = Finished }) S).events ≡ S.events
 settled_events S true = refl

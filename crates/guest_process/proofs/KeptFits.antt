@@ -6,6 +6,7 @@ use Rattle.std.proofs.lemmas.Bool.{eqb-true}
 use Rattle.call_table.specs.Numbers.{numbered}
 use Rattle.call_table.specs.Table.{row}
 use Rattle.call_table.specs.declared.kind.Kind.{Kind}
+use Rattle.call_table.specs.declared.kind.Kind.TheVariants.{Begin}
 use Rattle.lamport_tag.specs.Tag.{clock_of, next_clock_of}
 use Rattle.lib_calls.specs.Answer.{answer_of}
 use Rattle.lib_calls.specs.Entry.{IsNumberIf}
@@ -23,6 +24,7 @@ use Rattle.guest_process.specs.GoesOn.{argument, counted as counted_at, stands}
 use Rattle.guest_process.specs.Legal.{checks, reason_at}
 use Rattle.guest_process.specs.Next.{next_at}
 use Rattle.guest_process.specs.OneEvent.{IsKept, Rises, RisesTo}
+use Rattle.guest_process.specs.Start.{beginning}
 use Rattle.guest_process.specs.State.{State, is_running, thread_at}
 use Rattle.guest_process.proofs.EachKind.{answer_clock}
 use Rattle.guest_process.proofs.Changes.{Affects, event_affects}
@@ -51,9 +53,16 @@ stand_fits m S thread site kind e h = record {
     fits n bits =
         subst (λ count. IsNumberIf (nat_lt n count) (argument kind n bits)) (sym (counted kind)) (argument_fits (nat_lt n (row kind).signature.params) bits)
 
+zero_fits : (b : Bool) → IsNumberIf b 0
+zero_fits true = omega arith
+zero_fits false = refl
+
+pub begin_fits : (m : Module) (thread : Thread) → WaitingFits (beginning m thread)
+begin_fits m thread = record { kind = numbered Begin; arguments = record { first = zero_fits _; second = zero_fits _; third = zero_fits _ } }
+
 -- what an event of a thread that stands so changes
 event_keeps : KeepsProgram → (S : State) (e : Entry) → StateFits S → (w : Waiting) → Affects WaitingFits (counted_at S e.clock) (next_at S e (Some w))
-event_keeps keeps S e s w = event_affects WaitingFits keeps w.kind S e.thread w.call (answer_of e) w e.signal e.clock s.threads (stand_fits S.store.program)
+event_keeps keeps S e s w = event_affects WaitingFits keeps w.kind S e.thread w.call (answer_of e) w e.signal e.clock s.threads (begin_fits S.store.program) (stand_fits S.store.program)
 
 -- its clock is the next one, and no tag bears one past 2 ^ 62
 record NextClock (S : State) (e : Entry) : Type 0 where

@@ -28,6 +28,7 @@ use Rattle.guest_process.specs.Legal.{reason_at}
 use Rattle.guest_process.specs.Next.{next, next_at}
 use Rattle.guest_process.specs.OneEvent.{IsKeptSound}
 use Rattle.guest_process.specs.Sound.{IsSound, IsStanding, StandsAt}
+use Rattle.guest_process.specs.Start.{beginning}
 use Rattle.guest_process.specs.State.{State, is_running, thread_at}
 use Rattle.guest_process.proofs.Changes.{Stand, affected, event_affects, went_on}
 use Rattle.guest_process.proofs.Effects.{effects_has}
@@ -88,6 +89,9 @@ stand_sound m all S thread site kind e h = record {
   stands = stand_at m (stands S thread site kind) site.func kind all refl (slice_get m.imports site.func) refl h;
 }
 
+begin_stands : (m : Module) (thread : Thread) → IsStanding m (beginning m thread)
+begin_stands m thread = record { program = refl; stands = refl }
+
 pub handlers_sound : (k : Kind) (S : State) (t : ℕ) (c : Call) (a : Answer) → AreHandlers S.store.program S.handlers → AreHandlers S.store.program (effects k S t c a).handlers
 handlers_sound k S t c a sound =
     effects_has (λ S'. AreHandlers S.store.program S'.handlers) k S t c a
@@ -95,6 +99,7 @@ handlers_sound k S t c a sound =
       locks = λ e free. sound;
       unlocks = λ e held. sound;
       handles = λ e h given. set_sound S.store.program S.handlers (narrow c.a0) h (λ f is. given_is S (narrow c.a0) (narrow c.a1) f (given ∙ ap Some is)) sound;
+      spawns = λ e f found thread starts. sound;
     })
     sound sound (λ e. sound)
 
@@ -106,7 +111,7 @@ sound_at keeps S e s (Some w) h =
     let m = S.store.program in
     let a = answer_of e in
     let S' = effects k S e.thread w.call a in
-    let n = affected (IsStanding m) k S e.thread w.call a s.threads in
+    let n = affected (IsStanding m) k S e.thread w.call a s.threads (begin_stands m) in
     let stand = stand_sound m s.imports in
     let kept = went_on (IsStanding m) keeps k S' e.thread w e.reply e.signal e.clock n.threads (subst (Stand (IsStanding m)) (sym n.program) stand) in
     let same = kept.program ∙ n.program in
@@ -124,7 +129,7 @@ sound_kept keeps S e s h = sound_at keeps S e s (thread_at S e.thread) (unless_n
 program_at : KeepsProgram → (S : State) (e : Entry) → IsSound S → (o : Option Waiting) → (next_at S e o).store.program ≡ S.store.program
 program_at keeps S e s None = refl
 program_at keeps S e s (Some w) =
-    (event_affects (IsStanding S.store.program) keeps w.kind S e.thread w.call (answer_of e) w e.signal e.clock s.threads (stand_sound S.store.program s.imports)).program
+    (event_affects (IsStanding S.store.program) keeps w.kind S e.thread w.call (answer_of e) w e.signal e.clock s.threads (begin_stands S.store.program) (stand_sound S.store.program s.imports)).program
 
 -- an event leaves the program as it is
 pub next_program : KeepsProgram → (S : State) (e : Entry) → IsSound S → (next S e).store.program ≡ S.store.program

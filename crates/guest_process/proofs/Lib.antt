@@ -2,6 +2,7 @@ pub mod Failing
 pub mod Crews
 pub mod Effects
 pub mod Signalled
+pub mod Spawning
 pub mod Written
 pub mod Legality
 pub mod EachKind

@@ -43,7 +43,7 @@ set_handlers S signal number = handles_handlers S signal (handler_given S signal
 pub same_handlers : (k : Kind) (S : State) (t : ℕ) (c : Call) (a : Answer) → (k ≡ OnSignal → ⊥) → (effects k S t c a).handlers ≡ S.handlers
 same_handlers k S t c a other =
     effects_has (λ S'. S'.handlers ≡ S.handlers) k S t c a
-    (record { locks = λ e free. refl; unlocks = λ e held. refl; handles = λ e h given. absurd (other e) })
+    (record { locks = λ e free. refl; unlocks = λ e held. refl; handles = λ e h given. absurd (other e); spawns = λ e f found thread starts. refl })
     refl refl (λ e. refl)
 
 pub given_handlers : (S : State) (t : ℕ) (c : Call) (a : Answer) → (after_need (handled S (narrow c.a0) (narrow c.a1)) S).handlers ≡ (effects OnSignal S t c a).handlers

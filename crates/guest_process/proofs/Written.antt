@@ -4,13 +4,13 @@ use Rattle.std.specs.Prelude.{◌==◌, nat_le, is_some}
 use Rattle.std.proofs.lemmas.Bool.{and_parts, and_from, or_cases, or_left, or_right, eqb-true, eq-eqb, ne_eqb, leb-true, le-leb}
 use Rattle.call_table.specs.Table.{kind_numbered}
 use Rattle.call_table.specs.declared.kind.Kind.{Kind}
-use Rattle.call_table.specs.declared.kind.Kind.TheVariants.{Begin, Exit, Note, Print, Now, SleepUntil, Random, Me, Send, Recv, TryRecv, Yield, Join, Lock, Unlock, OnSignal, Thread}
+use Rattle.call_table.specs.declared.kind.Kind.TheVariants.{Begin, Exit, Note, Print, Now, SleepUntil, Random, Me, Send, Recv, TryRecv, Spawn, Yield, Join, Lock, Unlock, OnSignal, Thread}
 use Rattle.guest_memory.specs.Memory.{Memory, is_inside}
 use Rattle.lamport_tag.specs.declared.Tag.{Tag}
 use Rattle.lib_calls.specs.declared.entry.Call.{Call}
 use Rattle.lib_calls.specs.Answer.{Answer}
 use Rattle.lib_calls.specs.Effects.{brings, has_good, is_answer, is_good, is_range, minus_one, minus_two, put_in, takes_counted, takes_nothing, written as memory_with}
-use Rattle.guest_process.specs.Answers.{Need, Fixed, World, acted, after_need, asked, effects, handled, is_drawn, is_empty, is_payload, is_plain, is_possible, is_taken, locked, narrow, need, unlocked, written}
+use Rattle.guest_process.specs.Answers.{Need, Fixed, World, acted, after_need, asked, effects, handled, is_drawn, is_empty, is_payload, is_plain, is_possible, is_taken, locked, narrow, need, spawned, unlocked, written}
 use Rattle.guest_process.specs.Kinds.{ends_process}
 use Rattle.guest_process.specs.Legal.{answers}
 use Rattle.guest_process.specs.State.{State, with_memory}
@@ -80,7 +80,7 @@ fixed_written k S c a n e same = ap (after_need n) (plain_written k S c a e same
 joined_written : (S : State) (t : ℕ) (c : Call) (a : Answer) → kind_numbered c.kind ≡ Some Join → effects Join S t c a ≡ written S c a
 joined_written S t c a e =
     let plain = plain_written Join S c a e refl in
-    effects_has (λ S'. S' ≡ written S c a) Join S t c a (record { locks = λ h. cc; unlocks = λ h. cc; handles = λ h. cc }) (sym plain) refl (λ h. cc)
+    effects_has (λ S'. S' ≡ written S c a) Join S t c a (record { locks = λ h. cc; unlocks = λ h. cc; handles = λ h. cc; spawns = λ h. cc }) (sym plain) refl (λ h. cc)
 
 -- where it does not end the process, an answer does so much
 pub effects_acted : (k : Kind) (S : State) (t : ℕ) (c : Call) (a : Answer) → kind_numbered c.kind ≡ Some k → ends_process k ≡ false → effects k S t c a ≡ acted (Some k) S t c a
@@ -93,6 +93,7 @@ effects_acted Me S t c a e h = sym (plain_written Me S c a e refl)
 effects_acted Send S t c a e h = sym (plain_written Send S c a e refl)
 effects_acted Recv S t c a e h = asked_written S c a
 effects_acted TryRecv S t c a e h = asked_written S c a
+effects_acted Spawn S t c a e h = fixed_written Spawn S c a (spawned S (narrow c.a0) (narrow c.a1)) e refl
 effects_acted Yield S t c a e h = sym (plain_written Yield S c a e refl)
 effects_acted Join S t c a e h = joined_written S t c a e
 effects_acted Lock S t c a e h = fixed_written Lock S c a (locked S (narrow c.a0) t) e refl

@@ -1,8 +1,8 @@
 -- How a call is answered: what process and call determine, and what the world gives.
-use Rattle.std.specs.Prelude.{ℕ, int_le, nat_le, ◌==◌, ◌&&◌, ◌||◌, ◌-◌, ◌%◌, ◌^◌, not, is_some, option_map, if◌then◌else◌, List, [], ◌∷◌, length, slice_get, Option, Some, None, Bool, true, false}
+use Rattle.std.specs.Prelude.{ℕ, int_le, nat_le, nat_lt, ◌==◌, ◌&&◌, ◌||◌, ◌-◌, ◌%◌, ◌^◌, not, is_some, option_map, if◌then◌else◌, List, [], ◌∷◌, length, slice_get, Option, Some, None, Bool, true, false}
 use Rattle.std.specs.Int.{w32, w64, cast_signed}
 use Rattle.call_table.specs.declared.kind.Kind.{Kind}
-use Rattle.call_table.specs.declared.kind.Kind.TheVariants.{Begin, Exit, Note, Print, Now, SleepUntil, Random, Me, Send, Recv, TryRecv, Yield, Join, Lock, Unlock, OnSignal, Thread}
+use Rattle.call_table.specs.declared.kind.Kind.TheVariants.{Begin, Exit, Note, Print, Now, SleepUntil, Random, Me, Send, Recv, TryRecv, Spawn, Yield, Join, Lock, Unlock, OnSignal, Thread as Number}
 use Rattle.coop_threads.specs.Crew.{holder_of, status_of}
 use Rattle.coop_threads.specs.Locks.{grip_of}
 use Rattle.coop_threads.specs.declared.grip.Grip.{Grip}
@@ -17,8 +17,11 @@ use Rattle.lib_calls.specs.Answer.{Answer}
 use Rattle.lib_calls.specs.Effects.{is_good, minus_one, minus_two, takes_counted, written as memory_with}
 use Rattle.signal_points.specs.Signals.{with_handler}
 use Rattle.wasm_step.specs.Store.{Store, handler_at}
+use Rattle.wasm_step.specs.Strand.{new_thread}
+use Rattle.wasm_step.specs.Thread.{Thread}
 use Rattle.guest_process.specs.declared.end.End.TheVariants.{Exited}
-use Rattle.guest_process.specs.State.{State, with_handlers, with_lock, with_memory, with_thread, without_lock}
+use Rattle.guest_process.specs.Start.{beginning}
+use Rattle.guest_process.specs.State.{State, with_handlers, with_lock, with_memory, with_new_thread, with_thread, without_lock}
 
 -- a reply alone
 abbrev pub replies : ℕ → Answer
@@ -104,7 +107,30 @@ handles S signal (Some handler) = Fixed 0 (with_handlers S (with_handler S.handl
 abbrev pub handled : State → ℕ → ℕ → Need
 handled S signal number = handles S signal (handler_given S signal number)
 
--- what process and call determine; a call that is not answered yet is never answered
+-- ---- new threads
+
+-- a process makes at most so many threads
+abbrev pub most_threads : ℕ
+most_threads = 64
+
+-- the function of this table index, where one more thread may be made and begin with it
+abbrev pub spawnable : State → ℕ → Option ℕ
+spawnable S index = if nat_lt (length S.crew.threads) most_threads then handler_at S.store index else None
+
+-- the thread is made, which is the next in number
+abbrev pub spawns : State → Option Thread → Need
+spawns S None = Fixed minus_one S
+spawns S (Some thread) = Fixed (length S.crew.threads) (with_new_thread S (beginning S.store.program thread))
+
+abbrev pub spawned_at : State → ℕ → Option ℕ → Need
+spawned_at S arg None = Fixed minus_one S
+spawned_at S arg (Some func) = spawns S (new_thread S.store.program func arg)
+
+-- a thread is to begin with the function of this table index, and be given this argument
+abbrev pub spawned : State → ℕ → ℕ → Need
+spawned S index arg = spawned_at S arg (spawnable S index)
+
+-- what process and call determine
 abbrev pub need : Kind → State → ℕ → Call → Need
 need Begin S t c = Fixed 0 S
 need Exit S t c = Fixed 0 (exited S t c.a0)
@@ -117,13 +143,13 @@ need Me S t c = Fixed S.who S
 need Send S t c = replied S c c.a2
 need Recv S t c = asked S c
 need TryRecv S t c = asked S c
+need Spawn S t c = spawned S (narrow c.a0) (narrow c.a1)
 need Yield S t c = Fixed 0 S
 need Join S t c = joined S t (narrow c.a0)
 need Lock S t c = locked S (narrow c.a0) t
 need Unlock S t c = unlocked S (narrow c.a0) t
 need OnSignal S t c = handled S (narrow c.a0) (narrow c.a1)
-need Thread S t c = Fixed t S
-need _ S t c = Blocked
+need Number S t c = Fixed t S
 
 -- no bytes came in, and no tag
 abbrev pub is_plain : Option Tag → List ℕ → Bool
@@ -172,6 +198,7 @@ after_need World S' = S'
 
 -- the state after an answer, but for the end of a thread that calls `exit`
 abbrev pub acted : Option Kind → State → ℕ → Call → Answer → State
+acted (Some Spawn) S t c a = after_need (spawned S (narrow c.a0) (narrow c.a1)) S
 acted (Some Lock) S t c a = after_need (locked S (narrow c.a0) t) S
 acted (Some Unlock) S t c a = after_need (unlocked S (narrow c.a0) t) S
 acted (Some OnSignal) S t c a = after_need (handled S (narrow c.a0) (narrow c.a1)) S

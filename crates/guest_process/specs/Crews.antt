@@ -20,6 +20,26 @@ abbrev pub OthersStay : Type 0
 OthersStay = (S : State) (e : Entry) → StateFits S → reason S e ≡ None
     → (t : ℕ) → t ≢ e.thread → t < length S.crew.threads → slice_get (next S e).crew.threads t ≡ slice_get S.crew.threads t
 
+-- the event makes one more thread, which is live at `begin`
+pub record Spawns (S : State) (e : Entry) (S' : State) : Type 0 where
+  pub func : ℕ
+  pub thread : Thread
+  pub kind : kind_numbered e.call.kind ≡ Some Spawn
+  pub room : length S.crew.threads < 64
+  pub found : handler_at S.store (narrow e.call.a0) ≡ Some func
+  pub starts : new_thread S.store.program func (narrow e.call.a1) ≡ Some thread
+  pub one_more : length S'.crew.threads ≡ length S.crew.threads + 1
+  pub made : slice_get S'.crew.threads (length S.crew.threads) ≡ Some (Kept (beginning S.store.program thread))
+
+-- what an event does to the number of threads
+pub data MadeAfter (S : State) (e : Entry) (S' : State) : Type 0 where
+  AsMany : length S'.crew.threads ≡ length S.crew.threads → MadeAfter S e S'
+  OneMore : Spawns S e S' → MadeAfter S e S'
+
+-- no event but one of `spawn` makes a thread
+abbrev pub OnlySpawnAdds : Type 0
+OnlySpawnAdds = (S : State) (e : Entry) → StateFits S → reason S e ≡ None → MadeAfter S e (next S e)
+
 -- the event takes a lock that was free for its thread
 pub record Locks (S : State) (e : Entry) (m : ℕ) (S' : State) : Type 0 where
   pub kind : kind_numbered e.call.kind ≡ Some Lock

@@ -53,6 +53,7 @@ impl<'m> Parts<'m> {
 
     // Does what the answer does, but for the end of a thread that calls `exit`.
     fn act(&mut self, entry: &EntryView<'_>) -> Result<(), AllocError>
+        requires program { module_of self.old.program.now ≡ self.old.store.program }
         requires suits { Suits self.old.store }
         requires answer { IsTrue (is_answer entry.now.call (answer_of (entry_of entry.now)) self.old.store.memory) }
         ensures state { OnOk result (state_of self.new ≡ acted (kind_at (state_of self.old) entry.now.thread) (state_of self.old) entry.now.thread entry.now.call (answer_of (entry_of entry.now))) }
@@ -61,6 +62,7 @@ impl<'m> Parts<'m> {
     {
         let t = entry.thread;
         match self.kind_at(t) {
+            Some(Kind::Spawn) => self.spawn(narrow(entry.call.a0), narrow(entry.call.a1)),
             Some(Kind::Lock) => self.lock(narrow(entry.call.a0), t),
             Some(Kind::Unlock) => {
                 self.unlock(narrow(entry.call.a0), t);

@@ -30,12 +30,12 @@ impl<'m> Parts<'m> {
             Kind::Random | Kind::Recv | Kind::TryRecv => self.asked(&waiting.call),
             Kind::Send => self.replied(&waiting.call, waiting.call.a2),
             Kind::Me => Need::Fixed(u64::from(self.who)),
+            Kind::Spawn => self.spawned(narrow(waiting.call.a0)),
             Kind::Join => self.joined(t, narrow(waiting.call.a0)),
             Kind::Lock => self.locked(narrow(waiting.call.a0), t),
             Kind::Unlock => self.unlocked(narrow(waiting.call.a0), t),
             Kind::OnSignal => self.handled(narrow(waiting.call.a0), narrow(waiting.call.a1)),
             Kind::Thread => Need::Fixed(u64::from(t)),
-            _ => Need::Blocked,
         }
     }
 

@@ -1,5 +1,5 @@
 // The laws over one event, as calls that do nothing.
-ghost use Rattle.guest_process.specs.Crews.{LockKept, OthersStay};
+ghost use Rattle.guest_process.specs.Crews.{LockKept, OnlySpawnAdds, OthersStay};
 ghost use Rattle.guest_process.specs.OneEvent.{IsKept, IsKeptSound, IsStarted, OneEvent, Possible, Rises};
 
 use lamport_tag::{cut_short, read_back};
@@ -30,9 +30,11 @@ pub fn rises()
     never_stuck();
 }
 
-/// A legal event of one thread leaves each other thread that was made as it was.
+/// A legal event of one thread leaves each other thread that was made as it was. Only one of `spawn` makes
+/// a thread, one, which is live at `begin`.
 pub fn others_stay()
-    ensures { OthersStay }
+    ensures stay { OthersStay }
+    ensures made { OnlySpawnAdds }
 {
     never_stuck();
 }

@@ -14,6 +14,7 @@ mod laws;
 mod need;
 mod parts;
 mod process;
+mod spawn;
 mod threads;
 mod waiting;
 mod world;

@@ -21,6 +21,7 @@ use wasm_types::{Trap, ValidModule};
 /// The parts of a process.
 #[derive(Drop)]
 pub(crate) struct Parts<'m> {
+    pub(crate) alloc: Global,
     pub(crate) program: &'m ValidModule,
     pub(crate) who: u32,
     pub(crate) count: u32,
@@ -92,6 +93,7 @@ impl<'m> Parts<'m> {
         ensures { IfOk result (λ p. p ≡ self.now) }
     {
         Ok(Parts {
+            alloc: self.alloc,
             program: self.program,
             who: self.who,
             count: self.count,

@@ -10,13 +10,19 @@ use Rattle.guest_process.specs.Kinds.{value_of}
 use Rattle.guest_process.specs.Seen.{state_of}
 use Rattle.guest_process.specs.Sound.{StandsAt}
 use Rattle.guest_process.specs.State.{kind_at, thread_at, with_thread}
-use Rattle.guest_process.proofs.Advancing.{acted_events, acted_handlers, acted_program, exits, goes, goes_out, is_out, stands_at, taken_is}
+use Rattle.guest_process.proofs.Advancing.{acted_events, acted_handlers, acted_program, exits, goes, goes_out, is_out, stands_at, still_live, taken_is}
 use Rattle.guest_process.proofs.Legality.{is_answer_of}
 use Rattle.guest_process.proofs.parts.Parts.advance.Goals as goal
 
 pub act-requires-clause-answer : goal.act-requires-clause-answer
 act-requires-clause-answer c =
     is_answer_of (state_of c.args.self) (entry_of c.args.entry.now) c.requires.process.fits c.requires.legal
+
+pub unreachable-requires : goal.unreachable-requires
+unreachable-requires c =
+    let S = state_of c.args.self in
+    let e = entry_of c.args.entry.now in
+    still_live S e (kind_at S e.thread) c.requires.legal (ap (λ S'. thread_at S' e.thread) (sym c.in_ok-act.ensures.state) ∙ sym c.take.ensures.value ∙ c.in_default.is)
 
 pub overflow_add-self : goal.overflow_add-self
 overflow_add-self c =
