@@ -66,14 +66,14 @@ not_spawned S index arg h = ap (spawned_at S arg) h
 
 -- ---- the state
 
-pub spawned_so : (S : State) (index arg f : ℕ) → spawnable S index ≡ Some f → after_need (spawns S (new_thread S.store.program f arg)) S ≡ after_need (spawned S index arg) S
+pub spawned_so : (S : State) (index arg f : ℕ) → spawnable S index ≡ Some f → after_need (spawned_at S arg (Some f)) S ≡ after_need (spawned S index arg) S
 spawned_so S index arg f h = ap (λ o. after_need (spawned_at S arg o) S) (sym h)
 
 pub none_made : (S : State) (index arg : ℕ) → spawnable S index ≡ None → S ≡ after_need (spawned S index arg) S
 none_made S index arg h = ap (λ o. after_need (spawned_at S arg o) S) (sym h)
 
 -- a strand at the function's start is that of the new thread
-pub begun : (S : State) (m : Module) (f arg : ℕ) (s : Strand) → m ≡ S.store.program → s.program ≡ m → s.call ≡ None → new_thread m f arg ≡ Some s.thread → with_new_thread S (waits s) ≡ after_need (spawns S (new_thread S.store.program f arg)) S
+pub begun : (S : State) (m : Module) (f arg : ℕ) (s : Strand) → m ≡ S.store.program → s.program ≡ m → s.call ≡ None → new_thread m f arg ≡ Some s.thread → with_new_thread S (waits s) ≡ after_need (spawned_at S arg (Some f)) S
 begun S m f arg s same program call thread =
     ap (λ s. with_new_thread S (waits s)) (same_strand s (program ∙ same) call)
     ∙ ap (λ o. after_need (spawns S o) S) (sym thread ∙ ap (λ m. new_thread m f arg) same)

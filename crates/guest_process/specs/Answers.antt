@@ -2,7 +2,7 @@
 use Rattle.std.specs.Prelude.{ℕ, int_le, nat_le, nat_lt, ◌==◌, ◌&&◌, ◌||◌, ◌-◌, ◌%◌, ◌^◌, not, is_some, option_map, if◌then◌else◌, List, [], ◌∷◌, length, slice_get, Option, Some, None, Bool, true, false}
 use Rattle.std.specs.Int.{w32, w64, cast_signed}
 use Rattle.call_table.specs.declared.kind.Kind.{Kind}
-use Rattle.call_table.specs.declared.kind.Kind.TheVariants.{Begin, Exit, Note, Print, Now, SleepUntil, Random, Me, Send, Recv, TryRecv, Spawn, Yield, Join, Lock, Unlock, OnSignal, Thread as Number}
+use Rattle.call_table.specs.declared.kind.Kind.TheVariants.{Begin, Exit, Note, Print, Now, SleepUntil, Random, Me, Send, Recv, TryRecv, Spawn, Yield, Join, Lock, Unlock, OnSignal, Thread}
 use Rattle.coop_threads.specs.Crew.{holder_of, status_of}
 use Rattle.coop_threads.specs.Locks.{grip_of}
 use Rattle.coop_threads.specs.declared.grip.Grip.{Grip}
@@ -18,7 +18,7 @@ use Rattle.lib_calls.specs.Effects.{is_good, minus_one, minus_two, takes_counted
 use Rattle.signal_points.specs.Signals.{with_handler}
 use Rattle.wasm_step.specs.Store.{Store, handler_at}
 use Rattle.wasm_step.specs.Strand.{new_thread}
-use Rattle.wasm_step.specs.Thread.{Thread}
+use Rattle.wasm_step.specs.Thread as stack
 use Rattle.guest_process.specs.declared.end.End.TheVariants.{Exited}
 use Rattle.guest_process.specs.Start.{beginning}
 use Rattle.guest_process.specs.State.{State, with_handlers, with_lock, with_memory, with_new_thread, with_thread, without_lock}
@@ -117,8 +117,8 @@ most_threads = 64
 abbrev pub spawnable : State → ℕ → Option ℕ
 spawnable S index = if nat_lt (length S.crew.threads) most_threads then handler_at S.store index else None
 
--- the thread is made, which is the next in number
-abbrev pub spawns : State → Option Thread → Need
+-- the thread is made, which is the next in number; a function that was found has its code, so that there is one
+abbrev pub spawns : State → Option stack.Thread → Need
 spawns S None = Fixed minus_one S
 spawns S (Some thread) = Fixed (length S.crew.threads) (with_new_thread S (beginning S.store.program thread))
 
@@ -149,7 +149,7 @@ need Join S t c = joined S t (narrow c.a0)
 need Lock S t c = locked S (narrow c.a0) t
 need Unlock S t c = unlocked S (narrow c.a0) t
 need OnSignal S t c = handled S (narrow c.a0) (narrow c.a1)
-need Number S t c = Fixed t S
+need Thread S t c = Fixed t S
 
 -- no bytes came in, and no tag
 abbrev pub is_plain : Option Tag → List ℕ → Bool

@@ -8,7 +8,7 @@ use Rattle.lib_calls.specs.declared.entry.Entry.{Entry}
 use Rattle.wasm_step.specs.Store.{handler_at}
 use Rattle.wasm_step.specs.Strand.{new_thread}
 use Rattle.wasm_step.specs.Thread.{Thread}
-use Rattle.guest_process.specs.Answers.{narrow}
+use Rattle.guest_process.specs.Answers.{most_threads, narrow}
 use Rattle.guest_process.specs.Fits.{StateFits}
 use Rattle.guest_process.specs.Legal.{reason}
 use Rattle.guest_process.specs.Next.{next}
@@ -25,7 +25,7 @@ pub record Spawns (S : State) (e : Entry) (S' : State) : Type 0 where
   pub func : ℕ
   pub thread : Thread
   pub kind : kind_numbered e.call.kind ≡ Some Spawn
-  pub room : length S.crew.threads < 64
+  pub room : length S.crew.threads < most_threads
   pub found : handler_at S.store (narrow e.call.a0) ≡ Some func
   pub starts : new_thread S.store.program func (narrow e.call.a1) ≡ Some thread
   pub one_more : length S'.crew.threads ≡ length S.crew.threads + 1

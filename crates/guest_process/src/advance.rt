@@ -8,11 +8,11 @@ ghost use Rattle.wasm_types.specs.Modules.{module_of};
 ghost use Rattle.wasm_step.specs.Burst.{burst};
 ghost use Rattle.wasm_step.specs.Suits.{Suits};
 ghost use Rattle.wasm_step.specs.Strand.{answered as answered_by, IsHandler};
-ghost use Rattle.guest_process.specs.Answers.{acted, written};
+ghost use Rattle.guest_process.specs.Answers.{written};
 ghost use Rattle.guest_process.specs.GoesOn.{after_burst, budget, counted, entered as entered_by, handler as handler_of, runs};
 ghost use Rattle.guest_process.specs.Kinds.{value_of};
 ghost use Rattle.guest_process.specs.Legal.{reason};
-ghost use Rattle.guest_process.specs.Next.{next};
+ghost use Rattle.guest_process.specs.Next.{acted_by, next};
 ghost use Rattle.guest_process.specs.Seen.{IsProcess, state_of};
 ghost use Rattle.guest_process.specs.Sound.{StandsAt};
 ghost use Rattle.guest_process.specs.State.{kind_at};
@@ -56,7 +56,7 @@ impl<'m> Parts<'m> {
         requires program { module_of self.old.program.now ≡ self.old.store.program }
         requires suits { Suits self.old.store }
         requires answer { IsTrue (is_answer entry.now.call (answer_of (entry_of entry.now)) self.old.store.memory) }
-        ensures state { OnOk result (state_of self.new ≡ acted (kind_at (state_of self.old) entry.now.thread) (state_of self.old) entry.now.thread entry.now.call (answer_of (entry_of entry.now))) }
+        ensures state { OnOk result (state_of self.new ≡ acted_by (state_of self.old) (entry_of entry.now)) }
         ensures program { OnOk result (self.new.program ≡ self.old.program) }
         ensures suits { OnOk result (Suits self.new.store) }
     {

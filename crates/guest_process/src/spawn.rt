@@ -1,8 +1,8 @@
 // How a process makes threads.
-ghost use Rattle.std.specs.Prelude.{◌≡◌, ◌<◌, OnOk, length, ℕ};
+ghost use Rattle.std.specs.Prelude.{◌≡◌, ◌<◌, OnOk, Some, length, ℕ};
 ghost use Rattle.wasm_types.specs.Modules.{module_of};
-ghost use Rattle.wasm_step.specs.Strand.{IsHandler, new_thread};
-ghost use Rattle.guest_process.specs.Answers.{after_need, spawnable, spawned, spawns};
+ghost use Rattle.wasm_step.specs.Strand.{IsHandler};
+ghost use Rattle.guest_process.specs.Answers.{after_need, spawnable, spawned, spawned_at};
 ghost use Rattle.guest_process.specs.Seen.{plain, state_of};
 
 use crate::need::Need;
@@ -60,7 +60,7 @@ impl<'m> Parts<'m> {
         requires room { length self.old.crew.threads < 64 }
         requires program { module_of self.old.program.now ≡ self.old.store.program }
         requires handler { IsHandler (module_of self.old.program.now) func }
-        ensures state { OnOk result (state_of self.new ≡ after_need (spawns (state_of self.old) (new_thread self.old.store.program func arg)) (state_of self.old)) }
+        ensures state { OnOk result (state_of self.new ≡ after_need (spawned_at (state_of self.old) arg (Some func)) (state_of self.old)) }
         ensures program { OnOk result (self.new.program ≡ self.old.program) }
         ensures store { OnOk result (self.new.store ≡ self.old.store) }
     {
