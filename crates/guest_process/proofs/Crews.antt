@@ -1,5 +1,5 @@
 -- Threads and locks as the code sees them.
-use Rattle.std.proofs.Common.{◌≡◌, ℕ, ◌≤◌, zero, suc, Bool, true, false, cond, List, [], ◌∷◌, length, Option, Some, None, refl, ap, sym, ◌∙◌, arith}
+use Rattle.std.proofs.Common.{◌≡◌, ℕ, ◌≤◌, zero, suc, Bool, true, false, cond, List, [], ◌∷◌, length, Option, Some, None, refl, ap, ◌∙◌, arith}
 use Rattle.std.specs.Prelude.{◌==◌, slice_get}
 use Rattle.std.proofs.lemmas.Bool.{eq-eqb, eqb-true}
 use Rattle.coop_threads.specs.Crew.{holder_of, status_of}
@@ -7,10 +7,9 @@ use Rattle.coop_threads.specs.Locks.{grip_of, locked as holders_after}
 use Rattle.coop_threads.specs.declared.grip.Grip.TheVariants.{Already, Held}
 use Rattle.coop_threads.specs.declared.slot.Slot.{Slot}
 use Rattle.coop_threads.specs.declared.status.Status.TheVariants.{Unknown}
-use Rattle.guest_process.specs.Answers.{Fixed, after_need, is_holder, locked, locks, unlocked}
+use Rattle.guest_process.specs.Answers.{after_need, locked, locks, unlocked}
 use Rattle.guest_process.specs.declared.waiting.Waiting.{Waiting}
 use Rattle.guest_process.specs.State.{State, with_lock, without_lock}
-use Rattle.lib_calls.specs.Effects.{minus_one}
 
 -- no thread was made past the last one
 pub unknown_past : (slots : List (Slot Waiting)) (t : ℕ) → length slots ≤ t → status_of (slice_get slots t) ≡ Unknown

@@ -1,15 +1,11 @@
 -- What the code judges by.
 use Rattle.std.proofs.Common.{◌≡◌, ℕ, Bool, false, ◌&&◌, refl, ap}
 use Rattle.std.specs.Prelude.{◌==◌}
-use Rattle.lib_calls.specs.declared.entry.Call.{Call}
-use Rattle.call_table.specs.declared.kind.Kind.{Kind}
 use Rattle.guest_process.specs.declared.need.Need.TheVariants as plainly
 use Rattle.lib_calls.specs.Answer.{Answer}
-use Rattle.guest_process.specs.Answers.{Need, Fixed, Blocked, World, effects, is_plain}
+use Rattle.guest_process.specs.Answers.{Need, Fixed, Blocked, World, is_plain}
 use Rattle.guest_process.specs.Legal.{answers}
 use Rattle.guest_process.specs.Seen.{plain}
-use Rattle.guest_process.specs.State.{State}
-use Rattle.guest_process.proofs.Effects.{effects_has}
 
 pub fixed : (n : Need) (a : Answer) (from_world : Bool) (reply : ℕ) → plain n ≡ plainly.Fixed reply → answers n a from_world ≡ ((a.reply == reply) && is_plain a.tag a.incoming)
 fixed (Fixed r S) a w reply h = ap (λ r. (a.reply == r) && is_plain a.tag a.incoming) (reply_of h)

@@ -1,8 +1,8 @@
 -- What is known of a thread that is made.
-use Rattle.std.proofs.Common.{[], ◌∷◌, ◌≡◌, ℕ, ◌<◌, ◌≤◌, ◌-◌, Bool, true, false, cond, List, length, Option, Some, None, refl, ap, sym, subst, ◌∙◌, arith}
+use Rattle.std.proofs.Common.{[], ◌∷◌, ◌≡◌, ℕ, ◌<◌, ◌-◌, Bool, true, false, cond, length, Option, Some, None, refl, ap, sym, subst, ◌∙◌, arith}
 use Rattle.std.specs.Prelude.{nat_lt, slice_get}
 use Rattle.std.proofs.lemmas.Bool.{ltb-true}
-use Rattle.wasm_types.specs.Functions.{imported_type, own_func, own_type, type_of}
+use Rattle.wasm_types.specs.Functions.{imported_type, own_func, own_type}
 use Rattle.wasm_types.specs.Modules.{Func, FuncType, Module}
 use Rattle.wasm_step.specs.Store.{handler_at}
 use Rattle.wasm_step.specs.Strand.{IsHandler, Strand, begun as begun_at, new_thread}
@@ -13,7 +13,7 @@ use Rattle.lib_calls.specs.Effects.{minus_one}
 use Rattle.guest_process.specs.declared.need.Need.TheVariants as plainly
 use Rattle.guest_process.specs.Answers.{Fixed, after_need, most_threads, spawnable, spawned, spawned_at, spawns}
 use Rattle.guest_process.specs.Seen.{plain}
-use Rattle.guest_process.specs.Start.{beginning, waits}
+use Rattle.guest_process.specs.Start.{waits}
 use Rattle.guest_process.specs.State.{State, with_new_thread}
 use Rattle.guest_process.proofs.Signalled.{found_is}
 

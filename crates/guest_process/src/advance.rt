@@ -9,7 +9,7 @@ ghost use Rattle.wasm_step.specs.Burst.{burst};
 ghost use Rattle.wasm_step.specs.Suits.{Suits};
 ghost use Rattle.wasm_step.specs.Strand.{answered as answered_by, IsHandler};
 ghost use Rattle.guest_process.specs.Answers.{written};
-ghost use Rattle.guest_process.specs.GoesOn.{after_burst, budget, counted, entered as entered_by, handler as handler_of, runs};
+ghost use Rattle.guest_process.specs.GoesOn.{after_burst, budget, entered as entered_by, handler as handler_of, runs};
 ghost use Rattle.guest_process.specs.Kinds.{value_of};
 ghost use Rattle.guest_process.specs.Legal.{reason};
 ghost use Rattle.guest_process.specs.Next.{acted_by, next};

@@ -1,5 +1,5 @@
 // What a process consists of, and how its threads stop.
-ghost use Rattle.std.specs.Prelude.{◌≡◌, IfOk, IsTrue, length};
+ghost use Rattle.std.specs.Prelude.{◌≡◌, IfOk};
 ghost use Rattle.coop_threads.specs.Crew.{IsTaken};
 ghost use Rattle.wasm_types.specs.Modules.{module_of};
 ghost use Rattle.wasm_step.specs.Pause.{StandsAt, stop_of};

@@ -1,4 +1,4 @@
-use Rattle.std.proofs.Common.{◌≡◌, ◌+◌, arith, ap, sym, subst, ◌∙◌}
+use Rattle.std.proofs.Common.{◌≡◌, arith, ap, sym, subst, ◌∙◌}
 use Rattle.coop_threads.specs.Crew.{IsTaken}
 use Rattle.coop_threads.specs.declared.slot.Slot.TheVariants.{Lent}
 use Rattle.lib_calls.specs.Entry.{entry_of}
