@@ -4,7 +4,8 @@ use Rattle.std.specs.Prelude.{All}
 use Rattle.std.proofs.lemmas.List.Elements.{All-nil, All-cons, All-head, All-tail}
 use Rattle.fri_bytes.specs.Laws.{ExactReaders}
 use Rattle.lib_calls.specs.declared.entry.Entry.{Entry}
-use Rattle.call_log.specs.Entry.{IsLogged, BeginsNoEntry, encoding, encodings}
+use Rattle.lib_calls.specs.Entry.{IsShaped}
+use Rattle.call_log.specs.Entry.{BeginsNoEntry, encoding, encodings}
 use Rattle.call_log.specs.Log.{Holds, entry_at, entry_then, entries_of, entries_within, rest_of, rest_then, rest_within}
 use Rattle.call_log.proofs.EntryLaws.{entry_at-begins, entry_at-found, entry_at-none}
 use Rattle.call_log.proofs.Sizes.{length-encoding}
@@ -17,7 +18,7 @@ shorter bytes e rest begins = omega (arith, ap length begins, length-append (enc
 pub record Begins (bytes : List ℕ) : Type 0 where
   pub entry : Entry
   pub rest : List ℕ
-  pub shaped : IsLogged entry
+  pub shaped : IsShaped entry
   pub spelled : bytes ≡ encoding entry ++ rest
 
 -- no bytes hold no entry
@@ -25,7 +26,7 @@ pub nothing_begins : BeginsNoEntry []
 nothing_begins e rest shaped begins = omega (arith, shorter [] e rest begins)
 
 -- entries that stand alone are held
-pub held_alone : (entries : List Entry) → All IsLogged entries → Holds (encodings entries) entries []
+pub held_alone : (entries : List Entry) → All IsShaped entries → Holds (encodings entries) entries []
 held_alone entries shaped = record { shaped = shaped; spelled = sym (append-nil (encodings entries)); longest = nothing_begins }
 
 module _ (readers : ExactReaders) where
@@ -91,7 +92,7 @@ module _ (readers : ExactReaders) where
   rest-step bytes = rest-limit (length bytes) (suc (length bytes)) bytes (omega arith) (omega arith)
 
   -- the entry that stands in front is the first of all
-  pub entries_of-next : (bytes : List ℕ) (e : Entry) (rest : List ℕ) → IsLogged e → bytes ≡ encoding e ++ rest → entries_of bytes ≡ e ∷ entries_of rest
+  pub entries_of-next : (bytes : List ℕ) (e : Entry) (rest : List ℕ) → IsShaped e → bytes ≡ encoding e ++ rest → entries_of bytes ≡ e ∷ entries_of rest
   unfolding entries_of
   entries_of-next bytes e rest shaped begins =
       let less = shorter bytes e rest begins in
@@ -100,7 +101,7 @@ module _ (readers : ExactReaders) where
       ∙ ap (λ (es : List Entry). e ∷ es) (entries-limit (length bytes) (length rest) rest (omega arith) (omega arith))
 
   -- and the bytes behind all entries are those behind the others
-  pub rest_of-next : (bytes : List ℕ) (e : Entry) (rest : List ℕ) → IsLogged e → bytes ≡ encoding e ++ rest → rest_of bytes ≡ rest_of rest
+  pub rest_of-next : (bytes : List ℕ) (e : Entry) (rest : List ℕ) → IsShaped e → bytes ≡ encoding e ++ rest → rest_of bytes ≡ rest_of rest
   unfolding rest_of
   rest_of-next bytes e rest shaped begins =
       let less = shorter bytes e rest begins in
@@ -119,16 +120,16 @@ module _ (readers : ExactReaders) where
   -- ---- the two functions give what the bytes hold, and nothing else is held
 
   -- one more entry in front
-  pub Holds-next : (bytes : List ℕ) (e : Entry) (rest : List ℕ) (entries : List Entry) (left : List ℕ) → IsLogged e → bytes ≡ encoding e ++ rest → Holds rest entries left → Holds bytes (e ∷ entries) left
+  pub Holds-next : (bytes : List ℕ) (e : Entry) (rest : List ℕ) (entries : List Entry) (left : List ℕ) → IsShaped e → bytes ≡ encoding e ++ rest → Holds rest entries left → Holds bytes (e ∷ entries) left
   Holds-next bytes e rest entries left shaped begins h = record {
-    shaped = All-cons IsLogged e entries shaped h.shaped;
+    shaped = All-cons IsShaped e entries shaped h.shaped;
     spelled = begins ∙ ap (λ (t : List ℕ). encoding e ++ t) h.spelled ∙ sym (append_assoc (encoding e) (encodings entries) left);
     longest = h.longest;
   }
 
   none_held : (bytes : List ℕ) → BeginsNoEntry bytes → Holds bytes (entries_of bytes) (rest_of bytes)
   none_held bytes none =
-      let h : Holds bytes [] bytes = record { shaped = All-nil IsLogged; spelled = refl; longest = none } in
+      let h : Holds bytes [] bytes = record { shaped = All-nil IsShaped; spelled = refl; longest = none } in
       rw (entries_of-end bytes none, rest_of-end bytes none) h
 
   holds-limit : (n : ℕ) (bytes : List ℕ) → length bytes ≤ n → Holds bytes (entries_of bytes) (rest_of bytes)
@@ -153,9 +154,9 @@ module _ (readers : ExactReaders) where
       let none : BeginsNoEntry bytes = λ e after shaped begins. h.longest e after shaped (sym h.spelled ∙ begins) in
       (sym (entries_of-end bytes none), sym h.spelled ∙ sym (rest_of-end bytes none))
   holds_once bytes (e ∷ entries) rest h =
-      let shaped : IsLogged e = All-head IsLogged e entries h.shaped in
+      let shaped : IsShaped e = All-head IsShaped e entries h.shaped in
       let begins : bytes ≡ encoding e ++ (encodings entries ++ rest) = h.spelled ∙ append_assoc (encoding e) (encodings entries) rest in
-      let behind : Holds (encodings entries ++ rest) entries rest = record { shaped = All-tail IsLogged e entries h.shaped; spelled = refl; longest = h.longest } in
+      let behind : Holds (encodings entries ++ rest) entries rest = record { shaped = All-tail IsShaped e entries h.shaped; spelled = refl; longest = h.longest } in
       let more = holds_once (encodings entries ++ rest) entries rest behind in (
         ap (λ (es : List Entry). e ∷ es) more.0 ∙ sym (entries_of-next bytes e (encodings entries ++ rest) shaped begins),
         more.1 ∙ sym (rest_of-next bytes e (encodings entries ++ rest) shaped begins),

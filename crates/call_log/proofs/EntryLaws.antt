@@ -10,14 +10,14 @@ use Rattle.std.proofs.lemmas.Option.{cond_some, same_Some}
 use Rattle.fri_bytes.specs.Laws.{AreBytes, ExactReaders}
 use Rattle.fri_bytes.specs.Reading.{byte_at, piece_at, le_at}
 use Rattle.lib_calls.specs.Kinds.{has_outgoing, has_incoming, has_tag}
-use Rattle.call_log.specs.Kind.{is_built}
+use Rattle.call_log.specs.Kind.{is_kind}
 use Rattle.lib_calls.specs.declared.entry.Entry.{Entry}
 use Rattle.lib_calls.specs.Entry.{IsShaped}
-use Rattle.call_log.specs.Entry.{IsLogged, BeginsNoEntry, body, encoding, argument_bytes, string_if, tag_if}
+use Rattle.call_log.specs.Entry.{BeginsNoEntry, body, encoding, argument_bytes, string_if, tag_if}
 use Rattle.call_log.specs.Reading.{read_entry, body_at, call_at, string_if_at, tag_if_at}
 use Rattle.call_log.specs.Log.{entry_at, entry_in}
 use Rattle.call_log.proofs.Sizes.{length-body_lt}
-use Rattle.call_log.proofs.Shapes.{and_true, both_true, built_kind, is_logged-from, logged_from_test}
+use Rattle.call_log.proofs.Shapes.{and_true, both_true, is_shaped-from, kind_within, shaped_from_test, within_kind}
 use Rattle.call_log.proofs.FieldLaws.{bind_some, front_in_range, bytes_after, onto, next, when_true, kept, number_field, byte_field, string_if_field, tag_if_field, call_at-kind, call_field}
 
 at_most_none : (n : ℕ) → leb n 0 ≡ true → n ≡ 0
@@ -38,7 +38,7 @@ record Steps (kind : ℕ) (bytes : List ℕ) (e : Entry) : Type 0 where
   thread : le_at w16 after_clock ≡ Some (e.thread, after_thread)
   number : byte_at after_thread ≡ Some (kind, after_kind)
   signal : byte_at after_kind ≡ Some (e.signal, after_signal)
-  built : is_built kind ≡ true
+  known : is_kind kind ≡ true
   call : call_at kind after_signal ≡ Some (e.call, after_call)
   reply : le_at w64 after_call ≡ Some (e.reply, after_reply)
   outgoing : string_if_at (has_outgoing kind) after_reply ≡ Some (e.outgoing, after_outgoing)
@@ -52,7 +52,7 @@ body_at-from kind bytes e h =
     next _ _ (e.thread, h.after_thread) _ h.thread (
     next _ _ (kind, h.after_kind) _ h.number (
     next _ _ (e.signal, h.after_signal) _ h.signal (
-    next _ _ (e.call, h.after_call) _ (when_true _ _ _ _ h.built h.call) (
+    next _ _ (e.call, h.after_call) _ (when_true _ _ _ _ h.known h.call) (
     next _ _ (e.reply, h.after_reply) _ h.reply (
     next _ _ (e.outgoing, h.after_outgoing) _ h.outgoing (
     next _ _ (e.incoming, h.after_incoming) _ h.incoming (
@@ -75,7 +75,7 @@ steps_from bytes e read =
     let incoming = bind_some _ _ _ outgoing.2 in
     let tag = bind_some _ _ _ incoming.2 in
     let end = kept _ _ _ tag.2 in
-    let built = kept _ _ _ call.1 in
+    let known = kept _ _ _ call.1 in
     let made : Entry = record {
       clock = clock.0.0;
       thread = thread.0.0;
@@ -88,7 +88,7 @@ steps_from bytes e read =
     } in
     let none_left : tag.0.1 ≡ [] = nil_from_length tag.0.1 (at_most_none (length tag.0.1) end.0) in
     let steps : Steps kind.0.0 bytes made = record {
-      kind_is = call_at-kind kind.0.0 signal.0.1 call.0.0 call.0.1 built.1;
+      kind_is = call_at-kind kind.0.0 signal.0.1 call.0.0 call.0.1 known.1;
       after_clock = clock.0.1;
       after_thread = thread.0.1;
       after_kind = kind.0.1;
@@ -101,8 +101,8 @@ steps_from bytes e read =
       thread = thread.1;
       number = kind.1;
       signal = signal.1;
-      built = built.0;
-      call = built.1;
+      known = known.0;
+      call = known.1;
       reply = reply.1;
       outgoing = outgoing.1;
       incoming = incoming.1;
@@ -112,10 +112,9 @@ steps_from bytes e read =
 
 module _ (readers : ExactReaders) where
   -- the readers read what was written, whatever follows
-  pub body_at-body : (e : Entry) → IsLogged e → body_at (body e) ≡ Some e
+  pub body_at-body : (e : Entry) → IsShaped e → body_at (body e) ≡ Some e
   unfolding body
-  body_at-body e logged =
-      let shaped = logged.shape in
+  body_at-body e shaped =
       let tag : List ℕ = tag_if (has_tag e.call.kind) e.tag ++ [] in
       let incoming : List ℕ = string_if (has_incoming e.call.kind) e.incoming ++ tag in
       let outgoing : List ℕ = string_if (has_outgoing e.call.kind) e.outgoing ++ incoming in
@@ -138,7 +137,7 @@ module _ (readers : ExactReaders) where
         thread = (number_field readers w16).again e.thread kind shaped.thread;
         number = refl;
         signal = refl;
-        built = logged.built;
+        known = within_kind e.call.kind shaped.kind;
         call = (call_field readers e.call.kind).again e.call reply (refl, shaped.arguments);
         reply = (number_field readers w64).again e.reply outgoing shaped.reply;
         outgoing = (string_if_field readers (has_outgoing e.call.kind)).again e.outgoing incoming shaped.outgoing;
@@ -148,7 +147,7 @@ module _ (readers : ExactReaders) where
       body_at-from e.call.kind (to_le_bytes w64 e.clock ++ thread) e read
 
   -- and what they read is an entry that is all of the bytes
-  shaped_from : (bytes : List ℕ) (e : Entry) → AreBytes bytes → Steps e.call.kind bytes e → IsLogged e × (bytes ≡ body e)
+  shaped_from : (bytes : List ℕ) (e : Entry) → AreBytes bytes → Steps e.call.kind bytes e → IsShaped e × (bytes ≡ body e)
   unfolding body
   shaped_from bytes e are h =
       let are_1 = bytes_after (number_field readers w64) bytes e.clock h.after_clock are h.clock in
@@ -169,7 +168,7 @@ module _ (readers : ExactReaders) where
       let incoming = (string_if_field readers (has_incoming e.call.kind)).found h.after_outgoing e.incoming h.after_incoming are_7 h.incoming in
       let tag = (tag_if_field readers (has_tag e.call.kind)).found h.after_incoming e.tag [] are_8 h.tag in
       let shaped : IsShaped e = record {
-        kind = built_kind e.call.kind h.built;
+        kind = kind_within e.call.kind h.known;
         clock = clock.0;
         thread = thread.0;
         signal = signal.0;
@@ -188,9 +187,9 @@ module _ (readers : ExactReaders) where
       reply.1 ∙ onto (to_le_bytes w64 e.reply) (
       outgoing.1 ∙ onto (string_if (has_outgoing e.call.kind) e.outgoing) (
       incoming.1 ∙ onto (string_if (has_incoming e.call.kind) e.incoming) tag.1))))))) in
-      (record { shape = shaped; built = h.built }, spelled)
+      (shaped, spelled)
 
-  body_at-found : (bytes : List ℕ) (e : Entry) → AreBytes bytes → body_at bytes ≡ Some e → IsLogged e × (bytes ≡ body e)
+  body_at-found : (bytes : List ℕ) (e : Entry) → AreBytes bytes → body_at bytes ≡ Some e → IsShaped e × (bytes ≡ body e)
   body_at-found bytes e are found =
       let steps = steps_from bytes e found in
       let at : Steps steps.0 bytes e = steps.1 in
@@ -204,12 +203,12 @@ module _ (readers : ExactReaders) where
       next _ _ (n, after) _ size (next _ _ (within, rest) _ piece (next _ _ e _ entry refl))
 
   -- the readers read what was written, whatever follows
-  pub read_entry-encoding : (e : Entry) (rest : List ℕ) → IsLogged e → read_entry (encoding e ++ rest) ≡ Some (e, rest)
+  pub read_entry-encoding : (e : Entry) (rest : List ℕ) → IsShaped e → read_entry (encoding e ++ rest) ≡ Some (e, rest)
   unfolding encoding
   read_entry-encoding e rest shaped =
       ap read_entry (append_assoc (to_le_bytes w32 (length (body e))) (body e) rest)
       ∙ read_entry-from _ (body e ++ rest) (body e) rest (length (body e)) e
-      ((number_field readers w32).again (length (body e)) (body e ++ rest) (length-body_lt e shaped.shape))
+      ((number_field readers w32).again (length (body e)) (body e ++ rest) (length-body_lt e shaped))
       ((readers.piece (length (body e))).again (body e) (body e) rest (refl, refl))
       (body_at-body e shaped)
 
@@ -221,7 +220,7 @@ module _ (readers : ExactReaders) where
       ∙ sym (append_assoc (to_le_bytes w32 (length (body e))) (body e) rest)
 
   -- and what they read is an entry that stands there
-  pub read_entry-found : (bytes : List ℕ) (e : Entry) (rest : List ℕ) → AreBytes bytes → read_entry bytes ≡ Some (e, rest) → IsLogged e × (bytes ≡ encoding e ++ rest)
+  pub read_entry-found : (bytes : List ℕ) (e : Entry) (rest : List ℕ) → AreBytes bytes → read_entry bytes ≡ Some (e, rest) → IsShaped e × (bytes ≡ encoding e ++ rest)
   unfolding read_entry encoding
   read_entry-found bytes e rest are found =
       let size = bind_some _ _ _ found in
@@ -234,7 +233,7 @@ module _ (readers : ExactReaders) where
       let inside = body_at-found piece.0.0 entry.0 are_piece entry.1 in
       let spelled : bytes ≡ encoding entry.0 ++ piece.0.1 =
       encoding_from bytes size.0.1 piece.0.0 piece.0.1 size.0.0 entry.0 number.1 after front.2.0 inside.1 in
-      subst (λ (x : Entry × List ℕ). IsLogged x.0 × (bytes ≡ encoding x.0 ++ x.1)) (same_Some (entry.0, piece.0.1) (e, rest) entry.2) (inside.0, spelled)
+      subst (λ (x : Entry × List ℕ). IsShaped x.0 × (bytes ≡ encoding x.0 ++ x.1)) (same_Some (entry.0, piece.0.1) (e, rest) entry.2) (inside.0, spelled)
 
   -- where they read nothing, no entry stands in front
   pub read_entry-none : (bytes : List ℕ) → read_entry bytes ≡ None → BeginsNoEntry bytes
@@ -244,22 +243,22 @@ module _ (readers : ExactReaders) where
 
   -- ---- the entry in front
 
-  pub entry_at-begins : (bytes : List ℕ) (e : Entry) (rest : List ℕ) → IsLogged e → bytes ≡ encoding e ++ rest → entry_at bytes ≡ Some (e, rest)
+  pub entry_at-begins : (bytes : List ℕ) (e : Entry) (rest : List ℕ) → IsShaped e → bytes ≡ encoding e ++ rest → entry_at bytes ≡ Some (e, rest)
   unfolding entry_at entry_in
   entry_at-begins bytes e rest shaped begins =
       let read : read_entry bytes ≡ Some (e, rest) = ap read_entry begins ∙ read_entry-encoding e rest shaped in
       let starts : starts_with nat_eq bytes (encoding e) ≡ true = (starts_is Decides-eqb bytes (encoding e) _ refl).1 rest begins in
       let behind : drop (length (encoding e)) bytes ≡ rest = ap (drop (length (encoding e))) begins ∙ drop_at (encoding e) rest (length (encoding e)) refl in
-      next _ _ (e, rest) _ read (when_true _ _ _ _ (both_true _ _ (is_logged-from e shaped) starts) (ap (λ (t : List ℕ). Some (e, t)) behind))
+      next _ _ (e, rest) _ read (when_true _ _ _ _ (both_true _ _ (is_shaped-from e shaped) starts) (ap (λ (t : List ℕ). Some (e, t)) behind))
 
-pub entry_at-found : (bytes : List ℕ) (e : Entry) (rest : List ℕ) → entry_at bytes ≡ Some (e, rest) → IsLogged e × (bytes ≡ encoding e ++ rest)
+pub entry_at-found : (bytes : List ℕ) (e : Entry) (rest : List ℕ) → entry_at bytes ≡ Some (e, rest) → IsShaped e × (bytes ≡ encoding e ++ rest)
 unfolding entry_at entry_in
 entry_at-found bytes e rest found =
     let read = bind_some (λ (x : Entry × List ℕ). entry_in bytes x.0) (read_entry bytes) (e, rest) found in
     let chosen = cond_some _ _ _ read.2 in
     let tests = and_true _ _ chosen.0 in
     let spelled = (starts_is Decides-eqb bytes (encoding read.0.0) _ refl).0 tests.1 in
-    subst (λ (x : Entry × List ℕ). IsLogged x.0 × (bytes ≡ encoding x.0 ++ x.1)) chosen.1 (logged_from_test read.0.0 tests.0, spelled)
+    subst (λ (x : Entry × List ℕ). IsShaped x.0 × (bytes ≡ encoding x.0 ++ x.1)) chosen.1 (shaped_from_test read.0.0 tests.0, spelled)
 
 -- a value that none can be
 pub none_from : {A : Type 0} (o : Option A) → ((x : A) → o ≡ Some x → ⊥) → o ≡ None

@@ -1,20 +1,18 @@
--- The tests of `is_logged` and `is_head` say what the records of facts say.
-use Rattle.std.proofs.Common.{◌≡◌, ℕ, ◌^◌, ◌<◌, ◌≤◌, Bool, true, false, ◌&&◌, List, length, Option, Some, None, refl, arith}
+-- The tests of `is_shaped` and `is_head` say what the records of facts say.
+use Rattle.std.proofs.Common.{◌≡◌, ℕ, zero, suc, [], ◌∷◌, ◌^◌, ◌<◌, ◌≤◌, Bool, true, false, ◌&&◌, List, length, Option, Some, None, refl, arith}
 use Rattle.std.proofs.lemmas.Bool.{leb-true, le-leb, ltb-true, lt-ltb}
 use Rattle.std.proofs.lemmas.List.{nil_from_length}
 use Rattle.lamport_tag.specs.declared.Tag.{Tag}
 use Rattle.lib_calls.specs.declared.entry.Call.{Call}
 use Rattle.lib_calls.specs.declared.entry.Entry.{Entry}
 use Rattle.lib_calls.specs.Entry.{IsShaped, HasArguments, IsNumberIf, IsStringIf, IsTagIf}
-use Rattle.call_log.specs.Entry.{IsLogged}
-use Rattle.call_log.specs.Kind.{is_built}
+use Rattle.call_log.specs.Kind.{is_kind}
 use Rattle.call_table.specs.declared.kind.Kind.{Kind}
 use Rattle.call_table.specs.Table.{kind_numbered, kinds}
 use Rattle.call_table.specs.Numbers.{number_within}
-use Rattle.lib_calls.specs.Built.{is_built as is_answered}
-use Rattle.std.specs.Option.{option_map_or}
+use Rattle.std.specs.Prelude.{is_some, slice_get}
 use Rattle.call_log.specs.Head.{Head, IsHead}
-use Rattle.call_log.specs.Log.{is_number_if, is_string_if, is_tag_if, has_arguments, is_logged, is_head}
+use Rattle.call_log.specs.Log.{is_number_if, is_string_if, is_tag_if, has_arguments, is_shaped, is_head}
 
 pub and_true : (a b : Bool) → (a && b) ≡ true → (a ≡ true) × (b ≡ true)
 and_true true b e = (refl, e)
@@ -71,18 +69,27 @@ unfolding has_arguments
 has_arguments-from call h =
     both_true _ _ (both_true _ _ (is_number_if-from _ _ h.first) (is_number_if-from _ _ h.second)) (is_number_if-from _ _ h.third)
 
--- the kinds of which entries are read are kinds of calls
-pub built_kind : (number : ℕ) → is_built number ≡ true → number < length kinds
-unfolding is_built
-built_kind number built = by_kind (kind_numbered number) refl built
+-- the numbers of kinds are those below how many there are
+pub kind_within : (number : ℕ) → is_kind number ≡ true → number < length kinds
+unfolding is_kind
+kind_within number known = by_kind (kind_numbered number) refl known
   where
-    by_kind : (o : Option Kind) → kind_numbered number ≡ o → option_map_or is_answered o false ≡ true → number < length kinds
+    by_kind : (o : Option Kind) → kind_numbered number ≡ o → is_some o ≡ true → number < length kinds
     by_kind None e h = cc
     by_kind (Some kind) e h = number_within number kind e
 
-pub logged_from_test : (e : Entry) → is_logged e ≡ true → IsLogged e
-unfolding is_logged
-logged_from_test e test =
+some_there : (kinds : List Kind) (number : ℕ) → number < length kinds → is_some (slice_get kinds number) ≡ true
+some_there [] number low = absurd (omega arith)
+some_there (kind ∷ more) zero low = refl
+some_there (kind ∷ more) (suc number) low = some_there more number (omega arith)
+
+pub within_kind : (number : ℕ) → number < length kinds → is_kind number ≡ true
+unfolding is_kind kind_numbered
+within_kind number low = some_there kinds number low
+
+pub shaped_from_test : (e : Entry) → is_shaped e ≡ true → IsShaped e
+unfolding is_shaped
+shaped_from_test e test =
     let tag = and_true _ _ test in
     let incoming = and_true _ _ tag.0 in
     let outgoing = and_true _ _ incoming.0 in
@@ -91,8 +98,8 @@ logged_from_test e test =
     let signal = and_true _ _ arguments.0 in
     let thread = and_true _ _ signal.0 in
     let clock = and_true _ _ thread.0 in
-    let shaped : IsShaped e = record {
-      kind = built_kind e.call.kind clock.0;
+    record {
+      kind = kind_within e.call.kind clock.0;
       clock = ltb-true e.clock (2 ^ 64) clock.1;
       thread = ltb-true e.thread (2 ^ 16) thread.1;
       signal = ltb-true e.signal (2 ^ 8) signal.1;
@@ -101,22 +108,21 @@ logged_from_test e test =
       outgoing = string_if_from_test _ _ outgoing.1;
       incoming = string_if_from_test _ _ incoming.1;
       tag = tag_if_from_test _ _ tag.1;
-    } in
-    record { shape = shaped; built = clock.0 }
+    }
 
-pub is_logged-from : (e : Entry) → IsLogged e → is_logged e ≡ true
-unfolding is_logged
-is_logged-from e h =
+pub is_shaped-from : (e : Entry) → IsShaped e → is_shaped e ≡ true
+unfolding is_shaped
+is_shaped-from e h =
     both_true _ _ (both_true _ _ (both_true _ _ (both_true _ _ (both_true _ _ (both_true _ _ (both_true _ _ (both_true _ _
-    h.built
-    (lt-ltb e.clock (2 ^ 64) h.shape.clock))
-    (lt-ltb e.thread (2 ^ 16) h.shape.thread))
-    (lt-ltb e.signal (2 ^ 8) h.shape.signal))
-    (has_arguments-from e.call h.shape.arguments))
-    (lt-ltb e.reply (2 ^ 64) h.shape.reply))
-    (is_string_if-from _ _ h.shape.outgoing))
-    (is_string_if-from _ _ h.shape.incoming))
-    (is_tag_if-from _ _ h.shape.tag)
+    (within_kind e.call.kind h.kind)
+    (lt-ltb e.clock (2 ^ 64) h.clock))
+    (lt-ltb e.thread (2 ^ 16) h.thread))
+    (lt-ltb e.signal (2 ^ 8) h.signal))
+    (has_arguments-from e.call h.arguments))
+    (lt-ltb e.reply (2 ^ 64) h.reply))
+    (is_string_if-from _ _ h.outgoing))
+    (is_string_if-from _ _ h.incoming))
+    (is_tag_if-from _ _ h.tag)
 
 pub head_from_test : (h : Head) → is_head h ≡ true → IsHead h
 unfolding is_head

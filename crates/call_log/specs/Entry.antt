@@ -1,5 +1,5 @@
--- The entries of a log: which ones it can have, and how they are spelled.
-use Rattle.std.specs.Prelude.{◌≡◌, ℕ, Bool, true, nat_lt, if◌then◌else◌, List, [], ◌∷◌, ◌++◌, length, Option, Some, None}
+-- How the entries of a log are spelled.
+use Rattle.std.specs.Prelude.{◌≡◌, ℕ, Bool, nat_lt, if◌then◌else◌, List, [], ◌∷◌, ◌++◌, length, Option, Some, None}
 use Rattle.std.specs.List.{concat, flat_map}
 use Rattle.std.specs.Int.{w16, w32, w64, to_le_bytes}
 use Rattle.lamport_tag.specs.declared.Tag.{Tag}
@@ -7,12 +7,6 @@ use Rattle.lib_calls.specs.declared.entry.Call.{Call}
 use Rattle.lib_calls.specs.declared.entry.Entry.{Entry}
 use Rattle.lib_calls.specs.Entry.{IsShaped}
 use Rattle.lib_calls.specs.Kinds.{argument_count, has_outgoing, has_incoming, has_tag}
-use Rattle.call_log.specs.Kind.{is_built}
-
--- an entry that a log can have: it has the shape of its kind, and entries of this kind are read
-pub record IsLogged (e : Entry) : Type 0 where
-  pub shape : IsShaped e
-  pub built : is_built e.call.kind ≡ true
 
 -- ---- how an entry is spelled; the lowest byte of a number comes first
 
@@ -73,4 +67,4 @@ reply_bytes e = to_le_bytes w64 e.reply ++ (string_if (has_outgoing e.call.kind)
 
 -- no entry stands at the front of the bytes
 abbrev pub BeginsNoEntry : List ℕ → Type 0
-BeginsNoEntry bytes = (e : Entry) (rest : List ℕ) → IsLogged e → bytes ≡ encoding e ++ rest → ⊥
+BeginsNoEntry bytes = (e : Entry) (rest : List ℕ) → IsShaped e → bytes ≡ encoding e ++ rest → ⊥

@@ -1,7 +1,8 @@
 -- What holds of heads, entries and whole logs, whatever the bytes are.
 use Rattle.std.specs.Prelude.{◌≡◌, ℕ, ◌↔◌, List, [], ◌++◌, Some, All}
 use Rattle.lib_calls.specs.declared.entry.Entry.{Entry}
-use Rattle.call_log.specs.Entry.{IsLogged, encoding, encodings}
+use Rattle.lib_calls.specs.Entry.{IsShaped}
+use Rattle.call_log.specs.Entry.{encoding, encodings}
 use Rattle.call_log.specs.Head.{Head, IsHead, head_bytes}
 use Rattle.call_log.specs.Log.{Holds, entries_of, entry_at, head_at, rest_of}
 
@@ -11,7 +12,7 @@ FindsHeads = (bytes : List ℕ) (head : Head) (left : List ℕ) → (head_at byt
 
 -- the entry that is found is the one that stands in front
 abbrev pub FindsEntries : Type 0
-FindsEntries = (bytes : List ℕ) (entry : Entry) (left : List ℕ) → (entry_at bytes ≡ Some (entry, left)) ↔ (IsLogged entry × (bytes ≡ encoding entry ++ left))
+FindsEntries = (bytes : List ℕ) (entry : Entry) (left : List ℕ) → (entry_at bytes ≡ Some (entry, left)) ↔ (IsShaped entry × (bytes ≡ encoding entry ++ left))
 
 -- the bytes hold the entries that are read of them and the rest, and nothing else
 abbrev pub FindsAll : Type 0
@@ -19,7 +20,7 @@ FindsAll = (bytes : List ℕ) (entries : List Entry) (rest : List ℕ) → Holds
 
 -- entries that were written one after the other are held, and nothing is left
 abbrev pub HoldsWritten : Type 0
-HoldsWritten = (entries : List Entry) → All IsLogged entries → Holds (encodings entries) entries []
+HoldsWritten = (entries : List Entry) → All IsShaped entries → Holds (encodings entries) entries []
 
 -- reading gives exactly what stands in a log
 pub record ExactLogs : Type 0 where

@@ -1,12 +1,13 @@
 -- The head, the entries and the rest of some bytes, and a log of which some entries were read.
-use Rattle.std.specs.Prelude.{◌≡◌, ℕ, zero, suc, ◌^◌, Bool, true, ◌&&◌, not, nat_eq, nat_lt, nat_le, if◌then◌else◌, List, [], ◌∷◌, ◌++◌, length, drop, slice_index, Option, Some, None, option_and_then, All}
+use Rattle.std.specs.Prelude.{◌≡◌, ℕ, zero, suc, ◌^◌, Bool, true, ◌&&◌, nat_eq, nat_lt, nat_le, if◌then◌else◌, List, [], ◌∷◌, ◌++◌, length, drop, Option, Some, None, option_and_then, All}
 use Rattle.std.specs.List.{starts_with}
 use Rattle.lamport_tag.specs.declared.Tag.{Tag}
 use Rattle.lib_calls.specs.declared.entry.Call.{Call}
+use Rattle.lib_calls.specs.Entry.{IsShaped}
 use Rattle.lib_calls.specs.Kinds.{argument_count, has_outgoing, has_incoming, has_tag}
-use Rattle.call_log.specs.Kind.{is_built}
+use Rattle.call_log.specs.Kind.{is_kind}
 use Rattle.lib_calls.specs.declared.entry.Entry.{Entry}
-use Rattle.call_log.specs.Entry.{IsLogged, BeginsNoEntry, encoding, encodings}
+use Rattle.call_log.specs.Entry.{BeginsNoEntry, encoding, encodings}
 use Rattle.call_log.specs.Head.{Head, head_bytes}
 use Rattle.fri_text.specs.Name.{is_name}
 use Rattle.call_log.specs.Reading.{read_entry, read_head}
@@ -18,14 +19,9 @@ pub record Log : Type 0 where
 
 -- the bytes are these entries and then the rest, and there is no longer list of entries
 pub record Holds (bytes : List ℕ) (entries : List Entry) (rest : List ℕ) : Type 0 where
-  pub shaped : All IsLogged entries
+  pub shaped : All IsShaped entries
   pub spelled : bytes ≡ encodings entries ++ rest
   pub longest : BeginsNoEntry rest
-
--- the bytes go on with a kind that is not built: the length has 4 bytes, the clock 8 and the thread 2,
--- and the kind comes behind them
-abbrev pub stops_at_unbuilt : List ℕ → Bool
-stops_at_unbuilt bytes = nat_le 15 (length bytes) && not (is_built (slice_index bytes 14))
 
 -- ---- what stands at the front of some bytes, as functions
 
@@ -49,10 +45,10 @@ has_arguments call =
     && is_number_if (nat_lt 1 (argument_count call.kind)) call.a1
     && is_number_if (nat_lt 2 (argument_count call.kind)) call.a2
 
--- the test of `IsLogged`
-unfoldable pub is_logged : Entry → Bool
-is_logged e =
-    is_built e.call.kind
+-- the test of `IsShaped`
+unfoldable pub is_shaped : Entry → Bool
+is_shaped e =
+    is_kind e.call.kind
     && nat_lt e.clock (2 ^ 64)
     && nat_lt e.thread (2 ^ 16)
     && nat_lt e.signal (2 ^ 8)
@@ -65,7 +61,7 @@ is_logged e =
 -- the entry, where it is one and the bytes begin with its encoding, and the bytes behind it
 unfoldable pub entry_in : List ℕ → Entry → Option (Entry × List ℕ)
 entry_in bytes e =
-    if is_logged e && starts_with nat_eq bytes (encoding e) then Some (e, drop (length (encoding e)) bytes) else None
+    if is_shaped e && starts_with nat_eq bytes (encoding e) then Some (e, drop (length (encoding e)) bytes) else None
 
 -- the entry at the front of the bytes and the bytes behind it, or nothing where none stands there
 unfoldable pub entry_at : List ℕ → Option (Entry × List ℕ)

@@ -7,7 +7,7 @@ use Rattle.fri_bytes.specs.Reading.{byte_at, piece_at, le_at, Reading}
 use Rattle.lamport_tag.specs.declared.Tag.{Tag}
 use Rattle.lib_calls.specs.declared.entry.Call.{Call}
 use Rattle.lib_calls.specs.Kinds.{argument_count, has_outgoing, has_incoming, has_tag}
-use Rattle.call_log.specs.Kind.{is_built}
+use Rattle.call_log.specs.Kind.{is_kind}
 use Rattle.lib_calls.specs.declared.entry.Entry.{Entry}
 use Rattle.call_log.specs.Head.{Head}
 use Rattle.fri_text.specs.Name.{is_name}
@@ -71,7 +71,7 @@ body_at bytes = do
   thread ← le_at w16 clock.1
   kind ← byte_at thread.1
   signal ← byte_at kind.1
-  call ← if is_built kind.0 then call_at kind.0 signal.1 else None
+  call ← if is_kind kind.0 then call_at kind.0 signal.1 else None
   reply ← le_at w64 call.1
   outgoing ← string_if_at (has_outgoing kind.0) reply.1
   incoming ← string_if_at (has_incoming kind.0) outgoing.1

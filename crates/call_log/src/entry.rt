@@ -1,18 +1,18 @@
 // Reading an entry of a log.
 ghost use Rattle.std.specs.Prelude.{◌≡◌, ◌++◌, IfSome, IfNone, option_map};
-ghost use Rattle.lib_calls.specs.Entry.{entry_of};
-ghost use Rattle.call_log.specs.Entry.{BeginsNoEntry, IsLogged, encoding};
+ghost use Rattle.lib_calls.specs.Entry.{IsShaped, entry_of};
+ghost use Rattle.call_log.specs.Entry.{BeginsNoEntry, encoding};
 ghost use Rattle.call_log.specs.Reading.{Gives, body_at, read_entry as entry_read};
 
 use crate::fields::{
-    has_incoming, has_outgoing, has_tag, is_built, read_call, read_string_if, read_tag_if,
+    has_incoming, has_outgoing, has_tag, is_kind, read_call, read_string_if, read_tag_if,
 };
 use fri_bytes::{Cursor, exact_readers};
 use lib_calls::EntryView;
 
 // The entry at the front of the bytes, and the bytes behind it.
 pub(crate) fn read_entry(bytes: &[u8]) -> Option<(EntryView<'_>, &[u8])>
-    ensures shaped { IfSome result (λ r. IsLogged (entry_of r.0)) }
+    ensures shaped { IfSome result (λ r. IsShaped (entry_of r.0)) }
     ensures spelled { IfSome result (λ r. bytes.now ≡ encoding (entry_of r.0) ++ r.1.now) }
     ensures none { IfNone result (BeginsNoEntry bytes.now) }
 {
@@ -42,7 +42,7 @@ fn read_body(body: &[u8]) -> Option<EntryView<'_>>
     let thread = cursor.u16_le()?;
     let kind = cursor.byte()?;
     let signal = cursor.byte()?;
-    if !is_built(kind) {
+    if !is_kind(kind) {
         return None;
     }
     let call = read_call(&mut cursor, kind)?;

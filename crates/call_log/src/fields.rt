@@ -1,19 +1,19 @@
 // Which fields an entry of the kind with a number has, and reading the fields that not every entry has.
 ghost use Rattle.std.specs.Prelude.{◌≡◌, option_map};
 ghost use Rattle.lib_calls.specs.Kinds.{argument_count as argument_count_of, has_incoming as has_incoming_of, has_outgoing as has_outgoing_of, has_tag as has_tag_of};
-ghost use Rattle.call_log.specs.Kind.{is_built as is_built_of};
+ghost use Rattle.call_log.specs.Kind.{is_kind as is_kind_of};
 ghost use Rattle.call_log.specs.Reading.{Gives, call_at, flagged_at, number_if_at, string_at, string_if_at, tag_at, tag_if_at};
 
 use fri_bytes::Cursor;
 use lamport_tag::Tag;
-use lib_calls::{Call, Kind, is_built as is_answered};
+use lib_calls::{Call, Kind};
 
-// Whether entries of the kind are read.
-#[tactic(auto, unfolding(crate::specs::Kind::is_built))]
-pub(crate) fn is_built(number: u8) -> bool
-    ensures { result ≡ is_built_of number }
+// Whether some kind has the number.
+#[tactic(auto, unfolding(crate::specs::Kind::is_kind))]
+pub(crate) fn is_kind(number: u8) -> bool
+    ensures { result ≡ is_kind_of number }
 {
-    Kind::from_number(number).is_some_and(|kind| is_answered(kind))
+    Kind::from_number(number).is_some()
 }
 
 // How many arguments the calls of the kind have.

@@ -12,5 +12,5 @@ mod walk;
 pub use head::{BadHead, LogHead};
 pub use laws::exact_logs;
 pub use put::{entry_length, put_entry, put_head};
-pub use view::{LogView, stops_at_unbuilt};
+pub use view::LogView;
 pub use walk::entry_by_entry;

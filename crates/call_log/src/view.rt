@@ -1,12 +1,11 @@
 // Reading a log from its front.
 ghost use Rattle.std.specs.Prelude.{◌≡◌, ◌≤◌, ◌+◌, [], ◌∷◌, ◌++◌, length, option_map, None, Some, IfOk, OnErr, IfSome, IfNone, MatchOption};
-ghost use Rattle.lib_calls.specs.Entry.{entry_of};
-ghost use Rattle.call_log.specs.Entry.{BeginsNoEntry, IsLogged, encoding};
+ghost use Rattle.lib_calls.specs.Entry.{IsShaped, entry_of};
+ghost use Rattle.call_log.specs.Entry.{BeginsNoEntry, encoding};
 ghost use Rattle.call_log.specs.Head.{BeginsNoHead, IsHead, head_bytes, head_of};
-ghost use Rattle.call_log.specs.Log.{entries_of, entry_at, head_at, rest_of, stops_at_unbuilt as stops_at_unbuilt_of};
+ghost use Rattle.call_log.specs.Log.{entries_of, entry_at, head_at, rest_of};
 
 use crate::entry::read_entry;
-use crate::fields::is_built;
 use crate::head::{BadHead, LogHead, read_head};
 use fri_bytes::exact_readers;
 use lib_calls::EntryView;
@@ -55,7 +54,7 @@ impl<'a> LogView<'a> {
     /// stands next, as at the end, in front of a cut entry or of one with a byte too many, and then the
     /// log stays where it is.
     pub fn next_entry(&mut self) -> Option<EntryView<'a>>
-        ensures shaped { IfSome result (λ e. IsLogged (entry_of e)) }
+        ensures shaped { IfSome result (λ e. IsShaped (entry_of e)) }
         ensures taken { IfSome result (λ e. self.old.left ≡ encoding (entry_of e) ++ self.new.left) }
         ensures none { IfNone result (BeginsNoEntry self.old.left) }
         ensures unchanged { IfNone result (self.new ≡ self.old) }
@@ -91,12 +90,4 @@ impl<'a> LogView<'a> {
             rest: self.rest,
         }
     }
-}
-
-/// Whether the bytes behind a log's last entry go on with a kind of call of which entries are not read
-/// yet.
-pub fn stops_at_unbuilt(rest: &[u8]) -> bool
-    ensures { result ≡ stops_at_unbuilt_of rest.now }
-{
-    rest.len() >= 15 && !is_built(rest[14])
 }

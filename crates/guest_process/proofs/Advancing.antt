@@ -1,11 +1,12 @@
 -- What the code of an event rests on.
-use Rattle.std.proofs.Common.{◌≡◌, ℕ, zero, suc, true, false, cond, List, [], ◌∷◌, Option, Some, None, refl, ap, sym, subst, ◌∙◌}
-use Rattle.std.specs.Prelude.{◌%◌, ◌^◌, slice_get, slice_set, option_and_then}
+use Rattle.std.proofs.Common.{◌≡◌, ℕ, zero, suc, true, false, cond, List, [], ◌∷◌, ◌++◌, Option, Some, None, refl, ap, sym, subst, ◌∙◌}
+use Rattle.std.specs.Prelude.{◌%◌, ◌^◌, slice_get, slice_set, option_and_then, option_map}
 use Rattle.std.specs.Int.{w32, cast_signed}
 use Rattle.coop_threads.specs.Crew.{Crew, IsTaken, live_at, status_of, value_of as value_in, with_thread as crew_with}
 use Rattle.coop_threads.specs.declared.slot.Slot.{Slot}
 use Rattle.coop_threads.specs.declared.slot.Slot.TheVariants.{Kept, Lent, Over}
 use Rattle.coop_threads.specs.declared.status.Status.TheVariants.{Taken}
+use Rattle.lib_calls.specs.declared.entry.Call.{Call}
 use Rattle.lib_calls.specs.declared.entry.Entry.{Entry}
 use Rattle.wasm_types.specs.Library.{kind_at}
 use Rattle.wasm_types.specs.Modules.{module_of}
@@ -25,7 +26,7 @@ use Rattle.call_table.specs.declared.kind.Kind.TheVariants.{Exit}
 use Rattle.guest_process.specs.declared.parts.Parts.{Parts}
 use Rattle.guest_process.specs.declared.waiting.Waiting.{Waiting}
 use Rattle.lib_calls.specs.Answer.{Answer, answer_of}
-use Rattle.guest_process.specs.Answers.{effects, exited, written}
+use Rattle.guest_process.specs.Answers.{acted, effects, exited, narrow}
 use Rattle.guest_process.specs.Fits.{Each, StateFits, live_has}
 use Rattle.guest_process.specs.GoesOn.{budget, called, counted, entered, goes_on, handler, runs, settled, stands, stopped}
 use Rattle.guest_process.specs.Kinds.{ends_process, value_of}
@@ -33,12 +34,15 @@ use Rattle.guest_process.specs.Legal.{reason, reason_at}
 use Rattle.guest_process.specs.Next.{next, next_at}
 use Rattle.guest_process.specs.Seen.{IsProcess, state_of}
 use Rattle.guest_process.specs.Sound.{IsSound, IsStanding}
-use Rattle.guest_process.specs.State.{State, is_running, thread_at, with_thread}
+use Rattle.guest_process.specs.Start.{beginning}
+use Rattle.guest_process.specs.State.{State, is_running, kind_at as kind_of, thread_at, with_thread}
 use Rattle.guest_process.proofs.KeptFits.{state_kept}
 use Rattle.guest_process.proofs.KeptSound.{next_program, sound_kept}
 use Rattle.guest_process.proofs.Failing.{unless_none}
 use Rattle.guest_process.proofs.Legality.{call_told, fits_at, legal_at}
-use Rattle.guest_process.proofs.Written.{effects_written, exit_written}
+use Rattle.guest_process.proofs.Written.{effects_acted, exit_written}
+use Rattle.guest_process.proofs.Effects.{acted_has}
+use Rattle.guest_process.proofs.Signalled.{AreHandlers, given_is, set_sound}
 
 pub none_taken : (P : Waiting → Type 0) (slots : List (Slot Waiting)) (t : ℕ) → Each P slots → status_of (slice_get slots t) ≡ Taken → ⊥
 none_taken P [] t f h = cc
@@ -97,7 +101,7 @@ runs_out S t (Some thread) =
     stopped_out (record S { store = run.store }) t run.stop
 
 exits_by : (k : Kind) (S : State) (t : ℕ) (w : Waiting) (a : Answer) (signal clock : ℕ) → kind_numbered w.call.kind ≡ Some k → ends_process k ≡ true
-    → exited (counted (with_thread (written S w.call a) t Lent) clock) t w.call.a0 ≡ goes_on k (effects k S t w.call a) t w.strand a.reply signal clock
+    → exited (counted (with_thread (acted (Some k) S t w.call a) t Lent) clock) t w.call.a0 ≡ goes_on k (effects k S t w.call a) t w.strand a.reply signal clock
 exits_by Exit S t w a signal clock e h =
     ap (λ S'. exited (counted (with_thread S' t Lent) clock) t w.call.a0) (exit_written S w.call a e)
     ∙ ap (λ S'. record (counted S' clock) { end = Exited (cast_signed w32 (w.call.a0 % 2 ^ 32)) }) (with_again S t Over)
@@ -114,20 +118,67 @@ runs_by k S t strand reply signal clock h =
     runs_out (counted S clock) t thread
     ∙ ap (λ ends. cond ends (counted S clock) (runs (counted S clock) t thread)) (sym h)
 
+-- ---- what is done before the thread is taken out
+
+-- a thread that is made leaves those that are there
+kept_before : (slots : List (Slot Waiting)) (t : ℕ) (new w : Waiting) → option_and_then value_in (slice_get slots t) ≡ Some w → option_and_then value_in (slice_get (slots ++ Kept new ∷ []) t) ≡ Some w
+kept_before [] t new w at = cc
+kept_before (slot ∷ slots) zero new w at = at
+kept_before (slot ∷ slots) (suc t) new w at = kept_before slots t new w at
+
+-- the thread stands as it stood
+same_thread : (o : Option Kind) (S : State) (t : ℕ) (c : Call) (a : Answer) (w : Waiting) → thread_at S t ≡ Some w → thread_at (acted o S t c a) t ≡ Some w
+same_thread o S t c a w at =
+    acted_has (λ S'. thread_at S' t ≡ Some w) o S t c a (λ k. record { locks = λ e free. at; unlocks = λ e held. at; handles = λ e h given. at; spawns = λ e f found thread starts. kept_before S.crew.threads t (beginning S.store.program thread) w at }) at at
+
+pub taken_is : (S : State) (e : Entry) (o : Option Kind) (w : Waiting) → reason S e ≡ None → thread_at (acted o S e.thread e.call (answer_of e)) e.thread ≡ Some w → thread_at S e.thread ≡ Some w
+taken_is S e o w legal after = by_thread (thread_at S e.thread) refl
+  where
+    by_thread : (found : Option Waiting) → thread_at S e.thread ≡ found → thread_at S e.thread ≡ Some w
+    by_thread None at = absurd (live_is S e legal at)
+    by_thread (Some found) at = at ∙ sym (same_thread o S e.thread e.call (answer_of e) found at) ∙ after
+
+pub still_live : (S : State) (e : Entry) (o : Option Kind) → reason S e ≡ None → thread_at (acted o S e.thread e.call (answer_of e)) e.thread ≡ None → ⊥
+still_live S e o legal after = by_thread (thread_at S e.thread) refl
+  where
+    by_thread : (found : Option Waiting) → thread_at S e.thread ≡ found → ⊥
+    by_thread None at = live_is S e legal at
+    by_thread (Some found) at = let there = same_thread o S e.thread e.call (answer_of e) found at in cc
+
+pub acted_program : (S : State) (e : Entry) (o : Option Kind) → (acted o S e.thread e.call (answer_of e)).store.program ≡ S.store.program
+acted_program S e o =
+    acted_has (λ S'. S'.store.program ≡ S.store.program) o S e.thread e.call (answer_of e) (λ k. record { locks = λ h free. refl; unlocks = λ h held. refl; handles = λ e h given. refl; spawns = λ e f found thread starts. refl }) refl refl
+
+pub acted_events : (S : State) (e : Entry) (o : Option Kind) → (acted o S e.thread e.call (answer_of e)).events ≡ S.events
+acted_events S e o =
+    acted_has (λ S'. S'.events ≡ S.events) o S e.thread e.call (answer_of e) (λ k. record { locks = λ h free. refl; unlocks = λ h held. refl; handles = λ e h given. refl; spawns = λ e f found thread starts. refl }) refl refl
+
+pub acted_handlers : (S : State) (e : Entry) (o : Option Kind) → AreHandlers S.store.program S.handlers → AreHandlers S.store.program (acted o S e.thread e.call (answer_of e)).handlers
+acted_handlers S e o sound =
+    acted_has (λ S'. AreHandlers S.store.program S'.handlers) o S e.thread e.call (answer_of e) (λ k. record {
+      locks = λ h free. sound;
+      unlocks = λ h held. sound;
+      handles = λ h set given. set_sound S.store.program S.handlers (narrow e.call.a0) set (λ f is. given_is S (narrow e.call.a0) (narrow e.call.a1) f (given ∙ ap Some is)) sound;
+      spawns = λ e f found thread starts. sound;
+    })
+    sound sound
+
 -- the event of a thread that calls `exit`
 pub exits : (S : State) (e : Entry) (w : Waiting) → StateFits S → reason S e ≡ None → thread_at S e.thread ≡ Some w → ends_process w.kind ≡ true
-    → exited (counted (with_thread (written S e.call (answer_of e)) e.thread Lent) e.clock) e.thread w.call.a0 ≡ next S e
+    → exited (counted (with_thread (acted (kind_of S e.thread) S e.thread e.call (answer_of e)) e.thread Lent) e.clock) e.thread w.call.a0 ≡ next S e
 exits S e w s legal at h =
-    ap (λ call. exited (counted (with_thread (written S call (answer_of e)) e.thread Lent) e.clock) e.thread w.call.a0) (call_told S e w (legal_at S e w legal at))
+    ap (λ o. exited (counted (with_thread (acted (option_map (λ w. w.kind) o) S e.thread e.call (answer_of e)) e.thread Lent) e.clock) e.thread w.call.a0) at
+    ∙ ap (λ call. exited (counted (with_thread (acted (Some w.kind) S e.thread call (answer_of e)) e.thread Lent) e.clock) e.thread w.call.a0) (call_told S e w (legal_at S e w legal at))
     ∙ exits_by w.kind S e.thread w (answer_of e) e.signal e.clock (fits_at S e.thread w s at).kind h
     ∙ ap (next_at S e) (sym at)
 
 -- the event of another
 pub goes : (S : State) (e : Entry) (w : Waiting) → StateFits S → reason S e ≡ None → thread_at S e.thread ≡ Some w → ends_process w.kind ≡ false
-    → goes_out w.kind (written S e.call (answer_of e)) e.thread w.strand e.reply e.signal e.clock ≡ next S e
+    → goes_out w.kind (acted (kind_of S e.thread) S e.thread e.call (answer_of e)) e.thread w.strand e.reply e.signal e.clock ≡ next S e
 goes S e w s legal at h =
-    let effect = effects_written w.kind S e.thread w.call (answer_of e) (fits_at S e.thread w s at).kind h in
-    ap (λ call. goes_out w.kind (written S call (answer_of e)) e.thread w.strand e.reply e.signal e.clock) (call_told S e w (legal_at S e w legal at))
+    let effect = effects_acted w.kind S e.thread w.call (answer_of e) (fits_at S e.thread w s at).kind h in
+    ap (λ o. goes_out w.kind (acted (option_map (λ w. w.kind) o) S e.thread e.call (answer_of e)) e.thread w.strand e.reply e.signal e.clock) at
+    ∙ ap (λ call. goes_out w.kind (acted (Some w.kind) S e.thread call (answer_of e)) e.thread w.strand e.reply e.signal e.clock) (call_told S e w (legal_at S e w legal at))
     ∙ ap (λ S'. goes_out w.kind S' e.thread w.strand e.reply e.signal e.clock) (sym effect)
     ∙ runs_by w.kind (effects w.kind S e.thread w.call (answer_of e)) e.thread w.strand e.reply e.signal e.clock h
     ∙ ap (next_at S e) (sym at)

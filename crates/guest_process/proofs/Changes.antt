@@ -1,5 +1,5 @@
 -- What a legal event keeps of a state.
-use Rattle.std.proofs.Common.{◌≡◌, ◌≢◌, ℕ, zero, suc, ◌+◌, Bool, true, false, cond, List, [], ◌∷◌, length, Option, Some, None, refl, ap, ◌∙◌, sym, subst}
+use Rattle.std.proofs.Common.{◌≡◌, ◌≢◌, ℕ, zero, suc, ◌+◌, ◌≤◌, Bool, true, false, cond, List, [], ◌∷◌, ◌++◌, ◌<◌, length, Option, Some, None, refl, ap, ◌∙◌, sym, subst, arith}
 use Rattle.std.specs.Prelude.{slice_get, slice_set}
 use Rattle.std.proofs.lemmas.List.{length-set}
 use Rattle.coop_threads.specs.declared.slot.Slot.{Slot}
@@ -16,18 +16,30 @@ use Rattle.wasm_step.specs.declared.call.CallSite.{CallSite}
 use Rattle.guest_process.specs.declared.end.End.{End}
 use Rattle.guest_process.specs.declared.end.End.TheVariants.{Finished}
 use Rattle.call_table.specs.declared.kind.Kind.{Kind}
-use Rattle.call_table.specs.declared.kind.Kind.TheVariants.{Begin, Exit, Note, Print, Random, Me, Send, Recv, TryRecv, Yield, Thread as Number}
 use Rattle.guest_process.specs.declared.waiting.Waiting.{Waiting}
 use Rattle.lib_calls.specs.Answer.{Answer}
-use Rattle.guest_process.specs.Answers.{after_need, asked, effects, written}
+use Rattle.guest_process.specs.Answers.{effects, narrow}
 use Rattle.guest_process.specs.Fits.{Each, Slotted}
 use Rattle.guest_process.specs.GoesOn.{after_burst, all_over, budget, called, counted, entered, goes_on, handler, runs, stands, stopped}
 use Rattle.guest_process.specs.Kinds.{ends_process, value_of}
-use Rattle.guest_process.specs.State.{State, with_thread}
-use Rattle.guest_process.proofs.Written.{asked_has}
+use Rattle.guest_process.specs.Start.{beginning}
+use Rattle.guest_process.specs.State.{State, with_new_thread, with_thread}
+use Rattle.guest_process.proofs.Effects.{effects_has}
+use Rattle.guest_process.proofs.Spawning.{has_room}
 
--- what an event of thread t changes of a state where P is to hold of each live thread: its program, its
--- number, its group and its handlers stay, and so does each other thread
+-- what an answer changes of a state where P is to hold of each live thread: its program, its number and its
+-- group stay, and it makes no more threads than there is room for
+pub record Affects (P : Waiting → Type 0) (S S' : State) : Type 0 where
+  pub who : S'.who ≡ S.who
+  pub count : S'.count ≡ S.count
+  pub program : S'.store.program ≡ S.store.program
+  pub room : length S.crew.threads ≤ 64 → length S'.crew.threads ≤ 64
+  pub threads : Each P S'.crew.threads
+  pub clock : S'.clock ≡ S.clock
+  pub events : S'.events ≡ S.events
+
+-- what thread t changes as it goes on: beside that, the locks and the handlers stay, and so does each other
+-- thread
 pub record Keeps (P : Waiting → Type 0) (t : ℕ) (S S' : State) : Type 0 where
   pub who : S'.who ≡ S.who
   pub count : S'.count ≡ S.count
@@ -35,20 +47,25 @@ pub record Keeps (P : Waiting → Type 0) (t : ℕ) (S S' : State) : Type 0 wher
   pub room : length S'.crew.threads ≡ length S.crew.threads
   pub threads : Each P S'.crew.threads
   pub others : (u : ℕ) → u ≢ t → slice_get S'.crew.threads u ≡ slice_get S.crew.threads u
+  pub holders : S'.crew.holders ≡ S.crew.holders
   pub handlers : S'.handlers ≡ S.handlers
   pub clock : S'.clock ≡ S.clock
   pub events : S'.events ≡ S.events
 
-set_other : (slots : List (Slot Waiting)) (t u : ℕ) (slot : Slot Waiting) → u ≢ t → slice_get (slice_set slots t slot) u ≡ slice_get slots u
+pub set_other : (slots : List (Slot Waiting)) (t u : ℕ) (slot : Slot Waiting) → u ≢ t → slice_get (slice_set slots t slot) u ≡ slice_get slots u
 set_other [] t u slot h = refl
 set_other (first ∷ rest) zero zero slot h = absurd (h refl)
 set_other (first ∷ rest) zero (suc u) slot h = refl
 set_other (first ∷ rest) (suc t) zero slot h = refl
 set_other (first ∷ rest) (suc t) (suc u) slot h = set_other rest t u slot (λ e. h (ap suc e))
 
+pub one_more : (slots : List (Slot Waiting)) (w : Waiting) → length (slots ++ Kept w ∷ []) ≡ length slots + 1
+one_more [] w = refl
+one_more (slot ∷ slots) w = omega (arith, one_more slots w)
+
 module _ (P : Waiting → Type 0) where
   kept_same : (t : ℕ) (S : State) → Each P S.crew.threads → Keeps P t S S
-  kept_same t S f = record { who = refl; count = refl; program = refl; room = refl; threads = f; others = λ u h. refl; handlers = refl; clock = refl; events = refl }
+  kept_same t S f = record { who = refl; count = refl; program = refl; room = refl; threads = f; others = λ u h. refl; holders = refl; handlers = refl; clock = refl; events = refl }
 
   then_kept : (t : ℕ) (S S' S'' : State) → Keeps P t S S' → Keeps P t S' S'' → Keeps P t S S''
   then_kept t S S' S'' k l = record {
@@ -58,6 +75,7 @@ module _ (P : Waiting → Type 0) where
     room = l.room ∙ k.room;
     threads = l.threads;
     others = λ u h. l.others u h ∙ k.others u h;
+    holders = l.holders ∙ k.holders;
     handlers = l.handlers ∙ k.handlers;
     clock = l.clock ∙ k.clock;
     events = l.events ∙ k.events;
@@ -76,13 +94,14 @@ module _ (P : Waiting → Type 0) where
     room = length-set S.crew.threads t slot;
     threads = set_each S.crew.threads t slot f g;
     others = λ u h. set_other S.crew.threads t u slot h;
+    holders = refl;
     handlers = refl;
     clock = refl;
     events = refl;
   }
 
   settled_kept : (t : ℕ) (S S' : State) (b : Bool) → Keeps P t S S' → Keeps P t S (cond b (record S' { end = Finished }) S')
-  settled_kept t S S' true k = record { who = k.who; count = k.count; program = k.program; room = k.room; threads = k.threads; others = k.others; handlers = k.handlers; clock = k.clock; events = k.events }
+  settled_kept t S S' true k = record { who = k.who; count = k.count; program = k.program; room = k.room; threads = k.threads; others = k.others; holders = k.holders; handlers = k.handlers; clock = k.clock; events = k.events }
   settled_kept t S S' false k = k
 
   -- the thread that stands at a call of the library is such
@@ -102,42 +121,70 @@ module _ (P : Waiting → Type 0) where
   burst_kept : (S : State) (t : ℕ) (run : Run) → run.store.program ≡ S.store.program → Each P S.crew.threads → Stand S.store.program → Keeps P t S (after_burst S t run)
   burst_kept S t run e f g =
       then_kept t S (record S { store = run.store }) (after_burst S t run)
-      (record { who = refl; count = refl; program = e; room = refl; threads = f; others = λ u h. refl; handlers = refl; clock = refl; events = refl })
+      (record { who = refl; count = refl; program = e; room = refl; threads = f; others = λ u h. refl; holders = refl; handlers = refl; clock = refl; events = refl })
       (stopped_kept (record S { store = run.store }) t run.stop f (subst Stand (sym e) g))
 
   runs_kept : KeepsProgram → (S : State) (t : ℕ) (o : Option Thread) → Each P S.crew.threads → Stand S.store.program → Keeps P t S (runs S t o)
   runs_kept keeps S t None f g = set_kept S t Over _ f tt
   runs_kept keeps S t (Some thread) f g = burst_kept S t (burst budget thread S.store) (keeps budget thread S.store) f g
 
-  written_kept : (t : ℕ) (S : State) (c : Call) (a : Answer) → Each P S.crew.threads → Keeps P t S (written S c a)
-  written_kept t S c a f = record { who = refl; count = refl; program = refl; room = refl; threads = f; others = λ u h. refl; handlers = refl; clock = refl; events = refl }
-
-  asked_kept : (t : ℕ) (S : State) (c : Call) (a : Answer) → Each P S.crew.threads → Keeps P t S (after_need (asked S c) (written S c a))
-  asked_kept t S c a f = asked_has (Keeps P t S) S c (written S c a) (kept_same t S f) (written_kept t S c a f)
-
-  need_kept : (k : Kind) (S : State) (t : ℕ) (c : Call) (a : Answer) → Each P S.crew.threads → Keeps P t S (effects k S t c a)
-  need_kept Exit S t c a f = set_kept S t Over _ f tt
-  need_kept Random S t c a f = asked_kept t S c a f
-  need_kept Recv S t c a f = asked_kept t S c a f
-  need_kept TryRecv S t c a f = asked_kept t S c a f
-  need_kept Begin S t c a f = kept_same t S f
-  need_kept Note S t c a f = kept_same t S f
-  need_kept Print S t c a f = kept_same t S f
-  need_kept Me S t c a f = kept_same t S f
-  need_kept Send S t c a f = kept_same t S f
-  need_kept Yield S t c a f = kept_same t S f
-  need_kept Number S t c a f = kept_same t S f
-  need_kept _ S t c a f = written_kept t S c a f
-
   event_kept : KeepsProgram → (b : Bool) (S : State) (t : ℕ) (o : Option Thread) → Each P S.crew.threads → Stand S.store.program → Keeps P t S (cond b S (runs S t o))
   event_kept keeps true S t o f g = kept_same t S f
   event_kept keeps false S t o f g = runs_kept keeps S t o f g
 
+  -- as it goes on after the answer
+  pub went_on : KeepsProgram → (k : Kind) (S : State) (t : ℕ) (w : Waiting) (reply signal clock : ℕ) → Each P S.crew.threads → Stand S.store.program → Keeps P t (counted S clock) (goes_on k S t w.strand reply signal clock)
+  went_on keeps k S t w reply signal clock f g =
+      event_kept keeps (ends_process k) (counted S clock) t (entered S.store.program (answered w.strand (value_of k reply)) signal (handler S.handlers signal)) f g
+
+  -- ---- the answer
+
+  affects_none : (S : State) → Each P S.crew.threads → Affects P S S
+  affects_none S f = record { who = refl; count = refl; program = refl; room = λ few. few; threads = f; clock = refl; events = refl }
+
+  -- a thread that begins is such
+  abbrev pub Begins : Module → Type 0
+  Begins m = (thread : Thread) → P (beginning m thread)
+
+  each_more : (slots : List (Slot Waiting)) (w : Waiting) → Each P slots → P w → Each P (slots ++ Kept w ∷ [])
+  each_more [] w f p = (p, tt)
+  each_more (slot ∷ slots) w f p = (f.0, each_more slots w f.1 p)
+
+  made_affects : (S : State) (w : Waiting) → length S.crew.threads < 64 → Each P S.crew.threads → P w → Affects P S (with_new_thread S w)
+  made_affects S w room f p = record {
+    who = refl;
+    count = refl;
+    program = refl;
+    room = λ few. omega (arith, room, one_more S.crew.threads w);
+    threads = each_more S.crew.threads w f p;
+    clock = refl;
+    events = refl;
+  }
+
+  pub affected : (k : Kind) (S : State) (t : ℕ) (c : Call) (a : Answer) → Each P S.crew.threads → Begins S.store.program → Affects P S (effects k S t c a)
+  affected k S t c a f b =
+      effects_has (Affects P S) k S t c a
+      (record {
+        locks = λ e free. record { who = refl; count = refl; program = refl; room = λ few. few; threads = f; clock = refl; events = refl };
+        unlocks = λ e held. record { who = refl; count = refl; program = refl; room = λ few. few; threads = f; clock = refl; events = refl };
+        handles = λ e h given. record { who = refl; count = refl; program = refl; room = λ few. few; threads = f; clock = refl; events = refl };
+        spawns = λ e func found thread starts. made_affects S (beginning S.store.program thread) (has_room S (narrow c.a0) func found) f (b thread);
+      })
+      (affects_none S f)
+      (record { who = refl; count = refl; program = refl; room = λ few. few; threads = f; clock = refl; events = refl })
+      (λ e. let over = set_kept S t Over S.end f tt in record { who = refl; count = refl; program = refl; room = λ few. omega (arith, over.room, few); threads = over.threads; clock = refl; events = refl })
+
   -- all of an event, from its clock on
-  pub went_on : KeepsProgram → (k : Kind) (S : State) (t : ℕ) (c : Call) (a : Answer) (w : Waiting) (signal clock : ℕ) → Each P S.crew.threads → Stand S.store.program → Keeps P t (counted S clock) (goes_on k (effects k S t c a) t w.strand a.reply signal clock)
-  went_on keeps k S t c a w signal clock f g =
-      let n = need_kept k S t c a f in
-      let S' = effects k S t c a in
-      let first : Keeps P t (counted S clock) (counted S' clock) = record { who = n.who; count = n.count; program = n.program; room = n.room; threads = n.threads; others = n.others; handlers = n.handlers; clock = refl; events = ap (λ n. n + 1) n.events } in
-      then_kept t (counted S clock) (counted S' clock) _ first
-      (event_kept keeps (ends_process k) (counted S' clock) t (entered S'.store.program (answered w.strand (value_of k a.reply)) signal (handler S'.handlers signal)) n.threads (subst Stand (sym n.program) g))
+  pub event_affects : KeepsProgram → (k : Kind) (S : State) (t : ℕ) (c : Call) (a : Answer) (w : Waiting) (signal clock : ℕ) → Each P S.crew.threads → Begins S.store.program → Stand S.store.program → Affects P (counted S clock) (goes_on k (effects k S t c a) t w.strand a.reply signal clock)
+  event_affects keeps k S t c a w signal clock f b g =
+      let n = affected k S t c a f b in
+      let l = went_on keeps k (effects k S t c a) t w a.reply signal clock n.threads (subst Stand (sym n.program) g) in
+      record {
+        who = l.who ∙ n.who;
+        count = l.count ∙ n.count;
+        program = l.program ∙ n.program;
+        room = λ few. omega (arith, l.room, n.room few);
+        threads = l.threads;
+        clock = l.clock;
+        events = l.events ∙ ap (λ n. n + 1) n.events;
+      }

@@ -1,10 +1,16 @@
 -- What is to be shown of each kind of call.
 use Rattle.std.proofs.Common.{◌≡◌, ℕ, ◌<◌, ◌≤◌, ◌^◌, Bool, true, false, cond, not, List, [], ◌∷◌, length, take, Option, Some, None, inl, inr, refl, ap, ◌∙◌, subst, arith}
-use Rattle.std.specs.Prelude.{◌==◌, nat_le, is_some}
+use Rattle.std.specs.Prelude.{◌==◌, nat_le, is_some, slice_get}
 use Rattle.std.proofs.lemmas.Bool.{and_parts, and_from, or_cases, or_left, or_right, eq-eqb, leb-true, le-leb}
 use Rattle.std.proofs.lemmas.Bool.Decides.{nat_tests}
 use Rattle.std.proofs.lemmas.List.{length-take, length-take-le}
 use Rattle.std.proofs.lemmas.Option.{same_Some}
+use Rattle.coop_threads.specs.Crew.{holder_of, status_of}
+use Rattle.coop_threads.specs.Locks.{grip_of}
+use Rattle.coop_threads.specs.declared.grip.Grip.{Grip}
+use Rattle.coop_threads.specs.declared.grip.Grip.TheVariants.{Got, Already, Held}
+use Rattle.coop_threads.specs.declared.status.Status.{Status}
+use Rattle.coop_threads.specs.declared.status.Status.TheVariants.{Unknown, Live, Taken, Ended}
 use Rattle.lamport_tag.specs.declared.Tag.{Tag}
 use Rattle.lamport_tag.specs.Laws.{IsFromGroup, StaysUntagged}
 use Rattle.lamport_tag.specs.Tag.{clock_of, is_sendable, payload_behind, read_datagram, tag_at}
@@ -13,13 +19,15 @@ use Rattle.lib_calls.specs.Effects.{is_good, minus_one, minus_two, received, tak
 use Rattle.lib_calls.specs.Entry.{HasArguments, IsNumberIf, IsStringIf, IsTagIf}
 use Rattle.call_table.specs.Table.{kind_numbered, row}
 use Rattle.call_table.specs.declared.kind.Kind.{Kind}
-use Rattle.call_table.specs.declared.kind.Kind.TheVariants.{Begin, Exit, Note, Print, Now, SleepUntil, Random, Me, Send, Recv, TryRecv, Yield, Thread}
+use Rattle.call_table.specs.declared.kind.Kind.TheVariants.{Begin, Exit, Note, Print, Now, SleepUntil, Random, Me, Send, Recv, TryRecv, Spawn, Yield, Join, Lock, Unlock, OnSignal, Thread as Number}
 use Rattle.lib_calls.specs.Answer.{Answer}
-use Rattle.guest_process.specs.Answers.{Need, Fixed, Blocked, World, asked, need, is_empty, is_payload, is_possible, is_due, is_plain, is_taken, replied, written}
+use Rattle.wasm_step.specs.Strand.{new_thread}
+use Rattle.wasm_step.specs.Thread.{Thread}
+use Rattle.guest_process.specs.Answers.{Need, Fixed, Blocked, World, asked, need, handled, handler_given, handles, is_empty, is_holder, is_payload, is_possible, is_due, is_plain, is_taken, joined, joins, locked, locks, narrow, replied, spawnable, spawned, spawned_at, spawns, unlocked, written}
 use Rattle.guest_process.specs.Fits.{EnvFits, StateFits}
 use Rattle.guest_process.specs.Legal.{answers}
 use Rattle.guest_process.specs.Live.{Env, Answered, cut, drawn, fills, first_taken, from_world, or_empty, takes}
-use Rattle.guest_process.specs.State.{State, with_memory}
+use Rattle.guest_process.specs.State.{State, with_memory, without_lock}
 use Rattle.guest_process.proofs.Failing.{kept, same}
 use Rattle.guest_process.proofs.Written.{asked_good, good_written, not_minus_two, now_written, random_short, recv_short, sleep_written, try_recv_short}
 
@@ -57,6 +65,52 @@ asked_fits S c = by_test (is_good c S.store.memory)
     by_test true = tt
     by_test false = omega arith
 
+joined_fits : (S : State) (t u : ℕ) → ReplyFits (joined S t u)
+joined_fits S t u = by_test (u == t)
+  where
+    by_status : (status : Status) → ReplyFits (joins S status)
+    by_status Unknown = omega arith
+    by_status Live = tt
+    by_status Taken = tt
+    by_status Ended = omega arith
+
+    by_test : (b : Bool) → ReplyFits (cond b (Fixed minus_one S) (joins S (status_of (slice_get S.crew.threads u))))
+    by_test true = omega arith
+    by_test false = by_status (status_of (slice_get S.crew.threads u))
+
+locked_fits : (S : State) (m t : ℕ) → ReplyFits (locked S m t)
+locked_fits S m t = by_grip (grip_of (holder_of S.crew m) t)
+  where
+    by_grip : (grip : Grip) → ReplyFits (locks S m t grip)
+    by_grip Got = omega arith
+    by_grip Already = omega arith
+    by_grip (Held holder) = tt
+
+unlocked_fits : (S : State) (m t : ℕ) → ReplyFits (unlocked S m t)
+unlocked_fits S m t = by_test (is_holder (holder_of S.crew m) t)
+  where
+    by_test : (b : Bool) → ReplyFits (cond b (Fixed 0 (without_lock S m)) (Fixed minus_one S))
+    by_test true = omega arith
+    by_test false = omega arith
+
+handled_fits : (S : State) (signal number : ℕ) → ReplyFits (handled S signal number)
+handled_fits S signal number = by_given (handler_given S signal number)
+  where
+    by_given : (o : Option (Option ℕ)) → ReplyFits (handles S signal o)
+    by_given None = omega arith
+    by_given (Some h) = omega arith
+
+spawned_fits : (S : State) (index arg : ℕ) → length S.crew.threads ≤ 64 → ReplyFits (spawned S index arg)
+spawned_fits S index arg few = by_func (spawnable S index)
+  where
+    by_thread : (o : Option Thread) → ReplyFits (spawns S o)
+    by_thread None = omega arith
+    by_thread (Some thread) = omega (arith, few)
+
+    by_func : (o : Option ℕ) → ReplyFits (spawned_at S arg o)
+    by_func None = omega arith
+    by_func (Some f) = by_thread (new_thread S.store.program f arg)
+
 pub reply_fits : (k : Kind) (S : State) (t : ℕ) (c : Call) → StateFits S → t < 64 → HasArguments c → ReplyFits (need k S t c)
 reply_fits Begin S t c s low args = omega arith
 reply_fits Exit S t c s low args = omega arith
@@ -69,9 +123,13 @@ reply_fits Me S t c s low args = omega (arith, s.who, s.count)
 reply_fits Send S t c s low args = replied_fits S c c.a2 (number_fits _ c.a2 args.third)
 reply_fits Recv S t c s low args = asked_fits S c
 reply_fits TryRecv S t c s low args = asked_fits S c
+reply_fits Spawn S t c s low args = spawned_fits S (narrow c.a0) (narrow c.a1) s.room
 reply_fits Yield S t c s low args = omega arith
-reply_fits Thread S t c s low args = omega arith
-reply_fits _ S t c s low args = tt
+reply_fits Join S t c s low args = joined_fits S t (narrow c.a0)
+reply_fits Lock S t c s low args = locked_fits S (narrow c.a0) t
+reply_fits Unlock S t c s low args = unlocked_fits S (narrow c.a0) t
+reply_fits OnSignal S t c s low args = handled_fits S (narrow c.a0) (narrow c.a1)
+reply_fits Number S t c s low args = omega arith
 
 -- ---- what the world answers
 

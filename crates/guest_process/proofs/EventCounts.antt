@@ -2,7 +2,6 @@
 use Rattle.std.proofs.Common.{◌≡◌, ℕ, ◌+◌, true, false, cond, Bool, Option, Some, None, refl, ap, ◌∙◌, subst}
 use Rattle.std.proofs.lemmas.Option.{same_Some}
 use Rattle.call_table.specs.declared.kind.Kind.{Kind}
-use Rattle.call_table.specs.declared.kind.Kind.TheVariants.{Exit, Random, Recv, TryRecv}
 use Rattle.lib_calls.specs.Answer.{Answer, answer_of}
 use Rattle.lib_calls.specs.declared.entry.Call.{Call}
 use Rattle.lib_calls.specs.declared.entry.Entry.{Entry}
@@ -16,7 +15,7 @@ use Rattle.wasm_step.specs.Thread.{Thread}
 use Rattle.wasm_step.specs.declared.call.CallSite.{CallSite}
 use Rattle.guest_process.specs.declared.end.End.TheVariants.{Finished}
 use Rattle.guest_process.specs.declared.waiting.Waiting.{Waiting}
-use Rattle.guest_process.specs.Answers.{after_need, asked, effects, written}
+use Rattle.guest_process.specs.Answers.{effects}
 use Rattle.guest_process.specs.EventCount.{IsBegun, IsCounted, IsFresh}
 use Rattle.guest_process.specs.GoesOn.{budget, called, counted, entered, handler, runs, stopped}
 use Rattle.guest_process.specs.Kinds.{ends_process, value_of}
@@ -25,7 +24,7 @@ use Rattle.guest_process.specs.Next.{next_at}
 use Rattle.guest_process.specs.Start.{begun_with}
 use Rattle.guest_process.specs.State.{State, is_running, thread_at}
 use Rattle.guest_process.proofs.Failing.{unless_none}
-use Rattle.guest_process.proofs.Written.{asked_has}
+use Rattle.guest_process.proofs.Effects.{effects_has}
 
 -- ---- a process begins with no event
 
@@ -39,15 +38,9 @@ begins m who count S h = by_store (store_of m) (first_thread m) h
 
 -- ---- neither an answer nor a burst counts
 
-asked_events : (S : State) (c : Call) (a : Answer) → (after_need (asked S c) (written S c a)).events ≡ S.events
-asked_events S c a = asked_has (λ S'. S'.events ≡ S.events) S c (written S c a) refl refl
-
 answer_events : (k : Kind) (S : State) (t : ℕ) (c : Call) (a : Answer) → (effects k S t c a).events ≡ S.events
-answer_events Exit S t c a = refl
-answer_events Random S t c a = asked_events S c a
-answer_events Recv S t c a = asked_events S c a
-answer_events TryRecv S t c a = asked_events S c a
-answer_events _ S t c a = refl
+answer_events k S t c a =
+    effects_has (λ S'. S'.events ≡ S.events) k S t c a (record { locks = λ e free. refl; unlocks = λ e held. refl; handles = λ e h given. refl; spawns = λ e f found thread starts. refl }) refl refl (λ e. refl)
 
 settled_events : (S : State) (b : Bool) → (cond b (record S { end = Finished }) S).events ≡ S.events
 settled_events S true = refl

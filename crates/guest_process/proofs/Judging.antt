@@ -1,16 +1,11 @@
 -- What the code judges by.
 use Rattle.std.proofs.Common.{◌≡◌, ℕ, Bool, false, ◌&&◌, refl, ap}
 use Rattle.std.specs.Prelude.{◌==◌}
-use Rattle.lib_calls.specs.declared.entry.Call.{Call}
-use Rattle.call_table.specs.declared.kind.Kind.{Kind}
-use Rattle.call_table.specs.declared.kind.Kind.TheVariants.{Exit, Random, Recv, TryRecv}
 use Rattle.guest_process.specs.declared.need.Need.TheVariants as plainly
 use Rattle.lib_calls.specs.Answer.{Answer}
-use Rattle.guest_process.specs.Answers.{Need, Fixed, Blocked, World, after_need, asked, effects, is_plain, written}
+use Rattle.guest_process.specs.Answers.{Need, Fixed, Blocked, World, is_plain}
 use Rattle.guest_process.specs.Legal.{answers}
 use Rattle.guest_process.specs.Seen.{plain}
-use Rattle.guest_process.specs.State.{State}
-use Rattle.guest_process.proofs.Written.{asked_has}
 
 pub fixed : (n : Need) (a : Answer) (from_world : Bool) (reply : ℕ) → plain n ≡ plainly.Fixed reply → answers n a from_world ≡ ((a.reply == reply) && is_plain a.tag a.incoming)
 fixed (Fixed r S) a w reply h = ap (λ r. (a.reply == r) && is_plain a.tag a.incoming) (reply_of h)
@@ -29,14 +24,3 @@ pub world : (n : Need) (a : Answer) (from_world : Bool) → plain n ≡ plainly.
 world (Fixed r S) a w h = cc
 world Blocked a w h = cc
 world World a w h = refl
-
-asked_handlers : (S : State) (c : Call) (a : Answer) → (after_need (asked S c) (written S c a)).handlers ≡ S.handlers
-asked_handlers S c a = asked_has (λ S'. S'.handlers ≡ S.handlers) S c (written S c a) refl refl
-
--- no answer to a call changes a handler
-pub same_handlers : (k : Kind) (S : State) (t : ℕ) (c : Call) (a : Answer) → (effects k S t c a).handlers ≡ S.handlers
-same_handlers Exit S t c a = refl
-same_handlers Random S t c a = asked_handlers S c a
-same_handlers Recv S t c a = asked_handlers S c a
-same_handlers TryRecv S t c a = asked_handlers S c a
-same_handlers _ S t c a = refl

@@ -1,11 +1,12 @@
 -- A legal event keeps the ranges of a state.
-use Rattle.std.proofs.Common.{◌≡◌, ℕ, ◌≤◌, ◌^◌, ◌%◌, Bool, true, false, cond, Option, Some, None, refl, sym, ap, subst, arith, ◌≢◌}
+use Rattle.std.proofs.Common.{◌≡◌, ℕ, ◌≤◌, ◌^◌, ◌%◌, Bool, true, false, cond, Option, Some, None, refl, sym, ap, subst, arith}
 use Rattle.std.specs.Option.{option_map_or}
-use Rattle.std.specs.Prelude.{nat_lt, slice_get}
+use Rattle.std.specs.Prelude.{nat_lt}
 use Rattle.std.proofs.lemmas.Bool.{eqb-true}
 use Rattle.call_table.specs.Numbers.{numbered}
 use Rattle.call_table.specs.Table.{row}
 use Rattle.call_table.specs.declared.kind.Kind.{Kind}
+use Rattle.call_table.specs.declared.kind.Kind.TheVariants.{Begin}
 use Rattle.lamport_tag.specs.Tag.{clock_of, next_clock_of}
 use Rattle.lib_calls.specs.Answer.{answer_of}
 use Rattle.lib_calls.specs.Entry.{IsNumberIf}
@@ -22,10 +23,11 @@ use Rattle.guest_process.specs.Fits.{StateFits, WaitingFits}
 use Rattle.guest_process.specs.GoesOn.{argument, counted as counted_at, stands}
 use Rattle.guest_process.specs.Legal.{checks, reason_at}
 use Rattle.guest_process.specs.Next.{next_at}
-use Rattle.guest_process.specs.OneEvent.{IsKept, OthersStay, Rises, RisesTo}
+use Rattle.guest_process.specs.OneEvent.{IsKept, Rises, RisesTo}
+use Rattle.guest_process.specs.Start.{beginning}
 use Rattle.guest_process.specs.State.{State, is_running, thread_at}
 use Rattle.guest_process.proofs.EachKind.{answer_clock}
-use Rattle.guest_process.proofs.Changes.{Keeps, went_on}
+use Rattle.guest_process.proofs.Changes.{Affects, event_affects}
 use Rattle.guest_process.proofs.Failing.{all_hold, unless_none}
 
 argument_fits : (b : Bool) (bits : ℕ) → IsNumberIf b (cond b (bits % 2 ^ 64) 0)
@@ -37,7 +39,7 @@ counted : (kind : Kind) → argument_count (row kind).number ≡ (row kind).sign
 unfolding argument_count
 counted kind = ap (λ (o : Option Kind). option_map_or (λ (kind : Kind). (row kind).signature.params) o 0) (numbered kind)
 
-stand_fits : (m : Module) (S : State) (thread : Thread) (site : CallSite) (kind : Kind) → S.store.program ≡ m → kind_at m site.func ≡ Some kind → WaitingFits (stands S thread site kind)
+pub stand_fits : (m : Module) (S : State) (thread : Thread) (site : CallSite) (kind : Kind) → S.store.program ≡ m → kind_at m site.func ≡ Some kind → WaitingFits (stands S thread site kind)
 stand_fits m S thread site kind e h = record {
   kind = numbered kind;
   arguments = record {
@@ -51,9 +53,16 @@ stand_fits m S thread site kind e h = record {
     fits n bits =
         subst (λ count. IsNumberIf (nat_lt n count) (argument kind n bits)) (sym (counted kind)) (argument_fits (nat_lt n (row kind).signature.params) bits)
 
+zero_fits : (b : Bool) → IsNumberIf b 0
+zero_fits true = omega arith
+zero_fits false = refl
+
+pub begin_fits : (m : Module) (thread : Thread) → WaitingFits (beginning m thread)
+begin_fits m thread = record { kind = numbered Begin; arguments = record { first = zero_fits _; second = zero_fits _; third = zero_fits _ } }
+
 -- what an event of a thread that stands so changes
-event_keeps : KeepsProgram → (S : State) (e : Entry) → StateFits S → (w : Waiting) → Keeps WaitingFits e.thread (counted_at S e.clock) (next_at S e (Some w))
-event_keeps keeps S e s w = went_on WaitingFits keeps w.kind S e.thread w.call (answer_of e) w e.signal e.clock s.threads (stand_fits S.store.program)
+event_keeps : KeepsProgram → (S : State) (e : Entry) → StateFits S → (w : Waiting) → Affects WaitingFits (counted_at S e.clock) (next_at S e (Some w))
+event_keeps keeps S e s w = event_affects WaitingFits keeps w.kind S e.thread w.call (answer_of e) w e.signal e.clock s.threads (begin_fits S.store.program) (stand_fits S.store.program)
 
 -- its clock is the next one, and no tag bears one past 2 ^ 62
 record NextClock (S : State) (e : Entry) : Type 0 where
@@ -75,7 +84,7 @@ fits_at keeps S e s (Some w) h =
     let kept = event_keeps keeps S e s w in
     record {
       clock = omega (arith, kept.clock, kept.events, told.clock, told.tag, s.clock);
-      room = omega (arith, kept.room, s.room);
+      room = kept.room s.room;
       count = omega (arith, kept.count, s.count);
       who = omega (arith, kept.who, kept.count, s.who);
       threads = kept.threads;
@@ -102,11 +111,3 @@ rises_at keeps S e s (Some w) h =
 -- the clock rises, and the process stays the same
 pub clock_rises : KeepsProgram → Rises
 clock_rises keeps S e s h = rises_at keeps S e s (thread_at S e.thread) (unless_none (is_running S) _ _ h).1
-
-others_at : KeepsProgram → (S : State) (e : Entry) → StateFits S → (o : Option Waiting) → reason_at S e o ≡ None → (t : ℕ) → t ≢ e.thread → slice_get (next_at S e o).crew.threads t ≡ slice_get S.crew.threads t
-others_at keeps S e s None h t other = cc
-others_at keeps S e s (Some w) h t other = (event_keeps keeps S e s w).others t other
-
--- the other threads stay as they were
-pub others_kept : KeepsProgram → OthersStay
-others_kept keeps S e s h = others_at keeps S e s (thread_at S e.thread) (unless_none (is_running S) _ _ h).1

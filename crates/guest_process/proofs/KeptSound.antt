@@ -5,7 +5,8 @@ use Rattle.std.proofs.lemmas.Option.{same_Some}
 use Rattle.call_table.specs.Table.{kind_named, row}
 use Rattle.call_table.specs.declared.kind.Kind.{Kind}
 use Rattle.call_table.specs.declared.kind.Kind.TheVariants.{Begin}
-use Rattle.lib_calls.specs.Answer.{answer_of}
+use Rattle.lib_calls.specs.Answer.{Answer, answer_of}
+use Rattle.lib_calls.specs.declared.entry.Call.{Call}
 use Rattle.lib_calls.specs.declared.entry.Entry.{Entry}
 use Rattle.wasm_types.specs.declared.modules.ImportDesc.{ImportDesc}
 use Rattle.wasm_types.specs.declared.modules.ImportDesc.TheVariants as desc
@@ -19,6 +20,7 @@ use Rattle.wasm_step.specs.Strand.{IsHandler, IsResult, first_result, library_re
 use Rattle.wasm_step.specs.Thread.{Thread}
 use Rattle.wasm_step.specs.declared.call.CallSite.{CallSite}
 use Rattle.guest_process.specs.declared.waiting.Waiting.{Waiting}
+use Rattle.guest_process.specs.Answers.{effects, narrow}
 use Rattle.guest_process.specs.Fits.{Each}
 use Rattle.guest_process.specs.GoesOn.{handler, stands}
 use Rattle.guest_process.specs.Kinds.{value_of}
@@ -26,8 +28,11 @@ use Rattle.guest_process.specs.Legal.{reason_at}
 use Rattle.guest_process.specs.Next.{next, next_at}
 use Rattle.guest_process.specs.OneEvent.{IsKeptSound}
 use Rattle.guest_process.specs.Sound.{IsSound, IsStanding, StandsAt}
+use Rattle.guest_process.specs.Start.{beginning}
 use Rattle.guest_process.specs.State.{State, is_running, thread_at}
-use Rattle.guest_process.proofs.Changes.{went_on}
+use Rattle.guest_process.proofs.Changes.{Stand, affected, event_affects, went_on}
+use Rattle.guest_process.proofs.Effects.{effects_has}
+use Rattle.guest_process.proofs.Signalled.{AreHandlers, given_is, set_sound}
 use Rattle.guest_process.proofs.Failing.{unless_none}
 
 -- a reply is a value of the width of the result
@@ -84,18 +89,38 @@ stand_sound m all S thread site kind e h = record {
   stands = stand_at m (stands S thread site kind) site.func kind all refl (slice_get m.imports site.func) refl h;
 }
 
+begin_stands : (m : Module) (thread : Thread) → IsStanding m (beginning m thread)
+begin_stands m thread = record { program = refl; stands = refl }
+
+pub handlers_sound : (k : Kind) (S : State) (t : ℕ) (c : Call) (a : Answer) → AreHandlers S.store.program S.handlers → AreHandlers S.store.program (effects k S t c a).handlers
+handlers_sound k S t c a sound =
+    effects_has (λ S'. AreHandlers S.store.program S'.handlers) k S t c a
+    (record {
+      locks = λ e free. sound;
+      unlocks = λ e held. sound;
+      handles = λ e h given. set_sound S.store.program S.handlers (narrow c.a0) h (λ f is. given_is S (narrow c.a0) (narrow c.a1) f (given ∙ ap Some is)) sound;
+      spawns = λ e f found thread starts. sound;
+    })
+    sound sound (λ e. sound)
+
+-- what an answer leaves of the handlers is of the program, and so they stay as the thread goes on
 sound_at : KeepsProgram → (S : State) (e : Entry) → IsSound S → (o : Option Waiting) → reason_at S e o ≡ None → IsSound (next_at S e o)
 sound_at keeps S e s None h = cc
 sound_at keeps S e s (Some w) h =
     let k = w.kind in
     let m = S.store.program in
-    let kept = went_on (IsStanding m) keeps k S e.thread w.call (answer_of e) w e.signal e.clock s.threads (stand_sound m s.imports) in
-    let S' = next_at S e (Some w) in
+    let a = answer_of e in
+    let S' = effects k S e.thread w.call a in
+    let n = affected (IsStanding m) k S e.thread w.call a s.threads (begin_stands m) in
+    let stand = stand_sound m s.imports in
+    let kept = went_on (IsStanding m) keeps k S' e.thread w e.reply e.signal e.clock n.threads (subst (Stand (IsStanding m)) (sym n.program) stand) in
+    let same = kept.program ∙ n.program in
+    let S'' = next_at S e (Some w) in
     record {
-      imports = subst (λ m. All (IsOfLibrary m.types) m.imports) (sym kept.program) s.imports;
-      threads = subst (λ m. Each (IsStanding m) S'.crew.threads) (sym kept.program) kept.threads;
+      imports = subst (λ m. All (IsOfLibrary m.types) m.imports) (sym same) s.imports;
+      threads = subst (λ m. Each (IsStanding m) S''.crew.threads) (sym same) kept.threads;
       handlers = λ signal func h.
-          subst (λ m. IsHandler m func) (sym kept.program) (s.handlers signal func (ap (λ hs. handler hs signal) (sym kept.handlers) ∙ h));
+          subst (λ m. IsHandler m func) (sym same) (handlers_sound k S e.thread w.call a s.handlers signal func (ap (λ hs. handler hs signal) (sym kept.handlers) ∙ h));
     }
 
 pub sound_kept : KeepsProgram → IsKeptSound
@@ -104,7 +129,7 @@ sound_kept keeps S e s h = sound_at keeps S e s (thread_at S e.thread) (unless_n
 program_at : KeepsProgram → (S : State) (e : Entry) → IsSound S → (o : Option Waiting) → (next_at S e o).store.program ≡ S.store.program
 program_at keeps S e s None = refl
 program_at keeps S e s (Some w) =
-    (went_on (IsStanding S.store.program) keeps w.kind S e.thread w.call (answer_of e) w e.signal e.clock s.threads (stand_sound S.store.program s.imports)).program
+    (event_affects (IsStanding S.store.program) keeps w.kind S e.thread w.call (answer_of e) w e.signal e.clock s.threads (begin_stands S.store.program) (stand_sound S.store.program s.imports)).program
 
 -- an event leaves the program as it is
 pub next_program : KeepsProgram → (S : State) (e : Entry) → IsSound S → (next S e).store.program ≡ S.store.program

@@ -1,4 +1,8 @@
 pub mod Failing
+pub mod Crews
+pub mod Effects
+pub mod Signalled
+pub mod Spawning
 pub mod Written
 pub mod Legality
 pub mod EachKind
@@ -12,5 +16,6 @@ pub mod EventCounts
 pub mod Judging
 pub mod KeptFits
 pub mod KeptSound
+pub mod CrewLaws
 pub mod Advancing
 pub mod Starting

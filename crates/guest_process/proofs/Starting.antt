@@ -3,10 +3,7 @@ use Rattle.std.proofs.Common.{◌≡◌, ℕ, zero, suc, true, false, cond, ◌<
 use Rattle.std.specs.Prelude.{All, ◌==◌, length, replicate}
 use Rattle.std.specs.List.{list_all, slice_index_or}
 use Rattle.std.proofs.lemmas.Option.{same_Some}
-use Rattle.call_table.specs.Numbers.{numbered}
-use Rattle.call_table.specs.declared.kind.Kind.TheVariants.{Begin}
 use Rattle.coop_threads.specs.Crew.{empty, with_new_thread}
-use Rattle.lib_calls.specs.Entry.{IsNumberIf}
 use Rattle.wasm_types.specs.Modules.{Module, module_of}
 use Rattle.wasm_types.specs.Library.{IsOfLibrary}
 use Rattle.wasm_types.specs.Valid.{IsValid}
@@ -17,7 +14,7 @@ use Rattle.wasm_step.specs.Suits.{Suits}
 use Rattle.wasm_step.specs.Thread.{Thread}
 use Rattle.signal_points.specs.Signals.{handler_of, no_handlers}
 use Rattle.guest_process.specs.GoesOn.{handler}
-use Rattle.guest_process.specs.Fits.{StateFits, WaitingFits}
+use Rattle.guest_process.specs.Fits.{StateFits}
 use Rattle.guest_process.specs.Seen.{IsProcess, state_of}
 use Rattle.guest_process.specs.Sound.{IsSound, IsStanding}
 use Rattle.guest_process.specs.Start.{beginning, begun, begun_with}
@@ -25,6 +22,7 @@ use Rattle.guest_process.specs.declared.parts.Parts.{Parts}
 use Rattle.guest_process.specs.OneEvent.{IsStarted}
 use Rattle.guest_process.specs.declared.end.End.TheVariants.{Running}
 use Rattle.guest_process.proofs.Failing.{kept}
+use Rattle.guest_process.proofs.KeptFits.{begin_fits}
 
 store_program : (m : Module) (g : Store) → store_of m ≡ Some g → g.program ≡ m
 store_program m g h =
@@ -49,16 +47,11 @@ no_handler signal func h = by_test (signal == 0) h
     by_test true h = cc
     by_test false h = let none = none_in 32 signal in cc
 
-zero_fits : (b : Bool) → IsNumberIf b 0
-zero_fits true = omega arith
-zero_fits false = refl
-
 begun_holds : (m : Module) (who count : ℕ) (g : Store) (thread : Thread) → who < count → count ≤ 16 → store_of m ≡ Some g → IsValid m → StateFits (begun m who count g thread) × IsSound (begun m who count g thread)
 begun_holds m who count g thread low few store valid =
     let same : g.program ≡ m = store_program m g store in
-    let begin_fits : WaitingFits (beginning m thread) = record { kind = numbered Begin; arguments = record { first = zero_fits _; second = zero_fits _; third = zero_fits _ } } in
     let begin_stands : IsStanding g.program (beginning m thread) = record { program = sym same; stands = refl } in (
-      record { clock = omega arith; room = omega arith; count = few; who = low; threads = (begin_fits, tt) },
+      record { clock = omega arith; room = omega arith; count = few; who = low; threads = (begin_fits m thread, tt) },
       record {
         imports = subst (λ m. All (IsOfLibrary m.types) m.imports) (sym same) valid.imports;
         threads = (begin_stands, tt);

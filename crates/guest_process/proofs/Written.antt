@@ -4,30 +4,23 @@ use Rattle.std.specs.Prelude.{◌==◌, nat_le, is_some}
 use Rattle.std.proofs.lemmas.Bool.{and_parts, and_from, or_cases, or_left, or_right, eqb-true, eq-eqb, ne_eqb, leb-true, le-leb}
 use Rattle.call_table.specs.Table.{kind_numbered}
 use Rattle.call_table.specs.declared.kind.Kind.{Kind}
-use Rattle.call_table.specs.declared.kind.Kind.TheVariants.{Begin, Exit, Note, Print, Now, SleepUntil, Random, Me, Send, Recv, TryRecv, Yield, Thread}
+use Rattle.call_table.specs.declared.kind.Kind.TheVariants.{Begin, Exit, Note, Print, Now, SleepUntil, Random, Me, Send, Recv, TryRecv, Spawn, Yield, Join, Lock, Unlock, OnSignal, Thread}
 use Rattle.guest_memory.specs.Memory.{Memory, is_inside}
 use Rattle.lamport_tag.specs.declared.Tag.{Tag}
 use Rattle.lib_calls.specs.declared.entry.Call.{Call}
 use Rattle.lib_calls.specs.Answer.{Answer}
 use Rattle.lib_calls.specs.Effects.{brings, has_good, is_answer, is_good, is_range, minus_one, minus_two, put_in, takes_counted, takes_nothing, written as memory_with}
-use Rattle.guest_process.specs.Answers.{Fixed, World, after_need, asked, effects, is_drawn, is_empty, is_payload, is_plain, is_possible, is_taken, need, written}
+use Rattle.guest_process.specs.Answers.{Need, Fixed, World, acted, after_need, asked, effects, handled, is_drawn, is_empty, is_payload, is_plain, is_possible, is_taken, locked, narrow, need, spawned, unlocked, written}
 use Rattle.guest_process.specs.Kinds.{ends_process}
 use Rattle.guest_process.specs.Legal.{answers}
 use Rattle.guest_process.specs.State.{State, with_memory}
+use Rattle.guest_process.proofs.Effects.{effects_has}
 
 -- ---- good arguments
 
 good_is : (k : Kind) (c : Call) (memory : Memory) → kind_numbered c.kind ≡ Some k → is_good c memory ≡ has_good k c memory
 unfolding is_good
 good_is k c memory e = rw e refl
-
--- what holds with bad arguments and what holds where the world answers holds after a call that asks the world
-pub asked_has : (P : State → Type 0) (S : State) (c : Call) (S' : State) → P S → P S' → P (after_need (asked S c) S')
-asked_has P S c S' bad good = by_test (is_good c S.store.memory)
-  where
-    by_test : (b : Bool) → P (after_need (cond b World (Fixed minus_one S)) S')
-    by_test true = good
-    by_test false = bad
 
 -- the world answers good arguments alone
 pub asked_good : (S : State) (c : Call) → asked S c ≡ World → is_good c S.store.memory ≡ true
@@ -81,20 +74,33 @@ asked_written S c a = by_test (is_good c S.store.memory) refl
     by_test true good = refl
     by_test false bad = sym (bad_written S c a bad)
 
--- where it does not end the process, an answer does what it writes and no more
-pub effects_written : (k : Kind) (S : State) (t : ℕ) (c : Call) (a : Answer) → kind_numbered c.kind ≡ Some k → ends_process k ≡ false → effects k S t c a ≡ written S c a
-effects_written Exit S t c a e h = cc
-effects_written Begin S t c a e h = sym (plain_written Begin S c a e refl)
-effects_written Note S t c a e h = sym (plain_written Note S c a e refl)
-effects_written Print S t c a e h = sym (plain_written Print S c a e refl)
-effects_written Random S t c a e h = asked_written S c a
-effects_written Me S t c a e h = sym (plain_written Me S c a e refl)
-effects_written Send S t c a e h = sym (plain_written Send S c a e refl)
-effects_written Recv S t c a e h = asked_written S c a
-effects_written TryRecv S t c a e h = asked_written S c a
-effects_written Yield S t c a e h = sym (plain_written Yield S c a e refl)
-effects_written Thread S t c a e h = sym (plain_written Thread S c a e refl)
-effects_written _ S t c a e h = refl
+fixed_written : (k : Kind) (S : State) (c : Call) (a : Answer) (n : Need) → kind_numbered c.kind ≡ Some k → put_in k c a S.store.memory ≡ S.store.memory → after_need n (written S c a) ≡ after_need n S
+fixed_written k S c a n e same = ap (after_need n) (plain_written k S c a e same)
+
+joined_written : (S : State) (t : ℕ) (c : Call) (a : Answer) → kind_numbered c.kind ≡ Some Join → effects Join S t c a ≡ written S c a
+joined_written S t c a e =
+    let plain = plain_written Join S c a e refl in
+    effects_has (λ S'. S' ≡ written S c a) Join S t c a (record { locks = λ h. cc; unlocks = λ h. cc; handles = λ h. cc; spawns = λ h. cc }) (sym plain) refl (λ h. cc)
+
+-- where it does not end the process, an answer does so much
+pub effects_acted : (k : Kind) (S : State) (t : ℕ) (c : Call) (a : Answer) → kind_numbered c.kind ≡ Some k → ends_process k ≡ false → effects k S t c a ≡ acted (Some k) S t c a
+effects_acted Exit S t c a e h = cc
+effects_acted Begin S t c a e h = sym (plain_written Begin S c a e refl)
+effects_acted Note S t c a e h = sym (plain_written Note S c a e refl)
+effects_acted Print S t c a e h = sym (plain_written Print S c a e refl)
+effects_acted Random S t c a e h = asked_written S c a
+effects_acted Me S t c a e h = sym (plain_written Me S c a e refl)
+effects_acted Send S t c a e h = sym (plain_written Send S c a e refl)
+effects_acted Recv S t c a e h = asked_written S c a
+effects_acted TryRecv S t c a e h = asked_written S c a
+effects_acted Spawn S t c a e h = fixed_written Spawn S c a (spawned S (narrow c.a0) (narrow c.a1)) e refl
+effects_acted Yield S t c a e h = sym (plain_written Yield S c a e refl)
+effects_acted Join S t c a e h = joined_written S t c a e
+effects_acted Lock S t c a e h = fixed_written Lock S c a (locked S (narrow c.a0) t) e refl
+effects_acted Unlock S t c a e h = fixed_written Unlock S c a (unlocked S (narrow c.a0) t) e refl
+effects_acted OnSignal S t c a e h = fixed_written OnSignal S c a (handled S (narrow c.a0) (narrow c.a1)) e refl
+effects_acted Thread S t c a e h = sym (plain_written Thread S c a e refl)
+effects_acted _ S t c a e h = refl
 
 -- a time alone writes nothing
 pub now_written : (S : State) (c : Call) (a : Answer) → kind_numbered c.kind ≡ Some Now → written S c a ≡ S

@@ -1,16 +1,27 @@
 -- How a call is answered: what process and call determine, and what the world gives.
-use Rattle.std.specs.Prelude.{ℕ, int_le, ◌==◌, ◌&&◌, ◌||◌, ◌%◌, ◌^◌, not, is_some, if◌then◌else◌, List, [], ◌∷◌, length, Option, Some, None, Bool, true, false}
+use Rattle.std.specs.Prelude.{ℕ, int_le, nat_le, nat_lt, ◌==◌, ◌&&◌, ◌||◌, ◌-◌, ◌%◌, ◌^◌, not, is_some, option_map, if◌then◌else◌, List, [], ◌∷◌, length, slice_get, Option, Some, None, Bool, true, false}
 use Rattle.std.specs.Int.{w32, w64, cast_signed}
 use Rattle.call_table.specs.declared.kind.Kind.{Kind}
-use Rattle.call_table.specs.declared.kind.Kind.TheVariants.{Begin, Exit, Note, Print, Now, SleepUntil, Random, Me, Send, Recv, TryRecv, Yield, Thread}
+use Rattle.call_table.specs.declared.kind.Kind.TheVariants.{Begin, Exit, Note, Print, Now, SleepUntil, Random, Me, Send, Recv, TryRecv, Spawn, Yield, Join, Lock, Unlock, OnSignal, Thread}
+use Rattle.coop_threads.specs.Crew.{holder_of, status_of}
+use Rattle.coop_threads.specs.Locks.{grip_of}
+use Rattle.coop_threads.specs.declared.grip.Grip.{Grip}
+use Rattle.coop_threads.specs.declared.grip.Grip.TheVariants.{Got, Already, Held}
 use Rattle.coop_threads.specs.declared.slot.Slot.TheVariants.{Over}
+use Rattle.coop_threads.specs.declared.status.Status.{Status}
+use Rattle.coop_threads.specs.declared.status.Status.TheVariants.{Unknown, Live, Taken, Ended}
 use Rattle.lamport_tag.specs.declared.Tag.{Tag}
 use Rattle.lamport_tag.specs.Tag.{is_sendable, tag_at}
 use Rattle.lib_calls.specs.declared.entry.Call.{Call}
 use Rattle.lib_calls.specs.Answer.{Answer}
 use Rattle.lib_calls.specs.Effects.{is_good, minus_one, minus_two, takes_counted, written as memory_with}
+use Rattle.signal_points.specs.Signals.{with_handler}
+use Rattle.wasm_step.specs.Store.{Store, handler_at}
+use Rattle.wasm_step.specs.Strand.{new_thread}
+use Rattle.wasm_step.specs.Thread as stack
 use Rattle.guest_process.specs.declared.end.End.TheVariants.{Exited}
-use Rattle.guest_process.specs.State.{State, with_memory, with_thread}
+use Rattle.guest_process.specs.Start.{beginning}
+use Rattle.guest_process.specs.State.{State, with_handlers, with_lock, with_memory, with_new_thread, with_thread, without_lock}
 
 -- a reply alone
 abbrev pub replies : ℕ → Answer
@@ -35,7 +46,91 @@ replied S c reply = Fixed (if is_good c S.store.memory then reply else minus_one
 abbrev pub asked : State → Call → Need
 asked S c = if is_good c S.store.memory then World else Fixed minus_one S
 
--- what process and call determine; a call that is not answered yet is never answered
+-- ---- threads and locks
+
+-- an argument of 32 bits
+abbrev pub narrow : ℕ → ℕ
+narrow bits = bits % 2 ^ 32
+
+-- a thread that joins one which stands so
+abbrev pub joins : State → Status → Need
+joins S Unknown = Fixed minus_one S
+joins S Live = Blocked
+joins S Taken = Blocked
+joins S Ended = Fixed 0 S
+
+-- thread t joins thread u
+abbrev pub joined : State → ℕ → ℕ → Need
+joined S t u = if u == t then Fixed minus_one S else joins S (status_of (slice_get S.crew.threads u))
+
+-- thread t asks for the lock m, and this is what it finds
+abbrev pub locks : State → ℕ → ℕ → Grip → Need
+locks S m t Got = Fixed 0 (with_lock S m t)
+locks S m t Already = Fixed minus_one S
+locks S m t (Held holder) = Blocked
+
+abbrev pub locked : State → ℕ → ℕ → Need
+locked S m t = locks S m t (grip_of (holder_of S.crew m) t)
+
+-- thread t is this holder of a lock
+abbrev pub is_holder : Option ℕ → ℕ → Bool
+is_holder None t = false
+is_holder (Some holder) t = holder == t
+
+-- thread t gives the lock m back
+abbrev pub unlocked : State → ℕ → ℕ → Need
+unlocked S m t = if is_holder (holder_of S.crew m) t then Fixed 0 (without_lock S m) else Fixed minus_one S
+
+-- ---- handlers
+
+-- the number at which no function handles a signal
+abbrev pub removal : ℕ
+removal = 2 ^ 32 - 1
+
+-- what this number names: no handler, or the function at that place of the table, where it is one
+abbrev pub handler_named : Store → ℕ → Option (Option ℕ)
+handler_named store number = if number == removal then Some None else option_map (λ func. Some func) (handler_at store number)
+
+-- signals are numbered from 1 to 31
+abbrev pub is_signal : ℕ → Bool
+is_signal signal = nat_le 1 signal && nat_le signal 31
+
+-- the handler, or none, that a call gives a signal with this number, where there is that signal
+abbrev pub handler_given : State → ℕ → ℕ → Option (Option ℕ)
+handler_given S signal number = if is_signal signal then handler_named S.store number else None
+
+abbrev pub handles : State → ℕ → Option (Option ℕ) → Need
+handles S signal None = Fixed minus_one S
+handles S signal (Some handler) = Fixed 0 (with_handlers S (with_handler S.handlers signal handler))
+
+-- the function that this number names is to handle the signal
+abbrev pub handled : State → ℕ → ℕ → Need
+handled S signal number = handles S signal (handler_given S signal number)
+
+-- ---- new threads
+
+-- a process makes at most so many threads
+abbrev pub most_threads : ℕ
+most_threads = 64
+
+-- the function of this table index, where one more thread may be made and begin with it
+abbrev pub spawnable : State → ℕ → Option ℕ
+spawnable S index = if nat_lt (length S.crew.threads) most_threads then handler_at S.store index else None
+
+-- the thread is made, which is the next in number; a function that was found has its code, so that there is one
+abbrev pub spawns : State → Option stack.Thread → Need
+spawns S None = Fixed minus_one S
+spawns S (Some thread) = Fixed (length S.crew.threads) (with_new_thread S (beginning S.store.program thread))
+
+abbrev pub spawned_at : State → ℕ → Option ℕ → Need
+spawned_at S arg None = Fixed minus_one S
+spawned_at S arg (Some func) = spawns S (new_thread S.store.program func arg)
+
+-- a thread is to begin with the function of this table index, and be given this argument
+abbrev pub spawned : State → ℕ → ℕ → Need
+spawned S index arg = spawned_at S arg (spawnable S index)
+
+-- what process and call determine
 abbrev pub need : Kind → State → ℕ → Call → Need
 need Begin S t c = Fixed 0 S
 need Exit S t c = Fixed 0 (exited S t c.a0)
@@ -48,9 +143,13 @@ need Me S t c = Fixed S.who S
 need Send S t c = replied S c c.a2
 need Recv S t c = asked S c
 need TryRecv S t c = asked S c
+need Spawn S t c = spawned S (narrow c.a0) (narrow c.a1)
 need Yield S t c = Fixed 0 S
+need Join S t c = joined S t (narrow c.a0)
+need Lock S t c = locked S (narrow c.a0) t
+need Unlock S t c = unlocked S (narrow c.a0) t
+need OnSignal S t c = handled S (narrow c.a0) (narrow c.a1)
 need Thread S t c = Fixed t S
-need _ S t c = Blocked
 
 -- no bytes came in, and no tag
 abbrev pub is_plain : Option Tag → List ℕ → Bool
@@ -96,6 +195,14 @@ abbrev pub after_need : Need → State → State
 after_need (Fixed reply S) S' = S
 after_need Blocked S' = S'
 after_need World S' = S'
+
+-- the state after an answer, but for the end of a thread that calls `exit`
+abbrev pub acted : Option Kind → State → ℕ → Call → Answer → State
+acted (Some Spawn) S t c a = after_need (spawned S (narrow c.a0) (narrow c.a1)) S
+acted (Some Lock) S t c a = after_need (locked S (narrow c.a0) t) S
+acted (Some Unlock) S t c a = after_need (unlocked S (narrow c.a0) t) S
+acted (Some OnSignal) S t c a = after_need (handled S (narrow c.a0) (narrow c.a1)) S
+acted _ S t c a = written S c a
 
 -- the state with the effects of an answer
 abbrev pub effects : Kind → State → ℕ → Call → Answer → State

@@ -8,6 +8,7 @@ use Rattle.coop_threads.specs.declared.slot.Slot.{Slot}
 use Rattle.coop_threads.specs.declared.slot.Slot.TheVariants.{Kept, Lent, Over}
 use Rattle.lib_calls.specs.Entry.{HasArguments}
 use Rattle.guest_process.specs.declared.waiting.Waiting.{Waiting}
+use Rattle.guest_process.specs.Answers.{most_threads}
 use Rattle.guest_process.specs.Live.{Env}
 use Rattle.guest_process.specs.State.{State}
 
@@ -37,7 +38,7 @@ live_has P (slot ∷ slots) (suc t) f w h = live_has P slots t f.1 w h
 -- no tag bears a clock past 2 ^ 62, so a process's clock passes that only by its own events
 pub record StateFits (S : State) : Type 0 where
   pub clock : S.clock ≤ 2 ^ 62 + S.events
-  pub room : length S.crew.threads ≤ 64
+  pub room : length S.crew.threads ≤ most_threads
   pub count : S.count ≤ 16
   pub who : S.who < S.count
   pub threads : Each WaitingFits S.crew.threads

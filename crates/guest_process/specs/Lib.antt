@@ -1,5 +1,6 @@
 pub mod Answers
 pub mod Coding
+pub mod Crews
 pub mod EventCount
 pub mod Fits
 pub mod GoesOn

@@ -3,9 +3,9 @@ use Rattle.std.specs.Prelude.{Option, Some, None}
 use Rattle.lib_calls.specs.declared.entry.Entry.{Entry}
 use Rattle.lib_calls.specs.Answer.{answer_of}
 use Rattle.guest_process.specs.declared.waiting.Waiting.{Waiting}
-use Rattle.guest_process.specs.Answers.{effects}
+use Rattle.guest_process.specs.Answers.{acted, effects}
 use Rattle.guest_process.specs.GoesOn.{goes_on}
-use Rattle.guest_process.specs.State.{State, thread_at}
+use Rattle.guest_process.specs.State.{State, kind_at, thread_at}
 
 abbrev pub next_at : State → Entry → Option Waiting → State
 next_at S e None = S
@@ -13,3 +13,7 @@ next_at S e (Some w) = goes_on w.kind (effects w.kind S e.thread w.call (answer_
 
 abbrev pub next : State → Entry → State
 next S e = next_at S e (thread_at S e.thread)
+
+-- the state after what the answer does, but for the end of a thread that calls `exit`
+abbrev pub acted_by : State → Entry → State
+acted_by S e = acted (kind_at S e.thread) S e.thread e.call (answer_of e)

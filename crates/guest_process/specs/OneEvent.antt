@@ -1,6 +1,6 @@
 -- The laws over one event: those that the world can let a process have are those that are legal, and what
 -- each of them keeps.
-use Rattle.std.specs.Prelude.{◌≡◌, ◌≢◌, ℕ, ◌+◌, ◌^◌, ◌<◌, ◌≤◌, Some, None, slice_get}
+use Rattle.std.specs.Prelude.{◌≡◌, ℕ, ◌+◌, ◌^◌, ◌<◌, ◌≤◌, Some, None}
 use Rattle.lamport_tag.specs.Tag.{clock_of}
 use Rattle.lib_calls.specs.Entry.{IsShaped}
 use Rattle.lib_calls.specs.declared.entry.Entry.{Entry}
@@ -41,11 +41,6 @@ pub record RisesTo (S : State) (e : Entry) (S' : State) : Type 0 where
 
 abbrev pub Rises : Type 0
 Rises = (S : State) (e : Entry) → StateFits S → reason S e ≡ None → RisesTo S e (next S e)
-
--- an event of one thread leaves each other one where it stands or ended, and makes none
-abbrev pub OthersStay : Type 0
-OthersStay = (S : State) (e : Entry) → StateFits S → reason S e ≡ None
-    → (t : ℕ) → t ≢ e.thread → slice_get (next S e).crew.threads t ≡ slice_get S.crew.threads t
 
 -- how a process of a valid program begins has what holds of each state
 abbrev pub IsStarted : Type 0

@@ -8,7 +8,7 @@ use Rattle.signal_points.specs.Signals.{no_handlers}
 use Rattle.wasm_types.specs.Modules.{Module}
 use Rattle.wasm_step.specs.Start.{start as store_of}
 use Rattle.wasm_step.specs.Store.{Store}
-use Rattle.wasm_step.specs.Strand.{first_thread}
+use Rattle.wasm_step.specs.Strand.{Strand, first_thread}
 use Rattle.wasm_step.specs.Thread.{Thread}
 use Rattle.guest_process.specs.declared.end.End.TheVariants.{Running}
 use Rattle.guest_process.specs.declared.waiting.Waiting.{Waiting}
@@ -18,9 +18,13 @@ use Rattle.guest_process.specs.State.{State}
 abbrev pub begin : Call
 begin = record { kind = (row Begin).number; a0 = 0; a1 = 0; a2 = 0 }
 
--- a thread of the program that stands at `begin`
+-- a thread that waits at `begin`
+abbrev pub waits : Strand → Waiting
+waits strand = record { kind = Begin; call = begin; strand = strand }
+
+-- a thread of the program that stands there
 abbrev pub beginning : Module → Thread → Waiting
-beginning m thread = record { kind = Begin; call = begin; strand = record { program = m; thread = thread; call = None } }
+beginning m thread = waits (record { program = m; thread = thread; call = None })
 
 -- thread 0 stands at `begin`, and nothing has happened
 abbrev pub begun : Module → ℕ → ℕ → Store → Thread → State

@@ -1,6 +1,7 @@
 -- The state of a process.
-use Rattle.std.specs.Prelude.{ℕ, Bool, true, false, List, Option}
-use Rattle.coop_threads.specs.Crew.{Crew, live_at, with_thread as crew_with}
+use Rattle.std.specs.Prelude.{ℕ, Bool, true, false, List, Option, option_map}
+use Rattle.call_table.specs.declared.kind.Kind.{Kind}
+use Rattle.coop_threads.specs.Crew.{Crew, live_at, with_lock as crew_with_lock, with_new_thread as crew_with_new, with_thread as crew_with, without_lock as crew_without_lock}
 use Rattle.coop_threads.specs.declared.slot.Slot.{Slot}
 use Rattle.guest_memory.specs.Memory.{Memory}
 use Rattle.wasm_step.specs.Store.{Store}
@@ -25,9 +26,29 @@ pub record State : Type 0 where
 abbrev pub thread_at : State → ℕ → Option Waiting
 thread_at S t = live_at S.crew t
 
+-- the kind of the call at which it stands
+abbrev pub kind_at : State → ℕ → Option Kind
+kind_at S t = option_map (λ w. w.kind) (thread_at S t)
+
 -- thread t stands so
 abbrev pub with_thread : State → ℕ → Slot Waiting → State
 with_thread S t slot = record S { crew = crew_with S.crew t slot }
+
+-- one more thread, which stands so
+abbrev pub with_new_thread : State → Waiting → State
+with_new_thread S w = record S { crew = crew_with_new S.crew w }
+
+-- thread t asked for the lock m
+abbrev pub with_lock : State → ℕ → ℕ → State
+with_lock S m t = record S { crew = crew_with_lock S.crew m t }
+
+-- the lock m is free
+abbrev pub without_lock : State → ℕ → State
+without_lock S m = record S { crew = crew_without_lock S.crew m }
+
+-- the handlers are these
+abbrev pub with_handlers : State → List (Option ℕ) → State
+with_handlers S handlers = record S { handlers = handlers }
 
 -- the memory is this one
 abbrev pub with_memory : State → Memory → State

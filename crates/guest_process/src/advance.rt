@@ -9,18 +9,20 @@ ghost use Rattle.wasm_step.specs.Burst.{burst};
 ghost use Rattle.wasm_step.specs.Suits.{Suits};
 ghost use Rattle.wasm_step.specs.Strand.{answered as answered_by, IsHandler};
 ghost use Rattle.guest_process.specs.Answers.{written};
-ghost use Rattle.guest_process.specs.GoesOn.{after_burst, budget, counted, entered as entered_by, handler as handler_of, runs};
+ghost use Rattle.guest_process.specs.GoesOn.{after_burst, budget, entered as entered_by, handler as handler_of, runs};
 ghost use Rattle.guest_process.specs.Kinds.{value_of};
 ghost use Rattle.guest_process.specs.Legal.{reason};
-ghost use Rattle.guest_process.specs.Next.{next};
+ghost use Rattle.guest_process.specs.Next.{acted_by, next};
 ghost use Rattle.guest_process.specs.Seen.{IsProcess, state_of};
 ghost use Rattle.guest_process.specs.Sound.{StandsAt};
+ghost use Rattle.guest_process.specs.State.{kind_at};
 
 use crate::answer::{answered, entered, handler};
 use crate::judge::ends_process;
 use crate::parts::Parts;
+use crate::threads::narrow;
 use crate::waiting::Waiting;
-use lib_calls::{EntryView, write_back};
+use lib_calls::{EntryView, Kind, write_back};
 use std::alloc::AllocError;
 use wasm_step::Strand;
 use wasm_types::Trap;
@@ -35,7 +37,7 @@ impl<'m> Parts<'m> {
         ensures program { IfOk result (λ p. p.program ≡ self.entry.program) }
         ensures suits { IfOk result (λ p. Suits p.store) }
     {
-        self.write(entry)?;
+        self.act(entry)?;
         let Some(waiting) = self.crew.take(entry.thread) else {
             unreachable!();
         };
@@ -47,6 +49,41 @@ impl<'m> Parts<'m> {
         }
         self.go_on(waiting, entry)?;
         Ok(self)
+    }
+
+    // Does what the answer does, but for the end of a thread that calls `exit`.
+    fn act(&mut self, entry: &EntryView<'_>) -> Result<(), AllocError>
+        requires program { module_of self.old.program.now ≡ self.old.store.program }
+        requires suits { Suits self.old.store }
+        requires answer { IsTrue (is_answer entry.now.call (answer_of (entry_of entry.now)) self.old.store.memory) }
+        ensures state { OnOk result (state_of self.new ≡ acted_by (state_of self.old) (entry_of entry.now)) }
+        ensures program { OnOk result (self.new.program ≡ self.old.program) }
+        ensures suits { OnOk result (Suits self.new.store) }
+    {
+        let t = entry.thread;
+        match self.kind_at(t) {
+            Some(Kind::Spawn) => self.spawn(narrow(entry.call.a0), narrow(entry.call.a1)),
+            Some(Kind::Lock) => self.lock(narrow(entry.call.a0), t),
+            Some(Kind::Unlock) => {
+                self.unlock(narrow(entry.call.a0), t);
+                Ok(())
+            }
+            Some(Kind::OnSignal) => {
+                self.set_handler(narrow(entry.call.a0), narrow(entry.call.a1));
+                Ok(())
+            }
+            _ => self.write(entry),
+        }
+    }
+
+    // The kind of the call at which a thread stands.
+    fn kind_at(&self, t: u16) -> Option<Kind>
+        ensures { result ≡ kind_at (state_of self.now) t }
+    {
+        match self.crew.get(t) {
+            Some(waiting) => Some(waiting.kind),
+            None => None,
+        }
     }
 
     // Writes what the answer does to the memory.

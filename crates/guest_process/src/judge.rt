@@ -11,6 +11,7 @@ use crate::answer::{handler, is_due};
 use crate::divergence::Divergence;
 use crate::need::Need;
 use crate::parts::Parts;
+use crate::threads::narrow;
 use crate::waiting::Waiting;
 use crate::world::{is_drawn, is_empty, is_plain, is_taken};
 use lamport_tag::is_next_clock;
@@ -29,8 +30,12 @@ impl<'m> Parts<'m> {
             Kind::Random | Kind::Recv | Kind::TryRecv => self.asked(&waiting.call),
             Kind::Send => self.replied(&waiting.call, waiting.call.a2),
             Kind::Me => Need::Fixed(u64::from(self.who)),
+            Kind::Spawn => self.spawned(narrow(waiting.call.a0)),
+            Kind::Join => self.joined(t, narrow(waiting.call.a0)),
+            Kind::Lock => self.locked(narrow(waiting.call.a0), t),
+            Kind::Unlock => self.unlocked(narrow(waiting.call.a0), t),
+            Kind::OnSignal => self.handled(narrow(waiting.call.a0), narrow(waiting.call.a1)),
             Kind::Thread => Need::Fixed(u64::from(t)),
-            _ => Need::Blocked,
         }
     }
 
@@ -112,12 +117,14 @@ impl<'m> Parts<'m> {
     }
 
     /// The handlers once a pending call was answered, however it is.
-    #[tactic(auto, using(crate::proofs::Judging::same_handlers))]
+    #[tactic(auto, using(crate::proofs::Signalled::same_handlers, crate::proofs::Signalled::given_handlers))]
     pub(crate) fn handlers_after(&self, waiting: &Waiting<'m>) -> Handlers
         ensures { (t : ℕ) (a : Answer) → result ≡ (effects waiting.now.kind (state_of self.now) t waiting.now.call a).handlers }
     {
-        let _ = waiting;
-        self.handlers
+        match waiting.kind {
+            Kind::OnSignal => self.handlers_with(narrow(waiting.call.a0), narrow(waiting.call.a1)),
+            _ => self.handlers,
+        }
     }
 
     // Whether the signal can be delivered after the answer.

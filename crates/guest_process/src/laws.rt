@@ -1,5 +1,6 @@
 // The laws over one event, as calls that do nothing.
-ghost use Rattle.guest_process.specs.OneEvent.{IsKept, IsKeptSound, IsStarted, OneEvent, OthersStay, Possible, Rises};
+ghost use Rattle.guest_process.specs.Crews.{LockKept, OnlySpawnAdds, OthersStay};
+ghost use Rattle.guest_process.specs.OneEvent.{IsKept, IsKeptSound, IsStarted, OneEvent, Possible, Rises};
 
 use lamport_tag::{cut_short, read_back};
 use wasm_step::never_stuck;
@@ -29,9 +30,19 @@ pub fn rises()
     never_stuck();
 }
 
-/// A legal event of one thread leaves each other thread as it was, and makes none.
+/// A legal event of one thread leaves each other thread that was made as it was. Only one of `spawn` makes
+/// a thread, one, which is live at `begin`.
 pub fn others_stay()
-    ensures { OthersStay }
+    ensures stay { OthersStay }
+    ensures made { OnlySpawnAdds }
+{
+    never_stuck();
+}
+
+/// A lock has one holder from the event that takes it, when it was free, to that by which this same
+/// thread gives it back, also after the holder's end. No other event changes its holder.
+pub fn lock_kept()
+    ensures { LockKept }
 {
     never_stuck();
 }

@@ -1,5 +1,5 @@
 // What a process consists of, and how its threads stop.
-ghost use Rattle.std.specs.Prelude.{◌≡◌, IfOk, IsTrue, length};
+ghost use Rattle.std.specs.Prelude.{◌≡◌, IfOk};
 ghost use Rattle.coop_threads.specs.Crew.{IsTaken};
 ghost use Rattle.wasm_types.specs.Modules.{module_of};
 ghost use Rattle.wasm_step.specs.Pause.{StandsAt, stop_of};
@@ -21,6 +21,7 @@ use wasm_types::{Trap, ValidModule};
 /// The parts of a process.
 #[derive(Drop)]
 pub(crate) struct Parts<'m> {
+    pub(crate) alloc: Global,
     pub(crate) program: &'m ValidModule,
     pub(crate) who: u32,
     pub(crate) count: u32,
@@ -92,6 +93,7 @@ impl<'m> Parts<'m> {
         ensures { IfOk result (λ p. p ≡ self.now) }
     {
         Ok(Parts {
+            alloc: self.alloc,
             program: self.program,
             who: self.who,
             count: self.count,

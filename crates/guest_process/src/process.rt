@@ -20,10 +20,10 @@ use crate::divergence::Divergence;
 use crate::end::End;
 use crate::need::Need;
 use crate::parts::Parts;
-use crate::waiting::Waiting;
+use crate::waiting::{Waiting, beginning};
 use coop_threads::{Crew, Status};
 use guest_memory::Memory;
-use lib_calls::{Call, EntryView, Kind};
+use lib_calls::{Call, EntryView};
 use signal_points::Handlers;
 use std::alloc::{AllocError, Global};
 use std::marker::Model;
@@ -221,21 +221,15 @@ fn begin<'m>(
     requires suits { Suits store }
     ensures { IfOk result (λ p. start (module_of program.now) who count ≡ Some p) }
 {
-    let kind = Kind::Begin;
-    let call = Call {
-        kind: kind.number(),
-        a0: 0,
-        a1: 0,
-        a2: 0,
-    };
     let strand = Strand::first(alloc, program)?;
     let mut crew = Crew::new(alloc);
-    match crew.spawn(Waiting { kind, call, strand }) {
+    match crew.spawn(beginning(strand)) {
         Ok(_) => {}
         Err(_) => return Err(AllocError),
     }
     let _ = program.module();
     let parts = Parts {
+        alloc,
         program,
         who,
         count,

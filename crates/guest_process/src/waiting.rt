@@ -1,4 +1,7 @@
 // A thread at its pending call.
+ghost use Rattle.std.specs.Prelude.{◌≡◌};
+ghost use Rattle.guest_process.specs.Start.{waits};
+
 use coop_threads::CopyOut;
 use lib_calls::{Call, Kind};
 use std::alloc::AllocError;
@@ -10,6 +13,20 @@ pub(crate) struct Waiting<'m> {
     pub(crate) kind: Kind,
     pub(crate) call: Call,
     pub(crate) strand: Strand<'m>,
+}
+
+/// A thread that stands at `begin`.
+pub(crate) fn beginning(strand: Strand<'_>) -> Waiting<'_>
+    ensures { result ≡ waits strand.entry }
+{
+    let kind = Kind::Begin;
+    let call = Call {
+        kind: kind.number(),
+        a0: 0,
+        a1: 0,
+        a2: 0,
+    };
+    Waiting { kind, call, strand }
 }
 
 impl<'m> CopyOut for Waiting<'m> {

@@ -1,4 +1,3 @@
-pub mod Built
 pub mod Kinds
 pub mod Entry
 pub mod Answer

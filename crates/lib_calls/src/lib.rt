@@ -4,14 +4,12 @@
 
 mod answer;
 mod arguments;
-mod built;
 mod entry;
 mod table;
 mod traffic;
 
 pub use answer::{BAD_ARGUMENTS, NONE_THERE, write_back};
 pub use arguments::{good_arguments, is_outgoing, outgoing};
-pub use built::is_built;
 pub use call_table::{Kind, Signature};
 pub use entry::{Call, Entry, EntryView};
 pub use table::{kind_of, name_of, signature_of};

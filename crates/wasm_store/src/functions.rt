@@ -1,5 +1,7 @@
 // The functions of a program and their types. The imports have the first indices.
-ghost use Rattle.std.specs.Prelude.{◌≡◌, IfSome, IfNone, None, Some, slice_get};
+ghost use Rattle.std.specs.Prelude.{◌≡◌, IfSome, IfNone, None, Some, false, slice_get};
+ghost use Rattle.std.specs.Option.{option_map_or};
+ghost use Rattle.wasm_store.specs.Store.{is_handler, is_number, takes_number};
 ghost use Rattle.wasm_types.specs.Calls.{result_of};
 ghost use Rattle.wasm_types.specs.Functions.{imported_type, own_type, same_kinds, same_type, type_of};
 ghost use Rattle.wasm_types.specs.Modules.{func_type, module_of};
@@ -59,6 +61,37 @@ pub fn kind_of<'m>(program: &'m Module, index: u32) -> Option<&'m FuncType>
         imported_kind(program, place)
     } else {
         own_kind(program, place - program.imports.len())
+    }
+}
+
+/// Whether the program itself defines the function, with one parameter of 32 bits and no result.
+pub(crate) fn is_handler(program: &Module, index: u32) -> bool
+    ensures { result ≡ is_handler (module_of program.now) index }
+{
+    index as usize >= program.imports.len() && has_handler_type(program, index)
+}
+
+fn has_handler_type(program: &Module, index: u32) -> bool
+    ensures { result ≡ option_map_or takes_number (type_of (module_of program.now) index) false }
+{
+    match kind_of(program, index) {
+        Some(kind) => takes_number(kind),
+        None => false,
+    }
+}
+
+fn takes_number(kind: &FuncType) -> bool
+    ensures { result ≡ takes_number (func_type kind.now) }
+{
+    is_number(&kind.params) && kind.results.is_empty()
+}
+
+fn is_number(params: &[ValType]) -> bool
+    ensures { result ≡ is_number params.now }
+{
+    match params {
+        [ValType::I32] => true,
+        _ => false,
     }
 }
 

@@ -6,9 +6,10 @@ ghost use Rattle.guest_memory.specs.LittleEndian.{IsWidth};
 ghost use Rattle.wasm_types.specs.Modules.{module_of};
 ghost use Rattle.wasm_store.specs.Suits.{Suits};
 ghost use Rattle.wasm_store.specs.Start.{start};
-ghost use Rattle.wasm_store.specs.Store.{func_at};
+ghost use Rattle.wasm_store.specs.Store.{func_at, handler_at};
 ghost use Rattle.wasm_store.specs.Lending.{LendsMemory};
 
+use crate::functions::is_handler;
 use crate::start::{begin, segments_fit};
 use guest_memory::Memory;
 use std::alloc::{AllocError, Global};
@@ -130,6 +131,19 @@ impl<'m> Store<'m> {
         match self.element(index) {
             Some(func) => func,
             None => None,
+        }
+    }
+
+    /// The index of the function that the table holds at this place, where it can begin a thread or
+    /// handle a signal: the program itself defines it, with one parameter of 32 bits and no result.
+    pub fn handler_at(&self, index: u32) -> Option<u32>
+        ensures { result ≡ handler_at self.now index }
+    {
+        let func = self.table_func(index)?;
+        if is_handler(self.program.module(), func) {
+            Some(func)
+        } else {
+            None
         }
     }
 

@@ -1,6 +1,7 @@
 use Rattle.std.proofs.Common.{◌≡◌, ℕ, List, ◌++◌, IfNone, Option, Some, None, sym, ap, ◌∙◌, rules}
 use Rattle.lib_calls.specs.Entry.{entry_of}
-use Rattle.call_log.specs.Entry.{IsLogged, encoding}
+use Rattle.lib_calls.specs.Entry.{IsShaped}
+use Rattle.call_log.specs.Entry.{encoding}
 use Rattle.call_log.specs.Reading.{read_entry}
 use Rattle.call_log.proofs.EntryLaws.{read_entry-found, read_entry-none}
 use Rattle.call_log.proofs.entry.read_entry.Goals as goal
@@ -14,7 +15,7 @@ pub returns-in_err-entry-clause-none : goal.returns-in_err-entry-clause-none
 returns-in_err-entry-clause-none c =
     if_none c.from_residual.result (read_entry-none c.exact_readers.ensures c.args.bytes.now (ap read_entry (sym c.new-cursor.ensures.left) ∙ c.in_err-entry.ensures))
 
-found : (c : goal.After-rest) → IsLogged (entry_of c.in_ok-entry.entry) × (c.args.bytes.now ≡ encoding (entry_of c.in_ok-entry.entry) ++ c.rest.result.now)
+found : (c : goal.After-rest) → IsShaped (entry_of c.in_ok-entry.entry) × (c.args.bytes.now ≡ encoding (entry_of c.in_ok-entry.entry) ++ c.rest.result.now)
 found c =
     let read : read_entry c.args.bytes.now ≡ Some (entry_of c.in_ok-entry.entry, c.rest.result.now) =
     ap read_entry (sym c.new-cursor.ensures.left) ∙ c.in_ok-entry.ensures ∙ ap (λ (t : List ℕ). Some (entry_of c.in_ok-entry.entry, t)) (sym c.rest.ensures) in

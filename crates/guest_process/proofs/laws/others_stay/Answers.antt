@@ -1,5 +1,8 @@
-use Rattle.guest_process.proofs.KeptFits.{others_kept}
+use Rattle.guest_process.proofs.CrewLaws.{others_kept, spawn_adds}
 use Rattle.guest_process.proofs.laws.others_stay.Goals as goal
 
-pub returns : goal.returns
-returns c = others_kept c.never_stuck.ensures.program
+pub returns-clause-stay : goal.returns-clause-stay
+returns-clause-stay c = others_kept c.never_stuck.ensures.program
+
+pub returns-clause-made : goal.returns-clause-made
+returns-clause-made c = spawn_adds c.never_stuck.ensures.program

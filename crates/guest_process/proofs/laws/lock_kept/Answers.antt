@@ -1,0 +1,5 @@
+use Rattle.guest_process.proofs.CrewLaws.{locks_kept}
+use Rattle.guest_process.proofs.laws.lock_kept.Goals as goal
+
+pub returns : goal.returns
+returns c = locks_kept c.never_stuck.ensures.program

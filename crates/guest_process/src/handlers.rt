@@ -1,0 +1,70 @@
+// How calls set the handlers of signals.
+ghost use Rattle.std.specs.Prelude.{◌≡◌, IfSome, IsTrue};
+ghost use Rattle.guest_process.specs.Answers.{after_need, handled, handler_given, handler_named, is_signal};
+ghost use Rattle.guest_process.specs.Seen.{plain, state_of};
+
+use crate::need::Need;
+use crate::parts::Parts;
+use lib_calls::BAD_ARGUMENTS as MINUS_ONE;
+use signal_points::Handlers;
+
+// The number at which no function handles a signal.
+const REMOVAL: u32 = 0xFFFF_FFFF;
+
+impl<'m> Parts<'m> {
+    /// The reply to a call that gives the signal the handler of this number.
+    pub(crate) fn handled(&self, signal: u32, number: u32) -> Need
+        ensures { result ≡ plain (handled (state_of self.now) signal number) }
+    {
+        match self.handler_given(signal, number) {
+            Some(_) => Need::Fixed(0),
+            None => Need::Fixed(MINUS_ONE),
+        }
+    }
+
+    /// The handlers after such a call.
+    pub(crate) fn handlers_with(&self, signal: u32, number: u32) -> Handlers
+        ensures { result ≡ (after_need (handled (state_of self.now) signal number) (state_of self.now)).handlers }
+    {
+        let mut handlers = self.handlers;
+        if let Some(handler) = self.handler_given(signal, number) {
+            handlers.set(signal as u8, handler);
+        }
+        handlers
+    }
+
+    /// Gives the signal the handler of this number, where that may be.
+    #[tactic(auto, using(crate::proofs::Signalled::set_handlers))]
+    pub(crate) fn set_handler(&mut self, signal: u32, number: u32)
+        ensures state { state_of self.new ≡ after_need (handled (state_of self.old) signal number) (state_of self.old) }
+        ensures program { self.new.program ≡ self.old.program }
+        ensures store { self.new.store ≡ self.old.store }
+    {
+        self.handlers = self.handlers_with(signal, number);
+    }
+
+    // The handler, or none, that a call gives a signal with this number, where there is that signal.
+    fn handler_given(&self, signal: u32, number: u32) -> Option<Option<u32>>
+        ensures given { result ≡ handler_given (state_of self.now) signal number }
+        ensures signal { IfSome result (λ _. IsTrue (is_signal signal)) }
+    {
+        if 1 <= signal && signal <= 31 {
+            self.handler_named(number)
+        } else {
+            None
+        }
+    }
+
+    // What this number names: no handler, or the function at that place of the table.
+    fn handler_named(&self, number: u32) -> Option<Option<u32>>
+        ensures { result ≡ handler_named (state_of self.now).store number }
+    {
+        if number == REMOVAL {
+            return Some(None);
+        }
+        match self.store.handler_at(number) {
+            Some(func) => Some(Some(func)),
+            None => None,
+        }
+    }
+}

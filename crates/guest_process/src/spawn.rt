@@ -1,0 +1,74 @@
+// How a process makes threads.
+ghost use Rattle.std.specs.Prelude.{◌≡◌, ◌<◌, OnOk, Some, length, ℕ};
+ghost use Rattle.wasm_types.specs.Modules.{module_of};
+ghost use Rattle.wasm_step.specs.Strand.{IsHandler};
+ghost use Rattle.guest_process.specs.Answers.{after_need, spawnable, spawned, spawned_at};
+ghost use Rattle.guest_process.specs.Seen.{plain, state_of};
+
+use crate::need::Need;
+use crate::parts::Parts;
+use crate::waiting::beginning;
+use coop_threads::SpawnError;
+use lib_calls::BAD_ARGUMENTS as MINUS_ONE;
+use std::alloc::AllocError;
+use wasm_step::Strand;
+
+// A process makes at most so many threads.
+const MOST_THREADS: u16 = 64;
+
+impl<'m> Parts<'m> {
+    /// The reply where a thread is to begin with the function of this table index.
+    #[tactic(auto, using(crate::proofs::Spawning::spawned_reply, crate::proofs::Spawning::not_spawned))]
+    pub(crate) fn spawned(&self, index: u32) -> Need
+        ensures { (arg : ℕ) → result ≡ plain (spawned (state_of self.now) index arg) }
+    {
+        match self.spawnable(index) {
+            Some(_) => Need::Fixed(u64::from(self.crew.made())),
+            None => Need::Fixed(MINUS_ONE),
+        }
+    }
+
+    /// Makes a thread that begins with the function of this table index and is given this argument, where
+    /// that may be.
+    #[tactic(auto, using(crate::proofs::Spawning::found_own, crate::proofs::Spawning::has_room, crate::proofs::Spawning::spawned_so, crate::proofs::Spawning::none_made))]
+    pub(crate) fn spawn(&mut self, index: u32, arg: u32) -> Result<(), AllocError>
+        requires program { module_of self.old.program.now ≡ self.old.store.program }
+        ensures state { OnOk result (state_of self.new ≡ after_need (spawned (state_of self.old) index arg) (state_of self.old)) }
+        ensures program { OnOk result (self.new.program ≡ self.old.program) }
+        ensures store { OnOk result (self.new.store ≡ self.old.store) }
+    {
+        match self.spawnable(index) {
+            Some(func) => self.begin(func, arg),
+            None => Ok(()),
+        }
+    }
+
+    // The function of this table index, where one more thread may be made and begin with it.
+    fn spawnable(&self, index: u32) -> Option<u32>
+        ensures { result ≡ spawnable (state_of self.now) index }
+    {
+        if self.crew.made() < MOST_THREADS {
+            self.store.handler_at(index)
+        } else {
+            None
+        }
+    }
+
+    // Makes a thread that begins with this function.
+    #[tactic(auto, using(crate::proofs::Spawning::begun))]
+    fn begin(&mut self, func: u32, arg: u32) -> Result<(), AllocError>
+        requires room { length self.old.crew.threads < 64 }
+        requires program { module_of self.old.program.now ≡ self.old.store.program }
+        requires handler { IsHandler (module_of self.old.program.now) func }
+        ensures state { OnOk result (state_of self.new ≡ after_need (spawned_at (state_of self.old) arg (Some func)) (state_of self.old)) }
+        ensures program { OnOk result (self.new.program ≡ self.old.program) }
+        ensures store { OnOk result (self.new.store ≡ self.old.store) }
+    {
+        let strand = Strand::new(self.alloc, self.program, func, arg)?;
+        match self.crew.spawn(beginning(strand)) {
+            Ok(_) => Ok(()),
+            Err(SpawnError::Full(_)) => unreachable!(),
+            Err(SpawnError::NoMemory(_)) => Err(AllocError),
+        }
+    }
+}

@@ -1,0 +1,88 @@
+// How threads wait for each other, and the locks that they hold.
+ghost use Rattle.std.specs.Prelude.{◌≡◌, OnOk, slice_get};
+ghost use Rattle.coop_threads.specs.Crew.{status_of};
+ghost use Rattle.guest_process.specs.Answers.{after_need, joined, locked, narrow, unlocked};
+ghost use Rattle.guest_process.specs.Seen.{plain, state_of};
+
+use crate::need::Need;
+use crate::parts::Parts;
+use coop_threads::Status;
+use lib_calls::BAD_ARGUMENTS as MINUS_ONE;
+use std::alloc::AllocError;
+
+/// An argument of 32 bits.
+pub(crate) fn narrow(bits: u64) -> u32
+    ensures { result ≡ narrow bits }
+{
+    (bits % 0x1_0000_0000) as u32
+}
+
+impl<'m> Parts<'m> {
+    /// What the answer depends on where thread t joins the one with this number.
+    pub(crate) fn joined(&self, t: u16, number: u32) -> Need
+        ensures { result ≡ plain (joined (state_of self.now) t number) }
+    {
+        if number == u32::from(t) {
+            return Need::Fixed(MINUS_ONE);
+        }
+        match self.status(number) {
+            Status::Unknown => Need::Fixed(MINUS_ONE),
+            Status::Live | Status::Taken => Need::Blocked,
+            Status::Ended => Need::Fixed(0),
+        }
+    }
+
+    // How the thread with this number stands.
+    #[tactic(auto, using(crate::proofs::Crews::unknown_past))]
+    fn status(&self, number: u32) -> Status
+        ensures { result ≡ status_of (slice_get (state_of self.now).crew.threads number) }
+    {
+        if number < u32::from(self.crew.made()) {
+            self.crew.status(number as u16)
+        } else {
+            Status::Unknown
+        }
+    }
+
+    /// What the answer depends on where thread t asks for the lock m.
+    pub(crate) fn locked(&self, m: u32, t: u16) -> Need
+        ensures { result ≡ plain (locked (state_of self.now) m t) }
+    {
+        match self.crew.holder(m) {
+            None => Need::Fixed(0),
+            Some(holder) if holder == t => Need::Fixed(MINUS_ONE),
+            Some(_) => Need::Blocked,
+        }
+    }
+
+    /// The reply where thread t gives the lock m back.
+    pub(crate) fn unlocked(&self, m: u32, t: u16) -> Need
+        ensures { result ≡ plain (unlocked (state_of self.now) m t) }
+    {
+        match self.crew.holder(m) {
+            Some(holder) if holder == t => Need::Fixed(0),
+            _ => Need::Fixed(MINUS_ONE),
+        }
+    }
+
+    /// Thread t asks for the lock m, which it then holds if it was free.
+    #[tactic(auto, using(crate::proofs::Crews::lock_taken))]
+    pub(crate) fn lock(&mut self, m: u32, t: u16) -> Result<(), AllocError>
+        ensures state { OnOk result (state_of self.new ≡ after_need (locked (state_of self.old) m t) (state_of self.old)) }
+        ensures program { self.new.program ≡ self.old.program }
+        ensures store { self.new.store ≡ self.old.store }
+    {
+        self.crew.lock(m, t)?;
+        Ok(())
+    }
+
+    /// Thread t gives the lock m back, if it holds it.
+    #[tactic(auto, using(crate::proofs::Crews::lock_freed, crate::proofs::Crews::lock_kept))]
+    pub(crate) fn unlock(&mut self, m: u32, t: u16)
+        ensures state { state_of self.new ≡ after_need (unlocked (state_of self.old) m t) (state_of self.old) }
+        ensures program { self.new.program ≡ self.old.program }
+        ensures store { self.new.store ≡ self.old.store }
+    {
+        self.crew.unlock(m, t);
+    }
+}
