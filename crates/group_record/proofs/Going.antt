@@ -1,0 +1,99 @@
+-- A run goes on, and where it was stopped it stays stopped.
+use Rattle.std.proofs.Common.{◌≡◌, ℕ, zero, suc, ◌++◌, Bool, true, false, cond, List, [], ◌∷◌, Option, Some, None, refl, ap, sym, subst, ◌∙◌, append_assoc}
+use Rattle.std.specs.Prelude.{is_some, Err}
+use Rattle.std.specs.Int.{w64, cast_unsigned}
+use Rattle.fri_outside.specs.Outside.{Store}
+use Rattle.schedule_text.specs.declared.item.Item.{Item}
+use Rattle.schedule_text.specs.declared.item.Item.TheVariants as item
+use Rattle.guest_process.specs.Live.{Event}
+use Rattle.group_world.specs.History as world
+use Rattle.group_record.specs.declared.error.RecordError.{RecordError}
+use Rattle.group_record.specs.declared.error.RecordError.TheVariants as errors
+use Rattle.group_record.specs.Files.{IsStopped, InHeads, Between, InEntry}
+use Rattle.group_record.specs.Recorded.{Comes, FilesOf}
+use Rattle.group_record.specs.Run.{Group, Progress, Step, Had, Did, IsFront, after_item, after_items, attempt, attempts, does, event_of, had, has_room, unless_full}
+
+-- the steps of one progress stand in front of the other's; and where a log is full, it is all there is
+pub record LeadsTo (early late : Progress) : Type 0 where
+  pub front : IsFront early.steps late.steps
+  pub full : (number : ℕ) → early.full ≡ Some number → late ≡ early
+
+pub front_on : (early middle late : List Step) → IsFront early middle → IsFront middle late → IsFront early late
+front_on early middle late first then =
+    (then.0 ++ first.0, then.1 ∙ ap (λ xs. then.0 ++ xs) first.1 ∙ sym (append_assoc then.0 first.0 early))
+
+pub leads_same : (done : Progress) → LeadsTo done done
+leads_same done = record { front = ([], refl); full = λ number is. refl }
+
+pub leads_on : (early middle late : Progress) → LeadsTo early middle → LeadsTo middle late → LeadsTo early late
+leads_on early middle late first then = record {
+  front = front_on early.steps middle.steps late.steps first.front then.front;
+  full = λ number is.
+      let same = first.full number is in
+      then.full number (ap (λ (d : Progress). d.full) same ∙ is) ∙ same;
+}
+
+unless_leads : (done next : Progress) → IsFront done.steps next.steps → LeadsTo done (unless_full done next)
+unless_leads done next front = by_full done.full refl
+  where
+    by_full : (full : Option ℕ) → done.full ≡ full → LeadsTo done (cond (is_some full) done next)
+    by_full (Some number) is = leads_same done
+    by_full None is = record { front = front; full = λ number h. cc }
+
+had_front : (group : Group) (number p : ℕ) (found : Option Event) (done : Progress) → IsFront done.steps (had group number p found done).steps
+had_front group number p None done = ([], refl)
+had_front group number p (Some e) done = by_room (has_room group done.steps p e.entry)
+  where
+    by_room : (room : Bool) → IsFront done.steps (cond room (record done { steps = Had p e ∷ done.steps }) (record done { full = Some number })).steps
+    by_room true = (Had p e ∷ [], refl)
+    by_room false = ([], refl)
+
+pub attempt_leads : (group : Group) (number p thread : ℕ) (done : Progress) → LeadsTo done (attempt group number p thread done)
+attempt_leads group number p thread done =
+    unless_leads done (had group number p (event_of group done.steps p thread) done) (had_front group number p (event_of group done.steps p thread) done)
+
+pub attempts_lead : (group : Group) (number p thread n : ℕ) (done : Progress) → LeadsTo done (attempts group number p thread n done)
+unfolding attempts
+attempts_lead group number p thread zero done = leads_same done
+attempts_lead group number p thread (suc n) done =
+    leads_on done (attempt group number p thread done) (attempts group number p thread n (attempt group number p thread done))
+    (attempt_leads group number p thread done) (attempts_lead group number p thread n (attempt group number p thread done))
+
+acted_front : (acts : Bool) (step : Step) (done : Progress) → IsFront done.steps (cond acts (record done { steps = step ∷ done.steps }) (record done { idle = suc done.idle })).steps
+acted_front true step done = (step ∷ [], refl)
+acted_front false step done = ([], refl)
+
+does_front : (group : Group) (number : ℕ) (i : Item) (done : Progress) → IsFront done.steps (does group number i done).steps
+does_front group number (item.Run p thread times) done = (attempts_lead group number p thread times done).front
+does_front group number (item.Deliver p n) done = acted_front _ _ done
+does_front group number (item.Inject p bytes) done = (Did (world.Inject p bytes) ∷ [], refl)
+does_front group number (item.Clock p value) done = (Did (world.Clock p (cast_unsigned w64 value)) ∷ [], refl)
+does_front group number (item.Random p bytes) done = (Did (world.Random p bytes) ∷ [], refl)
+does_front group number (item.Signal p s) done = (Did (world.Signal p s) ∷ [], refl)
+does_front group number (item.Kill p) done = acted_front _ _ done
+
+pub item_leads : (group : Group) (number : ℕ) (i : Item) (done : Progress) → LeadsTo done (after_item group number i done)
+item_leads group number i done = unless_leads done (does group number i done) (does_front group number i done)
+
+pub items_lead : (group : Group) (number : ℕ) (items : List Item) (done : Progress) → LeadsTo done (after_items group number items done)
+items_lead group number [] done = leads_same done
+items_lead group number (i ∷ items) done =
+    leads_on done (after_item group number i done) (after_items group (suc number) items (after_item group number i done))
+    (item_leads group number i done) (items_lead group (suc number) items (after_item group number i done))
+
+-- ---- where it was stopped
+
+pub stopped_on : (group : Group) (early late : List Step) (before after : Option Store) → IsFront early late → IsStopped group early before after → IsStopped group late before after
+stopped_on group early late before after on (InHeads many cut is) = InHeads many cut is
+stopped_on group early late before after on (Between steps front is) = Between steps (front_on steps early late front on) is
+stopped_on group early late before after on (InEntry steps later p n e split is) =
+    InEntry steps (on.0 ++ later) p n e (on.1 ∙ ap (λ xs. on.0 ++ xs) split ∙ sym (append_assoc on.0 later (Had p e ∷ steps))) is
+
+-- what is answered at one moment is answered of the whole
+pub comes_on : (group : Group) (early late : Progress) (error : RecordError) (before after : Option Store) → LeadsTo early late
+    → Comes group early (Err error) before after → Comes group late (Err error) before after
+comes_on group early late (errors.BadSegment p) before after leads h = h
+comes_on group early late (errors.LogFull number) before after leads h =
+    subst (λ (d : Progress). (d.full ≡ Some number) × FilesOf group d before after) (sym (leads.full number h.0)) h
+comes_on group early late errors.WriteFault before after leads h = stopped_on group early.steps late.steps before after leads.front h
+comes_on group early late errors.NoMemory before after leads h = stopped_on group early.steps late.steps before after leads.front h

@@ -1,0 +1,20 @@
+use Rattle.group_record.proofs.Drawing.{draws, takes_waiting}
+use Rattle.group_record.proofs.laws.taking.Goals as goal
+
+pub returns-clause-datagrams : goal.returns-clause-datagrams
+returns-clause-datagrams c = takes_waiting (record {
+  one = c.one_event.ensures;
+  started = c.kept.ensures.started;
+  kept = c.kept.ensures.ranges;
+  rises = c.rises.ensures;
+  fresh = c.counting.ensures.begun;
+})
+
+pub returns-clause-bytes : goal.returns-clause-bytes
+returns-clause-bytes c = draws (record {
+  one = c.one_event.ensures;
+  started = c.kept.ensures.started;
+  kept = c.kept.ensures.ranges;
+  rises = c.rises.ensures;
+  fresh = c.counting.ensures.begun;
+})

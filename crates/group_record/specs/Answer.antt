@@ -1,0 +1,108 @@
+-- What a recording answers.
+use Rattle.std.specs.Prelude.{◌≡◌, ◌⊎◌, ℕ, suc, List, [], ◌∷◌, length, map, Option, Some, None, Result, Ok, Err}
+use Rattle.fri_outside.specs.Outside.{Counts, Rose, Store}
+use Rattle.fri_outside.specs.Several.{with_files}
+use Rattle.fri_outside.specs.declared.files.WriteError.{WriteError}
+use Rattle.fri_outside.specs.declared.files.WriteError.TheVariants as writing
+use Rattle.schedule_text.specs.declared.process.ProcessLine.{ProcessLine}
+use Rattle.schedule_text.specs.Schedule.{Schedule}
+use Rattle.wasm_types.specs.Modules.{Module}
+use Rattle.guest_process.specs.declared.end.End.{End}
+use Rattle.guest_process.specs.declared.end.End.TheVariants.{Running}
+use Rattle.guest_process.specs.Start.{start}
+use Rattle.guest_process.specs.State.{State}
+use Rattle.group_world.specs.History.{is_killed}
+use Rattle.group_record.specs.declared.summary.Summary.{Summary}
+use Rattle.group_record.specs.declared.summary.SummaryLine.{SummaryLine}
+use Rattle.group_record.specs.declared.error.RecordError.{RecordError}
+use Rattle.group_record.specs.declared.error.RecordError.TheVariants as errors
+use Rattle.group_record.specs.Run.{Group, Progress, Step, entries, history, run, state_after}
+use Rattle.group_record.specs.Logs.{logs}
+use Rattle.group_record.specs.Files.{IsStopped}
+
+-- ---- how a group begins
+
+abbrev pub begun_then : Option State → ℕ → Result (List State) ℕ → Result (List State) ℕ
+begun_then None p rest = Err p
+begun_then (Some S) p (Ok states) = Ok (S ∷ states)
+begun_then (Some S) p (Err q) = Err q
+
+-- the first states of the processes from p on, or the first process one of whose segments ends past its
+-- table or memory
+abbrev pub begun_from : ℕ → ℕ → List Module → Result (List State) ℕ
+begun_from count p [] = Ok []
+begun_from count p (m ∷ ms) = begun_then (start m p count) p (begun_from count (suc p) ms)
+
+-- the names of a schedule's processes
+abbrev pub names_of : Schedule → List (List ℕ)
+names_of schedule = map (λ line. line.name) schedule.processes
+
+-- the group of a schedule and its processes' modules
+abbrev pub begun : Schedule → List Module → Result (List State) ℕ
+begun schedule modules = begun_from (length schedule.processes) 0 modules
+
+abbrev pub group_of : Schedule → List State → Group
+group_of schedule first = record { names = names_of schedule; first = first }
+
+-- ---- what is said of it
+
+abbrev pub end_of : Option State → End
+end_of None = Running
+end_of (Some S) = S.end
+
+-- how a process stands after some steps
+abbrev pub line_of : Group → List Step → ℕ → List ℕ → SummaryLine
+line_of group steps p name = record {
+  name = name;
+  events = length (entries steps p);
+  end = end_of (state_after group steps p);
+  killed = is_killed (history steps) p;
+}
+
+abbrev pub lines_from : Group → List Step → ℕ → List (List ℕ) → List SummaryLine
+lines_from group steps p [] = []
+lines_from group steps p (name ∷ names) = line_of group steps p name ∷ lines_from group steps (suc p) names
+
+-- a line for each process, and the counts of what acted and of what was idle
+pub record IsSummary (group : Group) (done : Progress) (summary : Summary) : Type 0 where
+  pub lines : summary.lines.items ≡ lines_from group done.steps 0 group.names
+  pub acted : summary.acted ≡ length done.steps
+  pub idle : summary.idle ≡ done.idle
+
+-- ---- the answers
+
+-- the whole run was recorded
+pub record IsDone (group : Group) (done : Progress) (said : Summary) (before after : Option Store) : Type 0 where
+  pub room : done.full ≡ None
+  pub summary : IsSummary group done said
+  pub files : after ≡ with_files (logs group done.steps) before
+
+-- the run was recorded up to an event of this item for which a log had no room
+pub record IsFull (group : Group) (done : Progress) (item : ℕ) (before after : Option Store) : Type 0 where
+  pub full : done.full ≡ Some item
+  pub files : after ≡ with_files (logs group done.steps) before
+
+-- the recording of a group whose first states are these was stopped
+abbrev pub StoppedWhere : Schedule → Result (List State) ℕ → Option Store → Option Store → Type 0
+StoppedWhere schedule (Err p) before after = after ≡ before
+StoppedWhere schedule (Ok first) before after = IsStopped (group_of schedule first) (run (group_of schedule first) schedule.items).steps before after
+
+-- what a recording answers, and how it leaves the files
+abbrev pub Answers : Schedule → Result (List State) ℕ → Result Summary RecordError → Option Store → Option Store → Type 0
+Answers schedule begun (Ok summary) before after =
+    (first : List State) × (begun ≡ Ok first) × IsDone (group_of schedule first) (run (group_of schedule first) schedule.items) summary before after
+Answers schedule begun (Err (errors.BadSegment p)) before after = (begun ≡ Err p) × (after ≡ before)
+Answers schedule begun (Err (errors.LogFull item)) before after =
+    (first : List State) × (begun ≡ Ok first) × IsFull (group_of schedule first) (run (group_of schedule first) schedule.items) item before after
+Answers schedule begun (Err errors.WriteFault) before after = StoppedWhere schedule begun before after
+Answers schedule begun (Err errors.NoMemory) before after = StoppedWhere schedule begun before after
+
+-- only a failed write comes of the files, and raises their count
+abbrev pub HasWriteCause : {T : Type 0} → Counts → Counts → Result T RecordError → Type 0
+HasWriteCause old new (Err errors.WriteFault) = Rose old.writes new.writes
+HasWriteCause old new answer = Unit {0}
+
+-- what a failed write comes to
+abbrev pub error_of : WriteError → RecordError
+error_of writing.Failed = errors.WriteFault
+error_of writing.NoMemory = errors.NoMemory

@@ -1,0 +1,109 @@
+-- What holds of each recording: at each moment its logs tell its events, and each datagram that was taken
+-- came from outside or is one that was sent.
+use Rattle.std.specs.Prelude.{◌≡◌, ℕ, Bool, true, false, Option, ◌<◌, ◌≤◌, ◌^◌, IsTrue, List, ◌∷◌, ◌++◌, length, take, All, slice_get, Contains, Some, Ok}
+use Rattle.lamport_tag.specs.Tag.{read_datagram}
+use Rattle.call_table.specs.Table.{kind_numbered}
+use Rattle.call_table.specs.declared.kind.Kind.{Kind}
+use Rattle.call_table.specs.declared.kind.Kind.TheVariants.{Random, Recv, TryRecv}
+use Rattle.lib_calls.specs.Effects.{is_good}
+use Rattle.lib_calls.specs.Traffic.{drawn, is_taken}
+use Rattle.lib_calls.specs.declared.entry.Entry.{Entry}
+use Rattle.fri_text.specs.Name.{is_name}
+use Rattle.schedule_text.specs.declared.item.Item.{Item}
+use Rattle.schedule_text.specs.Schedule.{IsInRange, IsWellFormed, Schedule}
+use Rattle.wasm_types.specs.Modules.{Module}
+use Rattle.wasm_types.specs.Valid.{IsValid}
+use Rattle.guest_process.specs.Live.{Event}
+use Rattle.guest_process.specs.Start.{start}
+use Rattle.guest_process.specs.State.{State}
+use Rattle.group_world.specs.History.{Deliver, History, mailbox, nth, pool, sends, taken}
+use Rattle.group_world.specs.Laws.{Giver, Origin}
+use Rattle.group_record.specs.Run.{Group, Had, IsFront, Step, entries, history, run, size, state_after}
+use Rattle.group_record.specs.Logs.{TellsEvents}
+use Rattle.group_record.specs.Answer.{begun, group_of}
+
+-- a group of 1 to 16 named processes of valid modules, before its first event
+pub record IsBegun (group : Group) : Type 0 where
+  pub some : 1 ≤ size group
+  pub few : size group ≤ 16
+  pub first : length group.first ≡ size group
+  pub names : All (λ name. IsTrue (is_name name)) group.names
+  pub starts : (p : ℕ) (S : State) → slice_get group.first p ≡ Some S → (m : Module) × IsValid m × (start m p (size group) ≡ Some S)
+
+-- the group of a schedule has begun so where each process's first state is that of its module; and the
+-- schedule's items are in range for it
+abbrev pub Beginning : Type 0
+Beginning = (schedule : Schedule) (modules : List Module) (first : List State) → IsWellFormed schedule
+    → length modules ≡ length schedule.processes → All IsValid modules → begun schedule modules ≡ Ok first
+    → IsBegun (group_of schedule first) × All (IsInRange (size (group_of schedule first))) schedule.items
+
+-- at each moment of a run each log tells the events of its process
+abbrev pub Agreement : Type 0
+Agreement = (group : Group) (items : List Item) → IsBegun group → All (IsInRange (size group)) items
+    → (steps : List Step) → IsFront steps (run group items).steps → (p : ℕ) → p < size group → TellsEvents group steps p
+
+-- the entry names this send of process q, and a first part of what the send sent out came in
+pub record Names (e : Entry) (q : ℕ) (sent : Entry) : Type 0 where
+  pub tag : e.tag ≡ Some (record { sender = q; clock = sent.clock })
+  pub payload : e.incoming ≡ take e.call.a1 sent.outgoing
+
+-- the nth send of process q into the group was for process p, and the entry names it, unless its clock is
+-- past those that a tag can bear
+pub record IsSend (count : ℕ) (h : History) (q n p : ℕ) (e : Entry) : Type 0 where
+  pub sent : Entry
+  pub is : nth (sends count h q) n ≡ Some sent
+  pub to : sent.call.a0 ≡ p
+  pub named : sent.clock ≤ 2 ^ 62 → Names e q sent
+
+-- the datagram that an event took: it came first in the mailbox, and the event tells its tag and a first
+-- part of its payload; it came from outside or was sent; an act gave it in its turn; and where that act
+-- delivers it, it had been sent before, and the sender's log told it by then
+pub record Takes (count : ℕ) (early : List Step) (p : ℕ) (e : Event) : Type 0 where
+  pub bytes : List ℕ
+  pub later : List (List ℕ)
+  pub first : mailbox count (history early) p ≡ bytes ∷ later
+  pub tag : e.entry.tag ≡ (read_datagram count bytes).0
+  pub payload : e.entry.incoming ≡ take e.entry.call.a1 (read_datagram count bytes).1
+  pub origin : Origin count (history early) p bytes
+  pub giver : Giver count (history early) p (taken (history early) p) bytes
+  pub sent : (q n : ℕ) → giver.act ≡ Deliver q n → IsSend count giver.earlier q n p e.entry
+  pub told : (q n : ℕ) (is : giver.act ≡ Deliver q n) → Contains (entries early q) (sent q n is).sent
+
+-- so it is with each event that took one
+abbrev pub Delivery : Type 0
+Delivery = (group : Group) (items : List Item) → IsBegun group → All (IsInRange (size group)) items
+    → (later early : List Step) (p : ℕ) (e : Event) → (run group items).steps ≡ later ++ (Had p e ∷ early) → IsTrue (is_taken e.entry)
+    → Takes (size group) early p e
+
+-- ---- what is there is taken
+
+abbrev pub receives : Option Kind → Bool
+receives (Some Recv) = true
+receives (Some TryRecv) = true
+receives _ = false
+
+-- an event of recv or try_recv takes a datagram where one waits, unless its arguments were bad in the state
+-- in which it came
+abbrev pub TakesWaiting : Type 0
+TakesWaiting = (group : Group) (items : List Item) → IsBegun group → All (IsInRange (size group)) items
+    → (later early : List Step) (p : ℕ) (e : Event) → (run group items).steps ≡ later ++ (Had p e ∷ early)
+    → (S : State) → state_after group early p ≡ Some S
+    → IsTrue (receives (kind_numbered e.entry.call.kind)) → IsTrue (is_good e.entry.call S.store.memory)
+    → (bytes : List ℕ) (others : List (List ℕ)) → mailbox (size group) (history early) p ≡ bytes ∷ others → IsTrue (is_taken e.entry)
+
+-- an event of random takes as many of the first bytes of the pool as it asks for
+pub record Draws (early : List Step) (p : ℕ) (e : Event) : Type 0 where
+  pub enough : e.entry.call.a1 ≤ length (pool (history early) p)
+  pub incoming : e.entry.incoming ≡ take e.entry.call.a1 (pool (history early) p)
+  pub count : drawn e.entry ≡ e.entry.call.a1
+
+-- or none, where its arguments were bad
+abbrev pub DrawsIf : Bool → List Step → ℕ → Event → Type 0
+DrawsIf true early p e = Draws early p e
+DrawsIf false early p e = drawn e.entry ≡ 0
+
+abbrev pub TakesDrawn : Type 0
+TakesDrawn = (group : Group) (items : List Item) → IsBegun group → All (IsInRange (size group)) items
+    → (later early : List Step) (p : ℕ) (e : Event) → (run group items).steps ≡ later ++ (Had p e ∷ early)
+    → (S : State) → state_after group early p ≡ Some S → kind_numbered e.entry.call.kind ≡ Some Random
+    → DrawsIf (is_good e.entry.call S.store.memory) early p e

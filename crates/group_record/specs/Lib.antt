@@ -1,0 +1,9 @@
+pub mod Run
+pub mod Logs
+pub mod Files
+pub mod Answer
+pub mod Around
+pub mod Members
+pub mod Recorded
+pub mod Begun
+pub mod Laws

@@ -1,0 +1,40 @@
+-- The logs of a recording, and what their replay makes of them.
+use Rattle.std.specs.Prelude.{◌≡◌, ℕ, suc, List, [], ◌∷◌, ◌++◌, length, take, codes, slice_get, Some}
+use Rattle.lib_calls.specs.declared.entry.Entry.{Entry}
+use Rattle.call_log.specs.Log.{entries_of, head_at, rest_of}
+use Rattle.guest_process.specs.Replay.{accepted, replayed}
+use Rattle.guest_process.specs.State.{State}
+use Rattle.group_record.specs.Run.{Group, Step, entries, head_of, log_of, states}
+
+-- the file of a process's log
+abbrev pub log_name : List ℕ → List ℕ
+log_name name = name ++ codes ".log"
+
+-- files of these names, each with the bytes at its place
+abbrev pub files_from : ℕ → List (List ℕ) → (ℕ → List ℕ) → List (List ℕ × List ℕ)
+files_from p [] bytes = []
+files_from p (name ∷ names) bytes = (log_name name, bytes p) ∷ files_from (suc p) names bytes
+
+-- a file for each process of the group
+abbrev pub files_of : Group → (ℕ → List ℕ) → List (List ℕ × List ℕ)
+files_of group bytes = files_from 0 group.names bytes
+
+-- the logs of all processes
+abbrev pub logs : Group → List Step → List (List ℕ × List ℕ)
+logs group steps = files_of group (log_of group steps)
+
+-- the bytes are a log of process p whose entries are these events', each is accepted where it comes, and
+-- after each n of them the replay is in the recorded state
+pub record IsRecorded (group : Group) (p : ℕ) (bytes : List ℕ) (es : List Entry) (after : List State) : Type 0 where
+  pub first : State
+  pub begun : slice_get group.first p ≡ Some first
+  pub left : List ℕ
+  pub head : head_at bytes ≡ Some (head_of group p, left)
+  pub entries : entries_of left ≡ es
+  pub whole : rest_of left ≡ []
+  pub accepted : accepted first es ≡ length es
+  pub states : (n : ℕ) (S : State) → slice_get (first ∷ after) n ≡ Some S → replayed first (take n es) ≡ S
+
+-- the log of process p after some steps tells its events
+abbrev pub TellsEvents : Group → List Step → ℕ → Type 0
+TellsEvents group steps p = IsRecorded group p (log_of group steps p) (entries steps p) (states steps p)

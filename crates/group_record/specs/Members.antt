@@ -1,0 +1,59 @@
+-- What a process with its log does by itself.
+use Rattle.std.specs.Prelude.{◌≡◌, ◌⊎◌, ℕ, ◌+◌, ◌<◌, ◌≤◌, ◌^◌, List, length, take, Option, Some, None, option_map, Result, Ok, Err, string_bytes}
+use Rattle.fri_outside.specs.Outside.{Store, with_piece}
+use Rattle.lib_calls.specs.declared.entry.Entry.{Entry}
+use Rattle.call_log.specs.Entry.{encoding}
+use Rattle.call_log.specs.Head.{head_bytes}
+use Rattle.call_log.specs.Limits.{most_log}
+use Rattle.guest_process.specs.Legal.{reason}
+use Rattle.guest_process.specs.Next.{next}
+use Rattle.guest_process.specs.State.{State}
+use Rattle.group_record.specs.declared.error.RecordError.{RecordError}
+use Rattle.group_record.specs.declared.error.RecordError.TheVariants as errors
+use Rattle.group_record.specs.declared.member.Member.{Member}
+use Rattle.group_record.specs.Logs.{log_name}
+
+-- a member that has begun in this state as process p of a group of `count` and has had no event
+pub record IsStarted (state : State) (name : List ℕ) (p count : ℕ) (m : Member) : Type 0 where
+  pub process : m.process ≡ Some state
+  pub events : state.events ≡ 0
+  pub group : state.count ≡ count
+  pub log : string_bytes m.log ≡ log_name name
+  pub head : m.head.items ≡ head_bytes (record { count = count; process = p; name = name })
+  pub size : m.size ≡ length m.head.items
+
+-- a member began, or a segment of its module ends past the module's table or memory
+abbrev pub Starts : Option State → List ℕ → ℕ → ℕ → Result Member RecordError → Type 0
+Starts first name p count (Ok m) = (state : State) × (first ≡ Some state) × IsStarted state name p count m
+Starts first name p count (Err (errors.BadSegment q)) = (q ≡ p) × (first ≡ None)
+Starts first name p count (Err (errors.LogFull item)) = ⊥
+Starts first name p count (Err errors.WriteFault) = ⊥
+Starts first name p count (Err errors.NoMemory) = Unit {0}
+
+-- its process stands where the entry is legal, and its log is within the limit
+pub record CanKeep (m : Member) (e : Entry) : Type 0 where
+  pub state : State
+  pub process : m.process ≡ Some state
+  pub legal : reason state e ≡ None
+  pub few : state.events < 2 ^ 61
+  pub room : m.size ≤ most_log
+
+-- the member after the event of an entry
+abbrev pub kept : Member → Entry → Member
+kept m e = record m { size = m.size + length (encoding e); process = option_map (λ S. next S e) m.process }
+
+-- behind a file there may be a first part of these bytes
+abbrev pub IsCut : List ℕ → List ℕ → Option Store → Option Store → Type 0
+IsCut name bytes before after = (after ≡ before) ⊎ ((n : ℕ) × (after ≡ with_piece name (take n bytes) before))
+
+-- the log has room for these bytes
+abbrev pub HasRoom : Member → List ℕ → Type 0
+HasRoom m bytes = m.size + length bytes ≤ most_log
+
+-- these bytes were written behind the log, in the item with this number, or why they were not
+abbrev pub Writes : {T : Type 0} → Member → ℕ → List ℕ → Result T RecordError → Option Store → Option Store → Type 0
+Writes m number bytes (Ok _) before after = HasRoom m bytes × (after ≡ with_piece (string_bytes m.log) bytes before)
+Writes m number bytes (Err (errors.BadSegment p)) before after = ⊥
+Writes m number bytes (Err (errors.LogFull item)) before after = (item ≡ number) × (most_log < m.size + length bytes) × (after ≡ before)
+Writes m number bytes (Err errors.WriteFault) before after = HasRoom m bytes × IsCut (string_bytes m.log) bytes before after
+Writes m number bytes (Err errors.NoMemory) before after = (after ≡ before) ⊎ (HasRoom m bytes × (after ≡ with_piece (string_bytes m.log) bytes before))

@@ -1,0 +1,148 @@
+-- What a recorder has done so far, and what it says of what it does next.
+use Rattle.std.specs.Prelude.{◌≡◌, ◌≢◌, ℕ, ◌+◌, ◌≤◌, Bool, true, false, ◌&&◌, not, is_some, option_and_then, if◌then◌else◌, IsTrue, All, AllPairs, List, length, map, Option, Some, None, option_map, Result, Ok, Err, slice_get, slice_set, string_bytes}
+use Rattle.fri_outside.specs.Outside.{Store}
+use Rattle.fri_outside.specs.Several.{with_files}
+use Rattle.lib_calls.specs.declared.entry.Entry.{Entry}
+use Rattle.lib_calls.specs.Traffic.{drawn, is_taken}
+use Rattle.call_log.specs.Entry.{IsLogged}
+use Rattle.call_log.specs.Limits.{most_log}
+use Rattle.schedule_text.specs.declared.process.ProcessLine.{ProcessLine}
+use Rattle.guest_process.specs.Live.{Env, Event, live}
+use Rattle.guest_process.specs.OneEvent.{Agrees as IsTold}
+use Rattle.guest_process.specs.State.{State}
+use Rattle.group_world.specs.Laws.{CanBe}
+use Rattle.group_world.specs.World.{World, after, after_event, place_of, world_after}
+use Rattle.group_world.specs.History.{Deliver, Inject, Clock, Random, Signal, Kill}
+use Rattle.lossy_net.specs.Network.{nth_of, sent_by}
+use Rattle.schedule_text.specs.declared.item.Item.{Item}
+use Rattle.schedule_text.specs.declared.item.Item.TheVariants as item
+use Rattle.std.specs.Int.{w64, cast_unsigned}
+use Rattle.group_record.specs.declared.error.RecordError.{RecordError}
+use Rattle.group_record.specs.declared.error.RecordError.TheVariants as errors
+use Rattle.group_record.specs.declared.member.Member.{Member}
+use Rattle.group_record.specs.declared.recorder.Recorder.{Recorder}
+use Rattle.group_record.specs.declared.summary.Summary.{Summary}
+use Rattle.group_record.specs.declared.summary.SummaryLine.{SummaryLine}
+use Rattle.group_record.specs.Run.{Group, Progress, Step, entries, history, log_of, name_of, runs, size, state_after}
+use Rattle.group_record.specs.Logs.{log_name, logs}
+use Rattle.group_record.specs.Files.{IsStopped}
+use Rattle.group_record.specs.Members.{kept}
+use Rattle.group_record.specs.Answer.{IsSummary}
+
+-- ---- one event
+
+-- the entry is that of the event of this try, which it tells, and the event takes what is there
+pub record Tells (S : State) (thread : ℕ) (env : Env) (entry : Entry) : Type 0 where
+  pub event : Event
+  pub lives : live S thread env ≡ Some event
+  pub same : entry ≡ event.entry
+  pub told : IsTold S event
+  pub logged : IsLogged entry
+  pub datagram : IsTrue (is_taken entry) → 1 ≤ length env.mailbox
+  pub bytes : drawn entry ≤ length env.pool
+  pub count : event.state.count ≡ S.count
+  pub events : event.state.events ≡ S.events + 1
+
+-- an entry that was made is that of the event, and none was made where there is no event
+abbrev pub IsEntryOf : State → ℕ → Env → Option Entry → Type 0
+IsEntryOf S thread env None = live S thread env ≡ None
+IsEntryOf S thread env (Some entry) = Tells S thread env entry
+
+-- process p made the event of an entry
+pub record Kept (old : Recorder) (p : ℕ) (m : Member) (e : Entry) (new : Recorder) : Type 0 where
+  pub members : new.members.items ≡ slice_set old.members.items p (kept m e)
+  pub world : new.world ≡ after_event old.world p e
+  pub acted : new.acted ≡ old.acted + 1
+  pub idle : new.idle ≡ old.idle
+
+-- ---- one item
+
+-- process p runs and was not killed
+abbrev pub is_spared : List Member → World → ℕ → Bool
+is_spared members w p = runs (option_and_then (λ m. m.process) (slice_get members p)) && not (place_of w p).killed
+
+-- whether an item that is not `run` acts
+abbrev pub acts : List Member → World → Item → Bool
+acts members w (item.Run p thread times) = false
+acts members w (item.Deliver p n) = is_some (nth_of (sent_by w.net p) n)
+acts members w (item.Inject p bytes) = true
+acts members w (item.Clock p value) = true
+acts members w (item.Random p bytes) = true
+acts members w (item.Signal p s) = true
+acts members w (item.Kill p) = is_spared members w p
+
+-- the world after it
+abbrev pub after_act : List Member → World → Item → World
+after_act members w (item.Run p thread times) = w
+after_act members w (item.Deliver p n) = after w (Deliver p n)
+after_act members w (item.Inject p bytes) = after w (Inject p bytes)
+after_act members w (item.Clock p value) = after w (Clock p (cast_unsigned w64 value))
+after_act members w (item.Random p bytes) = after w (Random p bytes)
+after_act members w (item.Signal p s) = after w (Signal p s)
+after_act members w (item.Kill p) = if is_spared members w p then after w (Kill p) else w
+
+-- a recorder after an item that acted, or was idle, with this world
+abbrev pub acted_on : Bool → World → Recorder → Recorder
+acted_on true w r = record r { world = w; acted = r.acted + 1 }
+acted_on false w r = record r { world = w; idle = r.idle + 1 }
+
+-- ---- how far a recorder has come
+
+-- a member is process p of the group after these steps
+pub record IsMember (group : Group) (steps : List Step) (p : ℕ) (m : Member) : Type 0 where
+  pub state : State
+  pub process : m.process ≡ Some state
+  pub after : state_after group steps p ≡ Some state
+  pub events : state.events ≡ length (entries steps p)
+  pub count : state.count ≡ size group
+  pub log : string_bytes m.log ≡ log_name (name_of group p)
+  pub size : m.size ≡ length (log_of group steps p)
+  pub room : m.size ≤ most_log
+  pub logged : All IsLogged (entries steps p)
+
+-- a recorder has come as far as this
+pub record KeepsUp (group : Group) (done : Progress) (recorder : Recorder) : Type 0 where
+  pub room : done.full ≡ None
+  pub apart : AllPairs (λ name other. name ≢ other) group.names
+  pub count : length recorder.members.items ≡ size group
+  pub members : (p : ℕ) (m : Member) → slice_get recorder.members.items p ≡ Some m → IsMember group done.steps p m
+  pub can_be : CanBe (size group) (history done.steps)
+  pub world : recorder.world ≡ world_after (size group) (history done.steps)
+  pub acted : recorder.acted ≡ length done.steps
+  pub idle : recorder.idle ≡ done.idle
+
+-- the files are those of these steps
+abbrev pub FilesOf : Group → Progress → Option Store → Option Store → Type 0
+FilesOf group done before after = after ≡ with_files (logs group done.steps) before
+
+-- a recorder has come as far as some run, and so have the files
+pub record UnderWay (recorder : Recorder) (told : Option Store) : Type 0 where
+  pub group : Group
+  pub done : Progress
+  pub before : Option Store
+  pub keeps : KeepsUp group done recorder
+  pub files : FilesOf group done before told
+
+-- a recorder that was to come as far as this has done so, or says why not
+abbrev pub Comes : Group → Progress → Result Recorder RecordError → Option Store → Option Store → Type 0
+Comes group next (Ok recorder) before after = KeepsUp group next recorder × FilesOf group next before after
+Comes group next (Err (errors.BadSegment p)) before after = ⊥
+Comes group next (Err (errors.LogFull item)) before after = (next.full ≡ Some item) × FilesOf group next before after
+Comes group next (Err errors.WriteFault) before after = IsStopped group next.steps before after
+Comes group next (Err errors.NoMemory) before after = IsStopped group next.steps before after
+
+-- wherever the recorder stood, it is to come as far as what comes next there
+abbrev pub Does : (Group → Progress → Progress) → Recorder → Result Recorder RecordError → Option Store → Option Store → Type 0
+Does next recorder result old new =
+    (group : Group) (done : Progress) (before : Option Store) → KeepsUp group done recorder → FilesOf group done before old → Comes group (next group done) result before new
+
+-- ---- what is said of it
+
+-- the line of a process in this state
+abbrev pub line_at : List ℕ → Bool → State → SummaryLine
+line_at name killed S = record { name = name; events = S.events; end = S.end; killed = killed }
+
+-- it is what is to be said of the run up to where the recorder stands
+abbrev pub Sums : List ProcessLine → Recorder → Summary → Type 0
+Sums lines recorder summary =
+    (group : Group) (done : Progress) → KeepsUp group done recorder → group.names ≡ map (λ line. line.name) lines → IsSummary group done summary

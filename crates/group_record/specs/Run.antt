@@ -1,0 +1,163 @@
+-- The run of a schedule: what each item does to a group, from its first states on.
+use Rattle.std.specs.Prelude.{◌≡◌, ℕ, zero, suc, ◌+◌, Bool, true, false, ◌&&◌, ◌==◌, not, is_some, nat_le, List, [], ◌∷◌, ◌++◌, length, map, slice_get, Option, Some, None, option_and_then, if◌then◌else◌}
+use Rattle.std.specs.Int.{w64, cast_unsigned}
+use Rattle.std.specs.List.{slice_index_or}
+use Rattle.lib_calls.specs.declared.entry.Entry.{Entry}
+use Rattle.call_log.specs.Entry.{encoding, encodings}
+use Rattle.call_log.specs.Head.{Head, head_bytes}
+use Rattle.call_log.specs.Limits.{most_log}
+use Rattle.schedule_text.specs.declared.item.Item.{Item}
+use Rattle.schedule_text.specs.declared.item.Item.TheVariants as item
+use Rattle.guest_process.specs.Live.{Env, Event, live}
+use Rattle.guest_process.specs.State.{State, is_running}
+use Rattle.group_world.specs.History.{Act, History, is_killed, is_pending, mailbox, nth, pool, put_last_if, sends, time}
+use Rattle.group_world.specs.History as world
+
+-- the names of a group's processes and their first states, both in the order of their numbers
+pub record Group : Type 0 where
+  pub names : List (List ℕ)
+  pub first : List State
+
+-- how many processes the group has
+abbrev pub size : Group → ℕ
+size group = length group.names
+
+-- ---- steps
+
+-- an acted step: an event of a process, with the state after it; or what another item does
+pub data Step : Type 0 where
+  Had : (process : ℕ) → (event : Event) → Step
+  Did : Act → Step
+
+-- the act of a step, which tells an event by its entry
+abbrev pub act_of : Step → Act
+act_of (Had p e) = world.Event p e.entry
+act_of (Did act) = act
+
+-- the history of some steps, the newest of each first
+abbrev pub history : List Step → History
+history steps = map act_of steps
+
+-- the entries of a process's events, in their order
+abbrev pub entries : List Step → ℕ → List Entry
+entries steps p = world.entries (history steps) p
+
+-- the states after them
+abbrev pub states : List Step → ℕ → List State
+states [] p = []
+states (Had q e ∷ steps) p = put_last_if (q == p) (states steps p) e.state
+states (Did act ∷ steps) p = states steps p
+
+-- the state of a process after some steps
+abbrev pub state_after : Group → List Step → ℕ → Option State
+state_after group [] p = slice_get group.first p
+state_after group (Had q e ∷ steps) p = if q == p then Some e.state else state_after group steps p
+state_after group (Did act ∷ steps) p = state_after group steps p
+
+-- the world around a process after some steps, by counting
+abbrev pub around : ℕ → List Step → ℕ → Env
+around count steps p = record {
+  mailbox = mailbox count (history steps) p;
+  pool = pool (history steps) p;
+  time = time (history steps) p;
+  pending = is_pending (history steps) p;
+  killed = is_killed (history steps) p;
+}
+
+-- ---- logs
+
+abbrev pub name_of : Group → ℕ → List ℕ
+name_of group p = slice_index_or group.names p []
+
+abbrev pub head_of : Group → ℕ → Head
+head_of group p = record { count = size group; process = p; name = name_of group p }
+
+-- the log of a process: its head, and its events' entries
+abbrev pub log_of : Group → List Step → ℕ → List ℕ
+log_of group steps p = head_bytes (head_of group p) ++ encodings (entries steps p)
+
+-- the log stays within the limit with this entry
+abbrev pub has_room : Group → List Step → ℕ → Entry → Bool
+has_room group steps p e = nat_le (length (log_of group steps p ++ encoding e)) most_log
+
+-- ---- the run
+
+-- the steps so far, the newest first; how many tries and items were idle; and the number of the item, from 1,
+-- whose next event would have carried a log past its limit, after which nothing is done
+pub record Progress : Type 0 where
+  pub steps : List Step
+  pub idle : ℕ
+  pub full : Option ℕ
+
+abbrev pub nothing_yet : Progress
+nothing_yet = record { steps = []; idle = 0; full = None }
+
+abbrev pub acted : Step → Progress → Progress
+acted step done = record done { steps = step ∷ done.steps }
+
+abbrev pub idled : Progress → Progress
+idled done = record done { idle = suc done.idle }
+
+abbrev pub acted_if : Bool → Step → Progress → Progress
+acted_if acts step done = if acts then acted step done else idled done
+
+abbrev pub filled : ℕ → Progress → Progress
+filled number done = record done { full = Some number }
+
+-- what follows, unless a log is full
+abbrev pub unless_full : Progress → Progress → Progress
+unless_full done next = if is_some done.full then done else next
+
+-- the event that a try of a thread of a process comes to, where it isn't idle
+abbrev pub event_of : Group → List Step → ℕ → ℕ → Option Event
+event_of group steps p thread = option_and_then (λ S. live S thread (around (size group) steps p)) (state_after group steps p)
+
+abbrev pub had : Group → ℕ → ℕ → Option Event → Progress → Progress
+had group number p None done = idled done
+had group number p (Some e) done = if has_room group done.steps p e.entry then acted (Had p e) done else filled number done
+
+-- one try, in the item with this number
+abbrev pub attempt : Group → ℕ → ℕ → ℕ → Progress → Progress
+attempt group number p thread done = unless_full done (had group number p (event_of group done.steps p thread) done)
+
+-- so many tries, each by itself
+unfoldable pub attempts : Group → ℕ → ℕ → ℕ → ℕ → Progress → Progress
+attempts group number p thread zero done = done
+attempts group number p thread (suc n) done = attempts group number p thread n (attempt group number p thread done)
+
+-- a process has sent a datagram with this number
+abbrev pub has_sent : ℕ → List Step → ℕ → ℕ → Bool
+has_sent count steps p n = is_some (nth (sends count (history steps) p) n)
+
+abbrev pub runs : Option State → Bool
+runs None = false
+runs (Some S) = is_running S
+
+-- a process runs and was not killed
+abbrev pub can_be_killed : Group → List Step → ℕ → Bool
+can_be_killed group steps p = runs (state_after group steps p) && not (is_killed (history steps) p)
+
+abbrev pub does : Group → ℕ → Item → Progress → Progress
+does group number (item.Run p thread times) done = attempts group number p thread times done
+does group number (item.Deliver p n) done = acted_if (has_sent (size group) done.steps p n) (Did (world.Deliver p n)) done
+does group number (item.Inject p bytes) done = acted (Did (world.Inject p bytes)) done
+does group number (item.Clock p value) done = acted (Did (world.Clock p (cast_unsigned w64 value))) done
+does group number (item.Random p bytes) done = acted (Did (world.Random p bytes)) done
+does group number (item.Signal p s) done = acted (Did (world.Signal p s)) done
+does group number (item.Kill p) done = acted_if (can_be_killed group done.steps p) (Did (world.Kill p)) done
+
+-- an item with its number, from 1
+abbrev pub after_item : Group → ℕ → Item → Progress → Progress
+after_item group number i done = unless_full done (does group number i done)
+
+abbrev pub after_items : Group → ℕ → List Item → Progress → Progress
+after_items group number [] done = done
+after_items group number (i ∷ is) done = after_items group (suc number) is (after_item group number i done)
+
+-- the run of a schedule's items
+abbrev pub run : Group → List Item → Progress
+run group items = after_items group 1 items nothing_yet
+
+-- some steps that were all at some moment of the run
+abbrev pub IsFront : List Step → List Step → Type 0
+IsFront early steps = (later : List Step) × (steps ≡ later ++ early)

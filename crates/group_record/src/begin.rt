@@ -1,0 +1,74 @@
+// How the recording of a group begins.
+ghost use Rattle.std.specs.Prelude.{◌≡◌, ◌<◌, ◌≤◌, All, IfOk, length, map};
+ghost use Rattle.fri_outside.specs.Outside.{NoneFell};
+ghost use Rattle.schedule_text.specs.Schedule.{IsProcess};
+ghost use Rattle.wasm_types.specs.Modules.{module_of};
+ghost use Rattle.group_world.specs.World.{new_world};
+ghost use Rattle.group_record.specs.Answer.{HasWriteCause, begun, begun_from};
+ghost use Rattle.group_record.specs.Begun.{Begins, BeginsAll, IsNewRecorder};
+
+use crate::error::RecordError;
+use crate::logs::begin_logs;
+use crate::member::Member;
+use crate::recorder::Recorder;
+use fri_outside::Files;
+use group_world::World;
+use schedule_text::{ProcessLine, Schedule};
+use std::alloc::{AllocError, Global};
+use wasm_types::ValidModule;
+
+/// Begins all processes and their logs.
+pub(crate) fn begin<'m, F: Files>(
+    alloc: Global,
+    schedule: &Schedule,
+    modules: &'m [ValidModule],
+    files: &mut F,
+) -> Result<Recorder<'m>, RecordError>
+    requires { length modules.now ≡ length schedule.now.processes }
+    ensures begins { Begins schedule.now (begun schedule.now (map module_of modules.now)) result (F.told files.old) (F.told files.new) }
+    ensures counts { NoneFell (F.counts files.old) (F.counts files.new) }
+    ensures cause { HasWriteCause (F.counts files.old) (F.counts files.new) result }
+{
+    let members = begin_members(alloc, schedule.processes(), modules)?;
+    let recorder = new_recorder(alloc, members)?;
+    begin_logs(&recorder.members, files)?;
+    Ok(recorder)
+}
+
+// Begins all processes, in their order.
+fn begin_members<'m>(
+    alloc: Global,
+    lines: &[ProcessLine],
+    modules: &'m [ValidModule],
+) -> Result<Vec<Member<'m>>, RecordError>
+    requires modules { length modules.now ≡ length lines.now }
+    requires few { length lines.now ≤ 16 }
+    requires lines { All IsProcess lines.now }
+    ensures { BeginsAll (λ members. members.items) (map (λ line. line.name) lines.now)
+        (begun_from (length lines.now) 0 (map module_of modules.now)) result }
+{
+    let count = lines.len() as u32;
+    let mut members = Vec::new(alloc);
+    for p in 0..count {
+        let place = p as usize;
+        let member = Member::start(alloc, &lines[place], &modules[place], p, count)?;
+        members.push(member)?;
+    }
+    Ok(members)
+}
+
+// A group of these members, around which nothing has happened.
+fn new_recorder<'m>(alloc: Global, members: Vec<Member<'m>>) -> Result<Recorder<'m>, AllocError>
+    requires { length members.items ≤ 16 }
+    ensures { IfOk result (IsNewRecorder members.entry.items) }
+{
+    let world = World::new(alloc, members.len() as u32)?;
+    Ok(Recorder {
+        alloc,
+        members,
+        world,
+        bytes: Vec::new(alloc),
+        acted: 0,
+        idle: 0,
+    })
+}

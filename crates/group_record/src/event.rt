@@ -1,0 +1,56 @@
+// The event of a try, as its entry tells it.
+ghost use Rattle.std.specs.Prelude.{◌≡◌, ◌<◌, ◌^◌, IfOk};
+ghost use Rattle.group_world.specs.World.{size};
+ghost use Rattle.group_record.specs.Around.{env_of};
+ghost use Rattle.group_record.specs.Recorded.{IsEntryOf};
+
+use crate::answer::answer_now;
+use crate::signals::signal_after;
+use group_world::World;
+use guest_process::{Process, kept, one_event, rises};
+use lamport_tag::next_clock;
+use lib_calls::{Entry, outgoing};
+use std::alloc::{AllocError, Global};
+
+/// The entry of the event of a try of this thread of process `p`, or nothing where the try is idle.
+pub(crate) fn live_entry(
+    alloc: Global,
+    process: &Process<'_>,
+    thread: u16,
+    world: &World,
+    p: u32,
+) -> Result<Option<Entry>, AllocError>
+    requires process { p < size world.now }
+    requires group { process.now.count ≡ size world.now }
+    requires few { process.now.events < 2 ^ 61 }
+    ensures { IfOk result (IsEntryOf process.now thread (env_of world.now p)) }
+{
+    // What these ensure tells the proof that the event is one that its entry tells.
+    one_event();
+    rises();
+    kept();
+    let _ = process.events();
+    let _ = world.time(p);
+    if world.is_killed(p) {
+        return Ok(None);
+    }
+    let Some(call) = process.pending(thread) else {
+        return Ok(None);
+    };
+    let Some(need) = process.need(thread) else {
+        return Ok(None);
+    };
+    let Some(answer) = answer_now(alloc, need, call, world, p)? else {
+        return Ok(None);
+    };
+    Ok(Some(Entry {
+        clock: next_clock(process.clock(), answer.tag),
+        thread,
+        signal: signal_after(process, thread, call, world, p),
+        call: *call,
+        reply: answer.reply,
+        outgoing: outgoing(alloc, call, process.memory())?,
+        incoming: answer.incoming,
+        tag: answer.tag,
+    }))
+}

@@ -1,0 +1,49 @@
+// What holds of each recording, as calls that do nothing.
+ghost use Rattle.group_record.specs.Laws.{Agreement, Beginning, Delivery, TakesDrawn, TakesWaiting};
+
+use call_log::exact_logs;
+use group_world::by_counting;
+use guest_process::{counting, kept, one_event, rises};
+
+/// A group of a schedule and valid modules, whose processes have begun, is one of which the two laws speak.
+pub fn beginning()
+    ensures { Beginning }
+{}
+
+/// At each moment of a recording each log tells the events of its process: they are its entries, each is
+/// accepted where it comes, and the replay after each n of them is in the recorded state.
+pub fn agreement()
+    ensures { Agreement }
+{
+    exact_logs();
+    one_event();
+    kept();
+    rises();
+    counting();
+}
+
+/// Each datagram that an event took came first in the mailbox. It came from outside, or is one that a
+/// process had sent to the taker before an item delivered it. Then the sender's log told the send by then,
+/// and the event's entry names it, unless the send's clock is past those that a tag can bear, and tells a
+/// first part of what was sent.
+pub fn delivery()
+    ensures { Delivery }
+{
+    by_counting();
+    one_event();
+    kept();
+    rises();
+    counting();
+}
+
+/// With good arguments each recv and try_recv takes the datagram that waits first, and each random the
+/// first bytes of the pool. So no datagram and no random byte is taken twice.
+pub fn taking()
+    ensures datagrams { TakesWaiting }
+    ensures bytes { TakesDrawn }
+{
+    one_event();
+    kept();
+    rises();
+    counting();
+}

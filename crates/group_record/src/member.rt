@@ -1,0 +1,151 @@
+// A process of a group that is recorded, and the file of its log.
+ghost use Rattle.std.specs.Prelude.{◌≡◌, ◌+◌, ◌<◌, ◌≤◌, length, option_map, IfOk, OnOk, IsTrue, string_bytes};
+ghost use Rattle.call_log.specs.Entry.{encoding};
+ghost use Rattle.call_log.specs.Head.{head_bytes};
+ghost use Rattle.call_log.specs.Limits.{most_log};
+ghost use Rattle.fri_outside.specs.Outside.{NoneFell};
+ghost use Rattle.fri_text.specs.Name.{is_name as is_name_word};
+ghost use Rattle.lib_calls.specs.Entry.{IsShaped, entry_of};
+ghost use Rattle.schedule_text.specs.Schedule.{IsProcess};
+ghost use Rattle.guest_process.specs.Next.{next};
+ghost use Rattle.guest_process.specs.Start.{start as start_of};
+ghost use Rattle.wasm_types.specs.Modules.{module_of};
+ghost use Rattle.group_record.specs.Answer.{HasWriteCause};
+ghost use Rattle.group_record.specs.Logs.{log_name};
+ghost use Rattle.group_record.specs.Members.{CanKeep, Starts, Writes, kept};
+
+use crate::error::RecordError;
+use call_log::{LogHead, put_entry, put_head};
+use fri_outside::Files;
+use guest_process::{Process, counting};
+use lib_calls::EntryView;
+use schedule_text::ProcessLine;
+use std::alloc::{AllocError, Global};
+use wasm_step::StartError;
+use wasm_types::ValidModule;
+
+// How many bytes a log has at most.
+const MOST_LOG: usize = 33_554_432;
+
+/// A process with the name of its log's file, the head of the log, and how many bytes the log has with
+/// it. The process is away while it makes an event.
+#[derive(Drop)]
+pub(crate) struct Member<'m> {
+    pub(crate) log: String,
+    pub(crate) head: Vec<u8>,
+    pub(crate) size: usize,
+    pub(crate) process: Option<Process<'m>>,
+}
+
+impl<'m> Member<'m> {
+    /// Process `p` of a group of `count`, before its first event.
+    pub(crate) fn start(
+        alloc: Global,
+        line: &ProcessLine,
+        program: &'m ValidModule,
+        p: u32,
+        count: u32,
+    ) -> Result<Member<'m>, RecordError>
+        requires process { p < count }
+        requires count { count ≤ 16 }
+        requires line { IsProcess line.now }
+        ensures { Starts (start_of (module_of program.now) p count) line.now.name p count result }
+    {
+        counting();
+        let log = log_file(alloc, line.name.as_slice())?;
+        let head = log_head(alloc, line.name.as_slice(), p, count)?;
+        match Process::start(alloc, program, p, count) {
+            Ok(process) => Ok(Member {
+                log,
+                size: head.len(),
+                head,
+                process: Some(process),
+            }),
+            Err(StartError::BadSegment) => Err(RecordError::BadSegment(p)),
+            Err(StartError::NoMemory) => Err(RecordError::NoMemory),
+        }
+    }
+
+    /// Writes the entry of an event to the log, where the log has room, and makes the event. The entry is
+    /// spelled in `bytes`. `number` is that of the item to which the event belongs.
+    pub(crate) fn keep<F: Files>(
+        &mut self,
+        number: u64,
+        entry: &EntryView<'_>,
+        bytes: &mut Vec<u8>,
+        files: &mut F,
+    ) -> Result<(), RecordError>
+        requires shape { IsShaped (entry_of entry.now) }
+        requires event { CanKeep self.old (entry_of entry.now) }
+        ensures writes { Writes self.old number (encoding (entry_of entry.now)) result (F.told files.old) (F.told files.new) }
+        ensures ok { OnOk result (self.new ≡ kept self.old (entry_of entry.now)) }
+        ensures counts { NoneFell (F.counts files.old) (F.counts files.new) }
+        ensures cause { HasWriteCause (F.counts files.old) (F.counts files.new) result }
+    {
+        bytes.clear();
+        put_entry(bytes, entry)?;
+        self.write(number, bytes, files)?;
+        self.advance(entry)?;
+        Ok(())
+    }
+
+    // Writes bytes at the end of the log, where it has room.
+    fn write<F: Files>(
+        &mut self,
+        number: u64,
+        bytes: &[u8],
+        files: &mut F,
+    ) -> Result<(), RecordError>
+        requires { self.old.size ≤ most_log }
+        ensures writes { Writes self.old number bytes.now result (F.told files.old) (F.told files.new) }
+        ensures ok { OnOk result (self.new ≡ record self.old { size = self.old.size + length bytes.now }) }
+        ensures counts { NoneFell (F.counts files.old) (F.counts files.new) }
+        ensures cause { HasWriteCause (F.counts files.old) (F.counts files.new) result }
+    {
+        if bytes.len() > MOST_LOG - self.size {
+            return Err(RecordError::LogFull(number));
+        }
+        files.append(&self.log, bytes)?;
+        self.size += bytes.len();
+        Ok(())
+    }
+
+    // Makes the event of a legal entry.
+    fn advance(&mut self, entry: &EntryView<'_>) -> Result<(), AllocError>
+        requires { CanKeep self.old (entry_of entry.now) }
+        ensures { OnOk result (self.new ≡ record self.old { process = option_map (λ S. next S (entry_of entry.now)) self.old.process }) }
+    {
+        let Some(process) = self.process.take() else {
+            unreachable!();
+        };
+        self.process = Some(process.advance(entry)?);
+        Ok(())
+    }
+}
+
+// The name of the file of a process's log.
+fn log_file(alloc: Global, name: &[u8]) -> Result<String, AllocError>
+    requires { IsTrue (is_name_word name.now) }
+    ensures { IfOk result (λ file. string_bytes file ≡ log_name name.now) }
+{
+    let mut file = String::from_utf8_lossy(alloc, name)?;
+    file.push_str(".log")?;
+    Ok(file)
+}
+
+// The head of a process's log.
+fn log_head(alloc: Global, name: &[u8], p: u32, count: u32) -> Result<Vec<u8>, AllocError>
+    requires process { p < count }
+    requires count { count ≤ 16 }
+    requires named { IsTrue (is_name_word name.now) }
+    ensures { IfOk result (λ bytes. bytes.items ≡ head_bytes (record { count = count; process = p; name = name.now })) }
+{
+    let mut bytes = Vec::new(alloc);
+    let head = LogHead {
+        count,
+        process: p,
+        name,
+    };
+    put_head(&mut bytes, &head)?;
+    Ok(bytes)
+}

@@ -1,0 +1,238 @@
+// A group that is recorded, try by try.
+ghost use Rattle.std.specs.Prelude.{◌≡◌, ◌+◌, ◌<◌, ◌≤◌, ℕ, All, IfOk, IsTrue, length, slice_get, Some, if◌then◌else◌};
+ghost use Rattle.fri_outside.specs.Outside.{NoneFell};
+ghost use Rattle.call_log.specs.Entry.{encoding};
+ghost use Rattle.lib_calls.specs.Entry.{IsShaped};
+ghost use Rattle.lib_calls.specs.Traffic.{drawn as drawn_of, is_taken as is_taken_of};
+ghost use Rattle.lossy_net.specs.Network.{mailbox_of};
+ghost use Rattle.schedule_text.specs.Schedule.{IsInRange};
+ghost use Rattle.group_world.specs.World.{place_of, size};
+ghost use Rattle.group_record.specs.declared.member.Member.{Member as MemberOf};
+ghost use Rattle.group_record.specs.Run.{after_item, after_items, attempt, attempts};
+ghost use Rattle.group_record.specs.Recorded.{Does, Kept, UnderWay, acted_on, acts, after_act};
+ghost use Rattle.group_record.specs.Members.{CanKeep, Writes};
+ghost use Rattle.group_record.specs.Answer.{HasWriteCause};
+
+use crate::error::RecordError;
+use crate::event::live_entry;
+use crate::items::act;
+use crate::member::Member;
+use fri_outside::{Files, keeps_files};
+use group_world::{World, by_counting};
+use lib_calls::Entry;
+use schedule_text::Item;
+use std::alloc::{AllocError, Global};
+
+/// A group that is recorded: its processes, the world around them, and how many steps acted and tries and
+/// items were idle. The entry of an event is spelled in `bytes`.
+#[derive(Drop)]
+pub(crate) struct Recorder<'m> {
+    pub(crate) alloc: Global,
+    pub(crate) members: Vec<Member<'m>>,
+    pub(crate) world: World,
+    pub(crate) bytes: Vec<u8>,
+    pub(crate) acted: u64,
+    pub(crate) idle: u64,
+}
+
+// One more. No memory holds a schedule with so many items that the count would not fit.
+fn next(count: u64) -> Result<u64, AllocError>
+    ensures { IfOk result (λ n. n ≡ count + 1) }
+{
+    count.checked_add(1).ok_or(AllocError)
+}
+
+// The counts of what acted and what was idle, with one item more.
+fn counts(acts: bool, acted: u64, idle: u64) -> Result<(u64, u64), AllocError>
+    ensures { IfOk result (λ counts. counts ≡ (if acts then (acted + 1, idle) else (acted, idle + 1))) }
+{
+    if acts {
+        Ok((next(acted)?, idle))
+    } else {
+        Ok((acted, next(idle)?))
+    }
+}
+
+impl<'m> Recorder<'m> {
+    /// Does all items of a schedule.
+    pub(crate) fn perform_all<F: Files>(
+        self,
+        items: &[Item],
+        files: &mut F,
+    ) -> Result<Recorder<'m>, RecordError>
+        requires under_way { UnderWay self (F.told files.old) }
+        requires in_range { All (IsInRange (length self.members.items)) items.now }
+        ensures comes { Does (λ group. after_items group 1 items.now) self.entry result (F.told files.old) (F.told files.new) }
+        ensures counts { NoneFell (F.counts files.old) (F.counts files.new) }
+        ensures cause { HasWriteCause (F.counts files.old) (F.counts files.new) result }
+    {
+        let mut recorder = self;
+        let mut number = 0;
+        for item in items {
+            number += 1;
+            recorder = recorder.perform(number, item, files)?;
+        }
+        Ok(recorder)
+    }
+
+    // Does the item with this number, from 1.
+    fn perform<F: Files>(
+        self,
+        number: u64,
+        item: &Item,
+        files: &mut F,
+    ) -> Result<Recorder<'m>, RecordError>
+        requires under_way { UnderWay self (F.told files.old) }
+        requires in_range { IsInRange (length self.members.items) item.now }
+        ensures comes { Does (λ group. after_item group number item.now) self.entry result (F.told files.old) (F.told files.new) }
+        ensures counts { NoneFell (F.counts files.old) (F.counts files.new) }
+        ensures cause { HasWriteCause (F.counts files.old) (F.counts files.new) result }
+    {
+        by_counting();
+        match item {
+            Item::Run {
+                process,
+                thread,
+                times,
+            } => self.run(number, *process, *thread, *times, files),
+            _ => Ok(self.act(item)?),
+        }
+    }
+
+    // So many tries of a thread.
+    fn run<F: Files>(
+        self,
+        number: u64,
+        p: u32,
+        thread: u16,
+        times: u32,
+        files: &mut F,
+    ) -> Result<Recorder<'m>, RecordError>
+        requires under_way { UnderWay self (F.told files.old) }
+        requires process { p < length self.members.items }
+        ensures comes { Does (λ group. attempts group number p thread times) self.entry result (F.told files.old) (F.told files.new) }
+        ensures counts { NoneFell (F.counts files.old) (F.counts files.new) }
+        ensures cause { HasWriteCause (F.counts files.old) (F.counts files.new) result }
+    {
+        let mut recorder = self;
+        for _ in 0..times {
+            recorder = recorder.attempt(number, p, thread, files)?;
+        }
+        Ok(recorder)
+    }
+
+    // One try of a thread, in the item with this number.
+    fn attempt<F: Files>(
+        self,
+        number: u64,
+        p: u32,
+        thread: u16,
+        files: &mut F,
+    ) -> Result<Recorder<'m>, RecordError>
+        requires under_way { UnderWay self (F.told files.old) }
+        requires process { p < length self.members.items }
+        ensures comes { Does (λ group. attempt group number p thread) self.entry result (F.told files.old) (F.told files.new) }
+        ensures counts { NoneFell (F.counts files.old) (F.counts files.new) }
+        ensures cause { HasWriteCause (F.counts files.old) (F.counts files.new) result }
+    {
+        by_counting();
+        keeps_files();
+        let Some(process) = &self.members[p as usize].process else {
+            unreachable!();
+        };
+        match live_entry(self.alloc, process, thread, &self.world, p)? {
+            None => Ok(self.idled()?),
+            Some(entry) => self.keep(number, p, &entry, files),
+        }
+    }
+
+    // Writes the entry of an event to the log of its process, and makes the event.
+    fn keep<F: Files>(
+        self,
+        number: u64,
+        p: u32,
+        entry: &Entry,
+        files: &mut F,
+    ) -> Result<Recorder<'m>, RecordError>
+        requires process { p < length self.members.items }
+        requires around { p < size self.world }
+        requires shape { IsShaped entry.now }
+        requires event { (m : MemberOf) → slice_get self.members.items p ≡ Some m → CanKeep m entry.now }
+        requires datagram { IsTrue (is_taken_of entry.now) → 1 ≤ length (mailbox_of self.world.net p) }
+        requires drawn { drawn_of entry.now ≤ length (place_of self.world p).pool }
+        ensures writes { (m : MemberOf) → slice_get self.entry.members.items p ≡ Some m →
+            Writes m number (encoding entry.now) result (F.told files.old) (F.told files.new) }
+        ensures ok { IfOk result (λ r. (m : MemberOf) → slice_get self.entry.members.items p ≡ Some m → Kept self.entry p m entry.now r) }
+        ensures counts { NoneFell (F.counts files.old) (F.counts files.new) }
+        ensures cause { HasWriteCause (F.counts files.old) (F.counts files.new) result }
+    {
+        let Recorder {
+            alloc,
+            mut members,
+            mut world,
+            mut bytes,
+            acted,
+            idle,
+        } = self;
+        let entry = entry.view();
+        members[p as usize].keep(number, &entry, &mut bytes, files)?;
+        world.event(p, &entry)?;
+        Ok(Recorder {
+            alloc,
+            members,
+            world,
+            bytes,
+            acted: next(acted)?,
+            idle,
+        })
+    }
+
+    // Does an item that is not `run`.
+    fn act(self, item: &Item) -> Result<Recorder<'m>, AllocError>
+        requires around { size self.world ≡ length self.members.items }
+        requires in_range { IsInRange (length self.members.items) item.now }
+        ensures { IfOk result (λ r. r ≡ acted_on (acts self.entry.members.items self.entry.world item.now)
+            (after_act self.entry.members.items self.entry.world item.now) self.entry) }
+    {
+        let Recorder {
+            alloc,
+            members,
+            mut world,
+            bytes,
+            acted,
+            idle,
+        } = self;
+        let acts = act(item, &members, &mut world)?;
+        let (acted, idle) = counts(acts, acted, idle)?;
+        Ok(Recorder {
+            alloc,
+            members,
+            world,
+            bytes,
+            acted,
+            idle,
+        })
+    }
+
+    // Counts a try that was idle.
+    fn idled(self) -> Result<Recorder<'m>, AllocError>
+        ensures { IfOk result (λ r. r ≡ record self.entry { idle = self.entry.idle + 1 }) }
+    {
+        let Recorder {
+            alloc,
+            members,
+            world,
+            bytes,
+            acted,
+            idle,
+        } = self;
+        Ok(Recorder {
+            alloc,
+            members,
+            world,
+            bytes,
+            acted,
+            idle: next(idle)?,
+        })
+    }
+}

@@ -1,0 +1,35 @@
+// The recording of a schedule.
+ghost use Rattle.std.specs.Prelude.{◌≡◌, length, map};
+ghost use Rattle.fri_outside.specs.Outside.{NoneFell};
+ghost use Rattle.wasm_types.specs.Modules.{module_of};
+ghost use Rattle.group_record.specs.Answer.{Answers, HasWriteCause, begun};
+
+use crate::begin::begin;
+use crate::error::RecordError;
+use crate::summary::{Summary, summary_of};
+use fri_outside::Files;
+use group_world::by_counting;
+use schedule_text::Schedule;
+use std::alloc::Global;
+use wasm_types::ValidModule;
+
+/// Records the group of a schedule, whose processes are of these modules, one for each. All processes
+/// begin; then the logs are made and their heads written, each in order of the processes; then each
+/// event's entry is appended to its log before the next event is tried. After a call on the files that
+/// failed none is made. `Answers` says how the files stand at each answer.
+pub fn run_record<F: Files>(
+    alloc: Global,
+    schedule: &Schedule,
+    modules: &[ValidModule],
+    files: &mut F,
+) -> Result<Summary, RecordError>
+    requires { length modules.now ≡ length schedule.now.processes }
+    ensures answers { Answers schedule.now (begun schedule.now (map module_of modules.now)) result (F.told files.old) (F.told files.new) }
+    ensures counts { NoneFell (F.counts files.old) (F.counts files.new) }
+    ensures cause { HasWriteCause (F.counts files.old) (F.counts files.new) result }
+{
+    by_counting();
+    let begun = begin(alloc, schedule, modules, files)?;
+    let recorder = begun.perform_all(schedule.items(), files)?;
+    Ok(summary_of(alloc, schedule.processes(), &recorder)?)
+}
