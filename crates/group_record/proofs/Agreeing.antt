@@ -216,6 +216,7 @@ time_fits group (Did (world.Clock q value) ∷ steps) run p = time_by (q == p) v
 time_fits group (Did (world.Deliver q n) ∷ steps) run p = time_fits group steps run.1 p
 time_fits group (Did (world.Inject q bytes) ∷ steps) run p = time_fits group steps run.1 p
 time_fits group (Did (world.Random q bytes) ∷ steps) run p = time_fits group steps run.1 p
+time_fits group (Did (world.Signal q s) ∷ steps) run p = time_fits group steps run.1 p
 time_fits group (Did (world.Kill q) ∷ steps) run p = time_fits group steps run.1 p
 
 -- ---- at each moment of a run
@@ -267,6 +268,7 @@ act_keeps group steps (world.Clock q value) p done k = k
 act_keeps group steps (world.Deliver q n) p done k = k
 act_keeps group steps (world.Inject q bytes) p done k = k
 act_keeps group steps (world.Random q bytes) p done k = k
+act_keeps group steps (world.Signal q s) p done k = k
 act_keeps group steps (world.Kill q) p done k = k
 
 pub keeps : (laws : Laws) (group : Group) → IsBegun group → (steps : List Step) → IsRun group steps → (p : ℕ) → p < size group → KeepsAfter group steps p

@@ -69,6 +69,7 @@ does_front group number (item.Deliver p n) done = acted_front _ _ done
 does_front group number (item.Inject p bytes) done = (Did (world.Inject p bytes) ∷ [], refl)
 does_front group number (item.Clock p value) done = (Did (world.Clock p (cast_unsigned w64 value)) ∷ [], refl)
 does_front group number (item.Random p bytes) done = (Did (world.Random p bytes) ∷ [], refl)
+does_front group number (item.Signal p s) done = (Did (world.Signal p s) ∷ [], refl)
 does_front group number (item.Kill p) done = acted_front _ _ done
 
 pub item_leads : (group : Group) (number : ℕ) (i : Item) (done : Progress) → LeadsTo done (after_item group number i done)

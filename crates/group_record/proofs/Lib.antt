@@ -16,3 +16,4 @@ pub mod Sending
 pub mod Delivering
 pub mod Begun
 pub mod Drawing
+pub mod Chosen

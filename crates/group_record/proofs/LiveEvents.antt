@@ -30,8 +30,9 @@ use Rattle.guest_process.specs.OneEvent.{IsKept, OneEvent, Rises}
 use Rattle.guest_process.specs.Next.{next}
 use Rattle.guest_process.specs.Seen.{able, plain}
 use Rattle.guest_process.specs.State.{State, is_running, thread_at}
-use Rattle.group_record.specs.Around.{answer_by, drawn_of, taken_of, waking_at, world_answer}
+use Rattle.group_record.specs.Around.{answer_by, drawn_of, signal_with, taken_of, waking_at, world_answer}
 use Rattle.group_record.specs.Recorded.{Tells}
+use Rattle.group_record.proofs.Chosen.{chosen_is, handlers_after}
 
 -- ---- the answer
 
@@ -211,19 +212,6 @@ lives_at S t env w spared is =
     ap (λ killed. cond (not killed && is_running S) (live_at S t env (thread_at S t)) None) spared
     ∙ tested (live_at S t env) refl (is_running S) (thread_at S t) w is
 
-lowest_none : (p : ℕ → Bool) → ((s : ℕ) → p s ≡ false) → (n s : ℕ) → lowest p n s ≡ 0
-unfolding lowest
-lowest_none p none zero s = refl
-lowest_none p none (suc n) s = rw (none s) (lowest_none p none n (s + 1))
-
-none_by : (p : ℕ → Bool) → ((s : ℕ) → p s ≡ false) → (b : Bool) → cond b 0 (lowest p 31 1) ≡ 0
-none_by p none true = refl
-none_by p none false = lowest_none p none 31 1
-
-none_chosen : (kind : Kind) (handlers : List (Option ℕ)) → chosen kind handlers (λ s. false) ≡ 0
-none_chosen kind handlers =
-    none_by (λ s. false && is_some (handler handlers s)) (λ s. refl) (ends_process kind)
-
 -- ---- the event
 
 -- the entry of an event with this answer
@@ -231,11 +219,10 @@ abbrev pub entry_with : ℕ → ℕ → ℕ → Call → Answer → List ℕ →
 entry_with clock signal t c a outgoing =
     record { clock = clock; thread = t; signal = signal; call = c; reply = a.reply; outgoing = outgoing; incoming = a.incoming; tag = a.tag }
 
--- what is asked in a world in which the process was not killed and no signal is pending
+-- what is asked in a world in which the process was not killed
 pub record IsTried (S : State) (t : ℕ) (env : Env) (c : Call) (asked : PlainNeed) : Type 0 where
   pub stands : IsAsked S t c asked
   pub spared : env.killed ≡ false
-  pub pending : env.pending ≡ (λ s. false)
 
 found_at : (S : State) (t : ℕ) (env : Env) (c : Call) (asked : PlainNeed) (found : Option Answer) → (at : StandsThere S t c asked) → answer_by asked c S.count env ≡ found
     → option_map answer_in (answered (need at.waiting.kind S t at.waiting.call) (from_world at.waiting.kind S at.waiting.call env)) ≡ found
@@ -255,17 +242,19 @@ no_event S t env c asked h is =
 
 -- and one where an answer is given
 pub one_here : (S : State) (t : ℕ) (env : Env) (c : Call) (asked : PlainNeed) (a : Answer) → IsTried S t env c asked → answer_by asked c S.count env ≡ Some a
-    → (e : Event) × (live S t env ≡ Some e) × (e.entry ≡ entry_with (next_clock_of S.clock a.tag) 0 t c a (outgoing_of c S.store.memory))
+    → (e : Event) × (live S t env ≡ Some e) × (e.entry ≡ entry_with (next_clock_of S.clock a.tag) (signal_with S t a (kind_numbered c.kind) env.pending) t c a (outgoing_of c S.store.memory))
 one_here S t env c asked a h is =
     let at = stands_there S t c asked h.stands in
     let w = at.waiting in
     let x = one_more answer_in (answered (need w.kind S t w.call) (from_world w.kind S w.call env)) a (sym (found_at S t env c asked (Some a) at is)) in
-    let silent : chosen w.kind x.0.after.handlers env.pending ≡ 0 = ap (chosen w.kind x.0.after.handlers) h.pending ∙ none_chosen w.kind x.0.after.handlers in (
+    let signal = signal_with S t a (kind_numbered c.kind) env.pending in
+    let delivers : chosen w.kind x.0.after.handlers env.pending ≡ signal =
+    chosen_is S t a w c env.pending x.0.after.handlers (able_is S t w at.able) at.kind (handlers_after w.kind S t w.call env x.0 a x.1) in (
       event S t env w x.0,
       lives_at S t env (Some w) h.spared at.able ∙ ap (option_map (event S t env w)) x.1,
-      ap (λ signal. entry_with (next_clock_of S.clock x.0.answer.tag) signal t w.call x.0.answer (outgoing_of w.call S.store.memory)) silent
-          ∙ ap (λ call. entry_with (next_clock_of S.clock x.0.answer.tag) 0 t call x.0.answer (outgoing_of call S.store.memory)) at.call
-          ∙ ap (λ a. entry_with (next_clock_of S.clock a.tag) 0 t c a (outgoing_of c S.store.memory)) (sym x.2),
+      ap (λ signal. entry_with (next_clock_of S.clock x.0.answer.tag) signal t w.call x.0.answer (outgoing_of w.call S.store.memory)) delivers
+          ∙ ap (λ call. entry_with (next_clock_of S.clock x.0.answer.tag) signal t call x.0.answer (outgoing_of call S.store.memory)) at.call
+          ∙ ap (λ a. entry_with (next_clock_of S.clock a.tag) signal t c a (outgoing_of c S.store.memory)) (sym x.2),
     )
 
 built_kind : (k : Kind) (S : State) (t : ℕ) (c : Call) (count : ℕ) (env : Env) (a : Answer) → kind_numbered c.kind ≡ Some k → answer_by (plain (need k S t c)) c count env ≡ Some a → is_built c.kind ≡ true
@@ -292,7 +281,7 @@ pub record IsFit (S : State) (env : Env) : Type 0 where
 
 -- the entry that was made is that of the event
 pub entry_tells : OneEvent → Rises → (S : State) (t : ℕ) (env : Env) (c : Call) (asked : PlainNeed) (a : Answer) (entry : Entry) → IsFit S env → IsTried S t env c asked
-    → answer_by asked c S.count env ≡ Some a → entry ≡ entry_with (next_clock_of S.clock a.tag) 0 t c a (outgoing_of c S.store.memory) → Tells S t env entry
+    → answer_by asked c S.count env ≡ Some a → entry ≡ entry_with (next_clock_of S.clock a.tag) (signal_with S t a (kind_numbered c.kind) env.pending) t c a (outgoing_of c S.store.memory) → Tells S t env entry
 entry_tells one_event rises S t env c asked a entry fit h is made =
     let e = one_here S t env c asked a h is in
     let at = stands_there S t c asked h.stands in

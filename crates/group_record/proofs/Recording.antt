@@ -20,7 +20,7 @@ use Rattle.guest_process.specs.State.{State}
 use Rattle.group_world.specs.History.{Act, History, put_last_if}
 use Rattle.group_world.specs.History as world
 use Rattle.group_world.specs.Laws.{CanFollow, CanTake, Counting, sent_as}
-use Rattle.group_world.specs.World.{World, after, place_of, world_after}
+use Rattle.group_world.specs.World.{World, after, has_pending, place_of, world_after}
 use Rattle.lossy_net.specs.Network.{Sent, nth_of, sent_by, with_delivered}
 use Rattle.schedule_text.specs.Schedule.{IsInRange}
 use Rattle.schedule_text.specs.declared.item.Item.{Item}
@@ -36,15 +36,25 @@ use Rattle.group_record.specs.Files.{IsStopped, Between, InEntry}
 use Rattle.group_record.specs.Around.{env_of}
 use Rattle.group_record.specs.Members.{CanKeep, HasRoom, IsCut, Writes, kept}
 use Rattle.group_record.specs.Recorded.{Comes, FilesOf, IsMember, Kept, KeepsUp, Tells, acted_on, acts, after_act, is_spared}
+use Rattle.group_record.proofs.Chosen.{live_same, with_signals}
 use Rattle.group_record.proofs.Going.{LeadsTo, attempt_leads}
 use Rattle.group_record.proofs.Growing.{entries_few, log_longer, logs_grown, piece_written}
 
 -- ---- what is kept is what is counted
 
-pub env_same : Counting → (group : Group) (done : Progress) (r : Recorder) (p : ℕ) → KeepsUp group done r → p < size group → env_of r.world p ≡ around (size group) done.steps p
+pub env_same : Counting → (group : Group) (done : Progress) (r : Recorder) (p : ℕ) → KeepsUp group done r → p < size group
+    → env_of r.world p ≡ with_signals (around (size group) done.steps p) (has_pending r.world p)
 env_same counting group done r p keeps within =
     let counted = counting.counted (size group) (history done.steps) keeps.can_be p within in
-    ap (λ w. env_of w p) keeps.world ∙ rw (counted.mailbox, counted.pool, counted.time, counted.killed) refl
+    ap (λ w. with_signals (env_of w p) (has_pending r.world p)) keeps.world ∙ rw (counted.mailbox, counted.pool, counted.time, counted.killed) refl
+
+-- so are the signals, and nothing else of what is pending makes a difference
+live_now : Counting → (group : Group) (done : Progress) (r : Recorder) (p thread : ℕ) (S : State) → KeepsUp group done r → p < size group
+    → live S thread (env_of r.world p) ≡ live S thread (around (size group) done.steps p)
+live_now counting group done r p thread S keeps within =
+    let counted = counting.counted (size group) (history done.steps) keeps.can_be p within in
+    ap (live S thread) (env_same counting group done r p keeps within)
+    ∙ live_same S thread (around (size group) done.steps p) (has_pending r.world p) (λ s first last. ap (λ w. has_pending w p s) keeps.world ∙ counted.pending s first last)
 
 -- nothing is full yet
 pub unless_none : (done next : Progress) → done.full ≡ None → unless_full done next ≡ next
@@ -56,7 +66,7 @@ pub attempt_is : Counting → (group : Group) (done : Progress) (r : Recorder) (
 attempt_is counting group done r number p thread S keeps within here =
     let found : event_of group done.steps p thread ≡ live S thread (env_of r.world p) =
     ap (λ o. option_and_then (λ S. live S thread (around (size group) done.steps p)) o) here
-    ∙ ap (λ env. live S thread env) (sym (env_same counting group done r p keeps within)) in
+    ∙ sym (live_now counting group done r p thread S keeps within) in
     unless_none done (had group number p (event_of group done.steps p thread) done) keeps.room
     ∙ ap (λ o. had group number p o done) found
 
@@ -87,6 +97,7 @@ did_member group (world.Deliver q n) steps p m item k = record { state = k.state
 did_member group (world.Inject q bytes) steps p m item k = record { state = k.state; process = k.process; after = k.after; events = k.events; count = k.count; log = k.log; size = k.size; room = k.room; logged = k.logged }
 did_member group (world.Clock q value) steps p m item k = record { state = k.state; process = k.process; after = k.after; events = k.events; count = k.count; log = k.log; size = k.size; room = k.room; logged = k.logged }
 did_member group (world.Random q bytes) steps p m item k = record { state = k.state; process = k.process; after = k.after; events = k.events; count = k.count; log = k.log; size = k.size; room = k.room; logged = k.logged }
+did_member group (world.Signal q s) steps p m item k = record { state = k.state; process = k.process; after = k.after; events = k.events; count = k.count; log = k.log; size = k.size; room = k.room; logged = k.logged }
 did_member group (world.Kill q) steps p m item k = record { state = k.state; process = k.process; after = k.after; events = k.events; count = k.count; log = k.log; size = k.size; room = k.room; logged = k.logged }
 
 pub did_keeps : (group : Group) (done : Progress) (old new : Recorder) (act : Act) → KeepsUp group done old → IsItem act → CanFollow (size group) (history done.steps) act
@@ -359,6 +370,7 @@ is_other (item.Deliver p n) h = tt
 is_other (item.Inject p bytes) h = tt
 is_other (item.Clock p value) h = tt
 is_other (item.Random p bytes) h = tt
+is_other (item.Signal p s) h = tt
 is_other (item.Kill p) h = tt
 
 around_too : Counting → (group : Group) (done : Progress) (r : Recorder) (p : ℕ) → KeepsUp group done r → p < length r.members.items → p < length r.world.net
@@ -376,6 +388,8 @@ item_keeps counting group done old new number (item.Clock p value) keeps fits ot
     acts_so counting group done old new (world.Clock p (cast_unsigned w64 value)) p keeps (around_too counting group done old p keeps fits.0) tt (λ inside. inside) is
 item_keeps counting group done old new number (item.Random p bytes) keeps fits other is =
     acts_so counting group done old new (world.Random p bytes) p keeps (around_too counting group done old p keeps fits.0) tt (λ inside. inside) is
+item_keeps counting group done old new number (item.Signal p s) keeps fits other is =
+    acts_so counting group done old new (world.Signal p s) p keeps (around_too counting group done old p keeps fits.0) tt (λ inside. (inside, fits.1, fits.2)) is
 item_keeps counting group done old new number (item.Kill p) keeps fits other is =
     kills counting group done old new p (is_spared old.members.items old.world p) keeps (omega (arith, fits, keeps.count)) refl is
 
@@ -394,6 +408,7 @@ acted_logs group done false (world.Deliver p n) item = refl
 acted_logs group done acts (world.Inject p bytes) item = same_logs group done acts (world.Inject p bytes) refl
 acted_logs group done acts (world.Clock p value) item = same_logs group done acts (world.Clock p value) refl
 acted_logs group done acts (world.Random p bytes) item = same_logs group done acts (world.Random p bytes) refl
+acted_logs group done acts (world.Signal p s) item = same_logs group done acts (world.Signal p s) refl
 acted_logs group done true (world.Kill p) item = refl
 acted_logs group done false (world.Kill p) item = refl
 
@@ -403,6 +418,7 @@ does_logs group number (item.Deliver p n) done other = acted_logs group done (ha
 does_logs group number (item.Inject p bytes) done other = refl
 does_logs group number (item.Clock p value) done other = refl
 does_logs group number (item.Random p bytes) done other = refl
+does_logs group number (item.Signal p s) done other = refl
 does_logs group number (item.Kill p) done other = acted_logs group done (can_be_killed group done.steps p) (world.Kill p) tt
 
 pub item_comes : Counting → (group : Group) (done : Progress) (before now : Option Store) (old new : Recorder) (number : ℕ) (i : Item) → KeepsUp group done old → FilesOf group done before now

@@ -87,6 +87,7 @@ does_runs group number (item.Deliver p n) done fits so_far =
 does_runs group number (item.Inject p bytes) done fits so_far = act_runs group (world.Inject p bytes) done tt so_far
 does_runs group number (item.Clock p value) done fits so_far = act_runs group (world.Clock p (cast_unsigned w64 value)) done (bits_fit value fits.1) so_far
 does_runs group number (item.Random p bytes) done fits so_far = act_runs group (world.Random p bytes) done tt so_far
+does_runs group number (item.Signal p s) done fits so_far = act_runs group (world.Signal p s) done tt so_far
 does_runs group number (item.Kill p) done fits so_far =
     either (Runs group) (can_be_killed group done.steps p) _ _ (act_runs group (world.Kill p) done tt so_far) (idle_runs group done so_far)
 

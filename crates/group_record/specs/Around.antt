@@ -1,5 +1,6 @@
 -- What the world around a process answers to its calls.
-use Rattle.std.specs.Prelude.{ℕ, ◌==◌, nat_le, false, List, [], ◌∷◌, length, take, Option, Some, None, option_map, unwrap_or, slice_get, if◌then◌else◌}
+use Rattle.std.specs.Prelude.{ℕ, ◌==◌, ◌&&◌, nat_le, Bool, false, is_some, List, [], ◌∷◌, length, take, Option, Some, None, option_map, unwrap_or, slice_get, if◌then◌else◌}
+use Rattle.std.specs.Option.{option_map_or}
 use Rattle.call_table.specs.Table.{kind_numbered}
 use Rattle.call_table.specs.declared.kind.Kind.{Kind}
 use Rattle.call_table.specs.declared.kind.Kind.TheVariants.{Now, SleepUntil, Random, Recv, TryRecv}
@@ -13,8 +14,12 @@ use Rattle.lossy_net.specs.Network.{mailbox_of}
 use Rattle.guest_process.specs.declared.need.Need.{Need}
 use Rattle.guest_process.specs.declared.need.Need.TheVariants as needs
 use Rattle.guest_process.specs.Answers.{is_due, replies}
-use Rattle.guest_process.specs.Live.{Env, cut}
-use Rattle.group_world.specs.World.{World, place_of}
+use Rattle.guest_process.specs.GoesOn.{handler}
+use Rattle.guest_process.specs.Kinds.{ends_process}
+use Rattle.guest_process.specs.Live.{Env, cut, lowest}
+use Rattle.guest_process.specs.Seen.{answered_at}
+use Rattle.guest_process.specs.State.{State, thread_at}
+use Rattle.group_world.specs.World.{World, has_pending, place_of}
 
 -- the world around process p, as it is kept
 abbrev pub env_of : World → ℕ → Env
@@ -22,7 +27,7 @@ env_of w p = record {
   mailbox = mailbox_of w.net p;
   pool = (place_of w p).pool;
   time = (place_of w p).time;
-  pending = λ s. false;
+  pending = has_pending w p;
   killed = (place_of w p).killed;
 }
 
@@ -56,3 +61,17 @@ abbrev pub answer_by : Need → Call → ℕ → Env → Option Answer
 answer_by (needs.Fixed reply) c count env = Some (replies reply)
 answer_by needs.Blocked c count env = None
 answer_by needs.World c count env = world_answer (kind_numbered c.kind) c count env
+
+-- ---- the signal that is delivered
+
+-- a call of this kind ends the process
+abbrev pub ends : Option Kind → Bool
+ends kind = option_map_or ends_process kind false
+
+-- a signal is pending and has a handler once thread t's call has this answer
+abbrev pub is_ready : State → ℕ → Answer → (ℕ → Bool) → ℕ → Bool
+is_ready S t a pending s = pending s && is_some (handler (answered_at S t a (thread_at S t)).handlers s)
+
+-- the signal that is delivered with this answer: the lowest that is ready, or 0; none where the process ends
+abbrev pub signal_with : State → ℕ → Answer → Option Kind → (ℕ → Bool) → ℕ
+signal_with S t a kind pending = if ends kind then 0 else lowest (is_ready S t a pending) 31 1

@@ -72,8 +72,7 @@ CreatesLogs members result before after = (group : Group) → HaveHeads group me
 -- where they are there, the heads were to be written
 abbrev pub WritesHeads : List Member → Result ⊤ RecordError → Option Store → Option Store → Type 0
 WritesHeads members result old new =
-    (group : Group) (before : Option Store) → HaveHeads group members → old ≡ with_files (files_of group no_bytes) before
-    → MakeAll group (heads group) result before new
+    (group : Group) (before : Option Store) → HaveHeads group members → old ≡ with_files (files_of group no_bytes) before → MakeAll group (heads group) result before new
 
 -- both were to be done
 abbrev pub BeginsLogs : List Member → Result ⊤ RecordError → Option Store → Option Store → Type 0

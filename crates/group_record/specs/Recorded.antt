@@ -12,7 +12,7 @@ use Rattle.guest_process.specs.OneEvent.{Agrees as IsTold}
 use Rattle.guest_process.specs.State.{State}
 use Rattle.group_world.specs.Laws.{CanBe}
 use Rattle.group_world.specs.World.{World, after, after_event, place_of, world_after}
-use Rattle.group_world.specs.History.{Deliver, Inject, Clock, Random, Kill}
+use Rattle.group_world.specs.History.{Deliver, Inject, Clock, Random, Signal, Kill}
 use Rattle.lossy_net.specs.Network.{nth_of, sent_by}
 use Rattle.schedule_text.specs.declared.item.Item.{Item}
 use Rattle.schedule_text.specs.declared.item.Item.TheVariants as item
@@ -68,6 +68,7 @@ acts members w (item.Deliver p n) = is_some (nth_of (sent_by w.net p) n)
 acts members w (item.Inject p bytes) = true
 acts members w (item.Clock p value) = true
 acts members w (item.Random p bytes) = true
+acts members w (item.Signal p s) = true
 acts members w (item.Kill p) = is_spared members w p
 
 -- the world after it
@@ -77,6 +78,7 @@ after_act members w (item.Deliver p n) = after w (Deliver p n)
 after_act members w (item.Inject p bytes) = after w (Inject p bytes)
 after_act members w (item.Clock p value) = after w (Clock p (cast_unsigned w64 value))
 after_act members w (item.Random p bytes) = after w (Random p bytes)
+after_act members w (item.Signal p s) = after w (Signal p s)
 after_act members w (item.Kill p) = if is_spared members w p then after w (Kill p) else w
 
 -- a recorder after an item that acted, or was idle, with this world
@@ -132,8 +134,7 @@ Comes group next (Err errors.NoMemory) before after = IsStopped group next.steps
 -- wherever the recorder stood, it is to come as far as what comes next there
 abbrev pub Does : (Group → Progress → Progress) → Recorder → Result Recorder RecordError → Option Store → Option Store → Type 0
 Does next recorder result old new =
-    (group : Group) (done : Progress) (before : Option Store) → KeepsUp group done recorder → FilesOf group done before old
-    → Comes group (next group done) result before new
+    (group : Group) (done : Progress) (before : Option Store) → KeepsUp group done recorder → FilesOf group done before old → Comes group (next group done) result before new
 
 -- ---- what is said of it
 

@@ -10,7 +10,7 @@ use Rattle.schedule_text.specs.declared.item.Item.{Item}
 use Rattle.schedule_text.specs.declared.item.Item.TheVariants as item
 use Rattle.guest_process.specs.Live.{Env, Event, live}
 use Rattle.guest_process.specs.State.{State, is_running}
-use Rattle.group_world.specs.History.{Act, History, is_killed, mailbox, nth, pool, put_last_if, sends, time}
+use Rattle.group_world.specs.History.{Act, History, is_killed, is_pending, mailbox, nth, pool, put_last_if, sends, time}
 use Rattle.group_world.specs.History as world
 
 -- the names of a group's processes and their first states, both in the order of their numbers
@@ -54,13 +54,13 @@ state_after group [] p = slice_get group.first p
 state_after group (Had q e ∷ steps) p = if q == p then Some e.state else state_after group steps p
 state_after group (Did act ∷ steps) p = state_after group steps p
 
--- the world around a process after some steps, by counting; no signal is pending
+-- the world around a process after some steps, by counting
 abbrev pub around : ℕ → List Step → ℕ → Env
 around count steps p = record {
   mailbox = mailbox count (history steps) p;
   pool = pool (history steps) p;
   time = time (history steps) p;
-  pending = λ s. false;
+  pending = is_pending (history steps) p;
   killed = is_killed (history steps) p;
 }
 
@@ -143,6 +143,7 @@ does group number (item.Deliver p n) done = acted_if (has_sent (size group) done
 does group number (item.Inject p bytes) done = acted (Did (world.Inject p bytes)) done
 does group number (item.Clock p value) done = acted (Did (world.Clock p (cast_unsigned w64 value))) done
 does group number (item.Random p bytes) done = acted (Did (world.Random p bytes)) done
+does group number (item.Signal p s) done = acted (Did (world.Signal p s)) done
 does group number (item.Kill p) done = acted_if (can_be_killed group done.steps p) (Did (world.Kill p)) done
 
 -- an item with its number, from 1

@@ -5,6 +5,7 @@ ghost use Rattle.group_record.specs.Around.{env_of};
 ghost use Rattle.group_record.specs.Recorded.{IsEntryOf};
 
 use crate::answer::answer_now;
+use crate::signals::signal_after;
 use group_world::World;
 use guest_process::{Process, kept, one_event, rises};
 use lamport_tag::next_clock;
@@ -45,7 +46,7 @@ pub(crate) fn live_entry(
     Ok(Some(Entry {
         clock: next_clock(process.clock(), answer.tag),
         thread,
-        signal: 0,
+        signal: signal_after(process, thread, call, world, p),
         call: *call,
         reply: answer.reply,
         outgoing: outgoing(alloc, call, process.memory())?,

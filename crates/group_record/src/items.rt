@@ -38,6 +38,10 @@ pub(crate) fn act(
             world.add_random(*process, bytes.as_slice())?;
             Ok(true)
         }
+        Item::Signal { process, signal } => {
+            world.raise(*process, *signal);
+            Ok(true)
+        }
         Item::Kill { process } => Ok(kill(*process, members, world)),
     }
 }

@@ -12,6 +12,7 @@ mod logs;
 mod member;
 mod recorder;
 mod run;
+mod signals;
 mod summary;
 
 pub use error::RecordError;

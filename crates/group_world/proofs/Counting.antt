@@ -1,14 +1,14 @@
 -- The world around a group is that which is counted out of the acts.
 use Rattle.std.proofs.Common.{◌≡◌, ℕ, ◌+◌, ◌-◌, ◌<◌, ◌≤◌, Bool, true, false, ◌&&◌, List, [], ◌∷◌, ◌++◌, length, get_or, drop, map, refl, sym, ap, ◌∙◌, subst, ⊎_elim, arith, length-set, length-append, length-drop, get_or-set_same, get_or-set_other}
-use Rattle.std.specs.Prelude.{◌==◌, ◌||◌, IsTrue, slice_set, if◌then◌else◌}
-use Rattle.std.proofs.lemmas.Bool.{cases_eq, eq-eqb, eqb-true, ne_eqb}
+use Rattle.std.specs.Prelude.{◌==◌, ◌||◌, IsTrue, nat_le, slice_set, if◌then◌else◌}
+use Rattle.std.proofs.lemmas.Bool.{and_from, cases_Bool, cases_eq, eq-eqb, eqb-true, le-leb, ne_eqb, true≢false}
 use Rattle.std.proofs.lemmas.List.{drop-append-le, drop-drop, get_or-replicate, length-replicate, map_push}
 use Rattle.lib_calls.specs.declared.entry.Entry.{Entry}
 use Rattle.lib_calls.specs.Traffic.{drawn, is_sent, is_taken}
 use Rattle.lossy_net.specs.Network.{Traffic, no_traffic, nth_of, sent_by, traffic_of, with_delivered}
-use Rattle.group_world.specs.History.{Act, Event, Deliver, Inject, Clock, Random, Kill, History, addressed, given, is_killed, mailbox, nth, one_if, pool, put_last_if, sends, supplied, taken, time, used}
+use Rattle.group_world.specs.History.{Act, Event, Deliver, Inject, Clock, Random, Signal, Kill, History, addressed, given, is_killed, is_pending, mailbox, nth, one_if, pool, put_last_if, sends, supplied, taken, time, used}
 use Rattle.group_world.specs.Laws.{CanBe, CanFollow, Counting, IsCounted, sent_as}
-use Rattle.group_world.specs.World.{Place, World, after, drew, new_world, no_place, place_of, sent_if, size, took_if, world_after}
+use Rattle.group_world.specs.World.{Place, World, after, has_pending, is_signal, new_world, no_place, place_of, sent_if, settled, size, took_if, without, world_after}
 use Rattle.group_world.proofs.Lists.{put_last_is}
 use Rattle.group_world.proofs.NetLaws.{length-sent_if, length-took_if, length-with_delivered, nth_of-map, traffic_of-delivered, traffic_of-event, traffic_of-new, traffic_of-waiting}
 
@@ -21,6 +21,7 @@ length-after w (Deliver p n) = length-with_delivered w.net (nth_of (sent_by w.ne
 length-after w (Inject p bytes) = length-set w.net p _
 length-after w (Clock p value) = refl
 length-after w (Random p bytes) = refl
+length-after w (Signal p s) = refl
 length-after w (Kill p) = refl
 
 places-after : (w : World) (a : Act) → length (after w a).places ≡ length w.places
@@ -29,6 +30,7 @@ places-after w (Deliver p n) = refl
 places-after w (Inject p bytes) = refl
 places-after w (Clock p value) = length-set w.places p _
 places-after w (Random p bytes) = length-set w.places p _
+places-after w (Signal p s) = length-set w.places p _
 places-after w (Kill p) = length-set w.places p _
 
 net_stays : (count : ℕ) (h : History) → length (world_after count h).net ≡ count
@@ -76,6 +78,7 @@ within_next count h (Inject q bytes) p can within = record {
 }
 within_next count h (Clock q value) p can within = record { datagrams = within.datagrams; bytes = within.bytes }
 within_next count h (Random q bytes) p can within = record { datagrams = within.datagrams; bytes = longer_if (q == p) _ (supplied h p) bytes within.bytes }
+within_next count h (Signal q s) p can within = record { datagrams = within.datagrams; bytes = within.bytes }
 within_next count h (Kill q) p can within = record { datagrams = within.datagrams; bytes = within.bytes }
 
 within_always : (count : ℕ) (h : History) (p : ℕ) → CanBe count h → IsWithin count h p
@@ -100,15 +103,70 @@ part_stays : {A : Type 0} (part : Place → A) (change : Place → Place) (mine 
 part_stays part change true place same = same
 part_stays part change false place same = refl
 
-pool_drew : (mine : Bool) (place : Place) (n before : ℕ) (all : List ℕ) → place.pool ≡ drop before all
-    → (if mine then drew place n else place).pool ≡ drop (if mine then before + n else before) all
-pool_drew true place n before all is = ap (drop n) is ∙ drop-drop n before all
-pool_drew false place n before all is = is
+pool_drew : (mine : Bool) (place : Place) (e : Entry) (before : ℕ) (all : List ℕ) → place.pool ≡ drop before all
+    → (if mine then settled place e else place).pool ≡ drop (if mine then before + drawn e else before) all
+pool_drew true place e before all is = ap (drop (drawn e)) is ∙ drop-drop (drawn e) before all
+pool_drew false place e before all is = is
 
 pool_added : (mine : Bool) (place : Place) (bytes : List ℕ) (before : ℕ) (all : List ℕ) → before ≤ length all → place.pool ≡ drop before all
     → (if mine then record place { pool = place.pool ++ bytes } else place).pool ≡ drop before (if mine then all ++ bytes else all)
 pool_added true place bytes before all within is = ap (λ pool. pool ++ bytes) is ∙ sym (drop-append-le before all bytes within)
 pool_added false place bytes before all within is = is
+
+-- ---- signals
+
+-- whether a signal is pending after this one was made so, or not so
+set_at : (pending : List Bool) (n s : ℕ) (is : Bool) → s < length pending → get_or (slice_set pending n is) s false ≡ (if n == s then is else get_or pending s false)
+set_at pending n s is within = ⊎_elim
+    (λ same. subst (λ k. get_or (slice_set pending k is) s false ≡ (if k == s then is else get_or pending s false)) (sym same)
+    (get_or-set_same pending s is false within ∙ ap (λ b. if b then is else get_or pending s false) (sym (eq-eqb s s refl))))
+    (λ other. get_or-set_other pending n s is false (λ e. other (sym e))
+    ∙ ap (λ b. if b then is else get_or pending s false) (sym (ne_eqb n s other)))
+    (cases_eq n s)
+
+is_signal-within : (s : ℕ) → 1 ≤ s → s ≤ 31 → is_signal s ≡ true
+is_signal-within s first last = and_from (nat_le 1 s) (nat_le s 31) (le-leb 1 s first) (le-leb s 31 last)
+
+-- a number that is no signal's is another than that of a signal
+no_signal : (n s : ℕ) → 1 ≤ s → s ≤ 31 → is_signal n ≡ false → (n == s) ≡ false
+no_signal n s first last none = ne_eqb n s (λ same. true≢false (sym (is_signal-within s first last) ∙ ap is_signal (sym same) ∙ none))
+
+without_at : (pending : List Bool) (n s : ℕ) → 1 ≤ s → s ≤ 31 → length pending ≡ 32 → get_or (without pending n) s false ≡ (if n == s then false else get_or pending s false)
+without_at pending n s first last all = ⊎_elim
+    (λ signal. ap (λ b. get_or (if b then slice_set pending n false else pending) s false) signal ∙ set_at pending n s false (omega (arith, last, all)))
+    (λ none. ap (λ b. get_or (if b then slice_set pending n false else pending) s false) none
+    ∙ ap (λ b. if b then false else get_or pending s false) (sym (no_signal n s first last none)))
+    (cases_Bool (is_signal n))
+
+length-without_if : (pending : List Bool) (n : ℕ) (signal : Bool) → length (if signal then slice_set pending n false else pending) ≡ length pending
+length-without_if pending n true = length-set pending n false
+length-without_if pending n false = refl
+
+-- each process has as many places for signals as before
+signals-after : (w : World) (a : Act) (p : ℕ) → p < length w.places → length (place_of (after w a) p).pending ≡ length (place_of w p).pending
+signals-after w (Event q e) p within =
+    ap (λ (x : Place). length x.pending) (place_changed w q p (λ place. settled place e) within)
+    ∙ part_stays (λ x. length x.pending) (λ place. settled place e) (q == p) (place_of w p) (length-without_if (place_of w p).pending e.signal (is_signal e.signal))
+signals-after w (Deliver q n) p within = refl
+signals-after w (Inject q bytes) p within = refl
+signals-after w (Clock q value) p within =
+    ap (λ (x : Place). length x.pending) (place_changed w q p (λ place. record place { time = value }) within)
+    ∙ part_stays (λ x. length x.pending) (λ place. record place { time = value }) (q == p) (place_of w p) refl
+signals-after w (Random q bytes) p within =
+    ap (λ (x : Place). length x.pending) (place_changed w q p (λ place. record place { pool = place.pool ++ bytes }) within)
+    ∙ part_stays (λ x. length x.pending) (λ place. record place { pool = place.pool ++ bytes }) (q == p) (place_of w p) refl
+signals-after w (Signal q n) p within =
+    ap (λ (x : Place). length x.pending) (place_changed w q p (λ place. record place { pending = slice_set place.pending n true }) within)
+    ∙ part_stays (λ x. length x.pending) (λ place. record place { pending = slice_set place.pending n true }) (q == p) (place_of w p)
+    (length-set (place_of w p).pending n true)
+signals-after w (Kill q) p within =
+    ap (λ (x : Place). length x.pending) (place_changed w q p (λ place. record place { killed = true }) within)
+    ∙ part_stays (λ x. length x.pending) (λ place. record place { killed = true }) (q == p) (place_of w p) refl
+
+signals_stay : (count : ℕ) (h : History) (p : ℕ) → p < count → length (place_of (world_after count h) p).pending ≡ 32
+signals_stay count [] p within = ap (λ (x : Place). length x.pending) (get_or-replicate count p no_place no_place within)
+signals_stay count (a ∷ h) p within =
+    signals-after (world_after count h) a p (omega (arith, within, places_stay count h)) ∙ signals_stay count h p within
 
 -- ---- each act in turn
 
@@ -125,19 +183,30 @@ if_time : (b : Bool) (value before : ℕ) (place : Place) → place.time ≡ bef
 if_time true value before place is = refl
 if_time false value before place is = is
 
+if_raised : (mine before : Bool) (place : Place) (n s : ℕ) → s < length place.pending → get_or place.pending s false ≡ before
+    → get_or (if mine then record place { pending = slice_set place.pending n true } else place).pending s false ≡ (if mine && (n == s) then true else before)
+if_raised true before place n s within is = set_at place.pending n s true within ∙ ap (λ b. if n == s then true else b) is
+if_raised false before place n s within is = is
+
+if_delivered : (mine before : Bool) (place : Place) (e : Entry) (s : ℕ) → 1 ≤ s → s ≤ 31 → length place.pending ≡ 32 → get_or place.pending s false ≡ before
+    → get_or (if mine then settled place e else place).pending s false ≡ (if mine && (e.signal == s) then false else before)
+if_delivered true before place e s first last all is = without_at place.pending e.signal s first last all ∙ ap (λ b. if e.signal == s then false else b) is
+if_delivered false before place e s first last all is = is
+
 -- the world before the act: it is that which is counted, and has a place for each process
 record Before (count : ℕ) (h : History) (w : World) (p : ℕ) : Type 0 where
   counted : IsCounted count h w p
   within : IsWithin count h p
   net : length w.net ≡ count
   places : length w.places ≡ count
+  signals : length (place_of w p).pending ≡ 32
   process : p < count
 
 event_counted : (count : ℕ) (h : History) (w : World) (p q : ℕ) (e : Entry) → Before count h w p → IsCounted count (Event q e ∷ h) (after w (Event q e)) p
 event_counted count h w p q e b =
     let traffic = ap (λ n. traffic_of (sent_if (is_sent n e) (took_if (is_taken e) w.net q) q e) p) b.net
     ∙ traffic_of-event w.net q p e (is_sent count e) (is_taken e) (omega (arith, b.process, b.net)) in
-    let place = place_changed w q p (λ place. drew place (drawn e)) (omega (arith, b.process, b.places)) in
+    let place = place_changed w q p (λ place. settled place e) (omega (arith, b.process, b.places)) in
     record {
       sent = ap (λ (t : Traffic). t.sent) traffic
           ∙ ap (λ xs. put_last_if ((q == p) && is_sent count e) xs (sent_as p e)) b.counted.sent
@@ -145,9 +214,11 @@ event_counted count h w p q e b =
       mailbox = ap (λ (t : Traffic). t.waiting) traffic
           ∙ ap (drop (one_if ((q == p) && is_taken e))) b.counted.mailbox
           ∙ drop-drop (one_if ((q == p) && is_taken e)) (taken h p) (given count h p);
-      pool = ap (λ (s : Place). s.pool) place ∙ pool_drew (q == p) (place_of w p) (drawn e) (used h p) (supplied h p) b.counted.pool;
-      time = ap (λ (s : Place). s.time) place ∙ part_stays (λ s. s.time) (λ s. drew s (drawn e)) (q == p) (place_of w p) refl ∙ b.counted.time;
-      killed = ap (λ (s : Place). s.killed) place ∙ part_stays (λ s. s.killed) (λ s. drew s (drawn e)) (q == p) (place_of w p) refl ∙ b.counted.killed;
+      pool = ap (λ (s : Place). s.pool) place ∙ pool_drew (q == p) (place_of w p) e (used h p) (supplied h p) b.counted.pool;
+      time = ap (λ (s : Place). s.time) place ∙ part_stays (λ s. s.time) (λ s. settled s e) (q == p) (place_of w p) refl ∙ b.counted.time;
+      killed = ap (λ (s : Place). s.killed) place ∙ part_stays (λ s. s.killed) (λ s. settled s e) (q == p) (place_of w p) refl ∙ b.counted.killed;
+      pending = λ s first last. ap (λ (x : Place). get_or x.pending s false) place
+          ∙ if_delivered (q == p) (is_pending h p s) (place_of w p) e s first last b.signals (b.counted.pending s first last);
     }
 
 deliver_counted : (count : ℕ) (h : History) (w : World) (p q n : ℕ) → Before count h w p → IsCounted count h w q
@@ -164,6 +235,7 @@ deliver_counted count h w p q n b sender =
       pool = b.counted.pool;
       time = b.counted.time;
       killed = b.counted.killed;
+      pending = b.counted.pending;
     }
 
 inject_counted : (count : ℕ) (h : History) (w : World) (p q : ℕ) (bytes : List ℕ) → Before count h w p
@@ -180,6 +252,7 @@ inject_counted count h w p q bytes b =
       pool = b.counted.pool;
       time = b.counted.time;
       killed = b.counted.killed;
+      pending = b.counted.pending;
     }
 
 clock_counted : (count : ℕ) (h : History) (w : World) (p q value : ℕ) → Before count h w p → IsCounted count (Clock q value ∷ h) (after w (Clock q value)) p
@@ -191,6 +264,8 @@ clock_counted count h w p q value b =
       pool = ap (λ (s : Place). s.pool) place ∙ part_stays (λ s. s.pool) (λ s. record s { time = value }) (q == p) (place_of w p) refl ∙ b.counted.pool;
       time = ap (λ (s : Place). s.time) place ∙ if_time (q == p) value (time h p) (place_of w p) b.counted.time;
       killed = ap (λ (s : Place). s.killed) place ∙ part_stays (λ s. s.killed) (λ s. record s { time = value }) (q == p) (place_of w p) refl ∙ b.counted.killed;
+      pending = λ s first last. ap (λ (x : Place). get_or x.pending s false) place
+          ∙ part_stays (λ x. get_or x.pending s false) (λ x. record x { time = value }) (q == p) (place_of w p) refl ∙ b.counted.pending s first last;
     }
 
 random_counted : (count : ℕ) (h : History) (w : World) (p q : ℕ) (bytes : List ℕ) → Before count h w p
@@ -203,6 +278,22 @@ random_counted count h w p q bytes b =
       pool = ap (λ (s : Place). s.pool) place ∙ pool_added (q == p) (place_of w p) bytes (used h p) (supplied h p) b.within.bytes b.counted.pool;
       time = ap (λ (s : Place). s.time) place ∙ part_stays (λ s. s.time) (λ s. record s { pool = s.pool ++ bytes }) (q == p) (place_of w p) refl ∙ b.counted.time;
       killed = ap (λ (s : Place). s.killed) place ∙ part_stays (λ s. s.killed) (λ s. record s { pool = s.pool ++ bytes }) (q == p) (place_of w p) refl ∙ b.counted.killed;
+      pending = λ s first last. ap (λ (x : Place). get_or x.pending s false) place
+          ∙ part_stays (λ x. get_or x.pending s false) (λ x. record x { pool = x.pool ++ bytes }) (q == p) (place_of w p) refl ∙ b.counted.pending s first last;
+    }
+
+signal_counted : (count : ℕ) (h : History) (w : World) (p q n : ℕ) → Before count h w p → IsCounted count (Signal q n ∷ h) (after w (Signal q n)) p
+signal_counted count h w p q n b =
+    let place = place_changed w q p (λ place. record place { pending = slice_set place.pending n true }) (omega (arith, b.process, b.places)) in
+    record {
+      sent = b.counted.sent;
+      mailbox = b.counted.mailbox;
+      pool = ap (λ (s : Place). s.pool) place ∙ part_stays (λ s. s.pool) (λ s. record s { pending = slice_set s.pending n true }) (q == p) (place_of w p) refl ∙ b.counted.pool;
+      time = ap (λ (s : Place). s.time) place ∙ part_stays (λ s. s.time) (λ s. record s { pending = slice_set s.pending n true }) (q == p) (place_of w p) refl ∙ b.counted.time;
+      killed = ap (λ (s : Place). s.killed) place
+          ∙ part_stays (λ s. s.killed) (λ s. record s { pending = slice_set s.pending n true }) (q == p) (place_of w p) refl ∙ b.counted.killed;
+      pending = λ s first last. ap (λ (x : Place). get_or x.pending s false) place
+          ∙ if_raised (q == p) (is_pending h p s) (place_of w p) n s (omega (arith, last, b.signals)) (b.counted.pending s first last);
     }
 
 kill_counted : (count : ℕ) (h : History) (w : World) (p q : ℕ) → Before count h w p → IsCounted count (Kill q ∷ h) (after w (Kill q)) p
@@ -214,6 +305,8 @@ kill_counted count h w p q b =
       pool = ap (λ (s : Place). s.pool) place ∙ part_stays (λ s. s.pool) (λ s. record s { killed = true }) (q == p) (place_of w p) refl ∙ b.counted.pool;
       time = ap (λ (s : Place). s.time) place ∙ part_stays (λ s. s.time) (λ s. record s { killed = true }) (q == p) (place_of w p) refl ∙ b.counted.time;
       killed = ap (λ (s : Place). s.killed) place ∙ if_or (q == p) (is_killed h p) (place_of w p) b.counted.killed;
+      pending = λ s first last. ap (λ (x : Place). get_or x.pending s false) place
+          ∙ part_stays (λ x. get_or x.pending s false) (λ x. record x { killed = true }) (q == p) (place_of w p) refl ∙ b.counted.pending s first last;
     }
 
 -- ---- all acts
@@ -228,6 +321,7 @@ counted_new count p within =
       pool = ap (λ (s : Place). s.pool) place;
       time = ap (λ (s : Place). s.time) place;
       killed = ap (λ (s : Place). s.killed) place;
+      pending = λ s first last. ap (λ (x : Place). get_or x.pending s false) place ∙ get_or-replicate 32 s false false (omega (arith, last));
     }
 
 before : (count : ℕ) (h : History) (p : ℕ) → CanBe count h → p < count → IsCounted count h (world_after count h) p → Before count h (world_after count h) p
@@ -236,6 +330,7 @@ before count h p can process counted = record {
   within = within_always count h p can;
   net = net_stays count h;
   places = places_stay count h;
+  signals = signals_stay count h p process;
   process = process;
 }
 
@@ -251,6 +346,8 @@ all_counted count (Clock q value ∷ h) can p process =
     clock_counted count h (world_after count h) p q value (before count h p can.1 process (all_counted count h can.1 p process))
 all_counted count (Random q bytes ∷ h) can p process =
     random_counted count h (world_after count h) p q bytes (before count h p can.1 process (all_counted count h can.1 p process))
+all_counted count (Signal q n ∷ h) can p process =
+    signal_counted count h (world_after count h) p q n (before count h p can.1 process (all_counted count h can.1 p process))
 all_counted count (Kill q ∷ h) can p process =
     kill_counted count h (world_after count h) p q (before count h p can.1 process (all_counted count h can.1 p process))
 

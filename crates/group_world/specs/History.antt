@@ -6,13 +6,14 @@ use Rattle.lib_calls.specs.Traffic.{drawn, is_sent, is_taken}
 
 -- an event of a process, by its entry; the delivery of a datagram of the process by its number, from 1; a
 -- datagram from outside for the process; its wall time, as the bits of a signed number of 64 bits; random
--- bytes for it; or its end by `kill`
+-- bytes for it; a signal, from 1 to 31, that is now pending at it; or its end by `kill`
 pub data Act : Type 0 where
   Event : (process : ℕ) → (entry : Entry) → Act
   Deliver : (process : ℕ) → (number : ℕ) → Act
   Inject : (process : ℕ) → (bytes : List ℕ) → Act
   Clock : (process : ℕ) → (time : ℕ) → Act
   Random : (process : ℕ) → (bytes : List ℕ) → Act
+  Signal : (process : ℕ) → (signal : ℕ) → Act
   Kill : (process : ℕ) → Act
 
 -- the acted steps, the newest first
@@ -98,6 +99,14 @@ abbrev pub time : History → ℕ → ℕ
 time [] p = 0
 time (Clock q value ∷ h) p = if q == p then value else time h p
 time (_ ∷ h) p = time h p
+
+-- whether a signal is pending at a process: it came after the last event of the process that delivered it, or
+-- came at all where there is no such event
+abbrev pub is_pending : History → ℕ → ℕ → Bool
+is_pending [] p s = false
+is_pending (Signal q n ∷ h) p s = if (q == p) && (n == s) then true else is_pending h p s
+is_pending (Event q e ∷ h) p s = if (q == p) && (e.signal == s) then false else is_pending h p s
+is_pending (_ ∷ h) p s = is_pending h p s
 
 -- whether a process was killed
 abbrev pub is_killed : History → ℕ → Bool

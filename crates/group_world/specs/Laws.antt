@@ -5,8 +5,8 @@ use Rattle.lamport_tag.specs.Tag.{read_datagram}
 use Rattle.lib_calls.specs.declared.entry.Entry.{Entry}
 use Rattle.lib_calls.specs.Traffic.{drawn, is_taken}
 use Rattle.lossy_net.specs.Network.{Sent, mailbox_of, sent_by}
-use Rattle.group_world.specs.History.{Act, Event, Deliver, Inject, Clock, Random, Kill, History, addressed, datagram, given, is_killed, mailbox, nth, pool, sends, taken, time}
-use Rattle.group_world.specs.World.{World, place_of, world_after}
+use Rattle.group_world.specs.History.{Act, Event, Deliver, Inject, Clock, Random, Signal, Kill, History, addressed, datagram, given, is_killed, is_pending, mailbox, nth, pool, sends, taken, time}
+use Rattle.group_world.specs.World.{World, has_pending, place_of, world_after}
 
 -- ---- which acts can come
 
@@ -21,6 +21,7 @@ CanFollow count h (Deliver p n) = p < count
 CanFollow count h (Inject p bytes) = p < count
 CanFollow count h (Clock p value) = p < count
 CanFollow count h (Random p bytes) = p < count
+CanFollow count h (Signal p s) = (p < count) × (1 ≤ s) × (s ≤ 31)
 CanFollow count h (Kill p) = p < count
 
 -- each act is one that can follow those before it
@@ -40,6 +41,7 @@ pub record IsCounted (count : ℕ) (h : History) (w : World) (p : ℕ) : Type 0 
   pub mailbox : mailbox_of w.net p ≡ mailbox count h p
   pub pool : (place_of w p).pool ≡ pool h p
   pub time : (place_of w p).time ≡ time h p
+  pub pending : (s : ℕ) → 1 ≤ s → s ≤ 31 → has_pending w p s ≡ is_pending h p s
   pub killed : (place_of w p).killed ≡ is_killed h p
 
 -- the size of the world stays, and what is kept around each process is what is counted

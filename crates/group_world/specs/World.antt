@@ -1,20 +1,22 @@
 -- The world around the processes of a group, as it is kept, and what each act makes of it.
-use Rattle.std.specs.Prelude.{ℕ, Bool, true, false, List, [], ◌∷◌, ◌++◌, drop, length, replicate, slice_set, if◌then◌else◌}
+use Rattle.std.specs.Prelude.{ℕ, Bool, true, false, ◌&&◌, nat_le, List, [], ◌∷◌, ◌++◌, drop, length, replicate, slice_set, if◌then◌else◌}
 use Rattle.std.specs.List.{slice_index_or}
 use Rattle.lib_calls.specs.declared.entry.Entry.{Entry}
 use Rattle.lib_calls.specs.Traffic.{drawn, is_sent, is_taken}
 use Rattle.lossy_net.specs.Network.{Traffic, no_traffic, nth_of, sent_by, with_delivered, with_sent, with_waiting, without_front}
-use Rattle.group_world.specs.History.{Act, Event, Deliver, Inject, Clock, Random, Kill, History, datagram}
+use Rattle.signal_points.specs.Signals.{is_pending, none_pending, with_pending}
+use Rattle.group_world.specs.History.{Act, Event, Deliver, Inject, Clock, Random, Signal, Kill, History, datagram}
 
 -- what stands around one process beside its datagrams: the random bytes that are left, the wall time as the
--- bits of a signed number, and whether the process was killed
+-- bits of a signed number, which signals are pending, and whether the process was killed
 pub record Place : Type 0 where
   pub pool : List ℕ
   pub time : ℕ
+  pub pending : List Bool
   pub killed : Bool
 
 abbrev pub no_place : Place
-no_place = record { pool = []; time = 0; killed = false }
+no_place = record { pool = []; time = 0; pending = none_pending; killed = false }
 
 -- the network, and a place for each process
 pub record World : Type 0 where
@@ -34,6 +36,10 @@ place_of w p = slice_index_or w.places p no_place
 abbrev pub with_place : World → ℕ → Place → World
 with_place w p place = record w { places = slice_set w.places p place }
 
+-- whether a signal is pending at process p
+abbrev pub has_pending : World → ℕ → ℕ → Bool
+has_pending w p s = is_pending (place_of w p).pending s
+
 -- ---- an event
 
 abbrev pub took_if : Bool → List Traffic → ℕ → List Traffic
@@ -45,11 +51,23 @@ sent_if sent net p e = if sent then with_sent net p (record { to = e.call.a0; by
 abbrev pub drew : Place → ℕ → Place
 drew place n = record place { pool = drop n place.pool }
 
--- a datagram that the event took is gone, one that it sent is kept, and random bytes that it took are gone
+-- signals are numbered from 1 to 31, and another number is none
+abbrev pub is_signal : ℕ → Bool
+is_signal s = nat_le 1 s && nat_le s 31
+
+-- the signal, if it is one, is pending no longer
+abbrev pub without : List Bool → ℕ → List Bool
+without pending s = if is_signal s then with_pending pending s false else pending
+
+-- random bytes that the event took are gone, and a signal that it delivered is pending no longer
+abbrev pub settled : Place → Entry → Place
+settled place e = record (drew place (drawn e)) { pending = without place.pending e.signal }
+
+-- a datagram that the event took is gone, and one that it sent is kept
 abbrev pub after_event : World → ℕ → Entry → World
 after_event w p e = record {
   net = sent_if (is_sent (size w) e) (took_if (is_taken e) w.net p) p e;
-  places = slice_set w.places p (drew (place_of w p) (drawn e));
+  places = slice_set w.places p (settled (place_of w p) e);
 }
 
 -- ---- all acts
@@ -60,6 +78,7 @@ after w (Deliver p n) = record w { net = with_delivered w.net (nth_of (sent_by w
 after w (Inject p bytes) = record w { net = with_waiting w.net p bytes }
 after w (Clock p time) = with_place w p (record (place_of w p) { time = time })
 after w (Random p bytes) = with_place w p (record (place_of w p) { pool = (place_of w p).pool ++ bytes })
+after w (Signal p s) = with_place w p (record (place_of w p) { pending = with_pending (place_of w p).pending s true })
 after w (Kill p) = with_place w p (record (place_of w p) { killed = true })
 
 -- the world of a group of `count` after these acts

@@ -1,5 +1,5 @@
-//! The world around the processes of a group: the datagrams on their way, random bytes, wall times, and
-//! which processes were killed.
+//! The world around the processes of a group: the datagrams on their way, random bytes, wall times,
+//! pending signals, and which processes were killed.
 #![tactic(auto)]
 
 mod laws;

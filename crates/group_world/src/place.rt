@@ -1,17 +1,23 @@
 // What stands around one process beside its datagrams.
-ghost use Rattle.std.specs.Prelude.{◌≡◌, ◌++◌, ◌≤◌, drop, length, OnOk, OnErr};
-ghost use Rattle.group_world.specs.World.{drew, no_place};
+ghost use Rattle.std.specs.Prelude.{◌≡◌, ◌++◌, ◌≤◌, length, true, OnOk, OnErr};
+ghost use Rattle.lib_calls.specs.Entry.{entry_of};
+ghost use Rattle.lib_calls.specs.Traffic.{drawn as drawn_of};
+ghost use Rattle.signal_points.specs.Signals.{is_pending as is_pending_in, with_pending};
+ghost use Rattle.group_world.specs.World.{no_place, settled};
 
+use lib_calls::{EntryView, drawn};
+use signal_points::Pending;
 use std::alloc::{AllocError, Global};
 use std::marker::Model;
 
-/// Random bytes, the wall time as the bits of a signed number, and whether the process was killed. The
-/// random bytes that were taken stay in front of those that are left.
+/// Random bytes, the wall time as the bits of a signed number, the pending signals, and whether the
+/// process was killed. The random bytes that were taken stay in front of those that are left.
 #[derive(Drop)]
 pub(crate) struct Place {
     bytes: Vec<u8>,
     used: usize,
     pub(crate) time: u64,
+    pending: Pending,
     pub(crate) killed: bool,
 }
 
@@ -21,7 +27,7 @@ impl Model for Place {
 
     ghost Value = { PlaceOf };
 
-    ghost view = { λ p. record { pool = drop p.used p.bytes.items; time = p.time; killed = p.killed } };
+    ghost view = { λ p. record { pool = drop p.used p.bytes.items; time = p.time; pending = p.pending; killed = p.killed } };
 
     ghost invariant = { λ p. p.used ≤ length p.bytes.items };
 }
@@ -34,6 +40,7 @@ impl Place {
             bytes: Vec::new(alloc),
             used: 0,
             time: 0,
+            pending: Pending::new(),
             killed: false,
         }
     }
@@ -55,11 +62,32 @@ impl Place {
         Ok(())
     }
 
-    /// Takes so many of the random bytes.
-    pub(crate) fn draw(&mut self, count: usize)
-        requires { count ≤ length self.old.pool }
-        ensures { self.new ≡ drew self.old count }
+    /// Makes the signal pending.
+    pub(crate) fn raise(&mut self, s: u8)
+        requires first { 1 ≤ s }
+        requires last { s ≤ 31 }
+        ensures { self.new ≡ record self.old { pending = with_pending self.old.pending s true } }
     {
-        self.used += count;
+        self.pending.raise(s);
+    }
+
+    /// Whether the signal is pending.
+    pub(crate) fn is_pending(&self, s: u8) -> bool
+        requires first { 1 ≤ s }
+        requires last { s ≤ 31 }
+        ensures { result ≡ is_pending_in self.now.pending s }
+    {
+        self.pending.has(s)
+    }
+
+    /// An event takes random bytes, and delivers a signal or none.
+    pub(crate) fn settle(&mut self, entry: &EntryView<'_>)
+        requires { drawn_of (entry_of entry.now) ≤ length self.old.pool }
+        ensures { self.new ≡ settled self.old (entry_of entry.now) }
+    {
+        self.used += drawn(entry);
+        if (1..=31).contains(&entry.signal) {
+            self.pending.clear(entry.signal);
+        }
     }
 }

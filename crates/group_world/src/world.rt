@@ -3,13 +3,13 @@ ghost use Rattle.std.specs.Prelude.{◌≡◌, ◌<◌, ◌≤◌, length, IsTru
 ghost use Rattle.lib_calls.specs.Entry.{entry_of};
 ghost use Rattle.lib_calls.specs.Traffic.{drawn as drawn_of, is_sent as is_sent_of, is_taken as is_taken_of};
 ghost use Rattle.lossy_net.specs.Network.{front_of, mailbox_of, nth_of, sent_by};
-ghost use Rattle.group_world.specs.History.{Event, Deliver, Inject, Clock, Random, Kill, datagram as datagram_of};
-ghost use Rattle.group_world.specs.World.{after, new_world, place_of, sent_if, size, took_if};
+ghost use Rattle.group_world.specs.History.{Event, Deliver, Inject, Clock, Random, Signal, Kill, datagram as datagram_of};
+ghost use Rattle.group_world.specs.World.{after, has_pending, new_world, place_of, sent_if, size, took_if};
 
 use crate::place::Place;
 use fri_bytes::Bytes;
 use lamport_tag::{Tag, write_tag};
-use lib_calls::{EntryView, drawn, is_sent, is_taken};
+use lib_calls::{EntryView, is_sent, is_taken};
 use lossy_net::{Front, Net};
 use std::alloc::{AllocError, Global};
 use std::marker::Model;
@@ -78,6 +78,16 @@ impl World {
         self.places[p as usize].time
     }
 
+    /// Whether the signal is pending at `p`.
+    pub fn is_pending(&self, p: u32, s: u8) -> bool
+        requires process { p < size self.now }
+        requires first { 1 ≤ s }
+        requires last { s ≤ 31 }
+        ensures { result ≡ has_pending self.now p s }
+    {
+        self.places[p as usize].is_pending(s)
+    }
+
     /// Whether `p` was killed.
     pub fn is_killed(&self, p: u32) -> bool
         requires { p < size self.now }
@@ -86,7 +96,8 @@ impl World {
         self.places[p as usize].killed
     }
 
-    /// An event of `p`: what it took is gone, and what it sent into the group is kept.
+    /// An event of `p`: what it took is gone, what it sent into the group is kept, and the signal that it
+    /// delivered is pending no longer.
     pub fn event(&mut self, p: u32, entry: &EntryView<'_>) -> Result<(), AllocError>
         requires process { p < size self.old }
         requires datagram { IsTrue (is_taken_of (entry_of entry.now)) → 1 ≤ length (mailbox_of self.old.net p) }
@@ -98,7 +109,7 @@ impl World {
     {
         self.keep_sent(p, entry)?;
         self.let_go_taken(p, entry);
-        self.places[p as usize].draw(drawn(entry));
+        self.places[p as usize].settle(entry);
         Ok(())
     }
 
@@ -172,6 +183,17 @@ impl World {
         ensures size { size self.new ≡ size self.old }
     {
         self.places[p as usize].time = time;
+    }
+
+    /// Makes the signal pending at `p`.
+    pub fn raise(&mut self, p: u32, s: u8)
+        requires process { p < size self.old }
+        requires first { 1 ≤ s }
+        requires last { s ≤ 31 }
+        ensures value { self.new ≡ after self.old (Signal p s) }
+        ensures size { size self.new ≡ size self.old }
+    {
+        self.places[p as usize].raise(s);
     }
 
     /// Notes that `p` was killed.

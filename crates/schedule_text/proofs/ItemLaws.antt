@@ -10,12 +10,12 @@ use Rattle.fri_text.specs.Decimal.{signed_of, within_i64}
 use Rattle.fri_text.specs.Hex.{hex_of}
 use Rattle.fri_text.specs.Name.{is_name}
 use Rattle.schedule_text.specs.declared.item.Item.{Item}
-use Rattle.schedule_text.specs.declared.item.Item.TheVariants.{Run, Deliver, Inject, Clock, Random, Kill}
-use Rattle.schedule_text.specs.Limits.{most_thread, most_datagram}
+use Rattle.schedule_text.specs.declared.item.Item.TheVariants.{Run, Deliver, Inject, Clock, Random, Signal, Kill}
+use Rattle.schedule_text.specs.Limits.{most_thread, most_datagram, most_signal}
 use Rattle.schedule_text.specs.declared.process.ProcessLine.{ProcessLine}
 use Rattle.schedule_text.specs.Fields.{field_at, last_of, is_comment}
 use Rattle.schedule_text.specs.Grammar.{IsNumber, IsSignedNumber, IsHeader, IsHex, IsProcessLine, IsRun, IsPair, IsItemLine}
-use Rattle.schedule_text.specs.Reading.{number_of, positive_of, process_number_of, times_of, is_header, process_line_of, run_of, pair_of, deliver_of, bytes_of, inject_of, clock_of, random_of, kill_of, item_of}
+use Rattle.schedule_text.specs.Reading.{number_of, positive_of, process_number_of, times_of, is_header, process_line_of, run_of, pair_of, deliver_of, bytes_of, inject_of, clock_of, random_of, signal_of, kill_of, item_of}
 use Rattle.schedule_text.specs.Schedule.{IsInRange, IsProcess, is_module_name}
 use Rattle.schedule_text.proofs.WordLaws.{bind_some, map_some, kept, field_takes, last_takes, number_takes, number_again, positive_takes, positive_again, hex_takes, process_takes, process_again, value_takes, value_again, times_takes, times_again}
 
@@ -162,6 +162,17 @@ random_takes processes word fields item is e =
     let written = bytes_takes (codes "random") processes word fields found.0 is found.1 in
     subst (λ (i : Item). IsItemLine (word ∷ fields) i × IsInRange processes i) found.2 (written.0, (written.1, written.2))
 
+-- what is read behind `signal` is written so and in range
+signal_takes : (processes : ℕ) (word : List ℕ) (fields : List (List ℕ)) (item : Item) → word ≡ codes "signal" → signal_of processes fields ≡ Some item → IsItemLine (word ∷ fields) item × IsInRange processes item
+unfolding signal_of
+signal_takes processes word fields item is e =
+    let pair = bind_some (pair_of processes fields) _ item e in
+    let number = bind_some (positive_of most_signal pair.0.1) _ item pair.2 in
+    let item_is : Signal pair.0.0 number.0 ≡ item = (let there = number.2 in cc) in
+    let written = positive_takes most_signal pair.0.1 number.0 number.1 in
+    let line = pair_takes (codes "signal") processes word fields pair.0 (λ n. IsNumber n number.0) is pair.1 written.0 in
+    subst (λ (i : Item). IsItemLine (word ∷ fields) i × IsInRange processes i) item_is (line.0, (line.1, written.1, written.2))
+
 -- what is read behind `kill` is written so and in range
 kill_takes : (processes : ℕ) (word : List ℕ) (fields : List (List ℕ)) (item : Item) → word ≡ codes "kill" → kill_of processes fields ≡ Some item → IsItemLine (word ∷ fields) item × IsInRange processes item
 unfolding kill_of
@@ -174,7 +185,7 @@ kill_takes processes word fields item is e =
     (subst (λ (fs : List (List ℕ)). IsItemLine (word ∷ fs) (Kill process.0)) (sym (last_takes fields p.0 p.1)) (is, written.0), written.1)
 
 -- the same of the words that are tried last
-later_takes : (processes : ℕ) (word : List ℕ) (fields : List (List ℕ)) (item : Item) → cond (bytes_eq word (codes "clock")) (clock_of processes fields) (cond (bytes_eq word (codes "random")) (random_of processes fields) (cond (bytes_eq word (codes "kill")) (kill_of processes fields) None)) ≡ Some item → IsItemLine (word ∷ fields) item × IsInRange processes item
+later_takes : (processes : ℕ) (word : List ℕ) (fields : List (List ℕ)) (item : Item) → cond (bytes_eq word (codes "clock")) (clock_of processes fields) (cond (bytes_eq word (codes "random")) (random_of processes fields) (cond (bytes_eq word (codes "signal")) (signal_of processes fields) (cond (bytes_eq word (codes "kill")) (kill_of processes fields) None))) ≡ Some item → IsItemLine (word ∷ fields) item × IsInRange processes item
 later_takes processes word fields item e =
     elim (cases_Bool (bytes_eq word (codes "clock"))) [
       | inl clock ↦ clock_takes processes word fields item (is_word word (codes "clock") clock) (rw clock at e)
@@ -183,8 +194,13 @@ later_takes processes word fields item e =
           elim (cases_Bool (bytes_eq word (codes "random"))) [
             | inl random ↦ random_takes processes word fields item (is_word word (codes "random") random) (rw random at e)
             | inr no_random ↦
-                let some = kept (bytes_eq word (codes "kill")) (kill_of processes fields) item (rw no_random at e) in
-                kill_takes processes word fields item (is_word word (codes "kill") some.0) some.1
+                let e = rw no_random at e in
+                elim (cases_Bool (bytes_eq word (codes "signal"))) [
+                  | inl signal ↦ signal_takes processes word fields item (is_word word (codes "signal") signal) (rw signal at e)
+                  | inr no_signal ↦
+                      let some = kept (bytes_eq word (codes "kill")) (kill_of processes fields) item (rw no_signal at e) in
+                      kill_takes processes word fields item (is_word word (codes "kill") some.0) some.1
+                ]
           ]
     ]
 
@@ -266,6 +282,12 @@ random_line : (processes : ℕ) (word : List ℕ) (fields : List (List ℕ)) (pr
 unfolding item_of random_of
 random_line processes word fields process bytes h range = rw (h.word_is, bytes_again processes _ word fields process bytes h range.0) refl
 
+-- a signal item in range is read
+signal_line : (processes : ℕ) (word : List ℕ) (fields : List (List ℕ)) (process number : ℕ) → WritesPair (codes "signal") word fields process (λ n. IsNumber n number) → IsInRange processes (Signal process number) → item_of processes word fields ≡ Some (Signal process number)
+unfolding item_of signal_of
+signal_line processes word fields process number h range =
+    rw (h.word_is, pair_again processes _ word fields process _ h range.0, positive_again most_signal h.last number h.last_is range.1 range.2) refl
+
 -- a kill item in range is read
 kill_line : (processes : ℕ) (word p : List ℕ) (process : ℕ) → word ≡ codes "kill" → IsNumber p process → process < processes → item_of processes word (p ∷ []) ≡ Some (Kill process)
 unfolding item_of kill_of
@@ -284,6 +306,7 @@ item_again processes word fields (Deliver process number) line range = deliver_l
 item_again processes word fields (Inject process bytes) line range = inject_line processes word fields process bytes (writes_pair _ word fields process _ line) range
 item_again processes word fields (Clock process value) line range = clock_line processes word fields process value (writes_pair _ word fields process _ line) range
 item_again processes word fields (Random process bytes) line range = random_line processes word fields process bytes (writes_pair _ word fields process _ line) range
+item_again processes word fields (Signal process number) line range = signal_line processes word fields process number (writes_pair _ word fields process _ line) range
 item_again processes word [] (Kill process) line range = absurd line
 item_again processes word (p ∷ []) (Kill process) line range = kill_line processes word p process line.0 line.1 range
 item_again processes word (p ∷ more ∷ fields) (Kill process) line range = absurd line
@@ -299,6 +322,7 @@ item_word word fields (Deliver process number) line = rw (writes_pair (codes "de
 item_word word fields (Inject process bytes) line = rw (writes_pair (codes "inject") word fields process _ line).word_is (refl, refl)
 item_word word fields (Clock process value) line = rw (writes_pair (codes "clock") word fields process _ line).word_is (refl, refl)
 item_word word fields (Random process bytes) line = rw (writes_pair (codes "random") word fields process _ line).word_is (refl, refl)
+item_word word fields (Signal process number) line = rw (writes_pair (codes "signal") word fields process _ line).word_is (refl, refl)
 item_word word [] (Kill process) line = absurd line
 item_word word (p ∷ []) (Kill process) line = rw line.0 (refl, refl)
 item_word word (p ∷ more ∷ fields) (Kill process) line = absurd line

@@ -5,7 +5,7 @@ use Rattle.std.specs.List.{AllZip}
 use Rattle.std.proofs.lemmas.Bool.{lt-leb}
 use Rattle.std.proofs.lemmas.List.{append_assoc, append-nil, get_or_append_left, get_or_at, length-append}
 use Rattle.schedule_text.specs.declared.item.Item.{Item}
-use Rattle.schedule_text.specs.declared.item.Item.TheVariants.{Run, Deliver, Inject, Clock, Random, Kill}
+use Rattle.schedule_text.specs.declared.item.Item.TheVariants.{Run, Deliver, Inject, Clock, Random, Signal, Kill}
 use Rattle.schedule_text.specs.Limits.{most_processes}
 use Rattle.schedule_text.specs.declared.process.ProcessLine.{ProcessLine}
 use Rattle.schedule_text.specs.Fields.{fields_of, is_passed_over}
@@ -261,6 +261,7 @@ item_line_gives ps is [] (Deliver p n) line range = absurd line
 item_line_gives ps is [] (Inject p bytes) line range = absurd line
 item_line_gives ps is [] (Clock p v) line range = absurd line
 item_line_gives ps is [] (Random p bytes) line range = absurd line
+item_line_gives ps is [] (Signal p s) line range = absurd line
 item_line_gives ps is [] (Kill p) line range = absurd line
 item_line_gives ps is (word ∷ fields) i line range = kept_fields (having ps is) word fields (item_word word fields i line).1 ∙ one_item ps is word fields i line range
 

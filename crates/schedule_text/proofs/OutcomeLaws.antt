@@ -6,7 +6,7 @@ use Rattle.std.proofs.Math.Seq.{take-length}
 use Rattle.std.proofs.lemmas.List.{nil_from_length, take-append-drop}
 use Rattle.fri_text.specs.Line.{lines_of}
 use Rattle.schedule_text.specs.declared.item.Item.{Item}
-use Rattle.schedule_text.specs.declared.item.Item.TheVariants.{Run, Deliver, Inject, Clock, Random, Kill}
+use Rattle.schedule_text.specs.declared.item.Item.TheVariants.{Run, Deliver, Inject, Clock, Random, Signal, Kill}
 use Rattle.schedule_text.specs.declared.process.ProcessLine.{ProcessLine}
 use Rattle.schedule_text.specs.Limits.{most_runs}
 use Rattle.schedule_text.specs.Grammar.{AreLinesOf, Spells, BeginSchedule, IsFirstBad, BadAt}
@@ -114,6 +114,7 @@ no_process (Deliver p n) range = omega (arith, range.0)
 no_process (Inject p bytes) range = omega (arith, range.0)
 no_process (Clock p v) range = omega (arith, range.0)
 no_process (Random p bytes) range = omega (arith, range.0)
+no_process (Signal p s) range = omega (arith, range.0)
 no_process (Kill p) range = omega arith
 
 -- so there is none

@@ -17,7 +17,7 @@ use Rattle.fri_text.specs.Laws.{ReadBack, ExactHex}
 use Rattle.fri_text.specs.Line.{is_line_feed, pieces_of, lines_of}
 use Rattle.fri_text.specs.Name.{is_name, is_name_byte}
 use Rattle.schedule_text.specs.declared.item.Item.{Item}
-use Rattle.schedule_text.specs.declared.item.Item.TheVariants.{Run, Deliver, Inject, Clock, Random, Kill}
+use Rattle.schedule_text.specs.declared.item.Item.TheVariants.{Run, Deliver, Inject, Clock, Random, Signal, Kill}
 use Rattle.schedule_text.specs.declared.process.ProcessLine.{ProcessLine}
 use Rattle.schedule_text.specs.Fields.{is_blank, fields_of, is_comment}
 use Rattle.schedule_text.specs.Grammar.{IsNumber, IsSignedNumber, IsHex, IsProcessLine, IsRun, IsItemLine, lines_kept, Spells}
@@ -303,6 +303,10 @@ module _ (words : ReadBack) (hex : ExactHex) where
       let process : p < 2 ^ 64 = omega (arith, range.0) in
       let is = words.bytes bytes range.1 in
       ((refl, words.number p process, is), pair_line (codes "random") p (hex_word bytes) (keyword (codes "random") refl refl refl) process (hex_field (hex_word bytes) bytes is))
+  item_written processes (Signal p s) few range =
+      let process : p < 2 ^ 64 = omega (arith, range.0) in
+      let signal : s < 2 ^ 64 = omega (arith, range.2) in
+      ((refl, words.number p process, words.number s signal), pair_line (codes "signal") p (decimal s) (keyword (codes "signal") refl refl refl) process (decimal_is s signal))
   item_written processes (Kill p) few range =
       let process : p < 2 ^ 64 = omega (arith, range) in
       ((refl, words.number p process), line_of_fields (codes "kill") (decimal p ∷ []) (keyword (codes "kill") refl refl refl) (All-cons IsField (decimal p) [] (decimal_is p process) (All-nil IsField)))

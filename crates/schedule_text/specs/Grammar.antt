@@ -5,7 +5,7 @@ use Rattle.fri_text.specs.Decimal.{decimal_of, signed_of}
 use Rattle.fri_text.specs.Hex.{hex_of}
 use Rattle.fri_text.specs.Line.{lines_of}
 use Rattle.schedule_text.specs.declared.item.Item.{Item}
-use Rattle.schedule_text.specs.declared.item.Item.TheVariants.{Run, Deliver, Inject, Clock, Random, Kill}
+use Rattle.schedule_text.specs.declared.item.Item.TheVariants.{Run, Deliver, Inject, Clock, Random, Signal, Kill}
 use Rattle.schedule_text.specs.declared.process.ProcessLine.{ProcessLine}
 use Rattle.schedule_text.specs.Fields.{fields_of, is_passed_over}
 use Rattle.schedule_text.specs.Schedule.{Schedule, IsWellFormed}
@@ -49,13 +49,14 @@ IsKill (word ∷ p ∷ []) process = (word ≡ codes "kill") × IsNumber p proce
 IsKill _ process = ⊥
 
 -- The fields write the item, whatever the ranges are: `deliver P N`, `inject P HEX`, `clock P V`,
--- `random P HEX` and those above.
+-- `random P HEX`, `signal P S` and those above.
 abbrev pub IsItemLine : List (List ℕ) → Item → Type 0
 IsItemLine fields (Run process thread times) = IsRun fields process thread times
 IsItemLine fields (Deliver process number) = IsPair (codes "deliver") fields process (λ n. IsNumber n number)
 IsItemLine fields (Inject process bytes) = IsPair (codes "inject") fields process (λ h. IsHex h bytes)
 IsItemLine fields (Clock process value) = IsPair (codes "clock") fields process (λ v. IsSignedNumber v value)
 IsItemLine fields (Random process bytes) = IsPair (codes "random") fields process (λ h. IsHex h bytes)
+IsItemLine fields (Signal process signal) = IsPair (codes "signal") fields process (λ s. IsNumber s signal)
 IsItemLine fields (Kill process) = IsKill fields process
 
 -- ---- all lines

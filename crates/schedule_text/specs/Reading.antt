@@ -10,8 +10,8 @@ use Rattle.fri_text.specs.Hex.{hex_of}
 use Rattle.fri_text.specs.Line.{lines_of}
 use Rattle.fri_text.specs.Name.{is_name}
 use Rattle.schedule_text.specs.declared.item.Item.{Item}
-use Rattle.schedule_text.specs.declared.item.Item.TheVariants.{Run, Deliver, Inject, Clock, Random, Kill}
-use Rattle.schedule_text.specs.Limits.{most_processes, most_thread, most_datagram, most_runs}
+use Rattle.schedule_text.specs.declared.item.Item.TheVariants.{Run, Deliver, Inject, Clock, Random, Signal, Kill}
+use Rattle.schedule_text.specs.Limits.{most_processes, most_thread, most_datagram, most_signal, most_runs}
 use Rattle.schedule_text.specs.declared.process.ProcessLine.{ProcessLine}
 use Rattle.schedule_text.specs.Fields.{fields_of, field_at, last_of, is_comment}
 use Rattle.schedule_text.specs.Schedule.{Schedule, is_module_name, run_count}
@@ -108,6 +108,13 @@ clock_of processes fields = do
 unfoldable pub random_of : ℕ → List (List ℕ) → Option Item
 random_of processes fields = option_map (λ x. Random x.0 x.1) (bytes_of processes fields)
 
+-- the item of the fields after `signal`
+unfoldable pub signal_of : ℕ → List (List ℕ) → Option Item
+signal_of processes fields = do
+  pair ← pair_of processes fields
+  number ← positive_of most_signal pair.1
+  Some (Signal pair.0 number)
+
 -- the item of the fields after `kill`
 unfoldable pub kill_of : ℕ → List (List ℕ) → Option Item
 kill_of processes fields = do
@@ -123,7 +130,8 @@ item_of processes word fields =
     (if bytes_eq word (codes "inject") then inject_of processes fields else
     (if bytes_eq word (codes "clock") then clock_of processes fields else
     (if bytes_eq word (codes "random") then random_of processes fields else
-    (if bytes_eq word (codes "kill") then kill_of processes fields else None)))))
+    (if bytes_eq word (codes "signal") then signal_of processes fields else
+    (if bytes_eq word (codes "kill") then kill_of processes fields else None))))))
 
 -- ---- lines
 

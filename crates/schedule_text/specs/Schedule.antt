@@ -5,8 +5,8 @@ use Rattle.std.specs.List.{list_all, ends_with}
 use Rattle.fri_bytes.specs.Laws.{AreBytes}
 use Rattle.fri_text.specs.Name.{is_name}
 use Rattle.schedule_text.specs.declared.item.Item.{Item}
-use Rattle.schedule_text.specs.declared.item.Item.TheVariants.{Run, Deliver, Inject, Clock, Random, Kill}
-use Rattle.schedule_text.specs.Limits.{most_processes, most_thread, most_datagram, most_runs}
+use Rattle.schedule_text.specs.declared.item.Item.TheVariants.{Run, Deliver, Inject, Clock, Random, Signal, Kill}
+use Rattle.schedule_text.specs.Limits.{most_processes, most_thread, most_datagram, most_signal, most_runs}
 use Rattle.schedule_text.specs.declared.process.ProcessLine.{ProcessLine}
 
 -- the processes, numbered from 0, and what happens to them, in order
@@ -35,6 +35,7 @@ IsInRange processes (Deliver process number) = (process < processes) × (1 ≤ n
 IsInRange processes (Inject process bytes) = (process < processes) × AreBytes bytes
 IsInRange processes (Clock process value) = (process < processes) × FitsSigned w64 value
 IsInRange processes (Random process bytes) = (process < processes) × AreBytes bytes
+IsInRange processes (Signal process signal) = (process < processes) × (1 ≤ signal) × (signal ≤ most_signal)
 IsInRange processes (Kill process) = process < processes
 
 -- the lines and the items are in range, and no two processes have one name

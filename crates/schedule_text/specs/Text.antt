@@ -4,7 +4,7 @@ use Rattle.std.specs.Fmt.{signed_decimal}
 use Rattle.std.specs.List.{join_with_byte}
 use Rattle.fri_text.specs.Hex.{hex_word}
 use Rattle.schedule_text.specs.declared.item.Item.{Item}
-use Rattle.schedule_text.specs.declared.item.Item.TheVariants.{Run, Deliver, Inject, Clock, Random, Kill}
+use Rattle.schedule_text.specs.declared.item.Item.TheVariants.{Run, Deliver, Inject, Clock, Random, Signal, Kill}
 use Rattle.schedule_text.specs.declared.process.ProcessLine.{ProcessLine}
 use Rattle.schedule_text.specs.Schedule.{Schedule}
 
@@ -27,6 +27,7 @@ item_fields (Deliver process number) = codes "deliver" ∷ decimal process ∷ d
 item_fields (Inject process bytes) = codes "inject" ∷ decimal process ∷ hex_word bytes ∷ []
 item_fields (Clock process value) = codes "clock" ∷ decimal process ∷ signed_decimal value ∷ []
 item_fields (Random process bytes) = codes "random" ∷ decimal process ∷ hex_word bytes ∷ []
+item_fields (Signal process signal) = codes "signal" ∷ decimal process ∷ decimal signal ∷ []
 item_fields (Kill process) = codes "kill" ∷ decimal process ∷ []
 
 -- a line: its fields with one space between, and a line feed

@@ -1,10 +1,10 @@
 // The items of a schedule.
 ghost use Rattle.std.specs.Prelude.{◌≡◌, IfOk, option_map};
 ghost use Rattle.schedule_text.specs.Schedule.{tries as item_tries};
-ghost use Rattle.schedule_text.specs.Reading.{item_of, run_of, pair_of, deliver_of, bytes_of, inject_of, clock_of, random_of, kill_of};
+ghost use Rattle.schedule_text.specs.Reading.{item_of, run_of, pair_of, deliver_of, bytes_of, inject_of, clock_of, random_of, signal_of, kill_of};
 
 use crate::fields::Fields;
-use crate::limits::{MOST_DATAGRAM, MOST_THREAD};
+use crate::limits::{MOST_DATAGRAM, MOST_SIGNAL, MOST_THREAD};
 use crate::word::{bytes, number, positive, process_number, times};
 use fri_bytes::Bytes;
 use fri_text::read_signed;
@@ -40,6 +40,11 @@ pub enum Item {
     Random {
         process: u32,
         bytes: Bytes,
+    },
+    /// The signal, from 1 to `MOST_SIGNAL`, is now pending at the process.
+    Signal {
+        process: u32,
+        signal: u8,
     },
     /// The process makes no further event.
     Kill {
@@ -80,6 +85,8 @@ pub(crate) fn read_item(
         Ok(read_clock(processes, fields))
     } else if word == b"random".as_slice() {
         read_random(alloc, processes, fields)
+    } else if word == b"signal".as_slice() {
+        Ok(read_signal(processes, fields))
     } else if word == b"kill".as_slice() {
         Ok(read_kill(processes, fields))
     } else {
@@ -178,6 +185,16 @@ fn read_random(
         Some((process, bytes)) => Ok(Some(Item::Random { process, bytes })),
         None => Ok(None),
     }
+}
+
+/// `signal P S`.
+#[tactic(auto, unfolding(crate::specs::Reading::signal_of))]
+fn read_signal(processes: u32, fields: &mut Fields) -> Option<Item>
+    ensures { result ≡ signal_of processes fields.old }
+{
+    let (process, word) = read_pair(processes, fields)?;
+    let signal = positive(word, u64::from(MOST_SIGNAL))? as u8;
+    Some(Item::Signal { process, signal })
 }
 
 /// `kill P`.

@@ -8,11 +8,11 @@
 //! - 1 to `MOST_PROCESSES` lines `process NAME MODULE`, with distinct names; the processes are numbered
 //!   from 0;
 //! - any number of items, each `run P T` (one try), `run P T N` (N tries), `deliver P N`, `inject P HEX`,
-//!   `clock P V`, `random P HEX` or `kill P`.
+//!   `clock P V`, `random P HEX`, `signal P S` or `kill P`.
 //!
 //! P is the number of a process, T is 0 to `MOST_THREAD`, N is 1 to `MOST_RUNS` behind `run` and to
-//! `MOST_DATAGRAM` behind `deliver`, and V is a signed number of 64 bits. Numbers are written in decimal
-//! digits, with any zeros in front; a negative V has one minus. HEX is two hexadecimal digits of either
+//! `MOST_DATAGRAM` behind `deliver`, S is 1 to `MOST_SIGNAL`, and V is a signed number of 64 bits. Numbers
+//! are written in decimal digits, with any zeros in front; a negative V has one minus. HEX is two hexadecimal digits of either
 //! case for each byte, or `-` for no bytes. `ProcessLine` says what NAME and MODULE may be.
 #![tactic(auto)]
 
@@ -31,7 +31,7 @@ mod write;
 pub use error::ScheduleError;
 pub use item::Item;
 pub use laws::{exact_outcome, one_schedule, spelled_or_bad, written_is_read};
-pub use limits::{MOST_DATAGRAM, MOST_PROCESSES, MOST_RUNS, MOST_THREAD};
+pub use limits::{MOST_DATAGRAM, MOST_PROCESSES, MOST_RUNS, MOST_SIGNAL, MOST_THREAD};
 pub use process::ProcessLine;
 pub use read::read_schedule;
 pub use schedule::Schedule;

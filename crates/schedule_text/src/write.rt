@@ -89,6 +89,10 @@ fn push_fields(alloc: Global, text: &mut Text, item: &Item) -> Result<(), AllocE
             push_word(text, "random", *process)?;
             push_bytes(alloc, text, bytes.as_slice())
         }
+        Item::Signal { process, signal } => {
+            push_word(text, "signal", *process)?;
+            push_number(text, u64::from(*signal))
+        }
         Item::Kill { process } => push_word(text, "kill", *process),
     }
 }

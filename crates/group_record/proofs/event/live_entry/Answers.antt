@@ -13,7 +13,7 @@ returns-in_default-2 c =
     let call = rw c.in-Some.is at c.pending.ensures in
     let need = rw c.in-Some-need.is at c.need.ensures in
     no_event S c.args.thread env c.in-Some.call.now c.in-Some-need.need
-    (record { stands = record { fits = c.events.ensures.fits; call = call; need = need }; spared = sym c.is_killed.ensures ∙ c.if-is_killed.false; pending = refl })
+    (record { stands = record { fits = c.events.ensures.fits; call = call; need = need }; spared = sym c.is_killed.ensures ∙ c.if-is_killed.false })
     (ap (λ n. answer_by c.in-Some-need.need c.in-Some.call.now n env) c.requires.group ∙ sym c.in_ok-answer.ensures ∙ c.in_default-2.is)
 
 pub next_clock-requires-clause-tag_fits : goal.next_clock-requires-clause-tag_fits
@@ -25,7 +25,7 @@ next_clock-requires-clause-tag_fits c =
     let a : Answer = record { reply = c.answer.inside.reply; incoming = c.answer.inside.incoming; tag = c.answer.inside.tag } in
     tag_fits c.one_event.ensures c.rises.ensures c.kept.ensures.ranges S c.args.thread env c.in-Some.call.now c.in-Some-need.need a
     (record { state = c.events.ensures.fits; few = c.requires.few; around = record { time = subst (λ n. n < 2 ^ 64) c.time.ensures (omega arith) } })
-    (record { stands = record { fits = c.events.ensures.fits; call = call; need = need }; spared = sym c.is_killed.ensures ∙ c.if-is_killed.false; pending = refl })
+    (record { stands = record { fits = c.events.ensures.fits; call = call; need = need }; spared = sym c.is_killed.ensures ∙ c.if-is_killed.false })
     (ap (λ n. answer_by c.in-Some-need.need c.in-Some.call.now n env) c.requires.group ∙ sym c.in_ok-answer.ensures ∙ c.in-Some-2.is ∙ ap Some (sym c.answer.view_is))
 
 pub returns : goal.returns
@@ -39,7 +39,8 @@ returns c =
     let out : c.in_ok-outgoing.field-0 ≡ outgoing_of c.in-Some.call.now S.store.memory = c.in_ok-outgoing.ensures ∙ ap (outgoing_of c.in-Some.call.now) c.memory.ensures in
     entry_tells c.one_event.ensures c.rises.ensures S c.args.thread env c.in-Some.call.now c.in-Some-need.need a _
     (record { state = c.events.ensures.fits; few = c.requires.few; around = record { time = subst (λ n. n < 2 ^ 64) c.time.ensures (omega arith) } })
-    (record { stands = record { fits = c.events.ensures.fits; call = call; need = need }; spared = sym c.is_killed.ensures ∙ c.if-is_killed.false; pending = refl })
+    (record { stands = record { fits = c.events.ensures.fits; call = call; need = need }; spared = sym c.is_killed.ensures ∙ c.if-is_killed.false })
     (ap (λ n. answer_by c.in-Some-need.need c.in-Some.call.now n env) c.requires.group ∙ sym c.in_ok-answer.ensures ∙ c.in-Some-2.is ∙ ap Some (sym c.answer.view_is))
-    (ap (λ n. entry_with n 0 c.args.thread c.in-Some.call.now a c.in_ok-outgoing.field-0) clock
-    ∙ ap (λ bytes. entry_with (next_clock_of S.clock a.tag) 0 c.args.thread c.in-Some.call.now a bytes) out)
+    (ap (λ n. entry_with n c.signal_after.result c.args.thread c.in-Some.call.now a c.in_ok-outgoing.field-0) clock
+    ∙ ap (λ bytes. entry_with (next_clock_of S.clock a.tag) c.signal_after.result c.args.thread c.in-Some.call.now a bytes) out
+    ∙ ap (λ signal. entry_with (next_clock_of S.clock a.tag) signal c.args.thread c.in-Some.call.now a (outgoing_of c.in-Some.call.now S.store.memory)) (c.signal_after.ensures a))

@@ -1,0 +1,120 @@
+-- Signals: which are ready after an answer, and that an event depends on the pending ones from 1 to 31 alone.
+use Rattle.std.proofs.Common.{◌≡◌, ℕ, zero, suc, ◌+◌, ◌-◌, ◌<◌, ◌≤◌, Bool, true, false, ◌&&◌, not, cond, List, [], ◌∷◌, length, Option, Some, None, refl, ap, sym, ◌∙◌, arith}
+use Rattle.std.specs.Prelude.{is_some, nat_le, option_map}
+use Rattle.std.proofs.lemmas.Option.{same_Some}
+use Rattle.call_table.specs.Table.{kind_numbered}
+use Rattle.call_table.specs.declared.kind.Kind.{Kind}
+use Rattle.call_table.specs.declared.kind.Kind.TheVariants.{Now, SleepUntil, Random, Recv, TryRecv}
+use Rattle.lamport_tag.specs.Tag.{next_clock_of}
+use Rattle.lib_calls.specs.Answer.{Answer}
+use Rattle.lib_calls.specs.declared.entry.Call.{Call}
+use Rattle.guest_process.specs.declared.waiting.Waiting.{Waiting}
+use Rattle.guest_process.specs.Answers.{Need, Fixed, Blocked, World, after_need, effects, is_due, need, written}
+use Rattle.guest_process.specs.GoesOn.{handler}
+use Rattle.guest_process.specs.Kinds.{ends_process}
+use Rattle.guest_process.specs.Live.{Answered, Env, answered, chosen, event, event_by, first_taken, from_world, live, live_at, lowest, or_empty}
+use Rattle.guest_process.specs.Seen.{answered_at}
+use Rattle.guest_process.specs.State.{State, is_running, thread_at}
+use Rattle.group_record.specs.Around.{signal_with}
+
+-- ---- the handlers after an answer
+
+where_given : (test : Bool) (a x : Answered) → cond test (Some a) None ≡ Some x → a ≡ x
+where_given true a x h = same_Some _ _ h
+where_given false a x h = cc
+
+first_handlers : (S : State) (c : Call) (mailbox : List (List ℕ)) (x : Answered) → first_taken S c mailbox ≡ Some x → x.after.handlers ≡ S.handlers
+first_handlers S c [] x h = cc
+first_handlers S c (datagram ∷ waiting) x h = sym (ap (λ (x : Answered). x.after.handlers) (same_Some _ _ h))
+
+empty_handlers : (S : State) (c : Call) (mailbox : List (List ℕ)) → (or_empty S (first_taken S c mailbox)).after.handlers ≡ S.handlers
+empty_handlers S c [] = refl
+empty_handlers S c (datagram ∷ waiting) = refl
+
+-- the world changes none
+world_handlers : (k : Kind) (S : State) (c : Call) (env : Env) (x : Answered) → from_world k S c env ≡ Some x → x.after.handlers ≡ S.handlers
+world_handlers Now S c env x h = sym (ap (λ (x : Answered). x.after.handlers) (same_Some _ _ h))
+world_handlers SleepUntil S c env x h = sym (ap (λ (x : Answered). x.after.handlers) (where_given (is_due c.a0 env.time) _ x h))
+world_handlers Random S c env x h = sym (ap (λ (x : Answered). x.after.handlers) (where_given (nat_le c.a1 (length env.pool)) _ x h))
+world_handlers Recv S c env x h = first_handlers S c env.mailbox x h
+world_handlers TryRecv S c env x h = sym (ap (λ (x : Answered). x.after.handlers) (same_Some _ _ h)) ∙ empty_handlers S c env.mailbox
+world_handlers _ S c env x h = cc
+
+need_handlers : (n : Need) (world : Option Answered) (W : State) (x : Answered) → ((x : Answered) → world ≡ Some x → x.after.handlers ≡ W.handlers)
+    → answered n world ≡ Some x → x.after.handlers ≡ (after_need n W).handlers
+need_handlers (Fixed reply S) world W x given h = sym (ap (λ (x : Answered). x.after.handlers) (same_Some _ _ h))
+need_handlers Blocked world W x given h = cc
+need_handlers World world W x given h = given x h
+
+-- so process and call determine them
+pub handlers_after : (k : Kind) (S : State) (t : ℕ) (c : Call) (env : Env) (x : Answered) (a : Answer) → answered (need k S t c) (from_world k S c env) ≡ Some x
+    → x.after.handlers ≡ (effects k S t c a).handlers
+handlers_after k S t c env x a h = need_handlers (need k S t c) (from_world k S c env) (written S c a) x (λ x given. world_handlers k S c env x given) h
+
+-- and the signal that is delivered
+pub chosen_is : (S : State) (t : ℕ) (a : Answer) (w : Waiting) (c : Call) (pending : ℕ → Bool) (handlers : List (Option ℕ)) → thread_at S t ≡ Some w
+    → kind_numbered c.kind ≡ Some w.kind → handlers ≡ (effects w.kind S t w.call a).handlers → chosen w.kind handlers pending ≡ signal_with S t a (kind_numbered c.kind) pending
+chosen_is S t a w c pending handlers there kind are =
+    ap (λ (hs : List (Option ℕ)). chosen w.kind hs pending) (are ∙ sym (ap (λ (o : Option Waiting). (answered_at S t a o).handlers) there))
+    ∙ sym (ap (λ (o : Option Kind). signal_with S t a o pending) kind)
+
+-- ---- the lowest
+
+-- the next number is tried
+lowest_next : (p : ℕ → Bool) (s : ℕ) → s < 32 → lowest p (32 - s) s ≡ cond (p s) s (lowest p (32 - (s + 1)) (s + 1))
+unfolding lowest
+lowest_next p s within = let more : 32 - s ≡ suc (32 - (s + 1)) = omega (arith, within) in rw more refl
+
+pub lowest_found : (p : ℕ → Bool) (s : ℕ) → s < 32 → p s ≡ true → lowest p (32 - s) s ≡ s
+lowest_found p s within holds = lowest_next p s within ∙ ap (λ b. cond b s (lowest p (32 - (s + 1)) (s + 1))) holds
+
+pub lowest_past : (p : ℕ → Bool) (s : ℕ) → s < 32 → p s ≡ false → lowest p (32 - s) s ≡ lowest p (32 - (s + 1)) (s + 1)
+lowest_past p s within fails = lowest_next p s within ∙ ap (λ b. cond b s (lowest p (32 - (s + 1)) (s + 1))) fails
+
+pub lowest_none : (p : ℕ → Bool) (s : ℕ) → 32 ≤ s → lowest p (32 - s) s ≡ 0
+unfolding lowest
+lowest_none p s past = let none : 32 - s ≡ 0 = omega (arith, past) in rw none refl
+
+lowest_same : (p q : ℕ → Bool) (n s : ℕ) → 1 ≤ s → s + n ≤ 32 → ((r : ℕ) → 1 ≤ r → r ≤ 31 → p r ≡ q r) → lowest p n s ≡ lowest q n s
+unfolding lowest
+lowest_same p q zero s first last same = refl
+lowest_same p q (suc n) s first last same =
+    ap (λ b. cond b s (lowest p n (s + 1))) (same s first (omega (arith, last)))
+    ∙ ap (λ m. cond (q s) s m) (lowest_same p q n (s + 1) (omega arith) (omega (arith, last)) same)
+
+-- ---- which are pending
+
+abbrev pub with_signals : Env → (ℕ → Bool) → Env
+with_signals env pending = record env { pending = pending }
+
+chosen_same : (k : Kind) (handlers : List (Option ℕ)) (p q : ℕ → Bool) → ((r : ℕ) → 1 ≤ r → r ≤ 31 → p r ≡ q r) → chosen k handlers p ≡ chosen k handlers q
+chosen_same k handlers p q same =
+    ap (λ n. cond (ends_process k) 0 n)
+    (lowest_same (λ s. p s && is_some (handler handlers s)) (λ s. q s && is_some (handler handlers s)) 31 1 (omega arith) (omega arith)
+    (λ r first last. ap (λ b. b && is_some (handler handlers r)) (same r first last)))
+
+from_world_same : (k : Kind) (S : State) (c : Call) (env : Env) (pending : ℕ → Bool) → from_world k S c (with_signals env pending) ≡ from_world k S c env
+from_world_same Now S c env pending = refl
+from_world_same SleepUntil S c env pending = refl
+from_world_same Random S c env pending = refl
+from_world_same Recv S c env pending = refl
+from_world_same TryRecv S c env pending = refl
+from_world_same _ S c env pending = refl
+
+mapped_same : (S : State) (t : ℕ) (env : Env) (pending : ℕ → Bool) (w : Waiting) (o : Option Answered) → ((r : ℕ) → 1 ≤ r → r ≤ 31 → pending r ≡ env.pending r)
+    → option_map (event S t (with_signals env pending) w) o ≡ option_map (event S t env w) o
+mapped_same S t env pending w None same = refl
+mapped_same S t env pending w (Some x) same =
+    ap (λ signal. Some (event_by S t w x signal (next_clock_of S.clock x.answer.tag))) (chosen_same w.kind x.after.handlers pending env.pending same)
+
+live_at_same : (S : State) (t : ℕ) (env : Env) (pending : ℕ → Bool) (o : Option Waiting) → ((r : ℕ) → 1 ≤ r → r ≤ 31 → pending r ≡ env.pending r)
+    → live_at S t (with_signals env pending) o ≡ live_at S t env o
+live_at_same S t env pending None same = refl
+live_at_same S t env pending (Some w) same =
+    ap (λ world. option_map (event S t (with_signals env pending) w) (answered (need w.kind S t w.call) world)) (from_world_same w.kind S w.call env pending)
+    ∙ mapped_same S t env pending w (answered (need w.kind S t w.call) (from_world w.kind S w.call env)) same
+
+-- a world in which the same signals are pending lets the process have the same event
+pub live_same : (S : State) (t : ℕ) (env : Env) (pending : ℕ → Bool) → ((r : ℕ) → 1 ≤ r → r ≤ 31 → pending r ≡ env.pending r)
+    → live S t (with_signals env pending) ≡ live S t env
+live_same S t env pending same = ap (λ o. cond (not env.killed && is_running S) o None) (live_at_same S t env pending (thread_at S t) same)
