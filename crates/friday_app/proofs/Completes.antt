@@ -8,7 +8,7 @@ use Rattle.wasm_decode.specs.Sections.{module_of_bytes}
 use Rattle.wasm_validate.specs.Fault.{ExactFault}
 use Rattle.call_log.specs.Head.{Head, head_bytes}
 use Rattle.call_log.specs.Laws.{ExactLogs}
-use Rattle.call_log.specs.Log.{head_at, rest_of, stops_at_unbuilt}
+use Rattle.call_log.specs.Log.{head_at}
 use Rattle.friday_app.specs.declared.status.Status.{Status}
 use Rattle.friday_app.specs.declared.status.Status.TheVariants as ends
 use Rattle.friday_app.specs.declared.refusal.Reason.TheVariants as reason
@@ -56,10 +56,8 @@ module _ (laws : Laws) where
 
   log_stands : (store : Store) (name : List ℕ) (h : IsLogFile store name) → log_of store name ≡ Ok (h.head, h.left)
   log_stands store name h =
-      let built : stops_at_unbuilt (rest_of h.left) ≡ false = ap stops_at_unbuilt ((laws.logs.all h.left h.entries h.rest).0 h.holds).1 ∙ h.built in
       ap (λ (r : Result (List ℕ) Stop). and_then r (λ bytes. head_or name (head_at bytes))) (stands_given store name most_log (head_bytes h.head ++ h.left) h.stands)
       ∙ ap (head_or name) ((laws.logs.heads (head_bytes h.head ++ h.left) h.head h.left).1 (h.in_range, refl))
-      ∙ ap (λ (b : Bool). cond b (Err (refuses name reason.LogNotBuilt)) (Ok (h.head, h.left))) built
 
   schedule_stands : (store : Store) (name : List ℕ) (schedule : Schedule) (h : IsScheduleFile store name schedule) → schedule_in store name ≡ Ok schedule
   schedule_stands store name schedule h =

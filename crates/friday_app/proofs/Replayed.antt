@@ -4,7 +4,7 @@ use Rattle.std.specs.Prelude.{MatchResult}
 use Rattle.fri_outside.specs.Outside.{Store, WhenTold}
 use Rattle.wasm_types.specs.Modules.{Module}
 use Rattle.call_log.specs.Head.{Head}
-use Rattle.call_log.specs.Log.{head_at, rest_of, stops_at_unbuilt}
+use Rattle.call_log.specs.Log.{head_at}
 use Rattle.guest_process.specs.State.{State}
 use Rattle.friday_app.specs.declared.refusal.Answer.{Answer}
 use Rattle.friday_app.specs.declared.refusal.Answer.TheVariants as answered
@@ -13,49 +13,35 @@ use Rattle.friday_app.specs.declared.refusal.Refusal.{Refusal}
 use Rattle.friday_app.specs.declared.refusal.Refusal.TheVariants as refusal
 use Rattle.call_log.specs.Limits.{most_log}
 use Rattle.friday_app.specs.Call.{StopsAs, Tells}
-use Rattle.friday_app.specs.Expected.{begun_of, built_or, head_or, log_of, module_of, played, replay_outcome}
+use Rattle.friday_app.specs.Expected.{begun_of, head_or, log_of, module_of, played, replay_outcome}
 use Rattle.friday_app.specs.Outcome.{Outcome, Stop, and_then, file_of, refuses}
 use Rattle.friday_app.specs.Report.{replay_work}
-use Rattle.friday_app.specs.Seen.{IsUnbuilt, IsWork, Works}
+use Rattle.friday_app.specs.Seen.{IsWork, Works}
 use Rattle.friday_app.proofs.Made.{outcome_at, stops_tell}
 use Rattle.friday_app.proofs.Gathered.{refused_tells, stops_then}
 
 -- ---- from the module and the head of the log on
 
-built : (name : List ℕ) (log : Head × List ℕ) → stops_at_unbuilt (rest_of log.1) ≡ false → built_or name log ≡ Ok log
-built name log goes = ap (λ b. cond b (Err (refuses name reason.LogNotBuilt)) (Ok log)) goes
-
-unbuilt_stops : (name : List ℕ) (log : Head × List ℕ) (e : Refusal) → IsUnbuilt name (rest_of log.1) e → StopsAs (built_or name log) e
-unbuilt_stops name log (refusal.Refused file why) (stops, named) = rw (stops, named.0, named.1) refl
-unbuilt_stops name log refusal.NoMemory unbuilt = tt
-unbuilt_stops name log other unbuilt = absurd unbuilt.1
-
--- the log goes on with a kind that is not built, whether a process begins or not
-unbuilt_first : (module_name log_name : List ℕ) (m : Module) (log : Head × List ℕ) (e : Refusal) → IsUnbuilt log_name (rest_of log.1) e → StopsAs (played module_name log_name m log) e
-unbuilt_first module_name log_name m log e unbuilt = stops_then (built_or log_name log) _ e (unbuilt_stops log_name log e unbuilt)
+-- no process begins
+pub never_begun : (module_name : List ℕ) (m : Module) (log : Head × List ℕ) (e : Refusal) → StopsAs (begun_of module_name m log.0.process log.0.count) e → StopsAs (played module_name m log) e
+never_begun module_name m log e stops = stops_then (begun_of module_name m log.0.process log.0.count) _ e stops
 
 -- a process was replayed
-pub reported : (module_name log_name : List ℕ) (m : Module) (log : Head × List ℕ) (begun : State) (result : Result Answer Refusal) → begun_of module_name m log.0.process log.0.count ≡ Ok begun
-    → MatchResult result (λ answer. (stops_at_unbuilt (rest_of log.1) ≡ false) × IsWork answer (replay_work begun log.0 log.1)) (IsUnbuilt log_name (rest_of log.1))
-    → MatchResult result (Works (played module_name log_name m log)) (StopsAs (played module_name log_name m log))
-reported module_name log_name m log begun (Ok answer) starts (goes, is) = (
+pub reported : (module_name : List ℕ) (m : Module) (log : Head × List ℕ) (begun : State) (answer : Answer) → begun_of module_name m log.0.process log.0.count ≡ Ok begun
+    → IsWork answer (replay_work begun log.0 log.1) → Works (played module_name m log) answer
+reported module_name m log begun answer starts is = (
   replay_work begun log.0 log.1,
-  (
-    ap (λ (r : Result (Head × List ℕ) Stop). and_then r (λ log. and_then (begun_of module_name m log.0.process log.0.count) (λ begun. Ok (replay_work begun log.0 log.1)))) (built log_name log goes)
-        ∙ ap (λ (r : Result State Stop). and_then r (λ begun. Ok (replay_work begun log.0 log.1))) starts,
-    is,
-  ),
+  (ap (λ (r : Result State Stop). and_then r (λ begun. Ok (replay_work begun log.0 log.1))) starts, is),
 )
-reported module_name log_name m log begun (Err e) starts unbuilt = unbuilt_first module_name log_name m log e unbuilt
 
 -- ---- from the files on
 
-plays : (store : Store) (module_name log_name bytes : List ℕ) (m : Module) (log : Head × List ℕ) → module_of store module_name ≡ Ok m → file_of store log_name most_log ≡ Ok bytes → head_at bytes ≡ Some log
-    → replay_outcome module_name log_name store ≡ played module_name log_name m log
+plays : (store : Store) (module_name log_name bytes : List ℕ) (m : Module) (log : Head × List ℕ) → module_of store module_name ≡ Ok m → file_of store log_name most_log ≡ Ok bytes
+    → head_or log_name (head_at bytes) ≡ Ok log → replay_outcome module_name log_name store ≡ played module_name m log
 plays store module_name log_name bytes m log found read head =
-    ap (λ (r : Result Module Stop). and_then r (λ m. and_then (log_of store log_name) (λ log. and_then (begun_of module_name m log.0.process log.0.count) (λ begun. Ok (replay_work begun log.0 log.1))))) found
-    ∙ ap (λ (r : Result (List ℕ) Stop). and_then (and_then r (λ bytes. head_or log_name (head_at bytes))) (λ log. and_then (begun_of module_name m log.0.process log.0.count) (λ begun. Ok (replay_work begun log.0 log.1)))) read
-    ∙ ap (λ (o : Option (Head × List ℕ)). and_then (head_or log_name o) (λ log. and_then (begun_of module_name m log.0.process log.0.count) (λ begun. Ok (replay_work begun log.0 log.1)))) head
+    ap (λ (r : Result Module Stop). and_then r (λ m. and_then (log_of store log_name) (played module_name m))) found
+    ∙ ap (λ (r : Result (List ℕ) Stop). and_then (and_then r (λ bytes. head_or log_name (head_at bytes))) (played module_name m)) read
+    ∙ ap (λ (r : Result (Head × List ℕ) Stop). and_then r (played module_name m)) head
 
 answer_tells : (o : Outcome) (result : Result Answer Refusal) → MatchResult result (Works o) (StopsAs o) → Tells o result
 answer_tells o (Ok (answered.Done text)) (work, (is, told)) = (work, is, told.0, told.1)
@@ -63,19 +49,19 @@ answer_tells o (Ok (answered.Diverged text)) (work, (is, told)) = (work, is, tol
 answer_tells o (Err e) stops = stops_tell o e stops
 
 pub replay_tells : (module_name log_name : List ℕ) (told : Option Store) (m : Module) (bytes : List ℕ) (log : Head × List ℕ) (result : Result Answer Refusal)
-    → WhenTold told (λ store. module_of store module_name ≡ Ok m) → WhenTold told (λ store. file_of store log_name most_log ≡ Ok bytes) → head_at bytes ≡ Some log
-    → MatchResult result (Works (played module_name log_name m log)) (StopsAs (played module_name log_name m log))
+    → WhenTold told (λ store. module_of store module_name ≡ Ok m) → WhenTold told (λ store. file_of store log_name most_log ≡ Ok bytes) → head_or log_name (head_at bytes) ≡ Ok log
+    → MatchResult result (Works (played module_name m log)) (StopsAs (played module_name m log))
     → (o : Outcome) → option_map (replay_outcome module_name log_name) told ≡ Some o → Tells o result
 replay_tells module_name log_name told m bytes log result found read head does o is =
     let h = outcome_at (replay_outcome module_name log_name) told o is in
     subst (λ (o : Outcome). Tells o result) (sym (h.2 ∙ plays h.0 module_name log_name bytes m log (found h.0 h.1) (read h.0 h.1) head))
-    (answer_tells (played module_name log_name m log) result does)
+    (answer_tells (played module_name m log) result does)
 
 -- the log was refused
 log_stops : (store : Store) (module_name log_name : List ℕ) (m : Module) (e : Refusal) → module_of store module_name ≡ Ok m → StopsAs (log_of store log_name) e → StopsAs (replay_outcome module_name log_name store) e
 log_stops store module_name log_name m e found stops =
     subst (λ (o : Outcome). StopsAs o e)
-    (sym (ap (λ (r : Result Module Stop). and_then r (λ m. and_then (log_of store log_name) (λ log. and_then (begun_of module_name m log.0.process log.0.count) (λ begun. Ok (replay_work begun log.0 log.1))))) found))
+    (sym (ap (λ (r : Result Module Stop). and_then r (λ m. and_then (log_of store log_name) (played module_name m))) found))
     (stops_then (log_of store log_name) _ e stops)
 
 pub file_stops : (module_name log_name : List ℕ) (told : Option Store) (m : Module) (e : Refusal) → WhenTold told (λ store. module_of store module_name ≡ Ok m)

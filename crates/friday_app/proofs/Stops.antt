@@ -7,7 +7,7 @@ use Rattle.guest_process.specs.State.{State}
 use Rattle.wasm_types.specs.Modules.{Module}
 use Rattle.wasm_decode.specs.Sections.{module_of_bytes}
 use Rattle.call_log.specs.Head.{Head}
-use Rattle.call_log.specs.Log.{head_at, rest_of, stops_at_unbuilt}
+use Rattle.call_log.specs.Log.{head_at}
 use Rattle.friday_app.specs.declared.refusal.Reason.{Reason}
 use Rattle.friday_app.specs.declared.refusal.Reason.TheVariants as reason
 use Rattle.call_log.specs.Limits.{most_log}
@@ -39,13 +39,9 @@ begun_early : (name : List ℕ) (begun : Option State) → IsEarly (begun_or nam
 begun_early name None = refl
 begun_early name (Some begun) = tt
 
-test_early : (name : List ℕ) (log : Head × List ℕ) (b : Bool) → IsEarly (cond b (Err (refuses name reason.LogNotBuilt)) (Ok log))
-test_early name log true = refl
-test_early name log false = tt
-
 head_early : (name : List ℕ) (log : Option (Head × List ℕ)) → IsEarly (head_or name log)
 head_early name None = refl
-head_early name (Some log) = test_early name log (stops_at_unbuilt (rest_of log.1))
+head_early name (Some log) = tt
 
 then_early : {A B : Type 0} (first : Result A Stop) (next : A → Result B Stop) → IsEarly first → ((value : A) → IsEarly (next value)) → IsEarly (and_then first next)
 then_early (Ok value) next early later = later value

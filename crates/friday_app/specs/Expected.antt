@@ -1,6 +1,6 @@
 -- What each command comes to, given the files and the input.
 use Rattle.std.specs.List.{slice_index_or}
-use Rattle.std.specs.Prelude.{ℕ, List, [], ◌∷◌, Option, Some, None, map, option_map, Result, Ok, Err, if◌then◌else◌}
+use Rattle.std.specs.Prelude.{ℕ, List, [], ◌∷◌, Option, Some, None, map, option_map, Result, Ok, Err}
 use Rattle.fri_outside.specs.Outside.{Store}
 use Rattle.wasm_types.specs.Modules.{Module}
 use Rattle.wasm_decode.specs.Sections.{module_of_bytes}
@@ -8,7 +8,7 @@ use Rattle.schedule_text.specs.declared.process.ProcessLine.{ProcessLine}
 use Rattle.schedule_text.specs.Reading.{Refusal, BadLineAt, TooManyRuns, schedule_of}
 use Rattle.schedule_text.specs.Schedule.{Schedule}
 use Rattle.call_log.specs.Head.{Head}
-use Rattle.call_log.specs.Log.{head_at, rest_of, stops_at_unbuilt}
+use Rattle.call_log.specs.Log.{head_at}
 use Rattle.guest_process.specs.Start.{start}
 use Rattle.guest_process.specs.State.{State}
 use Rattle.friday_app.specs.declared.refusal.Reason.{Reason}
@@ -47,32 +47,21 @@ begun_or name (Some begun) = Ok begun
 abbrev pub begun_of : List ℕ → Module → ℕ → ℕ → Result State Stop
 begun_of name m who count = begun_or name (start m who count)
 
--- a log, given by its head and what is behind it, whose entries do not go on with a kind that is not built
-abbrev pub built_or : List ℕ → Head × List ℕ → Result (Head × List ℕ) Stop
-built_or name log = if stops_at_unbuilt (rest_of log.1) then Err (refuses name reason.LogNotBuilt) else Ok log
-
--- the log of a log file
+-- the log of a log file, given by its head and what is behind it
 abbrev pub head_or : List ℕ → Option (Head × List ℕ) → Result (Head × List ℕ) Stop
 head_or name None = Err (refuses name reason.BadHead)
-head_or name (Some log) = built_or name log
+head_or name (Some log) = Ok log
 
 abbrev pub log_of : Store → List ℕ → Result (Head × List ℕ) Stop
 log_of store name = and_then (file_of store name most_log) (λ bytes. head_or name (head_at bytes))
 
+-- what the replay of a log comes to, whose module has this name
+abbrev pub played : List ℕ → Module → Head × List ℕ → Outcome
+played module_name m log = and_then (begun_of module_name m log.0.process log.0.count) (λ begun. Ok (replay_work begun log.0 log.1))
+
 -- THE COMMANDS, each with its refusals in their order
 abbrev pub replay_outcome : List ℕ → List ℕ → Store → Outcome
-replay_outcome module_name log_name store =
-    and_then (module_of store module_name) (λ m.
-    and_then (log_of store log_name) (λ log.
-    and_then (begun_of module_name m log.0.process log.0.count) (λ begun.
-    Ok (replay_work begun log.0 log.1))))
-
--- the same, once the module and the log's head are there
-abbrev pub played : List ℕ → List ℕ → Module → Head × List ℕ → Outcome
-played module_name log_name m log =
-    and_then (built_or log_name log) (λ log.
-    and_then (begun_of module_name m log.0.process log.0.count) (λ begun.
-    Ok (replay_work begun log.0 log.1)))
+replay_outcome module_name log_name store = and_then (module_of store module_name) (λ m. and_then (log_of store log_name) (played module_name m))
 
 -- the schedule of a schedule file
 abbrev pub schedule_or : List ℕ → Result Schedule Refusal → Result Schedule Stop

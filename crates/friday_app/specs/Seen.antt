@@ -19,7 +19,6 @@ use Rattle.friday_app.specs.declared.refusal.Refusal.TheVariants as refusal
 use Rattle.friday_app.specs.Call.{Names}
 use Rattle.friday_app.specs.Command.{Command, Record, Replay}
 use Rattle.call_log.specs.Head.{Head}
-use Rattle.call_log.specs.Log.{stops_at_unbuilt}
 use Rattle.guest_process.specs.Replay.{Verdict, Whole, Left, Diverged, accepted, verdict}
 use Rattle.guest_process.specs.State.{State}
 use Rattle.friday_app.specs.Expected.{module_name, modules_of, schedule_in}
@@ -51,12 +50,6 @@ IsWork (answered.Diverged text) work = (text ≡ work.text) × (work.diverged �
 -- what is printed at the end of the work of this outcome
 abbrev pub Works : Outcome → Answer → Type 0
 Works outcome answer = (work : Work) × ((outcome ≡ Ok work) × IsWork answer work)
-
--- want of memory, or the refusal of this log file, whose bytes behind all entries go on with a kind that is
--- not built
-abbrev pub IsUnbuilt : List ℕ → List ℕ → Refusal → Type 0
-IsUnbuilt name rest refusal.NoMemory = Unit {0}
-IsUnbuilt name rest other = (stops_at_unbuilt rest ≡ true) × Names name reason.LogNotBuilt other
 
 -- the schedule of a schedule file, and the modules of its processes
 pub record Gathers (store : Store) (schedule_name : List ℕ) (schedule : Schedule) (modules : List Module) : Type 0 where

@@ -1,5 +1,5 @@
 -- Words and files at which a command does its work.
-use Rattle.std.specs.Prelude.{◌≡◌, ℕ, suc, ◌≤◌, List, [], ◌∷◌, ◌++◌, length, Option, Some, None, Ok, false}
+use Rattle.std.specs.Prelude.{◌≡◌, ℕ, suc, ◌≤◌, List, [], ◌∷◌, ◌++◌, length, Option, Some, None, Ok}
 use Rattle.std.specs.FinMap.{get}
 use Rattle.fri_outside.specs.Outside.{Store}
 use Rattle.wasm_types.specs.Modules.{Module}
@@ -8,9 +8,7 @@ use Rattle.wasm_decode.specs.Grammar.{Spells as IsSpelled}
 use Rattle.schedule_text.specs.Limits.{most_runs}
 use Rattle.schedule_text.specs.Grammar.{Spells}
 use Rattle.schedule_text.specs.Schedule.{Schedule, run_count}
-use Rattle.lib_calls.specs.declared.entry.Entry.{Entry}
 use Rattle.call_log.specs.Head.{Head, IsHead, head_bytes}
-use Rattle.call_log.specs.Log.{Holds, stops_at_unbuilt}
 use Rattle.guest_process.specs.Start.{start}
 use Rattle.guest_process.specs.State.{State}
 use Rattle.call_log.specs.Limits.{most_log}
@@ -39,16 +37,12 @@ pub record IsModuleFile (store : Store) (name : List ℕ) : Type 0 where
 abbrev pub Begins : Module → ℕ → ℕ → Type 0
 Begins m who count = (begun : State) × (start m who count ≡ Some begun)
 
--- a file is a log, in which no entry of a kind that is not built follows the entries
+-- a file is a log, whatever is behind its head
 pub record IsLogFile (store : Store) (name : List ℕ) : Type 0 where
   pub head : Head
   pub in_range : IsHead head
   pub left : List ℕ
   pub stands : Stands store name most_log (head_bytes head ++ left)
-  pub entries : List Entry
-  pub rest : List ℕ
-  pub holds : Holds left entries rest
-  pub built : stops_at_unbuilt rest ≡ false
 
 -- a file spells this schedule, of which the tries are not too many
 pub record IsScheduleFile (store : Store) (name : List ℕ) (schedule : Schedule) : Type 0 where

@@ -36,7 +36,6 @@ fn push_reason(text: &mut Text, reason: Reason) -> Result<(), AllocError>
         Reason::NoStart => text.push_str("6 NoStart"),
         Reason::BadSegment => text.push_str("7 BadSegment"),
         Reason::BadHead => text.push_str("1 BadHead"),
-        Reason::LogNotBuilt => text.push_str("5 NotBuilt"),
     }
 }
 

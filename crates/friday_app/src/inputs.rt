@@ -1,5 +1,5 @@
 // Reads the files that a command asks for.
-ghost use Rattle.std.specs.Prelude.{◌≡◌, ◌<◌, ◌≤◌, All, false, length, map, vec_len, Ok, Some, IfOk, IfErr, MatchResult};
+ghost use Rattle.std.specs.Prelude.{◌≡◌, ◌<◌, ◌≤◌, All, length, map, vec_len, Ok, IfOk, IfErr, MatchResult};
 ghost use Rattle.fri_outside.specs.Outside.{WhenTold, Counts, NoneFell};
 ghost use Rattle.wasm_types.specs.Modules.{module_of as shown};
 ghost use Rattle.wasm_decode.specs.Sections.{module_of_bytes};
@@ -7,14 +7,13 @@ ghost use Rattle.call_log.specs.Limits.{most_log};
 ghost use Rattle.friday_app.specs.Outcome.{and_then, file_of};
 ghost use Rattle.schedule_text.specs.Schedule.{IsProcess, IsSchedule};
 ghost use Rattle.call_log.specs.Head.{IsHead};
-ghost use Rattle.call_log.specs.Log.{head_at, rest_of, stops_at_unbuilt as stops_at_unbuilt_of};
+ghost use Rattle.call_log.specs.Log.{head_at};
 ghost use Rattle.guest_process.specs.EventCount.{IsFresh};
 ghost use Rattle.friday_app.specs.Expected.{spelled_or, valid_or, module_of, modules_of, begun_of, schedule_in, head_or};
 ghost use Rattle.friday_app.specs.Call.{StopsAs, Raises};
-ghost use Rattle.friday_app.specs.Seen.{IsUnbuilt};
 
 use crate::refusal::{Reason, Refusal};
-use call_log::{LogView, stops_at_unbuilt};
+use call_log::LogView;
 use fri_outside::{FileError, Files};
 use guest_process::{Process, counting};
 use schedule_text::{ProcessLine, Schedule, ScheduleError, read_schedule};
@@ -211,33 +210,11 @@ pub fn take_log<F: Files>(alloc: Global, name: &str, files: &mut F) -> Result<Ve
     take_file(alloc, name, LOG_LIMIT, files)
 }
 
-// What is left behind the entries.
-fn rest_behind<'b>(mut log: LogView<'b>) -> &'b [u8]
-    ensures { result.now ≡ rest_of log.entry.left }
-{
-    while let Some(_) = log.next_entry() {}
-    log.rest()
-}
-
-/// Refuses a log file whose entries, of which some may have been read, go on with a kind that is not
-/// built.
-pub fn read_on(alloc: Global, name: &str, log: LogView<'_>) -> Result<(), Refusal>
-    ensures answer { MatchResult result
-        (λ _. stops_at_unbuilt_of (rest_of log.entry.left) ≡ false)
-        (λ e. IsUnbuilt name.now (rest_of log.entry.left) e) }
-    ensures cause { (old new : Counts) → IfErr result (Raises old new) }
-{
-    if stops_at_unbuilt(rest_behind(log)) {
-        return Err(Refusal::refuse(alloc, name, Reason::LogNotBuilt));
-    }
-    Ok(())
-}
-
 /// The log whose head the bytes of a file begin with.
 pub fn begin_log<'b>(alloc: Global, name: &str, bytes: &'b [u8]) -> Result<LogView<'b>, Refusal>
     ensures head { IfOk result (λ log. IsHead log.head) }
     ensures answer { MatchResult result
-        (λ log. head_at bytes.now ≡ Some (log.head, log.left))
+        (λ log. head_or name.now (head_at bytes.now) ≡ Ok (log.head, log.left))
         (StopsAs (head_or name.now (head_at bytes.now))) }
     ensures cause { (old new : Counts) → IfErr result (Raises old new) }
 {

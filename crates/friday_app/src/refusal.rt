@@ -21,7 +21,6 @@ pub enum Reason {
     NoStart,
     BadSegment,
     BadHead,
-    LogNotBuilt,
 }
 
 /// What a command prints at the end of its work, at which a log may have diverged.

@@ -7,7 +7,7 @@ ghost use Rattle.friday_app.specs.Expected.{played, replay_outcome};
 ghost use Rattle.friday_app.specs.Call.{StopsAs, Tells, Raises};
 ghost use Rattle.friday_app.specs.Seen.{Works};
 
-use crate::inputs::{begin_log, begin_process, read_on, take_log, take_module};
+use crate::inputs::{begin_log, begin_process, take_log, take_module};
 use crate::refusal::{Answer, Refusal};
 use crate::report::report;
 use call_log::LogView;
@@ -15,29 +15,23 @@ use fri_outside::Files;
 use std::alloc::Global;
 use wasm_types::ValidModule;
 
-// Replays the log of a module. Where no process begins, a log that goes on with a kind that is not built
-// is refused first.
+// Replays the log of a module.
 fn play(
     alloc: Global,
     module_file: &str,
-    log_file: &str,
     guest: &ValidModule,
     log: LogView<'_>,
 ) -> Result<Answer, Refusal>
     requires { IsHead log.head }
     ensures answer { MatchResult result
-        (Works (played module_file.now log_file.now (shown guest.now) (log.entry.head, log.entry.left)))
-        (StopsAs (played module_file.now log_file.now (shown guest.now) (log.entry.head, log.entry.left))) }
+        (Works (played module_file.now (shown guest.now) (log.entry.head, log.entry.left)))
+        (StopsAs (played module_file.now (shown guest.now) (log.entry.head, log.entry.left))) }
     ensures cause { (old new : Counts) → IfErr result (Raises old new) }
 {
     let head = log.head();
-    match begin_process(alloc, module_file, guest, head.process, head.count) {
-        Ok(begun) => report(alloc, log_file, begun, log),
-        Err(refusal) => {
-            read_on(alloc, log_file, log)?;
-            Err(refusal)
-        }
-    }
+    let begun = begin_process(alloc, module_file, guest, head.process, head.count)?;
+    let answer = report(alloc, begun, log)?;
+    Ok(answer)
 }
 
 pub fn replay<F: Files>(
@@ -54,5 +48,5 @@ pub fn replay<F: Files>(
     let guest = take_module(alloc, module_file, files)?;
     let bytes = take_log(alloc, log_file, files)?;
     let log = begin_log(alloc, log_file, &bytes)?;
-    play(alloc, module_file, log_file, &guest, log)
+    play(alloc, module_file, &guest, log)
 }

@@ -56,15 +56,14 @@ fn ended(replayer: &Replayer<'_, '_>, verdict: Verdict, tally: &Tally) -> Replay
     }
 }
 
-/// Replays a log from the first state of its process, and gives the log where the replay ended.
-pub fn replay_log<'a>(
+/// Replays a log from the first state of its process.
+pub fn replay_log(
     alloc: Global,
     begun: Process<'_>,
-    log: LogView<'a>,
-) -> Result<(Replayed, LogView<'a>), AllocError>
+    log: LogView<'_>,
+) -> Result<Replayed, AllocError>
     requires { IsFresh log.head.process log.head.count begun }
-    ensures replays { IfOk result (λ r. Replays log.entry.head begun.entry (entries_of log.entry.left) (rest_of log.entry.left) r.0) }
-    ensures rest { IfOk result (λ r. rest_of r.1.left ≡ rest_of log.entry.left) }
+    ensures { IfOk result (Replays log.entry.head begun.entry (entries_of log.entry.left) (rest_of log.entry.left)) }
 {
     replays();
     rises();
@@ -82,13 +81,12 @@ pub fn replay_log<'a>(
                 replayer = next;
             }
             Turn::LogEnd => {
-                let behind = next.log();
-                let verdict = left_over(behind.rest());
-                return Ok((ended(&next, verdict, &tally), behind));
+                let verdict = left_over(next.log().rest());
+                return Ok(ended(&next, verdict, &tally));
             }
             Turn::Diverged(at, why) => {
                 let verdict = Verdict::Diverged(at, why);
-                return Ok((ended(&next, verdict, &tally), next.log()));
+                return Ok(ended(&next, verdict, &tally));
             }
         }
     }

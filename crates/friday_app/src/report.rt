@@ -1,14 +1,10 @@
 // The report of a replay.
-ghost use Rattle.std.specs.Prelude.{◌≡◌, ◌++◌, false, IfOk, IfErr, MatchResult, OnOk};
-ghost use Rattle.fri_outside.specs.Outside.{Counts};
-ghost use Rattle.call_log.specs.Log.{rest_of, stops_at_unbuilt};
+ghost use Rattle.std.specs.Prelude.{◌≡◌, ◌++◌, IfOk, OnOk};
 ghost use Rattle.guest_process.specs.EventCount.{IsFresh};
-ghost use Rattle.friday_app.specs.Call.{Raises};
 ghost use Rattle.friday_app.specs.Report.{count_text, group_text, line_text, printed, replay_work, verdict_text};
-ghost use Rattle.friday_app.specs.Seen.{IsUnbuilt, IsWork, verdict_of};
+ghost use Rattle.friday_app.specs.Seen.{IsWork, verdict_of};
 
-use crate::inputs::read_on;
-use crate::refusal::{Answer, Refusal};
+use crate::refusal::Answer;
 use crate::replayer::{Replayed, Verdict, replay_log};
 use crate::tally::GroupCounts;
 use crate::texts::{divergence_text, push_end};
@@ -83,22 +79,13 @@ fn print(alloc: Global, name: &[u8], replayed: Replayed) -> Result<Answer, Alloc
     })
 }
 
-/// Replays the log of a file, and prints what came of it.
-pub fn report(
-    alloc: Global,
-    log_file: &str,
-    begun: Process<'_>,
-    log: LogView<'_>,
-) -> Result<Answer, Refusal>
+/// Replays a log from the first state of its process, and prints what came of it.
+pub fn report(alloc: Global, begun: Process<'_>, log: LogView<'_>) -> Result<Answer, AllocError>
     requires { IsFresh log.head.process log.head.count begun }
-    ensures answer { MatchResult result
-        (λ answer. (stops_at_unbuilt (rest_of log.entry.left) ≡ false) × IsWork answer (replay_work begun.entry log.entry.head log.entry.left))
-        (λ e. IsUnbuilt log_file.now (rest_of log.entry.left) e) }
-    ensures cause { (old new : Counts) → IfErr result (Raises old new) }
+    ensures { IfOk result (λ answer. IsWork answer (replay_work begun.entry log.entry.head log.entry.left)) }
 {
     let head = log.head();
-    let (replayed, behind) = replay_log(alloc, begun, log)?;
-    read_on(alloc, log_file, behind)?;
+    let replayed = replay_log(alloc, begun, log)?;
     let answer = print(alloc, head.name, replayed)?;
     Ok(answer)
 }

@@ -1,4 +1,4 @@
-"""Guests: each operator, each way in which they end, and each call that is answered."""
+"""Guests: each operator, each way in which they end, and each call of a process of one thread."""
 
 import logs
 from common import begin, replays, summary
@@ -88,14 +88,19 @@ LOADS = {
 STORES = {1: ("i32.store8", "i64.store8"), 2: ("i32.store16", "i64.store16"), 4: ("i32.store", "i64.store32"), 8: ("i64.store",)}
 
 
+def told_by(script, name):
+    """A guest of one thread, whose comments tell its events and its end."""
+    guest = Guest(name)
+    count = len(guest.events) + 1
+    begin(script, "guest " + name, digits(guest.module), "run 0 0 %d\n" % (count + 1))
+    script.run("record s", "Done", *summary(count, guest.end, count, 1))
+    script.show("a.log", logs.log(guest.events))
+    replays(script, count, guest.end)
+
+
 def told(script):
     for name in TOLD:
-        guest = Guest(name)
-        count = len(guest.events) + 1
-        begin(script, "guest " + name, digits(guest.module), "run 0 0 %d\n" % (count + 1))
-        script.run("record s", "Done", *summary(count, guest.end, count, 1))
-        script.show("a.log", logs.log(guest.events))
-        replays(script, count, guest.end)
+        told_by(script, name)
 
 
 def one_burst(script, name, declared, body, end):
@@ -145,17 +150,6 @@ def later_ends(script):
     replays(script, 2, "trapped unreachable", "diverged at 3: 1 AfterEnd")
 
 
-def unbuilt(script):
-    """A thread stays at a call that is not answered yet."""
-    declared = '(import "liblog" "lock" (func $lock (param i32) (result i32)))'
-    begin(script, "a call that is not answered", digits(start(dropped("call $lock (i32.const 0)"), declared)), "run 0 0 5\n")
-    script.run("record s", "Done", *summary(1, "running", 1, 4))
-    script.show("a.log", logs.log([]))
-    replays(script, 1, "running")
-    script.add("a.log", digits(logs.entry(2, "yield")))
-    replays(script, 1, "running", "diverged at 2: 3 OtherCall")
-
-
 def many_events(script):
     """A process of 10,001 events; its log is replayed whole, cut in its last entry, and changed there."""
     events = ["note %d" % (at + 1) for at in range(10000)]
@@ -175,5 +169,5 @@ def many_events(script):
 
 def table(script):
     script.title("Guests")
-    for part in (told, ends, past_memory, exits, later_ends, unbuilt, many_events):
+    for part in (told, ends, past_memory, exits, later_ends, many_events):
         part(script)

@@ -15,10 +15,17 @@ KINDS = {
     "send": (8, 3),
     "recv": (9, 3),
     "try_recv": (10, 3),
+    "spawn": (11, 2),
     "yield": (12, 0),
+    "join": (13, 1),
+    "lock": (14, 1),
+    "unlock": (15, 1),
+    "on_signal": (16, 2),
     "thread": (17, 0),
 }
 BYTES_OUT, BYTES_IN, TAGGED = ("print", "send"), ("random", "recv", "try_recv"), ("recv", "try_recv")
+# The calls whose argument or reply has 64 bits. The numbers of the others are kept with zeros above their 32.
+WIDE = ("note", "now", "sleep_until")
 
 
 def head(name=b"a", version=1, count=1, process=0, mark=b"LLOG"):
@@ -48,12 +55,15 @@ def entry(clock, call, arguments=(), reply=0, thread=0, signal=0, data=b"", tag=
 
 
 def event(written):
-    """An event as `call ARGUMENTS = REPLY`, where a reply of 0 may be left out."""
-    front, _, reply = written.partition("=")
+    """An event as `THREAD: call ARGUMENTS = REPLY ! SIGNAL`, where thread 0, a reply of 0 and no signal may be left
+    out."""
+    front, _, signal = written.partition("!")
+    front, _, reply = front.partition("=")
+    thread, _, front = front.rpartition(":")
     call, *arguments = front.split()
-    # The argument of `exit` is a number of 32 bits, which is kept with zeros above.
-    bound = 2**32 if call == "exit" else 2**64
-    return call, [int(word, 0) % bound for word in arguments], int(reply.strip() or "0", 0)
+    bound = 2**64 if call in WIDE else 2**32
+    numbers = [int(word, 0) % bound for word in (*arguments, reply.strip() or "0")]
+    return call, numbers[:-1], numbers[-1], int(thread or "0"), int(signal.strip() or "0")
 
 
 def entries(events, first=1):

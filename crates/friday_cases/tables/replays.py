@@ -30,15 +30,13 @@ def cut_to(size):
 
 
 def turned_field(events, offset):
-    """What comes of another byte in an entry's length, clock, thread, kind or signal."""
-    if offset < 4:
+    """What comes of another byte in an entry's length, clock, thread, kind or signal. No kind has all bits turned."""
+    if offset < 4 or offset == 14:
         return "Done", *report(events, "running", "%d bytes left over" % (80, 56, 32)[events])
     if offset < 12:
         return diverged(events, events + 1, "8 OtherClock")
     if offset < 14:
         return diverged(events, events + 1, "2 NoThread")
-    if offset == 14:
-        return refused("a.log", "5 NotBuilt")
     return diverged(events, events + 1, "7 NoHandler")
 
 
@@ -160,26 +158,31 @@ def groups(script):
 
 
 def shapes(script):
-    """What no whole entry begins is left over, and a kind that is not built is told."""
-    whole = logs.log(ASKED[:1])
-    for name, rest, answer in (
-        ("a length that is too small", b"\x13\0\0\0" + logs.entry(3, "thread")[4:], "left"),
-        ("a length that is too great", b"\x15\0\0\0" + logs.entry(3, "thread")[4:] + b"\0", "left"),
-        ("the greatest length", b"\xff\xff\xff\xff" + logs.entry(3, "thread")[4:], "left"),
-        ("an argument too few", b"\x14\0\0\0" + logs.entry(3, "sleep_until", [1])[4:24], "left"),
-        ("an argument too many", b"\x1c\0\0\0" + logs.entry(3, "thread")[4:] + bytes(8), "left"),
-        ("fourteen bytes", logs.entry(3, "thread")[:14], "left"),
-        ("a kind that is not built", logs.entry(3, "thread")[:14] + b"\x12", "kind"),
-        ("kind 13, which is not built, behind a bad length", bytes(14) + b"\x0d", "kind"),
-        ("kind 255", bytes(14) + b"\xff" + bytes(40), "kind"),
-        ("kind 16 behind a whole entry", logs.entry(3, "thread") + bytes(14) + b"\x10", "kind"),
+    """What no whole entry begins is left over."""
+    whole, last = logs.log(ASKED[:1]), logs.entry(3, "thread")
+    for name, rest in (
+        ("a length that is too small", b"\x13\0\0\0" + last[4:]),
+        ("a length that is too great", b"\x15\0\0\0" + last[4:] + b"\0"),
+        ("the greatest length", b"\xff\xff\xff\xff" + last[4:]),
+        ("an argument too few", b"\x14\0\0\0" + logs.entry(3, "sleep_until", [1])[4:24]),
+        ("an argument too many", b"\x1c\0\0\0" + last[4:] + bytes(8)),
+        ("an argument too few of spawn", b"\x1c\0\0\0" + logs.entry(3, "spawn", [0, 7])[4:32]),
+        ("bytes that lock has not", b"\x20\0\0\0" + logs.entry(3, "lock", [1])[4:] + bytes(4)),
+        ("fourteen bytes", last[:14]),
+        ("fifteen bytes, the last of which is no kind", last[:14] + b"\x12"),
+        ("a bad length, and kind 13 behind it", bytes(14) + b"\x0d"),
+        ("kind 18, and all that an entry of no arguments has", last[:14] + b"\x12" + last[15:]),
+        ("kind 255, and all that an entry of no arguments has", last[:14] + b"\xff" + last[15:]),
     ):
         begin(script, "that goes on with " + name)
         script.file("a.log", digits(whole + rest))
-        if answer == "left":
-            replays(script, 2, "running", "%d bytes left over" % len(rest))
-        else:
-            script.run("replay a.wasm a.log", *refused("a.log", "5 NotBuilt"))
+        replays(script, 2, "running", "%d bytes left over" % len(rest))
+        # What is behind it is of no account, though it be a whole entry.
+        script.add("a.log", digits(last))
+        replays(script, 2, "running", "%d bytes left over" % len(rest + last))
+    begin(script, "that goes on with a whole entry, and no kind behind it")
+    script.file("a.log", digits(whole + last + bytes(14) + b"\x12"))
+    replays(script, 3, "running", "15 bytes left over")
 
 
 def order(script):
@@ -195,6 +198,10 @@ def order(script):
     script.run("replay far bad", *refused("bad", "1 BadHead"))
     script.run("replay far x", "Absent", "friday: absent x")
     script.run("replay far a.log", *refused("far", "7 BadSegment"))
+    # Entries are read once a process has begun, and not before.
+    script.add("a.log", digits(bytes(14) + b"\x12"))
+    script.run("replay far a.log", *refused("far", "7 BadSegment"))
+    script.run("replay least a.log", "Done", *report(1, "finished", "15 bytes left over"))
 
 
 def table(script):

@@ -142,6 +142,12 @@ BAD_ITEMS = (
     "random 0 x",
     "random 0",
     "random 1 00",
+    "signal 0 0",
+    "signal 0 32",
+    "signal 0 -1",
+    "signal 0 1 1",
+    "signal 0",
+    "signal 1 1",
 )
 
 

@@ -2,7 +2,7 @@
 ghost use Rattle.std.specs.Prelude.{◌^◌, ◌<◌, length};
 ghost use Rattle.lib_calls.specs.Entry.{IsShaped, entry_of};
 
-use call_log::{LogView, entry_length, put_entry, put_head, stops_at_unbuilt};
+use call_log::{LogView, entry_length, put_entry, put_head};
 use lamport_tag::Tag;
 use lib_calls::{Call, EntryView};
 use std::alloc::{AllocError, Global};
@@ -37,8 +37,10 @@ const SENT: &[u8] = b"\x34\0\0\0\x07\0\0\0\0\0\0\0\x02\0\x08\x05\
     \x01\0\0\0\0\0\0\0\x40\0\0\0\0\0\0\0\x04\0\0\0\0\0\0\0\0\0\0\0\0\0\0\0\
     \x04\0\0\0ping";
 
-// The front of the entry of a spawn.
-const SPAWNED: &[u8] = b"\x2c\0\0\0\x07\0\0\0\0\0\0\0\x02\0\x0b\0";
+// The log of a process that began, and behind it what would be the entry of a `yield` but for its kind, which is 18.
+const NO_KIND: &[u8; 66] = b"LLOG\x01\0\0\0\x01\0\0\0\0\0\0\0\x01a\
+      \x14\0\0\0\x01\0\0\0\0\0\0\0\0\0\0\0\0\0\0\0\0\0\0\0\
+      \x14\0\0\0\x02\0\0\0\0\0\0\0\0\0\x12\0\0\0\0\0\0\0\0\0";
 
 // The entry of a recv that took these bytes.
 #[tactic(auto, unfolding(lib_calls::specs::Kinds::argument_count, lib_calls::specs::Kinds::has_incoming, lib_calls::specs::Kinds::has_outgoing, lib_calls::specs::Kinds::has_tag, call_table::specs::Table::kind_numbered))]
@@ -106,9 +108,6 @@ fn entries_with_bytes_and_tags_are_written(rt: HostRuntime) -> Result<(), Fail> 
     assert!(rt; is_written(alloc, &received(b"hi", TAG), TAGGED)?);
     assert!(rt; is_written(alloc, &received(b"", None), UNTAGGED)?);
     assert!(rt; is_written(alloc, &sent(b"ping"), SENT)?);
-    // Entries of a kind that is not answered yet are not read.
-    assert!(rt; !stops_at_unbuilt(TAGGED));
-    assert!(rt; stops_at_unbuilt(SPAWNED));
     Ok(())
 }
 
@@ -130,5 +129,14 @@ fn a_log_is_read_and_written(rt: HostRuntime) -> Result<(), Fail> {
     assert!(rt; log.next_entry().is_none());
     assert_eq!(rt; log.rest().len(), 0);
     assert_eq!(rt; start.rest().len(), 80);
+    Ok(())
+}
+
+#[test]
+fn a_kind_above_17_ends_the_entries(rt: HostRuntime) -> Result<(), Fail> {
+    let mut log = LogView::begin(NO_KIND)?;
+    assert!(rt; log.next_entry().is_some());
+    assert!(rt; log.next_entry().is_none());
+    assert_eq!(rt; log.rest().len(), 24);
     Ok(())
 }

@@ -33,22 +33,22 @@ add-requires-clause-room c =
     let is = rw c.in-Event.is at c.in_ok-next.ensures.turn in
     has_room c.replays.ensures.turn _ _ _ _ _ (entry_of c.in-Event.entry) c.turns.invariant (sym is) (rw (← c.left.ensures) c.left.type_inv)
 
-pub returns-in-LogEnd-clause-replays : goal.returns-in-LogEnd-clause-replays
-returns-in-LogEnd-clause-replays c =
+pub returns-in-LogEnd : goal.returns-in-LogEnd
+returns-in-LogEnd c =
     let r = c.turns.replayer in
     let moves = c.in_ok-next.ensures.after in
     let is = rw c.in-LogEnd.is at c.in_ok-next.ensures.turn in
     let tells : Tells (turn r) r.left (left_over r.left) = subst (λ t. Tells t r.left (left_over r.left)) is refl in
     let here = stays_so c.replays.ensures.turn r c.in_ok-next.next (left_over r.left) moves tells in
-    let left = c.rest.ensures ∙ ap (λ (log : Log). log.left) c.log-behind.ensures ∙ ap (λ (s : Replaying). s.left) here in
+    let left = c.rest.ensures ∙ ap (λ (log : Log). log.left) c.log.ensures ∙ ap (λ (s : Replaying). s.left) here in
     ends_so c.replays.ensures.turn c.args.log.head c.args.begun (entries_of c.args.log.left) (rest_of c.args.log.left) r c.in_ok-next.next (left_over r.left) c.ended.result
     c.requires.events (c.turns.invariant.same ∙ ap outcome c.begin-replayer.ensures) moves tells
     c.ended.ensures.accepted c.ended.ensures.end (c.ended.ensures.verdict ∙ c.left_over-verdict.ensures ∙ ap left_over left)
     (c.ended.ensures.counts ∙ told c.replays.ensures.turn _ _ _ _ _ _ c.turns.invariant tells
     ∙ same_tally c.head-head.result c.args.log.head c.begin-replayer.result c.args.begun c.args.log.left c.head-head.ensures c.begin-replayer.ensures)
 
-pub returns-in-Diverged-clause-replays : goal.returns-in-Diverged-clause-replays
-returns-in-Diverged-clause-replays c =
+pub returns-in-Diverged : goal.returns-in-Diverged
+returns-in-Diverged c =
     let r = c.turns.replayer in
     let v = Diverged c.in-Diverged.at c.in-Diverged.why in
     let is = rw c.in-Diverged.is at c.in_ok-next.ensures.turn in
@@ -58,13 +58,3 @@ returns-in-Diverged-clause-replays c =
     c.ended-in-Diverged.ensures.accepted c.ended-in-Diverged.ensures.end c.ended-in-Diverged.ensures.verdict
     (c.ended-in-Diverged.ensures.counts ∙ told c.replays.ensures.turn _ _ _ _ _ _ c.turns.invariant tells
     ∙ same_tally c.head-head.result c.args.log.head c.begin-replayer.result c.args.begun c.args.log.left c.head-head.ensures c.begin-replayer.ensures)
-
-pub returns-in-LogEnd-clause-rest : goal.returns-in-LogEnd-clause-rest
-returns-in-LogEnd-clause-rest c =
-    let same = ap outcome c.in_ok-next.ensures.after ∙ (c.replays.ensures.turn c.turns.replayer).same ∙ c.turns.invariant.same ∙ ap outcome c.begin-replayer.ensures in
-    ap (λ (log : Log). rest_of log.left) c.log-behind.ensures ∙ ap (λ (o : Outcome). o.rest) same
-
-pub returns-in-Diverged-clause-rest : goal.returns-in-Diverged-clause-rest
-returns-in-Diverged-clause-rest c =
-    let same = ap outcome c.in_ok-next.ensures.after ∙ (c.replays.ensures.turn c.turns.replayer).same ∙ c.turns.invariant.same ∙ ap outcome c.begin-replayer.ensures in
-    ap (λ (log : Log). rest_of log.left) c.log.ensures ∙ ap (λ (o : Outcome). o.rest) same
