@@ -70,13 +70,16 @@ def writes(folder):
         return None
     words = ["strace", "-c", "-e", "trace=write,openat,open", program, "record", "s"]
     told = subprocess.run(words, cwd=folder, stdout=subprocess.DEVNULL, stderr=subprocess.PIPE, text=True).stderr
-    return sum(int(m.group(1)) for m in re.finditer(r"(\d+)(?: +\d+)? +write$", told, re.M))
+    return sum(int(line.split()[3]) for line in told.splitlines() if line.endswith(" write"))
 
 
 def run(folder, write, size, counted):
     with open(os.path.join(folder, "s"), "w") as file:
         file.write("friday 1\n")
         write(file, size)
+    for name in os.listdir(folder):
+        if name.endswith(".log"):
+            os.remove(os.path.join(folder, name))
     start = time.perf_counter()
     child = subprocess.Popen([program, "record", "s"], cwd=folder, stdout=subprocess.PIPE, text=True)
     told = child.stdout.read()
@@ -84,13 +87,14 @@ def run(folder, write, size, counted):
     spent = time.perf_counter() - start
     assert os.waitstatus_to_exitcode(status) == 0, (status, told)
     events = sum(int(n) for n in re.findall(r": (\d+) events", told))
+    acted = int(re.search(r"items: (\d+) acted", told).group(1))
     logs = sum(os.path.getsize(os.path.join(folder, f)) for f in os.listdir(folder) if f.endswith(".log"))
-    return events, spent, usage.ru_maxrss * 1024, logs, instructions(folder) if counted else None, writes(folder) if counted else None
+    return events, acted, spent, usage.ru_maxrss * 1024, logs, instructions(folder) if counted else None, writes(folder) if counted else None
 
 
 def tell(name, size, told):
-    events, spent, peak, logs, counted, written = told
-    each = "" if counted is None else ", %.0f instructions" % (counted / events)
+    events, acted, spent, peak, logs, counted, written = told
+    each = "" if counted is None else ", %.0f instructions (%.0f for each step)" % (counted / events, counted / acted)
     calls = "" if written is None else ", %.3f writes" % (written / events)
     print("%s %d: %d events, for each %.0f ns%s%s; logs %d bytes, peak %.1f MB" % (name, size, events, spent / events * 1e9, each, calls, logs, peak / 1e6))
 
@@ -103,5 +107,5 @@ with tempfile.TemporaryDirectory() as folder:
     for events in (10_000, 100_000, 1_000_000):
         tell("ring", events, run(folder, write_ring, events, events <= 100_000))
     for waiting in (100, 10_000, 100_000):
-        tell("waiting", waiting, run(folder, write_taker, waiting, False))
+        tell("waiting", waiting, run(folder, write_taker, waiting, True))
 PYTHON

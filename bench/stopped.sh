@@ -9,7 +9,7 @@ exec python3 - "$program" "${2:-200}" <<'PYTHON'
 import os, random, re, signal, struct, subprocess, sys, tempfile, time
 
 program, TIMES = os.path.abspath(sys.argv[1]), int(sys.argv[2])
-COUNT, ROUNDS = 4, 3000
+COUNT, ROUNDS = 4, 10_000
 SEND, RECV = 8, 9
 
 RING = """(module
