@@ -1,0 +1,71 @@
+#!/bin/sh
+# Records each guest beside this script over many interleavings of its threads, replays its log, and compares what it
+# notes with what the same C notes where it runs by itself, without threads.
+# Usage: check.sh [PROGRAM]   (the program that ./friday builds, if none is given)
+here=$(CDPATH='' cd -- "$(dirname -- "$0")" && pwd) || exit 1
+program=${1:-$here/../../crates/friday/out/friday}
+exec python3 - "$program" "$here" <<'PYTHON'
+import os, random, shutil, struct, subprocess, sys, tempfile
+
+program, here = os.path.abspath(sys.argv[1]), sys.argv[2]
+ARGUMENTS = {0: 0, 1: 1, 2: 1, 11: 2, 12: 0, 13: 1, 14: 1, 15: 1, 16: 2}
+HANDLED = 7
+
+
+def run(words, folder):
+    return subprocess.run(words, cwd=folder, stdout=subprocess.PIPE, text=True, check=True).stdout
+
+
+def native(guest, folder):
+    words = [os.environ.get("CC", "clang"), "-std=c11", "-O1", "-D_start=guest_start", "-I", "../guests", "-o", os.path.join(folder, "native")]
+    run(words + [guest + ".c", "../guests/liblog.c"], here)
+    return run([os.path.join(folder, "native")], folder).splitlines()
+
+
+# The notes of a log, and how many signals were delivered in it.
+def notes_of(log):
+    at, lines, signals = 17 + log[16], [], 0
+    while at < len(log):
+        (size,) = struct.unpack_from("<I", log, at)
+        body = log[at + 4 : at + 4 + size]
+        kind, signal = body[10], body[11]
+        signals += signal != 0
+        if kind == 2:
+            lines.append("note %d" % struct.unpack_from("<q", body, 12))
+        at += 4 + size
+    return lines, signals
+
+
+# Tries of the threads in some order, and the signals in between; at the end enough tries of each in turn.
+def schedule_of(guest, chance):
+    items = ["run 0 0"]
+    if guest == "handler":
+        items = ["run 0 0 2"] + [item for _ in range(HANDLED) for item in ("signal 0 5", "run 0 0 %d" % chance.randint(1, 2))] + ["run 0 0 40"]
+    else:
+        threads = 3 if guest == "queue" else 64
+        items += ["run 0 %d" % chance.randrange(threads) for _ in range(400)]
+        items += ["run 0 %d 3" % thread for _ in range(400) for thread in range(threads)] if guest == "queue" else ["run 0 0 80"] + ["run 0 %d 2" % thread for thread in range(64)] + ["run 0 0 200"]
+    return "friday 1\nprocess %s %s.wasm\n%s\n" % (guest, guest, "\n".join(items))
+
+
+def check(guest, folder, times):
+    shutil.copy(os.path.join(here, guest + ".wasm"), folder)
+    alone = native(guest, folder)
+    for seed in range(times):
+        with open(os.path.join(folder, "schedule"), "w") as file:
+            file.write(schedule_of(guest, random.Random(seed)))
+        recorded = run([program, "record", "schedule"], folder)
+        assert ", finished\n" in recorded, recorded
+        with open(os.path.join(folder, guest + ".log"), "rb") as file:
+            lines, signals = notes_of(file.read())
+        assert lines == alone, (guest, seed, lines, alone)
+        assert signals == (HANDLED if guest == "handler" else 0), (guest, signals)
+        replayed = run([program, "replay", guest + ".wasm", guest + ".log"], folder)
+        assert ", finished, log whole\n" in replayed, replayed
+    print("%s: %d interleavings, %s as by itself" % (guest, times, ", ".join(alone)))
+
+
+with tempfile.TemporaryDirectory() as folder:
+    for guest in ("queue", "handler", "many"):
+        check(guest, folder, 20)
+PYTHON
