@@ -11,12 +11,11 @@ use Rattle.fri_text.specs.Name.{is_name}
 use Rattle.call_table.specs.Table.{kind_numbered}
 use Rattle.call_table.specs.declared.kind.Kind.{Kind}
 use Rattle.call_table.specs.declared.kind.Kind.TheVariants.{Begin, Exit, Note, Print, Now, SleepUntil, Random, Me, Send, Recv, TryRecv, Yield, Thread}
-use Rattle.lib_calls.specs.Built.{is_built as is_answered}
 use Rattle.lib_calls.specs.declared.entry.Call.{Call}
 use Rattle.lib_calls.specs.declared.entry.Entry.{Entry}
-use Rattle.call_log.specs.Entry.{IsLogged, body, encoding, encodings}
+use Rattle.lib_calls.specs.Entry.{IsShaped}
+use Rattle.call_log.specs.Entry.{body, encoding, encodings}
 use Rattle.call_log.specs.Head.{head_bytes}
-use Rattle.call_log.specs.Kind.{is_built}
 use Rattle.call_log.specs.Laws.{ExactLogs}
 use Rattle.call_log.specs.Limits.{most_log}
 use Rattle.guest_process.specs.declared.divergence.Divergence.{Divergence}
@@ -109,37 +108,11 @@ comes_in S env thread e comes = by_thread (thread_at S thread) refl (by_test _ (
   by_thread None there is = cc
   by_thread (Some w) there is = mapped w there _ refl is
 
--- the entries of a kind that is answered are read
-answered_kind : (k : Kind) (S : State) (t : ℕ) (c : Call) (env : Env) (given : Answered) → answered (need k S t c) (from_world k S c env) ≡ Some given → is_answered k ≡ true
-answered_kind Begin S t c env given is = refl
-answered_kind Exit S t c env given is = refl
-answered_kind Note S t c env given is = refl
-answered_kind Print S t c env given is = refl
-answered_kind Now S t c env given is = refl
-answered_kind SleepUntil S t c env given is = refl
-answered_kind Random S t c env given is = refl
-answered_kind Me S t c env given is = refl
-answered_kind Send S t c env given is = refl
-answered_kind Recv S t c env given is = refl
-answered_kind TryRecv S t c env given is = refl
-answered_kind Yield S t c env given is = refl
-answered_kind Thread S t c env given is = refl
-answered_kind _ S t c env given is = cc
-
 -- the thread's call is one of its kind
 pub is_of_kind : (S : State) (env : Env) (thread : ℕ) (e : Event) → StateFits S → (in_it : ComesIn S env thread e) → kind_numbered e.entry.call.kind ≡ Some in_it.waiting.kind
 is_of_kind S env thread e fits in_it =
     let w : WaitingFits in_it.waiting = live_has WaitingFits S.crew.threads thread fits.threads in_it.waiting in_it.there in
     ap (λ (e : Event). kind_numbered e.entry.call.kind) in_it.is ∙ w.kind
-
-built_by : (e : Event) (k : Kind) → kind_numbered e.entry.call.kind ≡ Some k → is_answered k ≡ true → is_built e.entry.call.kind ≡ true
-unfolding is_built
-built_by e k of_kind answers = ap (λ (o : Option Kind). option_map_or is_answered o false) of_kind ∙ answers
-
-built : (S : State) (env : Env) (thread : ℕ) (e : Event) → StateFits S → ComesIn S env thread e → is_built e.entry.call.kind ≡ true
-built S env thread e fits in_it =
-    built_by e in_it.waiting.kind (is_of_kind S env thread e fits in_it)
-    (answered_kind in_it.waiting.kind S thread in_it.waiting.call env in_it.given in_it.answer)
 
 -- ---- what is kept of each process
 
@@ -153,7 +126,7 @@ pub record Keeps (group : Group) (p : ℕ) (es : List Entry) (after : List State
   pub group_size : last.count ≡ size group
   pub events : last.events ≡ length es
   pub few : length es ≤ most_log
-  pub logged : All IsLogged es
+  pub logged : All IsShaped es
   pub all : accepted first es ≡ length es
   pub reached : replayed first es ≡ last
   pub same : replays first es ≡ after
@@ -172,7 +145,7 @@ pub record Laws : Type 0 where
 -- an event of the process that its entry tells
 record IsNext (S : State) (e : Event) (many : ℕ) : Type 0 where
   told : IsTold S e
-  logged : IsLogged e.entry
+  logged : IsShaped e.entry
   room : many + 1 ≤ most_log
 
 one_more : (laws : Laws) (group : Group) (p : ℕ) (es : List Entry) (after : List State) (now : Option State) (e : Event) (k : Keeps group p es after now)
@@ -190,7 +163,7 @@ one_more laws group p es after now e k h =
       group_size = sym (ap (λ (S : State). S.count) h.told.same) ∙ rise.count ∙ k.group_size;
       events = sym (ap (λ (S : State). S.events) h.told.same) ∙ rise.events ∙ ap (λ (n : ℕ). n + 1) k.events ∙ sym longer;
       few = omega (arith, longer, h.room);
-      logged = All-push IsLogged es e.entry k.logged h.logged;
+      logged = All-push IsShaped es e.entry k.logged h.logged;
       all = accepted-last k.first es e.entry k.all (ap (λ (S : State). reason S e.entry) k.reached ∙ h.told.legal);
       reached = replayed-last k.first es e.entry ∙ next_is;
       same = replays-last k.first es e.entry ∙ ap (λ (s : State). replays k.first es ++ s ∷ []) next_is ∙ ap (λ (xs : List State). xs ++ e.state ∷ []) k.same;
@@ -240,7 +213,7 @@ begin_keeps laws group begun p within =
       group_size = fresh.count;
       events = fresh.events;
       few = omega arith;
-      logged = All-nil IsLogged;
+      logged = All-nil IsShaped;
       all = refl;
       reached = refl;
       same = refl;
@@ -258,7 +231,7 @@ is_next laws group early p e run k had =
     let told : IsTold k.last e = laws.one k.last had.thread env k.fits few (record { time = time_fits group early run p }) e comes in
     record {
       told = told;
-      logged = record { shape = told.shape; built = built k.last env had.thread e k.fits (comes_in k.last env had.thread e comes) };
+      logged = told.shape;
       room = room_for group early p e.entry had.room;
     }
 

@@ -7,18 +7,15 @@ use Rattle.std.proofs.lemmas.Option.{same_Some}
 use Rattle.std.specs.Option.{option_map_or}
 use Rattle.call_table.specs.Table.{kind_numbered}
 use Rattle.call_table.specs.declared.kind.Kind.{Kind}
-use Rattle.call_table.specs.declared.kind.Kind.TheVariants.{Begin, Exit, Note, Print, Now, SleepUntil, Random, Me, Send, Recv, TryRecv, Yield, Thread}
+use Rattle.call_table.specs.declared.kind.Kind.TheVariants.{Begin, Exit, Note, Print, Now, SleepUntil, Random, Me, Send, Recv, TryRecv, Yield, Thread, Spawn, Join, Lock, Unlock, OnSignal}
 use Rattle.lamport_tag.specs.declared.Tag.{Tag}
 use Rattle.lamport_tag.specs.Tag.{clock_of, next_clock_of, read_datagram}
 use Rattle.lib_calls.specs.Answer.{Answer}
-use Rattle.lib_calls.specs.Built.{is_built as is_answered}
 use Rattle.lib_calls.specs.Effects.{is_good, minus_one, minus_two, outgoing_of}
 use Rattle.lib_calls.specs.Traffic.{draws_as, drawn, is_taken, takes_as}
 use Rattle.lib_calls.specs.declared.entry.Call.{Call}
 use Rattle.lib_calls.specs.declared.entry.Entry.{Entry}
 use Rattle.lib_calls.specs.Entry.{IsShaped}
-use Rattle.call_log.specs.Entry.{IsLogged}
-use Rattle.call_log.specs.Kind.{is_built}
 use Rattle.guest_process.specs.declared.need.Need.{Need as PlainNeed}
 use Rattle.guest_process.specs.declared.waiting.Waiting.{Waiting}
 use Rattle.guest_process.specs.Answers.{Need, Fixed, Blocked, World, is_due, need, replies}
@@ -60,6 +57,12 @@ asked_same : (S : State) (c : Call) (env : Env) (good : Bool) (found : Option An
 asked_same S c env true found h = h
 asked_same S c env false found h = refl
 
+-- where the world gives nothing
+own_same : (n : Need) (c : Call) (count : ℕ) (env : Env) → world_answer (kind_numbered c.kind) c count env ≡ None → option_map answer_in (answered n None) ≡ answer_by (plain n) c count env
+own_same (Fixed reply S) c count env none = refl
+own_same Blocked c count env none = refl
+own_same World c count env none = sym none
+
 -- what is answered is what the process and the world give
 answer_same : (k : Kind) (S : State) (t : ℕ) (c : Call) (env : Env) → kind_numbered c.kind ≡ Some k
     → option_map answer_in (answered (need k S t c) (from_world k S c env)) ≡ answer_by (plain (need k S t c)) c S.count env
@@ -76,24 +79,11 @@ answer_same Recv S t c env is = asked_same S c env (is_good c S.store.memory) (f
 answer_same TryRecv S t c env is = asked_same S c env (is_good c S.store.memory) (from_world TryRecv S c env) (rw is (ap Some (empty_same S c env.mailbox)))
 answer_same Yield S t c env is = refl
 answer_same Thread S t c env is = refl
-answer_same _ S t c env is = refl
-
--- entries of a kind that is answered are read
-answered_kind : (k : Kind) (S : State) (t : ℕ) (c : Call) (count : ℕ) (env : Env) (a : Answer) → answer_by (plain (need k S t c)) c count env ≡ Some a → is_answered k ≡ true
-answered_kind Begin S t c count env a h = refl
-answered_kind Exit S t c count env a h = refl
-answered_kind Note S t c count env a h = refl
-answered_kind Print S t c count env a h = refl
-answered_kind Now S t c count env a h = refl
-answered_kind SleepUntil S t c count env a h = refl
-answered_kind Random S t c count env a h = refl
-answered_kind Me S t c count env a h = refl
-answered_kind Send S t c count env a h = refl
-answered_kind Recv S t c count env a h = refl
-answered_kind TryRecv S t c count env a h = refl
-answered_kind Yield S t c count env a h = refl
-answered_kind Thread S t c count env a h = refl
-answered_kind _ S t c count env a h = cc
+answer_same Spawn S t c env is = own_same (need Spawn S t c) c S.count env (rw is refl)
+answer_same Join S t c env is = own_same (need Join S t c) c S.count env (rw is refl)
+answer_same Lock S t c env is = own_same (need Lock S t c) c S.count env (rw is refl)
+answer_same Unlock S t c env is = own_same (need Unlock S t c) c S.count env (rw is refl)
+answer_same OnSignal S t c env is = own_same (need OnSignal S t c) c S.count env (rw is refl)
 
 -- ---- what is taken is there
 
@@ -257,10 +247,6 @@ one_here S t env c asked a h is =
           ∙ ap (λ a. entry_with (next_clock_of S.clock a.tag) signal t c a (outgoing_of c S.store.memory)) (sym x.2),
     )
 
-built_kind : (k : Kind) (S : State) (t : ℕ) (c : Call) (count : ℕ) (env : Env) (a : Answer) → kind_numbered c.kind ≡ Some k → answer_by (plain (need k S t c)) c count env ≡ Some a → is_built c.kind ≡ true
-unfolding is_built
-built_kind k S t c count env a is given = ap (λ (o : Option Kind). option_map_or is_answered o false) is ∙ answered_kind k S t c count env a given
-
 taken_there : (k : Kind) (S : State) (t : ℕ) (c : Call) (env : Env) (a : Answer) (e : Entry) → kind_numbered c.kind ≡ Some k → answer_by (plain (need k S t c)) c S.count env ≡ Some a
     → e.call ≡ c → e.reply ≡ a.reply → is_taken e ≡ true → 1 ≤ length env.mailbox
 unfolding is_taken
@@ -295,10 +281,7 @@ entry_tells one_event rises S t env c asked a entry fit h is made =
       lives = e.1;
       same = same;
       told = told;
-      logged = record {
-        shape = subst IsShaped (sym same) told.shape;
-        built = ap (λ (c : Call). is_built c.kind) call ∙ built_kind at.waiting.kind S t c S.count env a at.kind given;
-      };
+      logged = subst IsShaped (sym same) told.shape;
       datagram = λ taken. taken_there at.waiting.kind S t c env a entry at.kind given call (ap (λ (e : Entry). e.reply) made) taken;
       bytes = drawn_there at.waiting.kind S t c env a entry at.kind given call (ap (λ (e : Entry). e.incoming) made);
       count = ap (λ (S : State). S.count) (sym told.same) ∙ risen.count;

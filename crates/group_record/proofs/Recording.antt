@@ -10,7 +10,8 @@ use Rattle.fri_outside.specs.Several.{grown, with_files}
 use Rattle.fri_outside.specs.Laws.{KeepsFiles}
 use Rattle.lib_calls.specs.declared.entry.Entry.{Entry}
 use Rattle.lib_calls.specs.Traffic.{drawn}
-use Rattle.call_log.specs.Entry.{IsLogged, encoding, encodings}
+use Rattle.lib_calls.specs.Entry.{IsShaped}
+use Rattle.call_log.specs.Entry.{encoding, encodings}
 use Rattle.call_log.specs.Head.{head_bytes}
 use Rattle.call_log.specs.Limits.{most_log}
 use Rattle.guest_process.specs.Live.{Env, Event, live}
@@ -128,7 +129,7 @@ other_member group steps p q e m apart k =
       log = k.log;
       size = k.size ∙ ap (λ es. length (head_bytes (head_of group q) ++ encodings es)) (sym same);
       room = k.room;
-      logged = subst (λ es. All IsLogged es) (sym same) k.logged;
+      logged = subst (λ es. All IsShaped es) (sym same) k.logged;
     }
 
 own_member : (group : Group) (steps : List Step) (p thread : ℕ) (env : Env) (m : Member) (entry : Entry) → (k : IsMember group steps p m) → (t : Tells k.state thread env entry) → HasRoom m (encoding entry)
@@ -145,7 +146,7 @@ own_member group steps p thread env m entry k t room =
       log = k.log;
       size = ap (λ n. n + length (encoding entry)) k.size ∙ ap (λ e. length (log_of group steps p) + length (encoding e)) t.same ∙ sym (log_longer group steps p t.event);
       room = room;
-      logged = subst (λ es. All IsLogged es) (sym more) (All-push IsLogged (entries steps p) t.event.entry k.logged (subst IsLogged t.same t.logged));
+      logged = subst (λ es. All IsShaped es) (sym more) (All-push IsShaped (entries steps p) t.event.entry k.logged (subst IsShaped t.same t.logged));
     }
 
 -- the member at a place that was set

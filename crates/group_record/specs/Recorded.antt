@@ -4,7 +4,7 @@ use Rattle.fri_outside.specs.Outside.{Store}
 use Rattle.fri_outside.specs.Several.{with_files}
 use Rattle.lib_calls.specs.declared.entry.Entry.{Entry}
 use Rattle.lib_calls.specs.Traffic.{drawn, is_taken}
-use Rattle.call_log.specs.Entry.{IsLogged}
+use Rattle.lib_calls.specs.Entry.{IsShaped}
 use Rattle.call_log.specs.Limits.{most_log}
 use Rattle.schedule_text.specs.declared.process.ProcessLine.{ProcessLine}
 use Rattle.guest_process.specs.Live.{Env, Event, live}
@@ -37,7 +37,7 @@ pub record Tells (S : State) (thread : ℕ) (env : Env) (entry : Entry) : Type 0
   pub lives : live S thread env ≡ Some event
   pub same : entry ≡ event.entry
   pub told : IsTold S event
-  pub logged : IsLogged entry
+  pub logged : IsShaped entry
   pub datagram : IsTrue (is_taken entry) → 1 ≤ length env.mailbox
   pub bytes : drawn entry ≤ length env.pool
   pub count : event.state.count ≡ S.count
@@ -98,7 +98,7 @@ pub record IsMember (group : Group) (steps : List Step) (p : ℕ) (m : Member) :
   pub log : string_bytes m.log ≡ log_name (name_of group p)
   pub size : m.size ≡ length (log_of group steps p)
   pub room : m.size ≤ most_log
-  pub logged : All IsLogged (entries steps p)
+  pub logged : All IsShaped (entries steps p)
 
 -- a recorder has come as far as this
 pub record KeepsUp (group : Group) (done : Progress) (recorder : Recorder) : Type 0 where
