@@ -18,12 +18,12 @@ returns-clause-answer c =
 
 pub returns-in_err-begun-clause-answer : goal.returns-in_err-begun-clause-answer
 returns-in_err-begun-clause-answer c =
-    let p = err_from_is_err_and c.from_residual-in_err-begun.result c.from_residual-in_err-begun.ensures.1 in
+    let p = err_from_is_err_and c.from_residual.result c.from_residual.ensures.1 in
     let e = c.in_err-begun.field-0.0 in
     let stops = subst (λ (h : Head). StopsAs (begun_of c.args.module_file.now (shown c.args.guest.now) h.process h.count) e) c.head-head.ensures c.in_err-begun.ensures.answer in
     rw (p.1, p.2) (never_begun c.args.module_file.now (shown c.args.guest.now) (c.args.log.head, c.args.log.left) e stops)
 
 pub returns-in_err-begun-clause-cause : goal.returns-in_err-begun-clause-cause
 returns-in_err-begun-clause-cause c =
-    let p = err_from_is_err_and c.from_residual-in_err-begun.result c.from_residual-in_err-begun.ensures.1 in
+    let p = err_from_is_err_and c.from_residual.result c.from_residual.ensures.1 in
     rw (p.1, p.2) c.in_err-begun.ensures.cause
