@@ -38,6 +38,7 @@ one_more (world.Deliver q n) h p = ([], sym (append-nil (world.entries h p)))
 one_more (world.Inject q bytes) h p = ([], sym (append-nil (world.entries h p)))
 one_more (world.Clock q time) h p = ([], sym (append-nil (world.entries h p)))
 one_more (world.Random q bytes) h p = ([], sym (append-nil (world.entries h p)))
+one_more (world.Signal q signal) h p = ([], sym (append-nil (world.entries h p)))
 one_more (world.Kill q) h p = ([], sym (append-nil (world.entries h p)))
 
 -- a log with some entries more
