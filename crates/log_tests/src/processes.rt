@@ -66,10 +66,10 @@ fn after<'m>(rt: &impl Abort, process: Process<'m>, event: &Event) -> Result<Pro
     Ok(process.advance(&entry)?)
 }
 
-// The process has had all its events, and stands at a call that is not answered.
+// The process has had all its events, and asks for a lock that is free.
 fn assert_at_lock(rt: &impl Abort, process: &Process<'_>) {
     assert_eq!(rt; process.pending(0).copied(), Some(LOCK));
-    assert_eq!(rt; process.need(0), Some(Need::Blocked));
+    assert_eq!(rt; process.need(0), Some(Need::Fixed(0)));
     assert_eq!(rt; process.end(), End::Running);
     assert_eq!(rt; process.events(), 4);
     assert_eq!(rt; process.clock(), 4);
