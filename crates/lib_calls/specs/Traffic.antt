@@ -1,8 +1,9 @@
--- What an event's entry tells of datagrams and of random bytes.
-use Rattle.std.specs.Prelude.{ℕ, Bool, false, not, ◌==◌, ◌&&◌, nat_lt, length, Option, Some, if◌then◌else◌}
+-- What an event's entry tells of datagrams, of random bytes and of what is printed.
+use Rattle.std.specs.Prelude.{ℕ, Bool, false, not, ◌==◌, ◌&&◌, nat_lt, List, [], length, Option, Some, if◌then◌else◌}
+use Rattle.std.specs.List.{flat_map}
 use Rattle.call_table.specs.Table.{kind_numbered}
 use Rattle.call_table.specs.declared.kind.Kind.{Kind}
-use Rattle.call_table.specs.declared.kind.Kind.TheVariants.{Random, Send, Recv, TryRecv}
+use Rattle.call_table.specs.declared.kind.Kind.TheVariants.{Print, Random, Send, Recv, TryRecv}
 use Rattle.lib_calls.specs.declared.entry.Entry.{Entry}
 use Rattle.lib_calls.specs.Effects.{minus_one, minus_two}
 
@@ -30,3 +31,15 @@ draws_as _ e = 0
 
 unfoldable pub drawn : Entry → ℕ
 drawn e = draws_as (kind_numbered e.call.kind) e
+
+-- what `print` prints
+abbrev pub prints_as : Option Kind → Entry → List ℕ
+prints_as (Some Print) e = e.outgoing
+prints_as _ e = []
+
+unfoldable pub printed : Entry → List ℕ
+printed e = prints_as (kind_numbered e.call.kind) e
+
+-- what these events print, each after the other
+abbrev pub prints : List Entry → List ℕ
+prints es = flat_map printed es

@@ -13,7 +13,7 @@ use std::alloc::{AllocError, Global};
 const MOST_BYTES: u64 = 60_000;
 
 // How many bytes a page of the memory has.
-const PAGE: u64 = 65_536;
+pub(crate) const PAGE: u64 = 65_536;
 
 /// Whether each range of bytes that the call names lies in the memory and has at most 60,000 bytes. Only
 /// print, random, send, recv and try_recv name a range, and the last two also 4 bytes for the sender. An
@@ -52,7 +52,7 @@ fn is_range(memory: &Memory, addr: u64, len: u64) -> bool
 }
 
 // Whether the range lies in the memory, which is not large.
-fn is_inside(memory: &Memory, addr: u64, len: u64) -> bool
+pub(crate) fn is_inside(memory: &Memory, addr: u64, len: u64) -> bool
     ensures value { result ≡ is_inside_of memory.now addr len }
     ensures small { IsTrue result → addr + len ≤ 2 ^ 24 }
 {
@@ -94,7 +94,7 @@ fn named(alloc: Global, memory: &Memory, addr: u64, len: u64) -> Result<Bytes, A
 }
 
 // A copy of a range of the memory, which lends it in parts.
-fn read(alloc: Global, memory: &Memory, addr: u64, len: u64) -> Result<Bytes, AllocError>
+pub(crate) fn read(alloc: Global, memory: &Memory, addr: u64, len: u64) -> Result<Bytes, AllocError>
     requires inside { addr + len ≤ length memory.now.bytes }
     requires small { addr + len ≤ 2 ^ 24 }
     ensures { IfOk result (λ bytes. bytes ≡ bytes_at memory.now addr len) }

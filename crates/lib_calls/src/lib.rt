@@ -5,6 +5,7 @@
 mod answer;
 mod arguments;
 mod entry;
+mod memory;
 mod table;
 mod traffic;
 
@@ -12,5 +13,6 @@ pub use answer::{BAD_ARGUMENTS, NONE_THERE, write_back};
 pub use arguments::{good_arguments, is_outgoing, outgoing};
 pub use call_table::{Kind, Signature};
 pub use entry::{Call, Entry, EntryView};
+pub use memory::{memory_bytes, memory_part};
 pub use table::{kind_of, name_of, signature_of};
-pub use traffic::{drawn, is_sent, is_taken};
+pub use traffic::{drawn, is_sent, is_taken, printed};

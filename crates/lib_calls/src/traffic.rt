@@ -1,7 +1,7 @@
-// What an event's entry tells of datagrams and of random bytes.
+// What an event's entry tells of datagrams, of random bytes and of what is printed.
 ghost use Rattle.std.specs.Prelude.{◌≡◌};
 ghost use Rattle.lib_calls.specs.Entry.{entry_of};
-ghost use Rattle.lib_calls.specs.Traffic.{drawn as drawn_of, draws_as, is_sent as is_sent_of, is_taken as is_taken_of, sends_as, takes_as};
+ghost use Rattle.lib_calls.specs.Traffic.{drawn as drawn_of, draws_as, is_sent as is_sent_of, is_taken as is_taken_of, printed as printed_of, prints_as, sends_as, takes_as};
 
 use crate::entry::EntryView;
 use call_table::Kind;
@@ -43,5 +43,16 @@ pub fn drawn(entry: &EntryView<'_>) -> usize
     match Kind::from_number(entry.call.kind) {
         Some(Kind::Random) if entry.reply != MINUS_ONE => entry.incoming.len(),
         _ => 0,
+    }
+}
+
+/// What the event printed.
+#[tactic(auto, unfolding(crate::specs::Traffic::printed))]
+pub fn printed<'a>(entry: &EntryView<'a>) -> &'a [u8]
+    ensures { result.now ≡ printed_of (entry_of entry.now) }
+{
+    match Kind::from_number(entry.call.kind) {
+        Some(Kind::Print) => entry.outgoing,
+        _ => &[],
     }
 }
