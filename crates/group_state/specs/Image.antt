@@ -1,0 +1,19 @@
+-- What a process leaves.
+use Rattle.std.specs.Prelude.{◌≡◌, ℕ, List}
+use Rattle.call_log.specs.Log.{entries_of}
+use Rattle.guest_process.specs.Replay.{accepted, state_after}
+use Rattle.lib_calls.specs.Traffic.{prints}
+use Rattle.proc_replay.specs.Course.{ahead}
+use Rattle.proc_replay.specs.Replaying.{Replaying}
+use Rattle.group_state.specs.declared.image.Image.{Image}
+
+-- the bytes of the memory after all accepted events of a log
+abbrev pub memory_of : Replaying → List ℕ
+memory_of r = (state_after r.state (entries_of r.left) (accepted r.state (entries_of r.left))).store.memory.bytes
+
+-- what they printed
+abbrev pub printed_of : Replaying → List ℕ
+printed_of r = prints (ahead r)
+
+abbrev pub image_of : Replaying → Image
+image_of r = record { memory = memory_of r; printed = printed_of r }

@@ -1,0 +1,43 @@
+-- How a group moves.
+use Rattle.std.specs.Prelude.{◌≡◌, ℕ, zero, suc, ◌+◌, ◌≤◌, ◌↔◌, Bool, IsTrue, IsFalse, List, Option, Some, None, length, option_map, slice_get, slice_set}
+use Rattle.lib_calls.specs.Entry.{entry_of}
+use Rattle.lib_calls.specs.declared.entry.Entry.{Entry}
+use Rattle.proc_replay.specs.declared.turn.Turn.{Turn}
+use Rattle.group_order.specs.Order.{Event}
+use Rattle.proc_replay.specs.Replaying.{Replaying, after, turn}
+use Rattle.proc_replay.specs.Seen.{move_of}
+use Rattle.group_state.specs.declared.event.GroupEvent.{GroupEvent}
+use Rattle.group_state.specs.Place.{Place, events}
+
+abbrev pub event_of : GroupEvent → Event Entry
+event_of e = record { node = e.node; entry = entry_of e.entry }
+
+-- the position after an event, where there was one
+abbrev pub place_after : Place → Option GroupEvent → Place
+place_after place None = place
+place_after place (Some e) = record place { at = place.at + 1 }
+
+-- the event is the next of the order, which is made; none comes exactly at the end
+pub record Moves (old new : Place) (given : Option GroupEvent) : Type 0 where
+  pub gives : option_map event_of given ≡ slice_get (events old.start) old.at
+  pub place : new ≡ place_after old given
+
+-- the group is at position k, where there is one, and else as it was
+pub record IsThere (old : Place) (k : ℕ) (new : Place) (there : Bool) : Type 0 where
+  pub exact : IsTrue there ↔ k ≤ length (events old.start)
+  pub start : new.start ≡ old.start
+  pub at : IsTrue there → new.at ≡ k
+  pub stays : IsFalse there → new.at ≡ old.at
+
+abbrev pub event_before : List (Event Entry) → ℕ → Option (Event Entry)
+event_before es zero = None
+event_before es (suc n) = slice_get es n
+
+-- the event that was made last
+abbrev pub last_of : Place → Option (Event Entry)
+last_of place = event_before (events place.start) place.at
+
+-- a node had this turn, and the other nodes are as they were
+pub record Turns (old : List Replaying) (node : ℕ) (new : List Replaying) (given : Turn) : Type 0 where
+  pub tells : (r : Replaying) → slice_get old node ≡ Some r → move_of given ≡ turn r
+  pub moves : (r : Replaying) → slice_get old node ≡ Some r → new ≡ slice_set old node (after r)

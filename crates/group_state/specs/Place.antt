@@ -1,0 +1,76 @@
+-- A group of replays at a position.
+use Rattle.std.specs.Prelude.{◌≡◌, ℕ, suc, ◌<◌, ◌≤◌, List, [], ◌∷◌, All, length, map, take, Option, Some, None}
+use Rattle.std.specs.List.{AllByRecursion}
+use Rattle.lib_calls.specs.declared.entry.Entry.{Entry}
+use Rattle.call_log.specs.Log.{entries_of}
+use Rattle.guest_process.specs.Fits.{StateFits}
+use Rattle.guest_process.specs.Replay.{state_after}
+use Rattle.guest_process.specs.State.{State}
+use Rattle.group_order.specs.Order.{Event, of_node, order}
+use Rattle.proc_replay.specs.Course.{ahead}
+use Rattle.proc_replay.specs.Replaying.{Diverges, Ends, Makes, Move, Replaying, turn}
+
+-- the replays at position 0, in order of their processes' numbers, and how many events have been made
+pub record Place : Type 0 where
+  pub start : List Replaying
+  pub at : ℕ
+
+-- ---- which replays make a group
+
+-- of the first of them, if there is one, the number of processes that its head names
+abbrev pub group_count : List Replaying → ℕ
+group_count [] = 0
+group_count (r ∷ rs) = r.head.count
+
+-- each process's number is below those behind it
+abbrev pub Ascends : List Replaying → Type 0
+Ascends [] = Unit {0}
+Ascends (r ∷ rs) = AllByRecursion (λ s. r.head.process < s.head.process) rs × Ascends rs
+
+-- some of one group's logs, in order of their processes' numbers, each before its first event
+pub record AreParts (parts : List Replaying) : Type 0 where
+  pub few : length parts ≤ 16
+  pub fresh : All (λ r. r.state.events ≡ 0) parts
+  pub one : All (λ r. r.head.count ≡ group_count parts) parts
+  pub ascends : Ascends parts
+
+-- each process is in the ranges of its program
+abbrev pub Fits : List Replaying → Type 0
+Fits parts = All (λ r. StateFits r.state) parts
+
+-- ---- the order of events, and the state after the first of them
+
+abbrev pub clock_of : Entry → ℕ
+clock_of e = e.clock
+
+-- the accepted events of all logs, by clock and then by node
+abbrev pub events : List Replaying → List (Event Entry)
+events start = order clock_of (map ahead start)
+
+-- how many of these events are a node's
+abbrev pub count_of : ℕ → List (Event Entry) → ℕ
+count_of node es = length (of_node node es)
+
+-- the process of a log after so many of its entries
+abbrev pub after_entries : Replaying → ℕ → State
+after_entries r n = state_after r.state (entries_of r.left) n
+
+-- each node from this one on, after as many of its entries as it has events among these
+abbrev pub states_from : ℕ → List Replaying → List (Event Entry) → List State
+states_from node [] es = []
+states_from node (r ∷ rs) es = after_entries r (count_of node es) ∷ states_from (suc node) rs es
+
+-- the state of each node after the first k events of the group
+abbrev pub states : List Replaying → ℕ → List State
+states start k = states_from 0 start (take k (events start))
+
+-- ---- the next event of one replay
+
+abbrev pub clock_in : Move → Option ℕ
+clock_in (Makes e) = Some e.clock
+clock_in Ends = None
+clock_in (Diverges at why) = None
+
+-- its clock, where there is one
+abbrev pub head : Replaying → Option ℕ
+head r = clock_in (turn r)

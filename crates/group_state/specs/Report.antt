@@ -1,0 +1,52 @@
+-- What is said of a group's logs.
+use Rattle.std.specs.Prelude.{◌≡◌, ℕ, List, map}
+use Rattle.std.specs.List.{flat_map}
+use Rattle.call_log.specs.Log.{entries_of, rest_of}
+use Rattle.guest_process.specs.Replay.{Verdict, Whole, Left, Diverged, accepted, state_after, verdict}
+use Rattle.proc_replay.specs.Course.{Tells, ahead, outcome}
+use Rattle.proc_replay.specs.Replaying.{Replaying, turn}
+use Rattle.group_state.specs.declared.report.Report.{Report}
+use Rattle.group_state.specs.declared.report.ReportLine.{ReportLine}
+use Rattle.group_state.specs.declared.report.Verdict.{Verdict as Said}
+use Rattle.group_state.specs.declared.report.Verdict.TheVariants as said
+use Rattle.group_state.specs.declared.tally.GroupCounts.{GroupCounts}
+use Rattle.group_state.specs.Place.{group_count}
+use Rattle.group_state.specs.Tally.{Accepted, of_process, tally}
+
+abbrev pub said_of : Verdict → Said
+said_of Whole = said.Whole
+said_of (Left bytes) = said.Left bytes
+said_of (Diverged at why) = said.Diverged at why
+
+-- a log to its first entry that is not legal: no other log has a part in it
+abbrev pub line_of : Replaying → ReportLine
+line_of r =
+    let es = entries_of r.left in
+    record {
+      name = r.head.name;
+      events = accepted r.state es;
+      end = (state_after r.state es (accepted r.state es)).end;
+      verdict = said_of (verdict r.state es (rest_of r.left));
+    }
+
+-- the accepted events of a log, and of all logs
+abbrev pub accepted_in : Replaying → List Accepted
+accepted_in r = of_process r.head.process (ahead r)
+
+abbrev pub all_accepted : List Replaying → List Accepted
+all_accepted start = flat_map accepted_in start
+
+abbrev pub counts_in : Report → GroupCounts
+counts_in report = record { sends = report.sends; receives = report.receives; unmatched = report.unmatched; untagged = report.untagged }
+
+-- a line for each log, and the counts of all accepted events
+pub record IsReport (start : List Replaying) (report : Report) : Type 0 where
+  pub lines : report.lines.items ≡ map line_of start
+  pub counts : counts_in report ≡ tally (group_count start) (all_accepted start)
+
+-- a replay stands at the end of its log, and comes to the same
+pub record EndsAt (first last : Replaying) : Type 0 where
+  pub same : outcome last ≡ outcome first
+  pub head : last.head ≡ first.head
+  pub verdict : Verdict
+  pub tells : Tells (turn last) last.left verdict

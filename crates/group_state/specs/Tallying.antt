@@ -1,0 +1,98 @@
+-- The tally of a group's events while they come, one after the other.
+use Rattle.std.specs.Prelude.{◌≡◌, ℕ, ◌+◌, ◌<◌, ◌^◌, ◌==◌, Bool, true, false, not, List, [], ◌∷◌, ◌++◌, length, filter, Option, Some, None, refl}
+use Rattle.std.specs.Coded.{Coded, code_by, coded×, coded_ℕ, coded_list}
+use Rattle.std.specs.FinMap as map
+use Rattle.lamport_tag.specs.declared.Tag.{Tag}
+use Rattle.lib_calls.specs.Traffic.{is_taken}
+use Rattle.group_order.specs.Sends.{Sends}
+use Rattle.group_state.specs.declared.tally.GroupCounts.{GroupCounts}
+use Rattle.group_state.specs.declared.tally.Receipt.{Receipt}
+use Rattle.group_state.specs.Tally.{Accepted, sends}
+
+-- of the events so far in a group of `count`: how many sent, how many took a datagram without a tag, the
+-- sends, and who took a datagram with which tag
+pub record Tallying : Type 0 where
+  pub count : ℕ
+  pub sends : ℕ
+  pub untagged : ℕ
+  pub sent : Sends
+  pub taken : List Receipt
+
+abbrev pub receipt_code : Coded Receipt
+receipt_code =
+    code_by (ℕ × (ℕ × ℕ)) (coded× coded_ℕ (coded× coded_ℕ coded_ℕ))
+    (λ r. (r.process, (r.tag.sender, r.tag.clock)))
+    (λ p. record { process = p.0; tag = record { sender = p.1.0; clock = p.1.1 } })
+    (λ _. refl)
+
+abbrev pub tallying_code : Coded Tallying
+tallying_code =
+    code_by (ℕ × (ℕ × (ℕ × (Sends × List Receipt))))
+    (coded× coded_ℕ (coded× coded_ℕ (coded× coded_ℕ (coded× (map.code (coded× coded_ℕ coded_ℕ) coded_ℕ) (coded_list receipt_code)))))
+    (λ t. (t.count, (t.sends, (t.untagged, (t.sent, t.taken)))))
+    (λ p. record { count = p.0; sends = p.1.0; untagged = p.1.1.0; sent = p.1.1.1.0; taken = p.1.1.1.1 })
+    (λ _. refl)
+
+-- no events
+abbrev pub nothing_of : ℕ → Tallying
+nothing_of count = record { count = count; sends = 0; untagged = 0; sent = map.empty; taken = [] }
+
+-- with this event's send, where it is one
+abbrev pub send_by : Bool → Tallying → Accepted → Tallying
+send_by false t a = t
+send_by true t a = record t { sends = t.sends + 1; sent = map.insert t.sent (a.process, a.entry.clock) a.entry.call.a0 }
+
+abbrev pub with_send : Tallying → Accepted → Tallying
+with_send t a = send_by (sends t.count a) t a
+
+-- with the datagram that it took, where it took one
+abbrev pub receipt_by : Bool → Option Tag → ℕ → Tallying → Tallying
+receipt_by false tag process t = t
+receipt_by true None process t = record t { untagged = t.untagged + 1 }
+receipt_by true (Some tag) process t = record t { taken = t.taken ++ record { process = process; tag = tag } ∷ [] }
+
+abbrev pub with_receipt : Tallying → Accepted → Tallying
+with_receipt t a = receipt_by (is_taken a.entry) a.entry.tag a.process t
+
+-- with one event more
+abbrev pub with_event : Tallying → Accepted → Tallying
+with_event t a = with_receipt (with_send t a) a
+
+-- with these events more
+abbrev pub with_events : Tallying → List Accepted → Tallying
+with_events t [] = t
+with_events t (a ∷ events) = with_events (with_event t a) events
+
+-- no send of its process at its clock was counted
+abbrev pub IsNew : Tallying → Accepted → Type 0
+IsNew t a = map.get t.sent (a.process, a.entry.clock) ≡ None
+
+-- each of these events is new where it comes
+abbrev pub AreNew : Tallying → List Accepted → Type 0
+AreNew t [] = Unit {0}
+AreNew t (a ∷ events) = IsNew t a × AreNew (with_event t a) events
+
+-- one event more can be counted
+pub record HasRoom (t : Tallying) : Type 0 where
+  pub sends : t.sends + 1 < 2 ^ 64
+  pub untagged : t.untagged + 1 < 2 ^ 64
+
+-- each of these events can be counted where it comes
+abbrev pub HasRoomFor : Tallying → List Accepted → Type 0
+HasRoomFor t [] = Unit {0}
+HasRoomFor t (a ∷ events) = HasRoom t × HasRoomFor (with_event t a) events
+
+-- the send that the tag names is for this process
+abbrev pub is_to : ℕ → Option ℕ → Bool
+is_to process None = false
+is_to process (Some to) = to == process
+
+abbrev pub is_matched_in : Sends → Receipt → Bool
+is_matched_in sent r = is_to r.process (map.get sent (r.tag.sender, r.tag.clock))
+
+abbrev pub unmatched_in : Sends → List Receipt → ℕ
+unmatched_in sent taken = length (filter (λ r. not (is_matched_in sent r)) taken)
+
+-- what the events so far come to
+abbrev pub counts_of : Tallying → GroupCounts
+counts_of t = record { sends = t.sends; receives = length t.taken; unmatched = unmatched_in t.sent t.taken; untagged = t.untagged }

@@ -1,0 +1,34 @@
+// One turn of a group's node.
+ghost use Rattle.std.specs.Prelude.{◌≡◌, ◌<◌, OnOk, length};
+ghost use Rattle.group_state.specs.Place.{head};
+ghost use Rattle.group_state.specs.Moves.{Turns};
+
+use proc_replay::{Replayer, Turn};
+use std::alloc::AllocError;
+
+/// The clock of a replay's next event, where it has one.
+pub(crate) fn head_of(part: &Replayer<'_, '_>) -> Option<u64>
+    ensures { result ≡ head part.now }
+{
+    match part.peek() {
+        Turn::Event(entry) => Some(entry.clock),
+        Turn::LogEnd => None,
+        Turn::Diverged(..) => None,
+    }
+}
+
+/// Gives a node its next turn. The others stay as they are.
+pub(crate) fn take_turn<'a>(
+    parts: &mut Vec<Replayer<'_, 'a>>,
+    node: u32,
+) -> Result<Turn<'a>, AllocError>
+    requires { node < length parts.old.items }
+    ensures { OnOk result (Turns parts.old.items node parts.new.items result) }
+{
+    let last = parts.len() - 1;
+    let part = parts.swap_remove(node as usize);
+    let (part, turn) = part.next_event()?;
+    parts.push(part)?;
+    parts.swap(node as usize, last);
+    Ok(turn)
+}

@@ -1,0 +1,18 @@
+//! The logs of a group, replayed together: the state of each process after the first events of all, by clock
+//! and then by process; what is said of the whole; and what the processes leave.
+#![tactic(auto)]
+
+mod event;
+mod forward;
+mod group;
+mod image;
+mod laws;
+mod part;
+mod report;
+mod tally;
+
+pub use event::GroupEvent;
+pub use group::Group;
+pub use image::Image;
+pub use laws::ordered;
+pub use report::{Report, ReportLine, Verdict};

@@ -1,0 +1,81 @@
+// The replay of one log to its end.
+ghost use Rattle.std.specs.Prelude.{◌≡◌, ◌++◌, Some, OnOk, IfOk, option_map};
+ghost use Rattle.lib_calls.specs.Traffic.{prints};
+ghost use Rattle.guest_process.specs.Replay.{Verdict as VerdictOf, left_over};
+ghost use Rattle.proc_replay.specs.Course.{Tells, ahead};
+ghost use Rattle.proc_replay.specs.Replaying.{turn};
+ghost use Rattle.group_state.specs.Report.{EndsAt, accepted_in, said_of};
+ghost use Rattle.group_state.specs.Tallying.{AreNew, HasRoomFor, with_events};
+
+use crate::report::Verdict;
+use crate::tally::Tally;
+use fri_bytes::Bytes;
+use lib_calls::printed;
+use proc_replay::{Replayer, Turn, replays};
+use std::alloc::AllocError;
+
+/// Replays a log from here to its end, and counts the datagrams of its events.
+pub(crate) fn tally_events<'m, 'a>(
+    part: Replayer<'m, 'a>,
+    tally: &mut Tally,
+) -> Result<Replayer<'m, 'a>, AllocError>
+    requires new { AreNew tally.old (accepted_in part) }
+    requires room { HasRoomFor tally.old (accepted_in part) }
+    ensures tally { OnOk result (tally.new ≡ with_events tally.old (accepted_in part.entry)) }
+    ensures ends { IfOk result (EndsAt part.entry) }
+{
+    replays();
+    let process = part.head().process;
+    let mut part = part;
+    'turns: loop {
+        let (next, turn) = part.next_event()?;
+        part = next;
+        match turn {
+            Turn::Event(entry) => tally.add(process, &entry)?,
+            Turn::LogEnd => return Ok(part),
+            Turn::Diverged(..) => return Ok(part),
+        }
+    }
+}
+
+/// Replays a log from here to its end, and appends what its events print.
+pub(crate) fn print_events<'m, 'a>(
+    part: Replayer<'m, 'a>,
+    out: &mut Bytes,
+) -> Result<Replayer<'m, 'a>, AllocError>
+    ensures out { OnOk result (out.new ≡ out.old ++ prints (ahead part.entry)) }
+    ensures ends { IfOk result (EndsAt part.entry) }
+{
+    replays();
+    let mut part = part;
+    'turns: loop {
+        let (next, turn) = part.next_event()?;
+        part = next;
+        match turn {
+            Turn::Event(entry) => out.push_all(printed(&entry))?,
+            Turn::LogEnd => return Ok(part),
+            Turn::Diverged(..) => return Ok(part),
+        }
+    }
+}
+
+fn left_over(rest: &[u8]) -> Verdict
+    ensures { result ≡ said_of (left_over rest.now) }
+{
+    match rest.len() {
+        0 => Verdict::Whole,
+        count => Verdict::Left(count as u64),
+    }
+}
+
+/// The verdict on a log at whose end a replay stands.
+pub(crate) fn verdict(part: &Replayer<'_, '_>) -> Verdict
+    requires { (v : VerdictOf) × Tells (turn part.now) part.now.left v }
+    ensures { (v : VerdictOf) → Tells (turn part.now) part.now.left v → result ≡ said_of v }
+{
+    match part.peek() {
+        Turn::Event(_) => unreachable!(),
+        Turn::LogEnd => left_over(part.log().rest()),
+        Turn::Diverged(at, why) => Verdict::Diverged(at, why),
+    }
+}

@@ -1,0 +1,103 @@
+// What is said of a whole group.
+ghost use Rattle.std.specs.Prelude.{◌≡◌, IfOk, OnOk};
+ghost use Rattle.group_state.specs.Place.{group_count};
+ghost use Rattle.group_state.specs.Report.{IsReport, accepted_in, line_of};
+ghost use Rattle.group_state.specs.Tallying.{AreNew, HasRoomFor, with_events};
+
+use crate::group::Group;
+use crate::part::{tally_events, verdict};
+use crate::tally::Tally;
+use fri_bytes::Bytes;
+use guest_process::{Divergence, End, kept, rises};
+use proc_replay::{Replayer, replays};
+use std::alloc::{AllocError, Global};
+
+/// What is said of a log: all its entries are accepted and nothing is left; so many bytes are left behind them;
+/// or the entry of this number, from 1, is not legal.
+#[derive(Clone, Copy, Debug, PartialEq, Eq)]
+pub enum Verdict {
+    Whole,
+    Left(u64),
+    Diverged(u64, Divergence),
+}
+
+/// A log that was replayed to its end: the name of its process, how many entries were accepted, how the process
+/// stands after them, and the verdict.
+#[derive(Debug, PartialEq, Eq, Drop)]
+pub struct ReportLine {
+    pub name: Bytes,
+    pub events: u64,
+    pub end: End,
+    pub verdict: Verdict,
+}
+
+/// The logs of a group, in order of their processes' numbers; and of the events that are accepted, how many sent
+/// a datagram into the group, how many took one with a tag, for how many of these the send is not among the
+/// events, and how many took one without a tag.
+#[derive(Debug, Drop)]
+pub struct Report {
+    pub lines: Vec<ReportLine>,
+    pub sends: u64,
+    pub receives: u64,
+    pub unmatched: u64,
+    pub untagged: u64,
+}
+
+// The number of processes of the group whose logs these are.
+fn group_count(parts: &[Replayer<'_, '_>]) -> u32
+    ensures { result ≡ group_count parts.now }
+{
+    match parts {
+        [] => 0,
+        [part, ..] => part.head().count,
+    }
+}
+
+// Replays a log to its end, counts the datagrams of its events, and says what came of it.
+fn report_log(
+    alloc: Global,
+    part: Replayer<'_, '_>,
+    tally: &mut Tally,
+) -> Result<ReportLine, AllocError>
+    requires fresh { part.state.events ≡ 0 }
+    requires new { AreNew tally.old (accepted_in part) }
+    requires room { HasRoomFor tally.old (accepted_in part) }
+    ensures tally { OnOk result (tally.new ≡ with_events tally.old (accepted_in part.entry)) }
+    ensures line { IfOk result (λ line. line ≡ line_of part.entry) }
+{
+    replays();
+    let last = tally_events(part, tally)?;
+    let process = last.process();
+    Ok(ReportLine {
+        name: Bytes::from_slice(alloc, last.head().name)?,
+        events: process.events(),
+        end: process.end(),
+        verdict: verdict(&last),
+    })
+}
+
+impl<'m, 'a> Group<'m, 'a> {
+    /// What is said of all accepted events, whatever the position. Each log is replayed to its first entry that is
+    /// not legal, whatever the other logs hold.
+    pub fn report(self, alloc: Global) -> Result<Report, AllocError>
+        ensures { IfOk result (IsReport self.entry.start) }
+    {
+        rises();
+        kept();
+        let Group { first, parts, .. } = self;
+        drop(parts);
+        let mut tally = Tally::new(alloc, group_count(&first));
+        let mut lines = Vec::new(alloc);
+        for part in first {
+            lines.push(report_log(alloc, part, &mut tally)?)?;
+        }
+        let counts = tally.counts();
+        Ok(Report {
+            lines,
+            sends: counts.sends,
+            receives: counts.receives,
+            unmatched: counts.unmatched,
+            untagged: counts.untagged,
+        })
+    }
+}
