@@ -1,0 +1,6 @@
+mod Rising
+mod Coming
+mod Nodes
+mod Standing
+mod Following
+mod Swaps

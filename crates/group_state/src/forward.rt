@@ -1,5 +1,5 @@
 // One turn of a group's node.
-ghost use Rattle.std.specs.Prelude.{◌≡◌, ◌<◌, OnOk, length};
+ghost use Rattle.std.specs.Prelude.{◌≡◌, ◌<◌, IfOk, length};
 ghost use Rattle.group_state.specs.Place.{head};
 ghost use Rattle.group_state.specs.Moves.{Turns};
 
@@ -23,7 +23,7 @@ pub(crate) fn take_turn<'a>(
     node: u32,
 ) -> Result<Turn<'a>, AllocError>
     requires { node < length parts.old.items }
-    ensures { OnOk result (Turns parts.old.items node parts.new.items result) }
+    ensures { IfOk result (Turns parts.old.items node parts.new.items) }
 {
     let last = parts.len() - 1;
     let part = parts.swap_remove(node as usize);

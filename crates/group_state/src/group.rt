@@ -45,6 +45,7 @@ impl<'m, 'a> Group<'m, 'a> {
         requires { AreParts parts.items }
         ensures { IfOk result (λ group. group ≡ record { start = parts.entry.items; at = 0 }) }
     {
+        replays();
         let mut merge = Merge::new(alloc, parts.len() as u32)?;
         let mut first = Vec::new(alloc);
         for (node, part) in parts.iter().enumerate() {
@@ -172,6 +173,10 @@ impl<'m, 'a> Group<'m, 'a> {
     pub fn process(&self, node: u32) -> Option<&Process<'m>>
         ensures { option_map (λ process. process.now) result ≡ slice_get (states self.now.start self.now.at) node }
     {
+        merges::<Entry>();
+        replays();
+        rises();
+        kept();
         Some(self.parts.get(node as usize)?.process())
     }
 }

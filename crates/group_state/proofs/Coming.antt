@@ -1,0 +1,77 @@
+-- What a turn, and so many turns, leave ahead of a replay.
+use Rattle.std.proofs.Common.{◌≡◌, ◌⊎◌, inl, inr, ℕ, zero, suc, ◌+◌, ◌*◌, ◌≤◌, List, [], ◌∷◌, length, drop, Option, Some, None, refl, sym, ap, subst, ◌∙◌, arith}
+use Rattle.lib_calls.specs.declared.entry.Entry.{Entry}
+use Rattle.guest_process.specs.Replay.{Verdict, Diverged, left_over}
+use Rattle.group_order.specs.Order.{head_of}
+use Rattle.proc_replay.specs.Course.{AreTurns, Tells, ahead, turns}
+use Rattle.proc_replay.specs.Replaying.{Replaying, Move, Makes, Ends, Diverges, after, turn}
+use Rattle.group_state.specs.Place.{clock_in, clock_of, head}
+
+-- the turn makes the first event that is ahead
+pub record Made (r : Replaying) : Type 0 where
+  pub entry : Entry
+  pub makes : turn r ≡ Makes entry
+  pub first : ahead r ≡ entry ∷ ahead (after r)
+  pub shorter : length (after r).left + 24 ≤ length r.left
+
+-- none is ahead, and the replay stands
+pub record Stood (r : Replaying) : Type 0 where
+  pub none : ahead r ≡ []
+  pub stays : after r ≡ r
+  pub headless : head r ≡ None
+
+pub drop_none : {X : Type 0} (n : ℕ) → ◌≡◌ {A = List X} (drop n []) []
+drop_none zero = refl
+drop_none (suc n) = refl
+
+pub turns_more : (n : ℕ) (r : Replaying) → turns r (suc n) ≡ after (turns r n)
+turns_more zero r = refl
+turns_more (suc n) r = turns_more n (after r)
+
+module _ (course : AreTurns) where
+  pub turn_cases : (r : Replaying) → Made r ⊎ Stood r
+  turn_cases r = by_move (turn r) refl
+    where
+      stood : (m : Move) (v : Verdict) → turn r ≡ m → Tells m r.left v → clock_in m ≡ None → Stood r
+      stood m v is tells no_clock =
+          let here : Tells (turn r) r.left v = rw is tells in
+          record { none = (course r).none v here; stays = (course r).stays v here; headless = ap clock_in is ∙ no_clock }
+
+      by_move : (m : Move) → turn r ≡ m → Made r ⊎ Stood r
+      by_move (Makes e) is = inl (record { entry = e; makes = is; first = (course r).makes e is; shorter = (course r).takes e is })
+      by_move Ends is = inr (stood Ends (left_over r.left) is refl refl)
+      by_move (Diverges at why) is = inr (stood (Diverges at why) (Diverged at why) is refl refl)
+
+  pub ahead_turns : (n : ℕ) (r : Replaying) → ahead (turns r n) ≡ drop n (ahead r)
+  ahead_turns zero r = refl
+  ahead_turns (suc n) r = ahead_turns n (after r) ∙ elim (turn_cases r) [
+    | inl m ↦ sym (ap (drop (suc n)) m.first)
+    | inr s ↦ ap (λ (q : Replaying). drop n (ahead q)) s.stays ∙ ap (drop n) s.none ∙ drop_none n ∙ sym (drop_none (suc n)) ∙ sym (ap (drop (suc n)) s.none)
+  ]
+
+  pub head_ahead : (r : Replaying) → head r ≡ head_of clock_of (ahead r)
+  head_ahead r = elim (turn_cases r) [
+    | inl m ↦ ap clock_in m.makes ∙ sym (ap (head_of clock_of) m.first)
+    | inr s ↦ s.headless ∙ sym (ap (head_of clock_of) s.none)
+  ]
+
+  -- each event takes bytes of the log
+  ahead_room_in : (n : ℕ) (r : Replaying) → length r.left ≤ n → 24 * length (ahead r) ≤ length r.left
+  ahead_room_in zero r few = elim (turn_cases r) [
+    | inl m ↦ absurd (omega (arith, m.shorter, few))
+    | inr s ↦ omega (arith, ap length s.none)
+  ]
+  ahead_room_in (suc n) r few = elim (turn_cases r) [
+    | inl m ↦ omega (arith, m.shorter, ap length m.first, ahead_room_in n (after r) (omega (arith, m.shorter, few)))
+    | inr s ↦ omega (arith, ap length s.none)
+  ]
+
+  pub ahead_room : (r : Replaying) → 24 * length (ahead r) ≤ length r.left
+  ahead_room r = ahead_room_in (length r.left) r (omega arith)
+
+  -- where something is ahead, the turn makes the first of it
+  pub made_first : (r : Replaying) (e : Entry) (es : List Entry) → ahead r ≡ e ∷ es → turn r ≡ Makes e
+  made_first r e es is = elim (turn_cases r) [
+    | inl m ↦ let same : m.entry ∷ ahead (after r) ≡ e ∷ es = sym m.first ∙ is in let first : m.entry ≡ e = cc in m.makes ∙ ap Makes first
+    | inr s ↦ let none : [] ≡ e ∷ es = sym s.none ∙ is in absurd (cc)
+  ]

@@ -1,0 +1,14 @@
+use Rattle.std.proofs.Common.{◌≡◌, ◌<◌, ◌^◌, ℕ, get_or, length, map, take}
+use Rattle.std.specs.Prelude.{All}
+use Rattle.guest_process.specs.Fits.{StateFits}
+use Rattle.group_state.specs.Place.{Fits, head}
+use Rattle.group_state.proofs.group.Group.begin.Given as goal
+
+abbrev pub invariant-loop-node : goal.invariant-loop-node
+invariant-loop-node l = record {
+  size : length l.merge ≡ length l.part-items;
+  heads : take l.node l.merge ≡ map head (take l.node l.part-items);
+  copied : l.first.items ≡ take l.node l.part-items;
+  fits : Fits (take l.node l.part-items);
+  small : All (λ r. length r.left < 2 ^ 64) (take l.node l.part-items);
+}
