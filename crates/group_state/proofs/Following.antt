@@ -1,22 +1,24 @@
 -- The replays at a position have the events ahead that the order has behind it.
-use Rattle.std.proofs.Common.{◌≡◌, ℕ, zero, suc, ◌+◌, ◌*◌, ◌≤◌, ◌<◌, List, [], ◌∷◌, ◌++◌, map, length, length-append, take, drop, set, Option, Some, None, refl, sym, ap, subst, ◌∙◌, add-one, arith, mul-le-mul_right}
-use Rattle.std.specs.Prelude.{All, slice_get}
+use Rattle.std.proofs.Common.{◌≡◌, ℕ, zero, suc, ◌+◌, ◌*◌, ◌≤◌, ◌<◌, List, [], ◌∷◌, ◌++◌, map, length, length-append, take, drop, get_or, set, Some, None, refl, sym, ap, subst, ◌∙◌, add-one, arith, mul-le-mul_right}
+use Rattle.std.specs.Prelude.{All, option_map, slice_get}
 use Rattle.std.specs.List.{AllByRecursion}
 use Rattle.std.proofs.lemmas.List.{length-map}
 use Rattle.std.proofs.lemmas.List.Elements.{recursion_from_All}
+use Rattle.std.proofs.lemmas.Option.{slice_get-map, slice_get_past, slice_get_read}
 use Rattle.lib_calls.specs.declared.entry.Entry.{Entry}
 use Rattle.guest_process.specs.Fits.{StateFits}
 use Rattle.guest_process.specs.OneEvent.{IsKept, Rises as AreRising}
+use Rattle.guest_process.specs.State.{State}
 use Rattle.group_order.specs.Heads.{AreNone, IsFirst}
-use Rattle.group_order.specs.Order.{AreMerged, Event, IsMerged, Rises, event, events_from, heads_of, list_of, of_node, order}
+use Rattle.group_order.specs.Order.{AreMerged, Event, IsMerged, Rises, event, events_from, list_of, of_node, order}
 use Rattle.proc_replay.specs.Course.{AreReplays, AreTurns, ahead}
 use Rattle.proc_replay.specs.Replaying.{Makes, Replaying, after, turn}
 use Rattle.group_state.specs.At.{parts_from}
-use Rattle.group_state.specs.Place.{Fits, clock_of, count_of, events, head, states, states_from}
+use Rattle.group_state.specs.Place.{Fits, clock_of, count_of, events, head, states}
 use Rattle.group_state.proofs.Coming.{ahead_room, made_first}
 use Rattle.group_state.proofs.Nodes.{among_own, count_take, length_sort, of_node-drop, sorted_drop}
 use Rattle.group_state.proofs.Rising.{IsAboveTag, ahead_rises, ahead_tags}
-use Rattle.group_state.proofs.Standing.{Found, found, heads_ahead, parts_ahead, parts_more, parts_rise, parts_states}
+use Rattle.group_state.proofs.Standing.{found, heads_ahead, parts_ahead, parts_more, parts_rise, parts_states}
 
 -- the place at which a list stands behind another
 record Front (X : Type 0) (xs : List X) (k : ℕ) (x : X) : Type 0 where
@@ -132,3 +134,16 @@ module _ (course : AreTurns) where
   few_events most rs small few room =
       let less = recursion_from_All (λ (r : Replaying). length r.left ≤ most) rs (λ k d l. omega (arith, small k d l)) in
       omega (arith, length_sort (events_from 0 (map ahead rs)), few_from most 0 rs less, mul-le-mul_right most few, room)
+
+-- ---- the process of one node
+
+pub state_at : (parts : List Replaying) (after : List State) (node : ℕ) (p : Replaying) (S : State) → map (λ (r : Replaying). r.state) parts ≡ after → node < length parts
+    → p ≡ get_or parts node p → S ≡ p.state → Some S ≡ slice_get after node
+state_at parts after node p S are within p_is S_is =
+    ap Some S_is
+    ∙ ap (option_map (λ (r : Replaying). r.state)) (sym (slice_get_read parts (length parts) node p refl within p_is))
+    ∙ sym (slice_get-map (λ (r : Replaying). r.state) parts node)
+    ∙ ap (λ states. slice_get states node) are
+
+pub no_state_at : (parts : List Replaying) (after : List State) (node : ℕ) → map (λ (r : Replaying). r.state) parts ≡ after → length parts ≤ node → None ≡ slice_get after node
+no_state_at parts after node are past = sym (slice_get_past after node (omega (arith, ap length are, length-map parts (λ (r : Replaying). r.state), past)))

@@ -4,3 +4,4 @@ mod Nodes
 mod Standing
 mod Following
 mod Swaps
+mod Forwarding

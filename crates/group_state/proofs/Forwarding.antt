@@ -1,0 +1,92 @@
+-- A group's step: the node that comes next has its turn.
+use Rattle.std.proofs.Common.{◌≡◌, ℕ, suc, ◌+◌, ◌-◌, ◌≤◌, ◌<◌, List, [], ◌∷◌, ◌++◌, map, length, take, get_or, set, Option, Some, None, refl, sym, ap, subst, ◌∙◌, add-one, arith}
+use Rattle.std.specs.Prelude.{option_map, slice_get}
+use Rattle.std.specs.List.{swap, swap_remove}
+use Rattle.std.proofs.lemmas.List.{get_or-set_same, length-set, map-append, map-set, take_more, take_more_set}
+use Rattle.std.proofs.lemmas.Option.{get_or_from_slice_get, same_Some, slice_get_within}
+use Rattle.lib_calls.specs.Entry.{entry_of}
+use Rattle.lib_calls.specs.declared.entry.Entry.{Entry}
+use Rattle.lib_calls.specs.declared.entry.EntryView.{EntryView}
+use Rattle.guest_process.specs.OneEvent.{IsKept, Rises as AreRising}
+use Rattle.group_order.specs.Heads.{IsFirst}
+use Rattle.group_order.specs.Order.{AreMerged, Event, event}
+use Rattle.proc_replay.specs.Course.{AreTurns}
+use Rattle.proc_replay.specs.Replaying.{Makes, Replaying, after, turn}
+use Rattle.proc_replay.specs.Seen.{move_of}
+use Rattle.proc_replay.specs.declared.turn.Turn.{Turn}
+use Rattle.proc_replay.specs.declared.turn.Turn.TheVariants as code
+use Rattle.group_state.specs.At.{parts_from}
+use Rattle.group_state.specs.Moves.{Turns, event_before}
+use Rattle.group_state.specs.Place.{Fits, events, head}
+use Rattle.group_state.proofs.Following.{Goes, goes}
+use Rattle.group_state.proofs.Swaps.{put_back}
+
+-- a turn by way of the end of the list
+pub turned : (old : List Replaying) (node last : ℕ) (taken part : Replaying) (removed pushed new : List Replaying) (t : Turn) → node < length old → last ≡ length old - 1
+    → taken ≡ get_or old node taken → removed ≡ swap_remove old node taken → pushed ≡ removed ++ part ∷ [] → new ≡ swap pushed node last
+    → move_of t ≡ turn taken → part ≡ after taken → Turns old node new t
+turned old node last taken part removed pushed new t within last_is taken_is removed_is pushed_is new_is tells part_is = record {
+  tells = λ r at. tells ∙ ap turn (taken_is ∙ get_or_from_slice_get old node r taken at);
+  moves = λ r at.
+  new_is ∙ ap (λ l. swap l node last) (pushed_is ∙ ap (λ l. l ++ part ∷ []) removed_is)
+  ∙ ap (swap (swap_remove old node taken ++ part ∷ []) node) last_is
+  ∙ put_back old node taken part within
+  ∙ ap (set old node) (part_is ∙ ap after (taken_is ∙ get_or_from_slice_get old node r taken at));
+}
+
+-- what the turn of the node that comes next leaves
+pub record Forwarded (start new : List Replaying) (heads : List (Option ℕ)) (at node : ℕ) (t : Turn) : Type 0 where
+  pub entry : Entry
+  pub told : move_of t ≡ Makes entry
+  pub next : slice_get (events start) at ≡ Some (event node entry)
+  pub stand : new ≡ parts_from 0 start (take (at + 1) (events start))
+  pub fits : node < length new
+  pub within : at < length (events start)
+  pub merged : (x : Replaying) → x ≡ get_or new node x → set heads node (head x) ≡ map head new
+
+pub forwarded : AreMerged Entry → AreRising → IsKept → AreTurns → (start parts new : List Replaying) (heads : List (Option ℕ)) (at node : ℕ) (t : Turn)
+    → Fits start → parts ≡ parts_from 0 start (take at (events start)) → heads ≡ map head parts → IsFirst heads node → Turns parts node new t → Forwarded start new heads at node t
+forwarded merging rising kept course start parts new heads at node t fits stand are first turns =
+    let g = goes merging rising kept course start fits at node (subst (λ h. IsFirst h node) (are ∙ ap (map head) stand) first) in
+    let here : slice_get parts node ≡ Some g.part = ap (λ ps. slice_get ps node) stand ∙ g.here in
+    let within : node < length parts = slice_get_within parts node g.part here in
+    let new_is : new ≡ set parts node (after g.part) = turns.moves g.part here in
+    record {
+      entry = g.entry;
+      told = turns.tells g.part here ∙ g.makes;
+      next = g.next;
+      stand = new_is ∙ ap (λ ps. set ps node (after g.part)) stand ∙ g.more;
+      fits = omega (arith, ap length new_is, length-set parts node (after g.part), within);
+      within = g.within;
+      merged = λ x is.
+      let same : x ≡ after g.part = is ∙ ap (λ ps. get_or ps node x) new_is ∙ get_or-set_same parts node (after g.part) x within in
+      ap (λ h. set h node (head x)) are ∙ ap (λ y. set (map head parts) node (head y)) same ∙ sym (map-set head parts node (after g.part)) ∙ ap (map head) (sym new_is);
+    }
+
+same_entry : (e f : Entry) → Makes e ≡ Makes f → e ≡ f
+same_entry e f same = cc
+
+pub given : (start new : List Replaying) (heads : List (Option ℕ)) (at node : ℕ) (t : Turn) (v : EntryView) → Forwarded start new heads at node t → t ≡ code.Event v
+    → Some (event node (entry_of v)) ≡ slice_get (events start) at
+given start new heads at node t v f is =
+    ap (λ e. Some (event node e)) (same_entry (entry_of v) f.entry (ap move_of (sym is) ∙ f.told)) ∙ sym f.next
+
+pub is_event : (t : Turn) (e : Entry) → move_of t ≡ Makes e → ((v : EntryView) → t ≡ code.Event v → ⊥) → ⊥
+is_event (code.Event v) e is not = not v refl
+is_event code.LogEnd e is not = cc
+is_event (code.Diverged at why) e is not = cc
+
+pub last_after : (es : List (Event Entry)) (at : ℕ) → event_before es (at + 1) ≡ slice_get es at
+last_after es at = ap (event_before es) (add-one at)
+
+-- ---- the heads at the beginning
+
+pub headed : (parts : List Replaying) (node : ℕ) (part : Replaying) (merge more : List (Option ℕ)) (h : Option ℕ) → node < length parts → length merge ≡ length parts
+    → part ≡ get_or parts node part → h ≡ head part → more ≡ set merge node h → take node merge ≡ map head (take node parts) → take (node + 1) more ≡ map head (take (node + 1) parts)
+headed parts node part merge more h within size part_is h_is more_is so_far =
+    ap (take (node + 1)) more_is
+    ∙ take_more_set merge node h (omega (arith, within, size))
+    ∙ ap (λ l. l ++ h ∷ []) so_far
+    ∙ ap (λ o. map head (take node parts) ++ o ∷ []) (h_is ∙ ap head part_is)
+    ∙ sym (map-append head (take node parts) (get_or parts node part ∷ []))
+    ∙ ap (map head) (sym (take_more parts node part within))
