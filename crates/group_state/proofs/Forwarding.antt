@@ -28,10 +28,10 @@ pub turned : (old : List Replaying) (node last : ℕ) (taken part : Replaying) (
 turned old node last taken part removed pushed new t within last_is taken_is removed_is pushed_is new_is tells part_is = record {
   tells = λ r at. tells ∙ ap turn (taken_is ∙ get_or_from_slice_get old node r taken at);
   moves = λ r at.
-  new_is ∙ ap (λ l. swap l node last) (pushed_is ∙ ap (λ l. l ++ part ∷ []) removed_is)
-  ∙ ap (swap (swap_remove old node taken ++ part ∷ []) node) last_is
-  ∙ put_back old node taken part within
-  ∙ ap (set old node) (part_is ∙ ap after (taken_is ∙ get_or_from_slice_get old node r taken at));
+      new_is ∙ ap (λ l. swap l node last) (pushed_is ∙ ap (λ l. l ++ part ∷ []) removed_is)
+      ∙ ap (swap (swap_remove old node taken ++ part ∷ []) node) last_is
+      ∙ put_back old node taken part within
+      ∙ ap (set old node) (part_is ∙ ap after (taken_is ∙ get_or_from_slice_get old node r taken at));
 }
 
 -- what the turn of the node that comes next leaves
@@ -59,8 +59,8 @@ forwarded merging rising kept course start parts new heads at node t fits stand 
       fits = omega (arith, ap length new_is, length-set parts node (after g.part), within);
       within = g.within;
       merged = λ x is.
-      let same : x ≡ after g.part = is ∙ ap (λ ps. get_or ps node x) new_is ∙ get_or-set_same parts node (after g.part) x within in
-      ap (λ h. set h node (head x)) are ∙ ap (λ y. set (map head parts) node (head y)) same ∙ sym (map-set head parts node (after g.part)) ∙ ap (map head) (sym new_is);
+          let same : x ≡ after g.part = is ∙ ap (λ ps. get_or ps node x) new_is ∙ get_or-set_same parts node (after g.part) x within in
+          ap (λ h. set h node (head x)) are ∙ ap (λ y. set (map head parts) node (head y)) same ∙ sym (map-set head parts node (after g.part)) ∙ ap (map head) (sym new_is);
     }
 
 same_entry : (e f : Entry) → Makes e ≡ Makes f → e ≡ f

@@ -117,7 +117,9 @@ impl<'m, 'a> Group<'m, 'a> {
     fn restart(self, alloc: Global) -> Result<Group<'m, 'a>, AllocError>
         ensures { IfOk result (λ group. group ≡ record { start = self.entry.start; at = 0 }) }
     {
-        Group::begin(alloc, self.first)
+        let Group { first, parts, .. } = self;
+        drop(parts);
+        Group::begin(alloc, first)
     }
 
     // The group at position k, which is not behind it, and true; or at its end, and false.

@@ -1,4 +1,4 @@
-use Rattle.std.proofs.Common.{◌≡◌, ◌-◌, length, rules}
+use Rattle.std.proofs.Common.{◌-◌, rules}
 use Rattle.group_state.proofs.Forwarding.{turned}
 use Rattle.group_state.proofs.forward.take_turn.Goals as goal
 

@@ -1,4 +1,4 @@
-use Rattle.std.proofs.Common.{◌≡◌, ◌<◌, ◌∙◌, ap, sym, subst, arith, Some}
+use Rattle.std.proofs.Common.{ap, arith}
 use Rattle.lamport_tag.specs.Tag.{clock_of as tag_clock}
 use Rattle.group_state.specs.Place.{events}
 use Rattle.group_state.proofs.Following.{start_merged, tag_below}

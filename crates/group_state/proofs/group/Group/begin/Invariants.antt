@@ -1,6 +1,5 @@
-use Rattle.std.proofs.Common.{◌≡◌, ◌<◌, ◌^◌, ℕ, get_or, length, map, take}
+use Rattle.std.proofs.Common.{◌≡◌, ◌<◌, ◌^◌, length, map, take}
 use Rattle.std.specs.Prelude.{All}
-use Rattle.guest_process.specs.Fits.{StateFits}
 use Rattle.group_state.specs.Place.{Fits, head}
 use Rattle.group_state.proofs.group.Group.begin.Given as goal
 

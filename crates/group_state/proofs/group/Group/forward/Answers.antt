@@ -1,8 +1,8 @@
-use Rattle.std.proofs.Common.{◌≡◌, ◌∙◌, ◌<◌, length, map, subst, sym, ap, refl, arith, slice_set}
+use Rattle.std.proofs.Common.{◌∙◌, map, subst, sym, ap, refl, arith, slice_set}
 use Rattle.group_order.specs.Heads.{AreNone}
 use Rattle.group_state.specs.Place.{events, head}
 use Rattle.group_state.proofs.Following.{ends}
-use Rattle.group_state.proofs.Forwarding.{Forwarded, forwarded, given, is_event, last_after}
+use Rattle.group_state.proofs.Forwarding.{forwarded, given, is_event, last_after}
 use Rattle.group_state.proofs.group.Group.forward.Goals as goal
 
 pub returns-in_default : goal.returns-in_default
@@ -11,7 +11,7 @@ returns-in_default c =
     let i = c.self.invariant in
     rw (← c.self.view_is) (record {
       gives = sym (ends c.merges.ensures c.rises.ensures c.kept.ensures.ranges c.replays.ensures.turn g.first.items i.fits g.at
-      (subst AreNone (i.heads ∙ ap (map head) i.stand) c.in_default.ensures.next));
+          (subst AreNone (i.heads ∙ ap (map head) i.stand) c.in_default.ensures.next));
       place = refl;
     })
 
@@ -19,32 +19,32 @@ pub index-requires : goal.index-requires
 index-requires c =
     let g = c.self.inside in
     let i = c.self.invariant in
-    let f = forwarded c.merges.ensures c.rises.ensures c.kept.ensures.ranges c.replays.ensures.turn g.first.items g.parts.items c.take_turn.new.parts.items g.merge g.at c.in-Some.node
-    c.in_ok-turn.turn i.fits i.stand i.heads c.in-Some.ensures.next c.in_ok-turn.ensures in
+    let f = forwarded c.merges.ensures c.rises.ensures c.kept.ensures.ranges c.replays.ensures.turn g.first.items _ _ _ g.at _ _
+    i.fits i.stand i.heads c.in-Some.ensures.next c.in_ok-turn.ensures in
     omega (arith, f.fits)
 
 pub unreachable-requires : goal.unreachable-requires
 unreachable-requires c =
     let g = c.self.inside in
     let i = c.self.invariant in
-    let f = forwarded c.merges.ensures c.rises.ensures c.kept.ensures.ranges c.replays.ensures.turn g.first.items g.parts.items c.take_turn.new.parts.items g.merge g.at c.in-Some.node
-    c.in_ok-turn.turn i.fits i.stand i.heads c.in-Some.ensures.next c.in_ok-turn.ensures in
+    let f = forwarded c.merges.ensures c.rises.ensures c.kept.ensures.ranges c.replays.ensures.turn g.first.items _ _ _ g.at _ _
+    i.fits i.stand i.heads c.in-Some.ensures.next c.in_ok-turn.ensures in
     is_event c.in_ok-turn.turn f.entry f.told c.in_default-turn.not-Event
 
 pub overflow_add-group : goal.overflow_add-group
 overflow_add-group c =
     let g = c.self.inside in
     let i = c.self.invariant in
-    let f = forwarded c.merges.ensures c.rises.ensures c.kept.ensures.ranges c.replays.ensures.turn g.first.items g.parts.items c.take_turn.new.parts.items g.merge g.at c.in-Some.node
-    c.in_ok-turn.turn i.fits i.stand i.heads c.in-Some.ensures.next c.in_ok-turn.ensures in
+    let f = forwarded c.merges.ensures c.rises.ensures c.kept.ensures.ranges c.replays.ensures.turn g.first.items _ _ _ g.at _ _
+    i.fits i.stand i.heads c.in-Some.ensures.next c.in_ok-turn.ensures in
     omega (arith, f.within, i.few)
 
 pub invariant_of-group : goal.invariant_of-group
 invariant_of-group c =
     let g = c.self.inside in
     let i = c.self.invariant in
-    let f = forwarded c.merges.ensures c.rises.ensures c.kept.ensures.ranges c.replays.ensures.turn g.first.items g.parts.items c.take_turn.new.parts.items g.merge g.at c.in-Some.node
-    c.in_ok-turn.turn i.fits i.stand i.heads c.in-Some.ensures.next c.in_ok-turn.ensures in
+    let f = forwarded c.merges.ensures c.rises.ensures c.kept.ensures.ranges c.replays.ensures.turn g.first.items _ _ _ g.at _ _
+    i.fits i.stand i.heads c.in-Some.ensures.next c.in_ok-turn.ensures in
     record {
       parts = i.parts;
       fits = i.fits;
@@ -59,6 +59,6 @@ pub returns : goal.returns
 returns c =
     let g = c.self.inside in
     let i = c.self.invariant in
-    let f = forwarded c.merges.ensures c.rises.ensures c.kept.ensures.ranges c.replays.ensures.turn g.first.items g.parts.items c.take_turn.new.parts.items g.merge g.at c.in-Some.node
-    c.in_ok-turn.turn i.fits i.stand i.heads c.in-Some.ensures.next c.in_ok-turn.ensures in
+    let f = forwarded c.merges.ensures c.rises.ensures c.kept.ensures.ranges c.replays.ensures.turn g.first.items _ _ _ g.at _ _
+    i.fits i.stand i.heads c.in-Some.ensures.next c.in_ok-turn.ensures in
     rw (← c.self.view_is) (record { gives = given _ _ _ _ _ _ c.in-Event.entry f c.in-Event.is; place = refl })
