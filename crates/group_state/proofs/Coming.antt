@@ -8,14 +8,14 @@ use Rattle.proc_replay.specs.Replaying.{Replaying, Move, Makes, Ends, Diverges, 
 use Rattle.group_state.specs.Place.{clock_in, clock_of, head}
 
 -- the turn makes the first event that is ahead
-pub record Made (r : Replaying) : Type 0 where
+record Made (r : Replaying) : Type 0 where
   pub entry : Entry
   pub makes : turn r ≡ Makes entry
   pub first : ahead r ≡ entry ∷ ahead (after r)
   pub shorter : length (after r).left + 24 ≤ length r.left
 
 -- none is ahead, and the replay stands
-pub record Stood (r : Replaying) : Type 0 where
+record Stood (r : Replaying) : Type 0 where
   pub none : ahead r ≡ []
   pub stays : after r ≡ r
   pub headless : head r ≡ None
@@ -29,7 +29,7 @@ turns_more zero r = refl
 turns_more (suc n) r = turns_more n (after r)
 
 module _ (course : AreTurns) where
-  pub turn_cases : (r : Replaying) → Made r ⊎ Stood r
+  turn_cases : (r : Replaying) → Made r ⊎ Stood r
   turn_cases r = by_move (turn r) refl
     where
       stood : (m : Move) (v : Verdict) → turn r ≡ m → Tells m r.left v → clock_in m ≡ None → Stood r

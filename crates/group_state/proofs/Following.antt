@@ -20,7 +20,7 @@ use Rattle.group_state.proofs.Nodes.{among_own, count_take, length_sort, of_node
 use Rattle.group_state.proofs.Rising.{IsAboveTag, ahead_rises, ahead_tags}
 use Rattle.group_state.proofs.Standing.{found, heads_ahead, parts_ahead, parts_more, parts_rise, parts_states}
 
--- the place at which a list stands behind another
+-- x is the element at k
 record Front (X : Type 0) (xs : List X) (k : ℕ) (x : X) : Type 0 where
   pub here : slice_get xs k ≡ Some x
   pub within : k < length xs
@@ -56,7 +56,7 @@ module _ (merging : AreMerged Entry) (rising : AreRising) (kept : IsKept) where
   all_rise [] fits = tt
   all_rise (r ∷ rs) fits = (ahead_rises rising kept r fits.0, all_rise rs fits.1)
 
-  pub start_rises : (start : List Replaying) → Fits start → AllByRecursion (Rises clock_of) (map ahead start)
+  start_rises : (start : List Replaying) → Fits start → AllByRecursion (Rises clock_of) (map ahead start)
   start_rises start fits = all_rise start (recursion_from_All (λ (r : Replaying). StateFits r.state) start fits)
 
   pub start_merged : (start : List Replaying) → Fits start → IsMerged clock_of (map ahead start)

@@ -1,9 +1,9 @@
 -- A group's step: the node that comes next has its turn.
-use Rattle.std.proofs.Common.{◌≡◌, ℕ, suc, ◌+◌, ◌-◌, ◌≤◌, ◌<◌, List, [], ◌∷◌, ◌++◌, map, length, take, get_or, set, Option, Some, None, refl, sym, ap, subst, ◌∙◌, add-one, arith}
-use Rattle.std.specs.Prelude.{option_map, slice_get}
+use Rattle.std.proofs.Common.{◌≡◌, ℕ, ◌+◌, ◌-◌, ◌<◌, List, [], ◌∷◌, ◌++◌, map, length, take, get_or, set, Option, Some, refl, sym, ap, subst, ◌∙◌, add-one, arith}
+use Rattle.std.specs.Prelude.{slice_get}
 use Rattle.std.specs.List.{swap, swap_remove}
 use Rattle.std.proofs.lemmas.List.{get_or-set_same, length-set, map-append, map-set, take_more, take_more_set}
-use Rattle.std.proofs.lemmas.Option.{get_or_from_slice_get, same_Some, slice_get_within}
+use Rattle.std.proofs.lemmas.Option.{get_or_from_slice_get, slice_get_within}
 use Rattle.lib_calls.specs.Entry.{entry_of}
 use Rattle.lib_calls.specs.declared.entry.Entry.{Entry}
 use Rattle.lib_calls.specs.declared.entry.EntryView.{EntryView}
@@ -18,10 +18,10 @@ use Rattle.proc_replay.specs.declared.turn.Turn.TheVariants as code
 use Rattle.group_state.specs.At.{parts_from}
 use Rattle.group_state.specs.Moves.{Turns, event_before}
 use Rattle.group_state.specs.Place.{Fits, events, head}
-use Rattle.group_state.proofs.Following.{Goes, goes}
+use Rattle.group_state.proofs.Following.{goes}
 use Rattle.group_state.proofs.Swaps.{put_back}
 
--- a turn by way of the end of the list
+-- the node's replay is taken out, has its turn at the end of the list, and is put back
 pub turned : (old : List Replaying) (node last : ℕ) (taken part : Replaying) (removed pushed new : List Replaying) (t : Turn) → node < length old → last ≡ length old - 1
     → taken ≡ get_or old node taken → removed ≡ swap_remove old node taken → pushed ≡ removed ++ part ∷ [] → new ≡ swap pushed node last
     → move_of t ≡ turn taken → part ≡ after taken → Turns old node new t

@@ -19,14 +19,10 @@ pub parts_none : (i : ℕ) (rs : List Replaying) → parts_from i rs [] ≡ rs
 parts_none i [] = refl
 parts_none i (r ∷ rs) = ap (λ l. r ∷ l) (parts_none (suc i) rs)
 
-pub parts_length : (i : ℕ) (rs : List Replaying) (es : List (Event Entry)) → length (parts_from i rs es) ≡ length rs
-parts_length i [] es = refl
-parts_length i (r ∷ rs) es = ap suc (parts_length (suc i) rs es)
-
 both : {X : Type 0} (x y : X) (xs ys : List X) → x ≡ y → xs ≡ ys → x ∷ xs ≡ y ∷ ys
 both x y xs ys same rest = λ i. same i ∷ rest i
 
--- an event more gives its node a turn
+-- one event more gives its node a turn, and the others none
 parts_other : (i : ℕ) (rs : List Replaying) (es : List (Event Entry)) (x : Event Entry) → x.node < i → parts_from i rs (es ++ x ∷ []) ≡ parts_from i rs es
 parts_other i [] es x below = refl
 parts_other i (r ∷ rs) es x below =

@@ -1,11 +1,9 @@
 -- `swap_remove`, `push` and `swap` put an element in the place of another.
-use Rattle.std.proofs.Common.{◌≡◌, inl, inr, ℕ, zero, suc, ◌+◌, ◌-◌, ◌<◌, ◌≤◌, List, [], ◌∷◌, ◌++◌, length, take, drop, get_or, set, Option, Some, refl, sym, ap, subst, ◌∙◌, arith, take-suc}
-use Rattle.std.specs.Prelude.{slice_get, slice_set}
+use Rattle.std.proofs.Common.{◌≡◌, inl, inr, ℕ, suc, ◌-◌, ◌<◌, List, [], ◌∷◌, ◌++◌, length, take, get_or, set, sym, ap, subst, ◌∙◌, arith, take-suc}
 use Rattle.std.specs.List.{swap, swap_remove}
 use Rattle.std.proofs.lemmas.Bool.{cases_eq}
 use Rattle.std.proofs.lemmas.List.{drop_all, get_or_append_left, get_or_push, get_or-set_other, get_or-set_same, get_or-take, length-set, length-take-le, length_push, set-append_left, set-set, set_at, set_split, take-set, take_all}
 use Rattle.std.proofs.lemmas.List.Edits.{swap_is}
-use Rattle.std.proofs.lemmas.Option.{get_or_from_slice_get}
 use Rattle.std.proofs.Math.Seq.{take-set-lt}
 
 module _ {X : Type 0} (xs : List X) (n : ℕ) (d y : X) (size : length xs ≡ suc n) where

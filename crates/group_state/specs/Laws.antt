@@ -1,5 +1,5 @@
 -- What holds of the order of a group's events, for any logs.
-use Rattle.std.specs.Prelude.{◌≡◌, ℕ, ◌<◌, List, map, slice_get, Option, Some}
+use Rattle.std.specs.Prelude.{◌≡◌, ℕ, ◌<◌, List, map, slice_get, Some}
 use Rattle.lamport_tag.specs.declared.Tag.{Tag}
 use Rattle.lib_calls.specs.declared.entry.Entry.{Entry}
 use Rattle.group_order.specs.Order.{Event, IsOrder}
