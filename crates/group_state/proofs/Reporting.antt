@@ -21,11 +21,11 @@ use Rattle.group_state.proofs.Tallied.{counted}
 
 length_insert : (a : Event Entry) (es : List (Event Entry)) → length (insert_event clock_of a es) ≡ suc (length es)
 length_insert a [] = refl
-length_insert a (b ∷ es) = by_test (precedes clock_of b a)
+length_insert a (b ∷ es) = by_test (length_insert a es) (precedes clock_of b a)
   where
-    by_test : (t : Bool) → length (if t then b ∷ insert_event clock_of a es else a ∷ b ∷ es) ≡ suc (suc (length es))
-    by_test true = ap suc (length_insert a es)
-    by_test false = refl
+    by_test : length (insert_event clock_of a es) ≡ suc (length es) → (t : Bool) → length (if t then b ∷ insert_event clock_of a es else a ∷ b ∷ es) ≡ suc (suc (length es))
+    by_test more true = ap suc more
+    by_test more false = refl
 
 length_sort : (es : List (Event Entry)) → length (sort_events clock_of es) ≡ length es
 length_sort [] = refl
@@ -56,7 +56,7 @@ pub record Reports (start rest : List Replaying) (t : Tallying) (lines : List Re
   pub tallied : with_events t (all_accepted rest) ≡ with_events (nothing_of (group_count start)) (all_accepted start)
   pub new : AreNew t (all_accepted rest)
   pub room : HasRoomFor t (all_accepted rest)
-  pub lines : lines ++ map line_of rest ≡ map line_of start
+  pub told : lines ++ map line_of rest ≡ map line_of start
   pub fresh : All (λ r. r.state.events ≡ 0) rest
 
 parts_new : Rises → IsKept → (start : List Replaying) → AreParts start → Fits start → AreNew (nothing_of (group_count start)) (all_accepted start)
@@ -68,7 +68,7 @@ reports_first rises kept start parts fits few =
       tallied = refl;
       new = parts_new rises kept start parts fits;
       room = has_room (all_accepted start) (nothing_of (group_count start)) (omega (arith, many, few)) (omega (arith, many, few));
-      lines = refl;
+      told = refl;
       fresh = parts.fresh;
     }
 
@@ -99,7 +99,7 @@ reports_more start rest r t new lines line k counts said =
       tallied = sym (first_counted (accepted_in r) (all_accepted rest) t) ∙ k.tallied;
       new = (first_new (accepted_in r) (all_accepted rest) t k.new).1;
       room = (first_room (accepted_in r) (all_accepted rest) t k.room).1;
-      lines = append_assoc lines (line ∷ []) (map line_of rest) ∙ ap (λ (l : ReportLine). lines ++ l ∷ map line_of rest) said ∙ k.lines;
+      told = append_assoc lines (line ∷ []) (map line_of rest) ∙ ap (λ (l : ReportLine). lines ++ l ∷ map line_of rest) said ∙ k.told;
       fresh = All-tail (λ r. r.state.events ≡ 0) r rest k.fresh;
     })
 
@@ -112,4 +112,4 @@ all_counted rises kept start first items t lines is_start none parts fits k =
     ap counts_of (ap (λ (rs : List Replaying). with_events t (all_accepted rs)) (sym none) ∙ k.tallied) ∙ counts
 
 pub all_lines : (start items : List Replaying) (t : Tallying) (lines : List ReportLine) → items ≡ [] → Reports start items t lines → lines ≡ map line_of start
-all_lines start items t lines none k = sym (append-nil lines) ∙ ap (λ (rs : List Replaying). lines ++ map line_of rs) (sym none) ∙ k.lines
+all_lines start items t lines none k = sym (append-nil lines) ∙ ap (λ (rs : List Replaying). lines ++ map line_of rs) (sym none) ∙ k.told
