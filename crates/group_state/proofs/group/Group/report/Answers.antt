@@ -1,4 +1,4 @@
-use Rattle.std.proofs.Common.{◌≡◌, List, [], ◌∷◌, ◌++◌, ap, length, subst, sym, ◌∙◌, arith}
+use Rattle.std.proofs.Common.{◌≡◌, List, [], ◌∷◌, ap, length, subst, sym, ◌∙◌, arith}
 use Rattle.std.specs.Vec.Iter.{into_iter_items}
 use Rattle.std.proofs.lemmas.List.{nil_from_length}
 use Rattle.proc_replay.specs.Replaying.{Replaying}
@@ -36,7 +36,7 @@ loop-part-preserved c =
     let more = reports_more _ _ _ _ _ _ _ (subst (λ (rs : List Replaying). Reports c.args.self.start rs at.tally at.lines.items) steps at.invariant.1)
     c.in_ok-report_log.ensures.tally c.in_ok-report_log.ensures.line in (
       omega arith,
-      subst (λ (ls : List ReportLine). Reports c.args.self.start (into_iter_items c.next.new.self) c.report_log.new.tally ls) (sym c.in_ok-push.ensures.items) more,
+      subst (λ (ls : List ReportLine). Reports c.args.self.start (into_iter_items c.next.new.self) c.report_log.new.tally ls) (sym {A = List ReportLine} c.in_ok-push.ensures.items) more,
     )
 
 pub returns : goal.returns
