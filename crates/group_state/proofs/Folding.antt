@@ -62,12 +62,20 @@ image_so turns first last memory printed fresh ends is_memory is_printed =
     same_image : (a b c d : List ℕ) → a ≡ b → c ≡ d → ◌≡◌ {A = Image} (record { memory = a; printed = c }) (record { memory = b; printed = d })
     same_image a b c d p q = rw (p, q) refl
 
--- a copy of the replay at this node was at its end
-pub image_at : AreTurns → (start items : List Replaying) (node : ℕ) (first copy last : Replaying) (before memory printed : List ℕ) → All (λ r. r.state.events ≡ 0) start
-    → items ≡ start → node < length items → first ≡ get_or items node first → copy ≡ first → EndsAt copy last → memory ≡ last.state.store.memory.bytes
-    → before ≡ [] → printed ≡ before ++ prints (ahead copy) → ◌≡◌ {A = Option Image} (Some (record { memory = memory; printed = printed })) (option_map image_of (slice_get start node))
-image_at turns start items node first copy last before memory printed fresh same within read copied ends is_memory empty is_printed =
-    let there : first.state.events ≡ 0 = subst (λ (r : Replaying). r.state.events ≡ 0) (sym read) (subst (All (λ r. r.state.events ≡ 0)) (sym same) fresh node first within) in
-    let is = image_so turns copy last memory printed (ap (λ (r : Replaying). r.state.events) copied ∙ there) ends is_memory (is_printed ∙ ap (λ (bs : List ℕ). bs ++ prints (ahead copy)) empty) in
+-- a copy of the first replay was followed to its end
+pub image_at : AreTurns → (first copy last : Replaying) (before memory printed : List ℕ) → first.state.events ≡ 0 → copy ≡ first → EndsAt copy last → memory ≡ last.state.store.memory.bytes
+    → before ≡ [] → printed ≡ before ++ prints (ahead copy) → ◌≡◌ {A = Image} (record { memory = memory; printed = printed }) (image_of first)
+image_at turns first copy last before memory printed fresh copied ends is_memory empty is_printed =
+    image_so turns copy last memory printed (ap (λ (r : Replaying). r.state.events) copied ∙ fresh) ends is_memory (is_printed ∙ ap (λ (bs : List ℕ). bs ++ prints (ahead copy)) empty)
+    ∙ ap image_of copied
+
+-- the replay at a node has had no event
+pub fresh_at : (items : List Replaying) (node : ℕ) (first : Replaying) → All (λ r. r.state.events ≡ 0) items → node < length items → first ≡ get_or items node first → first.state.events ≡ 0
+fresh_at items node first fresh within read = subst (λ (r : Replaying). r.state.events ≡ 0) (sym read) (fresh node first within)
+
+-- its image is that of the node
+pub found_at : (start items : List Replaying) (node : ℕ) (first : Replaying) (image : Image) → items ≡ start → node < length items → first ≡ get_or items node first → image ≡ image_of first
+    → Some image ≡ option_map image_of (slice_get start node)
+found_at start items node first image same within read is =
     let found : slice_get items node ≡ Some first = slice_get-get_or items node first within ∙ ap Some (sym read) in
-    ap Some (is ∙ ap image_of copied) ∙ ap (option_map image_of) (sym found) ∙ ap (λ (rs : List Replaying). option_map image_of (slice_get rs node)) same
+    ap Some is ∙ ap (option_map image_of) (sym found) ∙ ap (λ (rs : List Replaying). option_map image_of (slice_get rs node)) same
