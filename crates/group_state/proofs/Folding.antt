@@ -1,5 +1,5 @@
 -- What is said of a log whose replay is at its end, and what its process leaves.
-use Rattle.std.proofs.Common.{◌≡◌, ℕ, ◌+◌, ◌<◌, List, [], ◌++◌, length, get_or, Option, Some, option_map, ap, refl, sym, subst, ◌∙◌, arith}
+use Rattle.std.proofs.Common.{◌≡◌, ℕ, ◌+◌, ◌<◌, List, [], ◌++◌, length, get_or, Some, option_map, ap, refl, sym, subst, ◌∙◌, arith}
 use Rattle.std.specs.List.{All, slice_get}
 use Rattle.std.proofs.lemmas.Option.{slice_get-get_or}
 use Rattle.lib_calls.specs.Traffic.{prints}
@@ -8,7 +8,7 @@ use Rattle.call_log.specs.Log.{entries_of, rest_of}
 use Rattle.guest_process.specs.declared.end.End.{End}
 use Rattle.guest_process.specs.Replay.{Verdict, accepted, divergence, state_after, verdict, verdict_by}
 use Rattle.guest_process.specs.State.{State}
-use Rattle.proc_replay.specs.Course.{AreTurns, Outcome, Tells, ahead, outcome, outcome_at}
+use Rattle.proc_replay.specs.Course.{AreTurns, Outcome, Tells, ahead, outcome_at}
 use Rattle.proc_replay.specs.Replaying.{Replaying, turn}
 use Rattle.group_state.specs.declared.image.Image.{Image}
 use Rattle.group_state.specs.declared.report.ReportLine.{ReportLine}

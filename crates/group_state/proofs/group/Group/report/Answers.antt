@@ -13,7 +13,7 @@ loop-part-init c =
     let whole = c.self.invariant in (
       gives.1 ∙ c.self.inside.first.ok.0 ∙ ap length (sym gives.0),
       reports_begin c.rises.ensures c.kept.ensures.ranges c.args.self.start c.self.inside.first.items _ _ _ _ (ap (λ (p : Place). p.start) c.self.view_is) gives.0
-      (c.group_count.ensures ∙ ap group_count c.deref.ensures.value) c.new-tally.ensures c.new-lines.ensures.items whole.parts whole.fits whole.few,
+          (c.group_count.ensures ∙ ap group_count c.deref.ensures.value) c.new-tally.ensures c.new-lines.ensures.items whole.parts whole.fits whole.few,
     )
 
 pub report_log-requires-clause-new : goal.report_log-requires-clause-new
