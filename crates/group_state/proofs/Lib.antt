@@ -1,7 +1,5 @@
-mod Rising
-mod Coming
-mod Nodes
-mod Standing
-mod Following
-mod Swaps
-mod Forwarding
+pub mod Counting
+pub mod Folding
+pub mod Reporting
+pub mod Tallied
+pub mod Walking

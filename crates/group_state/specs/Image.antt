@@ -1,5 +1,5 @@
 -- What a process leaves.
-use Rattle.std.specs.Prelude.{◌≡◌, ℕ, List}
+use Rattle.std.specs.Prelude.{ℕ, List}
 use Rattle.call_log.specs.Log.{entries_of}
 use Rattle.guest_process.specs.Replay.{accepted, state_after}
 use Rattle.lib_calls.specs.Traffic.{prints}

@@ -1,5 +1,5 @@
 -- What is said of a group's logs.
-use Rattle.std.specs.Prelude.{◌≡◌, ℕ, List, map}
+use Rattle.std.specs.Prelude.{◌≡◌, List, map}
 use Rattle.std.specs.List.{flat_map}
 use Rattle.call_log.specs.Log.{entries_of, rest_of}
 use Rattle.guest_process.specs.Replay.{Verdict, Whole, Left, Diverged, accepted, state_after, verdict}

@@ -1,0 +1,81 @@
+-- What is said of a log whose replay is at its end, and what its process leaves.
+use Rattle.std.proofs.Common.{◌≡◌, ℕ, ◌+◌, ◌<◌, List, [], ◌++◌, length, get_or, Some, option_map, ap, refl, sym, subst, ◌∙◌, arith}
+use Rattle.std.specs.List.{All, slice_get}
+use Rattle.std.proofs.lemmas.Option.{slice_get-get_or}
+use Rattle.lib_calls.specs.Traffic.{prints}
+use Rattle.lib_calls.specs.declared.entry.Entry.{Entry}
+use Rattle.call_log.specs.Log.{entries_of, rest_of}
+use Rattle.guest_process.specs.declared.end.End.{End}
+use Rattle.guest_process.specs.Replay.{Verdict, accepted, divergence, state_after, verdict, verdict_by}
+use Rattle.guest_process.specs.State.{State}
+use Rattle.proc_replay.specs.Course.{AreTurns, Outcome, Tells, ahead, outcome_at}
+use Rattle.proc_replay.specs.Replaying.{Replaying, turn}
+use Rattle.group_state.specs.declared.image.Image.{Image}
+use Rattle.group_state.specs.declared.report.ReportLine.{ReportLine}
+use Rattle.group_state.specs.declared.report.Verdict.{Verdict as Said}
+use Rattle.group_state.specs.Image.{image_of, memory_of, printed_of}
+use Rattle.group_state.specs.Report.{EndsAt, line_of, said_of}
+
+-- the replay of these entries from a first state comes to the state T and this verdict
+pub record Comes (S T : State) (es : List Entry) (rest : List ℕ) (v : Verdict) : Type 0 where
+  pub events : T.events ≡ accepted S es
+  pub last : T ≡ state_after S es (accepted S es)
+  pub verdict : v ≡ verdict S es rest
+
+comes_at : (S T : State) (es : List Entry) (rest behind : List ℕ) (v : Verdict) → S.events ≡ 0
+    → outcome_at S es rest ≡ record { accepted = T.events; last = T; verdict = v; rest = behind } → Comes S T es rest v
+comes_at S T es rest behind v fresh comes =
+    let all : S.events + accepted S es ≡ accepted S es = omega (arith, fresh) in record {
+      events = sym (ap (λ (o : Outcome). o.accepted) comes) ∙ all;
+      last = sym (ap (λ (o : Outcome). o.last) comes);
+      verdict = sym (ap (λ (o : Outcome). o.verdict) comes) ∙ ap (λ n. verdict_by (divergence S es) n rest) all;
+    }
+
+pub comes : AreTurns → (first last : Replaying) (v : Verdict) → first.state.events ≡ 0 → EndsAt first last → Tells (turn last) last.left v
+    → Comes first.state last.state (entries_of first.left) (rest_of first.left) v
+comes turns first last v fresh ends tells =
+    comes_at first.state last.state (entries_of first.left) (rest_of first.left) (rest_of last.left) v fresh (sym ends.same ∙ (turns last).comes v tells)
+
+same_line : (n m : List ℕ) (a b : ℕ) (c d : End) (e f : Said) → n ≡ m → a ≡ b → c ≡ d → e ≡ f
+    → ◌≡◌ {A = ReportLine} (record { name = n; events = a; end = c; verdict = e }) (record { name = m; events = b; end = d; verdict = f })
+same_line n m a b c d e f p q r s = rw (p, q, r, s) refl
+
+pub line_so : AreTurns → (first last : Replaying) (v : Verdict) (name : List ℕ) (count : ℕ) (end : End) (said : Said) → first.state.events ≡ 0 → EndsAt first last
+    → Tells (turn last) last.left v → name ≡ last.head.name → count ≡ last.state.events → end ≡ last.state.end → said ≡ said_of v
+    → ◌≡◌ {A = ReportLine} (record { name = name; events = count; end = end; verdict = said }) (line_of first)
+line_so turns first last v name count end said fresh ends tells is_name is_count is_end is_said =
+    let c = comes turns first last v fresh ends tells in
+    same_line name first.head.name count _ end _ said _
+    (is_name ∙ ap (λ h. h.name) ends.head)
+    (is_count ∙ c.events)
+    (is_end ∙ ap (λ (S : State). S.end) c.last)
+    (is_said ∙ ap said_of c.verdict)
+
+-- ---- what a process leaves
+
+image_so : AreTurns → (first last : Replaying) (memory printed : List ℕ) → first.state.events ≡ 0 → EndsAt first last → memory ≡ last.state.store.memory.bytes → printed ≡ prints (ahead first)
+    → ◌≡◌ {A = Image} (record { memory = memory; printed = printed }) (image_of first)
+image_so turns first last memory printed fresh ends is_memory is_printed =
+    let c = comes turns first last ends.verdict fresh ends ends.tells in
+    same_image memory (memory_of first) printed (printed_of first) (is_memory ∙ ap (λ (S : State). S.store.memory.bytes) c.last) is_printed
+  where
+    same_image : (a b c d : List ℕ) → a ≡ b → c ≡ d → ◌≡◌ {A = Image} (record { memory = a; printed = c }) (record { memory = b; printed = d })
+    same_image a b c d p q = rw (p, q) refl
+
+-- a copy of the first replay was followed to its end
+pub image_at : AreTurns → (first copy last : Replaying) (before memory printed : List ℕ) → first.state.events ≡ 0 → copy ≡ first → EndsAt copy last → memory ≡ last.state.store.memory.bytes
+    → before ≡ [] → printed ≡ before ++ prints (ahead copy) → ◌≡◌ {A = Image} (record { memory = memory; printed = printed }) (image_of first)
+image_at turns first copy last before memory printed fresh copied ends is_memory empty is_printed =
+    image_so turns copy last memory printed (ap (λ (r : Replaying). r.state.events) copied ∙ fresh) ends is_memory (is_printed ∙ ap (λ (bs : List ℕ). bs ++ prints (ahead copy)) empty)
+    ∙ ap image_of copied
+
+-- the replay at a node has had no event
+pub fresh_at : (items : List Replaying) (node : ℕ) (first : Replaying) → All (λ r. r.state.events ≡ 0) items → node < length items → first ≡ get_or items node first → first.state.events ≡ 0
+fresh_at items node first fresh within read = subst (λ (r : Replaying). r.state.events ≡ 0) (sym read) (fresh node first within)
+
+-- its image is that of the node
+pub found_at : (start items : List Replaying) (node : ℕ) (first : Replaying) (image : Image) → items ≡ start → node < length items → first ≡ get_or items node first → image ≡ image_of first
+    → Some image ≡ option_map image_of (slice_get start node)
+found_at start items node first image same within read is =
+    let found : slice_get items node ≡ Some first = slice_get-get_or items node first within ∙ ap Some (sym read) in
+    ap Some is ∙ ap (option_map image_of) (sym found) ∙ ap (λ (rs : List Replaying). option_map image_of (slice_get rs node)) same
