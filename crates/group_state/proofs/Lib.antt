@@ -1,5 +1,12 @@
+pub mod Coming
 pub mod Counting
 pub mod Folding
+pub mod Following
+pub mod Forwarding
+pub mod Nodes
 pub mod Reporting
+pub mod Rising
+pub mod Standing
+pub mod Swaps
 pub mod Tallied
 pub mod Walking
