@@ -47,7 +47,7 @@ made_cut group many = ap (take many) (files_same 0 group.names (heads_cut group 
 
 -- a file was not made
 create_stopped : KeepsFiles → (group : Group) (many : ℕ) (name : List ℕ) (before now after : Option Store) → many < size group → name ≡ log_name (name_of group many)
-    → now ≡ with_files (made_files group many) before → (after ≡ now) ⊎ (after ≡ with_file name [] now) → IsStopped group [] before after
+    → now ≡ with_files (made_files group many) before → (after ≡ now) ⊎ (after ≡ with_file name [] now) → IsStopped group [] [] before after
 create_stopped keeps group many name before now after within named is (inl same) =
     InHeads many nothing (same ∙ is ∙ ap (λ fs. with_files fs before) (sym (made_cut group many)))
 create_stopped keeps group many name before now after within named is (inr made) =
@@ -111,7 +111,7 @@ no_piece place p bytes = by_test (eqb place p)
     by_test true = append-nil (bytes p)
     by_test false = refl
 
-heads_stopped : (group : Group) (many n : ℕ) (before after : Option Store) → after ≡ with_files (files_of group (grown_at many (take n (heads group many)) (heads_to group many))) before → IsStopped group [] before after
+heads_stopped : (group : Group) (many n : ℕ) (before after : Option Store) → after ≡ with_files (files_of group (grown_at many (take n (heads group many)) (heads_to group many))) before → IsStopped group [] [] before after
 heads_stopped group many n before after is =
     InHeads (size group) (cut_to group many n)
     (is ∙ ap (λ fs. with_files fs before)
@@ -130,13 +130,13 @@ pub head_stops : KeepsFiles → (group : Group) (members : List Member) (many : 
     → (after ≡ now) ⊎ ((n : ℕ) × (after ≡ with_piece name (take n head) now)) → MakeAll group (heads group) (Err (error_of error)) before after
 head_stops keeps group members many name head before now after error have within named spelled is left = by_error error (stopped left)
   where
-    stopped : (after ≡ now) ⊎ ((n : ℕ) × (after ≡ with_piece name (take n head) now)) → IsStopped group [] before after
+    stopped : (after ≡ now) ⊎ ((n : ℕ) × (after ≡ with_piece name (take n head) now)) → IsStopped group [] [] before after
     stopped (inl same) = heads_stopped group many 0 before after
         (same ∙ is ∙ ap (λ fs. with_files fs before) (files_same 0 group.names (heads_to group many) (grown_at many (take 0 (heads group many)) (heads_to group many)) (λ p above below. sym (no_piece many p (heads_to group many)))))
     stopped (inr (n, made)) = heads_stopped group many n before after
         (piece_stands keeps group members many name (take n (heads group many)) before now after have within named is (made ∙ ap (λ h. with_piece name (take n h) now) spelled))
 
-    by_error : (error : WriteError) → IsStopped group [] before after → MakeAll group (heads group) (Err (error_of error)) before after
+    by_error : (error : WriteError) → IsStopped group [] [] before after → MakeAll group (heads group) (Err (error_of error)) before after
     by_error writing.Failed h = h
     by_error writing.NoMemory h = h
 

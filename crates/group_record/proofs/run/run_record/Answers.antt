@@ -14,13 +14,13 @@ use Rattle.group_record.proofs.run.run_record.Goals as goal
 pub returns-in_err-begun-clause-answers : goal.returns-in_err-begun-clause-answers
 returns-in_err-begun-clause-answers g c =
     let p = err_from_is_err_and c.from_residual.result c.from_residual.ensures.1 in
-    rw (p.1, p.2) (begin_fails c.args.schedule.now (begun c.args.schedule.now (map module_of c.args.modules.now)) c.in_err-begun.field-0.0 (g.F.Files.told c.args.files.now) (g.F.Files.told c.begin.new.files) c.in_err-begun.ensures.begins)
+    rw (p.1, p.2) (begin_fails c.args.images c.args.schedule.now (begun c.args.schedule.now (map module_of c.args.modules.now)) c.in_err-begun.field-0.0 (g.F.Files.told c.args.files.now) (g.F.Files.told c.begin.new.files) c.in_err-begun.ensures.begins)
 
 pub returns-in_err-recorder-clause-answers : goal.returns-in_err-recorder-clause-answers
 returns-in_err-recorder-clause-answers g c =
     let p = err_from_is_err_and c.from_residual-in_err-recorder.result c.from_residual-in_err-recorder.ensures.1 in
     let does = subst (λ (items : List Item). Does (λ group. after_items group 1 items) c.in_ok-begun.begun (Err c.in_err-recorder.field-0.0) (g.F.Files.told c.begin.new.files) (g.F.Files.told c.perform_all.new.files)) c.items.ensures.value c.in_err-recorder.ensures.comes in
-    rw (p.1, p.2) (run_fails c.args.schedule.now (begun c.args.schedule.now (map module_of c.args.modules.now)) c.in_ok-begun.begun c.in_err-recorder.field-0.0 (g.F.Files.told c.args.files.now) (g.F.Files.told c.begin.new.files) (g.F.Files.told c.perform_all.new.files) c.in_ok-begun.ensures.begins does)
+    rw (p.1, p.2) (run_fails c.args.images c.args.schedule.now (begun c.args.schedule.now (map module_of c.args.modules.now)) c.in_ok-begun.begun c.in_err-recorder.field-0.0 (g.F.Files.told c.args.files.now) (g.F.Files.told c.begin.new.files) (g.F.Files.told c.perform_all.new.files) c.in_ok-begun.ensures.begins does)
 
 pub summary_of-requires-clause-members : goal.summary_of-requires-clause-members
 summary_of-requires-clause-members g c =
@@ -51,7 +51,7 @@ pub returns-in_err-summary_of-clause-answers : goal.returns-in_err-summary_of-cl
 returns-in_err-summary_of-clause-answers g c =
     let p = err_from_is_err_and c.from_residual-in_err-summary_of.result c.from_residual-in_err-summary_of.ensures.1 in
     let does = subst (λ (items : List Item). Does (λ group. after_items group 1 items) c.in_ok-begun.begun (Ok c.in_ok-recorder.recorder) (g.F.Files.told c.begin.new.files) (g.F.Files.told c.perform_all.new.files)) c.items.ensures.value c.in_ok-recorder.ensures.comes in
-    rw (p.1, p.2) (saying_fails c.args.schedule.now (begun c.args.schedule.now (map module_of c.args.modules.now)) c.in_ok-begun.begun c.in_ok-recorder.recorder (g.F.Files.told c.args.files.now) (g.F.Files.told c.begin.new.files) (g.F.Files.told c.perform_all.new.files) c.in_ok-begun.ensures.begins does)
+    rw (p.1, p.2) (saying_fails c.args.images c.args.schedule.now (begun c.args.schedule.now (map module_of c.args.modules.now)) c.in_ok-begun.begun c.in_ok-recorder.recorder (g.F.Files.told c.args.files.now) (g.F.Files.told c.begin.new.files) (g.F.Files.told c.perform_all.new.files) c.in_ok-begun.ensures.begins does)
 
 pub returns-clause-answers : goal.returns-clause-answers
 returns-clause-answers g c =

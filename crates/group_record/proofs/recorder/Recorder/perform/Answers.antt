@@ -16,6 +16,7 @@ returns-in_err-act-in_default g c =
     record {
       comes = λ group done before keeps files.
           rw (p.1, p.2) (memory_stops group done (after_item group c.args.number c.args.item.now done) before (g.F.Files.told c.args.files.now) (item_leads group c.args.number c.args.item.now done) files);
+      prints = rw (p.1, p.2) tt;
       counts = search rules;
       cause = rw (p.1, p.2) tt;
     }
@@ -25,6 +26,7 @@ returns-in_ok-act-in_default g c = record {
   comes = λ group done before keeps files.
       item_comes c.by_counting.ensures.counted group done before (g.F.Files.told c.args.files.now) c.args.self c.in_ok-act-in_default.field-0 c.args.number c.args.item.now keeps files c.requires.in_range
       (is_other c.args.item.now c.in_default.not-Run) c.in_ok-act-in_default.ensures;
+  prints = ?;
   counts = search rules;
   cause = tt;
 }
