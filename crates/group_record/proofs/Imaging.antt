@@ -1,7 +1,7 @@
 -- Files that are made one after the other, and the images among them.
 use Rattle.std.proofs.Common.{◌≡◌, ◌⊎◌, ℕ, zero, suc, ◌+◌, ◌<◌, ◌≤◌, ◌++◌, Bool, true, false, cond, List, [], ◌∷◌, length, drop, drop-cons, slice_get, slice_index_or, take, Option, Some, None, inl, inr, refl, ap, sym, subst, ◌∙◌, append_assoc, append-nil, arith, add-one}
-use Rattle.std.specs.Prelude.{⊤, is_none, map, Result, Ok, Err}
-use Rattle.std.proofs.lemmas.List.{drop_all, take_all}
+use Rattle.std.specs.Prelude.{is_none, map, Err}
+use Rattle.std.proofs.lemmas.List.{drop_all, length-map, take_all}
 use Rattle.std.proofs.lemmas.Option.{slice_get-get_or}
 use Rattle.fri_outside.specs.Outside.{Store, with_file, with_piece}
 use Rattle.fri_outside.specs.Several.{with_files}
@@ -17,8 +17,10 @@ use Rattle.group_record.specs.declared.member.Member.{Member}
 use Rattle.group_record.specs.declared.recorder.Recorder.{Recorder}
 use Rattle.group_record.specs.Answer.{error_of}
 use Rattle.group_record.specs.Images.{IsPart, image_files, images, images_from, images_of, memory_in, part_of}
-use Rattle.group_record.specs.Recorded.{KeepsUp, MakesFiles}
+use Rattle.group_record.specs.Recorded.{KeepsUp, MakesFiles, kept_for}
 use Rattle.group_record.specs.Run.{Group, Progress, Step, entries, size, state_after}
+use Rattle.group_record.proofs.Small.{at_place}
+use Rattle.group_record.proofs.Starting.{name_at}
 
 -- ---- one file
 
@@ -149,6 +151,23 @@ all_images group steps p before now past so_far =
     so_far.made ∙ ap (λ fs. with_files fs before)
     (sym (so_far.rest ∙ ap (λ names. so_far.front ++ images_from group steps p names) (drop_all p group.names past) ∙ append-nil so_far.front))
 
+-- what the recorder has of process p is its image
+pub image_is : (group : Group) (done : Progress) (r : Recorder) (p : ℕ) (m : Member) (S : State) (name memory printed : List ℕ) → KeepsUp group done r → slice_get r.members.items p ≡ Some m → m.process ≡ Some S
+    → memory ≡ S.store.memory.bytes → p < length r.prints → printed ≡ slice_index_or r.prints p [] → image_files name memory printed ≡ image_at group done.steps p name
+image_is group done r p m S name memory printed keeps at process has kept told =
+    let k = keeps.members p m at in
+    ap (λ bytes. image_files name bytes printed) (has ∙ ap memory_in (sym process ∙ k.process ∙ sym k.after))
+    ∙ ap (image_files name (memory_in (state_after group done.steps p))) (told ∙ keeps.prints p (slice_index_or r.prints p []) (slice_get-get_or r.prints p [] kept))
+
+-- the name of a process is that of its line
+pub name_here : (lines : List ProcessLine) (p : ℕ) (line : ProcessLine) (name : List ℕ) (names : List (List ℕ)) → p < length lines → line ≡ slice_index_or lines p line → name ≡ (slice_index_or lines p line).name
+    → names ≡ map (λ line. line.name) lines → name ≡ slice_index_or names p []
+name_here lines p line name names within at is all =
+    is ∙ sym (ap (λ (line : ProcessLine). line.name) at) ∙ sym (name_at lines p line [] (at_place lines p line within at)) ∙ ap (λ (names : List (List ℕ)). slice_index_or names p []) (sym all)
+
+pub named_all : (lines : List ProcessLine) (names : List (List ℕ)) → names ≡ map (λ line. line.name) lines → length names ≡ length lines
+named_all lines names all = ap length all ∙ length-map lines (λ (line : ProcessLine). line.name)
+
 -- ---- as they are asked for
 
 asked_images : (asked : Bool) (group : Group) (done : Progress) → asked ≡ true → done.full ≡ None → images_of asked group done ≡ images group done.steps
@@ -165,3 +184,6 @@ asked_fails asked group done writing.NoMemory before after is room part = subst 
 
 pub unasked : (asked : Bool) (group : Group) (done : Progress) → asked ≡ false → images_of asked group done ≡ []
 unasked asked group done is = ap (λ asked. images_of asked group done) is
+
+pub within_kept : (asked : Bool) → asked ≡ true → (count kept p : ℕ) → kept ≡ kept_for asked count → p < count → p < kept
+within_kept asked is count kept p all within = subst (λ n. p < n) (sym (all ∙ ap (λ asked. kept_for asked count) is)) within

@@ -431,6 +431,11 @@ item_comes counting group done before now old new number i keeps files fits othe
       logs_stay group done (does group number i done) before now (does_logs group number i done other) files,
     )
 
+-- of as many processes as before it is kept what they print
+pub acted_prints : (acts : Bool) (w : World) (old new : Recorder) → new ≡ acted_on acts w old → length new.prints ≡ length old.prints
+acted_prints true w old new is = ap (λ (r : Recorder). length r.prints) is
+acted_prints false w old new is = ap (λ (r : Recorder). length r.prints) is
+
 -- ---- what a write says of the whole
 
 writes_err : (m : Member) (number : ℕ) (bytes : List ℕ) (error : RecordError) (before after : Option Store) → Writes {T = ⊤} m number bytes (Err error) before after → Writes {T = Recorder} m number bytes (Err error) before after

@@ -1,6 +1,6 @@
 -- What several proofs share.
 use Rattle.std.proofs.Common.{◌≡◌, ◌≢◌, ℕ, zero, suc, ◌<◌, List, [], ◌∷◌, length, refl, subst, slice_get, slice_index_or, Option, Some, ap, sym, ◌∙◌, arith}
-use Rattle.std.specs.Prelude.{slice_set}
+use Rattle.std.specs.Prelude.{OnErr, Result, Ok, Err, slice_set}
 use Rattle.std.proofs.lemmas.Option.{same_Some, slice_get-get_or}
 use Rattle.fri_outside.specs.Outside.{Counts, NoneFell}
 
@@ -29,3 +29,8 @@ pub length_set : {A : Type 0} (xs : List A) (p : ℕ) (new : A) → length (slic
 length_set [] p new = refl
 length_set (x ∷ xs) zero new = refl
 length_set (x ∷ xs) (suc p) new = ap suc (length_set xs p new)
+
+-- what follows from what is said of an error
+pub on_err : {T E : Type 0} (P Q : Type 0) (result : Result T E) → (P → Q) → OnErr result P → OnErr result Q
+on_err P Q (Ok value) then h = h
+on_err P Q (Err error) then h = then h
