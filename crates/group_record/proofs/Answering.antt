@@ -1,11 +1,10 @@
 -- What a recording answers, from how it begins and how far its recorder comes.
-use Rattle.std.proofs.Common.{◌≡◌, ℕ, Bool, ◌++◌, List, [], length, map, slice_index_or, Option, refl, ap, sym, subst, ◌∙◌, append-nil}
+use Rattle.std.proofs.Common.{◌≡◌, ℕ, Bool, List, [], length, slice_index_or, Option, refl, ap, sym, subst, ◌∙◌, append-nil}
 use Rattle.std.specs.Prelude.{All, IsTrue, Result, Ok, Err, is_some}
 use Rattle.std.proofs.lemmas.Option.{slice_get-get_or}
 use Rattle.std.proofs.lemmas.List.{length-map}
 use Rattle.fri_outside.specs.Outside.{Store}
 use Rattle.fri_outside.specs.Several.{with_files}
-use Rattle.schedule_text.specs.declared.item.Item.{Item}
 use Rattle.schedule_text.specs.declared.process.ProcessLine.{ProcessLine}
 use Rattle.schedule_text.specs.Schedule.{IsInRange, IsSchedule, Schedule}
 use Rattle.guest_process.specs.State.{State}
@@ -18,7 +17,7 @@ use Rattle.group_record.specs.Begun.{Begins, StopsAtHead}
 use Rattle.group_record.specs.Files.{Between, IsStopped}
 use Rattle.group_record.specs.Images.{IsPart, images_of}
 use Rattle.group_record.specs.Logs.{logs}
-use Rattle.group_record.specs.Recorded.{Comes, Does, FilesOf, KeepsUp, MakesFiles, MakesImages, Sums, UnderWay, kept_for}
+use Rattle.group_record.specs.Recorded.{Does, FilesOf, KeepsUp, MakesFiles, MakesImages, Sums, UnderWay}
 use Rattle.group_record.specs.Run.{Group, Progress, after_items, nothing_yet, run}
 use Rattle.group_record.proofs.Going.{stopped_before, stopped_in, stopped_on}
 use Rattle.group_record.proofs.Imaging.{files_behind}
@@ -124,8 +123,3 @@ last_count schedule first last keeps = keeps.count ∙ length-map schedule.proce
 
 pub all_present : (group : Group) (done : Progress) (r : Recorder) → KeepsUp group done r → All (λ m. IsTrue (is_some m.process)) r.members.items
 all_present group done r keeps = λ i d within. ap is_some (keeps.members i (slice_index_or r.members.items i d) (slice_get-get_or r.members.items i d within)).process
-
--- so many prints are kept as images are asked for
-pub last_prints : (asked : Bool) (schedule : Schedule) (lines : List ProcessLine) (first last : Recorder) → lines ≡ schedule.processes
-    → length first.prints ≡ kept_for asked (length schedule.processes) → length last.prints ≡ length first.prints → length last.prints ≡ kept_for asked (length lines)
-last_prints asked schedule lines first last same begun kept = kept ∙ begun ∙ sym (ap (λ (lines : List ProcessLine). kept_for asked (length lines)) same)

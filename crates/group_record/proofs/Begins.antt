@@ -1,5 +1,5 @@
 -- A group that has begun, and its recorder before the first item.
-use Rattle.std.proofs.Common.{◌≡◌, ◌≢◌, ℕ, Bool, ◌+◌, ◌<◌, ◌≤◌, ◌++◌, List, [], ◌∷◌, length, length-append, map, slice_get, slice_index_or, Option, Some, None, refl, ap, sym, subst, ◌∙◌, append-nil, arith, true}
+use Rattle.std.proofs.Common.{◌≡◌, ◌≢◌, ℕ, Bool, ◌+◌, ◌<◌, ◌≤◌, ◌++◌, List, [], ◌∷◌, length, length-append, map, slice_get, slice_index_or, Option, Some, refl, ap, sym, subst, ◌∙◌, append-nil, arith}
 use Rattle.std.specs.Prelude.{All, AllPairs, nat_le, ◌&&◌, Result, Ok, Err, IsTrue, codes}
 use Rattle.std.specs.Int.{w32, to_le_bytes}
 use Rattle.std.specs.List.{list_all}
@@ -11,7 +11,6 @@ use Rattle.fri_outside.specs.Outside.{Store}
 use Rattle.fri_outside.specs.Several.{with_files}
 use Rattle.fri_text.specs.Name.{is_name, is_name_byte}
 use Rattle.call_log.specs.Head.{Head, head_bytes}
-use Rattle.call_log.specs.Limits.{most_log}
 use Rattle.schedule_text.specs.declared.process.ProcessLine.{ProcessLine}
 use Rattle.schedule_text.specs.Schedule.{IsProcess, IsSchedule, Schedule}
 use Rattle.guest_process.specs.State.{State}
@@ -24,7 +23,7 @@ use Rattle.group_record.specs.Answer.{group_of, names_of}
 use Rattle.group_record.specs.Begun.{AreStarted, Begins, BeginsAll, HaveHeads, IsNewRecorder, MakeAll, StopsAtHead, heads}
 use Rattle.group_record.specs.Files.{InHeads}
 use Rattle.group_record.specs.Recorded.{FilesOf, IsMember, KeepsUp, kept_for}
-use Rattle.group_record.specs.Run.{Group, head_of, name_of, nothing_yet, size}
+use Rattle.group_record.specs.Run.{head_of, name_of, nothing_yet}
 use Rattle.group_record.proofs.Heads.{heads_are_logs}
 use Rattle.group_record.proofs.Printing.{none_printed}
 use Rattle.group_record.proofs.Recording.{some_there}

@@ -92,7 +92,6 @@ stopped_on group early late before after on (InHeads many cut is) = InHeads many
 stopped_on group early late before after on (Between steps front is) = Between steps (front_on steps early late front on) is
 stopped_on group early late before after on (InEntry steps later p n e split is) =
     InEntry steps (on.0 ++ later) p n e (on.1 ∙ ap (λ xs. on.0 ++ xs) split ∙ sym (append_assoc on.0 later (Had p e ∷ steps))) is
-
 stopped_on group early late before after on (InImages n m is) = Between early on (is ∙ ap (λ fs. with_files fs before) (behind_none (logs group early) n m))
 
 -- so it is where images are asked for

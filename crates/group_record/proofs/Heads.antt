@@ -1,20 +1,17 @@
 -- The files of the logs while they are begun.
-use Rattle.std.proofs.Common.{◌≡◌, ◌≢◌, ◌⊎◌, ℕ, zero, suc, ◌+◌, ◌<◌, ◌≤◌, ◌++◌, Bool, true, false, cond, eqb, ltb, List, [], ◌∷◌, length, slice_get, slice_index_or, take, Option, Some, None, inl, inr, refl, ap, sym, subst, ◌∙◌, append-nil, arith}
-use Rattle.std.specs.Prelude.{Err, string_bytes}
+use Rattle.std.proofs.Common.{◌≡◌, ◌⊎◌, ℕ, suc, ◌+◌, ◌<◌, ◌≤◌, ◌++◌, Bool, true, false, cond, eqb, ltb, List, [], ◌∷◌, length, slice_index_or, take, Option, inl, inr, refl, ap, sym, ◌∙◌, append-nil, arith}
+use Rattle.std.specs.Prelude.{Err}
 use Rattle.std.proofs.Math.Seq.{take-suc}
 use Rattle.std.proofs.lemmas.Bool.{eqb-true}
 use Rattle.std.proofs.lemmas.Bool.Decides.{nat_tests}
 use Rattle.std.proofs.lemmas.List.{take_all}
-use Rattle.std.proofs.lemmas.Option.{slice_get-get_or}
 use Rattle.fri_outside.specs.Outside.{Store, with_file, with_piece}
-use Rattle.fri_outside.specs.Several.{grown, with_files}
+use Rattle.fri_outside.specs.Several.{with_files}
 use Rattle.fri_outside.specs.Laws.{KeepsFiles}
 use Rattle.fri_outside.specs.declared.files.WriteError.{WriteError}
 use Rattle.fri_outside.specs.declared.files.WriteError.TheVariants as writing
-use Rattle.call_log.specs.Entry.{encodings}
-use Rattle.call_log.specs.Head.{head_bytes}
 use Rattle.group_record.specs.declared.member.Member.{Member}
-use Rattle.group_record.specs.Run.{Group, head_of, log_of, name_of, size}
+use Rattle.group_record.specs.Run.{Group, log_of, name_of, size}
 use Rattle.group_record.specs.Logs.{files_of, log_name, logs}
 use Rattle.group_record.specs.Files.{IsStopped, InHeads, heads_cut}
 use Rattle.group_record.specs.Answer.{error_of}

@@ -1,7 +1,7 @@
 -- Files that are made one after the other, and the images among them.
-use Rattle.std.proofs.Common.{◌≡◌, ◌⊎◌, ℕ, zero, suc, ◌+◌, ◌<◌, ◌≤◌, ◌++◌, Bool, true, false, cond, List, [], ◌∷◌, length, drop, drop-cons, slice_get, slice_index_or, take, Option, Some, None, inl, inr, refl, ap, sym, subst, ◌∙◌, append_assoc, append-nil, arith, add-one}
+use Rattle.std.proofs.Common.{◌≡◌, ◌⊎◌, ℕ, zero, suc, ◌+◌, ◌<◌, ◌++◌, Bool, true, cond, List, [], ◌∷◌, length, drop, drop-cons, slice_get, slice_index_or, take, Option, Some, None, inl, inr, refl, ap, sym, subst, ◌∙◌, append_assoc, append-nil, arith, add-one}
 use Rattle.std.specs.Prelude.{is_none, map, Err}
-use Rattle.std.proofs.lemmas.List.{drop_all, length-map, take_all}
+use Rattle.std.proofs.lemmas.List.{length-map, take_all}
 use Rattle.std.proofs.lemmas.Option.{slice_get-get_or}
 use Rattle.fri_outside.specs.Outside.{Store, with_file, with_piece}
 use Rattle.fri_outside.specs.Several.{with_files}
@@ -11,8 +11,6 @@ use Rattle.fri_outside.specs.declared.files.WriteError.TheVariants as writing
 use Rattle.lib_calls.specs.Traffic.{prints}
 use Rattle.guest_process.specs.State.{State}
 use Rattle.schedule_text.specs.declared.process.ProcessLine.{ProcessLine}
-use Rattle.group_record.specs.declared.error.RecordError.{RecordError}
-use Rattle.group_record.specs.declared.error.RecordError.TheVariants as errors
 use Rattle.group_record.specs.declared.member.Member.{Member}
 use Rattle.group_record.specs.declared.recorder.Recorder.{Recorder}
 use Rattle.group_record.specs.Answer.{error_of}
@@ -25,7 +23,7 @@ use Rattle.group_record.proofs.Starting.{name_at}
 -- ---- one file
 
 -- it was made, and its bytes were put behind
-pub file_made : KeepsFiles → (name file bytes : List ℕ) (before now after : Option Store) → file ≡ name → now ≡ with_file file [] before → after ≡ with_piece file bytes now → after ≡ with_file name bytes before
+file_made : KeepsFiles → (name file bytes : List ℕ) (before now after : Option Store) → file ≡ name → now ≡ with_file file [] before → after ≡ with_piece file bytes now → after ≡ with_file name bytes before
 file_made keeps name file bytes before now after named made is =
     is ∙ ap (with_piece file bytes) made ∙ keeps.behind before file [] bytes ∙ ap (λ n. with_file n bytes before) named
 
@@ -77,7 +75,7 @@ front_cut x (y ∷ xs) ys (suc n) m =
     let rest = front_cut y xs ys n m in
     (suc rest.0, rest.1, ap (λ fs. x ∷ fs) rest.2)
 
-pub front_part : (xs ys : List (List ℕ × List ℕ)) (before after : Option Store) → IsPart xs before after → IsPart (xs ++ ys) before after
+front_part : (xs ys : List (List ℕ × List ℕ)) (before after : Option Store) → IsPart xs before after → IsPart (xs ++ ys) before after
 front_part xs ys before after (inl same) = inl same
 front_part [] ys before after (inr (n, m, is)) = inl (is ∙ ap (λ fs. with_files fs before) (no_part n m))
 front_part (x ∷ xs) ys before after (inr (n, m, is)) =
@@ -91,16 +89,13 @@ behind_cut (x ∷ xs) ys n m =
     let rest = behind_cut xs ys n m in
     (suc rest.0, ap (λ fs. x ∷ fs) rest.1)
 
-pub behind_part : (xs ys : List (List ℕ × List ℕ)) (before now after : Option Store) → now ≡ with_files xs before → IsPart ys now after → IsPart (xs ++ ys) before after
+behind_part : (xs ys : List (List ℕ × List ℕ)) (before now after : Option Store) → now ≡ with_files xs before → IsPart ys now after → IsPart (xs ++ ys) before after
 behind_part xs ys before now after made (inl same) = whole_part xs ys before after (same ∙ made)
 behind_part xs ys before now after made (inr (n, m, is)) =
     let cut = behind_cut xs ys n m in
     inr (cut.0, m, is ∙ ap (with_files (part_of ys n m)) made ∙ sym (files_behind xs (part_of ys n m) before) ∙ ap (λ fs. with_files fs before) (sym cut.1))
 
 -- ---- the two files of an image
-
-pub both_made : (one other : List ℕ × List ℕ) (before now after : Option Store) → now ≡ with_file one.0 one.1 before → after ≡ with_file other.0 other.1 now → after ≡ with_files (one ∷ other ∷ []) before
-both_made one other before now after first second = second ∙ ap (with_file other.0 other.1) first
 
 pub first_fails : (one other : List ℕ × List ℕ) (before after : Option Store) → IsPart (one ∷ []) before after → IsPart (one ∷ other ∷ []) before after
 first_fails one other before after part = front_part (one ∷ []) (other ∷ []) before after part
@@ -115,9 +110,6 @@ pub record ImagesTo (group : Group) (steps : List Step) (p : ℕ) (before now : 
   pub front : List (List ℕ × List ℕ)
   pub rest : images group steps ≡ front ++ images_from group steps p (drop p group.names)
   pub made : now ≡ with_files front before
-
-pub none_made : (group : Group) (steps : List Step) (before : Option Store) → ImagesTo group steps 0 before before
-none_made group steps before = record { front = []; rest = refl; made = refl }
 
 -- the image of process p
 abbrev pub image_at : Group → List Step → ℕ → List ℕ → List (List ℕ × List ℕ)
@@ -146,11 +138,6 @@ image_fails group steps p name before now after within named so_far part =
     subst (λ fs. IsPart fs before after) (sym (so_far.rest ∙ ap (λ fs. so_far.front ++ fs) (images_here group steps p name within named)))
     (behind_part so_far.front (image_at group steps p name ++ others) before now after so_far.made (front_part (image_at group steps p name) others now after part))
 
-pub all_images : (group : Group) (steps : List Step) (p : ℕ) (before now : Option Store) → size group ≤ p → ImagesTo group steps p before now → now ≡ with_files (images group steps) before
-all_images group steps p before now past so_far =
-    so_far.made ∙ ap (λ fs. with_files fs before)
-    (sym (so_far.rest ∙ ap (λ names. so_far.front ++ images_from group steps p names) (drop_all p group.names past) ∙ append-nil so_far.front))
-
 -- what the recorder has of process p is its image
 pub image_is : (group : Group) (done : Progress) (r : Recorder) (p : ℕ) (m : Member) (S : State) (name memory printed : List ℕ) → KeepsUp group done r → slice_get r.members.items p ≡ Some m → m.process ≡ Some S
     → memory ≡ S.store.memory.bytes → p < length r.prints → printed ≡ slice_index_or r.prints p [] → image_files name memory printed ≡ image_at group done.steps p name
@@ -174,16 +161,10 @@ asked_images : (asked : Bool) (group : Group) (done : Progress) → asked ≡ tr
 asked_images asked group done is room =
     ap (λ asked. images_of asked group done) is ∙ ap (λ full. cond (is_none full) (images group done.steps) []) room
 
-pub asked_made : (asked : Bool) (group : Group) (done : Progress) (before after : Option Store) → asked ≡ true → done.full ≡ None → after ≡ with_files (images group done.steps) before → after ≡ with_files (images_of asked group done) before
-asked_made asked group done before after is room made = made ∙ ap (λ fs. with_files fs before) (sym (asked_images asked group done is room))
-
 pub asked_fails : (asked : Bool) (group : Group) (done : Progress) (error : WriteError) (before after : Option Store) → asked ≡ true → done.full ≡ None → IsPart (images group done.steps) before after
     → MakesFiles (images_of asked group done) (Err (error_of error)) before after
 asked_fails asked group done writing.Failed before after is room part = subst (λ fs. IsPart fs before after) (sym (asked_images asked group done is room)) part
 asked_fails asked group done writing.NoMemory before after is room part = subst (λ fs. IsPart fs before after) (sym (asked_images asked group done is room)) part
-
-pub unasked : (asked : Bool) (group : Group) (done : Progress) → asked ≡ false → images_of asked group done ≡ []
-unasked asked group done is = ap (λ asked. images_of asked group done) is
 
 pub within_kept : (asked : Bool) → asked ≡ true → (count kept p : ℕ) → kept ≡ kept_for asked count → p < count → p < kept
 within_kept asked is count kept p all within = subst (λ n. p < n) (sym (all ∙ ap (λ asked. kept_for asked count) is)) within

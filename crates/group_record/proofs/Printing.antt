@@ -1,17 +1,16 @@
 -- What is kept of the prints is what the events printed.
-use Rattle.std.proofs.Common.{◌≡◌, ◌≢◌, ℕ, zero, suc, ◌<◌, ◌≤◌, ◌++◌, Bool, true, false, cond, eqb, List, [], ◌∷◌, length, slice_get, slice_index_or, Option, Some, None, refl, ap, sym, subst, ◌∙◌, append_assoc, append-nil, arith}
-use Rattle.std.specs.Prelude.{replicate, slice_set}
+use Rattle.std.proofs.Common.{◌≡◌, ◌≢◌, ℕ, zero, suc, ◌<◌, ◌++◌, true, false, eqb, List, [], ◌∷◌, length, slice_get, slice_index_or, Some, refl, ap, sym, ◌∙◌, append_assoc, append-nil, arith}
+use Rattle.std.specs.Prelude.{replicate}
 use Rattle.std.proofs.lemmas.Bool.{eq-eqb}
 use Rattle.std.proofs.lemmas.Bool.Decides.{nat_tests}
-use Rattle.std.proofs.lemmas.List.{length-replicate}
 use Rattle.std.proofs.lemmas.Option.{slice_get-get_or}
 use Rattle.lib_calls.specs.declared.entry.Entry.{Entry}
 use Rattle.lib_calls.specs.Traffic.{printed, prints}
 use Rattle.guest_process.specs.Live.{Event}
 use Rattle.group_world.specs.History.{put_last_if}
-use Rattle.group_record.specs.Recorded.{kept_for, with_print}
+use Rattle.group_record.specs.Recorded.{with_print}
 use Rattle.group_record.specs.Run.{Step, Had, entries}
-use Rattle.group_record.proofs.Small.{length_set, set_each}
+use Rattle.group_record.proofs.Small.{set_each}
 
 -- what is printed with one event more
 prints_more : (es : List Entry) (e : Entry) → prints (es ++ e ∷ []) ≡ prints es ++ printed e
@@ -48,16 +47,3 @@ pub none_printed : (count p : ℕ) (bytes : List ℕ) → slice_get (replicate c
 none_printed zero p bytes at = cc
 none_printed (suc count) zero bytes at = cc
 none_printed (suc count) (suc p) bytes at = none_printed count p bytes at
-
--- as many are kept as before
-pub kept_same : (old new : List (List ℕ)) (p : ℕ) (piece : List ℕ) → new ≡ with_print old p piece → length new ≡ length old
-kept_same old new p piece is = ap length is ∙ length_set old p (slice_index_or old p [] ++ piece)
-
-pub kept_first : (new : List (List ℕ)) (count : ℕ) → new ≡ replicate count [] → length new ≡ count
-kept_first new count is = ap length is ∙ length-replicate count []
-
--- a process past those of which it is kept
-pub set_past : (kept : List (List ℕ)) (p : ℕ) (new : List ℕ) → length kept ≤ p → slice_set kept p new ≡ kept
-set_past [] p new past = refl
-set_past (x ∷ kept) zero new past = absurd (omega (arith, past))
-set_past (x ∷ kept) (suc p) new past = ap (λ t. x ∷ t) (set_past kept p new (omega (arith, past)))

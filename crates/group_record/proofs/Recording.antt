@@ -1,8 +1,8 @@
 -- A recorder that goes on by one try or one item.
-use Rattle.std.proofs.Common.{◌≡◌, ◌≢◌, ◌⊎◌, ℕ, zero, suc, ◌+◌, ◌<◌, ◌≤◌, ◌^◌, ◌++◌, Bool, true, false, ◌&&◌, not, cond, eqb, List, [], ◌∷◌, length, map, slice_get, take, Option, Some, None, inl, inr, refl, ap, sym, subst, ◌∙◌, arith, add-one, length-append, string_bytes}
-use Rattle.std.specs.Prelude.{All, IfOk, Result, ⊤, Ok, Err, is_some, nat_le, slice_set, option_map, option_and_then}
+use Rattle.std.proofs.Common.{◌≡◌, ◌≢◌, ℕ, zero, suc, ◌+◌, ◌<◌, ◌≤◌, ◌^◌, ◌++◌, Bool, true, false, ◌&&◌, not, cond, eqb, List, [], ◌∷◌, length, map, slice_get, take, Option, Some, None, inl, inr, refl, ap, sym, subst, ◌∙◌, arith, add-one, length-append, string_bytes}
+use Rattle.std.specs.Prelude.{All, IfOk, Result, ⊤, Ok, Err, is_some, nat_le, option_map, option_and_then}
 use Rattle.std.proofs.lemmas.Bool.{eq-eqb}
-use Rattle.std.proofs.lemmas.Bool.Decides.{nat_tests, eqb_tells}
+use Rattle.std.proofs.lemmas.Bool.Decides.{nat_tests}
 use Rattle.std.proofs.lemmas.List.Elements.{All-push}
 use Rattle.std.proofs.lemmas.Option.{same_Some, slice_get-map}
 use Rattle.fri_outside.specs.Outside.{Store, with_piece}
@@ -31,7 +31,7 @@ use Rattle.group_record.specs.declared.error.RecordError.{RecordError}
 use Rattle.group_record.specs.declared.error.RecordError.TheVariants as errors
 use Rattle.group_record.specs.declared.member.Member.{Member}
 use Rattle.group_record.specs.declared.recorder.Recorder.{Recorder}
-use Rattle.group_record.specs.Run.{Group, Progress, Step, Had, Did, acted, acted_if, after_item, around, attempt, can_be_killed, does, entries, event_of, filled, had, has_room, has_sent, head_of, history, idled, log_of, runs, size, state_after, unless_full}
+use Rattle.group_record.specs.Run.{Group, Progress, Step, Had, Did, acted, acted_if, after_item, around, attempt, can_be_killed, does, entries, event_of, filled, had, has_sent, head_of, history, idled, log_of, runs, size, state_after, unless_full}
 use Rattle.group_record.specs.Logs.{logs}
 use Rattle.group_record.specs.Files.{IsStopped, Between, InEntry}
 use Rattle.group_record.specs.Around.{env_of}

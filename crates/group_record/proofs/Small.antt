@@ -1,5 +1,5 @@
 -- What several proofs share.
-use Rattle.std.proofs.Common.{◌≡◌, ◌≢◌, ℕ, zero, suc, ◌<◌, List, [], ◌∷◌, length, refl, subst, slice_get, slice_index_or, Option, Some, ap, sym, ◌∙◌, arith}
+use Rattle.std.proofs.Common.{◌≡◌, ◌≢◌, ℕ, zero, suc, ◌<◌, List, [], ◌∷◌, length, refl, subst, slice_get, slice_index_or, Some, ap, sym, ◌∙◌, arith}
 use Rattle.std.specs.Prelude.{OnErr, Result, Ok, Err, slice_set}
 use Rattle.std.proofs.lemmas.Option.{same_Some, slice_get-get_or}
 use Rattle.fri_outside.specs.Outside.{Counts, NoneFell}

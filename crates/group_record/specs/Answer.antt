@@ -1,10 +1,9 @@
 -- What a recording answers.
-use Rattle.std.specs.Prelude.{◌≡◌, ◌⊎◌, ℕ, suc, Bool, List, [], ◌∷◌, ◌++◌, length, map, Option, Some, None, Result, Ok, Err}
+use Rattle.std.specs.Prelude.{◌≡◌, ℕ, suc, Bool, List, [], ◌∷◌, ◌++◌, length, map, Option, Some, None, Result, Ok, Err}
 use Rattle.fri_outside.specs.Outside.{Counts, Rose, Store}
 use Rattle.fri_outside.specs.Several.{with_files}
 use Rattle.fri_outside.specs.declared.files.WriteError.{WriteError}
 use Rattle.fri_outside.specs.declared.files.WriteError.TheVariants as writing
-use Rattle.schedule_text.specs.declared.process.ProcessLine.{ProcessLine}
 use Rattle.schedule_text.specs.Schedule.{Schedule}
 use Rattle.wasm_types.specs.Modules.{Module}
 use Rattle.guest_process.specs.declared.end.End.{End}

@@ -1,5 +1,5 @@
 -- How the recording of a group begins.
-use Rattle.std.specs.Prelude.{◌≡◌, ◌≢◌, ℕ, Bool, replicate, List, [], length, map, AllPairs, Option, Some, Result, Ok, Err, slice_get, string_bytes, ⊤}
+use Rattle.std.specs.Prelude.{◌≡◌, ◌≢◌, ℕ, Bool, replicate, List, [], length, AllPairs, Option, Some, Result, Ok, Err, slice_get, string_bytes, ⊤}
 use Rattle.std.specs.List.{slice_index_or}
 use Rattle.fri_outside.specs.Outside.{Store}
 use Rattle.fri_outside.specs.Several.{with_files}
@@ -12,7 +12,7 @@ use Rattle.group_record.specs.declared.error.RecordError.TheVariants as errors
 use Rattle.group_record.specs.declared.member.Member.{Member}
 use Rattle.group_record.specs.declared.recorder.Recorder.{Recorder}
 use Rattle.group_record.specs.Run.{Group, head_of, name_of, nothing_yet, size}
-use Rattle.group_record.specs.Logs.{files_of, log_name, logs}
+use Rattle.group_record.specs.Logs.{files_of, log_name}
 use Rattle.group_record.specs.Files.{IsStopped}
 use Rattle.group_record.specs.Members.{IsStarted}
 use Rattle.group_record.specs.Recorded.{FilesOf, KeepsUp, kept_for}

@@ -1,11 +1,11 @@
 -- How the files stand where a recording was stopped.
-use Rattle.std.specs.Prelude.{◌≡◌, ◌⊎◌, ℕ, ◌<◌, List, [], ◌∷◌, ◌++◌, length, take, Option}
+use Rattle.std.specs.Prelude.{◌≡◌, ℕ, List, ◌∷◌, ◌++◌, take, Option}
 use Rattle.fri_outside.specs.Outside.{Store}
 use Rattle.fri_outside.specs.Several.{grown, with_files}
 use Rattle.call_log.specs.Entry.{encoding}
 use Rattle.call_log.specs.Head.{head_bytes}
 use Rattle.guest_process.specs.Live.{Event}
-use Rattle.group_record.specs.Run.{Group, Step, Had, IsFront, head_of, log_of}
+use Rattle.group_record.specs.Run.{Group, Step, Had, IsFront, head_of}
 use Rattle.group_record.specs.Logs.{files_of, logs}
 use Rattle.group_record.specs.Images.{part_of}
 

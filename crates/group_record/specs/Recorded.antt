@@ -1,5 +1,5 @@
 -- What a recorder has done so far, and what it says of what it does next.
-use Rattle.std.specs.Prelude.{◌≡◌, ◌≢◌, ℕ, ◌+◌, ◌++◌, ◌≤◌, [], ⊤, Bool, true, false, ◌&&◌, not, is_some, option_and_then, if◌then◌else◌, IsTrue, All, AllPairs, List, length, map, Option, Some, None, option_map, Result, Ok, Err, slice_get, slice_set, string_bytes}
+use Rattle.std.specs.Prelude.{◌≡◌, ◌≢◌, ℕ, ◌+◌, ◌++◌, ◌≤◌, [], ⊤, Bool, true, false, ◌&&◌, not, is_some, option_and_then, if◌then◌else◌, IsTrue, All, AllPairs, List, length, map, Option, Some, None, Result, Ok, Err, slice_get, slice_set, string_bytes}
 use Rattle.std.specs.List.{slice_index_or}
 use Rattle.fri_outside.specs.Outside.{Store}
 use Rattle.fri_outside.specs.Several.{with_files}
