@@ -185,7 +185,7 @@ impl<'m> Recorder<'m> {
         let entry = entry.view();
         members[p as usize].keep(number, &entry, &mut bytes, files)?;
         world.event(p, &entry)?;
-        prints.event(p, &entry)?;
+        prints.add(p, &entry)?;
         Ok(Recorder {
             alloc,
             members,

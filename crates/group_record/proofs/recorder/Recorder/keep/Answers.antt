@@ -47,7 +47,7 @@ returns-clause-ok g c = λ m at.
     record {
       members = ap (λ (x : Member). slice_set c.args.self.members.items c.args.p x) made;
       world = c.world-2.view_is ∙ c.in_ok-event.ensures.ok ∙ ap (after_event c.args.self.world c.args.p) c.view-entry.ensures;
-      prints = c.prints-2.view_is ∙ c.in_ok-event-2.ensures ∙ ap (λ (e : Entry). with_print c.args.self.prints c.args.p (printed e)) c.view-entry.ensures;
+      prints = c.prints-2.view_is ∙ c.in_ok-add.ensures ∙ ap (λ (e : Entry). with_print c.args.self.prints c.args.p (printed e)) c.view-entry.ensures;
       acted = c.in_ok-next.ensures;
       idle = refl;
     }
