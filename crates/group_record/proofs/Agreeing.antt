@@ -1,7 +1,6 @@
 -- Each event of a run is accepted where it comes in the replay of its process's log, which makes the same states.
 use Rattle.std.proofs.Common.{◌≡◌, ℕ, zero, suc, ◌+◌, ◌<◌, ◌≤◌, ◌^◌, ◌++◌, Bool, true, false, cond, List, [], ◌∷◌, length, take, Option, Some, None, refl, ap, sym, subst, ◌∙◌, arith, length-append, eqb-true}
 use Rattle.std.specs.Prelude.{All, IsTrue, slice_get, ◌==◌, option_and_then, option_map}
-use Rattle.std.specs.Option.{option_map_or}
 use Rattle.std.specs.List.{slice_index_or}
 use Rattle.std.specs.Int.{w32, to_le_bytes}
 use Rattle.std.proofs.lemmas.Bool.{leb-true}
@@ -9,9 +8,6 @@ use Rattle.std.proofs.lemmas.Option.{same_Some}
 use Rattle.std.proofs.lemmas.List.Elements.{All-get_or, All-nil, All-push}
 use Rattle.fri_text.specs.Name.{is_name}
 use Rattle.call_table.specs.Table.{kind_numbered}
-use Rattle.call_table.specs.declared.kind.Kind.{Kind}
-use Rattle.call_table.specs.declared.kind.Kind.TheVariants.{Begin, Exit, Note, Print, Now, SleepUntil, Random, Me, Send, Recv, TryRecv, Yield, Thread}
-use Rattle.lib_calls.specs.declared.entry.Call.{Call}
 use Rattle.lib_calls.specs.declared.entry.Entry.{Entry}
 use Rattle.lib_calls.specs.Entry.{IsShaped}
 use Rattle.call_log.specs.Entry.{body, encoding, encodings}

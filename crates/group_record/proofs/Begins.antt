@@ -1,5 +1,5 @@
 -- A group that has begun, and its recorder before the first item.
-use Rattle.std.proofs.Common.{◌≡◌, ◌≢◌, ℕ, ◌+◌, ◌<◌, ◌≤◌, ◌++◌, List, [], ◌∷◌, length, length-append, map, slice_get, slice_index_or, Option, Some, None, refl, ap, sym, subst, ◌∙◌, append-nil, arith, true}
+use Rattle.std.proofs.Common.{◌≡◌, ◌≢◌, ℕ, Bool, ◌+◌, ◌<◌, ◌≤◌, ◌++◌, List, [], ◌∷◌, length, length-append, map, slice_get, slice_index_or, Option, Some, refl, ap, sym, subst, ◌∙◌, append-nil, arith}
 use Rattle.std.specs.Prelude.{All, AllPairs, nat_le, ◌&&◌, Result, Ok, Err, IsTrue, codes}
 use Rattle.std.specs.Int.{w32, to_le_bytes}
 use Rattle.std.specs.List.{list_all}
@@ -11,7 +11,6 @@ use Rattle.fri_outside.specs.Outside.{Store}
 use Rattle.fri_outside.specs.Several.{with_files}
 use Rattle.fri_text.specs.Name.{is_name, is_name_byte}
 use Rattle.call_log.specs.Head.{Head, head_bytes}
-use Rattle.call_log.specs.Limits.{most_log}
 use Rattle.schedule_text.specs.declared.process.ProcessLine.{ProcessLine}
 use Rattle.schedule_text.specs.Schedule.{IsProcess, IsSchedule, Schedule}
 use Rattle.guest_process.specs.State.{State}
@@ -23,9 +22,10 @@ use Rattle.group_record.specs.declared.recorder.Recorder.{Recorder}
 use Rattle.group_record.specs.Answer.{group_of, names_of}
 use Rattle.group_record.specs.Begun.{AreStarted, Begins, BeginsAll, HaveHeads, IsNewRecorder, MakeAll, StopsAtHead, heads}
 use Rattle.group_record.specs.Files.{InHeads}
-use Rattle.group_record.specs.Recorded.{FilesOf, IsMember, KeepsUp}
-use Rattle.group_record.specs.Run.{Group, head_of, name_of, nothing_yet, size}
+use Rattle.group_record.specs.Recorded.{FilesOf, IsMember, KeepsUp, kept_for}
+use Rattle.group_record.specs.Run.{head_of, name_of, nothing_yet}
 use Rattle.group_record.proofs.Heads.{heads_are_logs}
+use Rattle.group_record.proofs.Printing.{none_printed}
 use Rattle.group_record.proofs.Recording.{some_there}
 use Rattle.group_record.proofs.Starting.{name_at}
 
@@ -121,15 +121,16 @@ begun_member schedule first members p m fits started at =
       logged = λ i d within. absurd (omega (arith, within));
     }
 
-pub recorder_begun : (schedule : Schedule) (first : List State) (members : List Member) (recorder : Recorder) → IsSchedule schedule → AreStarted (names_of schedule) first members → IsNewRecorder members recorder
+pub recorder_begun : (asked : Bool) (schedule : Schedule) (first : List State) (members : List Member) (recorder : Recorder) → IsSchedule schedule → AreStarted (names_of schedule) first members → IsNewRecorder asked members recorder
     → KeepsUp (group_of schedule first) nothing_yet recorder
-recorder_begun schedule first members recorder fits started new = record {
+recorder_begun asked schedule first members recorder fits started new = record {
   room = refl;
   apart = names_apart schedule.processes fits.formed.names;
   count = ap length new.members ∙ started.count;
   members = λ p m at. begun_member schedule first members p m fits started (sym (ap (λ ms. slice_get ms p) new.members) ∙ at);
   can_be = tt;
   world = new.world ∙ ap new_world started.count;
+  prints = λ p bytes at. none_printed (kept_for asked (length members)) p bytes (sym (ap (λ kept. slice_get kept p) new.prints) ∙ at);
   acted = new.acted;
   idle = new.idle;
 }

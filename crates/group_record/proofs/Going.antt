@@ -1,17 +1,21 @@
 -- A run goes on, and where it was stopped it stays stopped.
-use Rattle.std.proofs.Common.{◌≡◌, ℕ, zero, suc, ◌++◌, Bool, true, false, cond, List, [], ◌∷◌, Option, Some, None, refl, ap, sym, subst, ◌∙◌, append_assoc}
+use Rattle.std.proofs.Common.{◌≡◌, ℕ, zero, suc, ◌++◌, Bool, true, false, cond, List, [], ◌∷◌, Option, Some, None, inl, inr, refl, ap, sym, subst, ◌∙◌, append_assoc}
 use Rattle.std.specs.Prelude.{is_some, Err}
 use Rattle.std.specs.Int.{w64, cast_unsigned}
 use Rattle.fri_outside.specs.Outside.{Store}
+use Rattle.fri_outside.specs.Several.{with_files}
 use Rattle.schedule_text.specs.declared.item.Item.{Item}
 use Rattle.schedule_text.specs.declared.item.Item.TheVariants as item
 use Rattle.guest_process.specs.Live.{Event}
 use Rattle.group_world.specs.History as world
 use Rattle.group_record.specs.declared.error.RecordError.{RecordError}
 use Rattle.group_record.specs.declared.error.RecordError.TheVariants as errors
-use Rattle.group_record.specs.Files.{IsStopped, InHeads, Between, InEntry}
+use Rattle.group_record.specs.Files.{IsStopped, InHeads, Between, InEntry, InImages}
+use Rattle.group_record.specs.Images.{IsPart, part_of}
+use Rattle.group_record.specs.Logs.{logs}
 use Rattle.group_record.specs.Recorded.{Comes, FilesOf}
 use Rattle.group_record.specs.Run.{Group, Progress, Step, Had, Did, IsFront, after_item, after_items, attempt, attempts, does, event_of, had, has_room, unless_full}
+use Rattle.group_record.proofs.Imaging.{behind_none, files_behind}
 
 -- the steps of one progress stand in front of the other's; and where a log is full, it is all there is
 pub record LeadsTo (early late : Progress) : Type 0 where
@@ -83,11 +87,26 @@ items_lead group number (i ∷ items) done =
 
 -- ---- where it was stopped
 
-pub stopped_on : (group : Group) (early late : List Step) (before after : Option Store) → IsFront early late → IsStopped group early before after → IsStopped group late before after
+pub stopped_on : (group : Group) (early late : List Step) (before after : Option Store) → IsFront early late → IsStopped group early [] before after → IsStopped group late [] before after
 stopped_on group early late before after on (InHeads many cut is) = InHeads many cut is
 stopped_on group early late before after on (Between steps front is) = Between steps (front_on steps early late front on) is
 stopped_on group early late before after on (InEntry steps later p n e split is) =
     InEntry steps (on.0 ++ later) p n e (on.1 ∙ ap (λ xs. on.0 ++ xs) split ∙ sym (append_assoc on.0 later (Had p e ∷ steps))) is
+stopped_on group early late before after on (InImages n m is) = Between early on (is ∙ ap (λ fs. with_files fs before) (behind_none (logs group early) n m))
+
+-- so it is where images are asked for
+pub stopped_before : (group : Group) (steps : List Step) (images : List (List ℕ × List ℕ)) (before after : Option Store) → IsStopped group steps [] before after → IsStopped group steps images before after
+stopped_before group steps images before after (InHeads many cut is) = InHeads many cut is
+stopped_before group steps images before after (Between early front is) = Between early front is
+stopped_before group steps images before after (InEntry early later p n e split is) = InEntry early later p n e split is
+stopped_before group steps images before after (InImages n m is) = Between steps ([], refl) (is ∙ ap (λ fs. with_files fs before) (behind_none (logs group steps) n m))
+
+-- or where one was not made
+pub stopped_in : (group : Group) (steps : List Step) (images : List (List ℕ × List ℕ)) (before now after : Option Store) → now ≡ with_files (logs group steps) before → IsPart images now after
+    → IsStopped group steps images before after
+stopped_in group steps images before now after written (inl same) = Between steps ([], refl) (same ∙ written)
+stopped_in group steps images before now after written (inr (n, m, is)) =
+    InImages n m (is ∙ ap (with_files (part_of images n m)) written ∙ sym (files_behind (logs group steps) (part_of images n m) before))
 
 -- what is answered at one moment is answered of the whole
 pub comes_on : (group : Group) (early late : Progress) (error : RecordError) (before after : Option Store) → LeadsTo early late

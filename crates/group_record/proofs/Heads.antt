@@ -1,20 +1,17 @@
 -- The files of the logs while they are begun.
-use Rattle.std.proofs.Common.{◌≡◌, ◌≢◌, ◌⊎◌, ℕ, zero, suc, ◌+◌, ◌<◌, ◌≤◌, ◌++◌, Bool, true, false, cond, eqb, ltb, List, [], ◌∷◌, length, slice_get, slice_index_or, take, Option, Some, None, inl, inr, refl, ap, sym, subst, ◌∙◌, append-nil, arith}
-use Rattle.std.specs.Prelude.{Err, string_bytes}
+use Rattle.std.proofs.Common.{◌≡◌, ◌⊎◌, ℕ, suc, ◌+◌, ◌<◌, ◌≤◌, ◌++◌, Bool, true, false, cond, eqb, ltb, List, [], ◌∷◌, length, slice_index_or, take, Option, inl, inr, refl, ap, sym, ◌∙◌, append-nil, arith}
+use Rattle.std.specs.Prelude.{Err}
 use Rattle.std.proofs.Math.Seq.{take-suc}
 use Rattle.std.proofs.lemmas.Bool.{eqb-true}
 use Rattle.std.proofs.lemmas.Bool.Decides.{nat_tests}
 use Rattle.std.proofs.lemmas.List.{take_all}
-use Rattle.std.proofs.lemmas.Option.{slice_get-get_or}
 use Rattle.fri_outside.specs.Outside.{Store, with_file, with_piece}
-use Rattle.fri_outside.specs.Several.{grown, with_files}
+use Rattle.fri_outside.specs.Several.{with_files}
 use Rattle.fri_outside.specs.Laws.{KeepsFiles}
 use Rattle.fri_outside.specs.declared.files.WriteError.{WriteError}
 use Rattle.fri_outside.specs.declared.files.WriteError.TheVariants as writing
-use Rattle.call_log.specs.Entry.{encodings}
-use Rattle.call_log.specs.Head.{head_bytes}
 use Rattle.group_record.specs.declared.member.Member.{Member}
-use Rattle.group_record.specs.Run.{Group, head_of, log_of, name_of, size}
+use Rattle.group_record.specs.Run.{Group, log_of, name_of, size}
 use Rattle.group_record.specs.Logs.{files_of, log_name, logs}
 use Rattle.group_record.specs.Files.{IsStopped, InHeads, heads_cut}
 use Rattle.group_record.specs.Answer.{error_of}
@@ -47,7 +44,7 @@ made_cut group many = ap (take many) (files_same 0 group.names (heads_cut group 
 
 -- a file was not made
 create_stopped : KeepsFiles → (group : Group) (many : ℕ) (name : List ℕ) (before now after : Option Store) → many < size group → name ≡ log_name (name_of group many)
-    → now ≡ with_files (made_files group many) before → (after ≡ now) ⊎ (after ≡ with_file name [] now) → IsStopped group [] before after
+    → now ≡ with_files (made_files group many) before → (after ≡ now) ⊎ (after ≡ with_file name [] now) → IsStopped group [] [] before after
 create_stopped keeps group many name before now after within named is (inl same) =
     InHeads many nothing (same ∙ is ∙ ap (λ fs. with_files fs before) (sym (made_cut group many)))
 create_stopped keeps group many name before now after within named is (inr made) =
@@ -111,7 +108,7 @@ no_piece place p bytes = by_test (eqb place p)
     by_test true = append-nil (bytes p)
     by_test false = refl
 
-heads_stopped : (group : Group) (many n : ℕ) (before after : Option Store) → after ≡ with_files (files_of group (grown_at many (take n (heads group many)) (heads_to group many))) before → IsStopped group [] before after
+heads_stopped : (group : Group) (many n : ℕ) (before after : Option Store) → after ≡ with_files (files_of group (grown_at many (take n (heads group many)) (heads_to group many))) before → IsStopped group [] [] before after
 heads_stopped group many n before after is =
     InHeads (size group) (cut_to group many n)
     (is ∙ ap (λ fs. with_files fs before)
@@ -130,13 +127,13 @@ pub head_stops : KeepsFiles → (group : Group) (members : List Member) (many : 
     → (after ≡ now) ⊎ ((n : ℕ) × (after ≡ with_piece name (take n head) now)) → MakeAll group (heads group) (Err (error_of error)) before after
 head_stops keeps group members many name head before now after error have within named spelled is left = by_error error (stopped left)
   where
-    stopped : (after ≡ now) ⊎ ((n : ℕ) × (after ≡ with_piece name (take n head) now)) → IsStopped group [] before after
+    stopped : (after ≡ now) ⊎ ((n : ℕ) × (after ≡ with_piece name (take n head) now)) → IsStopped group [] [] before after
     stopped (inl same) = heads_stopped group many 0 before after
         (same ∙ is ∙ ap (λ fs. with_files fs before) (files_same 0 group.names (heads_to group many) (grown_at many (take 0 (heads group many)) (heads_to group many)) (λ p above below. sym (no_piece many p (heads_to group many)))))
     stopped (inr (n, made)) = heads_stopped group many n before after
         (piece_stands keeps group members many name (take n (heads group many)) before now after have within named is (made ∙ ap (λ h. with_piece name (take n h) now) spelled))
 
-    by_error : (error : WriteError) → IsStopped group [] before after → MakeAll group (heads group) (Err (error_of error)) before after
+    by_error : (error : WriteError) → IsStopped group [] [] before after → MakeAll group (heads group) (Err (error_of error)) before after
     by_error writing.Failed h = h
     by_error writing.NoMemory h = h
 

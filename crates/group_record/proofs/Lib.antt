@@ -1,5 +1,7 @@
 pub mod Going
 pub mod Growing
+pub mod Imaging
+pub mod Printing
 pub mod Heads
 pub mod Starting
 pub mod Recording

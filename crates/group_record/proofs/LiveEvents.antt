@@ -1,15 +1,13 @@
 -- The event of a try, from what is asked of a process and of the world around it.
-use Rattle.std.proofs.Common.{◌≡◌, ℕ, zero, suc, ◌+◌, ◌<◌, ◌≤◌, ◌^◌, Bool, true, false, ◌&&◌, not, eqb, cond, List, [], ◌∷◌, length, take, Option, Some, None, refl, ap, sym, subst, ◌∙◌, arith}
-use Rattle.std.specs.Prelude.{option_map, is_some, nat_le, IsTrue, slice_get, unwrap_or}
+use Rattle.std.proofs.Common.{◌≡◌, ℕ, ◌<◌, ◌≤◌, ◌^◌, Bool, true, false, ◌&&◌, not, eqb, cond, List, [], ◌∷◌, length, take, Option, Some, None, refl, ap, sym, subst, ◌∙◌, arith}
+use Rattle.std.specs.Prelude.{option_map, nat_le, unwrap_or}
 use Rattle.std.proofs.lemmas.Bool.Decides.{nat_tests}
 use Rattle.std.proofs.lemmas.List.{length-take}
 use Rattle.std.proofs.lemmas.Option.{same_Some}
-use Rattle.std.specs.Option.{option_map_or}
 use Rattle.call_table.specs.Table.{kind_numbered}
 use Rattle.call_table.specs.declared.kind.Kind.{Kind}
 use Rattle.call_table.specs.declared.kind.Kind.TheVariants.{Begin, Exit, Note, Print, Now, SleepUntil, Random, Me, Send, Recv, TryRecv, Yield, Thread, Spawn, Join, Lock, Unlock, OnSignal}
-use Rattle.lamport_tag.specs.declared.Tag.{Tag}
-use Rattle.lamport_tag.specs.Tag.{clock_of, next_clock_of, read_datagram}
+use Rattle.lamport_tag.specs.Tag.{clock_of, next_clock_of}
 use Rattle.lib_calls.specs.Answer.{Answer}
 use Rattle.lib_calls.specs.Effects.{is_good, minus_one, minus_two, outgoing_of}
 use Rattle.lib_calls.specs.Traffic.{draws_as, drawn, is_taken, takes_as}
@@ -20,14 +18,11 @@ use Rattle.guest_process.specs.declared.need.Need.{Need as PlainNeed}
 use Rattle.guest_process.specs.declared.waiting.Waiting.{Waiting}
 use Rattle.guest_process.specs.Answers.{Need, Fixed, Blocked, World, is_due, need, replies}
 use Rattle.guest_process.specs.Fits.{EnvFits, StateFits, WaitingFits, live_has}
-use Rattle.guest_process.specs.GoesOn.{handler}
-use Rattle.guest_process.specs.Kinds.{ends_process}
-use Rattle.guest_process.specs.Live.{Answered, Env, Event, answered, chosen, cut, event, first_taken, from_world, live, live_at, lowest, or_empty}
+use Rattle.guest_process.specs.Live.{Answered, Env, Event, answered, chosen, event, first_taken, from_world, live, live_at, or_empty}
 use Rattle.guest_process.specs.OneEvent.{IsKept, OneEvent, Rises}
-use Rattle.guest_process.specs.Next.{next}
 use Rattle.guest_process.specs.Seen.{able, plain}
 use Rattle.guest_process.specs.State.{State, is_running, thread_at}
-use Rattle.group_record.specs.Around.{answer_by, drawn_of, signal_with, taken_of, waking_at, world_answer}
+use Rattle.group_record.specs.Around.{answer_by, drawn_of, signal_with, taken_of, world_answer}
 use Rattle.group_record.specs.Recorded.{Tells}
 use Rattle.group_record.proofs.Chosen.{chosen_is, handlers_after}
 

@@ -1,15 +1,15 @@
 -- A recorder that goes on by one try or one item.
-use Rattle.std.proofs.Common.{◌≡◌, ◌≢◌, ◌⊎◌, ℕ, zero, suc, ◌+◌, ◌<◌, ◌≤◌, ◌^◌, ◌++◌, Bool, true, false, ◌&&◌, not, cond, eqb, List, [], ◌∷◌, length, map, slice_get, take, Option, Some, None, inl, inr, refl, ap, sym, subst, ◌∙◌, arith, add-one, length-append, string_bytes}
-use Rattle.std.specs.Prelude.{All, IfOk, Result, ⊤, Ok, Err, is_some, nat_le, slice_set, option_map, option_and_then}
+use Rattle.std.proofs.Common.{◌≡◌, ◌≢◌, ℕ, zero, suc, ◌+◌, ◌<◌, ◌≤◌, ◌^◌, ◌++◌, Bool, true, false, ◌&&◌, not, cond, eqb, List, [], ◌∷◌, length, map, slice_get, take, Option, Some, None, inl, inr, refl, ap, sym, subst, ◌∙◌, arith, add-one, length-append, string_bytes}
+use Rattle.std.specs.Prelude.{All, IfOk, Result, ⊤, Ok, Err, is_some, nat_le, option_map, option_and_then}
 use Rattle.std.proofs.lemmas.Bool.{eq-eqb}
-use Rattle.std.proofs.lemmas.Bool.Decides.{nat_tests, eqb_tells}
+use Rattle.std.proofs.lemmas.Bool.Decides.{nat_tests}
 use Rattle.std.proofs.lemmas.List.Elements.{All-push}
 use Rattle.std.proofs.lemmas.Option.{same_Some, slice_get-map}
 use Rattle.fri_outside.specs.Outside.{Store, with_piece}
 use Rattle.fri_outside.specs.Several.{grown, with_files}
 use Rattle.fri_outside.specs.Laws.{KeepsFiles}
 use Rattle.lib_calls.specs.declared.entry.Entry.{Entry}
-use Rattle.lib_calls.specs.Traffic.{drawn}
+use Rattle.lib_calls.specs.Traffic.{drawn, prints}
 use Rattle.lib_calls.specs.Entry.{IsShaped}
 use Rattle.call_log.specs.Entry.{encoding, encodings}
 use Rattle.call_log.specs.Head.{head_bytes}
@@ -31,7 +31,7 @@ use Rattle.group_record.specs.declared.error.RecordError.{RecordError}
 use Rattle.group_record.specs.declared.error.RecordError.TheVariants as errors
 use Rattle.group_record.specs.declared.member.Member.{Member}
 use Rattle.group_record.specs.declared.recorder.Recorder.{Recorder}
-use Rattle.group_record.specs.Run.{Group, Progress, Step, Had, Did, acted, acted_if, after_item, around, attempt, can_be_killed, does, entries, event_of, filled, had, has_room, has_sent, head_of, history, idled, log_of, runs, size, state_after, unless_full}
+use Rattle.group_record.specs.Run.{Group, Progress, Step, Had, Did, acted, acted_if, after_item, around, attempt, can_be_killed, does, entries, event_of, filled, had, has_sent, head_of, history, idled, log_of, runs, size, state_after, unless_full}
 use Rattle.group_record.specs.Logs.{logs}
 use Rattle.group_record.specs.Files.{IsStopped, Between, InEntry}
 use Rattle.group_record.specs.Around.{env_of}
@@ -40,6 +40,8 @@ use Rattle.group_record.specs.Recorded.{Comes, FilesOf, IsMember, Kept, KeepsUp,
 use Rattle.group_record.proofs.Chosen.{live_same, with_signals}
 use Rattle.group_record.proofs.Going.{LeadsTo, attempt_leads}
 use Rattle.group_record.proofs.Growing.{entries_few, log_longer, logs_grown, piece_written}
+use Rattle.group_record.proofs.Printing.{event_printed}
+use Rattle.group_record.proofs.Small.{length_set, set_each}
 
 -- ---- what is kept is what is counted
 
@@ -81,6 +83,7 @@ idle_keeps group done old new k is = subst (λ (r : Recorder). KeepsUp group (id
   members = k.members;
   can_be = k.can_be;
   world = k.world;
+  prints = k.prints;
   acted = k.acted;
   idle = add-one old.idle ∙ ap suc k.idle;
 })
@@ -91,6 +94,15 @@ idle_keeps group done old new k is = subst (λ (r : Recorder). KeepsUp group (id
 abbrev pub IsItem : Act → Type 0
 IsItem (world.Event p e) = ⊥
 IsItem _ = Unit {0}
+
+did_entries : (act : Act) (steps : List Step) (p : ℕ) → IsItem act → entries (Did act ∷ steps) p ≡ entries steps p
+did_entries (world.Event q e) steps p item = absurd item
+did_entries (world.Deliver q n) steps p item = refl
+did_entries (world.Inject q bytes) steps p item = refl
+did_entries (world.Clock q value) steps p item = refl
+did_entries (world.Random q bytes) steps p item = refl
+did_entries (world.Signal q s) steps p item = refl
+did_entries (world.Kill q) steps p item = refl
 
 did_member : (group : Group) (act : Act) (steps : List Step) (p : ℕ) (m : Member) → IsItem act → IsMember group steps p m → IsMember group (Did act ∷ steps) p m
 did_member group (world.Event q e) steps p m item k = absurd item
@@ -110,6 +122,7 @@ did_keeps group done old new act k item can is = subst (λ (r : Recorder). Keeps
   members = λ p m at. did_member group act done.steps p m item (k.members p m at);
   can_be = (can, k.can_be);
   world = ap (λ w. after w act) k.world;
+  prints = λ p bytes at. k.prints p bytes at ∙ ap prints (sym (did_entries act done.steps p item));
   acted = add-one old.acted ∙ ap suc k.acted;
   idle = k.idle;
 })
@@ -149,21 +162,6 @@ own_member group steps p thread env m entry k t room =
       logged = subst (λ es. All IsShaped es) (sym more) (All-push IsShaped (entries steps p) t.event.entry k.logged (subst IsShaped t.same t.logged));
     }
 
--- the member at a place that was set
-set_member : (members : List Member) (p : ℕ) (new : Member) (P : ℕ → Member → Type 0) → P p new → ((q : ℕ) (m : Member) → p ≢ q → slice_get members q ≡ Some m → P q m)
-    → (q : ℕ) (m : Member) → slice_get (slice_set members p new) q ≡ Some m → P q m
-set_member [] p new P own others q m at = cc
-set_member (x ∷ members) zero new P own others zero m at = subst (P 0) (same_Some _ _ at) own
-set_member (x ∷ members) zero new P own others (suc q) m at = others (suc q) m (omega arith) at
-set_member (x ∷ members) (suc p) new P own others zero m at = others 0 m (omega arith) at
-set_member (x ∷ members) (suc p) new P own others (suc q) m at =
-    set_member members p new (λ q m. P (suc q) m) own (λ q m apart at. others (suc q) m (omega (arith, apart)) at) q m at
-
-length_set : (members : List Member) (p : ℕ) (new : Member) → length (slice_set members p new) ≡ length members
-length_set [] p new = refl
-length_set (x ∷ members) zero new = refl
-length_set (x ∷ members) (suc p) new = ap suc (length_set members p new)
-
 pub event_keeps : Counting → (group : Group) (done : Progress) (old new : Recorder) (p thread : ℕ) (m : Member) (entry : Entry) → (keeps : KeepsUp group done old) → p < size group
     → (k : IsMember group done.steps p m) → (t : Tells k.state thread (env_of old.world p) entry) → HasRoom m (encoding entry) → Kept old p m entry new
     → KeepsUp group (acted (Had p t.event) done) new
@@ -173,8 +171,8 @@ event_keeps counting group done old new p thread m entry keeps within k t room m
       room = keeps.room;
       apart = keeps.apart;
       count = ap length made.members ∙ length_set old.members.items p (kept m entry) ∙ keeps.count;
-      members = λ q n at. set_member old.members.items p (kept m entry) (λ q n. IsMember group (Had p t.event ∷ done.steps) q n)
-          (own_member group done.steps p thread (env_of old.world p) m entry k t room)
+      members = λ q n at. set_each old.members.items p (kept m entry) (λ q n. IsMember group (Had p t.event ∷ done.steps) q n)
+          (λ inside. own_member group done.steps p thread (env_of old.world p) m entry k t room)
           (λ q n apart at. other_member group done.steps p q t.event n apart (keeps.members q n at))
           q n (sym (ap (λ ms. slice_get ms q) made.members) ∙ at);
       can_be = (
@@ -188,6 +186,8 @@ event_keeps counting group done old new p thread m entry keeps within k t room m
         keeps.can_be,
       );
       world = made.world ∙ ap (λ w. after w (world.Event p entry)) keeps.world ∙ ap (λ e. after (world_after (size group) (history done.steps)) (world.Event p e)) t.same;
+      prints = λ q bytes at.
+          event_printed old.prints done.steps p t.event entry keeps.prints t.same q bytes (sym (ap (λ kept. slice_get kept q) made.prints) ∙ at);
       acted = made.acted ∙ add-one old.acted ∙ ap suc keeps.acted;
       idle = made.idle ∙ keeps.idle;
     }
@@ -240,7 +240,7 @@ memory_stops group done next before now leads files = Between done.steps leads.f
 
 -- a write that failed
 fault_stops : KeepsFiles → (group : Group) (done : Progress) (before now after : Option Store) (old : Recorder) (p : ℕ) (m : Member) (entry : Entry) (e : Event) → KeepsUp group done old → FilesOf group done before now → p < size group
-    → IsMember group done.steps p m → entry ≡ e.entry → IsCut (string_bytes m.log) (encoding entry) now after → IsStopped group (Had p e ∷ done.steps) before after
+    → IsMember group done.steps p m → entry ≡ e.entry → IsCut (string_bytes m.log) (encoding entry) now after → IsStopped group (Had p e ∷ done.steps) [] before after
 fault_stops files_keep group done before now after old p m entry e keeps files within k same (inl none) = Between done.steps (Had p e ∷ [], refl) (none ∙ files)
 fault_stops files_keep group done before now after old p m entry e keeps files within k same (inr (n, is)) =
     InEntry done.steps [] p n e refl
@@ -430,6 +430,11 @@ item_comes counting group done before now old new number i keeps files fits othe
       item_keeps counting group done old new number i keeps fits other is,
       logs_stay group done (does group number i done) before now (does_logs group number i done other) files,
     )
+
+-- of as many processes as before it is kept what they print
+pub acted_prints : (acts : Bool) (w : World) (old new : Recorder) → new ≡ acted_on acts w old → length new.prints ≡ length old.prints
+acted_prints true w old new is = ap (λ (r : Recorder). length r.prints) is
+acted_prints false w old new is = ap (λ (r : Recorder). length r.prints) is
 
 -- ---- what a write says of the whole
 

@@ -1,10 +1,9 @@
 -- What is said of a group, line by line.
-use Rattle.std.proofs.Common.{◌≡◌, ℕ, suc, ◌+◌, ◌<◌, ◌≤◌, ◌++◌, List, [], ◌∷◌, length, drop, drop-cons, slice_get, slice_index_or, Option, Some, None, refl, ap, sym, subst, ◌∙◌, append_assoc, append-nil, arith, add-one}
+use Rattle.std.proofs.Common.{◌≡◌, ℕ, suc, ◌+◌, ◌<◌, ◌≤◌, ◌++◌, List, [], ◌∷◌, length, drop, drop-cons, slice_get, slice_index_or, Some, ap, sym, ◌∙◌, append_assoc, append-nil, add-one}
 use Rattle.std.specs.Prelude.{option_map, Bool}
 use Rattle.std.proofs.lemmas.List.{drop_all}
 use Rattle.std.proofs.lemmas.Option.{same_Some}
 use Rattle.guest_process.specs.Live.{Env}
-use Rattle.guest_process.specs.State.{State}
 use Rattle.group_world.specs.History.{is_killed}
 use Rattle.group_world.specs.Laws.{Counting}
 use Rattle.group_world.specs.World.{place_of}
@@ -12,8 +11,8 @@ use Rattle.group_record.specs.declared.member.Member.{Member}
 use Rattle.group_record.specs.declared.recorder.Recorder.{Recorder}
 use Rattle.group_record.specs.declared.summary.SummaryLine.{SummaryLine}
 use Rattle.group_record.specs.Answer.{end_of, line_of, lines_from}
-use Rattle.group_record.specs.Recorded.{IsMember, KeepsUp, line_at}
-use Rattle.group_record.specs.Run.{Group, Progress, Step, entries, history, size, state_after}
+use Rattle.group_record.specs.Recorded.{KeepsUp, line_at}
+use Rattle.group_record.specs.Run.{Group, Progress, Step, history, size}
 use Rattle.group_record.proofs.Recording.{env_same}
 
 -- the line of a member

@@ -1,10 +1,9 @@
 -- What a recording answers.
-use Rattle.std.specs.Prelude.{◌≡◌, ◌⊎◌, ℕ, suc, List, [], ◌∷◌, length, map, Option, Some, None, Result, Ok, Err}
+use Rattle.std.specs.Prelude.{◌≡◌, ℕ, suc, Bool, List, [], ◌∷◌, ◌++◌, length, map, Option, Some, None, Result, Ok, Err}
 use Rattle.fri_outside.specs.Outside.{Counts, Rose, Store}
 use Rattle.fri_outside.specs.Several.{with_files}
 use Rattle.fri_outside.specs.declared.files.WriteError.{WriteError}
 use Rattle.fri_outside.specs.declared.files.WriteError.TheVariants as writing
-use Rattle.schedule_text.specs.declared.process.ProcessLine.{ProcessLine}
 use Rattle.schedule_text.specs.Schedule.{Schedule}
 use Rattle.wasm_types.specs.Modules.{Module}
 use Rattle.guest_process.specs.declared.end.End.{End}
@@ -18,6 +17,7 @@ use Rattle.group_record.specs.declared.error.RecordError.{RecordError}
 use Rattle.group_record.specs.declared.error.RecordError.TheVariants as errors
 use Rattle.group_record.specs.Run.{Group, Progress, Step, entries, history, run, state_after}
 use Rattle.group_record.specs.Logs.{logs}
+use Rattle.group_record.specs.Images.{images_of}
 use Rattle.group_record.specs.Files.{IsStopped}
 
 -- ---- how a group begins
@@ -71,31 +71,35 @@ pub record IsSummary (group : Group) (done : Progress) (summary : Summary) : Typ
 
 -- ---- the answers
 
--- the whole run was recorded
-pub record IsDone (group : Group) (done : Progress) (said : Summary) (before after : Option Store) : Type 0 where
+-- the whole run was recorded, and the images that were asked for were written
+pub record IsDone (asked : Bool) (group : Group) (done : Progress) (said : Summary) (before after : Option Store) : Type 0 where
   pub room : done.full ≡ None
   pub summary : IsSummary group done said
-  pub files : after ≡ with_files (logs group done.steps) before
+  pub files : after ≡ with_files (logs group done.steps ++ images_of asked group done) before
 
 -- the run was recorded up to an event of this item for which a log had no room
 pub record IsFull (group : Group) (done : Progress) (item : ℕ) (before after : Option Store) : Type 0 where
   pub full : done.full ≡ Some item
   pub files : after ≡ with_files (logs group done.steps) before
 
--- the recording of a group whose first states are these was stopped
-abbrev pub StoppedWhere : Schedule → Result (List State) ℕ → Option Store → Option Store → Type 0
-StoppedWhere schedule (Err p) before after = after ≡ before
-StoppedWhere schedule (Ok first) before after = IsStopped (group_of schedule first) (run (group_of schedule first) schedule.items).steps before after
+-- the recording of this run was stopped
+abbrev pub StoppedIn : Bool → Group → Progress → Option Store → Option Store → Type 0
+StoppedIn asked group done before after = IsStopped group done.steps (images_of asked group done) before after
 
--- what a recording answers, and how it leaves the files
-abbrev pub Answers : Schedule → Result (List State) ℕ → Result Summary RecordError → Option Store → Option Store → Type 0
-Answers schedule begun (Ok summary) before after =
-    (first : List State) × (begun ≡ Ok first) × IsDone (group_of schedule first) (run (group_of schedule first) schedule.items) summary before after
-Answers schedule begun (Err (errors.BadSegment p)) before after = (begun ≡ Err p) × (after ≡ before)
-Answers schedule begun (Err (errors.LogFull item)) before after =
+-- the recording of a group whose first states are these was stopped
+abbrev pub StoppedWhere : Schedule → Bool → Result (List State) ℕ → Option Store → Option Store → Type 0
+StoppedWhere schedule asked (Err p) before after = after ≡ before
+StoppedWhere schedule asked (Ok first) before after = StoppedIn asked (group_of schedule first) (run (group_of schedule first) schedule.items) before after
+
+-- what a recording answers, with images or without, and how it leaves the files
+abbrev pub Answers : Schedule → Bool → Result (List State) ℕ → Result Summary RecordError → Option Store → Option Store → Type 0
+Answers schedule asked begun (Ok summary) before after =
+    (first : List State) × (begun ≡ Ok first) × IsDone asked (group_of schedule first) (run (group_of schedule first) schedule.items) summary before after
+Answers schedule asked begun (Err (errors.BadSegment p)) before after = (begun ≡ Err p) × (after ≡ before)
+Answers schedule asked begun (Err (errors.LogFull item)) before after =
     (first : List State) × (begun ≡ Ok first) × IsFull (group_of schedule first) (run (group_of schedule first) schedule.items) item before after
-Answers schedule begun (Err errors.WriteFault) before after = StoppedWhere schedule begun before after
-Answers schedule begun (Err errors.NoMemory) before after = StoppedWhere schedule begun before after
+Answers schedule asked begun (Err errors.WriteFault) before after = StoppedWhere schedule asked begun before after
+Answers schedule asked begun (Err errors.NoMemory) before after = StoppedWhere schedule asked begun before after
 
 -- only a failed write comes of the files, and raises their count
 abbrev pub HasWriteCause : {T : Type 0} → Counts → Counts → Result T RecordError → Type 0

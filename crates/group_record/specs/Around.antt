@@ -1,5 +1,5 @@
 -- What the world around a process answers to its calls.
-use Rattle.std.specs.Prelude.{ℕ, ◌==◌, ◌&&◌, nat_le, Bool, false, is_some, List, [], ◌∷◌, length, take, Option, Some, None, option_map, unwrap_or, slice_get, if◌then◌else◌}
+use Rattle.std.specs.Prelude.{ℕ, ◌&&◌, nat_le, Bool, false, is_some, List, length, take, Option, Some, None, option_map, unwrap_or, slice_get, if◌then◌else◌}
 use Rattle.std.specs.Option.{option_map_or}
 use Rattle.call_table.specs.Table.{kind_numbered}
 use Rattle.call_table.specs.declared.kind.Kind.{Kind}

@@ -1,5 +1,5 @@
 -- How the recording of a group begins.
-use Rattle.std.specs.Prelude.{◌≡◌, ◌≢◌, ℕ, List, [], length, map, AllPairs, Option, Some, Result, Ok, Err, slice_get, string_bytes, ⊤}
+use Rattle.std.specs.Prelude.{◌≡◌, ◌≢◌, ℕ, Bool, replicate, List, [], length, AllPairs, Option, Some, Result, Ok, Err, slice_get, string_bytes, ⊤}
 use Rattle.std.specs.List.{slice_index_or}
 use Rattle.fri_outside.specs.Outside.{Store}
 use Rattle.fri_outside.specs.Several.{with_files}
@@ -12,10 +12,10 @@ use Rattle.group_record.specs.declared.error.RecordError.TheVariants as errors
 use Rattle.group_record.specs.declared.member.Member.{Member}
 use Rattle.group_record.specs.declared.recorder.Recorder.{Recorder}
 use Rattle.group_record.specs.Run.{Group, head_of, name_of, nothing_yet, size}
-use Rattle.group_record.specs.Logs.{files_of, log_name, logs}
+use Rattle.group_record.specs.Logs.{files_of, log_name}
 use Rattle.group_record.specs.Files.{IsStopped}
 use Rattle.group_record.specs.Members.{IsStarted}
-use Rattle.group_record.specs.Recorded.{FilesOf, KeepsUp}
+use Rattle.group_record.specs.Recorded.{FilesOf, KeepsUp, kept_for}
 use Rattle.group_record.specs.Answer.{group_of}
 
 -- ---- the processes
@@ -35,10 +35,11 @@ BeginsAll items names begun (Err (errors.LogFull item)) = ⊥
 BeginsAll items names begun (Err errors.WriteFault) = ⊥
 BeginsAll items names begun (Err errors.NoMemory) = Unit {0}
 
--- nothing has happened around the members
-pub record IsNewRecorder (own : List Member) (recorder : Recorder) : Type 0 where
+-- nothing has happened around the members, and nothing is printed, which is kept where images are asked for
+pub record IsNewRecorder (asked : Bool) (own : List Member) (recorder : Recorder) : Type 0 where
   pub members : recorder.members.items ≡ own
   pub world : recorder.world ≡ new_world (length own)
+  pub prints : recorder.prints ≡ replicate (kept_for asked (length own)) []
   pub acted : recorder.acted ≡ 0
   pub idle : recorder.idle ≡ 0
 
@@ -56,8 +57,8 @@ abbrev pub MakeAll : Group → (ℕ → List ℕ) → Result ⊤ RecordError →
 MakeAll group bytes (Ok _) before after = after ≡ with_files (files_of group bytes) before
 MakeAll group bytes (Err (errors.BadSegment p)) before after = ⊥
 MakeAll group bytes (Err (errors.LogFull item)) before after = ⊥
-MakeAll group bytes (Err errors.WriteFault) before after = IsStopped group [] before after
-MakeAll group bytes (Err errors.NoMemory) before after = IsStopped group [] before after
+MakeAll group bytes (Err errors.WriteFault) before after = IsStopped group [] [] before after
+MakeAll group bytes (Err errors.NoMemory) before after = IsStopped group [] [] before after
 
 abbrev pub no_bytes : ℕ → List ℕ
 no_bytes p = []
@@ -83,7 +84,7 @@ BeginsLogs members result before after = (group : Group) → HaveHeads group mem
 -- the beginning of a group whose first states are these was stopped
 abbrev pub StopsAtHead : Schedule → Result (List State) ℕ → Option Store → Option Store → Type 0
 StopsAtHead schedule (Err p) before after = after ≡ before
-StopsAtHead schedule (Ok first) before after = IsStopped (group_of schedule first) [] before after
+StopsAtHead schedule (Ok first) before after = IsStopped (group_of schedule first) [] [] before after
 
 -- the group has begun, or why it has not
 abbrev pub Begins : Schedule → Result (List State) ℕ → Result Recorder RecordError → Option Store → Option Store → Type 0

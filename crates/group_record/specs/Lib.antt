@@ -1,5 +1,6 @@
 pub mod Run
 pub mod Logs
+pub mod Images
 pub mod Files
 pub mod Answer
 pub mod Around

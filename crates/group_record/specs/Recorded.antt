@@ -1,9 +1,10 @@
 -- What a recorder has done so far, and what it says of what it does next.
-use Rattle.std.specs.Prelude.{◌≡◌, ◌≢◌, ℕ, ◌+◌, ◌≤◌, Bool, true, false, ◌&&◌, not, is_some, option_and_then, if◌then◌else◌, IsTrue, All, AllPairs, List, length, map, Option, Some, None, option_map, Result, Ok, Err, slice_get, slice_set, string_bytes}
+use Rattle.std.specs.Prelude.{◌≡◌, ◌≢◌, ℕ, ◌+◌, ◌++◌, ◌≤◌, [], ⊤, Bool, true, false, ◌&&◌, not, is_some, option_and_then, if◌then◌else◌, IsTrue, All, AllPairs, List, length, map, Option, Some, None, Result, Ok, Err, slice_get, slice_set, string_bytes}
+use Rattle.std.specs.List.{slice_index_or}
 use Rattle.fri_outside.specs.Outside.{Store}
 use Rattle.fri_outside.specs.Several.{with_files}
 use Rattle.lib_calls.specs.declared.entry.Entry.{Entry}
-use Rattle.lib_calls.specs.Traffic.{drawn, is_taken}
+use Rattle.lib_calls.specs.Traffic.{drawn, is_taken, printed, prints}
 use Rattle.lib_calls.specs.Entry.{IsShaped}
 use Rattle.call_log.specs.Limits.{most_log}
 use Rattle.schedule_text.specs.declared.process.ProcessLine.{ProcessLine}
@@ -26,6 +27,7 @@ use Rattle.group_record.specs.declared.summary.SummaryLine.{SummaryLine}
 use Rattle.group_record.specs.Run.{Group, Progress, Step, entries, history, log_of, name_of, runs, size, state_after}
 use Rattle.group_record.specs.Logs.{log_name, logs}
 use Rattle.group_record.specs.Files.{IsStopped}
+use Rattle.group_record.specs.Images.{IsPart, images_of}
 use Rattle.group_record.specs.Members.{kept}
 use Rattle.group_record.specs.Answer.{IsSummary}
 
@@ -48,10 +50,15 @@ abbrev pub IsEntryOf : State → ℕ → Env → Option Entry → Type 0
 IsEntryOf S thread env None = live S thread env ≡ None
 IsEntryOf S thread env (Some entry) = Tells S thread env entry
 
+-- what is kept of the prints, where process p printed this more
+abbrev pub with_print : List (List ℕ) → ℕ → List ℕ → List (List ℕ)
+with_print kept p piece = slice_set kept p (slice_index_or kept p [] ++ piece)
+
 -- process p made the event of an entry
 pub record Kept (old : Recorder) (p : ℕ) (m : Member) (e : Entry) (new : Recorder) : Type 0 where
   pub members : new.members.items ≡ slice_set old.members.items p (kept m e)
   pub world : new.world ≡ after_event old.world p e
+  pub prints : new.prints ≡ with_print old.prints p (printed e)
   pub acted : new.acted ≡ old.acted + 1
   pub idle : new.idle ≡ old.idle
 
@@ -100,7 +107,7 @@ pub record IsMember (group : Group) (steps : List Step) (p : ℕ) (m : Member) :
   pub room : m.size ≤ most_log
   pub logged : All IsShaped (entries steps p)
 
--- a recorder has come as far as this
+-- a recorder has come as far as this. Of each process of which it keeps what is printed, it has all of that
 pub record KeepsUp (group : Group) (done : Progress) (recorder : Recorder) : Type 0 where
   pub room : done.full ≡ None
   pub apart : AllPairs (λ name other. name ≢ other) group.names
@@ -108,6 +115,7 @@ pub record KeepsUp (group : Group) (done : Progress) (recorder : Recorder) : Typ
   pub members : (p : ℕ) (m : Member) → slice_get recorder.members.items p ≡ Some m → IsMember group done.steps p m
   pub can_be : CanBe (size group) (history done.steps)
   pub world : recorder.world ≡ world_after (size group) (history done.steps)
+  pub prints : (p : ℕ) (bytes : List ℕ) → slice_get recorder.prints p ≡ Some bytes → bytes ≡ prints (entries done.steps p)
   pub acted : recorder.acted ≡ length done.steps
   pub idle : recorder.idle ≡ done.idle
 
@@ -128,13 +136,33 @@ abbrev pub Comes : Group → Progress → Result Recorder RecordError → Option
 Comes group next (Ok recorder) before after = KeepsUp group next recorder × FilesOf group next before after
 Comes group next (Err (errors.BadSegment p)) before after = ⊥
 Comes group next (Err (errors.LogFull item)) before after = (next.full ≡ Some item) × FilesOf group next before after
-Comes group next (Err errors.WriteFault) before after = IsStopped group next.steps before after
-Comes group next (Err errors.NoMemory) before after = IsStopped group next.steps before after
+Comes group next (Err errors.WriteFault) before after = IsStopped group next.steps [] before after
+Comes group next (Err errors.NoMemory) before after = IsStopped group next.steps [] before after
 
 -- wherever the recorder stood, it is to come as far as what comes next there
 abbrev pub Does : (Group → Progress → Progress) → Recorder → Result Recorder RecordError → Option Store → Option Store → Type 0
 Does next recorder result old new =
     (group : Group) (done : Progress) (before : Option Store) → KeepsUp group done recorder → FilesOf group done before old → Comes group (next group done) result before new
+
+-- for how many of so many processes it keeps what they print: for all where images are asked for, else for none
+abbrev pub kept_for : Bool → ℕ → ℕ
+kept_for asked count = if asked then count else 0
+
+-- ---- the images
+
+-- files were to be made, or why they were not
+abbrev pub MakesFiles : List (List ℕ × List ℕ) → Result ⊤ RecordError → Option Store → Option Store → Type 0
+MakesFiles files (Ok _) before after = after ≡ with_files files before
+MakesFiles files (Err (errors.BadSegment p)) before after = ⊥
+MakesFiles files (Err (errors.LogFull item)) before after = ⊥
+MakesFiles files (Err errors.WriteFault) before after = IsPart files before after
+MakesFiles files (Err errors.NoMemory) before after = IsPart files before after
+
+-- the images of the group up to where the recorder stands were to be made, if they were asked for
+abbrev pub MakesImages : Bool → List ProcessLine → Recorder → Result ⊤ RecordError → Option Store → Option Store → Type 0
+MakesImages asked lines recorder result before after =
+    (group : Group) (done : Progress) → KeepsUp group done recorder → group.names ≡ map (λ line. line.name) lines
+    → MakesFiles (images_of asked group done) result before after
 
 -- ---- what is said of it
 

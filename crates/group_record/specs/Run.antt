@@ -1,5 +1,5 @@
 -- The run of a schedule: what each item does to a group, from its first states on.
-use Rattle.std.specs.Prelude.{◌≡◌, ℕ, zero, suc, ◌+◌, Bool, true, false, ◌&&◌, ◌==◌, not, is_some, nat_le, List, [], ◌∷◌, ◌++◌, length, map, slice_get, Option, Some, None, option_and_then, if◌then◌else◌}
+use Rattle.std.specs.Prelude.{◌≡◌, ℕ, zero, suc, Bool, false, ◌&&◌, ◌==◌, not, is_some, nat_le, List, [], ◌∷◌, ◌++◌, length, map, slice_get, Option, Some, None, option_and_then, if◌then◌else◌}
 use Rattle.std.specs.Int.{w64, cast_unsigned}
 use Rattle.std.specs.List.{slice_index_or}
 use Rattle.lib_calls.specs.declared.entry.Entry.{Entry}

@@ -6,10 +6,12 @@ ghost use Rattle.wasm_types.specs.Modules.{module_of};
 ghost use Rattle.group_world.specs.World.{new_world};
 ghost use Rattle.group_record.specs.Answer.{HasWriteCause, begun, begun_from};
 ghost use Rattle.group_record.specs.Begun.{Begins, BeginsAll, IsNewRecorder};
+ghost use Rattle.group_record.specs.Recorded.{kept_for};
 
 use crate::error::RecordError;
 use crate::logs::begin_logs;
 use crate::member::Member;
+use crate::prints::Prints;
 use crate::recorder::Recorder;
 use fri_outside::Files;
 use group_world::World;
@@ -17,20 +19,22 @@ use schedule_text::{ProcessLine, Schedule};
 use std::alloc::{AllocError, Global};
 use wasm_types::ValidModule;
 
-/// Begins all processes and their logs.
+/// Begins all processes and their logs. What the processes print is kept for the images, if they are asked for.
 pub(crate) fn begin<'m, F: Files>(
     alloc: Global,
     schedule: &Schedule,
     modules: &'m [ValidModule],
+    images: bool,
     files: &mut F,
 ) -> Result<Recorder<'m>, RecordError>
     requires { length modules.now ≡ length schedule.now.processes }
     ensures begins { Begins schedule.now (begun schedule.now (map module_of modules.now)) result (F.told files.old) (F.told files.new) }
+    ensures prints { IfOk result (λ r. length r.prints ≡ kept_for images (length schedule.now.processes)) }
     ensures counts { NoneFell (F.counts files.old) (F.counts files.new) }
     ensures cause { HasWriteCause (F.counts files.old) (F.counts files.new) result }
 {
     let members = begin_members(alloc, schedule.processes(), modules)?;
-    let recorder = new_recorder(alloc, members)?;
+    let recorder = new_recorder(alloc, images, members)?;
     begin_logs(&recorder.members, files)?;
     Ok(recorder)
 }
@@ -57,16 +61,23 @@ fn begin_members<'m>(
     Ok(members)
 }
 
-// A group of these members, around which nothing has happened.
-fn new_recorder<'m>(alloc: Global, members: Vec<Member<'m>>) -> Result<Recorder<'m>, AllocError>
+// A group of these members, around which nothing has happened. What they print is kept for the images.
+fn new_recorder<'m>(
+    alloc: Global,
+    images: bool,
+    members: Vec<Member<'m>>,
+) -> Result<Recorder<'m>, AllocError>
     requires { length members.items ≤ 16 }
-    ensures { IfOk result (IsNewRecorder members.entry.items) }
+    ensures { IfOk result (IsNewRecorder images members.entry.items) }
 {
-    let world = World::new(alloc, members.len() as u32)?;
+    let count = members.len() as u32;
+    let world = World::new(alloc, count)?;
+    let prints = Prints::new(alloc, images, count)?;
     Ok(Recorder {
         alloc,
         members,
         world,
+        prints,
         bytes: Vec::new(alloc),
         acted: 0,
         idle: 0,

@@ -1,5 +1,5 @@
 // The images of a group's processes.
-ghost use Rattle.std.specs.Prelude.{◌≡◌, ◌++◌, [], ◌∷◌, IfOk, IsTrue, OnErr, OnOk, All, codes, is_some, length, string_bytes};
+ghost use Rattle.std.specs.Prelude.{◌≡◌, ◌++◌, [], ◌∷◌, IfOk, IsTrue, OnErr, OnOk, All, is_some, length, string_bytes};
 ghost use Rattle.fri_outside.specs.Outside.{NoneFell, WriteRaises, with_file};
 ghost use Rattle.fri_outside.specs.Several.{with_files};
 ghost use Rattle.fri_text.specs.Name.{is_name};

@@ -1,5 +1,5 @@
 // What the processes of a group print, where it is kept.
-ghost use Rattle.std.specs.Prelude.{◌≡◌, ◌≤◌, [], ◌<◌, IfOk, OnOk, length, replicate};
+ghost use Rattle.std.specs.Prelude.{◌≡◌, [], ◌<◌, IfOk, OnOk, length, replicate};
 ghost use Rattle.std.specs.List.{slice_index_or};
 ghost use Rattle.lib_calls.specs.Entry.{entry_of};
 ghost use Rattle.lib_calls.specs.Traffic.{printed as printed_of};
@@ -38,8 +38,8 @@ impl Prints {
         Ok(Prints { processes })
     }
 
-    /// Keeps what an event of process `p` printed, where that is kept of it.
-    pub(crate) fn event(&mut self, p: u32, entry: &EntryView<'_>) -> Result<(), AllocError>
+    /// Adds what an event of process `p` printed, where that is kept of it.
+    pub(crate) fn add(&mut self, p: u32, entry: &EntryView<'_>) -> Result<(), AllocError>
         ensures { OnOk result (self.new ≡ with_print self.old p (printed_of (entry_of entry.now))) }
     {
         let place = p as usize;

@@ -17,19 +17,21 @@ use crate::error::RecordError;
 use crate::event::live_entry;
 use crate::items::act;
 use crate::member::Member;
+use crate::prints::Prints;
 use fri_outside::{Files, keeps_files};
 use group_world::{World, by_counting};
 use lib_calls::Entry;
 use schedule_text::Item;
 use std::alloc::{AllocError, Global};
 
-/// A group that is recorded: its processes, the world around them, and how many steps acted and tries and
-/// items were idle. The entry of an event is spelled in `bytes`.
+/// A group that is recorded: its processes, the world around them, what they print, where it is kept, and how
+/// many steps acted and tries and items were idle. The entry of an event is spelled in `bytes`.
 #[derive(Drop)]
 pub(crate) struct Recorder<'m> {
     pub(crate) alloc: Global,
     pub(crate) members: Vec<Member<'m>>,
     pub(crate) world: World,
+    pub(crate) prints: Prints,
     pub(crate) bytes: Vec<u8>,
     pub(crate) acted: u64,
     pub(crate) idle: u64,
@@ -63,6 +65,7 @@ impl<'m> Recorder<'m> {
         requires under_way { UnderWay self (F.told files.old) }
         requires in_range { All (IsInRange (length self.members.items)) items.now }
         ensures comes { Does (λ group. after_items group 1 items.now) self.entry result (F.told files.old) (F.told files.new) }
+        ensures prints { IfOk result (λ r. length r.prints ≡ length self.entry.prints) }
         ensures counts { NoneFell (F.counts files.old) (F.counts files.new) }
         ensures cause { HasWriteCause (F.counts files.old) (F.counts files.new) result }
     {
@@ -85,6 +88,7 @@ impl<'m> Recorder<'m> {
         requires under_way { UnderWay self (F.told files.old) }
         requires in_range { IsInRange (length self.members.items) item.now }
         ensures comes { Does (λ group. after_item group number item.now) self.entry result (F.told files.old) (F.told files.new) }
+        ensures prints { IfOk result (λ r. length r.prints ≡ length self.entry.prints) }
         ensures counts { NoneFell (F.counts files.old) (F.counts files.new) }
         ensures cause { HasWriteCause (F.counts files.old) (F.counts files.new) result }
     {
@@ -111,6 +115,7 @@ impl<'m> Recorder<'m> {
         requires under_way { UnderWay self (F.told files.old) }
         requires process { p < length self.members.items }
         ensures comes { Does (λ group. attempts group number p thread times) self.entry result (F.told files.old) (F.told files.new) }
+        ensures prints { IfOk result (λ r. length r.prints ≡ length self.entry.prints) }
         ensures counts { NoneFell (F.counts files.old) (F.counts files.new) }
         ensures cause { HasWriteCause (F.counts files.old) (F.counts files.new) result }
     {
@@ -132,6 +137,7 @@ impl<'m> Recorder<'m> {
         requires under_way { UnderWay self (F.told files.old) }
         requires process { p < length self.members.items }
         ensures comes { Does (λ group. attempt group number p thread) self.entry result (F.told files.old) (F.told files.new) }
+        ensures prints { IfOk result (λ r. length r.prints ≡ length self.entry.prints) }
         ensures counts { NoneFell (F.counts files.old) (F.counts files.new) }
         ensures cause { HasWriteCause (F.counts files.old) (F.counts files.new) result }
     {
@@ -163,6 +169,7 @@ impl<'m> Recorder<'m> {
         ensures writes { (m : MemberOf) → slice_get self.entry.members.items p ≡ Some m →
             Writes m number (encoding entry.now) result (F.told files.old) (F.told files.new) }
         ensures ok { IfOk result (λ r. (m : MemberOf) → slice_get self.entry.members.items p ≡ Some m → Kept self.entry p m entry.now r) }
+        ensures prints { IfOk result (λ r. length r.prints ≡ length self.entry.prints) }
         ensures counts { NoneFell (F.counts files.old) (F.counts files.new) }
         ensures cause { HasWriteCause (F.counts files.old) (F.counts files.new) result }
     {
@@ -170,6 +177,7 @@ impl<'m> Recorder<'m> {
             alloc,
             mut members,
             mut world,
+            mut prints,
             mut bytes,
             acted,
             idle,
@@ -177,10 +185,12 @@ impl<'m> Recorder<'m> {
         let entry = entry.view();
         members[p as usize].keep(number, &entry, &mut bytes, files)?;
         world.event(p, &entry)?;
+        prints.add(p, &entry)?;
         Ok(Recorder {
             alloc,
             members,
             world,
+            prints,
             bytes,
             acted: next(acted)?,
             idle,
@@ -198,6 +208,7 @@ impl<'m> Recorder<'m> {
             alloc,
             members,
             mut world,
+            prints,
             bytes,
             acted,
             idle,
@@ -208,6 +219,7 @@ impl<'m> Recorder<'m> {
             alloc,
             members,
             world,
+            prints,
             bytes,
             acted,
             idle,
@@ -222,6 +234,7 @@ impl<'m> Recorder<'m> {
             alloc,
             members,
             world,
+            prints,
             bytes,
             acted,
             idle,
@@ -230,6 +243,7 @@ impl<'m> Recorder<'m> {
             alloc,
             members,
             world,
+            prints,
             bytes,
             acted,
             idle: next(idle)?,

@@ -6,6 +6,7 @@ ghost use Rattle.group_record.specs.Answer.{Answers, HasWriteCause, begun};
 
 use crate::begin::begin;
 use crate::error::RecordError;
+use crate::images::write_images;
 use crate::summary::{Summary, summary_of};
 use fri_outside::Files;
 use group_world::by_counting;
@@ -15,21 +16,25 @@ use wasm_types::ValidModule;
 
 /// Records the group of a schedule, whose processes are of these modules, one for each. All processes
 /// begin; then the logs are made and their heads written, each in order of the processes; then each
-/// event's entry is appended to its log before the next event is tried. After a call on the files that
-/// failed none is made. `Answers` says how the files stand at each answer.
+/// event's entry is appended to its log before the next event is tried. With `images`, the two files of each
+/// process's image are made after the whole run, in the same order. After a call on the files that failed none
+/// is made. `Answers` says how the files stand at each answer.
 pub fn run_record<F: Files>(
     alloc: Global,
     schedule: &Schedule,
     modules: &[ValidModule],
     files: &mut F,
+    images: bool,
 ) -> Result<Summary, RecordError>
     requires { length modules.now ≡ length schedule.now.processes }
-    ensures answers { Answers schedule.now (begun schedule.now (map module_of modules.now)) result (F.told files.old) (F.told files.new) }
+    ensures answers { Answers schedule.now images (begun schedule.now (map module_of modules.now)) result (F.told files.old) (F.told files.new) }
     ensures counts { NoneFell (F.counts files.old) (F.counts files.new) }
     ensures cause { HasWriteCause (F.counts files.old) (F.counts files.new) result }
 {
     by_counting();
-    let begun = begin(alloc, schedule, modules, files)?;
+    let begun = begin(alloc, schedule, modules, images, files)?;
     let recorder = begun.perform_all(schedule.items(), files)?;
-    Ok(summary_of(alloc, schedule.processes(), &recorder)?)
+    let summary = summary_of(alloc, schedule.processes(), &recorder)?;
+    write_images(alloc, images, schedule.processes(), &recorder, files)?;
+    Ok(summary)
 }

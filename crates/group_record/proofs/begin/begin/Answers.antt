@@ -43,6 +43,6 @@ returns-clause-begins g c =
     let started = subst (λ (members : List Member). AreStarted (names_of schedule) all.0 members) (sym same) all.2 in (
       all.0,
       all.1,
-      recorder_begun schedule all.0 c.in_ok-members.members.items c.in_ok-recorder.recorder c.processes.ensures.in_range all.2 c.in_ok-recorder.ensures,
+      recorder_begun c.args.images schedule all.0 c.in_ok-members.members.items c.in_ok-recorder.recorder c.processes.ensures.in_range all.2 c.in_ok-recorder.ensures,
       files_begun schedule all.0 (g.F.Files.told c.args.files.now) (g.F.Files.told c.begin_logs.new.files) (c.in_ok-begin_logs.ensures.logs (group_of schedule all.0) (have_heads schedule all.0 c.deref.result.now c.processes.ensures.in_range started)),
     )

@@ -6,6 +6,8 @@ use Rattle.group_record.specs.Members.{CanKeep, kept}
 use Rattle.group_record.specs.declared.member.Member.{Member}
 use Rattle.group_world.specs.World.{after_event}
 use Rattle.lib_calls.specs.Entry.{entry_of}
+use Rattle.lib_calls.specs.Traffic.{printed}
+use Rattle.group_record.specs.Recorded.{with_print}
 use Rattle.group_record.proofs.Recording.{stops_of, written_of}
 use Rattle.group_record.proofs.Small.{at_place, only_one}
 use Rattle.group_record.proofs.recorder.Recorder.keep.Goals as goal
@@ -45,6 +47,7 @@ returns-clause-ok g c = λ m at.
     record {
       members = ap (λ (x : Member). slice_set c.args.self.members.items c.args.p x) made;
       world = c.world-2.view_is ∙ c.in_ok-event.ensures.ok ∙ ap (after_event c.args.self.world c.args.p) c.view-entry.ensures;
+      prints = c.prints-2.view_is ∙ c.in_ok-add.ensures ∙ ap (λ (e : Entry). with_print c.args.self.prints c.args.p (printed e)) c.view-entry.ensures;
       acted = c.in_ok-next.ensures;
       idle = refl;
     }

@@ -21,6 +21,7 @@ loop-item-preserved g c =
       number = omega (arith, l.invariant.number);
       under = under_next next l.recorder c.in_ok-recorder.recorder (g.F.Files.told l.files) (g.F.Files.told c.perform.new.files) l.invariant.under c.in_ok-recorder.ensures.comes;
       count = count_next next l.recorder c.in_ok-recorder.recorder (g.F.Files.told l.files) (g.F.Files.told c.perform.new.files) l.invariant.under c.in_ok-recorder.ensures.comes ∙ l.invariant.count;
+      prints = c.in_ok-recorder.ensures.prints ∙ l.invariant.prints;
       comes = λ group done before keeps files.
           item_next group (l.number + 1) (l.number + 1 + 1) c.args.items.now l.item-index c.item-item.result l.recorder c.in_ok-recorder.recorder
           before (g.F.Files.told l.files) (g.F.Files.told c.perform.new.files) (after_items group 1 c.args.items.now done) c.loop-item-test.true (omega arith) c.item-item.is

@@ -10,6 +10,7 @@ invariant-loop-item g l = record {
   number : l.number ≡ l.item-index;
   under : UnderWay l.recorder (g.F.Files.told l.files);
   count : length l.recorder.members.items ≡ length l.initial.recorder.members.items;
+  prints : length l.recorder.prints ≡ length l.initial.recorder.prints;
   comes : (group : Group) (done : Progress) (before : Option Store) → KeepsUp group done l.initial.recorder → FilesOf group done before (g.F.Files.told l.initial.files)
       → ComesTo group l.recorder before (g.F.Files.told l.files) (after_items group (l.number + 1) (drop l.item-index l.items)) (after_items group 1 l.items done);
   counts : NoneFell (g.F.Files.counts l.initial.files) (g.F.Files.counts l.files);
