@@ -1,0 +1,6 @@
+//! The expressions of the debugger's shell: what a line spells, and what it comes to over a group.
+#![tactic(auto)]
+
+pub mod expr;
+
+pub use expr::{Agg, Binary, Expr, NodeName, Unary, Width};
