@@ -3,4 +3,13 @@
 
 pub mod expr;
 
+mod error;
+mod lexer;
+mod number;
+mod token;
+mod word;
+
+pub use error::ExprError;
 pub use expr::{Agg, Binary, Expr, NodeName, Unary, Width};
+pub use lexer::lex;
+pub use token::Tokens;
