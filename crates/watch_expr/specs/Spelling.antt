@@ -1,7 +1,7 @@
 -- What words and signs of an expression stand for.
-use Rattle.std.specs.Prelude.{ℕ, ◌^◌, Bool, ◌&&◌, ◌||◌, ◌==◌, nat_lt, if◌then◌else◌, codes, bytes_eq, List, [], ◌∷◌, length, take, drop, Option, Some, None, option_map}
+use Rattle.std.specs.Prelude.{ℕ, Bool, ◌&&◌, ◌||◌, ◌==◌, nat_lt, nat_le, if◌then◌else◌, codes, bytes_eq, List, [], ◌∷◌, length, take, drop, Option, Some, None}
 use Rattle.std.specs.Char.{is_ascii_alphanumeric, is_ascii_hexdigit}
-use Rattle.std.specs.List.{list_all, find, position, starts_with}
+use Rattle.std.specs.List.{list_all, find, position}
 use Rattle.std.specs.Str.Parse.{digits_value}
 use Rattle.fri_text.specs.Decimal.{decimal_of}
 use Rattle.watch_expr.specs.declared.expr.Unary.{Unary}
@@ -29,18 +29,18 @@ is_word word = nat_lt 0 (length word) && list_all is_word_byte word
 
 -- ---- numbers
 
--- below 2 ^ 63
-abbrev pub within : Option ℕ → Option ℕ
-within None = None
-within (Some n) = if nat_lt n (2 ^ 63) then Some n else None
+-- the number, if it is no greater
+abbrev pub at_most : ℕ → Option ℕ → Option ℕ
+at_most max None = None
+at_most max (Some n) = if nat_le n max then Some n else None
 
 -- the number in hexadecimal digits, of either case
 abbrev pub hex_number_of : List ℕ → Option ℕ
-hex_number_of digits = if nat_lt 0 (length digits) && list_all is_ascii_hexdigit digits then within (Some (digits_value 16 digits)) else None
+hex_number_of digits = if nat_lt 0 (length digits) && list_all is_ascii_hexdigit digits then at_most 9223372036854775807 (Some (digits_value 16 digits)) else None
 
--- The number that a word is: in decimal digits, or in hexadecimal ones behind 0x.
+-- The number that a word is, up to 2 ^ 63 - 1: in decimal digits, or in hexadecimal ones behind 0x.
 abbrev pub number_in : List ℕ → Option ℕ
-number_in word = if bytes_eq (codes "0x") (take 2 word) then hex_number_of (drop 2 word) else within (decimal_of word)
+number_in word = if bytes_eq (take 2 word) (codes "0x") then hex_number_of (drop 2 word) else at_most 9223372036854775807 (decimal_of word)
 
 unfoldable pub number_of : List ℕ → Option ℕ
 number_of word = number_in word

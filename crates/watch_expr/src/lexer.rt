@@ -1,5 +1,5 @@
 // Cuts a line into tokens.
-ghost use Rattle.std.specs.Prelude.{◌≡◌, ◌≤◌, length, not, map, position};
+ghost use Rattle.std.specs.Prelude.{◌≡◌, ◌<◌, ◌≤◌, IfSome, length, not, map, position};
 ghost use Rattle.watch_expr.specs.Lexing.{LexedAs, is_blank as is_blank_byte, is_string_byte as is_byte_of_string, is_sign as is_sign_byte, is_pair as is_pair_of, depth_after, is_too_deep as is_too_deep_list};
 ghost use Rattle.watch_expr.specs.Front.{front, string_end, sign_at, word_end};
 
@@ -50,7 +50,7 @@ fn token_length(bytes: &[u8]) -> Option<usize>
 {
     let (first, rest) = bytes.split_first()?;
     if is_word_byte(*first) {
-        return Some(1 + word_length(rest));
+        return Some(word_length(bytes));
     }
     if *first == b'"' {
         return string_length(rest);
@@ -69,11 +69,19 @@ fn word_length(bytes: &[u8]) -> usize
 fn string_length(rest: &[u8]) -> Option<usize>
     ensures { result ≡ string_end rest.now }
 {
-    let end = rest.iter().position(|b| !is_string_byte(*b))?;
+    let end = string_stop(rest)?;
     if rest[end] != b'"' {
         return None;
     }
     Some(end + 2)
+}
+
+/// The place of the first byte that stands in no string.
+fn string_stop(bytes: &[u8]) -> Option<usize>
+    ensures stop { result ≡ position (λ b. not (is_byte_of_string b)) bytes.now }
+    ensures within { IfSome result (λ n. n < length bytes.now) }
+{
+    bytes.iter().position(|b| !is_string_byte(*b))
 }
 
 fn sign_length(first: u8, rest: &[u8]) -> Option<usize>

@@ -9,13 +9,14 @@ use std::str;
 
 const GREATEST: u64 = i64::MAX as u64;
 
+#[tactic(auto, using(crate::proofs::Numbers::at_most_up_to), unfolding(crate::specs::Spelling::number_of))]
 /// The number that the word is, if it is one: in decimal digits, or in hexadecimal ones behind `0x`.
 pub(crate) fn read_number(word: &[u8]) -> Option<u64>
     ensures { result ≡ number_of word.now }
 {
-    match word {
-        [b'0', b'x', digits @ ..] => read_hexadecimal(digits),
-        _ => read_decimal(word, GREATEST).ok(),
+    match word.strip_prefix(b"0x") {
+        Some(digits) => read_hexadecimal(digits),
+        None => read_decimal(word, GREATEST).ok(),
     }
 }
 
@@ -25,8 +26,12 @@ fn read_hexadecimal(digits: &[u8]) -> Option<u64>
     if digits.is_empty() || !are_hexadecimal(digits) {
         return None;
     }
-    let text = str::from_utf8(digits).ok()?;
-    let number = u64::from_str_radix(text, 16).ok()?;
+    let Ok(text) = str::from_utf8(digits) else {
+        return None;
+    };
+    let Ok(number) = u64::from_str_radix(text, 16) else {
+        return None;
+    };
     if number > GREATEST {
         return None;
     }

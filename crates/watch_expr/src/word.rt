@@ -1,5 +1,5 @@
 // The words and signs with a meaning of their own.
-ghost use Rattle.std.specs.Prelude.{◌≡◌, ◌<◌, ◌^◌, length, map};
+ghost use Rattle.std.specs.Prelude.{◌≡◌, ◌<◌, ◌^◌, IfSome, bytes_eq, length, position};
 ghost use Rattle.std.specs.List.{list_all};
 ghost use Rattle.watch_expr.specs.Spelling.{is_word as is_word_text, is_word_byte as is_byte_of_word, binary_sign, binary_of, unary_sign, unary_of, agg_word, agg_of, place_word, place_of, node_of};
 
@@ -160,10 +160,17 @@ pub(crate) fn read_node(names: &[Bytes], word: &[u8]) -> NodeName
     if word == b"_".as_slice() {
         return NodeName::Each;
     }
-    match names.iter().position(|name| name.as_slice() == word) {
+    match place_among(names, word) {
         Some(place) => NodeName::Named(Some(place as u32)),
         None => NodeName::Named(None),
     }
+}
+
+fn place_among(names: &[Bytes], word: &[u8]) -> Option<usize>
+    ensures place { result ≡ position (λ name. bytes_eq name word.now) names.now }
+    ensures within { IfSome result (λ n. n < length names.now) }
+{
+    names.iter().position(|name| name.as_slice() == word)
 }
 
 /// A letter, a digit or an underscore.
@@ -177,5 +184,11 @@ pub(crate) fn is_word_byte(b: u8) -> bool
 pub(crate) fn is_word(text: &[u8]) -> bool
     ensures { result ≡ is_word_text text.now }
 {
-    !text.is_empty() && text.iter().all(|b| is_word_byte(*b))
+    !text.is_empty() && are_word_bytes(text)
+}
+
+fn are_word_bytes(bytes: &[u8]) -> bool
+    ensures { result ≡ list_all is_byte_of_word bytes.now }
+{
+    bytes.iter().all(|b| is_word_byte(*b))
 }
