@@ -6,10 +6,13 @@ pub mod expr;
 mod error;
 mod lexer;
 mod number;
+mod parser;
+mod stack;
 mod token;
 mod word;
 
 pub use error::ExprError;
 pub use expr::{Agg, Binary, Expr, NodeName, Unary, Width};
 pub use lexer::lex;
+pub use parser::parse;
 pub use token::Tokens;
