@@ -1,7 +1,7 @@
 -- The words and signs with a meaning of their own are read, and only they.
 use Rattle.std.proofs.Common.{◌≡◌, ℕ, Bool, true, false, cond, List, [], ◌∷◌, Option, Some, None, refl, sym, ap, ◌∙◌}
 use Rattle.std.specs.List.{find}
-use Rattle.std.specs.Prelude.{bytes_eq}
+use Rattle.std.specs.Prelude.{bytes_eq, codes}
 use Rattle.std.proofs.lemmas.Slice.Eq.{bytes_eq-Decides}
 use Rattle.watch_expr.specs.declared.expr.Unary.{Unary}
 use Rattle.watch_expr.specs.declared.expr.Unary.TheVariants as unary
@@ -12,6 +12,10 @@ use Rattle.watch_expr.specs.declared.expr.Agg.TheVariants as agg
 use Rattle.watch_expr.specs.declared.expr.Width.TheVariants as width
 use Rattle.watch_expr.specs.declared.word.PlaceWord.{PlaceWord}
 use Rattle.watch_expr.specs.declared.word.PlaceWord.TheVariants as place
+use Rattle.watch_expr.specs.declared.stack.Half.TheVariants as half
+use Rattle.watch_expr.specs.declared.stack.Opening.{Opening}
+use Rattle.watch_expr.specs.declared.stack.Opening.TheVariants as opening
+use Rattle.watch_expr.specs.Machine.{Pending, Front, Inside, Want, Part, step, closing, closed_by}
 use Rattle.watch_expr.specs.Spelling.{number_of, binary_sign, binaries, binary_of, unary_sign, unaries, unary_of, agg_word, aggs, agg_of, place_word, places, place_of}
 
 -- ---- what is found passes the test
@@ -53,30 +57,11 @@ pub unary_is : (text : List ℕ) (op : Unary) → unary_of text ≡ Some op → 
 unfolding unary_of
 unary_is text op e = sym (same_bytes (unary_sign op) text (found_passes (λ op. bytes_eq (unary_sign op) text) unaries op e))
 
-pub unary_again : (op : Unary) → unary_of (unary_sign op) ≡ Some op
-unfolding unary_of
-unary_again unary.Minus = refl
-unary_again unary.Not = refl
-
--- no sign in front is a number
-pub sign_no_number : (op : Unary) → number_of (unary_sign op) ≡ None
-unfolding number_of
-sign_no_number unary.Minus = refl
-sign_no_number unary.Not = refl
-
 -- ---- words
 
 pub agg_is : (word : List ℕ) (a : Agg) → agg_of word ≡ Some a → word ≡ agg_word a
 unfolding agg_of
 agg_is word a e = sym (same_bytes (agg_word a) word (found_passes (λ a. bytes_eq (agg_word a) word) aggs a e))
-
--- the name of an aggregate is no number and no sign in front
-pub agg_again : (a : Agg) → (number_of (agg_word a) ≡ None) × (unary_of (agg_word a) ≡ None) × (agg_of (agg_word a) ≡ Some a)
-unfolding number_of unary_of agg_of
-agg_again agg.Sum = (refl, refl, refl)
-agg_again agg.Min = (refl, refl, refl)
-agg_again agg.Max = (refl, refl, refl)
-agg_again agg.Count = (refl, refl, refl)
 
 pub place_is : (word : List ℕ) (p : PlaceWord) → place_of word ≡ Some p → word ≡ place_word p
 unfolding place_of
@@ -95,3 +80,43 @@ place_again place.Global = refl
 place_again place.Clock = refl
 place_again place.Events = refl
 place_again place.Size = refl
+
+-- ---- what a token that stands where an operand is wanted leads to
+
+module _ (names : List (List ℕ)) (s : List Pending) where
+  pub sign_read : (op : Unary) → step names (Want s) (unary_sign op) ≡ Some (Want (Front op ∷ s))
+  unfolding number_of unary_of
+  sign_read unary.Minus = refl
+  sign_read unary.Not = refl
+
+  pub agg_read : (a : Agg) → step names (Want s) (agg_word a) ≡ Some (Part s (half.Named a))
+  unfolding number_of unary_of agg_of
+  agg_read agg.Sum = refl
+  agg_read agg.Min = refl
+  agg_read agg.Max = refl
+  agg_read agg.Count = refl
+
+  pub bracket_read : step names (Want s) (codes "(") ≡ Some (Want (Inside opening.Bracket ∷ s))
+  unfolding number_of unary_of agg_of
+  bracket_read = refl
+
+  pub dollar_read : step names (Want s) (codes "$") ≡ Some (Part s half.Dollar)
+  unfolding number_of unary_of agg_of
+  dollar_read = refl
+
+  pub at_read : step names (Want s) (codes "@") ≡ Some (Part s half.At)
+  unfolding number_of unary_of agg_of
+  at_read = refl
+
+-- ---- signs that close
+
+-- what closes is no operator
+pub closing_again : (o : Opening) → (binary_of (closing o) ≡ None) × (closed_by o (closing o) ≡ true)
+unfolding binary_of
+closing_again opening.Bracket = (refl, refl)
+closing_again (opening.Call a) = (refl, refl)
+closing_again (opening.Load node w) = (refl, refl)
+
+pub zero_is : number_of (codes "0") ≡ Some 0
+unfolding number_of
+zero_is = refl

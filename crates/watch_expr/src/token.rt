@@ -1,5 +1,5 @@
 // The tokens of a line.
-ghost use Rattle.std.specs.Prelude.{◌≡◌, length, slice_get, option_map};
+ghost use Rattle.std.specs.Prelude.{◌≡◌, ◌<◌, ◌^◌, IfSome, length, slice_get, option_map};
 ghost use Rattle.watch_expr.specs.Lexing.{texts, column_at, number_at};
 
 use crate::number::read_number;
@@ -45,7 +45,8 @@ impl<'a> Tokens<'a> {
 
     /// The bytes of the token with this number, from 0, and None exactly behind the last.
     pub fn text(&self, n: usize) -> Option<&'a [u8]>
-        ensures { option_map (λ text. text.now) result ≡ slice_get (texts self.now) n }
+        ensures text { option_map (λ text. text.now) result ≡ slice_get (texts self.now) n }
+        ensures small { IfSome result (λ _. n < 2 ^ 63) }
     {
         Some(self.tokens.get(n)?.text)
     }
