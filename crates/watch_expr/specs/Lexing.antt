@@ -79,8 +79,8 @@ pub data Lexes : ℕ → List ℕ → List Placed → Type 0 where
 -- Among the bytes from a column on, the first byte that begins no token stands at this one.
 pub data IsBadAt : ℕ → List ℕ → ℕ → Type 0 where
   here : (column b : ℕ) (bytes : List ℕ) → is_blank b ≡ false → BeginsNone (b ∷ bytes) → IsBadAt column (b ∷ bytes) column
-  blank : (column b : ℕ) (bytes : List ℕ) (bad : ℕ) → is_blank b ≡ true → IsBadAt (column + 1) bytes bad → IsBadAt column (b ∷ bytes) bad
-  token : (column n : ℕ) (bytes : List ℕ) (bad : ℕ) → IsLongest bytes n → IsBadAt (column + n) (drop n bytes) bad → IsBadAt column bytes bad
+  past_blank : (column b : ℕ) (bytes : List ℕ) (bad : ℕ) → is_blank b ≡ true → IsBadAt (column + 1) bytes bad → IsBadAt column (b ∷ bytes) bad
+  past_token : (column n : ℕ) (bytes : List ℕ) (bad : ℕ) → IsLongest bytes n → IsBadAt (column + n) (drop n bytes) bad → IsBadAt column bytes bad
 
 -- ---- limits
 

@@ -1,3 +1,4 @@
+pub mod Faulty
 pub mod Front
 pub mod Grammar
 pub mod Lexing

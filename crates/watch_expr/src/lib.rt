@@ -4,6 +4,7 @@
 pub mod expr;
 
 mod error;
+mod faults;
 mod lexer;
 mod number;
 mod parser;
@@ -13,6 +14,7 @@ mod word;
 
 pub use error::ExprError;
 pub use expr::{Agg, Binary, Expr, NodeName, Unary, Width};
+pub use faults::{Faults, find_faults};
 pub use lexer::lex;
 pub use parser::parse;
 pub use token::Tokens;
