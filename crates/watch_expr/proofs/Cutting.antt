@@ -1,9 +1,9 @@
 -- A line is cut into its tokens in one way.
-use Rattle.std.proofs.Common.{◌≡◌, ℕ, zero, suc, ◌+◌, ◌-◌, ◌<◌, ◌≤◌, ◌⊎◌, inl, inr, Bool, true, false, List, [], ◌∷◌, ◌++◌, length, take, drop, Some, None, refl, sym, ap, ◌∙◌, subst, append_assoc, arith, length-drop}
+use Rattle.std.proofs.Common.{◌≡◌, ℕ, zero, suc, ◌+◌, ◌-◌, ◌<◌, ◌≤◌, true, false, List, [], ◌∷◌, ◌++◌, length, take, drop, Some, None, refl, sym, ap, ◌∙◌, subst, append_assoc, arith, length-drop}
 use Rattle.std.specs.Prelude.{slice_index}
 use Rattle.std.proofs.lemmas.List.{append-nil, drop_all}
 use Rattle.std.proofs.Math.Seq.{take-length}
-use Rattle.watch_expr.specs.Lexing.{Placed, is_blank, IsToken, IsLongest, BeginsNone, Lexes, end, blank, token, IsBadAt, here, past_blank, past_token}
+use Rattle.watch_expr.specs.Lexing.{Placed, is_blank, IsLongest, Lexes, end, blank, token, IsBadAt, here, past_blank, past_token}
 use Rattle.watch_expr.specs.Front.{front}
 use Rattle.watch_expr.proofs.Longest.{front_longest, front_none, longest_some}
 
@@ -56,18 +56,18 @@ cut_token line rest at n column so_far new same c e col is =
     let t : Placed = record { text = take n (drop at line); column = at + 1 } in
     let place : at + n + 1 ≡ at + 1 + n = omega arith in
     let pushed : new ≡ so_far ++ t ∷ [] =
-      is ∙ ap (λ (u : List ℕ). so_far ++ record { text = take n u; column = column } ∷ []) same ∙ ap (λ (k : ℕ). so_far ++ record { text = take n (drop at line); column = k } ∷ []) col in
+    is ∙ ap (λ (u : List ℕ). so_far ++ record { text = take n u; column = column } ∷ []) same ∙ ap (λ (k : ℕ). so_far ++ record { text = take n (drop at line); column = k } ∷ []) col in
     record {
       within = omega (arith, c.within, longest.within, length-drop at line);
       goes_on = λ ts h.
-        let behind : Lexes (at + 1 + n) (drop n (drop at line)) ts =
+          let behind : Lexes (at + 1 + n) (drop n (drop at line)) ts =
           subst (λ (k : ℕ). Lexes k (drop n (drop at line)) ts) place (subst (λ (u : List ℕ). Lexes (at + n + 1) u ts) (sym (drop-twice line at n)) h) in
-        let all = c.goes_on (t ∷ ts) (token (at + 1) n (drop at line) ts longest behind) in
-        subst (Lexes 1 line) (sym (ap (λ (us : List Placed). us ++ ts) pushed ∙ append_assoc so_far (t ∷ []) ts)) all;
+          let all = c.goes_on (t ∷ ts) (token (at + 1) n (drop at line) ts longest behind) in
+          subst (Lexes 1 line) (sym (ap (λ (us : List Placed). us ++ ts) pushed ∙ append_assoc so_far (t ∷ []) ts)) all;
       bad_on = λ column h.
-        let behind : IsBadAt (at + 1 + n) (drop n (drop at line)) column =
+          let behind : IsBadAt (at + 1 + n) (drop n (drop at line)) column =
           subst (λ (k : ℕ). IsBadAt k (drop n (drop at line)) column) place (subst (λ (u : List ℕ). IsBadAt (at + n + 1) u column) (sym (drop-twice line at n)) h) in
-        c.bad_on column (past_token (at + 1) n (drop at line) column longest behind);
+          c.bad_on column (past_token (at + 1) n (drop at line) column longest behind);
     }
 
 pub cut_bad : (line rest : List ℕ) (at column : ℕ) (so_far : List Placed) → rest ≡ drop at line → Cuts line at so_far → at < length line → is_blank (slice_index rest 0) ≡ false → front rest ≡ None → column ≡ at + 1 → IsBadAt 1 line column

@@ -1,5 +1,5 @@
 -- The longest token that begins some bytes is the one that is computed.
-use Rattle.std.proofs.Common.{◌≡◌, ℕ, zero, suc, ◌+◌, ◌-◌, ◌<◌, ◌≤◌, ◌⊎◌, inl, inr, Bool, true, false, not, cond, ◌&&◌, ◌||◌, ◌==◌, ltb, eqb, List, [], ◌∷◌, ◌++◌, length, take, drop, get_or, Option, Some, None, refl, sym, ap, ◌∙◌, subst, append_assoc, arith}
+use Rattle.std.proofs.Common.{◌≡◌, ℕ, zero, suc, ◌+◌, ◌<◌, ◌≤◌, inl, inr, Bool, true, false, not, cond, ◌&&◌, ◌||◌, ◌==◌, ltb, List, [], ◌∷◌, ◌++◌, length, take, drop, Option, Some, None, refl, sym, ap, ◌∙◌, subst, append_assoc, arith}
 use Rattle.std.specs.Prelude.{codes, slice_index, position}
 use Rattle.std.specs.List.{list_all, list_any, prefix_len}
 use Rattle.std.proofs.lemmas.Bool.{and_parts, or_cases, and_from, eqb-true, ltb-true, lt-ltb}
@@ -57,9 +57,9 @@ pair_fails P a b p61 p33 p60 p62 p38 p124 e =
 take_passes : (p : ℕ → Bool) (xs : List ℕ) → list_all p (take (prefix_len p xs) xs) ≡ true
 take_passes p [] = refl
 take_passes p (x ∷ xs) = elim (tested (p x)) [
-    | inl t ↦ let one : 1 + prefix_len p xs ≡ suc (prefix_len p xs) = omega arith in rw t (rw one (and_from (p x) (list_all p (take (prefix_len p xs) xs)) t (take_passes p xs)))
-    | inr f ↦ rw f refl
-  ]
+  | inl t ↦ let one : 1 + prefix_len p xs ≡ suc (prefix_len p xs) = omega arith in rw t (rw one (and_from (p x) (list_all p (take (prefix_len p xs) xs)) t (take_passes p xs)))
+  | inr f ↦ rw f refl
+]
 
 passes_within : (p : ℕ → Bool) (xs : List ℕ) (m : ℕ) → m ≤ length xs → list_all p (take m xs) ≡ true → m ≤ prefix_len p xs
 passes_within p xs zero le e = omega arith
@@ -101,7 +101,7 @@ string_ends : (body rest : List ℕ) → list_all is_string_byte body ≡ true �
 string_ends body rest e =
     let bytes = body ++ 34 ∷ rest in
     let found : position (λ b. not (is_string_byte b)) bytes ≡ Some (length body) =
-      ap (λ (n : ℕ). cond (ltb n (length bytes)) (Some n) None) (body_end body rest e) ∙ rw (lt-ltb (length body) (length bytes) (longer body rest)) refl in
+    ap (λ (n : ℕ). cond (ltb n (length bytes)) (Some n) None) (body_end body rest e) ∙ rw (lt-ltb (length body) (length bytes) (longer body rest)) refl in
     ap (quoted bytes) found ∙ ap (λ (b : ℕ). cond (b == 34) (Some (length body + 2)) None) (quote_there body rest)
 
 string_here : (body bytes : List ℕ) (k : ℕ) → list_all is_string_byte body ≡ true → body ++ 34 ∷ [] ≡ take k bytes → k ≤ length bytes → string_end bytes ≡ Some (suc k)
@@ -109,7 +109,7 @@ string_here body bytes k e is le =
     let long : length (body ++ 34 ∷ []) ≡ k = ap length is ∙ length-take-le k bytes le in
     let size : length body + 2 ≡ suc k = omega (arith, long, length-append body (34 ∷ [])) in
     let parts : body ++ 34 ∷ drop k bytes ≡ bytes =
-      sym (append_assoc body (34 ∷ []) (drop k bytes)) ∙ ap (λ (u : List ℕ). u ++ drop k bytes) is ∙ take-append-drop k bytes in
+    sym (append_assoc body (34 ∷ []) (drop k bytes)) ∙ ap (λ (u : List ℕ). u ++ drop k bytes) is ∙ take-append-drop k bytes in
     ap string_end (sym parts) ∙ string_ends body (drop k bytes) e ∙ ap (λ (n : ℕ). Some n) size
 
 -- the place at which a string's body ends, from what was computed
@@ -153,7 +153,7 @@ string_token : (bytes : List ℕ) (n : ℕ) → Ends bytes n → IsToken (take n
 string_token bytes n h =
     let size : n ≡ suc (h.at + 1) = omega (arith, h.size) in
     let is : take n (34 ∷ bytes) ≡ 34 ∷ (take h.at bytes ++ 34 ∷ []) =
-      ap (λ (m : ℕ). take m (34 ∷ bytes)) size ∙ ap (λ (u : List ℕ). 34 ∷ u) (take_quote bytes h.at h.within h.quote) in
+    ap (λ (m : ℕ). take m (34 ∷ bytes)) size ∙ ap (λ (u : List ℕ). 34 ∷ u) (take_quote bytes h.at h.within h.quote) in
     subst IsToken (sym is) (string (take h.at bytes) h.body)
 
 -- ---- what tokens begin with
@@ -341,9 +341,9 @@ not_both false h = refl
 
 word_blank : (b : ℕ) → is_word_byte b ≡ true → is_blank b ≡ false
 word_blank b w = not_both (is_blank b) (λ t. elim (or_cases (b == 32) (b == 9) t) [
-    | inl i ↦ both (is_word_byte b) w (ap is_word_byte (eqb-true b 32 i))
-    | inr i ↦ both (is_word_byte b) w (ap is_word_byte (eqb-true b 9 i))
-  ])
+  | inl i ↦ both (is_word_byte b) w (ap is_word_byte (eqb-true b 32 i))
+  | inr i ↦ both (is_word_byte b) w (ap is_word_byte (eqb-true b 9 i))
+])
 
 -- no token begins with a blank
 blank_begins : (b : ℕ) (bytes : List ℕ) (m : ℕ) → is_blank b ≡ true → Begun b bytes m → ⊥

@@ -9,8 +9,8 @@ use Rattle.watch_expr.specs.declared.stack.Mode.{Mode}
 use Rattle.watch_expr.specs.declared.stack.Step.{Step}
 use Rattle.watch_expr.specs.declared.stack.Step.TheVariants as stepped
 use Rattle.watch_expr.specs.Tree.{Tree, tree}
-use Rattle.watch_expr.specs.Lexing.{Lexed, texts, column_at}
-use Rattle.watch_expr.specs.Grammar.{IsExpr, Takes, Begins, Parsed}
+use Rattle.watch_expr.specs.Lexing.{Lexed, texts}
+use Rattle.watch_expr.specs.Grammar.{IsExpr, Takes, Parsed}
 use Rattle.watch_expr.specs.Machine.{State, Want, step, steps, whole, state, Finishes, Steps}
 use Rattle.watch_expr.proofs.Reading.{Stands, steps_append, steps_keep, stands_begins, whole_says, whole_again, begins_reads}
 
@@ -70,8 +70,8 @@ module _ (names : List (List ℕ)) where
         within = h.reached.within;
         begins = stands_begins names st _ (steps_keep names (Want []) [] _ st stands h.reached.reads);
         longest = λ lt b.
-          let r = begins_reads names _ b in
-          let e : ◌≡◌ {A = Option State} (Some r.0) None = sym r.1 ∙ h.refused lt in absurd cc;
+            let r = begins_reads names _ b in
+            let e : ◌≡◌ {A = Option State} (Some r.0) None = sym r.1 ∙ h.refused lt in absurd cc;
       }
 
   spelled : (ts : List (List ℕ)) (from at : ℕ) (st : State) (x : Tree) → Stops ts from at st → whole st ≡ Some x → IsExpr names (take (at - from) (drop from ts)) x

@@ -1,5 +1,5 @@
 -- The machine reads exactly what the grammar spells, and stops exactly where no expression goes on.
-use Rattle.std.proofs.Common.{◌≡◌, ℕ, zero, suc, ◌<◌, ◌≤◌, Bool, true, false, cond, nat_le, ◌⊎◌, inl, inr, List, [], ◌∷◌, ◌++◌, Option, Some, None, refl, sym, ap, ◌∙◌, subst, append_assoc, arith}
+use Rattle.std.proofs.Common.{◌≡◌, ℕ, zero, suc, ◌<◌, ◌≤◌, Bool, true, false, cond, nat_le, inl, inr, List, [], ◌∷◌, ◌++◌, Option, Some, None, refl, sym, ap, ◌∙◌, subst, append_assoc, arith}
 use Rattle.std.specs.Prelude.{bytes_eq, codes}
 use Rattle.std.proofs.lemmas.List.{append-nil}
 use Rattle.std.proofs.lemmas.Bool.{leb-true, leb-false, le-leb}
@@ -18,7 +18,7 @@ use Rattle.watch_expr.specs.Tree.{Tree, Number, One, Two, Over, Var, Load, Globa
 use Rattle.watch_expr.specs.Spelling.{is_word, number_of, node_of, binary_sign, binary_of, unary_sign, unary_of, agg_word, agg_of, place_word, place_of}
 use Rattle.watch_expr.specs.Grammar.{UNARY, FIRST, level, left, IsAt, higher, two, one, number, variable, brackets, over, load, global, clock, events, size, IsExpr, Begins}
 use Rattle.watch_expr.specs.Machine.{Pending, Left, Front, Inside, State, Want, Have, Part, settle, operator, closing, closed_by, enclose, close, Went, More, Whole, Opens, when, given, at_place, begin_as, begin, onward, lead, want_sign, want_number, have_as, step, steps, alone, whole}
-use Rattle.watch_expr.proofs.Settling.{tested, low, left_high, left_low, Fits, fits_more, fits_unary, settle_stops, operator_goes, operator_gave}
+use Rattle.watch_expr.proofs.Settling.{tested, left_high, left_low, Fits, fits_more, fits_unary, settle_stops, operator_goes, operator_gave}
 use Rattle.watch_expr.proofs.Words.{same_bytes, binary_is, binary_again, unary_is, agg_is, place_is, place_again, sign_read, agg_read, bracket_read, dollar_read, at_read, closing_again, zero_is}
 
 module _ (names : List (List ℕ)) where
@@ -26,9 +26,9 @@ module _ (names : List (List ℕ)) where
   pub weaken : (m k : ℕ) (ts : List (List ℕ)) (x : Tree) → k ≤ m → IsAt names m ts x → IsAt names k ts x
   weaken zero k ts x le h = subst (λ (j : ℕ). IsAt names j ts x) (let e : zero ≡ k = omega arith in e) h
   weaken (suc m) k ts x le h = elim (tested (nat_le k m)) [
-      | inl t ↦ weaken m k ts x (leb-true k m t) (higher h)
-      | inr f ↦ subst (λ (j : ℕ). IsAt names j ts x) (let e : suc m ≡ k = omega (arith, leb-false k m f) in e) h
-    ]
+    | inl t ↦ weaken m k ts x (leb-true k m t) (higher h)
+    | inr f ↦ subst (λ (j : ℕ). IsAt names j ts x) (let e : suc m ≡ k = omega (arith, leb-false k m f) in e) h
+  ]
 
   -- ---- what is spelled is read
 
@@ -62,7 +62,7 @@ module _ (names : List (List ℕ)) where
       let p : settle 0 r.after r.last ≡ (Inside o ∷ s, x) = r.settles 0 (omega arith) in
       let again = closing_again o in
       let q : step names (Have r.after r.last) k ≡ Some (Have s (enclose o x)) =
-        ap (λ (b : Option Binary). have_as b r.after r.last k) again.0 ∙ ap (close k) p ∙ ap (λ (b : Bool). cond b (Some (Have s (enclose o x))) None) again.1 in
+      ap (λ (b : Option Binary). have_as b r.after r.last k) again.0 ∙ ap (close k) p ∙ ap (λ (b : Bool). cond b (Some (Have s (enclose o x))) None) again.1 in
       steps_append (Some (Want (Inside o ∷ s))) a (k ∷ []) ∙ ap (λ (o : Option State). steps names o (k ∷ [])) r.reads ∙ ap (λ (o : Option State). steps names o []) q
 
   -- a fixed sequence in front of the rest
@@ -95,7 +95,7 @@ module _ (names : List (List ℕ)) where
       let stops : settle (left op) first.after first.last ≡ (s, x) = first.settles (left op) (omega arith) ∙ settle_stops (left op) s x (left_low op) (fits_more (level op) (left op) s (left_high op) fits) in
       let sign = binary_sign op in
       let goes : step names (Have first.after first.last) sign ≡ Some (Want (Left op x ∷ s)) =
-        ap (λ (b : Option Binary). have_as b first.after first.last sign) (binary_again op) ∙ ap (operator op) stops ∙ operator_goes op s x fits in
+      ap (λ (b : Option Binary). have_as b first.after first.last sign) (binary_again op) ∙ ap (operator op) stops ∙ operator_goes op s x fits in
       record {
         after = second.after;
         last = second.last;
@@ -309,7 +309,7 @@ module _ (names : List (List ℕ)) where
   onward_keeps (half.Dotted n) k ts g h e =
       let p = when_some (place_of k) _ g e in
       let parts : ts ++ k ∷ [] ≡ codes "@" ∷ h.0 ∷ codes "." ∷ place_word p.0 ∷ [] =
-        ap (λ (u : List (List ℕ)). u ++ k ∷ []) h.3 ∙ ap (λ (w : List ℕ). codes "@" ∷ h.0 ∷ codes "." ∷ w ∷ []) (place_is k p.0 p.1) in
+      ap (λ (u : List (List ℕ)). u ++ k ∷ []) h.3 ∙ ap (λ (w : List ℕ). codes "@" ∷ h.0 ∷ codes "." ∷ w ∷ []) (place_is k p.0 p.1) in
       came (at_place n p.0) g _ p.2 (subst (λ (u : List (List ℕ)). Came (at_place n p.0) u) (sym parts) (place_keeps h.0 n p.0 h.1 h.2))
   onward_keeps (half.Sized n width) k ts g h e = let p = single k (codes "[") _ g e in came (Opens (opening.Load n width)) g _ p.1 (h.0, h.1, h.2, rw (h.3, p.0) refl)
   onward_keeps (half.GlobalOf n) k ts g h e = let p = single k (codes "[") _ g e in came (More (half.Indexing n)) g _ p.1 (h.0, h.1, h.2, rw (h.3, p.0) refl)

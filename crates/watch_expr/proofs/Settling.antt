@@ -1,7 +1,6 @@
 -- Operators that take their operands.
-use Rattle.std.proofs.Common.{◌≡◌, ℕ, ◌<◌, ◌≤◌, Bool, true, false, cond, nat_le, nat_eq, ◌⊎◌, inl, inr, List, [], ◌∷◌, Option, Some, None, refl, sym, ap, ◌∙◌, subst, arith}
-use Rattle.std.proofs.lemmas.Bool.{leb-true, leb-false, le-leb, lt-leb, eqb-false, ne_eqb}
-use Rattle.watch_expr.specs.declared.expr.Unary.{Unary}
+use Rattle.std.proofs.Common.{◌≡◌, ℕ, ◌<◌, ◌≤◌, Bool, true, false, nat_le, nat_eq, ◌⊎◌, inl, inr, List, [], ◌∷◌, Some, refl, sym, ap, ◌∙◌, subst, arith}
+use Rattle.std.proofs.lemmas.Bool.{le-leb, lt-leb, eqb-false, ne_eqb}
 use Rattle.watch_expr.specs.declared.expr.Binary.{Binary}
 use Rattle.watch_expr.specs.declared.expr.Binary.TheVariants as binary
 use Rattle.watch_expr.specs.Tree.{Tree, One, Two}
@@ -93,26 +92,26 @@ compares_not (Inside o ∷ s) h = refl
 
 pub operator_goes : (op : Binary) (s : List Pending) (x : Tree) → Fits (level op) s → operator op (s, x) ≡ Some (Want (Left op x ∷ s))
 operator_goes op s x h = elim (sides op) [
-    | inl p ↦ rw p.1 refl
-    | inr p ↦ let c : compares s ≡ false = compares_not s (subst (λ (k : ℕ). Fits k s) p.0 h) in rw (p.0, c) refl
-  ]
+  | inl p ↦ rw p.1 refl
+  | inr p ↦ let c : compares s ≡ false = compares_not s (subst (λ (k : ℕ). Fits k s) p.0 h) in rw (p.0, c) refl
+]
 
 pub operator_gave : (op : Binary) (s : List Pending) (x : Tree) (st : State) → Fits (left op) s → operator op (s, x) ≡ Some st → (Some (Want (Left op x ∷ s)) ≡ Some st) × Fits (level op) s
 operator_gave op s x st h e = elim (sides op) [
-    | inl p ↦ (rw p.1 at e, subst (λ (k : ℕ). Fits k s) p.0 h)
-    | inr p ↦ elim (tested (compares s)) [
-      | inl c ↦ absurd (let f = rw (p.0, c) at e in cc)
-      | inr c ↦ (rw (p.0, c) at e, subst (λ (k : ℕ). Fits k s) (sym p.0) (fits_compare s (subst (λ (k : ℕ). Fits k s) p.1 h) c))
-    ]
+  | inl p ↦ (rw p.1 at e, subst (λ (k : ℕ). Fits k s) p.0 h)
+  | inr p ↦ elim (tested (compares s)) [
+    | inl c ↦ absurd (let f = rw (p.0, c) at e in cc)
+    | inr c ↦ (rw (p.0, c) at e, subst (λ (k : ℕ). Fits k s) (sym p.0) (fits_compare s (subst (λ (k : ℕ). Fits k s) p.1 h) c))
   ]
+]
 
 -- settling twice
 settle_again : (m : ℕ) (s : List Pending) (x : Tree) → settle 0 (settle m s x).0 (settle m s x).1 ≡ settle 0 s x
 settle_again m [] x = refl
 settle_again m (Left op y ∷ s) x = elim (tested (nat_le m (level op))) [
-    | inl t ↦ rw (t, le-leb 0 (level op) (omega arith)) (settle_again m s (Two op y x))
-    | inr f ↦ rw f refl
-  ]
+  | inl t ↦ rw (t, le-leb 0 (level op) (omega arith)) (settle_again m s (Two op y x))
+  | inr f ↦ rw f refl
+]
 settle_again m (Front op ∷ s) x = settle_again m s (One op x)
 settle_again m (Inside o ∷ s) x = refl
 

@@ -1,5 +1,5 @@
 -- What may be wrong with an expression that is of the grammar.
-use Rattle.std.specs.Prelude.{Bool, true, false, not, ◌||◌, Option, Some, None}
+use Rattle.std.specs.Prelude.{Bool, true, false, not, ◌||◌, Some, None}
 use Rattle.watch_expr.specs.declared.expr.NodeName.{NodeName}
 use Rattle.watch_expr.specs.declared.expr.NodeName.TheVariants.{Named, Each}
 use Rattle.watch_expr.specs.Tree.{Tree, Number, Var, One, Two, Over, Load, Global, Clock, Events, Size}

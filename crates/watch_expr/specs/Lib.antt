@@ -1,6 +1,8 @@
+pub mod Computed
 pub mod Faulty
 pub mod Front
 pub mod Grammar
+pub mod Laws
 pub mod Lexing
 pub mod Machine
 pub mod Spelling

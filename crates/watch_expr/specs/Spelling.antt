@@ -10,7 +10,6 @@ use Rattle.watch_expr.specs.declared.expr.Binary.{Binary}
 use Rattle.watch_expr.specs.declared.expr.Binary.TheVariants as binary
 use Rattle.watch_expr.specs.declared.expr.Agg.{Agg}
 use Rattle.watch_expr.specs.declared.expr.Agg.TheVariants as agg
-use Rattle.watch_expr.specs.declared.expr.Width.{Width}
 use Rattle.watch_expr.specs.declared.expr.Width.TheVariants as width
 use Rattle.watch_expr.specs.declared.expr.NodeName.{NodeName}
 use Rattle.watch_expr.specs.declared.expr.NodeName.TheVariants as node

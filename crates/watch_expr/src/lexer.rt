@@ -9,6 +9,7 @@ use crate::word::is_word_byte;
 use std::alloc::Global;
 
 const MOST_TOKENS: usize = 512;
+
 const MOST_OPEN: u32 = 64;
 
 /// Cuts the line into tokens. Blanks separate them, and at each other place stands the longest token that
@@ -87,7 +88,9 @@ fn string_stop(bytes: &[u8]) -> Option<usize>
 fn sign_length(first: u8, rest: &[u8]) -> Option<usize>
     ensures { result ≡ sign_at first rest.now }
 {
-    if let Some(second) = rest.first() && is_pair(first, *second) {
+    if let Some(second) = rest.first()
+        && is_pair(first, *second)
+    {
         return Some(2);
     }
     if is_sign(first) { Some(1) } else { None }

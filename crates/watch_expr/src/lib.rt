@@ -1,10 +1,10 @@
 //! The expressions of the debugger's shell: what a line spells, and what it comes to over a group.
 #![tactic(auto)]
 
-pub mod expr;
-
 mod error;
+pub mod expr;
 mod faults;
+mod laws;
 mod lexer;
 mod number;
 mod parser;
@@ -15,6 +15,7 @@ mod word;
 pub use error::ExprError;
 pub use expr::{Agg, Binary, Expr, NodeName, Unary, Width};
 pub use faults::{Faults, find_faults};
+pub use laws::{exact_cut, exact_reading, none_apart};
 pub use lexer::lex;
 pub use parser::parse;
 pub use token::Tokens;

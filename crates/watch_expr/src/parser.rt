@@ -16,7 +16,12 @@ use std::alloc::{AllocError, Global};
 
 /// Reads the expression that begins at a token, as far as the tokens go on with some expression, and gives the
 /// number of the token behind it. The names are those of the nodes, in their order.
-pub fn parse(alloc: Global, tokens: &Tokens, from: usize, names: &[Bytes]) -> Result<(Expr, usize), ExprError>
+pub fn parse(
+    alloc: Global,
+    tokens: &Tokens,
+    from: usize,
+    names: &[Bytes],
+) -> Result<(Expr, usize), ExprError>
     requires { length names.now < 2 ^ 32 }
     ensures { Parsed names.now tokens.now from result }
 {
@@ -33,7 +38,13 @@ pub fn parse(alloc: Global, tokens: &Tokens, from: usize, names: &[Bytes]) -> Re
     finish(alloc, tokens, frames, mode, at)
 }
 
-fn advance(alloc: Global, names: &[Bytes], frames: &mut Vec<Frame>, mode: Mode, text: &[u8]) -> Result<Step, AllocError>
+fn advance(
+    alloc: Global,
+    names: &[Bytes],
+    frames: &mut Vec<Frame>,
+    mode: Mode,
+    text: &[u8],
+) -> Result<Step, AllocError>
     requires { length names.now < 2 ^ 32 }
     ensures { IfOk result (λ s. Steps names.now (state frames.old.items mode) text.now frames.new.items s) }
 {
@@ -48,7 +59,13 @@ fn advance(alloc: Global, names: &[Bytes], frames: &mut Vec<Frame>, mode: Mode, 
 }
 
 /// The whole expression, if the tokens were one.
-fn finish(alloc: Global, tokens: &Tokens, mut frames: Vec<Frame>, mode: Mode, at: usize) -> Result<(Expr, usize), ExprError>
+fn finish(
+    alloc: Global,
+    tokens: &Tokens,
+    mut frames: Vec<Frame>,
+    mode: Mode,
+    at: usize,
+) -> Result<(Expr, usize), ExprError>
     ensures { Finishes tokens.now (state frames.items mode) at result }
 {
     match mode {
@@ -89,7 +106,13 @@ fn want_operand(frames: &mut Vec<Frame>, text: &[u8]) -> Result<Step, AllocError
 }
 
 /// Inside an operand.
-fn part(alloc: Global, names: &[Bytes], frames: &mut Vec<Frame>, half: Half, text: &[u8]) -> Result<Step, AllocError>
+fn part(
+    alloc: Global,
+    names: &[Bytes],
+    frames: &mut Vec<Frame>,
+    half: Half,
+    text: &[u8],
+) -> Result<Step, AllocError>
     requires { length names.now < 2 ^ 32 }
     ensures { IfOk result (λ s. Steps names.now (state frames.old.items (Mode.Part half)) text.now frames.new.items s) }
 {
@@ -138,11 +161,20 @@ fn more_if(test: bool, half: Half) -> Option<Went>
 fn opens_if(test: bool, opening: Opening) -> Option<Went>
     ensures { went_if result ≡ given test (Opens opening) }
 {
-    if test { Some(Went::Opens(opening)) } else { None }
+    if test {
+        Some(Went::Opens(opening))
+    } else {
+        None
+    }
 }
 
 /// What a token adds to an operand that has begun.
-fn continued(alloc: Global, names: &[Bytes], half: Half, text: &[u8]) -> Result<Option<Went>, AllocError>
+fn continued(
+    alloc: Global,
+    names: &[Bytes],
+    half: Half,
+    text: &[u8],
+) -> Result<Option<Went>, AllocError>
     requires { length names.now < 2 ^ 32 }
     ensures { IfOk result (λ went. went_if went ≡ onward names.now half text.now) }
 {
@@ -151,7 +183,10 @@ fn continued(alloc: Global, names: &[Bytes], half: Half, text: &[u8]) -> Result<
         Half::At => Ok(named(names, text)),
         Half::Node(node) => Ok(more_if(text == b".".as_slice(), Half::Dotted(node))),
         Half::Dotted(node) => Ok(placed(node, text)),
-        Half::Sized(node, width) => Ok(opens_if(text == b"[".as_slice(), Opening::Load(node, width))),
+        Half::Sized(node, width) => Ok(opens_if(
+            text == b"[".as_slice(),
+            Opening::Load(node, width),
+        )),
         Half::GlobalOf(node) => Ok(more_if(text == b"[".as_slice(), Half::Indexing(node))),
         Half::Indexing(node) => Ok(indexed(node, text)),
         Half::Indexed(node, n) => Ok(global(node, n, text)),
@@ -209,7 +244,11 @@ fn indexed(node: NodeName, text: &[u8]) -> Option<Went>
 fn global(node: NodeName, n: u64, text: &[u8]) -> Option<Went>
     ensures { went_if result ≡ onward [] (Half.Indexed node n) text.now }
 {
-    if text == b"]".as_slice() { Some(Went::Whole(Expr::Global(node, n))) } else { None }
+    if text == b"]".as_slice() {
+        Some(Went::Whole(Expr::Global(node, n)))
+    } else {
+        None
+    }
 }
 
 /// Behind an operand, an operator.
@@ -247,7 +286,13 @@ fn close(alloc: Global, frames: &mut Vec<Frame>, x: Expr, text: &[u8]) -> Result
 
 /// What was opened and a token behind it.
 #[tactic(auto, using(crate::proofs::Piles::pile_push))]
-fn closed(alloc: Global, frames: &mut Vec<Frame>, inner: Expr, opening: Opening, text: &[u8]) -> Result<Step, AllocError>
+fn closed(
+    alloc: Global,
+    frames: &mut Vec<Frame>,
+    inner: Expr,
+    opening: Opening,
+    text: &[u8],
+) -> Result<Step, AllocError>
     ensures { IfOk result (λ s. Closes opening (tree inner) text.now (pile [] frames.old.items) frames.new.items s) }
 {
     if !is_closed_by(opening, text) {

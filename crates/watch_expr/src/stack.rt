@@ -82,7 +82,12 @@ pub(crate) fn left_of(op: Binary) -> u8
 }
 
 /// The operators of this level and higher take their operands.
-pub(crate) fn settled(alloc: Global, frames: &mut Vec<Frame>, least: u8, operand: Expr) -> Result<Expr, AllocError>
+pub(crate) fn settled(
+    alloc: Global,
+    frames: &mut Vec<Frame>,
+    least: u8,
+    operand: Expr,
+) -> Result<Expr, AllocError>
     ensures { IfOk result (λ x. settle least (pile [] frames.old.items) (tree operand) ≡ (pile [] frames.new.items, tree x)) }
 {
     let mut x = operand;

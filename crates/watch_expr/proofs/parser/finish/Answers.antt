@@ -1,4 +1,4 @@
-use Rattle.std.proofs.Common.{sym, ap, ◌∙◌, refl}
+use Rattle.std.proofs.Common.{sym, ap, ◌∙◌}
 use Rattle.watch_expr.specs.Tree.{tree}
 use Rattle.watch_expr.specs.declared.stack.Mode.{Mode}
 use Rattle.watch_expr.specs.Machine.{alone, whole, state}

@@ -1,4 +1,4 @@
-use Rattle.std.proofs.Common.{◌≡◌, ◌<◌, List, ℕ, length, slice_get, Some, arith, ap, ◌∙◌, sym}
+use Rattle.std.proofs.Common.{◌<◌, length, arith, sym}
 use Rattle.std.proofs.lemmas.Option.{slice_get_within}
 use Rattle.watch_expr.specs.Lexing.{texts}
 use Rattle.watch_expr.specs.Machine.{state}
