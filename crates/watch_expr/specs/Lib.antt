@@ -1,0 +1,4 @@
+pub mod Tree
+pub mod Value
+pub mod ValueTally
+pub mod View

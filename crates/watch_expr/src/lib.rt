@@ -2,5 +2,9 @@
 #![tactic(auto)]
 
 pub mod expr;
+pub mod value;
+pub mod view;
 
 pub use expr::{Agg, Binary, Expr, NodeName, Unary, Width};
+pub use value::eval;
+pub use view::{Scope, View};
