@@ -1,5 +1,5 @@
 -- What an aggregate has made of the values so far.
-use Rattle.std.specs.Prelude.{ℕ, ◌+◌, ◌-◌, ◌*◌, ◌^◌, ◌≤◌, Option, Some, None, if◌then◌else◌, ℤ, pos, neg_ℤ, ◌+ℤ◌, ◌≤ℤ◌}
+use Rattle.std.specs.Prelude.{ℕ, ◌+◌, ◌-◌, ◌*◌, ◌^◌, ◌≤◌, Option, Some, None, not, if◌then◌else◌, ℤ, pos, neg_ℤ, ◌+ℤ◌, ◌≤ℤ◌}
 use Rattle.std.specs.Int.{int_max, int_min}
 use Rattle.watch_expr.specs.declared.expr.Agg.{Agg}
 use Rattle.watch_expr.specs.declared.expr.Agg.TheVariants as agg
@@ -23,7 +23,7 @@ abbrev pub added : Tally → ℤ → Tally
 added (Sum sum) z = Sum (sum +ℤ z)
 added (Min least) z = Min (Some (best int_min least z))
 added (Max greatest) z = Max (Some (best int_max greatest z))
-added (Count count) z = Count (count + (if is_zero z then 0 else 1))
+added (Count count) z = Count (count + (if not (is_zero z) then 1 else 0))
 
 abbrev pub total : Tally → Option ℤ
 total (Sum sum) = fit sum

@@ -3,13 +3,15 @@ ghost use Rattle.std.specs.Prelude.{◌≡◌};
 ghost use Rattle.watch_expr.specs.Tree.{tree};
 ghost use Rattle.watch_expr.specs.Value.{setting, value, value_at};
 
+mod loads;
 mod operators;
 mod places;
 mod tally;
 
 use crate::expr::Expr;
+use crate::value::loads::load;
 use crate::value::operators::{decided, number, one, two};
-use crate::value::places::{clock, events, global, load, node_of, size};
+use crate::value::places::{clock, events, global, node_of, size};
 use crate::value::tally::Tally;
 use crate::view::{Scope, View};
 

@@ -1,0 +1,102 @@
+-- Values at one node after the other.
+use Rattle.std.proofs.Common.{◌≡◌, ℕ, suc, ◌+◌, ◌-◌, ◌<◌, ◌≤◌, List, [], ◌∷◌, map, fold, Option, Some, None, refl, sym, ap, ◌∙◌, arith, cond, ℤ, pos, ◌+ℤ◌, FitsSigned, w64}
+use Rattle.std.proofs.lemmas.Int.{ints}
+use Rattle.std.specs.Prelude.{not}
+use Rattle.std.specs.Int.{int_max, int_min}
+use Rattle.std.specs.List.{range_with_len}
+use Rattle.watch_expr.specs.declared.expr.Agg.{Agg}
+use Rattle.watch_expr.specs.declared.expr.Agg.TheVariants as agg
+use Rattle.watch_expr.specs.declared.value.tally.Tally.{Tally}
+use Rattle.watch_expr.specs.declared.value.tally.Tally.TheVariants.{Sum, Min, Max, Count}
+use Rattle.watch_expr.specs.Tree.{Tree, Over}
+use Rattle.watch_expr.specs.Value.{Setting, all_of, is_zero, over, value_at}
+use Rattle.watch_expr.specs.ValueTally.{HasRoom, IsWithin, added, start, total}
+use Rattle.watch_expr.specs.View.{◌>>=◌}
+
+-- ---- a whole list of values
+
+sums : (z : ℤ) (ws : List ℤ) → fold added (Sum z) ws ≡ Sum (fold ◌+ℤ◌ z ws)
+sums z [] = refl
+sums z (w ∷ ws) = sums (z +ℤ w) ws
+
+leasts : (z : ℤ) (ws : List ℤ) → fold added (Min (Some z)) ws ≡ Min (Some (fold int_min z ws))
+leasts z [] = refl
+leasts z (w ∷ ws) = leasts (int_min z w) ws
+
+greatests : (z : ℤ) (ws : List ℤ) → fold added (Max (Some z)) ws ≡ Max (Some (fold int_max z ws))
+greatests z [] = refl
+greatests z (w ∷ ws) = greatests (int_max z w) ws
+
+counts : (n : ℕ) (ws : List ℤ) → fold added (Count n) ws ≡ Count (fold (λ m w. m + cond (not (is_zero w)) 1 0) n ws)
+counts n [] = refl
+counts n (w ∷ ws) = counts (n + cond (not (is_zero w)) 1 0) ws
+
+total_says : (a : Agg) (ws : List ℤ) → total (fold added (start a) ws) ≡ over a ws
+total_says agg.Sum ws = ap total (sums (pos 0) ws)
+total_says agg.Min [] = refl
+total_says agg.Min (w ∷ ws) = ap total (leasts w ws)
+total_says agg.Max [] = refl
+total_says agg.Max (w ∷ ws) = ap total (greatests w ws)
+total_says agg.Count ws = ap total (counts 0 ws)
+
+-- ---- the nodes from one on
+
+-- what becomes of a tally with the values from the node k on
+abbrev pub ending : Setting → Tree → Tally → ℕ → ℕ → Option ℤ
+ending s x tally k n = all_of (map (λ node. value_at s (Some node) x) (range_with_len k (n - k))) >>= λ ws. total (fold added tally ws)
+
+range_next : (k n : ℕ) → k < n → range_with_len k (n - k) ≡ k ∷ range_with_len (k + 1) (n - (k + 1))
+range_next k n lt = let e : n - k ≡ suc (n - (k + 1)) = omega arith in ap (range_with_len k) e
+
+front : (tally : Tally) (a : ℤ) (o : Option (List ℤ))
+    → ◌≡◌ {A = Option ℤ} ((o >>= λ ws. Some (a ∷ ws)) >>= λ ws. total (fold added tally ws)) (o >>= λ ws. total (fold added (added tally a) ws))
+front tally a None = refl
+front tally a (Some ws) = refl
+
+pub ending_some : (s : Setting) (x : Tree) (tally : Tally) (k n : ℕ) (a : ℤ) → k < n → value_at s (Some k) x ≡ Some a
+    → ending s x tally k n ≡ ending s x (added tally a) (k + 1) n
+ending_some s x tally k n a lt e =
+    let rest = all_of (map (λ node. value_at s (Some node) x) (range_with_len (k + 1) (n - (k + 1)))) in
+    ap (λ (ks : List ℕ). all_of (map (λ node. value_at s (Some node) x) ks) >>= λ ws. total (fold added tally ws)) (range_next k n lt)
+    ∙ ap (λ (o : Option ℤ). all_of (o ∷ map (λ node. value_at s (Some node) x) (range_with_len (k + 1) (n - (k + 1)))) >>= λ ws. total (fold added tally ws)) e
+    ∙ front tally a rest
+
+pub ending_none : (s : Setting) (x : Tree) (tally : Tally) (k n : ℕ) → k < n → value_at s (Some k) x ≡ None → ending s x tally k n ≡ None
+ending_none s x tally k n lt e =
+    ap (λ (ks : List ℕ). all_of (map (λ node. value_at s (Some node) x) ks) >>= λ ws. total (fold added tally ws)) (range_next k n lt)
+    ∙ ap (λ (o : Option ℤ). all_of (o ∷ map (λ node. value_at s (Some node) x) (range_with_len (k + 1) (n - (k + 1)))) >>= λ ws. total (fold added tally ws)) e
+
+pub ending_all : (s : Setting) (x : Tree) (tally : Tally) (k n : ℕ) → n ≤ k → ending s x tally k n ≡ total tally
+ending_all s x tally k n le =
+    let e : n - k ≡ 0 = omega arith in
+    ap (λ (m : ℕ). all_of (map (λ node. value_at s (Some node) x) (range_with_len k m)) >>= λ ws. total (fold added tally ws)) e
+
+begun : (a : Agg) (o : Option (List ℤ)) → ◌≡◌ {A = Option ℤ} (o >>= λ ws. total (fold added (start a) ws)) (o >>= over a)
+begun a None = refl
+begun a (Some ws) = total_says a ws
+
+pub over_says : (s : Setting) (x : Tree) (a : Agg) (n : ℕ)
+    → ending s x (start a) 0 n ≡ all_of (map (λ node. value_at s (Some node) x) (range_with_len 0 n)) >>= over a
+over_says s x a n =
+    let z : n - 0 ≡ n = omega arith in
+    ap (λ (m : ℕ). all_of (map (λ node. value_at s (Some node) x) (range_with_len 0 m)) >>= λ ws. total (fold added (start a) ws)) z ∙ begun a _
+
+-- ---- how far a tally can have come
+
+pub within_more : (tally : Tally) (k : ℕ) (a : ℤ) → FitsSigned w64 a → IsWithin tally k → IsWithin (added tally a) (k + 1)
+within_more (Sum z) k a fit within = (omega (arith, ints, fit, within.0, within.1), omega (arith, ints, fit, within.0, within.1))
+within_more (Min o) k a fit within = tt
+within_more (Max o) k a fit within = tt
+within_more (Count m) k a fit within = grind arith
+
+pub has_room : (tally : Tally) (k : ℕ) → k + 2 ≤ 4294967296 → IsWithin tally k → HasRoom tally
+has_room (Sum z) k few within = (omega (arith, ints, within.0), omega (arith, ints, within.1))
+has_room (Min o) k few within = tt
+has_room (Max o) k few within = tt
+has_room (Count m) k few within = omega arith
+
+pub starts_within : (a : Agg) → IsWithin (start a) 0
+starts_within agg.Sum = (omega (arith, ints), omega (arith, ints))
+starts_within agg.Min = tt
+starts_within agg.Max = tt
+starts_within agg.Count = omega arith
