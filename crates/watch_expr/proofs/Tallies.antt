@@ -1,5 +1,5 @@
 -- Values at one node after the other.
-use Rattle.std.proofs.Common.{◌≡◌, ℕ, suc, ◌+◌, ◌-◌, ◌<◌, ◌≤◌, List, [], ◌∷◌, map, fold, Option, Some, None, refl, sym, ap, ◌∙◌, arith, cond, ℤ, pos, ◌+ℤ◌, FitsSigned, w64}
+use Rattle.std.proofs.Common.{◌≡◌, ℕ, suc, ◌+◌, ◌-◌, ◌<◌, ◌≤◌, List, [], ◌∷◌, map, fold, Option, Some, None, refl, ap, ◌∙◌, arith, cond, ℤ, pos, ◌+ℤ◌, FitsSigned, w64}
 use Rattle.std.proofs.lemmas.Int.{ints}
 use Rattle.std.specs.Prelude.{not}
 use Rattle.std.specs.Int.{int_max, int_min}
@@ -8,7 +8,7 @@ use Rattle.watch_expr.specs.declared.expr.Agg.{Agg}
 use Rattle.watch_expr.specs.declared.expr.Agg.TheVariants as agg
 use Rattle.watch_expr.specs.declared.value.tally.Tally.{Tally}
 use Rattle.watch_expr.specs.declared.value.tally.Tally.TheVariants.{Sum, Min, Max, Count}
-use Rattle.watch_expr.specs.Tree.{Tree, Over}
+use Rattle.watch_expr.specs.Tree.{Tree}
 use Rattle.watch_expr.specs.Value.{Setting, all_of, is_zero, over, value_at}
 use Rattle.watch_expr.specs.ValueTally.{HasRoom, IsWithin, added, start, total}
 use Rattle.watch_expr.specs.View.{◌>>=◌}

@@ -1,5 +1,5 @@
 -- Expressions without where they lie in memory.
-use Rattle.std.specs.Prelude.{ℕ, List, Option}
+use Rattle.std.specs.Prelude.{ℕ, List}
 use Rattle.watch_expr.specs.declared.expr.Agg.{Agg}
 use Rattle.watch_expr.specs.declared.expr.Binary.{Binary}
 use Rattle.watch_expr.specs.declared.expr.Expr.{Expr}

@@ -1,7 +1,8 @@
 -- The value of an expression: a signed number of 64 bits, or None for undef.
-use Rattle.std.specs.Prelude.{ℕ, ◌^◌, List, [], ◌∷◌, length, map, slice_get, Option, Some, None, option_map, Bool, false, true, ◌&&◌, not, nat_lt, ◌==◌, if◌then◌else◌, ℤ, pos, negsuc, ◌+ℤ◌, ◌-ℤ◌, ◌*ℤ◌, neg_ℤ, int_lt, int_le, int_div, int_rem, fold, count_by}
+use Rattle.std.specs.Prelude.{ℕ, ◌^◌, List, [], ◌∷◌, length, map, Option, Some, None, option_map, Bool, false, ◌&&◌, not, nat_lt, ◌==◌, if◌then◌else◌, ℤ, pos, negsuc, ◌+ℤ◌, ◌-ℤ◌, ◌*ℤ◌, neg_ℤ, int_lt, int_le, int_div, int_rem, fold, count_by}
 use Rattle.std.specs.Int.{w8, w16, w32, w64, int_max, int_min, cast_signed}
 use Rattle.std.specs.List.{range_with_len, reduce}
+use Rattle.guest_memory.specs.LittleEndian.{number_of}
 use Rattle.watch_expr.specs.declared.expr.Agg.{Agg}
 use Rattle.watch_expr.specs.declared.expr.Agg.TheVariants as agg
 use Rattle.watch_expr.specs.declared.expr.Binary.{Binary}
@@ -13,7 +14,7 @@ use Rattle.watch_expr.specs.declared.expr.Unary.TheVariants as unary
 use Rattle.watch_expr.specs.declared.expr.Width.{Width}
 use Rattle.watch_expr.specs.declared.expr.Width.TheVariants as width
 use Rattle.watch_expr.specs.Tree.{Tree, Number, Var, One, Two, Over, Load, Global, Clock, Events, Size}
-use Rattle.watch_expr.specs.View.{Node, ◌>>=◌, clock_at, events_at, global_at, number_at, size_at}
+use Rattle.watch_expr.specs.View.{Node, ◌>>=◌, clock_at, events_at, global_at, piece_at, size_at}
 
 -- what an expression is about: the states of the nodes, and the variables by their names, None for undef
 pub record Setting : Type 0 where
@@ -110,19 +111,19 @@ byte_count width.I16 = 2
 byte_count width.I32 = 4
 byte_count width.I64 = 8
 
--- the value that the number of these bytes stands for
-abbrev pub loaded_value : Width → ℕ → ℤ
-loaded_value width.U8 n = pos n
-loaded_value width.U16 n = pos n
-loaded_value width.U32 n = pos n
-loaded_value width.I8 n = cast_signed w8 n
-loaded_value width.I16 n = cast_signed w16 n
-loaded_value width.I32 n = cast_signed w32 n
-loaded_value width.I64 n = cast_signed w64 n
+-- the value that the bytes stand for, the lowest first
+abbrev pub loaded_value : Width → List ℕ → ℤ
+loaded_value width.U8 bytes = pos (number_of bytes)
+loaded_value width.U16 bytes = pos (number_of bytes)
+loaded_value width.U32 bytes = pos (number_of bytes)
+loaded_value width.I8 bytes = cast_signed w8 (number_of bytes)
+loaded_value width.I16 bytes = cast_signed w16 (number_of bytes)
+loaded_value width.I32 bytes = cast_signed w32 (number_of bytes)
+loaded_value width.I64 bytes = cast_signed w64 (number_of bytes)
 
 -- what a load gives at an address, which may be negative
 abbrev pub load_at : List Node → ℕ → Width → ℤ → Option ℤ
-load_at nodes node width (pos addr) = option_map (loaded_value width) (number_at nodes node addr (byte_count width))
+load_at nodes node width (pos addr) = option_map (loaded_value width) (piece_at nodes node addr (byte_count width))
 load_at nodes node width (negsuc _) = None
 
 abbrev pub global_value : List Node → ℕ → ℕ → Option ℤ

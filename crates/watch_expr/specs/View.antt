@@ -1,6 +1,6 @@
 -- What is seen of the nodes of a group.
 use Rattle.std.specs.Prelude.{ℕ, List, slice_get, Option, Some, None, option_map, option_and_then, ℤ, if◌then◌else◌}
-use Rattle.guest_memory.specs.Memory.{Memory, bytes_at, is_inside, loaded, size_of, stretch}
+use Rattle.guest_memory.specs.Memory.{Memory, bytes_at, is_inside, size_of, stretch}
 
 -- One node's state: its memory, its globals as signed numbers, the clock of its last event, or 0, and how
 -- many events it has had.
@@ -23,9 +23,12 @@ part_of memory addr len = if is_inside memory addr len then Some (bytes_at memor
 abbrev pub part_at : List Node → ℕ → ℕ → ℕ → Option (List ℕ)
 part_at nodes node addr len = slice_get nodes node >>= λ s. part_of s.memory addr len
 
--- the number of so many bytes, the lowest first, and None where one of them doesn't lie in memory
-abbrev pub number_at : List Node → ℕ → ℕ → ℕ → Option ℕ
-number_at nodes node addr width = slice_get nodes node >>= λ s. loaded s.memory addr width
+-- so many bytes, and None where one of them doesn't lie in memory
+abbrev pub piece_of : Memory → ℕ → ℕ → Option (List ℕ)
+piece_of memory addr len = if is_inside memory addr len then Some (bytes_at memory addr len) else None
+
+abbrev pub piece_at : List Node → ℕ → ℕ → ℕ → Option (List ℕ)
+piece_at nodes node addr len = slice_get nodes node >>= λ s. piece_of s.memory addr len
 
 -- the nth global, and None where there is none
 abbrev pub global_at : List Node → ℕ → ℕ → Option ℤ

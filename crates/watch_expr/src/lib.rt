@@ -2,8 +2,8 @@
 #![tactic(auto)]
 
 pub mod expr;
-pub mod value;
-pub mod view;
+mod value;
+mod view;
 
 pub use expr::{Agg, Binary, Expr, NodeName, Unary, Width};
 pub use value::eval;

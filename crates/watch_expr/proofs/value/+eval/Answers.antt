@@ -34,8 +34,8 @@ loop-node-preserved g t c =
     record {
       within = rw is (within_more c.loop-node.tally c.loop-node.node c.in_ok-a-in-Over.a fit c.loop-node.invariant.within);
       so_far = ap (λ (y : Tally). ending s x y (c.loop-node.node + 1) (length nodes)) is
-        ∙ sym (ending_some s x c.loop-node.tally c.loop-node.node (length nodes) c.in_ok-a-in-Over.a lt (sym some))
-        ∙ c.loop-node.invariant.so_far;
+          ∙ sym (ending_some s x c.loop-node.tally c.loop-node.node (length nodes) c.in_ok-a-in-Over.a lt (sym some))
+          ∙ c.loop-node.invariant.so_far;
     }
 
 pub returns-after-loop-node : goal.returns-after-loop-node
