@@ -1,6 +1,6 @@
 -- Values at one node after the other.
-use Rattle.std.proofs.Common.{◌≡◌, ℕ, suc, ◌+◌, ◌-◌, ◌<◌, ◌≤◌, List, [], ◌∷◌, map, fold, Option, Some, None, refl, ap, ◌∙◌, arith, cond, ℤ, pos, ◌+ℤ◌, FitsSigned, w64}
-use Rattle.std.proofs.lemmas.Int.{ints}
+use Rattle.std.proofs.Common.{◌≡◌, ℕ, suc, ◌+◌, ◌-◌, ◌<◌, ◌≤◌, List, [], ◌∷◌, map, fold, Option, Some, None, refl, sym, ap, ◌∙◌, arith, cond, ℤ, pos, ◌+ℤ◌, FitsSigned, length, of_z, to_z, w64}
+use Rattle.std.proofs.lemmas.Int.{ints, to_z-of_z}
 use Rattle.std.specs.Prelude.{not}
 use Rattle.std.specs.Int.{int_max, int_min}
 use Rattle.std.specs.List.{range_with_len}
@@ -8,9 +8,9 @@ use Rattle.watch_expr.specs.declared.expr.Agg.{Agg}
 use Rattle.watch_expr.specs.declared.expr.Agg.TheVariants as agg
 use Rattle.watch_expr.specs.declared.value.tally.Tally.{Tally}
 use Rattle.watch_expr.specs.declared.value.tally.Tally.TheVariants.{Sum, Min, Max, Count}
-use Rattle.watch_expr.specs.Tree.{Tree}
+use Rattle.watch_expr.specs.Tree.{Tree, Over}
 use Rattle.watch_expr.specs.Value.{Setting, all_of, is_zero, over, value_at}
-use Rattle.watch_expr.specs.ValueTally.{HasRoom, IsWithin, added, start, total}
+use Rattle.watch_expr.specs.ValueTally.{IsWithin, added, start, total}
 use Rattle.watch_expr.specs.View.{◌>>=◌}
 
 -- ---- a whole list of values
@@ -53,7 +53,7 @@ front : (tally : Tally) (a : ℤ) (o : Option (List ℤ))
 front tally a None = refl
 front tally a (Some ws) = refl
 
-pub ending_some : (s : Setting) (x : Tree) (tally : Tally) (k n : ℕ) (a : ℤ) → k < n → value_at s (Some k) x ≡ Some a
+ending_some : (s : Setting) (x : Tree) (tally : Tally) (k n : ℕ) (a : ℤ) → k < n → value_at s (Some k) x ≡ Some a
     → ending s x tally k n ≡ ending s x (added tally a) (k + 1) n
 ending_some s x tally k n a lt e =
     let rest = all_of (map (λ node. value_at s (Some node) x) (range_with_len (k + 1) (n - (k + 1)))) in
@@ -61,12 +61,12 @@ ending_some s x tally k n a lt e =
     ∙ ap (λ (o : Option ℤ). all_of (o ∷ map (λ node. value_at s (Some node) x) (range_with_len (k + 1) (n - (k + 1)))) >>= λ ws. total (fold added tally ws)) e
     ∙ front tally a rest
 
-pub ending_none : (s : Setting) (x : Tree) (tally : Tally) (k n : ℕ) → k < n → value_at s (Some k) x ≡ None → ending s x tally k n ≡ None
+ending_none : (s : Setting) (x : Tree) (tally : Tally) (k n : ℕ) → k < n → value_at s (Some k) x ≡ None → ending s x tally k n ≡ None
 ending_none s x tally k n lt e =
     ap (λ (ks : List ℕ). all_of (map (λ node. value_at s (Some node) x) ks) >>= λ ws. total (fold added tally ws)) (range_next k n lt)
     ∙ ap (λ (o : Option ℤ). all_of (o ∷ map (λ node. value_at s (Some node) x) (range_with_len (k + 1) (n - (k + 1)))) >>= λ ws. total (fold added tally ws)) e
 
-pub ending_all : (s : Setting) (x : Tree) (tally : Tally) (k n : ℕ) → n ≤ k → ending s x tally k n ≡ total tally
+ending_all : (s : Setting) (x : Tree) (tally : Tally) (k n : ℕ) → n ≤ k → ending s x tally k n ≡ total tally
 ending_all s x tally k n le =
     let e : n - k ≡ 0 = omega arith in
     ap (λ (m : ℕ). all_of (map (λ node. value_at s (Some node) x) (range_with_len k m)) >>= λ ws. total (fold added tally ws)) e
@@ -75,28 +75,45 @@ begun : (a : Agg) (o : Option (List ℤ)) → ◌≡◌ {A = Option ℤ} (o >>= 
 begun a None = refl
 begun a (Some ws) = total_says a ws
 
-pub over_says : (s : Setting) (x : Tree) (a : Agg) (n : ℕ)
-    → ending s x (start a) 0 n ≡ all_of (map (λ node. value_at s (Some node) x) (range_with_len 0 n)) >>= over a
-over_says s x a n =
-    let z : n - 0 ≡ n = omega arith in
+ending_first : (s : Setting) (x : Tree) (a : Agg) (each : Option ℕ) → ending s x (start a) 0 (length s.nodes) ≡ value_at s each (Over a x)
+ending_first s x a each =
+    let z : length s.nodes - 0 ≡ length s.nodes = omega arith in
     ap (λ (m : ℕ). all_of (map (λ node. value_at s (Some node) x) (range_with_len 0 m)) >>= λ ws. total (fold added (start a) ws)) z ∙ begun a _
 
 -- ---- how far a tally can have come
 
-pub within_more : (tally : Tally) (k : ℕ) (a : ℤ) → FitsSigned w64 a → IsWithin tally k → IsWithin (added tally a) (k + 1)
+within_more : (tally : Tally) (k : ℕ) (a : ℤ) → FitsSigned w64 a → IsWithin tally k → IsWithin (added tally a) (k + 1)
 within_more (Sum z) k a fit within = (omega (arith, ints, fit, within.0, within.1), omega (arith, ints, fit, within.0, within.1))
 within_more (Min o) k a fit within = tt
 within_more (Max o) k a fit within = tt
 within_more (Count m) k a fit within = grind arith
 
-pub has_room : (tally : Tally) (k : ℕ) → k + 2 ≤ 4294967296 → IsWithin tally k → HasRoom tally
-has_room (Sum z) k few within = (omega (arith, ints, within.0), omega (arith, ints, within.1))
-has_room (Min o) k few within = tt
-has_room (Max o) k few within = tt
-has_room (Count m) k few within = omega arith
+-- ---- the loop over the nodes
 
-pub starts_within : (a : Agg) → IsWithin (start a) 0
-starts_within agg.Sum = (omega (arith, ints), omega (arith, ints))
-starts_within agg.Min = tt
-starts_within agg.Max = tt
-starts_within agg.Count = omega arith
+-- the tally at node k comes to the aggregate's value
+pub record IsOnTheWay (s : Setting) (x : Tree) (first tally : Tally) (k : ℕ) : Type 0 where
+  pub within : IsWithin tally k
+  pub so_far : ending s x tally k (length s.nodes) ≡ ending s x first 0 (length s.nodes)
+
+pub ends_none : (s : Setting) (x y : Tree) (a : Agg) (each : Option ℕ) (first tally : Tally) (k : ℕ)
+    → first ≡ start a → IsOnTheWay s x first tally k → k < length s.nodes → y ≡ x → None ≡ value_at s (Some k) y → None ≡ value_at s each (Over a x)
+ends_none s x y a each first tally k begins way lt same none =
+    sym (ending_none s x tally k (length s.nodes) lt (sym (none ∙ ap (λ (t : Tree). value_at s (Some k) t) same))) ∙ way.so_far
+    ∙ ap (λ (t : Tally). ending s x t 0 (length s.nodes)) begins ∙ ending_first s x a each
+
+pub ends_all : (s : Setting) (x : Tree) (a : Agg) (each : Option ℕ) (first tally : Tally) (k : ℕ)
+    → first ≡ start a → IsOnTheWay s x first tally k → length s.nodes ≤ k → total tally ≡ value_at s each (Over a x)
+ends_all s x a each first tally k begins way le =
+    sym (ending_all s x tally k (length s.nodes) le) ∙ way.so_far
+    ∙ ap (λ (t : Tally). ending s x t 0 (length s.nodes)) begins ∙ ending_first s x a each
+
+pub goes_on : (s : Setting) (x y : Tree) (first tally next : Tally) (k : ℕ) (z : ℤ)
+    → IsOnTheWay s x first tally k → k < length s.nodes → FitsSigned w64 z → y ≡ x → Some z ≡ value_at s (Some k) y
+    → next ≡ added tally (to_z w64 (of_z w64 z)) → IsOnTheWay s x first next (k + 1)
+goes_on s x y first tally next k z way lt fit at some is =
+    let here = sym (some ∙ ap (λ (t : Tree). value_at s (Some k) t) at) in
+    let same : next ≡ added tally z = is ∙ ap (added tally) (to_z-of_z w64 z fit) in
+    record {
+      within = rw same (within_more tally k z fit way.within);
+      so_far = ap (λ (t : Tally). ending s x t (k + 1) (length s.nodes)) same ∙ sym (ending_some s x tally k (length s.nodes) z lt here) ∙ way.so_far;
+    }

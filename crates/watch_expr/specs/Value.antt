@@ -1,5 +1,5 @@
 -- The value of an expression: a signed number of 64 bits, or None for undef.
-use Rattle.std.specs.Prelude.{ℕ, ◌^◌, List, [], ◌∷◌, length, map, Option, Some, None, option_map, Bool, false, ◌&&◌, not, nat_lt, ◌==◌, if◌then◌else◌, ℤ, pos, negsuc, ◌+ℤ◌, ◌-ℤ◌, ◌*ℤ◌, neg_ℤ, int_lt, int_le, int_div, int_rem, fold, count_by}
+use Rattle.std.specs.Prelude.{ℕ, ◌+◌, ◌^◌, List, [], ◌∷◌, length, map, Option, Some, None, option_map, Bool, false, ◌&&◌, not, nat_lt, ◌==◌, if◌then◌else◌, ℤ, pos, negsuc, ◌+ℤ◌, ◌-ℤ◌, ◌*ℤ◌, neg_ℤ, int_lt, int_le, int_div, int_rem, fold, count_by}
 use Rattle.std.specs.Int.{w8, w16, w32, w64, int_max, int_min, cast_signed}
 use Rattle.std.specs.List.{range_with_len, reduce}
 use Rattle.guest_memory.specs.LittleEndian.{number_of}
@@ -45,10 +45,17 @@ abbrev pub one : Unary → ℤ → Option ℤ
 one unary.Minus a = fit (neg_ℤ a)
 one unary.Not a = Some (truth (is_zero a))
 
--- `/` and `%` have a result where the divisor isn't 0 and the quotient is in range: the only one out of
--- range is that of the least value and -1
-abbrev pub divided : (ℤ → ℤ → ℤ) → ℤ → ℤ → Option ℤ
-divided f a b = if is_zero b then None else (if fits (int_div a b) then Some (f a b) else None)
+abbrev pub is_least : ℤ → Bool
+is_least (pos n) = false
+is_least (negsuc n) = n + 1 == 2 ^ 63
+
+abbrev pub is_minus_one : ℤ → Bool
+is_minus_one (pos n) = false
+is_minus_one (negsuc n) = n == 0
+
+-- `/` and `%` give undef at the divisor 0, and where the least value is divided by -1
+abbrev pub can_divide : ℤ → ℤ → Bool
+can_divide a b = not (is_zero b) && not (is_least a && is_minus_one b)
 
 abbrev pub equal : ℤ → ℤ → Bool
 equal a b = int_le a b && int_le b a
@@ -66,8 +73,8 @@ two binary.Ge a b = Some (truth (int_le b a))
 two binary.Add a b = fit (a +ℤ b)
 two binary.Sub a b = fit (a -ℤ b)
 two binary.Mul a b = fit (a *ℤ b)
-two binary.Div a b = divided int_div a b
-two binary.Rem a b = divided int_rem a b
+two binary.Div a b = if can_divide a b then Some (int_div a b) else None
+two binary.Rem a b = if can_divide a b then Some (int_rem a b) else None
 
 -- what the left side alone decides: `&&` is 0 where it is 0, and `||` is 1 where it is another number
 abbrev pub decided : Binary → ℤ → Option ℤ

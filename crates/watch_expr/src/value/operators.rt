@@ -24,8 +24,8 @@ pub(crate) fn decided(op: Binary, a: i64) -> Option<i64>
     ensures { result ≡ decided op a }
 {
     match op {
-        Binary::And => { if is_zero(a) { Some(0) } else { None } }
-        Binary::Or => { if is_zero(a) { None } else { Some(1) } }
+        Binary::And if is_zero(a) => Some(0),
+        Binary::Or if !is_zero(a) => Some(1),
         _ => None,
     }
 }
