@@ -7,3 +7,6 @@ pub mod Lexing
 pub mod Machine
 pub mod Spelling
 pub mod Tree
+pub mod Value
+pub mod ValueTally
+pub mod View

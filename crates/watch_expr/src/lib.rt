@@ -11,6 +11,8 @@ mod parser;
 mod stack;
 mod token;
 mod word;
+mod value;
+mod view;
 
 pub use error::ExprError;
 pub use expr::{Agg, Binary, Expr, NodeName, Unary, Width};
@@ -19,3 +21,5 @@ pub use laws::{exact_cut, exact_reading, none_apart};
 pub use lexer::lex;
 pub use parser::parse;
 pub use token::Tokens;
+pub use value::eval;
+pub use view::{Scope, View};
