@@ -1,0 +1,5 @@
+use Rattle.watch_expr.proofs.CutLaws.{tokens, bad}
+use Rattle.watch_expr.proofs.laws.exact_cut.Goals as goal
+
+pub returns : goal.returns
+returns c = record { tokens = tokens; bad = bad }

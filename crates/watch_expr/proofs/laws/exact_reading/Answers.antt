@@ -1,0 +1,5 @@
+use Rattle.watch_expr.proofs.ReadingLaws.{trees, begun}
+use Rattle.watch_expr.proofs.laws.exact_reading.Goals as goal
+
+pub returns : goal.returns
+returns c = record { trees = trees; begun = begun }

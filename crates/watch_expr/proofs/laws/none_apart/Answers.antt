@@ -1,0 +1,5 @@
+use Rattle.watch_expr.proofs.ApartLaws.{none_in}
+use Rattle.watch_expr.proofs.laws.none_apart.Goals as goal
+
+pub returns : goal.returns
+returns c = none_in

@@ -1,0 +1,11 @@
+use Rattle.watch_expr.specs.Tree.{tree}
+use Rattle.watch_expr.specs.Value.{setting}
+use Rattle.watch_expr.proofs.Tallies.{IsOnTheWay}
+use Rattle.watch_expr.proofs.value.+eval.Given as goal
+
+abbrev pub decreases-eval_at : goal.decreases-eval_at
+decreases-eval_at g l = goal.size-eval_at g l
+
+abbrev pub invariant-loop-node : goal.invariant-loop-node
+invariant-loop-node g l =
+    IsOnTheWay (setting (g.V.View.nodes l.v) (g.S.Scope.variables l.scope)) (tree l.x.value) l.initial.tally l.tally l.node

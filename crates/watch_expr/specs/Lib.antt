@@ -1,0 +1,12 @@
+pub mod Computed
+pub mod Faulty
+pub mod Front
+pub mod Grammar
+pub mod Laws
+pub mod Lexing
+pub mod Machine
+pub mod Spelling
+pub mod Tree
+pub mod Value
+pub mod ValueTally
+pub mod View

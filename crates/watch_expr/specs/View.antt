@@ -1,0 +1,45 @@
+-- What is seen of the nodes of a group.
+use Rattle.std.specs.Prelude.{ℕ, List, slice_get, Option, Some, None, option_map, option_and_then, ℤ, if◌then◌else◌}
+use Rattle.guest_memory.specs.Memory.{Memory, bytes_at, is_inside, size_of, stretch}
+
+-- One node's state: its memory, its globals as signed numbers, the clock of its last event, or 0, and how
+-- many events it has had.
+pub record Node : Type 0 where
+  pub memory : Memory
+  pub globals : List ℤ
+  pub clock : ℤ
+  pub events : ℤ
+
+infixl 10 ◌>>=◌
+abbrev pub ◌>>=◌ : {A B : Type 0} → Option A → (A → Option B) → Option B
+o >>= f = option_and_then f o
+
+-- ---- at the node with this number, and None where there is no such node
+
+-- the longest first part of a range that stays in one watch page, and None where the range doesn't lie in memory
+abbrev pub part_of : Memory → ℕ → ℕ → Option (List ℕ)
+part_of memory addr len = if is_inside memory addr len then Some (bytes_at memory addr (stretch addr len)) else None
+
+abbrev pub part_at : List Node → ℕ → ℕ → ℕ → Option (List ℕ)
+part_at nodes node addr len = slice_get nodes node >>= λ s. part_of s.memory addr len
+
+-- so many bytes, and None where one of them doesn't lie in memory
+abbrev pub piece_of : Memory → ℕ → ℕ → Option (List ℕ)
+piece_of memory addr len = if is_inside memory addr len then Some (bytes_at memory addr len) else None
+
+abbrev pub piece_at : List Node → ℕ → ℕ → ℕ → Option (List ℕ)
+piece_at nodes node addr len = slice_get nodes node >>= λ s. piece_of s.memory addr len
+
+-- the nth global, and None where there is none
+abbrev pub global_at : List Node → ℕ → ℕ → Option ℤ
+global_at nodes node n = slice_get nodes node >>= λ s. slice_get s.globals n
+
+abbrev pub clock_at : List Node → ℕ → Option ℤ
+clock_at nodes node = option_map (λ s. s.clock) (slice_get nodes node)
+
+abbrev pub events_at : List Node → ℕ → Option ℤ
+events_at nodes node = option_map (λ s. s.events) (slice_get nodes node)
+
+-- the size of its memory in Wasm pages
+abbrev pub size_at : List Node → ℕ → Option ℕ
+size_at nodes node = option_map (λ s. size_of s.memory) (slice_get nodes node)

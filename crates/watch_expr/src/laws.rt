@@ -1,0 +1,17 @@
+// What holds of lines and expressions, whatever they are. These calls do nothing.
+ghost use Rattle.watch_expr.specs.Laws.{ExactCut, ExactReading, NoneApart};
+
+/// A line has its tokens or a first byte that begins none, and `cut` computes which.
+pub fn exact_cut()
+    ensures { ExactCut }
+{}
+
+/// Tokens spell one expression at most, and `tree_of` computes it.
+pub fn exact_reading()
+    ensures { ExactReading }
+{}
+
+/// No comma, semicolon, brace or string stands in an expression.
+pub fn none_apart()
+    ensures { NoneApart }
+{}

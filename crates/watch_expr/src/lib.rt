@@ -1,0 +1,25 @@
+//! The expressions of the debugger's shell: what a line spells, and what it comes to over a group.
+#![tactic(auto)]
+
+mod error;
+pub mod expr;
+mod faults;
+mod laws;
+mod lexer;
+mod number;
+mod parser;
+mod stack;
+mod token;
+mod word;
+mod value;
+mod view;
+
+pub use error::ExprError;
+pub use expr::{Agg, Binary, Expr, NodeName, Unary, Width};
+pub use faults::{Faults, find_faults};
+pub use laws::{exact_cut, exact_reading, none_apart};
+pub use lexer::lex;
+pub use parser::parse;
+pub use token::Tokens;
+pub use value::eval;
+pub use view::{Scope, View};

@@ -1,0 +1,57 @@
+// What the places of a node hold.
+ghost use Rattle.std.specs.Prelude.{◌≡◌, ◌<◌, None, Some, pos, length, option_and_then, option_map, slice_get, IfNone, IfSome};
+ghost use Rattle.watch_expr.specs.Value.{global_value, node_of};
+ghost use Rattle.watch_expr.specs.View.{clock_at, events_at, size_at};
+
+use crate::expr::NodeName;
+use crate::view::View;
+
+// The node with this name, where `each` is the node of the aggregate around it.
+pub(crate) fn node_of(each: Option<u32>, name: NodeName) -> Option<u32>
+    ensures { result ≡ node_of each name }
+{
+    match name {
+        NodeName::Named(node) => node,
+        NodeName::Each => each,
+    }
+}
+
+// The node, where the view has it.
+pub(crate) fn within<V: View>(v: &V, node: Option<u32>) -> Option<u32>
+    ensures some { IfSome result (λ k. (node ≡ Some k) × (k < length (V.nodes v.now))) }
+    ensures none { IfNone result (option_and_then (slice_get (V.nodes v.now)) node ≡ None) }
+{
+    match node {
+        Some(k) if k < v.node_count() => Some(k),
+        _ => None,
+    }
+}
+
+pub(crate) fn clock<V: View>(v: &V, node: Option<u32>) -> Option<i64>
+    ensures { result ≡ option_and_then (clock_at (V.nodes v.now)) node }
+{
+    let node = within(v, node)?;
+    Some(v.clock(node))
+}
+
+pub(crate) fn events<V: View>(v: &V, node: Option<u32>) -> Option<i64>
+    ensures { result ≡ option_and_then (events_at (V.nodes v.now)) node }
+{
+    let node = within(v, node)?;
+    Some(v.events(node))
+}
+
+pub(crate) fn size<V: View>(v: &V, node: Option<u32>) -> Option<i64>
+    ensures { result ≡ option_and_then (λ k. option_map pos (size_at (V.nodes v.now) k)) node }
+{
+    let node = within(v, node)?;
+    Some(i64::from(v.pages(node)))
+}
+
+pub(crate) fn global<V: View>(v: &V, node: Option<u32>, n: u64) -> Option<i64>
+    ensures { result ≡ option_and_then (λ k. global_value (V.nodes v.now) k n) node }
+{
+    let node = within(v, node)?;
+    let n = u32::try_from(n).ok()?;
+    v.global(node, n)
+}
