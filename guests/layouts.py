@@ -3,7 +3,7 @@ import os
 import re
 from dataclasses import dataclass, field
 
-from place_table import Field, Piece, Scaled, Struct, Variable
+from place_table import Field, Piece, Struct, Switch, Variable
 
 # The words of the debugger for numbers. It has no u64, so the 64 bits of one are read as i64.
 WIDTHS = {1: "8", 2: "16", 4: "32", 8: "64"}
@@ -83,8 +83,8 @@ class Layouts:
         if is_local or "declaration" in entry.attributes or not re.fullmatch(r"\w+", declared.name()):
             return None
         variable = Variable(_path_of(declared), self.type_of(declared))
-        variable.scaled = _scaled_of(location)
-        if not variable.scaled:
+        variable.switch = _switch_of(location, variable.type)
+        if not variable.switch:
             variable.pieces = _pieces_of(location, self.table.size_of(variable.type))
         return variable
 
@@ -202,13 +202,20 @@ def _pieces_of(location, size):
     return [piece for piece in pieces if piece.address not in LEFT_OUT]
 
 
-def _scaled_of(location):
+def _switch_of(location, type_):
     """A variable that has two values only is kept as a byte: clang writes how its value is computed."""
     number = r"DW_OP_(?:lit(\d+)|const[us] (\S+))"
     form = r"DW_OP_addr (\S+), DW_OP_deref_size 0x1, %s, DW_OP_mul, %s, DW_OP_plus, DW_OP_stack_value"
     found = re.fullmatch(form % (number, number), location)
-    if not found:
+    if not found or not re.fullmatch(r"[ui]\d+", type_):
         return None
     address, *numbers = found.groups()
     factor, base = (int(next(n for n in pair if n), 0) for pair in (numbers[:2], numbers[2:]))
-    return Scaled(int(address, 0), factor, base)
+    return Switch(int(address, 0), (_wrapped(base, type_), _wrapped(base + factor, type_)))
+
+
+def _wrapped(number, type_):
+    """The number of this type that has the same lowest bits."""
+    bits = int(type_[1:])
+    rest = number % (1 << bits)
+    return rest - (1 << bits) if type_[0] == "i" and rest >> bits - 1 else rest

@@ -25,22 +25,21 @@ class Piece:
 
 
 @dataclass(frozen=True)
-class Scaled:
-    """A variable of two values that is kept as a byte of 0 or 1: it is `factor` times the byte, plus `base`."""
+class Switch:
+    """A variable of two values that is kept as a byte, of 0 for the first and 1 for the second."""
 
     address: int
-    factor: int
-    base: int
+    values: tuple
 
 
 @dataclass
 class Variable:
-    """A variable. It has no pieces and is not scaled where it stands nowhere in memory."""
+    """A variable. It has neither pieces nor a switch where it stands nowhere in memory."""
 
     name: str
     type: str
     pieces: list = field(default_factory=list)
-    scaled: Scaled = None
+    switch: Switch = None
 
 
 @dataclass
@@ -111,8 +110,8 @@ class PlaceTable:
 
 
 def _spell_place(variable, table):
-    if variable.scaled:
-        return " bit@%d*%d%+d" % (variable.scaled.address, variable.scaled.factor, variable.scaled.base)
+    if variable.switch:
+        return " %d|%d@%d" % (*variable.switch.values, variable.switch.address)
     if len(variable.pieces) == 1 and variable.pieces[0].size == table.size_of(variable.type):
         return " %d" % variable.pieces[0].address
     return "".join(" %d+%d@%d" % (p.offset, p.size, p.address) for p in variable.pieces)
@@ -161,8 +160,8 @@ def _read_places(variable, words, table):
     for word in words:
         if word.isdigit():
             variable.pieces.append(Piece(0, table.size_of(variable.type), int(word)))
-        elif found := re.fullmatch(r"bit@(\d+)\*(-?\d+)([+-]\d+)", word):
-            variable.scaled = Scaled(*(int(n) for n in found.groups()))
+        elif found := re.fullmatch(r"(-?\d+)\|(-?\d+)@(\d+)", word):
+            variable.switch = Switch(int(found[3]), (int(found[1]), int(found[2])))
         elif found := re.fullmatch(r"(\d+)\+(\d+)@(\d+)", word):
             variable.pieces.append(Piece(*(int(n) for n in found.groups())))
         else:
