@@ -8,11 +8,15 @@ exec python3 - "$program" "$here" <<'PYTHON'
 import os, random, re, shutil, struct, subprocess, sys, tempfile
 
 program, here = os.path.abspath(sys.argv[1]), sys.argv[2]
-SOURCES = ("places.c", "places.rs", "threads.c", "threads.rs", "ask.c", "answer.rs")
+SOURCES = ("texts.c", "texts.rs", "places.c", "places.rs", "threads.c", "threads.rs", "ask.c", "answer.rs")
 ARGUMENTS = (0, 1, 1, 2, 0, 1, 2, 0, 3, 3, 3, 2, 0, 1, 1, 1, 2, 0)
 NOTE, PRINT = 2, 3
 TIMES = 20
 ROUNDS = 5
+
+TEXTS = ["0", "7", "-1", "1000000000000", str(2**63 - 1), str(-(2**63))]
+TEXTS += ["0123456789", "0101234789", "1012334789", "1xxx3abc89"]
+COMPARISONS = ["1", "0", "-1"]
 
 # Lines that the front end refuses, by the file of places.c, each with a part of what it answers.
 REFUSED = (
@@ -76,6 +80,15 @@ def record(folder, names, items, end):
         assert ", log whole\n" in run([program, "replay", name + ".wasm", name + ".log"], folder)
 
 
+def check_texts(source, folder):
+    name = source.split(".")[0]
+    record(folder, [name], ["run 0 0 100"], "exited 10")
+    texts = [out.decode() for kind, _, out in events_of(os.path.join(folder, name + ".log")) if kind == PRINT]
+    wanted = TEXTS + (COMPARISONS if source.endswith(".c") else [""])
+    assert texts == wanted, (texts, wanted)
+    print("%s: %d texts" % (source, len(texts)))
+
+
 # What an expression of the debugger comes to, over memory that begins at some address.
 def value_of(expression, memory, start):
     def load(width, address):
@@ -122,7 +135,7 @@ def check_threads(source, folder):
     wanted = [sum((thread + 1) * i * i - 7 for thread in range(4) for i in range(16))]
     for seed in range(TIMES):
         chance = random.Random(seed)
-        items = ["run 0 %d" % chance.randrange(4) for _ in range(300)] + ["run 0 %d 9" % (n % 4) for n in range(40)]
+        items = ["run 0 %d" % chance.randrange(4) for _ in range(300)] + ["run 0 %d 20" % (n % 4) for n in range(40)]
         record(folder, [name], items, "finished")
         assert notes_of(os.path.join(folder, name + ".log")) == wanted
     print("%s: %d interleavings note %d" % (source, TIMES, wanted[0]))
@@ -149,6 +162,9 @@ def check_group(folder):
 with tempfile.TemporaryDirectory() as folder:
     for source in SOURCES:
         shutil.copy(os.path.join(here, "check", source), folder)
+    for source in ("texts.c", "texts.rs"):
+        run([os.path.join(here, "build"), source], folder)
+        check_texts(source, folder)
     for source in ("places.c", "places.rs"):
         run([os.path.join(here, "build"), source], folder)
         check_places(source, folder)
