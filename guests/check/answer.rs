@@ -16,7 +16,11 @@ fn double(message: &mut [u8; 8]) {
 pub extern "C" fn _start() {
     let mut message = [0; 8];
     loop {
-        if let Ok(Datagram { length: 8, from: Some(from) }) = recv(&mut message) {
+        if let Ok(Datagram {
+            length: 8,
+            from: Some(from),
+        }) = recv(&mut message)
+        {
             double(&mut message);
             let _ = send(from, &message);
         }

@@ -36,12 +36,29 @@ struct Server {
 unsafe impl Sync for Peer {}
 
 #[used]
-static NEAR: Peer = Peer { distance: -1, next: None, name: "near", seen: Cell::new(5), ports: (80, 65_000) };
+static NEAR: Peer = Peer {
+    distance: -1,
+    next: None,
+    name: "near",
+    seen: Cell::new(5),
+    ports: (80, 65_000),
+};
 #[used]
-static FAR: Peer = Peer { distance: 100, next: Some(&NEAR), name: "far away", seen: Cell::new(-6), ports: (1, 2) };
+static FAR: Peer = Peer {
+    distance: 100,
+    next: Some(&NEAR),
+    name: "far away",
+    seen: Cell::new(-6),
+    ports: (1, 2),
+};
 #[used]
-static SERVER: Shared<Server> =
-    Shared::new(Server { count: 1, mood: Mood::Calm, last: None, peer: &FAR, sums: [[0; 3]; 2] });
+static SERVER: Shared<Server> = Shared::new(Server {
+    count: 1,
+    mood: Mood::Calm,
+    last: None,
+    peer: &FAR,
+    sums: [[0; 3]; 2],
+});
 
 fn print_memory() {
     // SAFETY: the memory has two pages at least, and is read only.
@@ -50,7 +67,11 @@ fn print_memory() {
 
 fn fill(server: &mut Server, seed: i64) {
     server.count += 41;
-    server.mood = if seed > 0 { Mood::Away { since: -seed } } else { Mood::Busy(7) };
+    server.mood = if seed > 0 {
+        Mood::Away { since: -seed }
+    } else {
+        Mood::Busy(7)
+    };
     server.last = Some(-(seed as i32) * 1000);
     server.sums[1] = [seed as i16, -2, 300];
     NEAR.seen.set(seed << 33);

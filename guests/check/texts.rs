@@ -14,7 +14,9 @@ fn print_all(bytes: &[u8]) {
 
 #[no_mangle]
 pub extern "C" fn _start() {
-    NUMBERS.iter().for_each(|&number| print_all(Decimal::new(number).as_bytes()));
+    NUMBERS
+        .iter()
+        .for_each(|&number| print_all(Decimal::new(number).as_bytes()));
     let mut text = *b"0123456789";
     print_all(&text);
     text.copy_within(..5, 2);

@@ -18,7 +18,11 @@ fn spelled(number: i64) -> i64 {
     yield_now();
     let digits = text.as_bytes().iter().filter(|&&byte| byte != b'-');
     let value = digits.fold(0, |value, digit| 10 * value + (digit - b'0') as i64);
-    if text.as_bytes()[0] == b'-' { -value } else { value }
+    if text.as_bytes()[0] == b'-' {
+        -value
+    } else {
+        value
+    }
 }
 
 extern "C" fn work(thread: i32) {

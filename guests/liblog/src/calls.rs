@@ -38,7 +38,9 @@ pub fn note(value: i64) {
 /// Writes bytes.
 pub fn print(bytes: &[u8]) -> Result<(), TooLong> {
     // SAFETY: the bytes are read only.
-    taken(keeping_stack(|| unsafe { raw::print(bytes.as_ptr(), bytes.len() as u32) }))
+    taken(keeping_stack(|| unsafe {
+        raw::print(bytes.as_ptr(), bytes.len() as u32)
+    }))
 }
 
 /// The wall time.
@@ -56,7 +58,9 @@ pub fn sleep_until(time: i64) -> i64 {
 /// Fills all the bytes at random.
 pub fn random(bytes: &mut [u8]) -> Result<(), TooLong> {
     // SAFETY: the bytes are the caller's to write.
-    taken(keeping_stack(|| unsafe { raw::random(bytes.as_mut_ptr(), bytes.len() as u32) }))
+    taken(keeping_stack(|| unsafe {
+        raw::random(bytes.as_mut_ptr(), bytes.len() as u32)
+    }))
 }
 
 /// The number of the process in its group.
@@ -68,14 +72,17 @@ pub fn me() -> u32 {
 /// Sends a datagram to a process, which may come never, late, or several times.
 pub fn send(to: u32, bytes: &[u8]) -> Result<(), TooLong> {
     // SAFETY: the bytes are read only.
-    taken(keeping_stack(|| unsafe { raw::send(to, bytes.as_ptr(), bytes.len() as u32) }))
+    taken(keeping_stack(|| unsafe {
+        raw::send(to, bytes.as_ptr(), bytes.len() as u32)
+    }))
 }
 
 /// Waits for a datagram and takes as much of it as there is room for.
 pub fn recv(room: &mut [u8]) -> Result<Datagram, TooLong> {
     let mut from = u32::MAX;
     // SAFETY: the bytes and `from` are the caller's to write.
-    let answer = keeping_stack(|| unsafe { raw::recv(room.as_mut_ptr(), room.len() as u32, &mut from) });
+    let answer =
+        keeping_stack(|| unsafe { raw::recv(room.as_mut_ptr(), room.len() as u32, &mut from) });
     datagram(answer, from)
 }
 
@@ -83,7 +90,8 @@ pub fn recv(room: &mut [u8]) -> Result<Datagram, TooLong> {
 pub fn try_recv(room: &mut [u8]) -> Result<Option<Datagram>, TooLong> {
     let mut from = u32::MAX;
     // SAFETY: the bytes and `from` are the caller's to write.
-    let answer = keeping_stack(|| unsafe { raw::try_recv(room.as_mut_ptr(), room.len() as u32, &mut from) });
+    let answer =
+        keeping_stack(|| unsafe { raw::try_recv(room.as_mut_ptr(), room.len() as u32, &mut from) });
     match answer {
         NO_DATAGRAM => Ok(None),
         _ => datagram(answer, from).map(Some),
@@ -109,10 +117,17 @@ fn handle(signal: u32, handler: u32) -> Result<(), NoSignal> {
 }
 
 fn taken(answer: i32) -> Result<(), TooLong> {
-    if answer < 0 { Err(TooLong) } else { Ok(()) }
+    if answer < 0 {
+        Err(TooLong)
+    } else {
+        Ok(())
+    }
 }
 
 fn datagram(answer: i32, from: u32) -> Result<Datagram, TooLong> {
     taken(answer)?;
-    Ok(Datagram { length: answer as usize, from: Some(from).filter(|&from| from != u32::MAX) })
+    Ok(Datagram {
+        length: answer as usize,
+        from: Some(from).filter(|&from| from != u32::MAX),
+    })
 }

@@ -8,7 +8,10 @@ pub struct Decimal {
 
 impl Decimal {
     pub fn new(number: i64) -> Self {
-        let mut decimal = Decimal { bytes: [0; LONGEST_NUMBER], start: LONGEST_NUMBER };
+        let mut decimal = Decimal {
+            bytes: [0; LONGEST_NUMBER],
+            start: LONGEST_NUMBER,
+        };
         let mut rest = number.unsigned_abs();
         loop {
             decimal.push_front(b'0' + (rest % 10) as u8);

@@ -12,8 +12,8 @@ mod stack;
 mod threads;
 
 pub use calls::{
-    exit, me, note, now, on_signal, print, random, recv, remove_handler, send, sleep_until, try_recv, Datagram,
-    NoSignal, TooLong, MOST_BYTES,
+    exit, me, note, now, on_signal, print, random, recv, remove_handler, send, sleep_until,
+    try_recv, Datagram, NoSignal, TooLong, MOST_BYTES,
 };
 pub use decimal::Decimal;
 pub use retry::Retry;

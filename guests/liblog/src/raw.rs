@@ -21,7 +21,8 @@ extern "C" {
 
 // From guests/threads.c and stack.c, since Rust cannot name the global that the stack ends at.
 extern "C" {
-    pub fn thread_start(start: extern "C" fn(i32), argument: i32, stack: *mut u8, size: u32) -> i32;
+    pub fn thread_start(start: extern "C" fn(i32), argument: i32, stack: *mut u8, size: u32)
+        -> i32;
     pub fn liblog_stack() -> u32;
     pub fn liblog_set_stack(place: u32);
 }

@@ -21,7 +21,13 @@ unsafe impl Sync for Retry {}
 impl Retry {
     /// A timer that acts once in each period of the wall time.
     pub const fn new(act: fn(), period: i64) -> Self {
-        Retry { act, period, next: Cell::new(0), left: Cell::new(0), stack: Stack::new() }
+        Retry {
+            act,
+            period,
+            next: Cell::new(0),
+            left: Cell::new(0),
+            stack: Stack::new(),
+        }
     }
 
     /// Makes the thread of the timer, once.

@@ -16,7 +16,10 @@ unsafe impl<T: Send> Sync for Shared<T> {}
 
 impl<T> Shared<T> {
     pub const fn new(value: T) -> Self {
-        Shared { is_taken: Cell::new(false), value: UnsafeCell::new(value) }
+        Shared {
+            is_taken: Cell::new(false),
+            value: UnsafeCell::new(value),
+        }
     }
 
     /// What `act` makes of the value, or None where it is being used: by this thread, or by one that `act` let run.
@@ -42,14 +45,20 @@ unsafe impl<T: Send> Sync for Mutex<T> {}
 
 impl<T> Mutex<T> {
     pub const fn new(number: u32, value: T) -> Self {
-        Mutex { number, value: UnsafeCell::new(value) }
+        Mutex {
+            number,
+            value: UnsafeCell::new(value),
+        }
     }
 
     /// Waits until no other thread has the lock, and takes it; None where this thread has it already.
     pub fn lock(&self) -> Option<Guard<'_, T>> {
         // SAFETY: the call takes no memory.
         match keeping_stack(|| unsafe { raw::lock(self.number) }) {
-            0 => Some(Guard { mutex: self, of_this_thread: PhantomData }),
+            0 => Some(Guard {
+                mutex: self,
+                of_this_thread: PhantomData,
+            }),
             _ => None,
         }
     }

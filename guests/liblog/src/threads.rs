@@ -20,7 +20,10 @@ impl<const SIZE: usize> Stack<SIZE> {
     #[allow(clippy::new_without_default)]
     pub const fn new() -> Self {
         assert!(SIZE >= LEAST_STACK, "a stack has at least 256 bytes");
-        Stack { is_taken: Cell::new(false), bytes: UnsafeCell::new([0; SIZE]) }
+        Stack {
+            is_taken: Cell::new(false),
+            bytes: UnsafeCell::new([0; SIZE]),
+        }
     }
 }
 
