@@ -31,6 +31,11 @@ REFUSED = (
     ("print @a.{}", "begin with a name"),
     ("print @a.{head?}", "no part of a path"),
     ("mem a {head->ports}", "mem wants a number"),
+    ("print @a.{peers[@a.{place}].seen}", "said again"),
+    ('print @a.{peers["{place}"].seen}', "no string"),
+    ("print @a.{peers[" + "9" * 5000 + "].seen}", "more than 4096 bytes"),
+    ("print @a.{peers[" + "9" * 3000 + "].seen}", "element 99"),
+    ("print " + "@a.{table[0][{place" * 40 + "}]}" * 40, "brackets"),
     ("print @b.{place}", "no file of places for the node b"),
 )
 

@@ -55,7 +55,7 @@ def read_entries(dump):
 
 
 def word_of(name):
-    return re.sub(r"\W+", "_", name).strip("_") or "unnamed"
+    return re.sub("[^0-9A-Za-z_]+", "_", name).strip("_") or "unnamed"
 
 
 class Layouts:
@@ -80,7 +80,7 @@ class Layouts:
         declared = self.referred(entry, "specification") or entry
         location = entry.attributes.get("location", "")
         is_local = "DW_OP_addr" not in location and "subprogram" in _tags_around(declared)
-        if is_local or "declaration" in entry.attributes or not re.fullmatch(r"\w+", declared.name()):
+        if is_local or "declaration" in entry.attributes or not re.fullmatch("[0-9A-Za-z_]+", declared.name()):
             return None
         variable = Variable(_path_of(declared), self.type_of(declared))
         variable.switch = _switch_of(location, variable.type)
@@ -146,8 +146,9 @@ class Layouts:
         if not member.name() and type_ in self.table.structs:
             inner = self.table.structs[type_].fields
             return [Field(f.name, f.type, offset + f.offset, f.bits) for f in inner]
-        name = member.name() or "variant"
-        return [Field(re.sub(r"^__(?=\d+$)", "", name), type_, offset, _bits_of(member))]
+        # The fields of a tuple of Rust are __0, __1 and so on. What tells variants apart has no name.
+        name = re.sub(r"^__(?=\d+$)", "", member.name() or "variant")
+        return [Field(re.sub("[^0-9A-Za-z_]", "_", name), type_, offset, _bits_of(member))]
 
 
 def _tags_around(entry):

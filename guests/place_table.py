@@ -86,6 +86,8 @@ class PlaceTable:
             return self.structs[type_].size
         if type_.startswith("bytes"):
             return int(type_[5:])
+        if type_[1:] not in ("8", "16", "32", "64"):
+            raise ValueError("%s is no type" % type_)
         return int(type_[1:]) // 8
 
     def variable(self, name):
@@ -128,7 +130,7 @@ def read_table(path):
         with open(path, encoding="ascii") as file:
             lines = file.read().splitlines()
         table = _parse_table(lines)
-    except (OSError, ValueError, IndexError, AttributeError) as error:
+    except (OSError, ValueError, IndexError, AttributeError, RecursionError) as error:
         raise Refusal("%s is no file of places: %s" % (path, error)) from None
     module = os.path.join(os.path.dirname(path), table.module)
     if os.path.exists(module) and digest_of(module) != table.digest:
@@ -138,7 +140,9 @@ def read_table(path):
 
 def _parse_table(lines):
     words_of_lines = [line.split(" ") for line in lines if not line.startswith("#")]
-    _, module, digest = words_of_lines[0]
+    first, module, digest = words_of_lines[0]
+    if first != "module":
+        raise ValueError("it names no module")
     table, struct, places = PlaceTable(module, digest), None, []
     for words in words_of_lines[1:]:
         if words[0] == "variable":
@@ -153,12 +157,16 @@ def _parse_table(lines):
             raise ValueError("a line begins with %s" % words[0])
     for variable, words in zip(table.variables, places):
         _read_places(variable, words, table)
+    for struct in table.structs.values():
+        for item in struct.fields:
+            table.size_of(item.type)
     return table
 
 
 def _read_places(variable, words, table):
+    table.size_of(variable.type)
     for word in words:
-        if word.isdigit():
+        if re.fullmatch("[0-9]+", word):
             variable.pieces.append(Piece(0, table.size_of(variable.type), int(word)))
         elif found := re.fullmatch(r"(-?\d+)\|(-?\d+)@(\d+)", word):
             variable.switch = Switch(int(found[3]), (int(found[1]), int(found[2])))
