@@ -142,13 +142,15 @@ class Layouts:
 
     def fields_of(self, member):
         """The field of a member, or those of a struct or union that has no name in this one."""
-        offset, type_ = member.number("data_member_location", 0), self.type_of(member)
+        offset, type_, bits = member.number("data_member_location", 0), self.type_of(member), None
         if not member.name() and type_ in self.table.structs:
             inner = self.table.structs[type_].fields
             return [Field(f.name, f.type, offset + f.offset, f.bits) for f in inner]
+        if "bit_size" in member.attributes:
+            offset, bits = _bits_of(member)
         # The fields of a tuple of Rust are __0, __1 and so on. What tells variants apart has no name.
         name = re.sub(r"^__(?=\d+$)", "", member.name() or "variant")
-        return [Field(re.sub("[^0-9A-Za-z_]", "_", name), type_, offset, _bits_of(member))]
+        return [Field(re.sub("[^0-9A-Za-z_]", "_", name), type_, offset, bits)]
 
 
 def _tags_around(entry):
@@ -165,11 +167,14 @@ def _members_of(entry):
 
 
 def _bits_of(member):
-    """DWARF 4 counts from the highest bit of the number that the field lies in."""
-    if "bit_size" not in member.attributes:
-        return None
+    """The offset of the byte in which a bit field begins, its first bit there, and how many it has."""
     count = member.number("bit_size")
-    return (8 * member.number("byte_size") - member.number("bit_offset") - count, count)
+    first = member.number("data_bit_offset")
+    if first is None:
+        # Counted from the highest bit of a number down.
+        end = 8 * (member.number("data_member_location", 0) + member.number("byte_size"))
+        first = end - member.number("bit_offset") - count
+    return first // 8, (first % 8, count)
 
 
 def _path_of(entry):

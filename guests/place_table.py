@@ -44,7 +44,7 @@ class Variable:
 
 @dataclass
 class Field:
-    """A field of a struct. Of a bit field `bits` are its first bit, from the lowest, and how many it has."""
+    """A field of a struct. Of a bit field `bits` are its first bit, from the lowest on, and how many it has."""
 
     name: str
     type: str
