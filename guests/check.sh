@@ -8,11 +8,15 @@ exec python3 - "$program" "$here" <<'PYTHON'
 import os, random, re, shutil, struct, subprocess, sys, tempfile
 
 program, here = os.path.abspath(sys.argv[1]), sys.argv[2]
-SOURCES = ("texts.c", "texts.rs", "places.c", "places.rs", "threads.c", "threads.rs", "ask.c", "answer.rs")
 ARGUMENTS = (0, 1, 1, 2, 0, 1, 2, 0, 3, 3, 3, 2, 0, 1, 1, 1, 2, 0)
 NOTE, PRINT = 2, 3
 TIMES = 20
 ROUNDS = 5
+
+# What calls.rs is given and notes.
+ITEMS = ["clock 0 7", "run 0 0 3", "clock 0 50", "random 0 010203", "inject 0 61626364", "run 0 0 20"]
+ITEMS += ["signal 0 5", "run 0 0 30"]
+NOTES = [7, 50, 0, 0, 1, 0x030201, 1, 3, -1, -2, 1, 1, 1, 5]
 
 TEXTS = ["0", "7", "-1", "1000000000000", str(2**63 - 1), str(-(2**63))]
 TEXTS += ["0123456789", "0101234789", "1012334789", "1xxx3abc89"]
@@ -28,6 +32,7 @@ REFUSED = (
     ("print @a.{place->seen}", "no pointer"),
     ("print @a.{place[0]}", "no elements"),
     ("print @a.{peers[0", "not closed"),
+    ("print @a.{peers[ ].seen}", "index is missing"),
     ("print @a.{}", "begin with a name"),
     ("print @a.{head?}", "no part of a path"),
     ("mem a {head->ports}", "mem wants a number"),
@@ -46,7 +51,8 @@ WRITTEN = (
     ("", None),
     ("mem a {peers[1].ports}", r"mem a \d+ 4"),
     ("watch sum(@_.{pair.left}) > 3", r"watch sum\(@_\.i32\[\d+\]\) > 3"),
-    ("print @a.{head->next} == @a.{peers[$n].next}", r"print @a\.u32\[@a\.u32\[\d+\]\+8\] == @a\.u32\[\d+\+\(\$n\)\*32\+8\]"),
+    ("print @a.{head->next} == 0", r"print @a\.u32\[@a\.u32\[\d+\]\+8\] == 0"),
+    ("print @a.{peers[$n].next}", r"print @a\.u32\[\d+\+\(\$n\)\*32\+8\]"),
 )
 
 
@@ -92,6 +98,13 @@ def check_texts(source, folder):
     wanted = TEXTS + (COMPARISONS if source.endswith(".c") else [""])
     assert texts == wanted, (texts, wanted)
     print("%s: %d texts" % (source, len(texts)))
+
+
+def check_calls(folder):
+    record(folder, ["calls"], ITEMS, "finished")
+    notes = notes_of(os.path.join(folder, "calls.log"))
+    assert notes == NOTES, notes
+    print("calls.rs: %d notes" % len(notes))
 
 
 # What an expression of the debugger comes to, over memory that begins at some address.
@@ -155,29 +168,35 @@ def items_of_group(chance):
     yield "run 0 0 9"
 
 
-def check_group(folder):
+def check_group(source, folder):
     for seed in range(TIMES):
         record(folder, ["ask", "answer"], list(items_of_group(random.Random(seed))), "exited 0")
         assert notes_of(os.path.join(folder, "ask.log")) == [2 * n for n in range(1, ROUNDS + 1)]
         asked = [int(out) for kind, _, out in events_of(os.path.join(folder, "ask.log")) if kind == PRINT]
         assert asked == list(range(1, len(asked) + 1)), asked
-    print("ask.c, answer.rs: %d lossy recordings, at last after %d questions" % (TIMES, len(asked)))
+    print("%s, answer.rs: %d lossy recordings, at last after %d questions" % (source, TIMES, len(asked)))
+
+
+def build(source, folder):
+    shutil.copy(os.path.join(here, "check", source), folder)
+    run([os.path.join(here, "build"), source], folder)
 
 
 with tempfile.TemporaryDirectory() as folder:
-    for source in SOURCES:
-        shutil.copy(os.path.join(here, "check", source), folder)
+    build("calls.rs", folder)
+    check_calls(folder)
     for source in ("texts.c", "texts.rs"):
-        run([os.path.join(here, "build"), source], folder)
+        build(source, folder)
         check_texts(source, folder)
-    for source in ("places.c", "places.rs"):
-        run([os.path.join(here, "build"), source], folder)
+    for source in ("places.rs", "places.c"):
+        build(source, folder)
         check_places(source, folder)
-    run([os.path.join(here, "build"), "places.c"], folder)
     check_front_end(folder)
     for source in ("threads.c", "threads.rs"):
-        run([os.path.join(here, "build"), source], folder)
+        build(source, folder)
         check_threads(source, folder)
-    run([os.path.join(here, "build"), "ask.c", "answer.rs"], folder)
-    check_group(folder)
+    build("answer.rs", folder)
+    for source in ("ask.c", "ask.rs"):
+        build(source, folder)
+        check_group(source, folder)
 PYTHON
