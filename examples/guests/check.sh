@@ -23,8 +23,8 @@ def run(words, folder, wanted=0):
 
 # What the guest writes where it runs by itself.
 def native(guest, folder):
-    words = [os.environ.get("CC", "clang"), "-std=c11", "-O1", "-D_start=guest_start", "-o", os.path.join(folder, "native")]
-    run(words + [guest + ".c", "liblog.c"], here)
+    words = [os.environ.get("CC", "clang"), "-std=c11", "-O1", "-D_start=guest_start", "-I", "../../guests"]
+    run(words + ["-o", os.path.join(folder, "native"), guest + ".c", "../../guests/native.c"], here)
     return run([os.path.join(folder, "native")], folder).splitlines()
 
 

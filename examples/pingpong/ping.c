@@ -1,7 +1,7 @@
 // Asks pong for the double of 1, 2, .. ROUNDS, one after the other, and ends with 0 where all answers came to
 // what they should. It takes each datagram for the answer to what it asked last, which is its fault: an
 // answer that comes twice is taken for the next one.
-#include "../guests/liblog.h"
+#include "liblog.h"
 
 enum { PONG = 1, ROUNDS = 3 };
 

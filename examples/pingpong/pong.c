@@ -1,5 +1,5 @@
 // Answers each number with its double, for ever.
-#include "../guests/liblog.h"
+#include "liblog.h"
 
 void _start(void) {
     for (;;) {

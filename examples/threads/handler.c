@@ -1,5 +1,5 @@
 // A loop in which the handler of a signal is called, as often as the signal comes. What it adds is noted at the end.
-#include "../guests/liblog.h"
+#include "liblog.h"
 
 enum { SIGNAL = 5, ROUNDS = 20, SIGNALS = 7 };
 

@@ -1,5 +1,5 @@
 // As many threads as a process can make. Each works on a part of some numbers; the sum of all parts is noted.
-#include "../guests/liblog.h"
+#include "liblog.h"
 
 enum { THREADS = 63, NUMBERS = 1000 };
 

@@ -1,6 +1,6 @@
 // A producer and a consumer that share a short queue under a lock. The numbers that the consumer takes are summed,
 // and their sum is noted.
-#include "../guests/liblog.h"
+#include "liblog.h"
 
 enum { LOCK = 1, ROOM = 4, COUNT = 40 };
 

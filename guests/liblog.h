@@ -10,6 +10,10 @@
 #define LIBLOG(call)
 #endif
 
+// Keeps a variable whole and in memory, so that the debugger can read it. Without this clang takes out what the guest
+// itself never reads, and splits or shrinks what only one file uses.
+#define LIBLOG_WATCHED __attribute__((used))
+
 // The first function of a thread and that of a signal. As pointers they are places in the table.
 typedef void liblog_function(int32_t);
 

@@ -1,0 +1,202 @@
+#!/bin/sh
+# Builds the guests of check/, in C and in Rust, records and replays each, and compares what they note with what they
+# should. The values at the places of variables are read from the memory that two of the guests print.
+# Usage: check.sh [PROGRAM]   (the program that ./friday builds, if none is given)
+here=$(CDPATH='' cd -- "$(dirname -- "$0")" && pwd) || exit 1
+program=${1:-$here/../crates/friday/out/friday}
+exec python3 - "$program" "$here" <<'PYTHON'
+import os, random, re, shutil, struct, subprocess, sys, tempfile
+
+program, here = os.path.abspath(sys.argv[1]), sys.argv[2]
+ARGUMENTS = (0, 1, 1, 2, 0, 1, 2, 0, 3, 3, 3, 2, 0, 1, 1, 1, 2, 0)
+NOTE, PRINT = 2, 3
+TIMES = 20
+ROUNDS = 5
+
+# What calls.rs is given and notes.
+ITEMS = ["clock 0 7", "run 0 0 3", "clock 0 50", "random 0 010203", "inject 0 61626364", "run 0 0 20"]
+ITEMS += ["signal 0 5", "run 0 0 30"]
+NOTES = [7, 50, 0, 0, 1, 0x030201, 1, 3, -1, -2, 1, 1, 1, 5]
+
+TEXTS = ["0", "7", "-1", "1000000000000", str(2**63 - 1), str(-(2**63))]
+TEXTS += ["0123456789", "0101234789", "1012334789", "1xxx3abc89"]
+COMPARISONS = ["1", "0", "-1"]
+
+# Lines that the front end refuses, by the file of places.c, each with a part of what it answers.
+REFUSED = (
+    ("print @a.{nothing}", "no variable nothing"),
+    ("print @a.{peers}", "no number"),
+    ("print @a.{peers[3].seen}", "element 3 of 3"),
+    ("print @a.{peers[0].age}", "no field age"),
+    ("print @a.{head.seen}", "write ->"),
+    ("print @a.{place->seen}", "no pointer"),
+    ("print @a.{place[0]}", "no elements"),
+    ("print @a.{peers[0", "not closed"),
+    ("print @a.{peers[ ].seen}", "index is missing"),
+    ("print @a.{}", "begin with a name"),
+    ("print @a.{head?}", "no part of a path"),
+    ("mem a {head->ports}", "mem wants a number"),
+    ("print @a.{peers[@a.{place}].seen}", "said again"),
+    ('print @a.{peers["{place}"].seen}', "no string"),
+    ("print @a.{peers[" + "9" * 5000 + "].seen}", "more than 4096 bytes"),
+    ("print @a.{peers[" + "9" * 3000 + "].seen}", "element 99"),
+    ("print " + "@a.{table[0][{place" * 40 + "}]}" * 40, "brackets"),
+    ("print @b.{place}", "no file of places for the node b"),
+)
+
+# Lines that have no reference, and those that have, with what becomes of them.
+WRITTEN = (
+    ('do 1 if 1 {stop} else { say "@a.{place}" }', None),
+    ("# @a.{nothing}", None),
+    ("", None),
+    ("mem a {peers[1].ports}", r"mem a \d+ 4"),
+    ("watch sum(@_.{pair.left}) > 3", r"watch sum\(@_\.i32\[\d+\]\) > 3"),
+    ("print @a.{head->next} == 0", r"print @a\.u32\[@a\.u32\[\d+\]\+8\] == 0"),
+    ("print @a.{peers[$n].next}", r"print @a\.u32\[\d+\+\(\$n\)\*32\+8\]"),
+)
+
+
+def run(words, folder, text="", wanted=0):
+    done = subprocess.run(words, cwd=folder, input=text, stdout=subprocess.PIPE, stderr=subprocess.PIPE, text=True)
+    if done.returncode != wanted:
+        sys.exit("%s: status %d\n%s%s" % (" ".join(words), done.returncode, done.stdout, done.stderr))
+    return done.stdout if wanted == 0 else done.stderr
+
+
+# The kind, the arguments and the outgoing bytes of each event of a log.
+def events_of(path):
+    with open(path, "rb") as file:
+        log = file.read()
+    at = 17 + log[16]
+    while at < len(log):
+        (size,) = struct.unpack_from("<I", log, at)
+        body = log[at + 4 : at + 4 + size]
+        count = ARGUMENTS[body[10]]
+        yield body[10], struct.unpack_from("<%dq" % count, body, 12), body[12 + 8 * count + 12 :]
+        at += 4 + size
+
+
+def notes_of(path):
+    return [arguments[0] for kind, arguments, _ in events_of(path) if kind == NOTE]
+
+
+# Records a group of some guests, and replays each.
+def record(folder, names, items, end):
+    lines = ["friday 1"] + ["process %s %s.wasm" % (name, name) for name in names] + items
+    with open(os.path.join(folder, "schedule"), "w") as file:
+        file.write("\n".join(lines) + "\n")
+    recorded = run([program, "record", "schedule"], folder)
+    assert ", %s\n" % end in recorded.splitlines(True)[0], recorded
+    for name in names:
+        assert ", log whole\n" in run([program, "replay", name + ".wasm", name + ".log"], folder)
+
+
+def check_texts(source, folder):
+    name = source.split(".")[0]
+    record(folder, [name], ["run 0 0 100"], "exited 10")
+    texts = [out.decode() for kind, _, out in events_of(os.path.join(folder, name + ".log")) if kind == PRINT]
+    wanted = TEXTS + (COMPARISONS if source.endswith(".c") else [""])
+    assert texts == wanted, (texts, wanted)
+    print("%s: %d texts" % (source, len(texts)))
+
+
+def check_calls(folder):
+    record(folder, ["calls"], ITEMS, "finished")
+    notes = notes_of(os.path.join(folder, "calls.log"))
+    assert notes == NOTES, notes
+    print("calls.rs: %d notes" % len(notes))
+
+
+# What an expression of the debugger comes to, over memory that begins at some address.
+def value_of(expression, memory, start):
+    def load(width, address):
+        size, at = int(width[1:]) // 8, address - start
+        assert 0 <= at and at + size <= len(memory), "outside of what was printed"
+        return int.from_bytes(memory[at : at + size], "little", signed=width[0] == "i")
+
+    code = re.sub(r"@\w+\.([ui]\d+)\[", r"load('\1',", expression).replace("]", ")").replace("/", "//")
+    return eval(code, {"load": load})
+
+
+def check_places(source, folder):
+    name = source.split(".")[0]
+    with open(os.path.join(folder, source)) as file:
+        paths = re.findall(r"note\(.*\); // (\S+)\n", file.read())
+    record(folder, [name], ["clock 0 5", "run 0 0 100"], "finished")
+    (start, memory), = [(a[0], out) for kind, a, out in events_of(os.path.join(folder, name + ".log")) if kind == PRINT]
+    notes = notes_of(os.path.join(folder, name + ".log"))
+    assert len(notes) == len(paths) > 0, (notes, paths)
+    script = "".join("print @a.{%s}\n" % path for path in paths)
+    lines = run([os.path.join(here, "places"), name + ".places"], folder, script).splitlines()
+    for path, line, note in zip(paths, lines, notes):
+        value = value_of(line[len("print ") :], memory, start)
+        assert value == note, "%s: %s is %d, and the guest notes %d" % (path, line, value, note)
+    print("%s: %d values at their places" % (source, len(paths)))
+
+
+def check_front_end(folder):
+    words = [os.path.join(here, "places"), "a=places.places"]
+    for line, answer in REFUSED:
+        told = run(words, folder, "print 1\n" + line, 1)
+        assert told.startswith("places: line 2: ") and answer in told, (line, told)
+    for line, form in WRITTEN:
+        written = run(words, folder, line)
+        assert written == line if form is None else re.fullmatch(form, written), (line, written)
+    with open(os.path.join(folder, "places.wasm"), "ab") as file:
+        file.write(b"\0\0")
+    assert "older" in run(words, folder, "", 1)
+    print("places: %d lines refused and %d written" % (len(REFUSED), len(WRITTEN)))
+
+
+def check_threads(source, folder):
+    name = source.split(".")[0]
+    wanted = [sum((thread + 1) * i * i - 7 for thread in range(4) for i in range(16))]
+    for seed in range(TIMES):
+        chance = random.Random(seed)
+        items = ["run 0 %d" % chance.randrange(4) for _ in range(300)] + ["run 0 %d 20" % (n % 4) for n in range(40)]
+        record(folder, [name], items, "finished")
+        assert notes_of(os.path.join(folder, name + ".log")) == wanted
+    print("%s: %d interleavings note %d" % (source, TIMES, wanted[0]))
+
+
+# Tries of each thread, datagrams that are lost, repeated and late, and a clock that goes on.
+def items_of_group(chance):
+    for moment in range(4000):
+        yield chance.choice(("run 0 0", "run 0 1 2", "run 1 0 2", "clock 0 %d" % (5 * moment)))
+        if chance.random() < 0.1:
+            yield "deliver %d %d" % (chance.randrange(2), chance.randint(1, 2 + moment // 20))
+    yield "run 0 0 9"
+
+
+def check_group(source, folder):
+    for seed in range(TIMES):
+        record(folder, ["ask", "answer"], list(items_of_group(random.Random(seed))), "exited 0")
+        assert notes_of(os.path.join(folder, "ask.log")) == [2 * n for n in range(1, ROUNDS + 1)]
+        asked = [int(out) for kind, _, out in events_of(os.path.join(folder, "ask.log")) if kind == PRINT]
+        assert asked == list(range(1, len(asked) + 1)), asked
+    print("%s, answer.rs: %d lossy recordings, at last after %d questions" % (source, TIMES, len(asked)))
+
+
+def build(source, folder):
+    shutil.copy(os.path.join(here, "check", source), folder)
+    run([os.path.join(here, "build"), source], folder)
+
+
+with tempfile.TemporaryDirectory() as folder:
+    build("calls.rs", folder)
+    check_calls(folder)
+    for source in ("texts.c", "texts.rs"):
+        build(source, folder)
+        check_texts(source, folder)
+    for source in ("places.rs", "places.c"):
+        build(source, folder)
+        check_places(source, folder)
+    check_front_end(folder)
+    for source in ("threads.c", "threads.rs"):
+        build(source, folder)
+        check_threads(source, folder)
+    build("answer.rs", folder)
+    for source in ("ask.c", "ask.rs"):
+        build(source, folder)
+        check_group(source, folder)
+PYTHON

@@ -1,0 +1,4 @@
+#!/bin/sh
+# Installs on Debian what guests/build calls: as root, or by sudo.
+apt-get update && exec apt-get install -y --no-install-recommends \
+    clang lld llvm python3 rustc libstd-rust-dev-wasm32

@@ -1,0 +1,133 @@
+use crate::raw;
+use crate::stack::keeping_stack;
+
+/// How many bytes one call may name.
+pub const MOST_BYTES: usize = 60_000;
+const NO_HANDLER: u32 = u32::MAX;
+const NO_DATAGRAM: i32 = -2;
+
+/// A call named more than [`MOST_BYTES`].
+#[derive(Clone, Copy, Debug, PartialEq, Eq)]
+pub struct TooLong;
+
+/// The number is no signal: those are 1 to 31.
+#[derive(Clone, Copy, Debug, PartialEq, Eq)]
+pub struct NoSignal;
+
+/// A datagram that was taken.
+#[derive(Clone, Copy, Debug, PartialEq, Eq)]
+pub struct Datagram {
+    /// How many of its bytes were written.
+    pub length: usize,
+    /// The process that sent it, where that is known.
+    pub from: Option<u32>,
+}
+
+/// Ends the process.
+pub fn exit(code: i32) -> ! {
+    // SAFETY: the call takes no memory, and does not come back.
+    unsafe { raw::exit(code) }
+}
+
+/// Notes a number in the log.
+pub fn note(value: i64) {
+    // SAFETY: the call takes no memory.
+    keeping_stack(|| unsafe { raw::note(value) })
+}
+
+/// Writes bytes.
+pub fn print(bytes: &[u8]) -> Result<(), TooLong> {
+    // SAFETY: the bytes are read only.
+    taken(keeping_stack(|| unsafe {
+        raw::print(bytes.as_ptr(), bytes.len() as u32)
+    }))
+}
+
+/// The wall time.
+pub fn now() -> i64 {
+    // SAFETY: the call takes no memory.
+    keeping_stack(|| unsafe { raw::now() })
+}
+
+/// Waits until the wall time is at least so late, and answers it.
+pub fn sleep_until(time: i64) -> i64 {
+    // SAFETY: the call takes no memory.
+    keeping_stack(|| unsafe { raw::sleep_until(time) })
+}
+
+/// Fills all the bytes at random.
+pub fn random(bytes: &mut [u8]) -> Result<(), TooLong> {
+    // SAFETY: the bytes are the caller's to write.
+    taken(keeping_stack(|| unsafe {
+        raw::random(bytes.as_mut_ptr(), bytes.len() as u32)
+    }))
+}
+
+/// The number of the process in its group.
+pub fn me() -> u32 {
+    // SAFETY: the call takes no memory.
+    keeping_stack(|| unsafe { raw::me() }) as u32
+}
+
+/// Sends a datagram to a process, which may come never, late, or several times.
+pub fn send(to: u32, bytes: &[u8]) -> Result<(), TooLong> {
+    // SAFETY: the bytes are read only.
+    taken(keeping_stack(|| unsafe {
+        raw::send(to, bytes.as_ptr(), bytes.len() as u32)
+    }))
+}
+
+/// Waits for a datagram and takes as much of it as there is room for.
+pub fn recv(room: &mut [u8]) -> Result<Datagram, TooLong> {
+    let mut from = u32::MAX;
+    // SAFETY: the bytes and `from` are the caller's to write.
+    let answer =
+        keeping_stack(|| unsafe { raw::recv(room.as_mut_ptr(), room.len() as u32, &mut from) });
+    datagram(answer, from)
+}
+
+/// Takes the next datagram where one waits.
+pub fn try_recv(room: &mut [u8]) -> Result<Option<Datagram>, TooLong> {
+    let mut from = u32::MAX;
+    // SAFETY: the bytes and `from` are the caller's to write.
+    let answer =
+        keeping_stack(|| unsafe { raw::try_recv(room.as_mut_ptr(), room.len() as u32, &mut from) });
+    match answer {
+        NO_DATAGRAM => Ok(None),
+        _ => datagram(answer, from).map(Some),
+    }
+}
+
+/// Has a function called for a signal, in the midst of a thread, behind one of its calls.
+pub fn on_signal(signal: u32, handler: extern "C" fn(i32)) -> Result<(), NoSignal> {
+    handle(signal, handler as usize as u32)
+}
+
+/// Takes the handler of a signal away.
+pub fn remove_handler(signal: u32) -> Result<(), NoSignal> {
+    handle(signal, NO_HANDLER)
+}
+
+fn handle(signal: u32, handler: u32) -> Result<(), NoSignal> {
+    // SAFETY: the handler is a function of this type, or none.
+    match keeping_stack(|| unsafe { raw::on_signal(signal, handler) }) {
+        0 => Ok(()),
+        _ => Err(NoSignal),
+    }
+}
+
+fn taken(answer: i32) -> Result<(), TooLong> {
+    if answer < 0 {
+        Err(TooLong)
+    } else {
+        Ok(())
+    }
+}
+
+fn datagram(answer: i32, from: u32) -> Result<Datagram, TooLong> {
+    taken(answer)?;
+    Ok(Datagram {
+        length: answer as usize,
+        from: Some(from).filter(|&from| from != u32::MAX),
+    })
+}

@@ -1,0 +1,27 @@
+//! What a guest in Rust calls: the functions of the module `liblog`, with safe wrappers, and a small runtime.
+//! Each call is an event of the guest's log. `guests/build` makes the modules.
+#![no_std]
+
+mod calls;
+mod decimal;
+/// The imports themselves.
+pub mod raw;
+mod retry;
+mod shared;
+mod stack;
+mod threads;
+
+pub use calls::{
+    exit, me, note, now, on_signal, print, random, recv, remove_handler, send, sleep_until,
+    try_recv, Datagram, NoSignal, TooLong, MOST_BYTES,
+};
+pub use decimal::Decimal;
+pub use retry::Retry;
+pub use shared::{Guard, Mutex, Shared};
+pub use threads::{start, this_thread, yield_now, NoThread, Stack, Thread};
+
+/// A panic ends the process as `unreachable`.
+#[panic_handler]
+fn panic(_: &core::panic::PanicInfo) -> ! {
+    core::arch::wasm32::unreachable()
+}

@@ -1,0 +1,12 @@
+use crate::raw;
+
+/// Makes a call and puts the end of the stack back: another thread may run in the call and leave its own there.
+pub(crate) fn keeping_stack<T>(call: impl FnOnce() -> T) -> T {
+    // SAFETY: the end of the stack becomes what it was when this function was called.
+    unsafe {
+        let place = raw::liblog_stack();
+        let answer = call();
+        raw::liblog_set_stack(place);
+        answer
+    }
+}

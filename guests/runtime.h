@@ -1,0 +1,47 @@
+// A small runtime for guests in C. guests/build links what a guest uses of it.
+#ifndef RUNTIME_H
+#define RUNTIME_H
+
+#include "threads.h"
+
+#include <stddef.h>
+
+// clang calls the first four also by itself, as where a struct is copied.
+void *memcpy(void *to, const void *from, size_t count);
+void *memmove(void *to, const void *from, size_t count);
+void *memset(void *to, int byte, size_t count);
+int memcmp(const void *left, const void *right, size_t count);
+size_t strlen(const char *text);
+
+// How many bytes the longest number has in decimal digits.
+enum { LONGEST_NUMBER = 20 };
+
+// Writes a number in decimal digits, with a minus in front where it is below 0, and answers how many bytes it has.
+uint32_t number_to_text(char *to, int64_t number);
+
+// Prints a text up to its zero byte, as liblog_print does.
+int32_t print_text(const char *text);
+
+enum { RETRY_STACK = 4096 };
+
+// A timer that acts again and again until it is stopped: it sends a request until the answer has come, say. It acts on a
+// thread of its own, which never ends, so a guest with a timer ends by liblog_exit.
+struct retry {
+    void (*act)(void *with);
+    void *with;
+    // The wall time from one act to the next.
+    int64_t period;
+    // When it acts next, and how many times it does yet.
+    int64_t next;
+    uint32_t left;
+    _Alignas(16) uint8_t stack[RETRY_STACK];
+};
+
+// Makes the thread of a timer, once for each: 0, or -1 where the process has all its threads.
+int32_t retry_begin(struct retry *retry);
+
+// Has it act so many times, first when a period has passed from now on. It acts no more once it is stopped.
+void retry_set(struct retry *retry, uint32_t times);
+void retry_stop(struct retry *retry);
+
+#endif
