@@ -31,16 +31,16 @@ RATES = (
     ("stall", "a process stands still for some rounds; the chance of each process and round"),
 )
 COUNTS = (
-    ("rounds", 100, "the most rounds"),
-    ("events", 3, "the most events of a thread in one round"),
-    ("late", 5, "the most rounds that a late or repeated datagram takes longer"),
-    ("partition-rounds", 5, "the most rounds that a partition lasts"),
-    ("stall-rounds", 5, "the most rounds that a process stands still"),
-    ("kills", 1, "the most processes that are killed"),
-    ("injected-bytes", 32, "the most bytes of a datagram from outside"),
-    ("tick", 1, "how much the wall times grow in each round"),
-    ("leap", 20, "how far a wall time leaps at most, forwards or backwards"),
-    ("random-bytes", 16, "how many random bytes wait for a process that imports `random`"),
+    ("rounds", 100, 1, "the most rounds"),
+    ("events", 3, 1, "the most events of a thread in one round"),
+    ("late", 5, 1, "the most rounds that a late or repeated datagram takes longer"),
+    ("partition-rounds", 5, 1, "the most rounds that a partition lasts"),
+    ("stall-rounds", 5, 1, "the most rounds that a process stands still"),
+    ("kills", 1, 0, "the most processes that are killed"),
+    ("injected-bytes", 32, 1, "the most bytes of a datagram from outside"),
+    ("tick", 1, 0, "how much the wall times grow in each round"),
+    ("leap", 20, 1, "how far a wall time leaps at most, forwards or backwards"),
+    ("random-bytes", 16, 0, "how many random bytes wait for a process that imports `random`"),
 )
 
 
@@ -101,21 +101,21 @@ class Maker:
         outside = self.network.arrivals(turn, self.recording.datagrams, {process.number for process in running})
         for process in running:
             outside += self.from_outside(process)
-        clocks = {process.number: self.clock(process) for process in running}
+        clocks = {process.number: self.clock(process) for process in running if self.asks_for_time(process)}
         tries = self.chance.shuffled([run for process in running for run in self.tries(turn, process)])
         before = self.recording
-        tried = [run_line(*run) for run in tries]
-        self.recording = self.recorder.record(self.items + outside + [line for line in clocks.values() if line] + tried)
-        moved = {}
-        for process, thread, _ in tries:
-            moved[process, thread] = self.recording.events_of(process, thread) - before.events_of(process, thread)
-        acted = [run_line(process, thread, moved[process, thread]) for process, thread, _ in tries if moved[process, thread]]
-        busy = {process for (process, _), count in moved.items() if count}
-        self.items += self.headed(turn, outside + [clocks[number] for number in sorted(busy) if clocks[number]] + acted)
+        lines = outside + list(clocks.values()) + [run_line(*run) for run in tries]
+        self.recording = self.recorder.record(self.items + lines)
+        acted = [(process, thread, self.moved(before, process, thread)) for process, thread, _ in tries]
+        acted = [run for run in acted if run[2] > 0]
+        busy = {process for process, _, _ in acted}
+        kept = outside + [line for number, line in clocks.items() if number in busy] + [run_line(*run) for run in acted]
+        if kept:
+            self.items += ["", "# round %d" % turn] + kept
 
-    @staticmethod
-    def headed(turn, lines):
-        return ["", "# round %d" % turn] + lines if lines else []
+    def moved(self, before, process, thread):
+        """How many events a thread made since an earlier recording."""
+        return self.recording.events_of(process, thread) - before.events_of(process, thread)
 
     def from_outside(self, process):
         """The datagrams from outside, random bytes, signals and death of a process in one round."""
@@ -135,14 +135,16 @@ class Maker:
             lines.append("kill %d" % process.number)
         return lines
 
+    def asks_for_time(self, process):
+        return any(self.recorder.imports(process.number, call) for call in ("now", "sleep_until"))
+
     def clock(self, process):
-        """The wall time of a process in this round, or nothing where it never asks for it."""
+        """The wall time of a process in this round."""
         process.wall_time += self.settings.tick
         if self.chance.happens(self.settings.clock_step):
             leap = self.chance.up_to(self.settings.leap)
             process.wall_time += leap if self.chance.happens(0.5) else -leap
-        asks = self.recorder.imports(process.number, "now") or self.recorder.imports(process.number, "sleep_until")
-        return "clock %d %d" % (process.number, process.wall_time) if asks else None
+        return "clock %d %d" % (process.number, process.wall_time)
 
     def tries(self, turn, process):
         """How often each thread of a process is tried, unless the process stands still."""
@@ -181,19 +183,31 @@ def signal(word):
 
 def process(word):
     name, module = word.split("=", 1)
+    allowed = 1 <= len(module) <= 255 and all("!" <= letter <= "~" for letter in module)
+    if not allowed or module.endswith((".log", ".mem", ".out")):
+        raise ValueError
     return name, module
 
 
+def at_least(least):
+    def number(word):
+        if int(word) < least:
+            raise ValueError
+        return int(word)
+
+    return number
+
+
 def arguments():
-    parser = argparse.ArgumentParser(description=__doc__, formatter_class=argparse.RawDescriptionHelpFormatter)
+    parser = argparse.ArgumentParser(description=__doc__, formatter_class=argparse.RawDescriptionHelpFormatter, allow_abbrev=False)
     parser.add_argument("processes", nargs="+", type=process, metavar="NAME=MODULE", help="a process and its module, in order of number")
     parser.add_argument("--seed", type=int, default=1)
     for name, meaning in RATES:
         parser.add_argument("--" + name, type=rate, default=0.0, metavar="RATE", help=meaning)
     parser.add_argument("--signal", dest="signals", action="append", type=signal, default=[], metavar="S=RATE",
                         help="signal S comes to a process; the chance of each process and round")
-    for name, usual, meaning in COUNTS:
-        parser.add_argument("--" + name, type=int, default=usual, metavar="N", help="%s (%d if not given)" % (meaning, usual))
+    for name, usual, least, meaning in COUNTS:
+        parser.add_argument("--" + name, type=at_least(least), default=usual, metavar="N", help="%s (%d if not given)" % (meaning, usual))
     parser.add_argument("--program", default=BUILT, help="the program friday")
     parser.add_argument("--output", required=True, help="the file for the schedule")
     settings = parser.parse_args()

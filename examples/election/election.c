@@ -2,13 +2,13 @@
 // term: it votes for itself and asks the others. Each node has one vote in a term, so a majority makes one leader in
 // it at most, however many datagrams are lost, late or repeated.
 //
-// The fault: the thread that waits for a leader's word reads the term before it sleeps and stands for the next one
-// after it. Where it wakes late, the node may have voted in that term already, and now gives its vote a second time.
+// The fault: the thread that waits for a leader's silence works out the next term before it sleeps, and stands for it
+// afterwards. Where it wakes late, the node may have voted in that term meanwhile, and gives its vote a second time.
 #include "../guests/liblog.h"
 #include "../guests/lines.h"
 
 enum { NODES = 3, MAJORITY = 2, NOBODY = 255 };
-enum { SHORTEST = 100, HEARTBEAT = 80, LAST_TIME = 1000 };
+enum { SHORTEST = 150, HEARTBEAT = 100, LAST_TIME = 2000 };
 enum { STATE = 1 };
 enum kind { REQUEST = 1, VOTE, LEADING };
 
@@ -44,7 +44,7 @@ static void tell_others(enum kind kind) {
 static void wait_anew(void) {
     uint8_t byte = 0;
     liblog_random(&byte, sizeof byte);
-    deadline = liblog_now() + SHORTEST + byte;
+    deadline = liblog_now() + SHORTEST + 2 * byte;
 }
 
 static void enter_term(uint32_t newer) {
