@@ -9,7 +9,7 @@
 #include "../guests/lines.h"
 
 enum { REPLICAS = 3, MAJORITY = 2, WRITER = 3, READER = 4, PROCESSES = 5 };
-enum { WRITES = 4, PATIENCE = 300 };
+enum { WRITES = 4, PATIENCE = 300, FAREWELLS = 3 };
 
 // Each answer's kind is that of its question and one.
 enum kind { STORE = 2, STORED, FETCH = 4, FETCHED, WRITTEN = 6, SEEN, END = 8 };
@@ -108,6 +108,15 @@ static uint32_t value_of(uint32_t write) {
     return 100 + write * write;
 }
 
+// Tells all others that no write follows, several times, since nobody answers this.
+static void say_end(void) {
+    struct message end = {END, 0, 0, 0};
+    for (uint32_t turn = 0; turn < FAREWELLS; turn++)
+        for (uint32_t process = 0; process < PROCESSES; process++)
+            if (process != WRITER)
+                liblog_send(process, &end, sizeof end);
+}
+
 // Stores one write after the other, and lets the reader see each before the next.
 static void write_all(void) {
     for (uint32_t write = 1; write <= WRITES; write++) {
@@ -116,10 +125,7 @@ static void write_all(void) {
         print_two("write ", write, " is stored, with value ", value_of(write));
         ask(&reader, WRITTEN, write, 0);
     }
-    struct message end = {END, 0, 0, 0};
-    for (uint32_t process = 0; process < PROCESSES; process++)
-        if (process != WRITER)
-            liblog_send(process, &end, sizeof end);
+    say_end();
     liblog_exit(0);
 }
 
