@@ -94,7 +94,7 @@ def main():
     except BadLog as error:
         sys.exit("%s is no log" % error)
     except OSError as error:
-        sys.exit(str(error))
+        sys.exit("%s: %s" % (error.filename, error.strerror))
 
 
 if __name__ == "__main__":

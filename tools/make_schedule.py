@@ -237,8 +237,10 @@ def main():
             print(recorder.record(maker.items).summary, end="")
             for line in waits(recorder, maker.recording, maker.items + maker.last_clocks()):
                 print(line)
-    except (OSError, RecordingFailed) as error:
+    except RecordingFailed as error:
         sys.exit(str(error))
+    except OSError as error:
+        sys.exit("%s: %s" % (error.filename, error.strerror))
 
 
 if __name__ == "__main__":
