@@ -7,7 +7,8 @@ trap 'rm -f "$map"' EXIT
 for hunt in register election bank; do
     cd "$here/$hunt" || exit 1
     "${CLANG:-clang}" --target=wasm32 -mcpu=mvp -std=c11 -O2 -ffreestanding -fno-builtin -Wall -Wextra -Werror \
-        -nostdlib -Wl,--no-entry -Wl,--export=_start -Wl,--strip-all -Wl,-z,stack-size=8192 -Wl,-Map="$map" -o "$hunt.wasm" "$hunt.c" || exit 1
+        -nostdlib -Wl,--no-entry -Wl,--export=_start -Wl,--strip-all -Wl,-z,stack-size=8192 -Wl,-Map="$map" \
+        -o "$hunt.wasm" "$hunt.c" || exit 1
     chmod a-x "$hunt.wasm" || exit 1
     python3 - "$map" <<'PYTHON' || exit 1
 import re, sys

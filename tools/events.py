@@ -27,6 +27,12 @@ def shown(data):
     return data.hex() or "nothing"
 
 
+def source(tag, names):
+    if tag is None:
+        return "outside"
+    return "%s at its clock %d" % (names.get(tag[0], str(tag[0])), tag[1])
+
+
 def bytes_lines(entry, names):
     if entry.call.name == "print":
         yield "printed " + shown(entry.sent)
@@ -34,8 +40,7 @@ def bytes_lines(entry, names):
         receiver = names.get(entry.arguments[0], str(entry.arguments[0]))
         yield "sent to %s: %s" % (receiver, shown(entry.sent))
     elif entry.call.has_tag and entry.reply >= 0:
-        sender = "outside" if entry.tag is None else "%s at its clock %d" % (names.get(entry.tag[0], str(entry.tag[0])), entry.tag[1])
-        yield "taken from %s: %s" % (sender, shown(entry.taken))
+        yield "taken from %s: %s" % (source(entry.tag, names), shown(entry.taken))
     elif entry.call.takes_bytes and entry.reply >= 0:
         yield "taken " + shown(entry.taken)
 
@@ -52,9 +57,11 @@ def list_events(logs, calls):
 
 def trap_of(program, module, path):
     """How the process trapped, as the report of its replay says, or nothing."""
-    report = subprocess.run([program, "replay", module, path], stdout=subprocess.PIPE, text=True).stdout
-    end = report.split("\n")[0].split(", ")[1:2]
-    return end[0] if end and end[0].startswith("trapped ") else None
+    done = subprocess.run([program, "replay", module, path], stdout=subprocess.PIPE, text=True)
+    if done.returncode not in (0, 1):
+        sys.exit(done.stdout.strip() or "replay of %s ended with status %d" % (path, done.returncode))
+    end = done.stdout.split("\n")[0].split(", ")[1]
+    return end if end.startswith("trapped ") else None
 
 
 def print_traps(program, pairs):

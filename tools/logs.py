@@ -100,6 +100,8 @@ def read_entry(cursor):
     sent = body.bytes(body.number(4)) if call.sends_bytes else b""
     taken = body.bytes(body.number(4)) if call.takes_bytes else b""
     tag = (body.number(4), body.number(8)) if call.has_tag and body.number(1) else None
+    if body.at != len(body.data):
+        raise IndexError
     return Entry(clock, thread, call, signal, arguments, reply, sent, taken, tag)
 
 

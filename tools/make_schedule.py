@@ -65,7 +65,7 @@ class Chance:
 
 
 class Process:
-    """A process with its wall time, how long it stands still, the random bytes that it got, and whether it was killed."""
+    """A process with its wall time, until when it stands still, what it got of random bytes, and whether it was killed."""
 
     def __init__(self, number, name, module):
         self.number, self.name, self.module = number, name, module
@@ -199,15 +199,19 @@ def at_least(least):
 
 
 def arguments():
-    parser = argparse.ArgumentParser(description=__doc__, formatter_class=argparse.RawDescriptionHelpFormatter, allow_abbrev=False)
-    parser.add_argument("processes", nargs="+", type=process, metavar="NAME=MODULE", help="a process and its module, in order of number")
+    parser = argparse.ArgumentParser(
+        description=__doc__, formatter_class=argparse.RawDescriptionHelpFormatter, allow_abbrev=False
+    )
+    parser.add_argument("processes", nargs="+", type=process, metavar="NAME=MODULE",
+                        help="a process and its module, in order of number")
     parser.add_argument("--seed", type=int, default=1)
     for name, meaning in RATES:
         parser.add_argument("--" + name, type=rate, default=0.0, metavar="RATE", help=meaning)
     parser.add_argument("--signal", dest="signals", action="append", type=signal, default=[], metavar="S=RATE",
                         help="signal S comes to a process; the chance of each process and round")
     for name, usual, least, meaning in COUNTS:
-        parser.add_argument("--" + name, type=at_least(least), default=usual, metavar="N", help="%s (%d if not given)" % (meaning, usual))
+        parser.add_argument("--" + name, type=at_least(least), default=usual, metavar="N",
+                            help="%s (%d if not given)" % (meaning, usual))
     parser.add_argument("--program", default=BUILT, help="the program friday")
     parser.add_argument("--output", required=True, help="the file for the schedule")
     settings = parser.parse_args()

@@ -44,7 +44,8 @@ class Network:
         delay, longer = self.chance.up_to(self.settings.late), self.chance.up_to(self.settings.late)
         bit = self.chance.up_to(8 * len(datagram.payload)) - 1
         if lost or self.side[datagram.sender] != self.side[datagram.receiver]:
-            return ["# the datagram %d of %s to %s is lost" % (datagram.number, self.names[datagram.sender], self.names[datagram.receiver])]
+            ends = self.names[datagram.sender], self.names[datagram.receiver]
+            return ["# the datagram %d of %s to %s is lost" % (datagram.number, *ends)]
         line = "deliver %d %d" % (datagram.sender, datagram.number)
         if damaged and datagram.payload:
             line = "inject %d %s" % (datagram.receiver, with_wrong_bit(datagram, bit).hex())

@@ -30,7 +30,7 @@ class Recording:
         self.ends = [line.split(" events, ")[1] for line in summary.splitlines()[: len(logs)]]
         self.datagrams = datagrams(logs)
         self.threads = [threads(log) for log in logs]
-        self.random_taken = [sum(len(entry.taken) for entry in log.entries if entry.call.name == "random") for log in logs]
+        self.random_taken = [random_taken(log) for log in logs]
 
     def events_of(self, process, thread):
         return sum(entry.thread == thread for entry in self.logs[process].entries)
@@ -49,6 +49,10 @@ def datagrams(logs):
 def threads(log):
     """The threads that were made: the first, and what `spawn` answered."""
     return [0] + [entry.reply for entry in log.entries if entry.call.name == "spawn" and entry.reply >= 0]
+
+
+def random_taken(log):
+    return sum(len(entry.taken) for entry in log.entries if entry.call.name == "random")
 
 
 class Recorder:
