@@ -26,12 +26,24 @@ def wait_of(recorder, recording, items, process, thread):
         return "goes on: its next call is %s" % entry.call.name
     entry = new_entry(recorder.record(items + gifts + [run]), process, thread, known)
     if entry is None:
-        return "waits for a lock or the end of another thread, or has ended"
+        return "waits for %sthe end of another thread, or has ended" % held(recording.logs[process], thread)
     if entry.call.name == "sleep_until":
         return "waits for the wall time %d" % entry.arguments[0]
     if entry.call.name == "random":
         return "waits for %d random bytes" % entry.arguments[1]
     return "waits for a datagram"
+
+
+def held(log, thread):
+    """The locks that a thread may wait for: those that others hold."""
+    holders = {}
+    for entry in log.entries:
+        if entry.call.name == "lock" and entry.reply == 0:
+            holders[entry.arguments[0]] = entry.thread
+        elif entry.call.name == "unlock" and entry.reply == 0:
+            del holders[entry.arguments[0]]
+    others = ["lock %d, which thread %d holds, or " % item for item in holders.items() if item[1] != thread]
+    return "".join(others)
 
 
 def new_entry(recording, process, thread, known):
