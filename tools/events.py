@@ -1,0 +1,108 @@
+#!/usr/bin/env python3
+"""What the debugger has no answer for, read from the logs of a group.
+
+events.py list [--call CALL].. LOG..         each event, numbered as the debugger's positions, with the bytes
+                                             that it printed, sent or took
+events.py traps MODULE LOG [MODULE LOG]..    for each process that trapped, the debugger's lines that go to the
+                                             position before the event in which it did
+
+The debugger counts the events that replay accepts: give it the same logs, and whole ones.
+"""
+
+import argparse
+import os
+import subprocess
+import sys
+
+from logs import BadLog, in_group_order, read_log
+
+BUILT = os.path.join(os.path.dirname(os.path.abspath(__file__)), "../crates/friday/out/friday")
+
+
+def shown(data):
+    """Bytes as text where all of them can be printed, and otherwise in hexadecimal digits."""
+    text = data.decode("latin-1")
+    if data and all(" " <= letter <= "~" or letter == "\n" for letter in text):
+        return '"%s"' % text.replace("\n", "\\n")
+    return data.hex() or "nothing"
+
+
+def source(tag, names):
+    if tag is None:
+        return "outside"
+    return "%s at its clock %d" % (names.get(tag[0], str(tag[0])), tag[1])
+
+
+def bytes_lines(entry, names):
+    if entry.call.name == "print":
+        yield "printed " + shown(entry.sent)
+    elif entry.call.name == "send":
+        receiver = names.get(entry.arguments[0], str(entry.arguments[0]))
+        yield "sent to %s: %s" % (receiver, shown(entry.sent))
+    elif entry.call.has_tag and entry.reply >= 0:
+        yield "taken from %s: %s" % (source(entry.tag, names), shown(entry.taken))
+    elif entry.call.takes_bytes and entry.reply >= 0:
+        yield "taken " + shown(entry.taken)
+
+
+def list_events(logs, calls):
+    names = {log.process: log.name for log in logs}
+    for position, (entry, log) in enumerate(in_group_order(logs), 1):
+        if calls and entry.call.name not in calls:
+            continue
+        print("%d: %s" % (position, entry.text(log.name)))
+        for line in bytes_lines(entry, names):
+            print("    " + line)
+
+
+def trap_of(program, module, path):
+    """How the process trapped, as the report of its replay says, or nothing."""
+    done = subprocess.run([program, "replay", module, path], stdout=subprocess.PIPE, text=True)
+    if done.returncode not in (0, 1):
+        sys.exit(done.stdout.strip() or "replay of %s ended with status %d" % (path, done.returncode))
+    end = done.stdout.split("\n")[0].split(", ")[1]
+    return end if end.startswith("trapped ") else None
+
+
+def print_traps(program, pairs):
+    logs = [read_log(path) for _, path in pairs]
+    order = in_group_order(logs)
+    for (module, path), log in zip(pairs, logs):
+        trap = trap_of(program, module, path)
+        if trap is None:
+            continue
+        position = max(place for place, (_, other) in enumerate(order, 1) if other is log)
+        print("# %s %s in what follows event %d: %s" % (log.name, trap, position, log.entries[-1].text(log.name)))
+        print("goto %d\nevents 3\nthreads %s\nstep" % (position - 1, log.name))
+
+
+def arguments():
+    parser = argparse.ArgumentParser(description=__doc__, formatter_class=argparse.RawDescriptionHelpFormatter)
+    works = parser.add_subparsers(dest="work", required=True)
+    listing = works.add_parser("list")
+    listing.add_argument("--call", action="append", default=[], help="only the events of this call")
+    listing.add_argument("logs", nargs="+", metavar="LOG")
+    traps = works.add_parser("traps")
+    traps.add_argument("--program", default=BUILT, help="the program friday")
+    traps.add_argument("pairs", nargs="+", metavar="MODULE LOG")
+    chosen = parser.parse_args()
+    if chosen.work == "traps" and len(chosen.pairs) % 2:
+        parser.error("each module needs its log")
+    return chosen
+
+
+def main():
+    chosen = arguments()
+    try:
+        if chosen.work == "list":
+            list_events([read_log(path) for path in chosen.logs], chosen.call)
+        else:
+            print_traps(chosen.program, list(zip(chosen.pairs[::2], chosen.pairs[1::2])))
+    except BadLog as error:
+        sys.exit("%s is no log" % error)
+    except OSError as error:
+        sys.exit("%s: %s" % (error.filename, error.strerror))
+
+
+if __name__ == "__main__":
+    main()
