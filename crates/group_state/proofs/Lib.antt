@@ -10,3 +10,4 @@ pub mod Standing
 pub mod Swaps
 pub mod Tallied
 pub mod Walking
+pub mod Seeing

@@ -6,3 +6,4 @@ pub mod Tallying
 pub mod Report
 pub mod Image
 pub mod Laws
+pub mod Seen

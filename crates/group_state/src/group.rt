@@ -175,10 +175,18 @@ impl<'m, 'a> Group<'m, 'a> {
     pub fn process(&self, node: u32) -> Option<&Process<'m>>
         ensures { option_map (λ process. process.now) result ≡ slice_get (states self.now.start self.now.at) node }
     {
+        Some(self.replay(node)?.process())
+    }
+
+    // The replay of a node, at the position.
+    pub(crate) fn replay(&self, node: u32) -> Option<&Replayer<'m, 'a>>
+        ensures { option_map (λ part. part.now.state) result ≡ slice_get (states self.now.start self.now.at) node }
+    {
         merges::<Entry>();
         replays();
         rises();
         kept();
-        Some(self.parts.get(node as usize)?.process())
+        let part = self.parts.get(node as usize)?;
+        Some(part)
     }
 }

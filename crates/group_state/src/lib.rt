@@ -10,6 +10,7 @@ mod laws;
 mod part;
 mod report;
 mod tally;
+mod view;
 
 pub use event::GroupEvent;
 pub use group::Group;

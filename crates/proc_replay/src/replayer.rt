@@ -1,5 +1,5 @@
 // A process that is replayed from its log.
-ghost use Rattle.std.specs.Prelude.{◌≡◌, IfOk, length};
+ghost use Rattle.std.specs.Prelude.{◌≡◌, ◌*◌, ◌<◌, ◌^◌, IfOk, length};
 ghost use Rattle.call_log.specs.Head.{head_of};
 ghost use Rattle.proc_replay.specs.Replaying.{after, turn};
 ghost use Rattle.proc_replay.specs.Seen.{move_of};
@@ -85,6 +85,14 @@ impl<'m, 'a> Replayer<'m, 'a> {
         ensures { result.now ≡ self.now.state }
     {
         &self.process
+    }
+
+    /// The number of events so far.
+    pub fn event_count(&self) -> u64
+        ensures count { result ≡ self.now.state.events }
+        ensures small { result * 24 < 2 ^ 64 }
+    {
+        self.process.events()
     }
 
     /// The number of the log's bytes behind the entries of the events so far.

@@ -2,7 +2,7 @@
 #![tactic(auto)]
 
 mod error;
-pub mod expr;
+mod expr;
 mod faults;
 mod laws;
 mod lexer;
@@ -10,9 +10,9 @@ mod number;
 mod parser;
 mod stack;
 mod token;
-mod word;
 mod value;
 mod view;
+mod word;
 
 pub use error::ExprError;
 pub use expr::{Agg, Binary, Expr, NodeName, Unary, Width};

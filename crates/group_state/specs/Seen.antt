@@ -1,0 +1,20 @@
+-- What an expression sees of a group.
+use Rattle.std.specs.Prelude.{List, map, ℤ, pos}
+use Rattle.std.specs.Int.{cast_signed, w32, w64}
+use Rattle.wasm_types.specs.declared.code.Value.{Value}
+use Rattle.wasm_types.specs.declared.code.Value.TheVariants.{I32, I64}
+use Rattle.guest_process.specs.State.{State}
+use Rattle.watch_expr.specs.View.{Node}
+use Rattle.group_state.specs.Place.{Place, states}
+
+-- the value of a global, signed
+abbrev pub signed : Value → ℤ
+signed (I32 x) = cast_signed w32 x
+signed (I64 x) = cast_signed w64 x
+
+abbrev pub node_of : State → Node
+node_of S = record { memory = S.store.memory; globals = map signed S.store.globals; clock = pos S.clock; events = pos S.events }
+
+-- the nodes at the position
+abbrev pub nodes_at : Place → List Node
+nodes_at place = map node_of (states place.start place.at)
