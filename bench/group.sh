@@ -1,7 +1,8 @@
 #!/bin/sh
 # Records 16 processes that pass datagrams round in a ring, at a hundredth, a tenth and all of the most events
-# that a schedule can try; and a mailbox in which datagrams wait, few and many. Prints the instructions, the time
-# and the writes for each event, and the peak memory. The guest is built with wat2wasm of the package wabt.
+# that a schedule can try, and replays their logs, all together and one of them by itself; and records a mailbox in
+# which datagrams wait, few and many. Prints the instructions, the time and the writes for each event, and the peak
+# memory. The guest is built with wat2wasm of the package wabt.
 # Usage: bench/group.sh [PROGRAM]   (the program that ./friday builds, if none is given)
 here=$(CDPATH='' cd -- "$(dirname -- "$0")/.." && pwd) || exit 1
 program=${1:-$here/crates/friday/out/friday}
@@ -56,10 +57,10 @@ def write_taker(file, waiting):
         file.write("inject 0 00\nrun 0 0\n")
 
 
-def instructions(folder):
+def instructions(folder, command):
     if shutil.which("valgrind") is None:
         return None
-    words = ["valgrind", "--tool=callgrind", "--callgrind-out-file=/dev/null", program, "record", "s"]
+    words = ["valgrind", "--tool=callgrind", "--callgrind-out-file=/dev/null", program] + command
     told = subprocess.run(words, cwd=folder, stdout=subprocess.DEVNULL, stderr=subprocess.PIPE, text=True).stderr
     return int(re.search(r"Collected : (\d+)", told).group(1))
 
@@ -77,19 +78,42 @@ def run(folder, write, size, counted):
     with open(os.path.join(folder, "s"), "w") as file:
         file.write("friday 1\n")
         write(file, size)
-    for name in os.listdir(folder):
-        if name.endswith(".log"):
-            os.remove(os.path.join(folder, name))
+    for name in logs_in(folder):
+        os.remove(os.path.join(folder, name))
+    told, spent, peak = play(folder, ["record", "s"])
+    acted = int(re.search(r"items: (\d+) acted", told).group(1))
+    logs = sum(os.path.getsize(os.path.join(folder, name)) for name in logs_in(folder))
+    counts = (instructions(folder, ["record", "s"]), writes(folder)) if counted else (None, None)
+    return (events_in(told), acted, spent, peak, logs) + counts
+
+
+def logs_in(folder):
+    return sorted(name for name in os.listdir(folder) if name.endswith(".log"))
+
+
+def events_in(told):
+    return sum(int(n) for n in re.findall(r": (\d+) events", told))
+
+
+# What a command prints, its seconds, and its peak memory.
+def play(folder, command):
     start = time.perf_counter()
-    child = subprocess.Popen([program, "record", "s"], cwd=folder, stdout=subprocess.PIPE, text=True)
+    child = subprocess.Popen([program] + command, cwd=folder, stdout=subprocess.PIPE, text=True)
     told = child.stdout.read()
     _, status, usage = os.wait4(child.pid, 0)
     spent = time.perf_counter() - start
     assert os.waitstatus_to_exitcode(status) == 0, (status, told)
-    events = sum(int(n) for n in re.findall(r": (\d+) events", told))
-    acted = int(re.search(r"items: (\d+) acted", told).group(1))
-    logs = sum(os.path.getsize(os.path.join(folder, f)) for f in os.listdir(folder) if f.endswith(".log"))
-    return events, acted, spent, usage.ru_maxrss * 1024, logs, instructions(folder) if counted else None, writes(folder) if counted else None
+    return told, spent, usage.ru_maxrss * 1024
+
+
+# Replays the logs that a recording left.
+def replay(folder, name, logs, counted):
+    command = ["replay"] + [word for log in logs for word in ("ring.wasm", log)]
+    told, spent, peak = play(folder, command)
+    events = events_in(told)
+    count = instructions(folder, command) if counted else None
+    each = "" if count is None else ", %.0f instructions" % (count / events)
+    print("replay of %s: %d events, for each %.0f ns%s; peak %.1f MB" % (name, events, spent / events * 1e9, each, peak / 1e6))
 
 
 def tell(name, size, told):
@@ -106,6 +130,9 @@ with tempfile.TemporaryDirectory() as folder:
         subprocess.run(["wat2wasm", name + ".wat", "-o", name + ".wasm"], cwd=folder, check=True)
     for events in (10_000, 100_000, 1_000_000):
         tell("ring", events, run(folder, write_ring, events, events <= 100_000))
+        logs = logs_in(folder)
+        replay(folder, "all logs", logs, events <= 100_000)
+        replay(folder, "one log", logs[:1], events <= 100_000)
     for waiting in (100, 10_000, 100_000):
         tell("waiting", waiting, run(folder, write_taker, waiting, True))
 PYTHON
