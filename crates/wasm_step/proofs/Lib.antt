@@ -6,6 +6,7 @@ pub mod Fits
 pub mod Opcodes
 pub mod Plain
 pub mod Programs
+pub mod Quicks
 pub mod Runs
 pub mod Starts
 pub mod Stored

@@ -8,6 +8,7 @@ mod first;
 mod halt;
 mod laws;
 mod memory;
+mod quick;
 mod rows;
 mod run;
 mod stack;

@@ -1,9 +1,11 @@
 // A thread as an owned value: one stack each of operands, labels, locals and frames.
-ghost use Rattle.std.specs.Prelude.{◌∷◌, OnErr, ◌≡◌, ◌+◌, ◌≤◌, [], ◌++◌, length, IfOk, OnOk, Some, None, if◌then◌else◌, IfSome, IfNone, IsTrue, nat_lt, nat_le, ◌&&◌, false, is_some, slice_get, slice_set, take};
+ghost use Rattle.std.specs.Prelude.{◌∷◌, OnErr, ◌≡◌, ◌+◌, ◌-◌, ◌≤◌, [], ◌++◌, drop, length, IfOk, OnOk, Some, None, if◌then◌else◌, IfSome, IfNone, IsTrue, nat_lt, nat_le, ◌&&◌, false, is_some, slice_get, slice_set, take};
 ghost use Rattle.wasm_types.specs.Code.{End, Then, tree, trees};
 ghost use Rattle.wasm_step.specs.Thread.{is_end, with_operand, opened, closed, left, called_with, arguments, without, has_frame_room, has_room, at_start};
 ghost use Rattle.wasm_values.specs.Values.{zeros};
+ghost use Rattle.std.specs.Vec.{vec_capacity};
 ghost use Rattle.wasm_step.specs.Call.{sited};
+ghost use Rattle.wasm_step.specs.Quick.{Within};
 
 use crate::call::{CallSite, site};
 use std::alloc::{AllocError, Global};
@@ -43,6 +45,8 @@ pub struct Stack<'m> {
     labels: Vec<Label<'m>>,
     locals: Vec<Value>,
     callers: Vec<Held<'m>>,
+    /// With fewer operands than this, one more wants no memory and leaves the size within its limit.
+    room: usize,
 }
 
 impl<'m> Model for Stack<'m> {
@@ -94,6 +98,7 @@ impl<'m> Stack<'m> {
             labels: Vec::new(alloc),
             locals,
             callers: Vec::new(alloc),
+            room: 0,
         })
     }
 
@@ -107,6 +112,7 @@ impl<'m> Stack<'m> {
             labels: self.labels.clone()?,
             locals: self.locals.clone()?,
             callers: self.callers.clone()?,
+            room: 0,
         })
     }
 
@@ -137,6 +143,7 @@ impl<'m> Stack<'m> {
     }
 
     /// The innermost level goes on there.
+    #[inline(always)]
     pub fn go_to(&mut self, todo: &'m [Instr])
         ensures { self.new ≡ record self.old { todo = trees todo.now } }
     {
@@ -144,6 +151,7 @@ impl<'m> Stack<'m> {
     }
 
     /// The instructions that are left in the innermost level.
+    #[inline(always)]
     pub fn todo(&self) -> &'m [Instr]
         ensures { trees result.now ≡ self.now.todo }
     {
@@ -151,6 +159,7 @@ impl<'m> Stack<'m> {
     }
 
     /// Where a branch to the innermost level goes on.
+    #[inline(always)]
     pub fn target(&self) -> &'m [Instr]
         ensures { trees result.now ≡ self.now.target }
     {
@@ -164,6 +173,7 @@ impl<'m> Stack<'m> {
     }
 
     /// Whether a branch begins the innermost level anew.
+    #[inline(always)]
     pub fn loops(&self) -> bool
         ensures { result ≡ self.now.loops }
     {
@@ -185,6 +195,101 @@ impl<'m> Stack<'m> {
         Ok(())
     }
 
+    /// The same where there is room for it.
+    #[inline(always)]
+    pub fn push_within(&mut self, v: Value) -> bool
+        requires { Within self.old }
+        ensures pushed { IsTrue result → self.new ≡ with_operand self.old v }
+        ensures within { Within self.new }
+        ensures same { result ≡ false → self.new ≡ self.old }
+    {
+        if self.operands.len() >= self.room {
+            return false;
+        }
+        self.operands.push_reserved(v);
+        true
+    }
+
+    /// Takes the room that the operands' memory and the limit leave.
+    pub fn find_room(&mut self)
+        ensures { self.new ≡ self.old }
+    {
+        self.room = room_of(
+            self.labels.len(),
+            self.locals.len(),
+            self.operands.capacity(),
+        );
+    }
+
+    /// The topmost operand of the level, which stays.
+    #[inline(always)]
+    pub fn top(&self) -> Option<Value>
+        ensures { IfSome result (λ v. self.now.stack ≡ v ∷ drop 1 self.now.stack) }
+    {
+        let height = self.operands.len();
+        if height <= self.here.label.floor {
+            return None;
+        }
+        Some(self.operands[height - 1])
+    }
+
+    /// The two topmost operands of the level, which stay.
+    #[inline(always)]
+    pub fn two(&self) -> Option<(Value, Value)>
+        ensures { IfSome result (λ p. self.now.stack ≡ p.1 ∷ (p.0 ∷ drop 2 self.now.stack)) }
+    {
+        let height = self.operands.len();
+        if height < 2 || height - 2 < self.here.label.floor {
+            return None;
+        }
+        Some((self.operands[height - 2], self.operands[height - 1]))
+    }
+
+    /// The value in place of the topmost operand, if there is one.
+    #[inline(always)]
+    pub fn put_one(&mut self, v: Value) -> bool
+        ensures put { IsTrue result → self.new ≡ record self.old { stack = v ∷ drop 1 self.old.stack } }
+        ensures same { result ≡ false → self.new ≡ self.old }
+    {
+        if self.operands.len() <= self.here.label.floor {
+            return false;
+        }
+        let Some(_x) = self.operands.pop() else {
+            return false;
+        };
+        self.operands.push_reserved(v);
+        true
+    }
+
+    /// The value in place of the two topmost operands, if there are as many.
+    #[inline(always)]
+    pub fn put_two(&mut self, v: Value) -> bool
+        ensures put { IsTrue result → self.new ≡ record self.old { stack = v ∷ drop 2 self.old.stack } }
+        ensures same { result ≡ false → self.new ≡ self.old }
+    {
+        let height = self.operands.len();
+        if height < 2 || height - 2 < self.here.label.floor {
+            return false;
+        }
+        let Some(y) = self.operands.pop() else {
+            return false;
+        };
+        let Some(_x) = self.operands.pop() else {
+            self.operands.push_reserved(y);
+            return false;
+        };
+        self.operands.push_reserved(v);
+        true
+    }
+
+    /// Whether the innermost frame has a local of this number.
+    #[inline(always)]
+    pub fn has_local(&self, x: usize) -> bool
+        ensures { result ≡ nat_lt x (length self.now.locals) }
+    {
+        x < self.locals.len() - self.here.locals_from
+    }
+
     /// The topmost operand of the level, if there is one.
     #[inline(always)]
     pub fn pop(&mut self) -> Option<Value>
@@ -201,6 +306,7 @@ impl<'m> Stack<'m> {
     }
 
     /// No operand of the level.
+    #[inline(always)]
     pub fn clear(&mut self)
         ensures { self.new ≡ record self.old { stack = [] } }
     {
@@ -240,6 +346,7 @@ impl<'m> Stack<'m> {
     ) -> Result<(), AllocError>
         ensures { OnOk result (self.new ≡ opened self.old gives (trees body.now) (trees target.now) carries loops) }
     {
+        self.room = 0;
         push_to(&mut self.labels, self.here.label)?;
         self.here.label = Label {
             gives,
@@ -325,6 +432,7 @@ impl<'m> Stack<'m> {
         }
         let first = height - n;
         let locals_from = self.locals.len();
+        self.room = 0;
         self.locals.extend_from_slice(&self.operands[first..])?;
         append_zeros(&mut self.locals, callee.declared())?;
         self.callers.push(self.here)?;
@@ -409,11 +517,24 @@ pub(crate) const FRAME_LIMIT: usize = 512;
 /// At most so many operands, locals and open labels of a thread.
 pub(crate) const SIZE_LIMIT: usize = 16384;
 
+// How many operands there is room for, by the limit and by their memory.
+fn room_of(labels: usize, locals: usize, capacity: usize) -> usize
+    ensures place { result ≤ capacity }
+    ensures limit { result ≤ 16384 - (labels + locals) }
+{
+    if labels > SIZE_LIMIT || locals > SIZE_LIMIT - labels {
+        return 0;
+    }
+    let left = SIZE_LIMIT - labels - locals;
+    if left < capacity { left } else { capacity }
+}
+
 // One more item. Room is tested here, so that an item for which there is room is put in place without a call.
 #[inline(always)]
 fn push_to<T: Drop>(items: &mut Vec<T>, item: T) -> Result<(), AllocError>
     ensures ok { OnOk result (items.new.items ≡ items.old.items ++ item ∷ []) }
     ensures err { OnErr result (items.new.items ≡ items.old.items) }
+    ensures capacity { vec_capacity items.old ≤ vec_capacity items.new }
 {
     if items.len() < items.capacity() {
         items.push_reserved(item);
@@ -427,6 +548,7 @@ fn push_to<T: Drop>(items: &mut Vec<T>, item: T) -> Result<(), AllocError>
 fn push_to_full<T: Drop>(items: &mut Vec<T>, item: T) -> Result<(), AllocError>
     ensures ok { OnOk result (items.new.items ≡ items.old.items ++ item ∷ []) }
     ensures err { OnErr result (items.new.items ≡ items.old.items) }
+    ensures capacity { vec_capacity items.old ≤ vec_capacity items.new }
 {
     items.push(item)?;
     Ok(())

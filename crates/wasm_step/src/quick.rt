@@ -1,0 +1,184 @@
+// Instructions in place, on a thread within its limits that is held by value, so that its parts stay in
+// registers. Where one wants memory, may pass a limit, traps or ends the thread, nothing is done.
+ghost use Rattle.std.specs.Prelude.{◌≡◌, ℕ, suc, IsTrue, false};
+ghost use Rattle.wasm_types.specs.Code.{tree};
+ghost use Rattle.wasm_step.specs.Burst.{burst};
+ghost use Rattle.wasm_step.specs.Quick.{Within};
+ghost use Rattle.wasm_step.specs.Reduce.{Goes, branch_if, drop_top, got, keep, local_get, local_set, local_tee, numeric, row};
+
+use crate::stack::Stack;
+use wasm_store::Store;
+use wasm_types::{Instr, Value};
+use wasm_values::{changed, combined};
+
+impl<'m> Stack<'m> {
+    #[inline(always)]
+    fn quick_got(&mut self, value: Option<Value>) -> bool
+        requires { Within self.old }
+        ensures goes { IsTrue result → Goes self.new ≡ got value self.old }
+        ensures within { Within self.new }
+        ensures same { result ≡ false → self.new ≡ self.old }
+    {
+        match value {
+            Some(v) => self.push_within(v),
+            None => false,
+        }
+    }
+
+    #[inline(always)]
+    fn quick_local_get(&mut self, x: usize) -> bool
+        requires { Within self.old }
+        ensures goes { IsTrue result → Goes self.new ≡ local_get x self.old }
+        ensures within { Within self.new }
+        ensures same { result ≡ false → self.new ≡ self.old }
+    {
+        let value = self.local(x);
+        self.quick_got(value)
+    }
+
+    #[inline(always)]
+    fn quick_local_set(&mut self, x: usize) -> bool
+        requires { Within self.old }
+        ensures goes { IsTrue result → Goes self.new ≡ local_set x self.old }
+        ensures within { Within self.new }
+        ensures same { result ≡ false → self.new ≡ self.old }
+    {
+        if !self.has_local(x) {
+            return false;
+        }
+        let Some(v) = self.pop() else {
+            return false;
+        };
+        let is_set = self.set_local(x, v);
+        prove!(is_set);
+        true
+    }
+
+    #[inline(always)]
+    fn quick_local_tee(&mut self, x: usize) -> bool
+        requires { Within self.old }
+        ensures goes { IsTrue result → Goes self.new ≡ local_tee x self.old }
+        ensures within { Within self.new }
+        ensures same { result ≡ false → self.new ≡ self.old }
+    {
+        if !self.has_local(x) {
+            return false;
+        }
+        let Some(v) = self.top() else {
+            return false;
+        };
+        let is_set = self.set_local(x, v);
+        prove!(is_set);
+        true
+    }
+
+    #[inline(always)]
+    fn quick_drop(&mut self) -> bool
+        requires { Within self.old }
+        ensures goes { IsTrue result → Goes self.new ≡ drop_top self.old }
+        ensures within { Within self.new }
+        ensures same { result ≡ false → self.new ≡ self.old }
+    {
+        match self.pop() {
+            Some(_) => true,
+            None => false,
+        }
+    }
+
+    #[tactic(auto, using(crate::proofs::Quicks::changed_by, crate::proofs::Quicks::within_one))]
+    #[inline(always)]
+    fn quick_unary(&mut self, op: u8) -> bool
+        requires { Within self.old }
+        ensures goes { IsTrue result → Goes self.new ≡ numeric op self.old }
+        ensures within { Within self.new }
+        ensures same { result ≡ false → self.new ≡ self.old }
+    {
+        let Some(x) = self.top() else {
+            return false;
+        };
+        match changed(op, x) {
+            Some(v) => self.put_one(v),
+            None => false,
+        }
+    }
+
+    #[tactic(auto, using(crate::proofs::Quicks::combined_by, crate::proofs::Quicks::within_two))]
+    #[inline(always)]
+    fn quick_numeric(&mut self, op: u8) -> bool
+        requires { Within self.old }
+        ensures goes { IsTrue result → Goes self.new ≡ numeric op self.old }
+        ensures within { Within self.new }
+        ensures same { result ≡ false → self.new ≡ self.old }
+    {
+        let Some((x, y)) = self.two() else {
+            return self.quick_unary(op);
+        };
+        match combined(op, x, y) {
+            Some(v) => self.put_two(v),
+            None => self.quick_unary(op),
+        }
+    }
+
+    #[inline(always)]
+    fn quick_branch_if(&mut self, n: u32) -> bool
+        requires { Within self.old }
+        ensures goes { IsTrue result → Goes self.new ≡ branch_if n self.old }
+        ensures within { Within self.new }
+        ensures same { result ≡ false → self.new ≡ self.old }
+    {
+        if n != 0 || !self.loops() {
+            return false;
+        }
+        let Some(Value::I32(x)) = self.top() else {
+            return false;
+        };
+        let _ = self.pop();
+        if x != 0 {
+            let target = self.target();
+            self.clear();
+            self.go_to(target);
+        }
+        true
+    }
+
+    #[inline(always)]
+    fn quick_row(&mut self, store: &mut Store<'m>, instr: &'m Instr) -> bool
+        requires { Within self.old }
+        ensures goes { IsTrue result → row (tree instr.now) self.old store.old ≡ keep store.new (Goes self.new) }
+        ensures within { Within self.new }
+        ensures same { result ≡ false → self.new ≡ self.old }
+        ensures store { result ≡ false → store.new ≡ store.old }
+    {
+        match instr {
+            Instr::LocalGet(x) => self.quick_local_get(*x as usize),
+            Instr::LocalSet(x) => self.quick_local_set(*x as usize),
+            Instr::LocalTee(x) => self.quick_local_tee(*x as usize),
+            Instr::ConstI32(bits) => self.push_within(Value::I32(*bits)),
+            Instr::ConstI64(bits) => self.push_within(Value::I64(*bits)),
+            Instr::Op(op) => self.quick_numeric(*op),
+            Instr::DropTop => self.quick_drop(),
+            Instr::BrIf(n) => self.quick_branch_if(*n),
+            _ => false,
+        }
+    }
+
+    /// One instruction, unless it is none of these or lacks what it takes.
+    #[inline(always)]
+    pub fn quick_step(&mut self, store: &mut Store<'m>) -> bool
+        requires { Within self.old }
+        ensures goes { IsTrue result → (n : ℕ) → burst (suc n) self.old store.old ≡ burst n self.new store.new }
+        ensures within { Within self.new }
+        ensures same { result ≡ false → self.new ≡ self.old }
+        ensures store { result ≡ false → store.new ≡ store.old }
+    {
+        let before = self.todo();
+        let Some(instr) = self.fetch() else {
+            return false;
+        };
+        if self.quick_row(store, instr) {
+            return true;
+        }
+        self.go_to(before);
+        false
+    }
+}
