@@ -1,6 +1,7 @@
 -- Threads within their limits, and instructions in place.
-use Rattle.std.proofs.Common.{◌≡◌, ℕ, suc, Vec, Global, ◌+◌, ◌<◌, ◌≤◌, true, [], ◌∷◌, ◌++◌, length, drop, refl, sym, ap, ◌∙◌, arith, rules, tests, length-append}
+use Rattle.std.proofs.Common.{◌≡◌, ℕ, suc, Vec, Global, ◌+◌, ◌<◌, ◌≤◌, Bool, true, [], ◌∷◌, ◌++◌, length, drop, refl, sym, ap, ◌∙◌, subst, arith, rules, tests, length-append}
 use Rattle.std.specs.Prelude.{if◌then◌else◌, nat_lt, nat_le, ◌&&◌, false}
+use Rattle.std.proofs.lemmas.Bool.{and_parts, ltb-true, leb-true}
 use Rattle.wasm_types.specs.declared.code.Value.{Value}
 use Rattle.wasm_types.specs.declared.traps.Trap.TheVariants.{Exhausted}
 use Rattle.wasm_types.specs.Code.{Tree, Then}
@@ -9,7 +10,7 @@ use Rattle.wasm_store.specs.Store.{Store}
 use Rattle.wasm_step.specs.declared.stack.Stack.TheInside.{Inside}
 use Rattle.wasm_step.specs.Burst.{At, settle, burst}
 use Rattle.wasm_step.specs.Quick.{Within}
-use Rattle.wasm_step.specs.Reduce.{Both, Goes, limited, numeric, put, row, trapped, with_top}
+use Rattle.wasm_step.specs.Reduce.{Both, After, Goes, Stops, limited, numeric, put, row, trapped, with_top}
 use Rattle.wasm_step.specs.Thread.{Thread, is_within, size, with_operand}
 use Rattle.wasm_step.specs.View.{IsSound, thread_of}
 use Rattle.wasm_step.proofs.Runs.{settle_here, burst_on}
@@ -20,6 +21,20 @@ within_is t h =
     let size : size t + 0 ≤ 16384 = omega (arith, h.size) in
     let frames = h.frames in
     search (rules, tests)
+
+pub is_within_of : (t : Thread) → is_within t ≡ true → Within t
+is_within_of t e =
+    let p = and_parts (nat_lt (length t.callers) 512) (nat_le (size t + 0) 16384) e in
+    record { frames = ltb-true (length t.callers) 512 p.0; size = omega (arith, leb-true (size t + 0) 16384 p.1) }
+
+-- what goes on after the test of the limits is within them
+pub limited_within : (a : After) (u : Thread) → limited a ≡ Goes u → Within u
+limited_within (Stops s) u e = cc
+limited_within (Goes t) u e = by_test (is_within t) refl e
+  where
+    by_test : (b : Bool) → is_within t ≡ b → (if b then Goes t else trapped Exhausted) ≡ Goes u → Within u
+    by_test true q e' = let same : t ≡ u = cc in subst (λ (t : Thread). Within t) same (is_within_of t q)
+    by_test false q e' = cc
 
 pub within_pushed : (t : Thread) (v : Value) → Within t → size t < 16384 → Within (with_operand t v)
 within_pushed t v h lt = record { frames = h.frames; size = omega (arith, lt) }

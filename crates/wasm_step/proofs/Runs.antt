@@ -103,3 +103,11 @@ zero_depth t t' d e = omega (arith, ended_depth t t' e)
 
 pub less_depth : (t t' : Thread) (n : ℕ) → depth t ≡ suc n → ended t ≡ Goes t' → depth t' ≡ n
 less_depth t t' n d e = omega (arith, ended_depth t t' e)
+
+-- what does not go on makes no further instruction
+pub stopped_step : (n : Next) (t : Thread) (g : Store) (k : ℕ) → (n ≡ Going → ⊥) → after_step (after_of n t) g (burst k) ≡ record { stop = stop_of (after_of n t); store = g }
+stopped_step Going t g k h = absurd (h refl)
+stopped_step (Calling f n) t g k h = refl
+stopped_step Ended t g k h = refl
+stopped_step (Trapped trap) t g k h = refl
+stopped_step Stuck t g k h = refl

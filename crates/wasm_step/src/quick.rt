@@ -1,12 +1,13 @@
 // Instructions in place, on a thread within its limits that is held by value, so that its parts stay in
 // registers. Where one wants memory, may pass a limit, traps or ends the thread, nothing is done.
-ghost use Rattle.std.specs.Prelude.{◌≡◌, ℕ, suc, IsTrue, false};
+ghost use Rattle.std.specs.Prelude.{◌≡◌, ℕ, suc, IfOk, IsTrue, OnOk, false};
 ghost use Rattle.wasm_types.specs.Code.{tree};
 ghost use Rattle.wasm_step.specs.Burst.{burst};
 ghost use Rattle.wasm_step.specs.Quick.{Within};
 ghost use Rattle.wasm_step.specs.Reduce.{Goes, branch_if, drop_top, got, keep, local_get, local_set, local_tee, numeric, row};
 
 use crate::stack::Stack;
+use std::alloc::AllocError;
 use wasm_store::Store;
 use wasm_types::{Instr, Value};
 use wasm_values::{changed, combined};
@@ -142,43 +143,52 @@ impl<'m> Stack<'m> {
     }
 
     #[inline(always)]
-    fn quick_row(&mut self, store: &mut Store<'m>, instr: &'m Instr) -> bool
+    fn quick_row(
+        &mut self,
+        store: &mut Store<'m>,
+        instr: &'m Instr,
+    ) -> Result<bool, AllocError>
         requires { Within self.old }
-        ensures goes { IsTrue result → row (tree instr.now) self.old store.old ≡ keep store.new (Goes self.new) }
-        ensures within { Within self.new }
-        ensures same { result ≡ false → self.new ≡ self.old }
-        ensures store { result ≡ false → store.new ≡ store.old }
+        ensures goes { IfOk result (λ went. IsTrue went → row (tree instr.now) self.old store.old ≡ keep store.new (Goes self.new)) }
+        ensures within { OnOk result (Within self.new) }
+        ensures same { IfOk result (λ went. went ≡ false → self.new ≡ self.old) }
+        ensures store { IfOk result (λ went. went ≡ false → store.new ≡ store.old) }
     {
         match instr {
-            Instr::LocalGet(x) => self.quick_local_get(*x as usize),
-            Instr::LocalSet(x) => self.quick_local_set(*x as usize),
-            Instr::LocalTee(x) => self.quick_local_tee(*x as usize),
-            Instr::ConstI32(bits) => self.push_within(Value::I32(*bits)),
-            Instr::ConstI64(bits) => self.push_within(Value::I64(*bits)),
-            Instr::Op(op) => self.quick_numeric(*op),
-            Instr::DropTop => self.quick_drop(),
-            Instr::BrIf(n) => self.quick_branch_if(*n),
-            _ => false,
+            Instr::LocalGet(x) => Ok(self.quick_local_get(*x as usize)),
+            Instr::LocalSet(x) => Ok(self.quick_local_set(*x as usize)),
+            Instr::LocalTee(x) => Ok(self.quick_local_tee(*x as usize)),
+            Instr::ConstI32(bits) => Ok(self.push_within(Value::I32(*bits))),
+            Instr::ConstI64(bits) => Ok(self.push_within(Value::I64(*bits))),
+            Instr::Op(op) => Ok(self.quick_numeric(*op)),
+            Instr::DropTop => Ok(self.quick_drop()),
+            Instr::BrIf(n) => Ok(self.quick_branch_if(*n)),
+            Instr::GlobalGet(x) => Ok(self.quick_got(store.global(*x))),
+            Instr::GlobalSet(x) => Ok(self.quick_global_set(store, *x)),
+            Instr::Load { opcode, offset, .. } => Ok(self.quick_load(store, *opcode, *offset)),
+            Instr::Store { opcode, offset, .. } => self.quick_write(store, *opcode, *offset),
+            _ => Ok(false),
         }
     }
 
     /// One instruction, unless it is none of these or lacks what it takes.
     #[inline(always)]
-    pub fn quick_step(&mut self, store: &mut Store<'m>) -> bool
+    pub fn quick_step(&mut self, store: &mut Store<'m>) -> Result<bool, AllocError>
         requires { Within self.old }
-        ensures goes { IsTrue result → (n : ℕ) → burst (suc n) self.old store.old ≡ burst n self.new store.new }
-        ensures within { Within self.new }
-        ensures same { result ≡ false → self.new ≡ self.old }
-        ensures store { result ≡ false → store.new ≡ store.old }
+        ensures goes { IfOk result (λ went. IsTrue went → (n : ℕ) → burst (suc n) self.old store.old ≡ burst n self.new store.new) }
+        ensures within { OnOk result (Within self.new) }
+        ensures same { IfOk result (λ went. went ≡ false → self.new ≡ self.old) }
+        ensures store { IfOk result (λ went. went ≡ false → store.new ≡ store.old) }
+        ensures program { OnOk result (store.new.program ≡ store.old.program) }
     {
         let before = self.todo();
         let Some(instr) = self.fetch() else {
-            return false;
+            return Ok(false);
         };
-        if self.quick_row(store, instr) {
-            return true;
+        if self.quick_row(store, instr)? {
+            return Ok(true);
         }
         self.go_to(before);
-        false
+        Ok(false)
     }
 }

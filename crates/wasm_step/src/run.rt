@@ -1,8 +1,9 @@
 // A burst of a thread.
-ghost use Rattle.std.specs.Prelude.{◌≡◌, IfOk, OnOk};
+ghost use Rattle.std.specs.Prelude.{◌≡◌, ◌+◌, ◌<◌, ◌≤◌, ℕ, IfOk, OnOk};
 ghost use Rattle.wasm_types.specs.Modules.{module_of};
 ghost use Rattle.wasm_step.specs.Answer.{after_of, stop_of, stopped_of};
-ghost use Rattle.wasm_step.specs.Burst.{burst, further, settle, spent};
+ghost use Rattle.wasm_step.specs.Burst.{after_step, burst, settle, spent};
+ghost use Rattle.wasm_step.specs.Quick.{Within};
 ghost use Rattle.wasm_step.specs.Paused.{run_of, settled_of};
 
 use crate::halt::{Next, Stopped};
@@ -13,6 +14,27 @@ use wasm_types::{Trap, ValidModule};
 
 /// A burst has at most so many instructions.
 pub(crate) const BUDGET: u32 = 10_000_000;
+
+/// A thread after some instructions of a burst, and how many are then left.
+#[derive(Drop)]
+struct Ran<'m> {
+    stack: Stack<'m>,
+    left: u32,
+}
+
+/// A thread that does not go on.
+#[derive(Drop)]
+struct Halt<'m> {
+    stack: Stack<'m>,
+    next: Next,
+}
+
+/// A thread after a burst, and how that stopped.
+#[derive(Drop)]
+pub struct Paused<'m> {
+    pub stack: Stack<'m>,
+    pub stopped: Stopped,
+}
 
 impl<'m> Stack<'m> {
     /// Past the ends of levels and frames, to the next instruction.
@@ -54,12 +76,20 @@ impl<'m> Stack<'m> {
         }
     }
 
-    /// A burst, at whose stop a call of the library has its arguments among the operands.
-    fn burst(&mut self, program: &'m ValidModule, store: &mut Store<'m>) -> Result<Next, AllocError>
-        requires { module_of program.now ≡ store.old.program }
-        ensures { IfOk result (λ n. record { stop = stop_of (after_of n self.new); store = store.new } ≡ burst BUDGET self.old store.old) }
+    /// So many instructions by their full cases, unless it stops before.
+    fn full_run(
+        &mut self,
+        count: u32,
+        program: &'m ValidModule,
+        store: &mut Store<'m>,
+    ) -> Result<Next, AllocError>
+        requires some { 0 < count }
+        requires program { module_of program.now ≡ store.old.program }
+        ensures ran { IfOk result (λ n. (k : ℕ) → after_step (after_of n self.new) store.new (burst k) ≡ burst (count + k) self.old store.old) }
+        ensures within { IfOk result (λ n. n ≡ Next.Going → Within self.new) }
+        ensures program { OnOk result (store.new.program ≡ store.old.program) }
     {
-        for _i in 0..BUDGET {
+        for _i in 0..count {
             match self.ready()? {
                 Next::Going => {}
                 halted => return Ok(halted),
@@ -72,8 +102,56 @@ impl<'m> Stack<'m> {
                 halted => return Ok(halted),
             }
         }
-        let halted = self.spend()?;
-        Ok(halted)
+        self.find_room();
+        Ok(Next::Going)
+    }
+
+    /// Instructions in place, as many as go on so. The thread is held by value.
+    #[inline(never)]
+    fn quick_run(self, most: u32, store: &mut Store<'m>) -> Result<Ran<'m>, AllocError>
+        requires { Within self }
+        ensures ran { IfOk result (λ r. burst r.left r.stack store.new ≡ burst most self.entry store.old) }
+        ensures fewer { IfOk result (λ r. r.left ≤ most) }
+        ensures program { OnOk result (store.new.program ≡ store.old.program) }
+    {
+        let mut stack = self;
+        let mut left = most;
+        'steps: while left > 0 {
+            let went = stack.quick_step(store)?;
+            if !went {
+                return Ok(Ran { stack, left });
+            }
+            left -= 1;
+        }
+        Ok(Ran { stack, left })
+    }
+
+    /// A burst, at whose stop a call of the library has its arguments among the operands.
+    fn burst(
+        self,
+        program: &'m ValidModule,
+        store: &mut Store<'m>,
+    ) -> Result<Halt<'m>, AllocError>
+        requires { module_of program.now ≡ store.old.program }
+        ensures { IfOk result (λ h. record { stop = stop_of (after_of h.next h.stack); store = store.new } ≡ burst BUDGET self.entry store.old) }
+    {
+        let mut stack = self;
+        let mut left = BUDGET;
+        let mut full = 1;
+        'rounds: while left > 0 {
+            let count = least(full, left);
+            match stack.full_run(count, program, store)? {
+                Next::Going => {}
+                next => return Ok(Halt { stack, next }),
+            }
+            let rest = left - count;
+            let ran = stack.quick_run(rest, store)?;
+            stack = ran.stack;
+            left = ran.left;
+            full = patience(full, rest - left);
+        }
+        let next = stack.spend()?;
+        Ok(Halt { stack, next })
     }
 
     // A call of the library takes its arguments.
@@ -93,14 +171,42 @@ impl<'m> Stack<'m> {
 
     /// A burst: instructions until a call of the library, the thread's end or a trap.
     pub fn run(
-        &mut self,
+        self,
         program: &'m ValidModule,
         store: &mut Store<'m>,
-    ) -> Result<Stopped, AllocError>
+    ) -> Result<Paused<'m>, AllocError>
         requires { module_of program.now ≡ store.old.program }
-        ensures { IfOk result (λ stopped. run_of stopped self.new store.new ≡ burst BUDGET self.old store.old) }
+        ensures { IfOk result (λ p. run_of p.stopped p.stack store.new ≡ burst BUDGET self.entry store.old) }
     {
-        let halted = self.burst(program, store)?;
-        Ok(self.stopped(halted))
+        let Halt { mut stack, next } = self.burst(program, store)?;
+        let stopped = stack.stopped(next);
+        Ok(Paused { stack, stopped })
     }
 }
+
+fn least(a: u32, b: u32) -> u32
+    requires a { 0 < a }
+    requires b { 0 < b }
+    ensures some { 0 < result }
+    ensures within { result ≤ b }
+{
+    if a < b { a } else { b }
+}
+
+// How many instructions are run by their full cases before the short ones are tried again: few where
+// many went on in place, and else twice as many as before.
+fn patience(full: u32, went: u32) -> u32
+    requires { 0 < full }
+    ensures { 0 < result }
+{
+    if went >= FEW {
+        return 1;
+    }
+    if full >= MOST_FULL { full } else { full * 2 }
+}
+
+/// So many instructions in place are worth the change to a thread by value and back.
+const FEW: u32 = 32;
+
+/// So many instructions are run by their full cases at most.
+const MOST_FULL: u32 = 4096;

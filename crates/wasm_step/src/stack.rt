@@ -251,7 +251,8 @@ impl<'m> Stack<'m> {
         ensures put { IsTrue result → self.new ≡ record self.old { stack = v ∷ drop 1 self.old.stack } }
         ensures same { result ≡ false → self.new ≡ self.old }
     {
-        if self.operands.len() <= self.here.label.floor {
+        let height = self.operands.len();
+        if height <= self.here.label.floor {
             return false;
         }
         let Some(_x) = self.operands.pop() else {
@@ -280,6 +281,16 @@ impl<'m> Stack<'m> {
         };
         self.operands.push_reserved(v);
         true
+    }
+
+    /// Without the n topmost operands.
+    #[inline(always)]
+    pub fn drop_last(&mut self, n: usize)
+        requires { n ≤ length self.old.stack }
+        ensures { self.new ≡ without n self.old }
+    {
+        let height = self.operands.len();
+        self.operands.truncate(height - n);
     }
 
     /// Whether the innermost frame has a local of this number.

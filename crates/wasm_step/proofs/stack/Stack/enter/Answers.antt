@@ -39,7 +39,7 @@ module _ (c : goal.After-self-3-1) where
 pub invariant_of-self-2 : goal.invariant_of-self-2
 invariant_of-self-2 c =
     let s = c.self.inside in
-    let without' = IsSound-operands (record s { room = 0 }) c.truncate.new.self (emptied s c.self.invariant) (omega (arith, c.truncate.ensures.capacity)) (keeps_without s c.args.n c.self.invariant (enough c) c.truncate.new.self.items (kept c)) in
+    let without' = IsSound-operands (record s { room = 0 }) c.truncate.new.self (emptied s c.self.invariant) (omega (arith, c.truncate.ensures.capacity)) (keeps_without (record s { room = 0 }) c.args.n (emptied s c.self.invariant) (enough c) c.truncate.new.self.items (kept c)) in
     entered_sound _ _ c.append_zeros.new.locals c.push.new.self _ without' refl (floor c) refl (c.len.ensures ∙ s.labels.ok.0) (c.len-locals_from.ensures ∙ s.locals.ok.0) (added c) c.in_ok-push.ensures.items
 
 pub returns : goal.returns
@@ -48,7 +48,7 @@ returns c =
     let n = c.args.n in
     let args = drop (length s.operands.items - n) s.operands.items in
     let callee = c.args.callee in
-    let without' = IsSound-operands (record s { room = 0 }) c.truncate.new.self (emptied s c.self.invariant) (omega (arith, c.truncate.ensures.capacity)) (keeps_without s n c.self.invariant (enough c) c.truncate.new.self.items (kept c)) in
+    let without' = IsSound-operands (record s { room = 0 }) c.truncate.new.self (emptied s c.self.invariant) (omega (arith, c.truncate.ensures.capacity)) (keeps_without (record s { room = 0 }) n (emptied s c.self.invariant) (enough c) c.truncate.new.self.items (kept c)) in
     let now : Held = record {
       label = record {
         gives = c.args.gives;
