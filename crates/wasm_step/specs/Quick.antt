@@ -1,5 +1,5 @@
 -- Threads within their limits.
-use Rattle.std.specs.Prelude.{ℕ, ◌<◌, ◌≤◌, length}
+use Rattle.std.specs.Prelude.{◌<◌, ◌≤◌, length}
 use Rattle.wasm_step.specs.Thread.{Thread, size}
 
 -- fewer than 512 frames wait, and there are at most 16,384 operands, locals and labels

@@ -143,11 +143,7 @@ impl<'m> Stack<'m> {
     }
 
     #[inline(always)]
-    fn quick_row(
-        &mut self,
-        store: &mut Store<'m>,
-        instr: &'m Instr,
-    ) -> Result<bool, AllocError>
+    fn quick_row(&mut self, store: &mut Store<'m>, instr: &'m Instr) -> Result<bool, AllocError>
         requires { Within self.old }
         ensures goes { IfOk result (λ went. IsTrue went → row (tree instr.now) self.old store.old ≡ keep store.new (Goes self.new)) }
         ensures within { OnOk result (Within self.new) }

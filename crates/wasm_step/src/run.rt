@@ -127,11 +127,7 @@ impl<'m> Stack<'m> {
     }
 
     /// A burst, at whose stop a call of the library has its arguments among the operands.
-    fn burst(
-        self,
-        program: &'m ValidModule,
-        store: &mut Store<'m>,
-    ) -> Result<Halt<'m>, AllocError>
+    fn burst(self, program: &'m ValidModule, store: &mut Store<'m>) -> Result<Halt<'m>, AllocError>
         requires { module_of program.now ≡ store.old.program }
         ensures { IfOk result (λ h. record { stop = stop_of (after_of h.next h.stack); store = store.new } ≡ burst BUDGET self.entry store.old) }
     {

@@ -1,7 +1,7 @@
 // A thread as an owned value: one stack each of operands, labels, locals and frames.
-ghost use Rattle.std.specs.Prelude.{◌∷◌, OnErr, ◌≡◌, ◌+◌, ◌-◌, ◌≤◌, [], ◌++◌, drop, length, IfOk, OnOk, Some, None, if◌then◌else◌, IfSome, IfNone, IsTrue, nat_lt, nat_le, ◌&&◌, false, is_some, slice_get, slice_set, take};
+ghost use Rattle.std.specs.Prelude.{◌∷◌, OnErr, ◌≡◌, ◌+◌, ◌-◌, ◌<◌, ◌≤◌, [], ◌++◌, drop, length, IfOk, OnOk, Some, None, if◌then◌else◌, IfSome, IfNone, IsTrue, nat_lt, nat_le, ◌&&◌, false, is_some, slice_get, slice_set, take};
 ghost use Rattle.wasm_types.specs.Code.{End, Then, tree, trees};
-ghost use Rattle.wasm_step.specs.Thread.{is_end, with_operand, opened, closed, left, called_with, arguments, without, has_frame_room, has_room, at_start};
+ghost use Rattle.wasm_step.specs.Thread.{is_end, with_operand, opened, closed, left, called_with, arguments, without, has_frame_room, has_room, is_within, size, at_start};
 ghost use Rattle.wasm_values.specs.Values.{zeros};
 ghost use Rattle.std.specs.Vec.{vec_capacity};
 ghost use Rattle.wasm_step.specs.Call.{sited};
@@ -357,7 +357,7 @@ impl<'m> Stack<'m> {
     ) -> Result<(), AllocError>
         ensures { OnOk result (self.new ≡ opened self.old gives (trees body.now) (trees target.now) carries loops) }
     {
-        self.room = 0;
+        self.room = one_less(self.room);
         push_to(&mut self.labels, self.here.label)?;
         self.here.label = Label {
             gives,
@@ -371,6 +371,7 @@ impl<'m> Stack<'m> {
     }
 
     /// The level around the innermost, with the operands of both, if there is one.
+    #[inline(always)]
     pub fn close(&mut self) -> bool
         ensures closed { closed self.old ≡ (if result then Some self.new else None) }
         ensures same { result ≡ false → self.new ≡ self.old }
@@ -480,6 +481,25 @@ impl<'m> Stack<'m> {
         )
     }
 
+    /// Whether the thread keeps to the limits. Where there is room, that tells it.
+    #[inline(always)]
+    pub fn is_within(&self) -> bool
+        ensures { result ≡ is_within self.now }
+    {
+        if self.operands.len() < self.room && self.callers.len() < FRAME_LIMIT {
+            return true;
+        }
+        self.has_room(0)
+    }
+
+    /// Whether there is room for one more operand or level.
+    #[inline(always)]
+    pub fn has_place(&self) -> bool
+        ensures { IsTrue result → size self.now < 16384 }
+    {
+        self.operands.len() < self.room && self.labels.len() < self.labels.capacity()
+    }
+
     /// Whether the thread keeps to the limits without the n topmost operands and with this many more.
     pub fn has_room_without(&self, n: usize, more: usize) -> bool
         requires { n ≤ length self.now.stack }
@@ -527,6 +547,13 @@ pub(crate) const FRAME_LIMIT: usize = 512;
 
 /// At most so many operands, locals and open labels of a thread.
 pub(crate) const SIZE_LIMIT: usize = 16384;
+
+#[inline(always)]
+fn one_less(n: usize) -> usize
+    ensures { result ≡ n - 1 }
+{
+    n.saturating_sub(1)
+}
 
 // How many operands there is room for, by the limit and by their memory.
 fn room_of(labels: usize, locals: usize, capacity: usize) -> usize

@@ -1,10 +1,10 @@
-use Rattle.std.proofs.Common.{◌≡◌, ℕ, suc, ◌+◌, ◌-◌, sym, ap, ◌∙◌, subst, arith}
+use Rattle.std.proofs.Common.{◌≡◌, suc, ◌+◌, ◌-◌, sym, ap, ◌∙◌, subst, arith}
 use Rattle.wasm_types.specs.Code.{Trees, tree}
 use Rattle.wasm_step.specs.declared.halt.Next.{Next}
-use Rattle.wasm_step.specs.Answer.{after_of, stop_of}
-use Rattle.wasm_step.specs.Burst.{Done, after_step, at_next, burst, settle}
+use Rattle.wasm_step.specs.Answer.{after_of}
+use Rattle.wasm_step.specs.Burst.{Done, at_next, burst, settle}
 use Rattle.wasm_step.specs.Paused.{settled_of}
-use Rattle.wasm_step.specs.Reduce.{After, Sticks, row}
+use Rattle.wasm_step.specs.Reduce.{Sticks, row}
 use Rattle.wasm_store.specs.Store.{Store}
 use Rattle.wasm_step.proofs.Programs.{same_program}
 use Rattle.wasm_step.proofs.Quicks.{limited_within}

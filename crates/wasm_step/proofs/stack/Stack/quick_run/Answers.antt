@@ -1,7 +1,5 @@
 use Rattle.std.proofs.Common.{◌≡◌, suc, ◌-◌, sym, ap, ◌∙◌, arith, rules}
 use Rattle.wasm_step.specs.Burst.{burst}
-use Rattle.wasm_step.specs.Thread.{Thread}
-use Rattle.wasm_store.specs.Store.{Store}
 use Rattle.wasm_step.proofs.stack.Stack.quick_run.Goals as goal
 
 pub steps-preserved : goal.steps-preserved

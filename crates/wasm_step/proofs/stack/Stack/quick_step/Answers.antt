@@ -1,6 +1,5 @@
 use Rattle.std.proofs.Common.{rules, sym, ap, ◌∙◌}
 use Rattle.wasm_types.specs.Code.{tree}
-use Rattle.wasm_store.specs.Store.{Store}
 use Rattle.wasm_step.specs.Reduce.{Both}
 use Rattle.wasm_step.proofs.Programs.{same_program}
 use Rattle.wasm_step.proofs.Quicks.{step_by}
