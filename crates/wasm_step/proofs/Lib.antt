@@ -4,6 +4,7 @@ pub mod Branches
 pub mod Bursts
 pub mod Callees
 pub mod Fits
+pub mod LevelEnds
 pub mod Opcodes
 pub mod Plain
 pub mod Programs

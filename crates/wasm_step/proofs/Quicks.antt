@@ -8,9 +8,9 @@ use Rattle.wasm_types.specs.Code.{Tree, Then}
 use Rattle.wasm_values.specs.Numeric.{Gives, binary, is_unary, unary}
 use Rattle.wasm_store.specs.Store.{Store}
 use Rattle.wasm_step.specs.declared.stack.Stack.TheInside.{Inside}
-use Rattle.wasm_step.specs.Burst.{At, settle, burst}
+use Rattle.wasm_step.specs.Burst.{At, after_both, after_step, at_further, settle, burst}
 use Rattle.wasm_step.specs.Quick.{Within}
-use Rattle.wasm_step.specs.Reduce.{Both, After, Goes, Stops, limited, numeric, put, row, trapped, with_top}
+use Rattle.wasm_step.specs.Reduce.{Both, After, Goes, Stops, branch, keep, limited, numeric, put, row, trapped, with_top}
 use Rattle.wasm_step.specs.Thread.{Thread, is_within, size, with_operand}
 use Rattle.wasm_step.specs.View.{IsSound, thread_of}
 use Rattle.wasm_step.proofs.Runs.{settle_here, burst_on}
@@ -44,6 +44,13 @@ pub step_by : (t v u : Thread) (i : Tree) (g g' : Store) → t ≡ record v { to
 step_by t v u i g g' here goes within n =
     let at : settle t ≡ At i v = ap settle here ∙ settle_here (record v { todo = Then i v.todo }) refl in
     burst_on n t v u g g' i at (ap (λ (b : Both). limited b.after) goes ∙ ap (λ b. if b then Goes u else trapped Exhausted) (within_is u within)) (ap (λ (b : Both). b.store) goes)
+
+-- a branch that is still to be made is made within its step
+pub branches_by : (t v u : Thread) (i : Tree) (g g' : Store) (k : ℕ) → t ≡ record v { todo = Then i v.todo } → row i v g ≡ keep g' (branch k u) → (n : ℕ) → burst (suc n) t g ≡ after_step (limited (branch k u)) g' (burst n)
+unfolding burst
+branches_by t v u i g g' k here goes n =
+    let at : settle t ≡ At i v = ap settle here ∙ settle_here (record v { todo = Then i v.todo }) refl in
+    ap (λ x. after_both (at_further x g) (burst n)) at ∙ ap (λ (b : Both). after_step (limited b.after) b.store (burst n)) goes
 
 -- a numeric instruction on two operands, and on one
 pub combined_by : (op : ℕ) (t : Thread) (x y v : Value) → t.stack ≡ y ∷ (x ∷ drop 2 t.stack) → is_unary op ≡ false → Gives v ≡ binary op x y → Goes (record t { stack = v ∷ drop 2 t.stack }) ≡ numeric op t

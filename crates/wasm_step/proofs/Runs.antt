@@ -30,7 +30,7 @@ at_end_depth : (outer : List Level) (t t' : Thread) → t.outer ≡ outer → at
 at_end_depth [] t t' eo e = omega (arith, ap length eo, carried_depth t.returns t.stack t t' e)
 at_end_depth (l ∷ ls) t t' eo e = omega (arith, ap length eo, ap depth_after e)
 
-ended_depth : (t t' : Thread) → ended t ≡ Goes t' → depth t ≡ suc (depth t')
+pub ended_depth : (t t' : Thread) → ended t ≡ Goes t' → depth t ≡ suc (depth t')
 ended_depth t t' e = at_end_depth t.outer t t' refl e
 
 at_next_same : (todo : Trees) (t : Thread) (a b : Settled) → is_end todo ≡ false → at_next todo t a ≡ at_next todo t b

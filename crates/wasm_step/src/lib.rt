@@ -7,6 +7,7 @@ mod control;
 mod first;
 mod halt;
 mod laws;
+mod levels;
 mod memory;
 mod quick;
 mod rows;

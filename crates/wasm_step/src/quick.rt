@@ -2,10 +2,11 @@
 // registers. Where one wants memory, may pass a limit, traps or ends the thread, nothing is done.
 ghost use Rattle.std.specs.Prelude.{◌≡◌, ℕ, suc, IfOk, IsTrue, OnOk, false};
 ghost use Rattle.wasm_types.specs.Code.{tree};
-ghost use Rattle.wasm_step.specs.Burst.{burst};
+ghost use Rattle.wasm_step.specs.Burst.{after_step, burst};
 ghost use Rattle.wasm_step.specs.Quick.{Within};
-ghost use Rattle.wasm_step.specs.Reduce.{Goes, branch_if, drop_top, got, keep, local_get, local_set, local_tee, numeric, row};
+ghost use Rattle.wasm_step.specs.Reduce.{Goes, branch, drop_top, got, keep, limited, local_get, local_set, local_tee, numeric, row};
 
+use crate::levels::Quick;
 use crate::stack::Stack;
 use std::alloc::AllocError;
 use wasm_store::Store;
@@ -121,28 +122,6 @@ impl<'m> Stack<'m> {
     }
 
     #[inline(always)]
-    fn quick_branch_if(&mut self, n: u32) -> bool
-        requires { Within self.old }
-        ensures goes { IsTrue result → Goes self.new ≡ branch_if n self.old }
-        ensures within { Within self.new }
-        ensures same { result ≡ false → self.new ≡ self.old }
-    {
-        if n != 0 || !self.loops() {
-            return false;
-        }
-        let Some(Value::I32(x)) = self.top() else {
-            return false;
-        };
-        let _ = self.pop();
-        if x != 0 {
-            let target = self.target();
-            self.clear();
-            self.go_to(target);
-        }
-        true
-    }
-
-    #[inline(always)]
     fn quick_row(&mut self, store: &mut Store<'m>, instr: &'m Instr) -> Result<bool, AllocError>
         requires { Within self.old }
         ensures goes { IfOk result (λ went. IsTrue went → row (tree instr.now) self.old store.old ≡ keep store.new (Goes self.new)) }
@@ -158,7 +137,11 @@ impl<'m> Stack<'m> {
             Instr::ConstI64(bits) => Ok(self.push_within(Value::I64(*bits))),
             Instr::Op(op) => Ok(self.quick_numeric(*op)),
             Instr::DropTop => Ok(self.quick_drop()),
-            Instr::BrIf(n) => Ok(self.quick_branch_if(*n)),
+            Instr::Block(gives, body) => {
+                self.quick_open(*gives, body, self.todo(), gives.is_some(), false)
+            }
+            Instr::Loop(gives, body) => self.quick_open(*gives, body, body, false, true),
+            Instr::If(gives, on_true, on_false) => self.quick_choose(*gives, on_true, on_false),
             Instr::GlobalGet(x) => Ok(self.quick_got(store.global(*x))),
             Instr::GlobalSet(x) => Ok(self.quick_global_set(store, *x)),
             Instr::Load { opcode, offset, .. } => Ok(self.quick_load(store, *opcode, *offset)),
@@ -167,24 +150,51 @@ impl<'m> Stack<'m> {
         }
     }
 
+    #[inline(always)]
+    fn quick_any(&mut self, store: &mut Store<'m>, instr: &'m Instr) -> Result<Quick, AllocError>
+        requires { Within self.old }
+        ensures going { IfOk result (λ q. q ≡ Quick.Going → row (tree instr.now) self.old store.old ≡ keep store.new (Goes self.new)) }
+        ensures branches { (k : ℕ) → IfOk result (λ q. q ≡ Quick.Branches k → row (tree instr.now) self.old store.old ≡ keep store.new (branch k self.new)) }
+        ensures left { IfOk result (λ q. q ≡ Quick.Left → self.new ≡ self.old) }
+        ensures store { IfOk result (λ q. q ≡ Quick.Left → store.new ≡ store.old) }
+        ensures within { OnOk result (Within self.new) }
+    {
+        match instr {
+            Instr::Br(n) => Ok(self.quick_branch(*n)),
+            Instr::BrIf(n) => Ok(self.quick_branch_if(*n)),
+            Instr::BrTable(labels, default) => Ok(self.quick_branch_table(labels, *default)),
+            _ => {
+                let went = self.quick_row(store, instr)?;
+                if went {
+                    return Ok(Quick::Going);
+                }
+                Ok(Quick::Left)
+            }
+        }
+    }
+
     /// One instruction, unless it is none of these or lacks what it takes.
     #[inline(always)]
-    pub fn quick_step(&mut self, store: &mut Store<'m>) -> Result<bool, AllocError>
+    pub fn quick_step(&mut self, store: &mut Store<'m>) -> Result<Quick, AllocError>
         requires { Within self.old }
-        ensures goes { IfOk result (λ went. IsTrue went → (n : ℕ) → burst (suc n) self.old store.old ≡ burst n self.new store.new) }
+        ensures going { IfOk result (λ q. q ≡ Quick.Going → (n : ℕ) → burst (suc n) self.old store.old ≡ burst n self.new store.new) }
+        ensures branches { (k : ℕ) → IfOk result (λ q. q ≡ Quick.Branches k → (n : ℕ) → burst (suc n) self.old store.old ≡ after_step (limited (branch k self.new)) store.new (burst n)) }
+        ensures left { IfOk result (λ q. q ≡ Quick.Left → self.new ≡ self.old) }
+        ensures store { IfOk result (λ q. q ≡ Quick.Left → store.new ≡ store.old) }
         ensures within { OnOk result (Within self.new) }
-        ensures same { IfOk result (λ went. went ≡ false → self.new ≡ self.old) }
-        ensures store { IfOk result (λ went. went ≡ false → store.new ≡ store.old) }
         ensures program { OnOk result (store.new.program ≡ store.old.program) }
     {
         let before = self.todo();
         let Some(instr) = self.fetch() else {
-            return Ok(false);
+            return Ok(Quick::Left);
         };
-        if self.quick_row(store, instr)? {
-            return Ok(true);
+        match self.quick_any(store, instr)? {
+            Quick::Going => Ok(Quick::Going),
+            Quick::Left => {
+                self.go_to(before);
+                Ok(Quick::Left)
+            }
+            Quick::Branches(k) => Ok(Quick::Branches(k)),
         }
-        self.go_to(before);
-        Ok(false)
     }
 }

@@ -4,9 +4,11 @@ ghost use Rattle.wasm_types.specs.Modules.{module_of};
 ghost use Rattle.wasm_step.specs.Answer.{after_of, stop_of, stopped_of};
 ghost use Rattle.wasm_step.specs.Burst.{after_step, burst, settle, spent};
 ghost use Rattle.wasm_step.specs.Quick.{Within};
+ghost use Rattle.wasm_step.specs.Reduce.{branch, limited};
 ghost use Rattle.wasm_step.specs.Paused.{run_of, settled_of};
 
 use crate::halt::{Next, Stopped};
+use crate::levels::Quick;
 use crate::stack::Stack;
 use std::alloc::AllocError;
 use wasm_store::Store;
@@ -20,6 +22,22 @@ pub(crate) const BUDGET: u32 = 10_000_000;
 struct Ran<'m> {
     stack: Stack<'m>,
     left: u32,
+    next: Next,
+}
+
+impl<'m> Ran<'m> {
+    #[inline(always)]
+    fn going(stack: Stack<'m>, left: u32) -> Ran<'m>
+        ensures stack { result.stack ≡ stack.entry }
+        ensures left { result.left ≡ left }
+        ensures next { result.next ≡ Next.Going }
+    {
+        Ran {
+            stack,
+            left,
+            next: Next::Going,
+        }
+    }
 }
 
 /// A thread that does not go on.
@@ -106,24 +124,56 @@ impl<'m> Stack<'m> {
         Ok(Next::Going)
     }
 
+    /// A branch past so many levels, as an instruction.
+    #[cold]
+    #[inline(never)]
+    fn finish_branch(&mut self, n: u32) -> Result<Next, AllocError>
+        ensures { IfOk result (λ a. after_of a self.new ≡ limited (branch n self.old)) }
+    {
+        match self.branch(n)? {
+            Next::Going => {
+                if !self.is_within() {
+                    return Ok(Next::Trapped(Trap::Exhausted));
+                }
+                Ok(Next::Going)
+            }
+            halted => Ok(halted),
+        }
+    }
+
     /// Instructions in place, as many as go on so. The thread is held by value.
     #[inline(never)]
     fn quick_run(self, most: u32, store: &mut Store<'m>) -> Result<Ran<'m>, AllocError>
         requires { Within self }
-        ensures ran { IfOk result (λ r. burst r.left r.stack store.new ≡ burst most self.entry store.old) }
+        ensures ran { IfOk result (λ r. after_step (after_of r.next r.stack) store.new (burst r.left) ≡ burst most self.entry store.old) }
         ensures fewer { IfOk result (λ r. r.left ≤ most) }
         ensures program { OnOk result (store.new.program ≡ store.old.program) }
     {
         let mut stack = self;
         let mut left = most;
         'steps: while left > 0 {
-            let went = stack.quick_step(store)?;
-            if !went {
-                return Ok(Ran { stack, left });
+            if stack.is_at_end() {
+                if !stack.quick_end() {
+                    return Ok(Ran::going(stack, left));
+                }
+                continue 'steps;
+            }
+            match stack.quick_step(store)? {
+                Quick::Going => {}
+                Quick::Left => return Ok(Ran::going(stack, left)),
+                Quick::Branches(n) => {
+                    let mut whole = stack;
+                    let next = whole.finish_branch(n)?;
+                    return Ok(Ran {
+                        stack: whole,
+                        left: left - 1,
+                        next,
+                    });
+                }
             }
             left -= 1;
         }
-        Ok(Ran { stack, left })
+        Ok(Ran::going(stack, left))
     }
 
     /// A burst, at whose stop a call of the library has its arguments among the operands.
@@ -144,6 +194,10 @@ impl<'m> Stack<'m> {
             let ran = stack.quick_run(rest, store)?;
             stack = ran.stack;
             left = ran.left;
+            match ran.next {
+                Next::Going => {}
+                next => return Ok(Halt { stack, next }),
+            }
             full = patience(full, rest - left);
         }
         let next = stack.spend()?;

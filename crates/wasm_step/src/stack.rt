@@ -1,5 +1,5 @@
 // A thread as an owned value: one stack each of operands, labels, locals and frames.
-ghost use Rattle.std.specs.Prelude.{◌∷◌, OnErr, ◌≡◌, ◌+◌, ◌-◌, ◌<◌, ◌≤◌, [], ◌++◌, drop, length, IfOk, OnOk, Some, None, if◌then◌else◌, IfSome, IfNone, IsTrue, nat_lt, nat_le, ◌&&◌, false, is_some, slice_get, slice_set, take};
+ghost use Rattle.std.specs.Prelude.{◌∷◌, OnErr, ◌≡◌, ◌+◌, ◌-◌, ◌<◌, ◌≤◌, [], ◌++◌, drop, length, IfOk, OnOk, Some, None, if◌then◌else◌, IfSome, IfNone, IsTrue, nat_lt, nat_le, ◌&&◌, false, is_some, slice_get, slice_set, take, true};
 ghost use Rattle.wasm_types.specs.Code.{End, Then, tree, trees};
 ghost use Rattle.wasm_step.specs.Thread.{is_end, with_operand, opened, closed, left, called_with, arguments, without, has_frame_room, has_room, is_within, size, at_start};
 ghost use Rattle.wasm_values.specs.Values.{zeros};
@@ -368,6 +368,14 @@ impl<'m> Stack<'m> {
             floor: self.operands.len(),
         };
         Ok(())
+    }
+
+    /// Whether there is a level around the innermost.
+    #[inline(always)]
+    pub fn has_outer(&self) -> bool
+        ensures { IsTrue result → is_some (closed self.now) ≡ true }
+    {
+        self.labels.len() > self.here.labels_from
     }
 
     /// The level around the innermost, with the operands of both, if there is one.

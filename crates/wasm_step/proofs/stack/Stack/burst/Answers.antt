@@ -1,6 +1,6 @@
 use Rattle.std.proofs.Common.{◌≡◌, ◌+◌, ◌-◌, sym, ap, ◌∙◌, arith}
 use Rattle.wasm_step.specs.Answer.{after_of, stop_of}
-use Rattle.wasm_step.specs.Burst.{burst}
+use Rattle.wasm_step.specs.Burst.{after_step, burst}
 use Rattle.wasm_step.proofs.Runs.{burst_spent, stopped_step}
 use Rattle.wasm_step.proofs.stack.Stack.burst.Goals as goal
 
@@ -10,6 +10,19 @@ returns-in_default c =
     let rest = c.rounds.left - count in
     let whole : count + rest ≡ c.rounds.left = omega (arith, c.least-count.ensures.within) in
     sym (stopped_step c.in_ok-next.next c.full_run.new.self c.full_run.new.store rest c.in_default.not-Going)
+    ∙ c.in_ok-next.ensures.ran rest
+    ∙ ap (λ n. burst n c.rounds.stack c.rounds.store) whole
+    ∙ c.rounds.invariant.left
+
+pub returns-in_default-next : goal.returns-in_default-next
+returns-in_default-next c =
+    let count = c.least-count.result in
+    let rest = c.rounds.left - count in
+    let whole : count + rest ≡ c.rounds.left = omega (arith, c.least-count.ensures.within) in
+    let ran = c.in_ok-ran.ran in
+    sym (stopped_step ran.next ran.stack c.quick_run.new.store ran.left c.in_default-next.not-Going)
+    ∙ c.in_ok-ran.ensures.ran
+    ∙ ap (λ n. after_step (after_of n c.full_run.new.self) c.full_run.new.store (burst rest)) (sym c.in-Going.is)
     ∙ c.in_ok-next.ensures.ran rest
     ∙ ap (λ n. burst n c.rounds.stack c.rounds.store) whole
     ∙ c.rounds.invariant.left

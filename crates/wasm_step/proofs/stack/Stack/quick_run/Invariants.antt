@@ -1,6 +1,7 @@
-use Rattle.std.proofs.Common.{◌≡◌, ◌≤◌}
+use Rattle.std.proofs.Common.{◌≡◌, ◌+◌, ◌*◌, ◌≤◌}
 use Rattle.wasm_step.specs.Burst.{burst}
 use Rattle.wasm_step.specs.Quick.{Within}
+use Rattle.wasm_step.specs.Thread.{depth}
 use Rattle.wasm_step.proofs.stack.Stack.quick_run.Given as goal
 
 abbrev pub invariant-steps : goal.invariant-steps
@@ -12,4 +13,4 @@ invariant-steps l = record {
 }
 
 abbrev pub decreases-steps : goal.decreases-steps
-decreases-steps l = l.left
+decreases-steps l = l.left * 17000 + depth l.stack
