@@ -104,17 +104,33 @@ impl<'m> Stack<'m> {
         ensures left { result ≡ Quick.Left → self.new ≡ self.old }
         ensures within { Within self.new }
     {
-        let mut left = n;
-        'levels: while left > 0 {
-            if !self.close() {
-                return Quick::Branches(left);
-            }
-            left -= 1;
+        let rest = self.quick_past(n);
+        let rest = self.quick_past(rest);
+        let rest = self.quick_past(rest);
+        if rest > 0 {
+            return Quick::Branches(rest);
         }
         if self.quick_jump() {
             return Quick::Going;
         }
         Quick::Branches(0)
+    }
+
+    /// Past one level of a branch past n, where there is one. There is no loop of it here, so that the
+    /// levels are not taken for what the burst is about.
+    #[inline(always)]
+    fn quick_past(&mut self, n: u32) -> u32
+        requires { Within self.old }
+        ensures same { branch result self.new ≡ branch n self.old }
+        ensures within { Within self.new }
+    {
+        if n == 0 {
+            return 0;
+        }
+        if !self.close() {
+            return n;
+        }
+        n - 1
     }
 
     #[inline(always)]

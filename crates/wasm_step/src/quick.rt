@@ -159,17 +159,15 @@ impl<'m> Stack<'m> {
         ensures store { IfOk result (λ q. q ≡ Quick.Left → store.new ≡ store.old) }
         ensures within { OnOk result (Within self.new) }
     {
+        let went = self.quick_row(store, instr)?;
+        if went {
+            return Ok(Quick::Going);
+        }
         match instr {
             Instr::Br(n) => Ok(self.quick_branch(*n)),
             Instr::BrIf(n) => Ok(self.quick_branch_if(*n)),
             Instr::BrTable(labels, default) => Ok(self.quick_branch_table(labels, *default)),
-            _ => {
-                let went = self.quick_row(store, instr)?;
-                if went {
-                    return Ok(Quick::Going);
-                }
-                Ok(Quick::Left)
-            }
+            _ => Ok(Quick::Left),
         }
     }
 

@@ -120,7 +120,7 @@ impl<'m> Stack<'m> {
                 halted => return Ok(halted),
             }
         }
-        self.find_room();
+        self.make_room()?;
         Ok(Next::Going)
     }
 

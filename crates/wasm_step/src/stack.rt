@@ -221,6 +221,15 @@ impl<'m> Stack<'m> {
         );
     }
 
+    /// Room for many operands and levels, where the limit leaves it.
+    pub fn make_room(&mut self) -> Result<(), AllocError>
+        ensures { OnOk result (self.new ≡ self.old) }
+    {
+        self.operands.reserve(ROOM)?;
+        self.find_room();
+        Ok(())
+    }
+
     /// The topmost operand of the level, which stays.
     #[inline(always)]
     pub fn top(&self) -> Option<Value>
@@ -552,6 +561,9 @@ fn keeps_limits(frames: usize, operands: usize, labels: usize, locals: usize, mo
 
 /// At most so many frames of a thread, of which all but one wait.
 pub(crate) const FRAME_LIMIT: usize = 512;
+
+/// Room is made for so many operands and labels at a time.
+const ROOM: usize = 512;
 
 /// At most so many operands, locals and open labels of a thread.
 pub(crate) const SIZE_LIMIT: usize = 16384;
