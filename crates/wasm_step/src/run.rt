@@ -183,7 +183,7 @@ impl<'m> Stack<'m> {
     {
         let mut stack = self;
         let mut left = BUDGET;
-        let mut full = 1;
+        let mut full = FEW;
         'rounds: while left > 0 {
             let count = least(full, left);
             match stack.full_run(count, program, store)? {
@@ -255,7 +255,8 @@ fn patience(full: u32, went: u32) -> u32
     if full >= MOST_FULL { full } else { full * 2 }
 }
 
-/// So many instructions in place are worth the change to a thread by value and back.
+/// So many instructions in place are worth the change to a thread by value and back, so a burst begins with
+/// as many by their full cases: between two calls of the library there are often fewer.
 const FEW: u32 = 32;
 
 /// So many instructions are run by their full cases at most.
