@@ -11,6 +11,7 @@ use crate::halt::{Next, Stopped};
 use crate::levels::Quick;
 use crate::stack::Stack;
 use std::alloc::AllocError;
+use std::mem;
 use wasm_store::Store;
 use wasm_types::{Trap, ValidModule};
 
@@ -38,20 +39,6 @@ impl<'m> Ran<'m> {
             next: Next::Going,
         }
     }
-}
-
-/// A thread that does not go on.
-#[derive(Drop)]
-struct Halt<'m> {
-    stack: Stack<'m>,
-    next: Next,
-}
-
-/// A thread after a burst, and how that stopped.
-#[derive(Drop)]
-pub struct Paused<'m> {
-    pub stack: Stack<'m>,
-    pub stopped: Stopped,
 }
 
 impl<'m> Stack<'m> {
@@ -177,31 +164,32 @@ impl<'m> Stack<'m> {
     }
 
     /// A burst, at whose stop a call of the library has its arguments among the operands.
-    fn burst(self, program: &'m ValidModule, store: &mut Store<'m>) -> Result<Halt<'m>, AllocError>
+    fn burst(&mut self, program: &'m ValidModule, store: &mut Store<'m>) -> Result<Next, AllocError>
         requires { module_of program.now ≡ store.old.program }
-        ensures { IfOk result (λ h. record { stop = stop_of (after_of h.next h.stack); store = store.new } ≡ burst BUDGET self.entry store.old) }
+        ensures { IfOk result (λ n. record { stop = stop_of (after_of n self.new); store = store.new } ≡ burst BUDGET self.old store.old) }
     {
-        let mut stack = self;
         let mut left = BUDGET;
         let mut full = FEW;
         'rounds: while left > 0 {
             let count = least(full, left);
-            match stack.full_run(count, program, store)? {
+            match self.full_run(count, program, store)? {
                 Next::Going => {}
-                next => return Ok(Halt { stack, next }),
+                next => return Ok(next),
             }
             let rest = left - count;
+            let idle = self.idle();
+            let stack = mem::replace(self, idle);
             let ran = stack.quick_run(rest, store)?;
-            stack = ran.stack;
+            *self = ran.stack;
             left = ran.left;
             match ran.next {
                 Next::Going => {}
-                next => return Ok(Halt { stack, next }),
+                next => return Ok(next),
             }
             full = patience(full, rest - left);
         }
-        let next = stack.spend()?;
-        Ok(Halt { stack, next })
+        let halted = self.spend()?;
+        Ok(halted)
     }
 
     // A call of the library takes its arguments.
@@ -221,16 +209,15 @@ impl<'m> Stack<'m> {
 
     /// A burst: instructions until a call of the library, the thread's end or a trap.
     pub fn run(
-        self,
+        &mut self,
         program: &'m ValidModule,
         store: &mut Store<'m>,
-    ) -> Result<Paused<'m>, AllocError>
+    ) -> Result<Stopped, AllocError>
         requires { module_of program.now ≡ store.old.program }
-        ensures { IfOk result (λ p. run_of p.stopped p.stack store.new ≡ burst BUDGET self.entry store.old) }
+        ensures { IfOk result (λ stopped. run_of stopped self.new store.new ≡ burst BUDGET self.old store.old) }
     {
-        let Halt { mut stack, next } = self.burst(program, store)?;
-        let stopped = stack.stopped(next);
-        Ok(Paused { stack, stopped })
+        let halted = self.burst(program, store)?;
+        Ok(self.stopped(halted))
     }
 }
 

@@ -102,6 +102,33 @@ impl<'m> Stack<'m> {
         })
     }
 
+    /// A thread that does nothing.
+    pub fn idle(&self) -> Stack<'m> {
+        let alloc = *self.operands.allocator();
+        Stack {
+            here: Held {
+                label: Label {
+                    gives: None,
+                    todo: &[],
+                    target: &[],
+                    carries: false,
+                    loops: false,
+                    floor: 0,
+                },
+                labels_from: 0,
+                locals_from: 0,
+                bottom: 0,
+                func: 0,
+                returns: false,
+            },
+            operands: Vec::new(alloc),
+            labels: Vec::new(alloc),
+            locals: Vec::new(alloc),
+            callers: Vec::new(alloc),
+            room: 0,
+        }
+    }
+
     /// An equal thread.
     pub fn copy(&self) -> Result<Stack<'m>, AllocError>
         ensures { IfOk result (λ s. s ≡ self.now) }

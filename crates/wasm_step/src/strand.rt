@@ -9,7 +9,7 @@ ghost use Rattle.wasm_step.specs.Strand.{IsAnswer, IsHandler, answered, handling
 use crate::call::CallSite;
 use crate::first::{first, own};
 use crate::halt::Stopped;
-use crate::run::{BUDGET, Paused};
+use crate::run::BUDGET;
 use crate::stack::Stack;
 use std::alloc::{AllocError, Global};
 use std::marker::Model;
@@ -156,13 +156,12 @@ impl<'m> Strand<'m> {
     {
         let Strand {
             program,
-            stack,
+            mut stack,
             call: _,
         } = self;
         // Its `ensures` tells the proof that the program is valid.
         let _ = program.module();
-        let Paused { stack, stopped } = stack.run(program, store)?;
-        match stopped {
+        match stack.run(program, store)? {
             Stopped::Calling(site) => {
                 let strand = Strand {
                     program,

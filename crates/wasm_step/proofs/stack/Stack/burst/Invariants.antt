@@ -5,7 +5,7 @@ use Rattle.wasm_step.proofs.stack.Stack.burst.Given as goal
 
 abbrev pub invariant-rounds : goal.invariant-rounds
 invariant-rounds l = record {
-  left : burst l.left l.stack l.store ≡ burst 10000000 l.fn.self l.fn.store;
+  left : burst l.left l.self l.store ≡ burst 10000000 l.fn.self l.fn.store;
   full : 0 < l.full;
   program : module_of l.program ≡ l.store.program;
 }
