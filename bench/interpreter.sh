@@ -1,16 +1,19 @@
 #!/bin/sh
 # Runs guests that compute, and prints how many instructions `friday record` runs in a second, beside
-# wasm-interp of the package wabt on the same guests. Each guest yields after 9 to 10 million instructions,
+# wasm-interp of the package wabt on the same guests, and how many of the machine's instructions one of the
+# guest takes, by valgrind. Each guest yields after 9 to 10 million instructions,
 # 4 times; and, to see that a burst is linear, after a tenth of them, 40 times. Then a guest that notes in a
 # loop is recorded and replayed at 10,000 and at 1,000,000 events: the time of an event, and the peak memory
-# beside the log. The time of a start is subtracted.
+# beside the log; and two programs in C, built by clang at -O2: a sort of 100,000 numbers and the SHA-256 of
+# 1 MB, for which no step of the interpreter was chosen. Their instructions are counted in wasm-interp's
+# trace of a small run, where blocks and their ends count nothing. The time of a start is subtracted.
 # Usage: bench/interpreter.sh [PROGRAM]   (the program that ./friday builds, if none is given)
 here=$(CDPATH='' cd -- "$(dirname -- "$0")/.." && pwd) || exit 1
 program=${1:-$here/crates/friday/out/friday}
-exec python3 - "$program" <<'PYTHON'
-import os, statistics, subprocess, sys, tempfile, time
+exec python3 - "$program" "$here" <<'PYTHON'
+import os, re, shutil, statistics, subprocess, sys, tempfile, time
 
-program = os.path.abspath(sys.argv[1])
+program, here = os.path.abspath(sys.argv[1]), os.path.abspath(sys.argv[2])
 BURSTS = 4
 # How often each program runs each guest, and the guest that notes little; the median counts.
 TIMES = 3
@@ -90,6 +93,9 @@ COMPUTES = """(module (import "liblog" "yield" (func $yield)) %s
       local.get $n i32.const 1 i32.sub local.tee $n br_if 0
     end))"""
 
+# The programs in C, with the size of the guest and the sizes of two small ones, by which they are counted.
+PROGRAMS = {"sort": (100000, (2000, 4000)), "sha256": (16384, (20, 40))}
+
 NOTES = """(module (import "liblog" "note" (func $note (param i64)))
   (func (export "_start") (local $n i64)
     i64.const %d local.set $n
@@ -103,6 +109,42 @@ def build(folder, text):
     with open(os.path.join(folder, "a.wat"), "w") as file:
         file.write(text)
     subprocess.run(["wat2wasm", "a.wat", "-o", "a.wasm"], cwd=folder, check=True)
+
+
+def compile(folder, name, size):
+    flags = "--target=wasm32 -mcpu=mvp -std=c11 -O2 -ffreestanding -fno-builtin -Wall -Wextra -Werror -nostdlib -Wl,--no-entry -Wl,--export=_start -Wl,--strip-all"
+    words = [os.environ.get("CLANG", "clang")] + flags.split() + ["-I", here + "/examples/guests", "-DCOUNT=%d" % size]
+    subprocess.run(words + ["-o", "a.wasm", "%s/bench/%s.c" % (here, name)], cwd=folder, check=True)
+
+
+# Instructions by valgrind's count, the same however busy the machine is; None without valgrind.
+def instructions(words, folder):
+    if shutil.which("valgrind") is None:
+        return None
+    words = ["valgrind", "--tool=callgrind", "--callgrind-out-file=/dev/null"] + words
+    told = subprocess.run(words, cwd=folder, stdout=subprocess.DEVNULL, stderr=subprocess.PIPE, text=True).stderr
+    return int(re.search(r"Collected : (\d+)", told).group(1))
+
+
+# How many of the machine's instructions one of the guest takes, from two runs of different lengths.
+def counted(words, folder, make, lengths):
+    counts = []
+    for length in lengths:
+        make(length)
+        counts.append(instructions(words, folder))
+    return counts
+
+
+def per_instruction(counts, guest):
+    return "-" if counts[0] is None else "%.1f" % ((counts[1] - counts[0]) / guest)
+
+
+# The instructions that wasm-interp traces.
+def traced(folder):
+    child = subprocess.Popen(["wasm-interp", "--trace", "--dummy-import-func", "--run-all-exports", "a.wasm"], cwd=folder, stdout=subprocess.PIPE)
+    count = sum(line.startswith(b"#") for line in child.stdout)
+    child.wait()
+    return count
 
 
 def schedule(folder, tries):
@@ -132,7 +174,7 @@ with tempfile.TemporaryDirectory() as folder:
     schedule(folder, 2)
     start, least = measure(record, folder, "finished", MANY_TIMES)
     start_of_interp, _ = measure(interp, folder)
-    print("%-16s %14s %14s %14s %10s" % ("millions/second", "friday record", "short bursts", "wasm-interp", "ratio"))
+    print("%-16s %14s %14s %14s %14s %10s" % ("millions/second", "friday record", "short bursts", "counted", "wasm-interp", "ratio"))
     for name, (declared, turn, length, turns) in GUESTS.items():
         count = BURSTS * turns * length / 1e6
         rates = []
@@ -140,11 +182,26 @@ with tempfile.TemporaryDirectory() as folder:
             build(folder, COMPUTES % (declared, LOCALS.get(name, ""), bursts, turns * BURSTS // bursts, turn, COUNT))
             schedule(folder, bursts + 1)
             rates.append(count / (measure(record, folder, "%d events, finished" % (bursts + 1))[0] - start))
-        print("%-16s %14.1f %14.1f" % (name, rates[1], rates[0]), end="")
+        schedule(folder, 2)
+        make = lambda n: build(folder, COMPUTES % (declared, LOCALS.get(name, ""), 1, n, turn, COUNT))
+        ends = (turns // 100, turns // 10)
+        counts = counted(record, folder, make, ends)
+        schedule(folder, BURSTS + 1)
+        build(folder, COMPUTES % (declared, LOCALS.get(name, ""), BURSTS, turns, turn, COUNT))
+        print("%-16s %14.1f %14.1f %14s" % (name, rates[1], rates[0], per_instruction(counts, (ends[1] - ends[0]) * length)), end="")
         if name not in ALONE:
             theirs = count / (measure(interp, folder)[0] - start_of_interp)
             print(" %14.1f %10.2f" % (theirs, rates[1] / theirs), end="")
         print()
+    print("%-16s %14s %14s %14s %10s" % ("programs", "s to record", "counted", "s wasm-interp", "ratio"))
+    for name, (size, small) in PROGRAMS.items():
+        schedule(folder, 1000)
+        guest = []
+        counts = counted(record, folder, lambda n: (compile(folder, name, n), guest.append(traced(folder))), small)
+        compile(folder, name, size)
+        ours = measure(record, folder, "finished")[0] - start
+        theirs = measure(interp, folder)[0] - start_of_interp
+        print("%-16s %14.3f %14s %14.3f %10.2f" % (name, ours, per_instruction(counts, guest[1] - guest[0]), theirs, theirs / ours))
     print("%-16s %14s %14s %12s %12s %12s" % ("events", "ns to record", "ns to replay", "bytes of log", "peak, record", "peak, replay"))
     for events, count in (10000, MANY_TIMES), (1000000, TIMES):
         build(folder, NOTES % (events - 1))

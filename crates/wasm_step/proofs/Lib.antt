@@ -1,11 +1,14 @@
+pub mod Accesses
 pub mod Begins
 pub mod Branches
 pub mod Bursts
 pub mod Callees
 pub mod Fits
+pub mod LevelEnds
 pub mod Opcodes
 pub mod Plain
 pub mod Programs
+pub mod Quicks
 pub mod Runs
 pub mod Starts
 pub mod Stored

@@ -30,7 +30,7 @@ at_end_depth : (outer : List Level) (t t' : Thread) → t.outer ≡ outer → at
 at_end_depth [] t t' eo e = omega (arith, ap length eo, carried_depth t.returns t.stack t t' e)
 at_end_depth (l ∷ ls) t t' eo e = omega (arith, ap length eo, ap depth_after e)
 
-ended_depth : (t t' : Thread) → ended t ≡ Goes t' → depth t ≡ suc (depth t')
+pub ended_depth : (t t' : Thread) → ended t ≡ Goes t' → depth t ≡ suc (depth t')
 ended_depth t t' e = at_end_depth t.outer t t' refl e
 
 at_next_same : (todo : Trees) (t : Thread) (a b : Settled) → is_end todo ≡ false → at_next todo t a ≡ at_next todo t b
@@ -103,3 +103,11 @@ zero_depth t t' d e = omega (arith, ended_depth t t' e)
 
 pub less_depth : (t t' : Thread) (n : ℕ) → depth t ≡ suc n → ended t ≡ Goes t' → depth t' ≡ n
 less_depth t t' n d e = omega (arith, ended_depth t t' e)
+
+-- what does not go on makes no further instruction
+pub stopped_step : (n : Next) (t : Thread) (g : Store) (k : ℕ) → (n ≡ Going → ⊥) → after_step (after_of n t) g (burst k) ≡ record { stop = stop_of (after_of n t); store = g }
+stopped_step Going t g k h = absurd (h refl)
+stopped_step (Calling f n) t g k h = refl
+stopped_step Ended t g k h = refl
+stopped_step (Trapped trap) t g k h = refl
+stopped_step Stuck t g k h = refl

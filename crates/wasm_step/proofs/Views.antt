@@ -31,10 +31,11 @@ below_bottom s ops h k =
     sym (take-take s.here.bottom s.here.label.floor ops low) ∙ ap (λ o. take s.here.bottom o) k.same ∙ take-take s.here.bottom s.here.label.floor s.operands.items low
 
 -- other operands in the innermost level
-pub IsSound-operands : (s : Inside) (w : Vec Value Global) → IsSound s → KeepsBelow s w.items → IsSound (record s { operands = w })
-IsSound-operands s w h k = record {
+pub IsSound-operands : (s : Inside) (w : Vec Value Global) → IsSound s → s.operands.cap ≤ w.cap → KeepsBelow s w.items → IsSound (record s { operands = w })
+IsSound-operands s w h cap k = record {
   part = record { top = k.top; cut = h.part.cut; labels_in = h.part.labels_in; locals_in = h.part.locals_in };
   below = subst (λ o. AreParts (reverse s.callers.items) (take s.here.labels_from s.labels.items) (take s.here.locals_from s.locals.items) o) (sym (below_bottom s w.items h k)) h.below;
+  room = record { place = omega (arith, cap, h.room.place); limit = h.room.limit };
 }
 
 pub thread_of-operands : (s : Inside) (w : Vec Value Global) → IsSound s → KeepsBelow s w.items → thread_of (record s { operands = w }) ≡ record (thread_of s) { stack = reverse (drop s.here.label.floor w.items) }
@@ -49,7 +50,7 @@ keeps_pushed s w v h e = record {
   same = ap (λ o. take s.here.label.floor o) e ∙ take-append-le s.here.label.floor s.operands.items (v ∷ []) h.part.top;
 }
 
-reverse_drop_push : {A : Type 0} (n : ℕ) (xs : List A) (x : A) → n ≤ length xs → reverse (drop n (xs ++ x ∷ [])) ≡ x ∷ reverse (drop n xs)
+pub reverse_drop_push : {A : Type 0} (n : ℕ) (xs : List A) (x : A) → n ≤ length xs → reverse (drop n (xs ++ x ∷ [])) ≡ x ∷ reverse (drop n xs)
 reverse_drop_push n xs x le = ap reverse (drop-append-le n xs (x ∷ []) le) ∙ reverse-append (drop n xs) (x ∷ [])
 
 pub pushed_view : (s : Inside) (w : Vec Value Global) (v : Value) → IsSound s → w.items ≡ s.operands.items ++ v ∷ [] → thread_of (record s { operands = w }) ≡ with_operand (thread_of s) v
@@ -100,6 +101,10 @@ closed_view s w l h lt e =
     let lower = ap (λ o. take from o) e ∙ take-append-le from w.items (l ∷ []) within in
     ap (λ ls. closed_to (levels_of ls (take f ops)) (thread_of s)) labels ∙ (cc)
 
+-- no room is known
+pub emptied : (s : Inside) → IsSound s → IsSound (record s { room = 0 })
+emptied s h = record { part = record { top = h.part.top; cut = h.part.cut; labels_in = h.part.labels_in; locals_in = h.part.locals_in }; below = h.below; room = record { place = omega arith; limit = omega arith } }
+
 -- a local of the innermost frame
 pub set_view : (s : Inside) (w : Vec Value Global) (x : ℕ) (v : Value) → w.items ≡ set s.locals.items (s.here.locals_from + x) v → thread_of (record s { locals = w }) ≡ record (thread_of s) { locals = set (drop s.here.locals_from s.locals.items) x v }
 set_view s w x v e =
@@ -148,7 +153,7 @@ module _ (s : Inside) (n : ℕ) (h : IsSound s) (le : n ≤ length s.operands.it
       thread_of-operands s w h (keeps_without w.items e)
       ∙ ap (λ o. record (thread_of s) { stack = o }) (ap reverse part ∙ sym (split_reverse xs m n kept_arguments).1)
 
-module _ (s : Inside) (here : Held) (w : Vec Value Global) (c : Vec Held Global) (more : List Value) (h : IsSound s) (floor : here.label.floor ≡ length s.operands.items) (bottom : here.bottom ≡ here.label.floor) (labels : here.labels_from ≡ length s.labels.items) (locals : here.locals_from ≡ length s.locals.items) (added : w.items ≡ s.locals.items ++ more) (called' : c.items ≡ s.callers.items ++ s.here ∷ []) where
+module _ (s : Inside) (here : Held) (w : Vec Value Global) (c : Vec Held Global) (more : List Value) (h : IsSound s) (none : s.room ≡ 0) (floor : here.label.floor ≡ length s.operands.items) (bottom : here.bottom ≡ here.label.floor) (labels : here.labels_from ≡ length s.labels.items) (locals : here.locals_from ≡ length s.locals.items) (added : w.items ≡ s.locals.items ++ more) (called' : c.items ≡ s.callers.items ++ s.here ∷ []) where
   low_labels : take here.labels_from s.labels.items ≡ s.labels.items
   low_labels = take_all here.labels_from s.labels.items (omega arith)
 
@@ -179,6 +184,7 @@ module _ (s : Inside) (here : Held) (w : Vec Value Global) (c : Vec Held Global)
           locals_in = omega (arith, ap length added, length-append s.locals.items more);
         };
         below = subst (λ o. AreParts (reverse c.items) (take here.labels_from s.labels.items) (take here.locals_from w.items) o) (sym low_operands) parts3;
+        room = record { place = h.room.place; limit = omega (arith, none) };
       }
 
   pub entered_view : trees here.label.target.now ≡ End → here.label.carries ≡ is_some here.label.gives → here.label.loops ≡ false → here.returns ≡ is_some here.label.gives → entered (thread_of s) here.func (trees here.label.todo.now) more here.label.gives ≡ thread_of (record s { here = here; locals = w; callers = c })
@@ -208,11 +214,11 @@ size_of_parts (f ∷ fs) labels locals ops h =
     let low = AreCut-low f.bottom (reverse (drop f.labels_from labels)) f.label.floor h.0.cut in
     omega (arith, size_of_part f labels locals ops h.0, size_of_parts fs (take f.labels_from labels) (take f.locals_from locals) (take f.bottom ops) h.1, h.0.top, h.0.labels_in, h.0.locals_in, length-reverse (drop f.label.floor ops), length-drop f.label.floor ops, length-drop f.locals_from locals, length-take-le f.labels_from labels h.0.labels_in, length-take-le f.locals_from locals h.0.locals_in, length-take-le f.bottom ops (omega arith))
 
-length_of_frames : (fs : List Held) (labels : List Label) (locals ops : List Value) → length (frames_of fs labels locals ops) ≡ length fs
+pub length_of_frames : (fs : List Held) (labels : List Label) (locals ops : List Value) → length (frames_of fs labels locals ops) ≡ length fs
 length_of_frames [] labels locals ops = refl
 length_of_frames (f ∷ fs) labels locals ops = ap suc (length_of_frames fs (take f.labels_from labels) (take f.locals_from locals) (take f.bottom ops))
 
-size_view : (s : Inside) → IsSound s → size (thread_of s) ≡ length s.operands.items + length s.labels.items + length s.locals.items
+pub size_view : (s : Inside) → IsSound s → size (thread_of s) ≡ length s.operands.items + length s.labels.items + length s.locals.items
 size_view s h =
     let f = s.here in
     let low = floor_low s h in
@@ -242,12 +248,13 @@ frame_room_view more s h =
     ∙ ap (λ k. nat_lt (length (thread_of s).callers + 1) 512 && nat_le (k + more) 16384) (sym size)
 
 -- more locals on top
-pub IsSound-locals : (s : Inside) (w : Vec Value Global) → IsSound s → (take (length s.locals.items) w.items ≡ s.locals.items) × (length s.locals.items ≤ length w.items) → IsSound (record s { locals = w })
-IsSound-locals s w h e =
+pub IsSound-locals : (s : Inside) (w : Vec Value Global) → IsSound s → s.room ≡ 0 → (take (length s.locals.items) w.items ≡ s.locals.items) × (length s.locals.items ≤ length w.items) → IsSound (record s { locals = w })
+IsSound-locals s w h none e =
     let same : take s.here.locals_from w.items ≡ take s.here.locals_from s.locals.items = sym (take-take s.here.locals_from (length s.locals.items) w.items h.part.locals_in) ∙ ap (λ o. take s.here.locals_from o) e.0 in
     record {
       part = record { top = h.part.top; cut = h.part.cut; labels_in = h.part.labels_in; locals_in = omega (arith, h.part.locals_in, e.1) };
       below = subst (λ o. AreParts (reverse s.callers.items) (take s.here.labels_from s.labels.items) o (take s.here.bottom s.operands.items)) (sym same) h.below;
+      room = record { place = h.room.place; limit = omega (arith, none) };
     }
 
 pub longer : {A : Type 0} (a b rest c : List A) → b ≡ a ++ rest → take (length b) c ≡ b → (take (length a) c ≡ a) × (length a ≤ length c)

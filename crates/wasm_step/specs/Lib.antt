@@ -5,6 +5,7 @@ pub mod Fits
 pub mod Laws
 pub mod Pause
 pub mod Paused
+pub mod Quick
 pub mod Reduce
 pub mod Strand
 pub mod Thread

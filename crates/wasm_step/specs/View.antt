@@ -1,5 +1,5 @@
 -- The thread that the stacks of a strand stand for.
-use Rattle.std.specs.Prelude.{◌≡◌, ℕ, ◌≤◌, List, [], ◌∷◌, reverse, take, drop, length}
+use Rattle.std.specs.Prelude.{◌≡◌, ℕ, ◌+◌, ◌-◌, ◌≤◌, List, [], ◌∷◌, reverse, take, drop, length}
 use Rattle.wasm_types.specs.declared.code.Value.{Value}
 use Rattle.wasm_types.specs.Code.{trees}
 use Rattle.wasm_step.specs.declared.stack.Label.{Label}
@@ -63,6 +63,12 @@ AreParts (f ∷ fs) labels locals ops =
     IsPart f labels locals ops
     × AreParts fs (take f.labels_from labels) (take f.locals_from locals) (take f.bottom ops)
 
+-- with fewer operands than the room, one more has its place and keeps to the limit
+pub record HasRoom (s : Inside) : Type 0 where
+  pub place : s.room ≤ s.operands.cap
+  pub limit : s.room ≤ 16384 - (length s.labels.items + length s.locals.items)
+
 pub record IsSound (s : Inside) : Type 0 where
   pub part : IsPart s.here s.labels.items s.locals.items s.operands.items
   pub below : AreParts (reverse s.callers.items) (take s.here.labels_from s.labels.items) (take s.here.locals_from s.locals.items) (take s.here.bottom s.operands.items)
+  pub room : HasRoom s

@@ -47,6 +47,7 @@ impl<'m> Stack<'m> {
             return Ok(Next::Trapped(Trap::Exhausted));
         }
         if self.enter(index, callee, n, result_of(kind))? {
+            self.find_room();
             Ok(Next::Going)
         } else {
             Ok(Next::Stuck)

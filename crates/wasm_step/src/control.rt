@@ -166,7 +166,8 @@ impl<'m> Stack<'m> {
 }
 
 // The label at the index, and past the labels the default.
-fn label_at(labels: &[u32], i: u32, default: u32) -> u32
+#[inline(always)]
+pub(crate) fn label_at(labels: &[u32], i: u32, default: u32) -> u32
     ensures { result ≡ label_at (slice_get labels.now i) default }
 {
     match labels.get(i as usize).copied() {

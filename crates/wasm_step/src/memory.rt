@@ -1,9 +1,10 @@
 // Instructions on globals and on the memory.
-ghost use Rattle.std.specs.Prelude.{◌≡◌, ◌+◌, IfOk, IfSome, OnOk, Some};
+ghost use Rattle.std.specs.Prelude.{◌≡◌, ◌+◌, IfOk, IfSome, IsTrue, OnOk, Some, false};
 ghost use Rattle.guest_memory.specs.LittleEndian.{IsWidth};
 ghost use Rattle.wasm_step.specs.Answer.{after_of};
+ghost use Rattle.wasm_step.specs.Quick.{Within};
 ghost use Rattle.wasm_values.specs.Values.{bits_of};
-ghost use Rattle.wasm_step.specs.Reduce.{global_get, global_set, grow_answer, load, memory_grow, memory_size, write, write_at};
+ghost use Rattle.wasm_step.specs.Reduce.{Goes, global_get, global_set, grow_answer, keep, load, memory_grow, memory_size, write, write_at};
 
 use crate::halt::Next;
 use crate::stack::Stack;
@@ -47,6 +48,73 @@ impl<'m> Stack<'m> {
             Some(n) => self.got(load_value(op, n)),
             None => Ok(Next::Trapped(Trap::MemoryRange)),
         }
+    }
+
+    #[tactic(auto, using(crate::proofs::Accesses::load_by, crate::proofs::Quicks::within_one))]
+    #[inline(always)]
+    pub fn quick_load(&mut self, store: &Store<'m>, op: u8, offset: u32) -> bool
+        requires { Within self.old }
+        ensures goes { IsTrue result → Goes self.new ≡ load op offset store.now.memory self.old }
+        ensures within { Within self.new }
+        ensures same { result ≡ false → self.new ≡ self.old }
+    {
+        let Some(Value::I32(base)) = self.top() else {
+            return false;
+        };
+        let Some(width) = load_width(op) else {
+            return false;
+        };
+        let Some(n) = store.memory().load(address(base, offset), width) else {
+            return false;
+        };
+        match load_value(op, n) {
+            Some(v) => self.put_one(v),
+            None => false,
+        }
+    }
+
+    #[inline(always)]
+    pub fn quick_write(
+        &mut self,
+        store: &mut Store<'m>,
+        op: u8,
+        offset: u32,
+    ) -> Result<bool, AllocError>
+        requires { Within self.old }
+        ensures goes { IfOk result (λ went. IsTrue went → write op offset store.old self.old ≡ keep store.new (Goes self.new)) }
+        ensures within { OnOk result (Within self.new) }
+        ensures same { IfOk result (λ went. went ≡ false → self.new ≡ self.old) }
+        ensures store { IfOk result (λ went. went ≡ false → store.new ≡ store.old) }
+    {
+        let Some((Value::I32(base), v)) = self.two() else {
+            return Ok(false);
+        };
+        let Some(width) = store_width(op, v) else {
+            return Ok(false);
+        };
+        if !store.write(address(base, offset), width, bits(Some(v)))? {
+            return Ok(false);
+        }
+        self.drop_last(2);
+        Ok(true)
+    }
+
+    #[inline(always)]
+    pub fn quick_global_set(&mut self, store: &mut Store<'m>, x: u32) -> bool
+        requires { Within self.old }
+        ensures goes { IsTrue result → global_set x store.old self.old ≡ keep store.new (Goes self.new) }
+        ensures within { Within self.new }
+        ensures same { result ≡ false → self.new ≡ self.old }
+        ensures store { result ≡ false → store.new ≡ store.old }
+    {
+        let Some(v) = self.top() else {
+            return false;
+        };
+        if !store.set_global(x as usize, v) {
+            return false;
+        }
+        self.drop_last(1);
+        true
     }
 
     fn write_at(
@@ -109,6 +177,7 @@ impl<'m> Stack<'m> {
 }
 
 // The address, which doesn't wrap.
+#[inline(always)]
 fn address(base: u32, offset: u32) -> u64
     ensures { result ≡ base + offset }
 {

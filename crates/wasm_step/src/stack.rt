@@ -1,9 +1,11 @@
 // A thread as an owned value: one stack each of operands, labels, locals and frames.
-ghost use Rattle.std.specs.Prelude.{◌∷◌, OnErr, ◌≡◌, ◌+◌, ◌≤◌, [], ◌++◌, length, IfOk, OnOk, Some, None, if◌then◌else◌, IfSome, IfNone, IsTrue, nat_lt, nat_le, ◌&&◌, false, is_some, slice_get, slice_set, take};
+ghost use Rattle.std.specs.Prelude.{◌∷◌, OnErr, ◌≡◌, ◌+◌, ◌-◌, ◌<◌, ◌≤◌, [], ◌++◌, drop, length, IfOk, OnOk, Some, None, if◌then◌else◌, IfSome, IfNone, IsTrue, nat_lt, nat_le, ◌&&◌, false, is_some, slice_get, slice_set, take, true};
 ghost use Rattle.wasm_types.specs.Code.{End, Then, tree, trees};
-ghost use Rattle.wasm_step.specs.Thread.{is_end, with_operand, opened, closed, left, called_with, arguments, without, has_frame_room, has_room, at_start};
+ghost use Rattle.wasm_step.specs.Thread.{is_end, with_operand, opened, closed, left, called_with, arguments, without, has_frame_room, has_room, is_within, size, at_start};
 ghost use Rattle.wasm_values.specs.Values.{zeros};
+ghost use Rattle.std.specs.Vec.{vec_capacity};
 ghost use Rattle.wasm_step.specs.Call.{sited};
+ghost use Rattle.wasm_step.specs.Quick.{Within};
 
 use crate::call::{CallSite, site};
 use std::alloc::{AllocError, Global};
@@ -43,6 +45,8 @@ pub struct Stack<'m> {
     labels: Vec<Label<'m>>,
     locals: Vec<Value>,
     callers: Vec<Held<'m>>,
+    /// With fewer operands than this, one more wants no memory and leaves the size within its limit.
+    room: usize,
 }
 
 impl<'m> Model for Stack<'m> {
@@ -94,7 +98,35 @@ impl<'m> Stack<'m> {
             labels: Vec::new(alloc),
             locals,
             callers: Vec::new(alloc),
+            room: 0,
         })
+    }
+
+    /// A thread that does nothing.
+    pub fn idle(&self) -> Stack<'m> {
+        let alloc = *self.operands.allocator();
+        Stack {
+            here: Held {
+                label: Label {
+                    gives: None,
+                    todo: &[],
+                    target: &[],
+                    carries: false,
+                    loops: false,
+                    floor: 0,
+                },
+                labels_from: 0,
+                locals_from: 0,
+                bottom: 0,
+                func: 0,
+                returns: false,
+            },
+            operands: Vec::new(alloc),
+            labels: Vec::new(alloc),
+            locals: Vec::new(alloc),
+            callers: Vec::new(alloc),
+            room: 0,
+        }
     }
 
     /// An equal thread.
@@ -107,6 +139,7 @@ impl<'m> Stack<'m> {
             labels: self.labels.clone()?,
             locals: self.locals.clone()?,
             callers: self.callers.clone()?,
+            room: 0,
         })
     }
 
@@ -137,6 +170,7 @@ impl<'m> Stack<'m> {
     }
 
     /// The innermost level goes on there.
+    #[inline(always)]
     pub fn go_to(&mut self, todo: &'m [Instr])
         ensures { self.new ≡ record self.old { todo = trees todo.now } }
     {
@@ -144,6 +178,7 @@ impl<'m> Stack<'m> {
     }
 
     /// The instructions that are left in the innermost level.
+    #[inline(always)]
     pub fn todo(&self) -> &'m [Instr]
         ensures { trees result.now ≡ self.now.todo }
     {
@@ -151,6 +186,7 @@ impl<'m> Stack<'m> {
     }
 
     /// Where a branch to the innermost level goes on.
+    #[inline(always)]
     pub fn target(&self) -> &'m [Instr]
         ensures { trees result.now ≡ self.now.target }
     {
@@ -164,6 +200,7 @@ impl<'m> Stack<'m> {
     }
 
     /// Whether a branch begins the innermost level anew.
+    #[inline(always)]
     pub fn loops(&self) -> bool
         ensures { result ≡ self.now.loops }
     {
@@ -185,6 +222,121 @@ impl<'m> Stack<'m> {
         Ok(())
     }
 
+    /// The same where there is room for it.
+    #[inline(always)]
+    pub fn push_within(&mut self, v: Value) -> bool
+        requires { Within self.old }
+        ensures pushed { IsTrue result → self.new ≡ with_operand self.old v }
+        ensures within { Within self.new }
+        ensures same { result ≡ false → self.new ≡ self.old }
+    {
+        if self.operands.len() >= self.room {
+            return false;
+        }
+        self.operands.push_reserved(v);
+        true
+    }
+
+    /// Takes the room that the operands' memory and the limit leave.
+    pub fn find_room(&mut self)
+        ensures { self.new ≡ self.old }
+    {
+        self.room = room_of(
+            self.labels.len(),
+            self.locals.len(),
+            self.operands.capacity(),
+        );
+    }
+
+    /// Room for many operands and levels, where the limit leaves it.
+    pub fn make_room(&mut self) -> Result<(), AllocError>
+        ensures { OnOk result (self.new ≡ self.old) }
+    {
+        self.operands.reserve(ROOM)?;
+        self.find_room();
+        Ok(())
+    }
+
+    /// The topmost operand of the level, which stays.
+    #[inline(always)]
+    pub fn top(&self) -> Option<Value>
+        ensures { IfSome result (λ v. self.now.stack ≡ v ∷ drop 1 self.now.stack) }
+    {
+        let height = self.operands.len();
+        if height <= self.here.label.floor {
+            return None;
+        }
+        Some(self.operands[height - 1])
+    }
+
+    /// The two topmost operands of the level, which stay.
+    #[inline(always)]
+    pub fn two(&self) -> Option<(Value, Value)>
+        ensures { IfSome result (λ p. self.now.stack ≡ p.1 ∷ (p.0 ∷ drop 2 self.now.stack)) }
+    {
+        let height = self.operands.len();
+        if height < 2 || height - 2 < self.here.label.floor {
+            return None;
+        }
+        Some((self.operands[height - 2], self.operands[height - 1]))
+    }
+
+    /// The value in place of the topmost operand, if there is one.
+    #[inline(always)]
+    pub fn put_one(&mut self, v: Value) -> bool
+        ensures put { IsTrue result → self.new ≡ record self.old { stack = v ∷ drop 1 self.old.stack } }
+        ensures same { result ≡ false → self.new ≡ self.old }
+    {
+        let height = self.operands.len();
+        if height <= self.here.label.floor {
+            return false;
+        }
+        let Some(_x) = self.operands.pop() else {
+            return false;
+        };
+        self.operands.push_reserved(v);
+        true
+    }
+
+    /// The value in place of the two topmost operands, if there are as many.
+    #[inline(always)]
+    pub fn put_two(&mut self, v: Value) -> bool
+        ensures put { IsTrue result → self.new ≡ record self.old { stack = v ∷ drop 2 self.old.stack } }
+        ensures same { result ≡ false → self.new ≡ self.old }
+    {
+        let height = self.operands.len();
+        if height < 2 || height - 2 < self.here.label.floor {
+            return false;
+        }
+        let Some(y) = self.operands.pop() else {
+            return false;
+        };
+        let Some(_x) = self.operands.pop() else {
+            self.operands.push_reserved(y);
+            return false;
+        };
+        self.operands.push_reserved(v);
+        true
+    }
+
+    /// Without the n topmost operands.
+    #[inline(always)]
+    pub fn drop_last(&mut self, n: usize)
+        requires { n ≤ length self.old.stack }
+        ensures { self.new ≡ without n self.old }
+    {
+        let height = self.operands.len();
+        self.operands.truncate(height - n);
+    }
+
+    /// Whether the innermost frame has a local of this number.
+    #[inline(always)]
+    pub fn has_local(&self, x: usize) -> bool
+        ensures { result ≡ nat_lt x (length self.now.locals) }
+    {
+        x < self.locals.len() - self.here.locals_from
+    }
+
     /// The topmost operand of the level, if there is one.
     #[inline(always)]
     pub fn pop(&mut self) -> Option<Value>
@@ -201,6 +353,7 @@ impl<'m> Stack<'m> {
     }
 
     /// No operand of the level.
+    #[inline(always)]
     pub fn clear(&mut self)
         ensures { self.new ≡ record self.old { stack = [] } }
     {
@@ -240,6 +393,7 @@ impl<'m> Stack<'m> {
     ) -> Result<(), AllocError>
         ensures { OnOk result (self.new ≡ opened self.old gives (trees body.now) (trees target.now) carries loops) }
     {
+        self.room = one_less(self.room);
         push_to(&mut self.labels, self.here.label)?;
         self.here.label = Label {
             gives,
@@ -252,7 +406,16 @@ impl<'m> Stack<'m> {
         Ok(())
     }
 
+    /// Whether there is a level around the innermost.
+    #[inline(always)]
+    pub fn has_outer(&self) -> bool
+        ensures { IsTrue result → is_some (closed self.now) ≡ true }
+    {
+        self.labels.len() > self.here.labels_from
+    }
+
     /// The level around the innermost, with the operands of both, if there is one.
+    #[inline(always)]
     pub fn close(&mut self) -> bool
         ensures closed { closed self.old ≡ (if result then Some self.new else None) }
         ensures same { result ≡ false → self.new ≡ self.old }
@@ -325,6 +488,7 @@ impl<'m> Stack<'m> {
         }
         let first = height - n;
         let locals_from = self.locals.len();
+        self.room = 0;
         self.locals.extend_from_slice(&self.operands[first..])?;
         append_zeros(&mut self.locals, callee.declared())?;
         self.callers.push(self.here)?;
@@ -359,6 +523,25 @@ impl<'m> Stack<'m> {
             self.locals.len(),
             more,
         )
+    }
+
+    /// Whether the thread keeps to the limits. Where there is room, that tells it.
+    #[inline(always)]
+    pub fn is_within(&self) -> bool
+        ensures { result ≡ is_within self.now }
+    {
+        if self.operands.len() < self.room && self.callers.len() < FRAME_LIMIT {
+            return true;
+        }
+        self.has_room(0)
+    }
+
+    /// Whether there is room for one more operand or level.
+    #[inline(always)]
+    pub fn has_place(&self) -> bool
+        ensures { IsTrue result → size self.now < 16384 }
+    {
+        self.operands.len() < self.room && self.labels.len() < self.labels.capacity()
     }
 
     /// Whether the thread keeps to the limits without the n topmost operands and with this many more.
@@ -406,14 +589,37 @@ fn keeps_limits(frames: usize, operands: usize, labels: usize, locals: usize, mo
 /// At most so many frames of a thread, of which all but one wait.
 pub(crate) const FRAME_LIMIT: usize = 512;
 
+/// Room is made for so many operands and labels at a time.
+const ROOM: usize = 512;
+
 /// At most so many operands, locals and open labels of a thread.
 pub(crate) const SIZE_LIMIT: usize = 16384;
+
+#[inline(always)]
+fn one_less(n: usize) -> usize
+    ensures { result ≡ n - 1 }
+{
+    n.saturating_sub(1)
+}
+
+// How many operands there is room for, by the limit and by their memory.
+fn room_of(labels: usize, locals: usize, capacity: usize) -> usize
+    ensures place { result ≤ capacity }
+    ensures limit { result ≤ 16384 - (labels + locals) }
+{
+    if labels > SIZE_LIMIT || locals > SIZE_LIMIT - labels {
+        return 0;
+    }
+    let left = SIZE_LIMIT - labels - locals;
+    if left < capacity { left } else { capacity }
+}
 
 // One more item. Room is tested here, so that an item for which there is room is put in place without a call.
 #[inline(always)]
 fn push_to<T: Drop>(items: &mut Vec<T>, item: T) -> Result<(), AllocError>
     ensures ok { OnOk result (items.new.items ≡ items.old.items ++ item ∷ []) }
     ensures err { OnErr result (items.new.items ≡ items.old.items) }
+    ensures capacity { vec_capacity items.old ≤ vec_capacity items.new }
 {
     if items.len() < items.capacity() {
         items.push_reserved(item);
@@ -427,6 +633,7 @@ fn push_to<T: Drop>(items: &mut Vec<T>, item: T) -> Result<(), AllocError>
 fn push_to_full<T: Drop>(items: &mut Vec<T>, item: T) -> Result<(), AllocError>
     ensures ok { OnOk result (items.new.items ≡ items.old.items ++ item ∷ []) }
     ensures err { OnErr result (items.new.items ≡ items.old.items) }
+    ensures capacity { vec_capacity items.old ≤ vec_capacity items.new }
 {
     items.push(item)?;
     Ok(())

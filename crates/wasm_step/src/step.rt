@@ -79,7 +79,7 @@ impl<'m> Stack<'m> {
     {
         match self.row(program, store, instr)? {
             Next::Going => {
-                if !self.has_room(0) {
+                if !self.is_within() {
                     return Ok(Next::Trapped(Trap::Exhausted));
                 }
                 Ok(Next::Going)

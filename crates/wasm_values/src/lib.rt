@@ -6,5 +6,5 @@ mod numeric;
 mod values;
 
 pub use access::{load_value, load_width, store_width};
-pub use numeric::{Number, binary, is_unary, unary};
+pub use numeric::{Number, binary, changed, combined, is_unary, unary};
 pub use values::{bits, zero_of};

@@ -1,11 +1,11 @@
-use Rattle.std.proofs.Common.{[], ap, ◌∙◌}
+use Rattle.std.proofs.Common.{[], ap, ◌∙◌, arith}
 use Rattle.wasm_step.specs.Thread.{Thread}
 use Rattle.wasm_step.proofs.Views.{IsSound-operands, keeps_cleared, cleared_view}
 use Rattle.wasm_step.proofs.stack.Stack.clear.Goals as goal
 
 pub invariant_of-self : goal.invariant_of-self
 invariant_of-self c =
-    IsSound-operands c.self.inside c.truncate.new.self c.self.invariant (keeps_cleared c.self.inside _ c.self.invariant c.truncate.ensures.items)
+    IsSound-operands c.self.inside c.truncate.new.self c.self.invariant (omega (arith, c.truncate.ensures.capacity)) (keeps_cleared c.self.inside _ c.self.invariant c.truncate.ensures.items)
 
 pub returns : goal.returns
 returns c =

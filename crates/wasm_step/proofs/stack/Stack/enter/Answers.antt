@@ -5,15 +5,15 @@ use Rattle.wasm_values.specs.Values.{zeros}
 use Rattle.wasm_step.specs.Thread.{Thread, called_with, arguments, entered}
 use Rattle.wasm_step.specs.declared.stack.Held.{Held}
 use Rattle.wasm_step.specs.View.{thread_of}
-use Rattle.wasm_step.proofs.Views.{IsSound-operands, keeps_without, without_view, arguments_view, entered_sound, entered_view, IsSound-locals, longer}
+use Rattle.wasm_step.proofs.Views.{IsSound-operands, keeps_without, without_view, arguments_view, entered_sound, entered_view, IsSound-locals, longer, emptied}
 use Rattle.wasm_step.proofs.stack.Stack.enter.Goals as goal
 
 pub invariant_of-self-in_err-append_zeros : goal.invariant_of-self-in_err-append_zeros
 invariant_of-self-in_err-append_zeros c =
     let s = c.self.inside in
-    IsSound-locals s c.append_zeros.new.locals c.self.invariant (longer _ _ _ _ c.in_ok-extend_from_slice.ensures.items c.append_zeros.ensures.kept)
+    IsSound-locals (record s { room = 0 }) c.append_zeros.new.locals (emptied s c.self.invariant) refl (longer _ _ _ _ c.in_ok-extend_from_slice.ensures.items c.append_zeros.ensures.kept)
 
-module _ (c : goal.After-self-2-1) where
+module _ (c : goal.After-self-3-1) where
   height : c.len-height.result ≡ length c.self.inside.operands.items
   height = c.len-height.ensures ∙ c.self.inside.operands.ok.0
 
@@ -39,8 +39,8 @@ module _ (c : goal.After-self-2-1) where
 pub invariant_of-self-2 : goal.invariant_of-self-2
 invariant_of-self-2 c =
     let s = c.self.inside in
-    let without' = IsSound-operands s c.truncate.new.self c.self.invariant (keeps_without s c.args.n c.self.invariant (enough c) c.truncate.new.self.items (kept c)) in
-    entered_sound _ _ c.append_zeros.new.locals c.push.new.self _ without' (floor c) refl (c.len.ensures ∙ s.labels.ok.0) (c.len-locals_from.ensures ∙ s.locals.ok.0) (added c) c.in_ok-push.ensures.items
+    let without' = IsSound-operands (record s { room = 0 }) c.truncate.new.self (emptied s c.self.invariant) (omega (arith, c.truncate.ensures.capacity)) (keeps_without (record s { room = 0 }) c.args.n (emptied s c.self.invariant) (enough c) c.truncate.new.self.items (kept c)) in
+    entered_sound _ _ c.append_zeros.new.locals c.push.new.self _ without' refl (floor c) refl (c.len.ensures ∙ s.labels.ok.0) (c.len-locals_from.ensures ∙ s.locals.ok.0) (added c) c.in_ok-push.ensures.items
 
 pub returns : goal.returns
 returns c =
@@ -48,7 +48,7 @@ returns c =
     let n = c.args.n in
     let args = drop (length s.operands.items - n) s.operands.items in
     let callee = c.args.callee in
-    let without' = IsSound-operands s c.truncate.new.self c.self.invariant (keeps_without s n c.self.invariant (enough c) c.truncate.new.self.items (kept c)) in
+    let without' = IsSound-operands (record s { room = 0 }) c.truncate.new.self (emptied s c.self.invariant) (omega (arith, c.truncate.ensures.capacity)) (keeps_without (record s { room = 0 }) n (emptied s c.self.invariant) (enough c) c.truncate.new.self.items (kept c)) in
     let now : Held = record {
       label = record {
         gives = c.args.gives;
@@ -69,4 +69,4 @@ returns c =
     ∙ ap (λ a. called_with a n (thread_of s) c.args.index callee c.args.gives) (arguments_view s n c.self.invariant (enough c))
     ∙ ap (λ (t : Thread). Some (entered t c.args.index callee.body (args ++ zeros callee.locals) c.args.gives)) (sym view)
     ∙ ap (λ body. Some (entered (thread_of (record s { operands = c.truncate.new.self })) c.args.index body (args ++ zeros callee.locals) c.args.gives)) (sym c.body.ensures)
-    ∙ ap Some (entered_view _ now c.append_zeros.new.locals c.push.new.self _ without' (floor c) refl (c.len.ensures ∙ s.labels.ok.0) (c.len-locals_from.ensures ∙ s.locals.ok.0) (added c) c.in_ok-push.ensures.items refl c.is_some.ensures refl c.is_some-2.ensures)
+    ∙ ap Some (entered_view _ now c.append_zeros.new.locals c.push.new.self _ without' refl (floor c) refl (c.len.ensures ∙ s.labels.ok.0) (c.len-locals_from.ensures ∙ s.locals.ok.0) (added c) c.in_ok-push.ensures.items refl c.is_some.ensures refl c.is_some-2.ensures)

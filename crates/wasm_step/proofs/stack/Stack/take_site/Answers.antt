@@ -18,7 +18,7 @@ module _ (c : goal.After-truncate) where
 pub invariant_of-self : goal.invariant_of-self
 invariant_of-self c =
     let s = c.self.inside in
-    IsSound-operands s c.truncate.new.self c.self.invariant (keeps_without s c.args.n c.self.invariant (enough c) c.truncate.new.self.items (kept c))
+    IsSound-operands s c.truncate.new.self c.self.invariant (omega (arith, c.truncate.ensures.capacity)) (keeps_without s c.args.n c.self.invariant (enough c) c.truncate.new.self.items (kept c))
 
 pub returns-clause-some : goal.returns-clause-some
 returns-clause-some c =

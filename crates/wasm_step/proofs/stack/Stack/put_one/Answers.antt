@@ -1,0 +1,17 @@
+use Rattle.std.proofs.Common.{◌<◌, ◌∷◌, length, drop, ap, ◌∙◌, arith}
+use Rattle.wasm_step.specs.Thread.{Thread}
+use Rattle.wasm_step.proofs.Quicks.{put_one_sound, put_one_view}
+use Rattle.wasm_step.proofs.stack.Stack.put_one.Goals as goal
+
+module _ (c : goal.After-push_reserved) where
+  enough : c.self.inside.here.label.floor < length c.self.inside.operands.items
+  enough = omega (arith, c.len-height.ensures, c.self.inside.operands.ok.0)
+
+pub invariant_of-self-2 : goal.invariant_of-self-2
+invariant_of-self-2 c =
+    put_one_sound c.self.inside c.pop.new.self c.push_reserved.new.self c.in-Some._x c.args.v c.self.invariant (enough c) (omega (arith, c.pop.ensures.capacity)) (omega (arith, c.push_reserved.ensures.capacity)) c.in-Some.ensures.items c.push_reserved.ensures.items
+
+pub returns-clause-put : goal.returns-clause-put
+returns-clause-put c = λ _.
+    put_one_view c.self.inside c.pop.new.self c.push_reserved.new.self c.in-Some._x c.args.v c.self.invariant (enough c) (omega (arith, c.pop.ensures.capacity)) (omega (arith, c.push_reserved.ensures.capacity)) c.in-Some.ensures.items c.push_reserved.ensures.items
+    ∙ ap (λ (t : Thread). record t { stack = c.args.v ∷ drop 1 t.stack }) c.self.view_is

@@ -1,0 +1,17 @@
+use Rattle.std.proofs.Common.{◌+◌, ◌≤◌, ◌∷◌, length, drop, ap, ◌∙◌, arith}
+use Rattle.wasm_step.specs.Thread.{Thread}
+use Rattle.wasm_step.proofs.Quicks.{put_two_sound, put_two_view}
+use Rattle.wasm_step.proofs.stack.Stack.put_two.Goals as goal
+
+module _ (c : goal.After-push_reserved-2) where
+  enough : c.self.inside.here.label.floor + 2 ≤ length c.self.inside.operands.items
+  enough = omega (arith, c.len-height.ensures ∙ c.self.inside.operands.ok.0, c.if-height-lt2.false, c.if-height-self.false)
+
+pub invariant_of-self-2 : goal.invariant_of-self-2
+invariant_of-self-2 c =
+    put_two_sound c.self.inside c.pop.new.self c.pop-2.new.self c.push_reserved-2.new.self c.in-Some-pop._x c.in-Some.y c.args.v c.self.invariant (enough c) (omega (arith, c.pop.ensures.capacity)) (omega (arith, c.pop-2.ensures.capacity)) (omega (arith, c.push_reserved-2.ensures.capacity)) c.in-Some.ensures.items c.in-Some-pop.ensures.items c.push_reserved-2.ensures.items
+
+pub returns-clause-put : goal.returns-clause-put
+returns-clause-put c = λ _.
+    put_two_view c.self.inside c.pop.new.self c.pop-2.new.self c.push_reserved-2.new.self c.in-Some-pop._x c.in-Some.y c.args.v c.self.invariant (enough c) (omega (arith, c.pop.ensures.capacity)) (omega (arith, c.pop-2.ensures.capacity)) (omega (arith, c.push_reserved-2.ensures.capacity)) c.in-Some.ensures.items c.in-Some-pop.ensures.items c.push_reserved-2.ensures.items
+    ∙ ap (λ (t : Thread). record t { stack = c.args.v ∷ drop 2 t.stack }) c.self.view_is
