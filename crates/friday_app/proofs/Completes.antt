@@ -1,5 +1,7 @@
 -- Valid words and files have an outcome that is work, and where no fault comes the work is done.
-use Rattle.std.proofs.Common.{◌≡◌, ◌⊎◌, ◌↔◌, ◌++◌, ℕ, suc, List, [], ◌∷◌, length, Bool, false, cond, Option, Some, None, Result, Ok, Err, refl, ap, inl, inr, ◌∙◌}
+use Rattle.std.proofs.Common.{◌≡◌, ◌⊎◌, ◌↔◌, ◌++◌, ℕ, suc, List, [], ◌∷◌, length, map, Bool, Option, Some, None, Result, Ok, refl, sym, ap, subst, append_assoc, append-nil, inl, inr, ◌∙◌}
+use Rattle.std.specs.Prelude.{AllPairs}
+use Rattle.std.proofs.lemmas.List.{map-append}
 use Rattle.fri_outside.specs.Laws.{KeepsFiles}
 use Rattle.fri_outside.specs.Outside.{Store, found_within}
 use Rattle.wasm_types.specs.Modules.{Module}
@@ -11,13 +13,15 @@ use Rattle.call_log.specs.Laws.{ExactLogs}
 use Rattle.call_log.specs.Log.{head_at}
 use Rattle.friday_app.specs.declared.status.Status.{Status}
 use Rattle.friday_app.specs.declared.status.Status.TheVariants as ends
-use Rattle.friday_app.specs.declared.refusal.Reason.TheVariants as reason
 use Rattle.call_log.specs.Limits.{most_log}
 use Rattle.friday_app.specs.Limits.{most_module, most_schedule}
-use Rattle.friday_app.specs.Command.{Command, Record, Replay}
+use Rattle.friday_app.specs.Command.{Command, Pair, Record, Replay}
 use Rattle.guest_process.specs.State.{State}
-use Rattle.friday_app.specs.Outcome.{Work, Stop, and_then, file_of, given, refuses}
-use Rattle.friday_app.specs.Expected.{expected, group_outcome, module_of, modules_of, begun_of, begun_or, log_of, record_outcome, spelled_or, unless_refused, valid_or, head_or, schedule_in, schedule_or}
+use Rattle.proc_replay.specs.Replaying.{Replaying}
+use Rattle.friday_app.specs.Outcome.{Work, Stop, and_then, file_of, given}
+use Rattle.friday_app.specs.Expected.{expected, group_outcome, modules_of, record_outcome, replay_outcome, schedule_in, schedule_or}
+use Rattle.friday_app.specs.Inputs.{module_of, begun_of, begun_or, log_of, spelled_or, unless_refused, valid_or, head_or}
+use Rattle.friday_app.specs.Pairs.{Loaded, all_loaded, all_placed, begun_replay, replays_of}
 use Rattle.friday_app.specs.Record.{by_room, recorded_work}
 use Rattle.friday_app.specs.Report.{replay_work}
 use Rattle.schedule_text.specs.Laws.{GivesSchedules}
@@ -28,10 +32,10 @@ use Rattle.group_record.specs.Answer.{begun, begun_from, begun_then, group_of}
 use Rattle.group_record.specs.Run.{run}
 use Rattle.friday_app.specs.Call.{IsAnswer}
 use Rattle.friday_app.specs.Run.{Outside, Run, NoFault, Works}
-use Rattle.friday_app.specs.Seen.{Gathers}
-use Rattle.friday_app.specs.Valid.{HasWork, IsValid, AreModuleFiles, Begins, IsModuleFile, IsLogFile, IsRecorded, IsScheduleFile, Stands, modules_in}
+use Rattle.friday_app.specs.Valid.{HasWork, IsValid, AreModuleFiles, ArePairs, Begins, GoTogether, IsGroup, IsLogFile, IsModuleFile, IsPair, IsRecorded, IsScheduleFile, Stands, heads_in, modules_in}
 use Rattle.friday_app.proofs.Faults.{no_fault}
-use Rattle.friday_app.proofs.Gathered.{gathered}
+use Rattle.friday_app.proofs.Loading.{pair_stands, read_as}
+use Rattle.friday_app.proofs.Together.{no_clash}
 
 -- what the crates below say of their definitions
 pub record Laws : Type 0 where
@@ -81,29 +85,74 @@ module _ (laws : Laws) where
       ap (λ (o : Option State). begun_then o p (begun_from count (suc p) (modules_in store count (suc p) lines files.1))) files.0.1.1
       ∙ ap (begun_then (Some files.0.1.0) p) (states_stand store count (suc p) lines files.1)
 
-  recording_works : (schedule_name : List ℕ) (store : Store) → IsRecorded store schedule_name → (work : Work) × (record_outcome schedule_name store ≡ Ok work)
-  recording_works schedule_name store h =
+  recording_works : (images : Bool) (schedule_name : List ℕ) (store : Store) → IsRecorded store schedule_name → (work : Work) × (record_outcome images schedule_name store ≡ Ok work)
+  recording_works images schedule_name store h =
       let schedule = h.schedule in
       let count = length schedule.processes in
       let modules = modules_in store count 0 schedule.processes h.files in
       let first = states_in store count 0 schedule.processes h.files in
       let group = group_of schedule first in
-      let begins : begun schedule modules ≡ Ok first = states_stand store count 0 schedule.processes h.files in
-      let gathers : Gathers store schedule_name schedule modules =
-      record { spelled = schedule_stands store schedule_name schedule h.file; found = modules_stand store count 0 schedule.processes h.files } in (
-        recorded_work group (run group schedule.items),
-        gathered store schedule_name schedule modules gathers ∙ ap (group_outcome schedule_name schedule) begins
-            ∙ ap (by_room schedule_name group (run group schedule.items)) (h.room first begins),
+      let begins : begun schedule modules ≡ Ok first = states_stand store count 0 schedule.processes h.files in (
+        recorded_work images group (run group schedule.items),
+        ap (λ (r : Result Schedule Stop). and_then r (λ schedule. and_then (modules_of store schedule.processes) (λ modules. group_outcome images schedule_name schedule (begun schedule modules)))) (schedule_stands store schedule_name schedule h.file)
+            ∙ ap (λ (r : Result (List Module) Stop). and_then r (λ modules. group_outcome images schedule_name schedule (begun schedule modules))) (modules_stand store count 0 schedule.processes h.files)
+            ∙ ap (group_outcome images schedule_name schedule) begins
+            ∙ ap (by_room images schedule_name group (run group schedule.items)) (h.room first begins),
+      )
+
+  -- what the files of a pair hold, and its replay
+  abbrev held : (store : Store) (pair : Pair) → IsPair store pair → Loaded
+  held store pair file = read_as pair file.«module».«module» (file.log.head, file.log.left)
+
+  abbrev held_in : (store : Store) (pairs : List Pair) → ArePairs store pairs → List Loaded
+  held_in store [] files = []
+  held_in store (pair ∷ pairs) files = held store pair files.0 ∷ held_in store pairs files.1
+
+  abbrev replay_in : (store : Store) (pair : Pair) → IsPair store pair → Replaying
+  replay_in store pair file = record { head = file.log.head; state = file.begins.0; left = file.log.left }
+
+  abbrev replays_in : (store : Store) (pairs : List Pair) → ArePairs store pairs → List Replaying
+  replays_in store [] files = []
+  replays_in store (pair ∷ pairs) files = replay_in store pair files.0 ∷ replays_in store pairs files.1
+
+  -- the pairs behind some others, where the heads of them all go together
+  pairs_stand : (store : Store) (earlier : List Loaded) (pairs : List Pair) (files : ArePairs store pairs) → AllPairs GoTogether (map (λ l. l.head) earlier ++ heads_in store pairs files)
+      → all_loaded store earlier pairs ≡ Ok (earlier ++ held_in store pairs files)
+  pairs_stand store earlier [] files together = ap (λ (ls : List Loaded). Ok ls) (sym (append-nil earlier))
+  pairs_stand store earlier (pair ∷ pairs) files together =
+      let file = files.0 in
+      let l = held store pair file in
+      let heads = heads_in store pairs files.1 in
+      let none = no_clash earlier file.log.head heads together in
+      let one = pair_stands store earlier pair file.«module».«module» (file.log.head, file.log.left) (module_stands store pair.module_name file.«module») (log_stands store pair.log_name file.log) none in
+      let same : map (λ l. l.head) earlier ++ file.log.head ∷ heads ≡ map (λ l. l.head) (earlier ++ l ∷ []) ++ heads =
+      sym (append_assoc (map (λ l. l.head) earlier) (file.log.head ∷ []) heads) ∙ ap (λ (hs : List Head). hs ++ heads) (sym (map-append (λ (l : Loaded). l.head) earlier (l ∷ []))) in
+      ap (λ (r : Result Loaded Stop). and_then r (λ l. all_loaded store (earlier ++ l ∷ []) pairs)) one
+      ∙ pairs_stand store (earlier ++ l ∷ []) pairs files.1 (subst (λ (hs : List Head). AllPairs GoTogether hs) same together)
+      ∙ ap (λ (ls : List Loaded). Ok ls) (append_assoc earlier (l ∷ []) (held_in store pairs files.1))
+
+  replay_begins : (store : Store) (pair : Pair) (file : IsPair store pair) → begun_replay (held store pair file) ≡ Ok (replay_in store pair file)
+  replay_begins store pair file =
+      ap (λ (r : Result State Stop). and_then r (λ begun. Ok (record { head = file.log.head; state = begun; left = file.log.left })))
+      (begins_at pair.module_name file.«module».«module» file.log.head.process file.log.head.count file.begins)
+
+  replays_begin : (store : Store) (pairs : List Pair) (files : ArePairs store pairs) → replays_of (held_in store pairs files) ≡ Ok (replays_in store pairs files)
+  replays_begin store [] files = refl
+  replays_begin store (pair ∷ pairs) files =
+      ap (λ (r : Result Replaying Stop). and_then r (λ r. and_then (replays_of (held_in store pairs files.1)) (λ rs. Ok (r ∷ rs)))) (replay_begins store pair files.0)
+      ∙ ap (λ (o : Result (List Replaying) Stop). and_then o (λ rs. Ok (replay_in store pair files.0 ∷ rs))) (replays_begin store pairs files.1)
+
+  replaying_works : (images : Bool) (pairs : List Pair) (store : Store) → IsGroup store pairs → (work : Work) × (replay_outcome images pairs store ≡ Ok work)
+  replaying_works images pairs store h =
+      let rs = replays_in store pairs h.files in (
+        replay_work images (all_placed [] rs),
+        ap (λ (r : Result (List Loaded) Stop). and_then (and_then r (λ ls. and_then (replays_of ls) (λ rs. Ok (all_placed [] rs)))) (λ start. Ok (replay_work images start))) (pairs_stand store [] pairs h.files h.together)
+            ∙ ap (λ (r : Result (List Replaying) Stop). and_then (and_then r (λ rs. Ok (all_placed [] rs))) (λ start. Ok (replay_work images start))) (replays_begin store pairs h.files),
       )
 
   pub valid_works : (command : Command) (store : Store) (left : Option (List ℕ)) → IsValid (Some command) store left → (work : Work) × (expected (Some command) (Some store) left ≡ Some (Ok work))
-  valid_works (Record schedule_name) store left h = let w = recording_works schedule_name store h in (w.0, ap Some w.1)
-  valid_works (Replay module_name log_name) store left (m, w) = let l = w.0 in let b = w.1 in (
-    replay_work b.0 l.head l.left,
-    ap Some (ap (λ (r : Result Module Stop). and_then r (λ m. and_then (log_of store log_name) (λ log. and_then (begun_of module_name m log.0.process log.0.count) (λ begun. Ok (replay_work begun log.0 log.1))))) (module_stands store module_name m)
-        ∙ ap (λ (r : Result (Head × List ℕ) Stop). and_then r (λ log. and_then (begun_of module_name m.«module» log.0.process log.0.count) (λ begun. Ok (replay_work begun log.0 log.1)))) (log_stands store log_name l)
-        ∙ ap (λ (r : Result State Stop). and_then r (λ begun. Ok (replay_work begun l.head l.left))) (begins_at module_name m.«module» l.head.process l.head.count b)),
-  )
+  valid_works (Record images schedule_name) store left h = let w = recording_works images schedule_name store h in (w.0, ap Some w.1)
+  valid_works (Replay images pairs) store left h = let w = replaying_works images pairs store h in (w.0, ap Some w.1)
 
 settled : (answer wanted : Status) → (IsAnswer answer → answer ≡ wanted) → (answer ≡ ends.ReadFault → ⊥) → (answer ≡ ends.WriteFault → ⊥) → (answer ≡ wanted) ⊎ (answer ≡ ends.NoMemory)
 settled ends.ReadFault wanted answers reads writes = absurd (reads refl)

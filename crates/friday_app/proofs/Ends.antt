@@ -14,10 +14,11 @@ use Rattle.friday_app.specs.declared.refusal.Refusal.TheVariants as refusal
 use Rattle.friday_app.specs.Command.{Command, Record, Replay}
 use Rattle.friday_app.specs.Outcome.{Outcome, refused_line, usage_line, status_of, text_of, writes_of}
 use Rattle.friday_app.specs.Expected.{expected, written_by}
-use Rattle.friday_app.specs.Agreement.{KeepsMoment, KeepsRecording}
+use Rattle.friday_app.specs.Agreement.{KeepsMoment, KeepsRecording, RecordingsAgree}
 use Rattle.friday_app.specs.Run.{Outside, Run}
 use Rattle.friday_app.specs.Call.{Prints, PrintsAbsent, PrintsLast, PrintsRefusal, KeepsInput, Untouched, DivergesOnlyIn, Leaves, IsAnswer, IsEnd, Tells, Makes, Keeps, Raises, FaultStatus, answer_of, Finishes}
 use Rattle.friday_app.proofs.Made.{same_changes, all_changes, same_others}
+use Rattle.friday_app.proofs.Recordings.{moment_before}
 
 nothing_more : (o : Option (List ℕ)) → o ≡ append_known o []
 nothing_more None = refl
@@ -142,8 +143,8 @@ last_ends (Err refusal.NoMemory) files printed printed_after before after makes 
 -- an input that is as it was
 pub kept_input : {untouched : Type 0} (command : Option Command) → untouched → KeepsInput command untouched
 kept_input None same = same
-kept_input (Some (Record schedule_name)) same = same
-kept_input (Some (Replay module_name log_name)) same = same
+kept_input (Some (Record images schedule_name)) same = same
+kept_input (Some (Replay images pairs)) same = same
 
 -- a run of a command whose result was finished
 pub run_ends : (command : Command) (ended : Result Answer Refusal) (answer : Status) (old new : Outside)
@@ -217,3 +218,30 @@ run_none answer old new same usage prints reads writes untouched = record {
 -- the same of words that come to that
 pub run_same : {command said : Option Command} {old new : Outside} {answer : Status} → command ≡ said → Run command old new answer → Run said old new answer
 run_same {old = old} {new = new} {answer = answer} is run = subst (λ k. Run k old new answer) is run
+
+-- a run that ended for want of memory before anything was read
+pub run_stopped : RecordingsAgree → (command : Option Command) (old new : Outside) → new.told ≡ old.told → new.taken ≡ old.taken
+    → Untouched old.left new.left old.input_faults new.input_faults → Run command old new ends.NoMemory
+run_stopped agree command old new same silent untouched = record {
+  usage = record { only = λ is. absurd cc; always = λ none h. absurd h };
+  diverged = λ is. absurd cc;
+  status = λ o e h. absurd h;
+  text = λ o e. prints_none ends.NoMemory _ _ _ (λ h. h) silent;
+  files = λ o e. record { whole = λ h. absurd h; part = same_changes _ _ (writes_of o) same };
+  others = same_others _ _ _ same;
+  recorded = λ h. absurd h;
+  moment = untouched_moment agree command old.told new.told same;
+  idle = λ h. absurd h;
+  input = kept_input command untouched;
+  prints_last = λ o e. inl silent;
+  absent_text = λ is. absurd cc;
+  absent = λ is. absurd cc;
+  refused = λ is. absurd cc;
+  read_fault = λ is. absurd cc;
+  write_fault = λ is. absurd cc;
+  out_fault = λ o e is. absurd cc;
+} where
+  untouched_moment : RecordingsAgree → (command : Option Command) (told after : Option Store) → after ≡ told → WhenTold told (λ before. KeepsMoment command before after)
+  untouched_moment agree None told after same before is = tt
+  untouched_moment agree (Some (Record images schedule_name)) told after same before is = moment_before agree told after images schedule_name same before is
+  untouched_moment agree (Some (Replay images pairs)) told after same before is = tt

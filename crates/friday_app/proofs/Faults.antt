@@ -12,7 +12,7 @@ use Rattle.friday_app.specs.declared.refusal.Reason.TheVariants as reason
 use Rattle.friday_app.specs.declared.refusal.Refusal.{Refusal}
 use Rattle.friday_app.specs.declared.refusal.Refusal.TheVariants as refusal
 use Rattle.friday_app.specs.Call.{Names, StopsAs}
-use Rattle.friday_app.specs.Expected.{valid_or}
+use Rattle.friday_app.specs.Inputs.{valid_or}
 use Rattle.friday_app.specs.Fault.{fault_of, reason_of}
 
 module _ (exact : ExactFault) where

@@ -1,5 +1,5 @@
 -- What `record` says of its result, from what it gathered.
-use Rattle.std.proofs.Common.{◌≡◌, ℕ, List, Option, Some, option_map, Ok, Err, Result, sym, ap, subst, ◌∙◌}
+use Rattle.std.proofs.Common.{◌≡◌, ℕ, Bool, List, Option, Some, option_map, Ok, Err, Result, sym, ap, subst, ◌∙◌}
 use Rattle.fri_outside.specs.Outside.{Store, WhenTold}
 use Rattle.wasm_types.specs.Modules.{Module}
 use Rattle.schedule_text.specs.Schedule.{Schedule}
@@ -32,38 +32,38 @@ stops_then r next refusal.WriteFault is = tt
 stops_then r next refusal.NoMemory is = tt
 
 -- a schedule was refused
-pub schedule_stops : (store : Store) (name : List ℕ) (e : Refusal) → StopsAs (schedule_in store name) e → StopsAs (record_outcome name store) e
-schedule_stops store name e stops = stops_then (schedule_in store name) _ e stops
+pub schedule_stops : (store : Store) (images : Bool) (name : List ℕ) (e : Refusal) → StopsAs (schedule_in store name) e → StopsAs (record_outcome images name store) e
+schedule_stops store images name e stops = stops_then (schedule_in store name) _ e stops
 
-modules_next : (store : Store) (name : List ℕ) (schedule : Schedule) → schedule_in store name ≡ Ok schedule
-    → record_outcome name store ≡ and_then (modules_of store schedule.processes) (λ modules. group_outcome name schedule (begun schedule modules))
-modules_next store name schedule read =
-    ap (λ (r : Result Schedule Stop). and_then r (λ schedule. and_then (modules_of store schedule.processes) (λ modules. group_outcome name schedule (begun schedule modules)))) read
+modules_next : (store : Store) (images : Bool) (name : List ℕ) (schedule : Schedule) → schedule_in store name ≡ Ok schedule
+    → record_outcome images name store ≡ and_then (modules_of store schedule.processes) (λ modules. group_outcome images name schedule (begun schedule modules))
+modules_next store images name schedule read =
+    ap (λ (r : Result Schedule Stop). and_then r (λ schedule. and_then (modules_of store schedule.processes) (λ modules. group_outcome images name schedule (begun schedule modules)))) read
 
 -- a module of a schedule was refused
-pub modules_stop : (store : Store) (name : List ℕ) (schedule : Schedule) (e : Refusal) → schedule_in store name ≡ Ok schedule → StopsAs (modules_of store schedule.processes) e → StopsAs (record_outcome name store) e
-modules_stop store name schedule e read stops =
-    subst (λ (o : Outcome). StopsAs o e) (sym (modules_next store name schedule read)) (stops_then (modules_of store schedule.processes) _ e stops)
+pub modules_stop : (store : Store) (images : Bool) (name : List ℕ) (schedule : Schedule) (e : Refusal) → schedule_in store name ≡ Ok schedule → StopsAs (modules_of store schedule.processes) e → StopsAs (record_outcome images name store) e
+modules_stop store images name schedule e read stops =
+    subst (λ (o : Outcome). StopsAs o e) (sym (modules_next store images name schedule read)) (stops_then (modules_of store schedule.processes) _ e stops)
 
 -- a schedule and its modules are recorded
-pub gathered : (store : Store) (name : List ℕ) (schedule : Schedule) (modules : List Module) → Gathers store name schedule modules
-    → record_outcome name store ≡ group_outcome name schedule (begun schedule modules)
-gathered store name schedule modules g =
-    modules_next store name schedule g.spelled
-    ∙ ap (λ (r : Result (List Module) Stop). and_then r (λ modules. group_outcome name schedule (begun schedule modules))) g.found
+pub gathered : (store : Store) (images : Bool) (name : List ℕ) (schedule : Schedule) (modules : List Module) → Gathers store name schedule modules
+    → record_outcome images name store ≡ group_outcome images name schedule (begun schedule modules)
+gathered store images name schedule modules g =
+    modules_next store images name schedule g.spelled
+    ∙ ap (λ (r : Result (List Module) Stop). and_then r (λ modules. group_outcome images name schedule (begun schedule modules))) g.found
 
 -- what their recording says
-pub group_tells : (told : Option Store) (name : List ℕ) (schedule : Schedule) (modules : List Module) (result : Result Answer Refusal) → WhenTold told (λ store. Gathers store name schedule modules)
-    → Tells (group_outcome name schedule (begun schedule modules)) result
-    → (o : Outcome) → option_map (record_outcome name) told ≡ Some o → Tells o result
-group_tells told name schedule modules result gathers tells o is =
-    let h = outcome_at (record_outcome name) told o is in
-    subst (λ (o : Outcome). Tells o result) (sym (h.2 ∙ gathered h.0 name schedule modules (gathers h.0 h.1))) tells
+pub group_tells : (told : Option Store) (images : Bool) (name : List ℕ) (schedule : Schedule) (modules : List Module) (result : Result Answer Refusal) → WhenTold told (λ store. Gathers store name schedule modules)
+    → Tells (group_outcome images name schedule (begun schedule modules)) result
+    → (o : Outcome) → option_map (record_outcome images name) told ≡ Some o → Tells o result
+group_tells told images name schedule modules result gathers tells o is =
+    let h = outcome_at (record_outcome images name) told o is in
+    subst (λ (o : Outcome). Tells o result) (sym (h.2 ∙ gathered h.0 images name schedule modules (gathers h.0 h.1))) tells
 
-pub group_makes : (told middle after : Option Store) (name : List ℕ) (schedule : Schedule) (modules : List Module) (result : Result Answer Refusal) → WhenTold told (λ store. Gathers store name schedule modules)
-    → middle ≡ told → Makes result (writes_of (group_outcome name schedule (begun schedule modules))) middle after
-    → (o : Outcome) → option_map (record_outcome name) told ≡ Some o → Makes result (writes_of o) told after
-group_makes told middle after name schedule modules result gathers same makes o is =
-    let h = outcome_at (record_outcome name) told o is in
-    subst (λ (o : Outcome). Makes result (writes_of o) told after) (sym (h.2 ∙ gathered h.0 name schedule modules (gathers h.0 h.1)))
-    (subst (λ (t : Option Store). Makes result (writes_of (group_outcome name schedule (begun schedule modules))) t after) same makes)
+pub group_makes : (told middle after : Option Store) (images : Bool) (name : List ℕ) (schedule : Schedule) (modules : List Module) (result : Result Answer Refusal) → WhenTold told (λ store. Gathers store name schedule modules)
+    → middle ≡ told → Makes result (writes_of (group_outcome images name schedule (begun schedule modules))) middle after
+    → (o : Outcome) → option_map (record_outcome images name) told ≡ Some o → Makes result (writes_of o) told after
+group_makes told middle after images name schedule modules result gathers same makes o is =
+    let h = outcome_at (record_outcome images name) told o is in
+    subst (λ (o : Outcome). Makes result (writes_of o) told after) (sym (h.2 ∙ gathered h.0 images name schedule modules (gathers h.0 h.1)))
+    (subst (λ (t : Option Store). Makes result (writes_of (group_outcome images name schedule (begun schedule modules))) t after) same makes)

@@ -1,5 +1,5 @@
 -- What is made of the files of a command's work.
-use Rattle.std.proofs.Common.{◌≡◌, ◌<◌, ℕ, zero, suc, arith, slice_index_or, Contains, List, [], ◌∷◌, true, false, cond, map, Option, Some, None, option_map, take, length, refl, sym, ap, subst, ◌∙◌, inl, inr, lit<, Ok, Err, Result}
+use Rattle.std.proofs.Common.{◌≡◌, ◌<◌, ℕ, zero, suc, arith, slice_index_or, Contains, List, [], ◌∷◌, Bool, true, false, cond, map, Option, Some, None, option_map, take, length, refl, sym, ap, subst, ◌∙◌, inl, inr, lit<, Ok, Err, Result}
 use Rattle.std.proofs.Math.Seq.{take-length}
 use Rattle.std.proofs.lemmas.List.{length-map}
 use Rattle.std.proofs.lemmas.Option.{same_Some}
@@ -13,7 +13,7 @@ use Rattle.fri_outside.specs.Several.{with_files, IsLeft, ChangesOnly, OthersSta
 use Rattle.friday_app.specs.declared.refusal.Answer.{Answer}
 use Rattle.friday_app.specs.declared.refusal.Answer.TheVariants as answered
 use Rattle.friday_app.specs.Agreement.{KeepsMoment, KeepsRecording, LeavesMoment, LeavesRecording}
-use Rattle.friday_app.specs.Command.{Command, Record, Replay}
+use Rattle.friday_app.specs.Command.{Command, Pair, Record, Replay}
 use Rattle.friday_app.specs.declared.refusal.Refusal.{Refusal}
 use Rattle.friday_app.specs.declared.refusal.Refusal.TheVariants as refusal
 use Rattle.friday_app.specs.Outcome.{Outcome, nothing_done, writes_of}
@@ -123,6 +123,12 @@ changes_others files before after changes = record {
   stays old new name out (inl same) = same
   stays old new name out (inr (bytes, among, part)) = absurd (out (name_among (files old) (name, bytes) among))
 
+-- whatever it comes to, the names of the files that it was to make alone changed
+pub makes_others : (f : Store → Outcome) (before after : Option Store) (ended : Result Answer Refusal) → ((o : Outcome) → option_map f before ≡ Some o → Makes ended (writes_of o) before after)
+    → OthersStay (λ store. map (λ file. file.0) (writes_of (f store))) before after
+makes_others f before after ended makes =
+    changes_others (λ store. writes_of (f store)) before after (λ store is. makes_changes ended _ before after (makes (f store) (ap (option_map f) is)))
+
 -- a refusal that a command stops at tells its outcome, and no file was to be made
 pub stops_tell : (o : Outcome) (e : Refusal) → StopsAs o e → Tells o (Err e)
 stops_tell o (refusal.Refused file why) is = (nothing_done, is, refl)
@@ -150,20 +156,20 @@ never_diverges command (Ok (answered.Diverged text)) h = absurd h
 never_diverges command (Err refusal) h = tt
 
 -- a command that is a recording leaves it where it comes to an answer
-pub keeps_recording : {command : Command} {schedule_name : List ℕ} (before after : Option Store) → command ≡ Record schedule_name
+pub keeps_recording : {command : Command} {images : Bool} {schedule_name : List ℕ} (before after : Option Store) → command ≡ Record images schedule_name
     → WhenTold before (λ old. WhenTold after (LeavesRecording schedule_name old))
     → WhenTold before (λ old. WhenTold after (KeepsRecording (Some command) old))
 keeps_recording before after is leaves old told new here = subst (λ (k : Command). KeepsRecording (Some k) old new) (sym is) (leaves old told new here)
 
 -- and at any time that of a moment of its run
-pub keeps_moment : {command : Command} {schedule_name : List ℕ} (before after : Option Store) → command ≡ Record schedule_name
-    → WhenTold before (λ old. LeavesMoment schedule_name old after) → WhenTold before (λ old. KeepsMoment (Some command) old after)
+pub keeps_moment : {command : Command} {images : Bool} {schedule_name : List ℕ} (before after : Option Store) → command ≡ Record images schedule_name
+    → WhenTold before (λ old. LeavesMoment images schedule_name old after) → WhenTold before (λ old. KeepsMoment (Some command) old after)
 keeps_moment before after is leaves old told = subst (λ (k : Command). KeepsMoment (Some k) old after) (sym is) (leaves old told)
 
 -- and a replay has none to leave
-pub no_recording : {command : Command} {module_name log_name : List ℕ} (before after : Option Store) → command ≡ Replay module_name log_name
+pub no_recording : {command : Command} {images : Bool} {pairs : List Pair} (before after : Option Store) → command ≡ Replay images pairs
     → WhenTold before (λ old. WhenTold after (KeepsRecording (Some command) old))
 no_recording before after is old told new here = subst (λ (k : Command). KeepsRecording (Some k) old new) (sym is) tt
 
-pub no_moment : {command : Command} {module_name log_name : List ℕ} (before after : Option Store) → command ≡ Replay module_name log_name → WhenTold before (λ old. KeepsMoment (Some command) old after)
+pub no_moment : {command : Command} {images : Bool} {pairs : List Pair} (before after : Option Store) → command ≡ Replay images pairs → WhenTold before (λ old. KeepsMoment (Some command) old after)
 no_moment before after is old told = subst (λ (k : Command). KeepsMoment (Some k) old after) (sym is) tt

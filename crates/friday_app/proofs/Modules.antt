@@ -17,7 +17,8 @@ use Rattle.group_record.specs.Answer.{begun_from, begun_then}
 use Rattle.friday_app.specs.declared.refusal.Reason.{Reason}
 use Rattle.friday_app.specs.declared.refusal.Refusal.{Refusal}
 use Rattle.friday_app.specs.Call.{StopsAs}
-use Rattle.friday_app.specs.Expected.{module_of, modules_of, spelled_or, unless_refused, valid_or}
+use Rattle.friday_app.specs.Expected.{modules_of}
+use Rattle.friday_app.specs.Inputs.{module_of, spelled_or, unless_refused, valid_or}
 use Rattle.friday_app.specs.Fault.{fault_of, reason_of}
 use Rattle.friday_app.specs.Limits.{most_module}
 use Rattle.friday_app.specs.Outcome.{Stop, and_then, file_of}

@@ -1,5 +1,5 @@
 -- The recording of the files that a store holds: there is one, and its logs agree with it.
-use Rattle.std.proofs.Common.{◌≡◌, ℕ, List, Option, Some, option_map, Result, Ok, Err, refl, sym, ap, subst, ◌∙◌}
+use Rattle.std.proofs.Common.{◌≡◌, ◌++◌, ℕ, Bool, List, Option, Some, option_map, Result, Ok, Err, refl, sym, ap, subst, ◌∙◌}
 use Rattle.fri_outside.specs.Laws.{KeepsFiles}
 use Rattle.fri_outside.specs.Outside.{Store, WhenTold}
 use Rattle.fri_outside.specs.Several.{with_files}
@@ -11,13 +11,14 @@ use Rattle.schedule_text.specs.Reading.{Refusal as ScheduleRefusal, BadLineAt, T
 use Rattle.schedule_text.specs.Schedule.{IsWellFormed, Schedule}
 use Rattle.group_record.specs.Answer.{StoppedWhere, begun}
 use Rattle.group_record.specs.Files.{InHeads, IsStopped}
+use Rattle.group_record.specs.Images.{images_of}
 use Rattle.group_record.specs.Laws.{Agreement, Beginning, Delivery}
 use Rattle.group_record.specs.Logs.{logs}
 use Rattle.group_record.specs.Run.{log_of}
 use Rattle.friday_app.specs.declared.refusal.Answer.{Answer}
 use Rattle.friday_app.specs.declared.refusal.Refusal.{Refusal}
 use Rattle.friday_app.specs.declared.refusal.Refusal.TheVariants as refusal
-use Rattle.friday_app.specs.Agreement.{IsRecordable, LeavesMoment, LeavesRecording, RecordingsAgree, group_in, steps_in}
+use Rattle.friday_app.specs.Agreement.{IsRecordable, LeavesMoment, LeavesRecording, RecordingsAgree, group_in, run_in, steps_in}
 use Rattle.friday_app.specs.Call.{IsEnd, Makes}
 use Rattle.friday_app.specs.Expected.{group_outcome, modules_of, record_outcome, schedule_in, schedule_or}
 use Rattle.friday_app.specs.Limits.{most_schedule}
@@ -26,7 +27,7 @@ use Rattle.friday_app.specs.Seen.{Gathers}
 use Rattle.friday_app.proofs.Gathered.{gathered}
 use Rattle.friday_app.proofs.Grouped.{group_writes}
 use Rattle.friday_app.proofs.Modules.{follows, modules_valid, same_Ok}
-use Rattle.friday_app.proofs.Stopped.{logs_apart, logs_stand}
+use Rattle.friday_app.proofs.Stopped.{images_are_no_logs, logs_apart, logs_stand}
 
 -- ---- a schedule that was read
 
@@ -71,21 +72,21 @@ one_recording {store} {name} schedule modules g r =
 -- ---- what stands of it
 
 -- before anything was made
-pub moment_before : RecordingsAgree → (told after : Option Store) (name : List ℕ) → after ≡ told → WhenTold told (λ before. LeavesMoment name before after)
-moment_before agree told after name same before is r = (InHeads 0 (λ p. 0) (same ∙ is), agree before name r)
+pub moment_before : RecordingsAgree → (told after : Option Store) (images : Bool) (name : List ℕ) → after ≡ told → WhenTold told (λ before. LeavesMoment images name before after)
+moment_before agree told after images name same before is r = (InHeads 0 (λ p. 0) (same ∙ is), agree before name r)
 
 -- where the recording was stopped or came to its end
-pub moment_then : RecordingsAgree → (told middle after : Option Store) (name : List ℕ) (schedule : Schedule) (modules : List Module) → WhenTold told (λ store. Gathers store name schedule modules)
-    → middle ≡ told → StoppedWhere schedule (begun schedule modules) middle after → WhenTold told (λ before. LeavesMoment name before after)
-moment_then agree told middle after name schedule modules gathers same stopped before is r = (here, agree before name r) where
+pub moment_then : RecordingsAgree → (told middle after : Option Store) (images : Bool) (name : List ℕ) (schedule : Schedule) (modules : List Module) → WhenTold told (λ store. Gathers store name schedule modules)
+    → middle ≡ told → StoppedWhere schedule images (begun schedule modules) middle after → WhenTold told (λ before. LeavesMoment images name before after)
+moment_then agree told middle after images name schedule modules gathers same stopped before is r = (here, agree before name r) where
   one : IsOne schedule modules r
   one = one_recording schedule modules (gathers before is) r
 
-  here : IsStopped (group_in r) (steps_in r) (Some before) after
-  here = subst (λ (s : Result (List State) ℕ). StoppedWhere r.schedule s (Some before) after) r.begins
-      (subst (λ (m : List Module). StoppedWhere r.schedule (begun r.schedule m) (Some before) after) one.modules_same
-      (subst (λ (s : Schedule). StoppedWhere s (begun s modules) (Some before) after) one.schedules
-      (subst (λ (t : Option Store). StoppedWhere schedule (begun schedule modules) t after) (same ∙ is) stopped)))
+  here : IsStopped (group_in r) (steps_in r) (images_of images (group_in r) (run_in r)) (Some before) after
+  here = subst (λ (s : Result (List State) ℕ). StoppedWhere r.schedule images s (Some before) after) r.begins
+      (subst (λ (m : List Module). StoppedWhere r.schedule images (begun r.schedule m) (Some before) after) one.modules_same
+      (subst (λ (s : Schedule). StoppedWhere s images (begun s modules) (Some before) after) one.schedules
+      (subst (λ (t : Option Store). StoppedWhere schedule images (begun schedule modules) t after) (same ∙ is) stopped)))
 
 -- at an answer the files of the outcome are made
 made_at_end : (result : Result Answer Refusal) (files : List (List ℕ × List ℕ)) (before after : Option Store) → IsEnd result → Makes result files before after → after ≡ with_files files before
@@ -96,19 +97,20 @@ made_at_end (Err refusal.ReadFault) files before after end makes = absurd end
 made_at_end (Err refusal.WriteFault) files before after end makes = absurd end
 made_at_end (Err refusal.NoMemory) files before after end makes = absurd end
 
--- those of a recording are its logs
-recording_writes : {store : Store} {name : List ℕ} (r : IsRecordable store name) → writes_of (record_outcome name store) ≡ logs (group_in r) (steps_in r)
-recording_writes {store} {name} r =
-    ap writes_of (gathered store name r.schedule r.modules (gathers_it r) ∙ ap (group_outcome name r.schedule) r.begins)
-    ∙ group_writes name r.schedule r.first
+-- those of a recording are its logs, and behind them the images that were asked for
+recording_writes : {store : Store} {name : List ℕ} (images : Bool) (r : IsRecordable store name) → writes_of (record_outcome images name store) ≡ logs (group_in r) (steps_in r) ++ images_of images (group_in r) (run_in r)
+recording_writes {store} {name} images r =
+    ap writes_of (gathered store images name r.schedule r.modules (gathers_it r) ∙ ap (group_outcome images name r.schedule) r.begins)
+    ∙ group_writes images name r.schedule r.first
 
-pub recording_left : KeepsFiles → GivesSchedules → RecordingsAgree → (told after : Option Store) (name : List ℕ) (result : Result Answer Refusal)
-    → ((o : Outcome) → option_map (record_outcome name) told ≡ Some o → Makes result (writes_of o) told after) → IsEnd result
+pub recording_left : KeepsFiles → GivesSchedules → RecordingsAgree → (told after : Option Store) (images : Bool) (name : List ℕ) (result : Result Answer Refusal)
+    → ((o : Outcome) → option_map (record_outcome images name) told ≡ Some o → Makes result (writes_of o) told after) → IsEnd result
     → WhenTold told (λ before. WhenTold after (LeavesRecording name before))
-recording_left keeps gives agree told after name result makes end before is now here r =
-    let made = made_at_end result _ told after end (makes (record_outcome name before) (ap (option_map (record_outcome name)) is)) in
-    let whole = sym here ∙ made ∙ ap (with_files (writes_of (record_outcome name before))) is ∙ ap (λ (files : List (List ℕ × List ℕ)). with_files files (Some before)) (recording_writes r) in
+recording_left keeps gives agree told after images name result makes end before is now here r =
+    let made = made_at_end result _ told after end (makes (record_outcome images name before) (ap (option_map (record_outcome images name)) is)) in
+    let whole = sym here ∙ made ∙ ap (with_files (writes_of (record_outcome images name before))) is ∙ ap (λ (files : List (List ℕ × List ℕ)). with_files files (Some before)) (recording_writes images r) in
     let formed = schedule_formed gives before name r.schedule r.spelled in (
-      logs_stand keeps (group_in r) (steps_in r) before now (logs_apart r.schedule.processes 0 (log_of (group_in r) (steps_in r)) formed.names) (sym whole),
+      logs_stand keeps (group_in r) (steps_in r) (images_of images (group_in r) (run_in r)) before now (logs_apart r.schedule.processes 0 (log_of (group_in r) (steps_in r)) formed.names)
+          (images_are_no_logs images (group_in r) (run_in r)) (sym whole),
       agree before name r,
     )

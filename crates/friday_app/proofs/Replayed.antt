@@ -1,76 +1,73 @@
--- What `replay` says of its result, from what it read.
-use Rattle.std.proofs.Common.{◌≡◌, ◌∙◌, ℕ, List, Option, Some, option_map, Ok, Err, Result, false, cond, ap, refl, subst, sym}
-use Rattle.std.specs.Prelude.{MatchResult}
+-- What `replay` comes to, from what it read and made.
+use Rattle.std.proofs.Common.{◌≡◌, ◌∙◌, ℕ, Bool, List, [], Option, Some, option_map, Ok, Err, Result, ap, subst, sym}
 use Rattle.fri_outside.specs.Outside.{Store, WhenTold}
-use Rattle.wasm_types.specs.Modules.{Module}
-use Rattle.call_log.specs.Head.{Head}
-use Rattle.call_log.specs.Log.{head_at}
-use Rattle.guest_process.specs.State.{State}
+use Rattle.proc_replay.specs.Replaying.{Replaying}
+use Rattle.friday_app.specs.declared.pairs.Loaded.{Loaded as LoadedFiles}
 use Rattle.friday_app.specs.declared.refusal.Answer.{Answer}
-use Rattle.friday_app.specs.declared.refusal.Answer.TheVariants as answered
-use Rattle.friday_app.specs.declared.refusal.Reason.TheVariants as reason
 use Rattle.friday_app.specs.declared.refusal.Refusal.{Refusal}
 use Rattle.friday_app.specs.declared.refusal.Refusal.TheVariants as refusal
-use Rattle.call_log.specs.Limits.{most_log}
-use Rattle.friday_app.specs.Call.{StopsAs, Tells}
-use Rattle.friday_app.specs.Expected.{begun_of, head_or, log_of, module_of, played, replay_outcome}
-use Rattle.friday_app.specs.Outcome.{Outcome, Stop, and_then, file_of, refuses}
-use Rattle.friday_app.specs.Report.{replay_work}
-use Rattle.friday_app.specs.Seen.{IsWork, Works}
-use Rattle.friday_app.proofs.Made.{outcome_at, stops_tell}
-use Rattle.friday_app.proofs.Gathered.{refused_tells, stops_then}
+use Rattle.friday_app.specs.Command.{Pair}
+use Rattle.friday_app.specs.Call.{Makes, StopsAs}
+use Rattle.friday_app.specs.Expected.{replay_outcome}
+use Rattle.friday_app.specs.Outcome.{Outcome, Stop, and_then, writes_of}
+use Rattle.friday_app.specs.Pairs.{Loaded, all_loaded, all_placed, opened, replays_of}
+use Rattle.friday_app.specs.Report.{images_if, replay_work}
+use Rattle.friday_app.specs.Seen.{AreLoaded, MakesAll}
+use Rattle.friday_app.proofs.Gathered.{stops_then}
+use Rattle.friday_app.proofs.Made.{outcome_at}
 
--- ---- from the module and the head of the log on
+-- ---- the files were refused
 
--- no process begins
-pub never_begun : (module_name : List ℕ) (m : Module) (log : Head × List ℕ) (e : Refusal) → StopsAs (begun_of module_name m log.0.process log.0.count) e → StopsAs (played module_name m log) e
-never_begun module_name m log e stops = stops_then (begun_of module_name m log.0.process log.0.count) _ e stops
+-- no pair could be read
+pub load_stops : (images : Bool) (pairs : List Pair) (told : Option Store) (e : Refusal) → WhenTold told (λ store. StopsAs (all_loaded store [] pairs) e) → WhenTold told (λ store. StopsAs (replay_outcome images pairs store) e)
+load_stops images pairs told e stops store is = stops_then (opened store pairs) _ e (stops_then (all_loaded store [] pairs) _ e (stops store is))
 
--- a process was replayed
-pub reported : (module_name : List ℕ) (m : Module) (log : Head × List ℕ) (begun : State) (answer : Answer) → begun_of module_name m log.0.process log.0.count ≡ Ok begun
-    → IsWork answer (replay_work begun log.0 log.1) → Works (played module_name m log) answer
-reported module_name m log begun answer starts is = (
-  replay_work begun log.0 log.1,
-  (ap (λ (r : Result State Stop). and_then r (λ begun. Ok (replay_work begun log.0 log.1))) starts, is),
-)
+-- the pairs were read
+abbrev pub WereLoaded : List Pair → Option Store → List LoadedFiles → Type 0
+WereLoaded pairs told all = WhenTold told (λ store. (ls : List Loaded) × ((all_loaded store [] pairs ≡ Ok ls) × AreLoaded all ls))
 
--- ---- from the files on
+-- a process did not begin
+pub begin_stops : (images : Bool) (pairs : List Pair) (told : Option Store) (all shown : List LoadedFiles) (e : Refusal) → WereLoaded pairs told all → shown ≡ all → ((ls : List Loaded) → AreLoaded shown ls → StopsAs (replays_of ls) e)
+    → WhenTold told (λ store. StopsAs (replay_outcome images pairs store) e)
+begin_stops images pairs told all shown e loaded same stops store is =
+    let l = loaded store is in
+    stops_then (opened store pairs) _ e
+    (subst (λ (r : Result (List Loaded) Stop). StopsAs (and_then r (λ ls. and_then (replays_of ls) (λ rs. Ok (all_placed [] rs)))) e) (sym l.1.0)
+    (stops_then (replays_of l.0) _ e (stops l.0 (subst (λ (all : List LoadedFiles). AreLoaded all l.0) (sym same) l.1.1))))
 
-plays : (store : Store) (module_name log_name bytes : List ℕ) (m : Module) (log : Head × List ℕ) → module_of store module_name ≡ Ok m → file_of store log_name most_log ≡ Ok bytes
-    → head_or log_name (head_at bytes) ≡ Ok log → replay_outcome module_name log_name store ≡ played module_name m log
-plays store module_name log_name bytes m log found read head =
-    ap (λ (r : Result Module Stop). and_then r (λ m. and_then (log_of store log_name) (played module_name m))) found
-    ∙ ap (λ (r : Result (List ℕ) Stop). and_then (and_then r (λ bytes. head_or log_name (head_at bytes))) (played module_name m)) read
-    ∙ ap (λ (r : Result (Head × List ℕ) Stop). and_then r (played module_name m)) head
+-- ---- the replays began
 
-answer_tells : (o : Outcome) (result : Result Answer Refusal) → MatchResult result (Works o) (StopsAs o) → Tells o result
-answer_tells o (Ok (answered.Done text)) (work, (is, told)) = (work, is, told.0, told.1)
-answer_tells o (Ok (answered.Diverged text)) (work, (is, told)) = (work, is, told.0, told.1)
-answer_tells o (Err e) stops = stops_tell o e stops
+-- a group of these replays was opened
+abbrev pub WasOpened : List Pair → Option Store → List Replaying → Type 0
+WasOpened pairs told start = WhenTold told (λ store. opened store pairs ≡ Ok start)
 
-pub replay_tells : (module_name log_name : List ℕ) (told : Option Store) (m : Module) (bytes : List ℕ) (log : Head × List ℕ) (result : Result Answer Refusal)
-    → WhenTold told (λ store. module_of store module_name ≡ Ok m) → WhenTold told (λ store. file_of store log_name most_log ≡ Ok bytes) → head_or log_name (head_at bytes) ≡ Ok log
-    → MatchResult result (Works (played module_name m log)) (StopsAs (played module_name m log))
-    → (o : Outcome) → option_map (replay_outcome module_name log_name) told ≡ Some o → Tells o result
-replay_tells module_name log_name told m bytes log result found read head does o is =
-    let h = outcome_at (replay_outcome module_name log_name) told o is in
-    subst (λ (o : Outcome). Tells o result) (sym (h.2 ∙ plays h.0 module_name log_name bytes m log (found h.0 h.1) (read h.0 h.1) head))
-    (answer_tells (played module_name m log) result does)
+pub begun_opens : (pairs : List Pair) (told : Option Store) (all shown : List LoadedFiles) (start : List Replaying) → WereLoaded pairs told all → shown ≡ all
+    → ((ls : List Loaded) → AreLoaded shown ls → (rs : List Replaying) × ((replays_of ls ≡ Ok rs) × (start ≡ all_placed [] rs))) → WasOpened pairs told start
+begun_opens pairs told all shown start loaded same begun store is =
+    let l = loaded store is in
+    let b = begun l.0 (subst (λ (all : List LoadedFiles). AreLoaded all l.0) (sym same) l.1.1) in
+    ap (λ (r : Result (List Loaded) Stop). and_then r (λ ls. and_then (replays_of ls) (λ rs. Ok (all_placed [] rs)))) l.1.0
+    ∙ ap (λ (r : Result (List Replaying) Stop). and_then r (λ rs. Ok (all_placed [] rs))) b.1.0
+    ∙ ap (λ (rs : List Replaying). Ok rs) (sym b.1.1)
 
--- the log was refused
-log_stops : (store : Store) (module_name log_name : List ℕ) (m : Module) (e : Refusal) → module_of store module_name ≡ Ok m → StopsAs (log_of store log_name) e → StopsAs (replay_outcome module_name log_name store) e
-log_stops store module_name log_name m e found stops =
-    subst (λ (o : Outcome). StopsAs o e)
-    (sym (ap (λ (r : Result Module Stop). and_then r (λ m. and_then (log_of store log_name) (played module_name m))) found))
-    (stops_then (log_of store log_name) _ e stops)
+pub opened_works : (images : Bool) (pairs : List Pair) (told : Option Store) (start : List Replaying) → WasOpened pairs told start
+    → (o : Outcome) → option_map (replay_outcome images pairs) told ≡ Some o → o ≡ Ok (replay_work images start)
+opened_works images pairs told start opens o is =
+    let h = outcome_at (replay_outcome images pairs) told o is in
+    h.2 ∙ ap (λ (r : Result (List Replaying) Stop). and_then r (λ start. Ok (replay_work images start))) (opens h.0 h.1)
 
-pub file_stops : (module_name log_name : List ℕ) (told : Option Store) (m : Module) (e : Refusal) → WhenTold told (λ store. module_of store module_name ≡ Ok m)
-    → WhenTold told (λ store. StopsAs (file_of store log_name most_log) e) → (o : Outcome) → option_map (replay_outcome module_name log_name) told ≡ Some o → Tells o (Err e)
-file_stops module_name log_name told m e found stops =
-    refused_tells (replay_outcome module_name log_name) told e (λ store is. log_stops store module_name log_name m e (found store is) (stops_then (file_of store log_name most_log) _ e (stops store is)))
+-- ---- what is made
 
-pub head_stops : (module_name log_name : List ℕ) (told : Option Store) (m : Module) (bytes : List ℕ) (e : Refusal) → WhenTold told (λ store. module_of store module_name ≡ Ok m)
-    → WhenTold told (λ store. file_of store log_name most_log ≡ Ok bytes) → StopsAs (head_or log_name (head_at bytes)) e → (o : Outcome) → option_map (replay_outcome module_name log_name) told ≡ Some o → Tells o (Err e)
-head_stops module_name log_name told m bytes e found read stops =
-    refused_tells (replay_outcome module_name log_name) told e (λ store is. log_stops store module_name log_name m e (found store is)
-    (subst (λ (r : Result (Head × List ℕ) Stop). StopsAs r e) (sym (ap (λ (r : Result (List ℕ) Stop). and_then r (λ bytes. head_or log_name (head_at bytes))) (read store is))) stops))
+-- the images were made, and whatever comes then
+pub replay_makes : (images : Bool) (pairs : List Pair) (told after : Option Store) (start : List Replaying) (result : Result Answer Refusal) → WasOpened pairs told start
+    → Makes result (images_if images start) told after → (o : Outcome) → option_map (replay_outcome images pairs) told ≡ Some o → Makes result (writes_of o) told after
+replay_makes images pairs told after start result opens makes o here =
+    subst (λ (o : Outcome). Makes result (writes_of o) told after) (sym (opened_works images pairs told start opens o here)) makes
+
+-- they were not all made
+pub some_made : (e : Refusal) (files : List (List ℕ × List ℕ)) (before after : Option Store) → MakesAll (Err e) files before after → Makes (Err e) files before after
+some_made (refusal.Refused file why) files before after made = absurd made
+some_made (refusal.Absent file) files before after made = absurd made
+some_made refusal.ReadFault files before after made = absurd made
+some_made refusal.WriteFault files before after made = made
+some_made refusal.NoMemory files before after made = made

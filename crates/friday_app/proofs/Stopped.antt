@@ -1,15 +1,15 @@
--- The files of a recording that was stopped are first parts of those of its whole run, which stand in the store
--- that it leaves.
-use Rattle.std.proofs.Common.{◌≡◌, ◌≢◌, ◌<◌, ◌+◌, ◌==◌, ℕ, zero, suc, List, [], ◌∷◌, ◌++◌, Bool, true, false, length, map, take, drop, slice_get, slice_index_or, Option, Some, refl, sym, ap, subst, ◌∙◌, arith, append_assoc, append-nil}
-use Rattle.std.specs.Prelude.{AllPairs, codes}
+-- The files of a recording that was stopped are first parts of those of its whole run, whose logs stand in the
+-- store that it leaves.
+use Rattle.std.proofs.Common.{◌≡◌, ◌≢◌, ◌&&◌, Contains, cond, inl, inr, ◌<◌, ◌+◌, ◌==◌, ℕ, zero, suc, List, [], ◌∷◌, ◌++◌, Bool, true, false, length, map, take, drop, slice_get, slice_index_or, Option, Some, refl, sym, ap, subst, ◌∙◌, arith, append_assoc, append-nil}
+use Rattle.std.specs.Prelude.{AllPairs, codes, is_none}
 use Rattle.std.specs.FinMap.{get}
 use Rattle.std.proofs.Math.ListN.{get_or-map}
 use Rattle.std.proofs.lemmas.Grind.{flat_map-append}
 use Rattle.std.proofs.lemmas.List.{append_cancel_right, length-map, take-append-drop}
 use Rattle.std.proofs.lemmas.Option.{same_Some}
 use Rattle.fri_outside.specs.Laws.{KeepsFiles}
-use Rattle.fri_outside.specs.Outside.{Store}
-use Rattle.fri_outside.specs.Several.{AreApart, AreFronts, ChangesOnly, grown, with_files}
+use Rattle.fri_outside.specs.Outside.{Store, with_file}
+use Rattle.fri_outside.specs.Several.{AreApart, AreFronts, ChangesOnly, IsLeft, grown, with_files}
 use Rattle.call_log.specs.Entry.{encoding, encodings}
 use Rattle.call_log.specs.Head.{head_bytes}
 use Rattle.lib_calls.specs.declared.entry.Entry.{Entry}
@@ -17,10 +17,12 @@ use Rattle.guest_process.specs.Live.{Event}
 use Rattle.schedule_text.specs.declared.process.ProcessLine.{ProcessLine}
 use Rattle.group_world.specs.History.{Act, History}
 use Rattle.group_world.specs.History as world
-use Rattle.group_record.specs.Files.{IsStopped, InHeads, Between, InEntry, heads_cut}
+use Rattle.group_record.specs.Files.{IsStopped, InHeads, Between, InEntry, InImages, heads_cut}
+use Rattle.group_record.specs.Images.{images, images_from, images_of, mem_name, out_name, part_of}
 use Rattle.group_record.specs.Logs.{files_from, log_name, logs}
-use Rattle.group_record.specs.Run.{Group, Had, IsFront, Step, act_of, entries, head_of, history, log_of}
+use Rattle.group_record.specs.Run.{Group, Had, IsFront, Progress, Step, act_of, entries, head_of, history, log_of}
 use Rattle.friday_app.specs.Agreement.{LeavesLogs}
+use Rattle.friday_app.proofs.Made.{all_changes}
 
 -- ---- logs grow
 
@@ -133,23 +135,57 @@ taken_at (suc many) (y ∷ xs) (suc k) x at = taken_at many xs k x at
 taken_fronts : (many : ℕ) (files whole : List (List ℕ × List ℕ)) → AreFronts files whole → AreFronts (take many files) whole
 taken_fronts many files whole fronts place n bytes at = fronts place n bytes (taken_at many files place (n, bytes) at)
 
--- where a recording was stopped, each log is as before or has some of its front, and no other file changes
-pub stopped_changes : KeepsFiles → (group : Group) (steps : List Step) (before after : Option Store) → IsStopped group steps before after → ChangesOnly before (logs group steps) after
-stopped_changes keeps group steps before after (InHeads many cut is) =
-    subst (ChangesOnly before (logs group steps)) (sym is)
-    (keeps.left before _ _ (taken_fronts many _ _ (files_fronts 0 group.names (heads_cut group cut) (log_of group steps) (head_grows group steps cut))))
-stopped_changes keeps group steps before after (Between early front is) =
-    subst (ChangesOnly before (logs group steps)) (sym is)
-    (keeps.left before _ _ (files_fronts 0 group.names (log_of group early) (log_of group steps) (log_grows group early steps front)))
-stopped_changes keeps group steps before after (InEntry early later p n e at is) =
-    subst (ChangesOnly before (logs group steps)) (sym is)
-    (keeps.left before _ _ (grown_fronts 0 group.names (log_of group early) (log_of group steps) p (take n (encoding e.entry))
-    (log_grows group early steps (later ++ (Had p e ∷ []), at ∙ sym (append_assoc later (Had p e ∷ []) early))) entry)) where
+-- with more files behind the whole ones
+further_at : (whole more : List (List ℕ × List ℕ)) (k : ℕ) (x : List ℕ × List ℕ) → slice_get whole k ≡ Some x → slice_get (whole ++ more) k ≡ Some x
+further_at [] more k x at = cc
+further_at (y ∷ whole) more zero x at = at
+further_at (y ∷ whole) more (suc k) x at = further_at whole more k x at
+
+pub fronts_of_more : (files whole more : List (List ℕ × List ℕ)) → AreFronts files whole → AreFronts files (whole ++ more)
+fronts_of_more files whole more fronts place n bytes at =
+    let f = fronts place n bytes at in (f.0, further_at whole more place (n, bytes ++ f.0) f.1)
+
+-- behind the same files
+pub fronts_behind : (first files whole : List (List ℕ × List ℕ)) → AreFronts files whole → AreFronts (first ++ files) (first ++ whole)
+fronts_behind [] files whole fronts place n bytes at = fronts place n bytes at
+fronts_behind (file ∷ first) files whole fronts zero n bytes at = ([], at ∙ ap (a_file n) (sym (append-nil bytes)))
+fronts_behind (file ∷ first) files whole fronts (suc place) n bytes at = fronts_behind first files whole fronts place n bytes at
+
+-- a part of these files
+pub part_fronts : (files : List (List ℕ × List ℕ)) (n m : ℕ) → AreFronts (part_of files n m) files
+unfolding IsGrown
+part_fronts [] zero m place name bytes at = cc
+part_fronts [] (suc n) m place name bytes at = cc
+part_fronts (file ∷ files) zero m zero name bytes at =
+    first_front file.0 (take m file.1) file.1 name bytes (drop m file.1, sym (take-append-drop m file.1)) at
+part_fronts (file ∷ files) zero m (suc place) name bytes at = cc
+part_fronts (file ∷ files) (suc n) m zero name bytes at = ([], at ∙ ap (a_file name) (sym (append-nil bytes)))
+part_fronts (file ∷ files) (suc n) m (suc place) name bytes at = part_fronts files n m place name bytes at
+
+-- where a recording was stopped, each log and image is as before or has some of its front, and no other file changes
+pub stopped_changes : KeepsFiles → (group : Group) (steps : List Step) (images : List (List ℕ × List ℕ)) (before after : Option Store) → IsStopped group steps images before after
+    → ChangesOnly before (logs group steps ++ images) after
+stopped_changes keeps group steps images before after (InHeads many cut is) =
+    subst (ChangesOnly before (logs group steps ++ images)) (sym is)
+    (keeps.left before _ _ (fronts_of_more _ (logs group steps) images
+    (taken_fronts many _ _ (files_fronts 0 group.names (heads_cut group cut) (log_of group steps) (head_grows group steps cut)))))
+stopped_changes keeps group steps images before after (Between early front is) =
+    subst (ChangesOnly before (logs group steps ++ images)) (sym is)
+    (keeps.left before _ _ (fronts_of_more _ (logs group steps) images
+    (files_fronts 0 group.names (log_of group early) (log_of group steps) (log_grows group early steps front))))
+stopped_changes keeps group steps images before after (InEntry early later p n e at is) =
+    subst (ChangesOnly before (logs group steps ++ images)) (sym is)
+    (keeps.left before _ _ (fronts_of_more _ (logs group steps) images
+    (grown_fronts 0 group.names (log_of group early) (log_of group steps) p (take n (encoding e.entry))
+    (log_grows group early steps (later ++ (Had p e ∷ []), at ∙ sym (append_assoc later (Had p e ∷ []) early))) entry))) where
       here : p ≡ 0 + p
       here = omega arith
 
       entry : IsGrown (log_of group steps (0 + p)) (log_of group early (0 + p) ++ take n (encoding e.entry))
       entry = subst (λ (k : ℕ). IsGrown (log_of group steps k) (log_of group early k ++ take n (encoding e.entry))) here (entry_grows group steps later early p n e at)
+stopped_changes keeps group steps images before after (InImages n m is) =
+    subst (ChangesOnly before (logs group steps ++ images)) (sym is)
+    (keeps.left before _ _ (fronts_behind (logs group steps) (part_of images n m) images (part_fronts images n m)))
 
 -- ---- the whole run's logs
 
@@ -181,10 +217,61 @@ logs_apart lines q bytes apart i j d before within same =
     apart i j none before (omega (arith, inside, count))
     (sym (get_or-map (λ (line : ProcessLine). line.name) lines i none) ∙ names_same ∙ get_or-map (λ (line : ProcessLine). line.name) lines j none)
 
--- the logs that were made stand in the store
-pub logs_stand : KeepsFiles → (group : Group) (steps : List Step) (before after : Store) → AreApart (logs group steps) → with_files (logs group steps) (Some before) ≡ Some after → LeavesLogs group steps after
-logs_stand keeps group steps before after apart made p below =
+-- ---- images behind the logs
+
+-- some files are made behind the others
+pub with_more : (files more : List (List ℕ × List ℕ)) (told : Option Store) → with_files (files ++ more) told ≡ with_files more (with_files files told)
+with_more [] more told = refl
+with_more (file ∷ files) more told = with_more files more (with_file file.0 file.1 told)
+
+abbrev last_of : List ℕ → ℕ
+last_of [] = 0
+last_of (x ∷ []) = x
+last_of (x ∷ y ∷ ys) = last_of (y ∷ ys)
+
+ends_in : (name : List ℕ) (a b c d : ℕ) → last_of (name ++ (a ∷ b ∷ c ∷ d ∷ [])) ≡ d
+ends_in [] a b c d = refl
+ends_in (x ∷ []) a b c d = refl
+ends_in (x ∷ y ∷ ys) a b c d = ends_in (y ∷ ys) a b c d
+
+mem_is_no_log : (name other : List ℕ) → mem_name name ≡ log_name other → ⊥
+mem_is_no_log name other same =
+    let ends : 109 ≡ 103 = sym (ends_in name 46 109 101 109) ∙ ap last_of same ∙ ends_in other 46 108 111 103 in omega (arith, ends)
+
+out_is_no_log : (name other : List ℕ) → out_name name ≡ log_name other → ⊥
+out_is_no_log name other same =
+    let ends : 116 ≡ 103 = sym (ends_in name 46 111 117 116) ∙ ap last_of same ∙ ends_in other 46 108 111 103 in omega (arith, ends)
+
+image_is_no_log : (group : Group) (steps : List Step) (p : ℕ) (names : List (List ℕ)) (name bytes : List ℕ) (k : ℕ) → k < length (images_from group steps p names)
+    → slice_index_or (images_from group steps p names) k (log_name name, bytes) ≡ (log_name name, bytes) → ⊥
+image_is_no_log group steps p [] name bytes k inside at = omega (arith, inside)
+image_is_no_log group steps p (other ∷ names) name bytes zero inside at = mem_is_no_log other name (ap (λ (file : List ℕ × List ℕ). file.0) at)
+image_is_no_log group steps p (other ∷ names) name bytes (suc zero) inside at = out_is_no_log other name (ap (λ (file : List ℕ × List ℕ). file.0) at)
+image_is_no_log group steps p (other ∷ names) name bytes (suc (suc k)) inside at = image_is_no_log group steps (suc p) names name bytes k (omega (arith, inside)) at
+
+among_if : (asked : Bool) (files : List (List ℕ × List ℕ)) (file : List ℕ × List ℕ) → Contains (cond asked files []) file → Contains files file
+among_if true files file among = among
+among_if false files file (k, inside, at) = absurd (omega (arith, inside))
+
+-- no image has the name of a log
+pub images_are_no_logs : (asked : Bool) (group : Group) (done : Progress) (name bytes : List ℕ) → Contains (images_of asked group done) (log_name name, bytes) → ⊥
+images_are_no_logs asked group done name bytes among = no_log (among_if (asked && is_none done.full) (images group done.steps) (log_name name, bytes) among) where
+  no_log : Contains (images group done.steps) (log_name name, bytes) → ⊥
+  no_log (k, inside, at) = image_is_no_log group done.steps 0 group.names name bytes k inside at
+
+kept_behind : (old new : Store) (more : List (List ℕ × List ℕ)) (name : List ℕ) → ((bytes : List ℕ) → Contains more (name, bytes) → ⊥) → IsLeft old more new name → get new name ≡ get old name
+kept_behind old new more name others (inl same) = same
+kept_behind old new more name others (inr (bytes, among, part)) = absurd (others bytes among)
+
+-- the logs that were made stand in the store, whatever was made behind them under other names
+pub logs_stand : KeepsFiles → (group : Group) (steps : List Step) (more : List (List ℕ × List ℕ)) (before after : Store) → AreApart (logs group steps)
+    → ((name bytes : List ℕ) → Contains more (log_name name, bytes) → ⊥) → with_files (logs group steps ++ more) (Some before) ≡ Some after → LeavesLogs group steps after
+logs_stand keeps group steps more before after apart others made p below =
     let stands = keeps.stands before (logs group steps) apart in
+    let name = log_name (slice_index_or group.names p []) in
     let whole : 0 + p ≡ p = omega arith in
-    let here = file_at 0 group.names (log_of group steps) p below ∙ ap (λ (k : ℕ). a_file (log_name (slice_index_or group.names p [])) (log_of group steps k)) whole in
-    subst (λ (s : Store). get s (log_name (slice_index_or group.names p [])) ≡ Some (log_of group steps p)) (same_Some _ _ (sym stands.1 ∙ made)) (stands.2.held p _ _ here)
+    let here = file_at 0 group.names (log_of group steps) p below ∙ ap (λ (k : ℕ). a_file name (log_of group steps k)) whole in
+    let behind : with_files more (Some stands.0) ≡ Some after = ap (with_files more) (sym stands.1) ∙ sym (with_more (logs group steps) more (Some before)) ∙ made in
+    let changes = (all_changes more (Some stands.0) (Some after) (sym behind)).each stands.0 refl in
+    ap (λ (s : Store). get s name) (same_Some _ _ changes.1) ∙ kept_behind stands.0 changes.0 more name (others (slice_index_or group.names p [])) (changes.2 name)
+    ∙ stands.2.held p _ _ here

@@ -1,5 +1,5 @@
 -- The logs that a recording leaves tell what was recorded, wherever it was stopped.
-use Rattle.std.specs.Prelude.{◌≡◌, ℕ, ◌<◌, IsTrue, List, ◌∷◌, ◌++◌, Option, Some, None, Ok}
+use Rattle.std.specs.Prelude.{◌≡◌, ℕ, ◌<◌, Bool, IsTrue, List, ◌∷◌, ◌++◌, Option, Some, None, Ok}
 use Rattle.std.specs.FinMap.{get}
 use Rattle.fri_outside.specs.Outside.{Store}
 use Rattle.lib_calls.specs.Traffic.{is_taken}
@@ -9,9 +9,10 @@ use Rattle.guest_process.specs.State.{State}
 use Rattle.schedule_text.specs.Schedule.{Schedule}
 use Rattle.group_record.specs.Answer.{begun, group_of}
 use Rattle.group_record.specs.Files.{IsStopped}
+use Rattle.group_record.specs.Images.{images_of}
 use Rattle.group_record.specs.Laws.{Takes}
 use Rattle.group_record.specs.Logs.{TellsEvents, log_name}
-use Rattle.group_record.specs.Run.{Group, Had, IsFront, Step, log_of, name_of, run, size}
+use Rattle.group_record.specs.Run.{Group, Had, IsFront, Progress, Step, log_of, name_of, run, size}
 use Rattle.friday_app.specs.Command.{Command, Record, Replay}
 use Rattle.friday_app.specs.Expected.{modules_of, schedule_in}
 
@@ -24,12 +25,15 @@ pub record IsRecordable (store : Store) (schedule_name : List ℕ) : Type 0 wher
   pub first : List State
   pub begins : begun schedule modules ≡ Ok first
 
--- its group, and the steps of its run
+-- its group, and its run
 abbrev pub group_in : {store : Store} {schedule_name : List ℕ} → IsRecordable store schedule_name → Group
 group_in r = group_of r.schedule r.first
 
+abbrev pub run_in : {store : Store} {schedule_name : List ℕ} → IsRecordable store schedule_name → Progress
+run_in r = run (group_in r) r.schedule.items
+
 abbrev pub steps_in : {store : Store} {schedule_name : List ℕ} → IsRecordable store schedule_name → List Step
-steps_in r = (run (group_in r) r.schedule.items).steps
+steps_in r = (run_in r).steps
 
 -- each process has its log afterwards
 abbrev pub LeavesLogs : Group → List Step → Store → Type 0
@@ -53,15 +57,16 @@ LeavesRecording schedule_name before after =
 -- a command that records leaves its recording
 abbrev pub KeepsRecording : Option Command → Store → Store → Type 0
 KeepsRecording None before after = Unit {0}
-KeepsRecording (Some (Record schedule_name)) before after = LeavesRecording schedule_name before after
-KeepsRecording (Some (Replay module_name log_name)) before after = Unit {0}
+KeepsRecording (Some (Record images schedule_name)) before after = LeavesRecording schedule_name before after
+KeepsRecording (Some (Replay images pairs)) before after = Unit {0}
 
--- wherever it is stopped, the logs are those of a moment of its run, but for a first part of the next entry
-abbrev pub LeavesMoment : List ℕ → Store → Option Store → Type 0
-LeavesMoment schedule_name before after =
-    (r : IsRecordable before schedule_name) → IsStopped (group_in r) (steps_in r) (Some before) after × Agrees (group_in r) (steps_in r)
+-- wherever it is stopped, the logs are those of a moment of its run, but for a first part of the next entry; or the
+-- whole logs stand, and some of the images that were asked for
+abbrev pub LeavesMoment : Bool → List ℕ → Store → Option Store → Type 0
+LeavesMoment images schedule_name before after =
+    (r : IsRecordable before schedule_name) → IsStopped (group_in r) (steps_in r) (images_of images (group_in r) (run_in r)) (Some before) after × Agrees (group_in r) (steps_in r)
 
 abbrev pub KeepsMoment : Option Command → Store → Option Store → Type 0
 KeepsMoment None before after = Unit {0}
-KeepsMoment (Some (Record schedule_name)) before after = LeavesMoment schedule_name before after
-KeepsMoment (Some (Replay module_name log_name)) before after = Unit {0}
+KeepsMoment (Some (Record images schedule_name)) before after = LeavesMoment images schedule_name before after
+KeepsMoment (Some (Replay images pairs)) before after = Unit {0}

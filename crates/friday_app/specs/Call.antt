@@ -3,6 +3,8 @@ use Rattle.std.specs.Prelude.{◌≡◌, ◌≢◌, ◌⊎◌, ℕ, List, [], �
 use Rattle.std.specs.Io.KnownBytes.{append_known}
 use Rattle.fri_outside.specs.Outside.{Store, Counts, Rose}
 use Rattle.fri_outside.specs.Several.{with_files, ChangesOnly}
+use Rattle.fri_outside.specs.declared.files.WriteError.{WriteError}
+use Rattle.fri_outside.specs.declared.files.WriteError.TheVariants as writing
 use Rattle.friday_app.specs.declared.status.Status.{Status}
 use Rattle.friday_app.specs.declared.status.Status.TheVariants as ends
 use Rattle.friday_app.specs.declared.refusal.Answer.{Answer}
@@ -61,8 +63,8 @@ pub record Untouched (left_before left_after : Option (List ℕ)) (faults_before
 -- no command that is built reads the input
 abbrev pub KeepsInput : Option Command → Type 0 → Type 0
 KeepsInput None untouched = untouched
-KeepsInput (Some (Record schedule_name)) untouched = untouched
-KeepsInput (Some (Replay module_name log_name)) untouched = untouched
+KeepsInput (Some (Record images schedule_name)) untouched = untouched
+KeepsInput (Some (Replay images pairs)) untouched = untouched
 
 -- nothing was printed, or all files that were to be made were made before
 abbrev pub PrintsLast : List (List ℕ × List ℕ) → Option (List ℕ) → Option (List ℕ) → Option Store → Option Store → Type 0
@@ -90,6 +92,11 @@ StopsAs wanted refusal.NoMemory = Unit {0}
 -- a refusal that came before anything was printed
 abbrev pub RefusesWith : Outcome → List ℕ → Reason → Type 0
 RefusesWith outcome file why = (done : Work) × (outcome ≡ Err (Refuses file why done)) × (done.text ≡ [])
+
+-- what a failed write comes to
+abbrev pub write_refusal : WriteError → Refusal
+write_refusal writing.Failed = refusal.WriteFault
+write_refusal writing.NoMemory = refusal.NoMemory
 
 -- this refusal of this file, or want of memory
 abbrev pub Names : List ℕ → Reason → Refusal → Type 0

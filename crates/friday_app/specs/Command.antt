@@ -1,25 +1,62 @@
 -- The commands, and the words that name them.
-use Rattle.std.specs.Prelude.{ℕ, List, [], ◌∷◌, ◌==◌, ◌&&◌, Bool, false, not, Option, Some, None, codes, bytes_eq, if◌then◌else◌}
+use Rattle.std.specs.Prelude.{ℕ, List, [], ◌∷◌, ◌==◌, ◌&&◌, Bool, false, not, nat_le, length, filter, Option, Some, None, option_map, codes, bytes_eq, if◌then◌else◌}
+use Rattle.std.specs.List.{list_all}
+
+-- the files of a module and of a log of its process
+pub record Pair : Type 0 where
+  pub module_name : List ℕ
+  pub log_name : List ℕ
 
 pub data Command : Type 0 where
-  Record : (schedule_name : List ℕ) → Command
-  Replay : (module_name log_name : List ℕ) → Command
+  Record : (images : Bool) → (schedule_name : List ℕ) → Command
+  Replay : (images : Bool) → (pairs : List Pair) → Command
 
 -- a word that may name a file: it is not empty, and does not begin with `-`
 abbrev pub is_file_word : List ℕ → Bool
 is_file_word [] = false
 is_file_word (first ∷ rest) = not (first == 45)
 
--- the command that the words name
+-- the option that asks for images
+abbrev pub is_images : List ℕ → Bool
+is_images word = bytes_eq word (codes "--images")
+
+abbrev pub options_in : List (List ℕ) → List (List ℕ)
+options_in words = filter is_images words
+
+-- the words beside it
+abbrev pub names_in : List (List ℕ) → List (List ℕ)
+names_in words = filter (λ word. not (is_images word)) words
+
+-- a module and a log, two by two
+abbrev pub pairs_of : List (List ℕ) → Option (List Pair)
+pairs_of [] = Some []
+pairs_of (module_name ∷ []) = None
+pairs_of (module_name ∷ log_name ∷ names) = option_map (λ pairs. record { module_name = module_name; log_name = log_name } ∷ pairs) (pairs_of names)
+
+abbrev pub recording : Bool → List (List ℕ) → Option Command
+recording images (schedule_name ∷ []) = Some (Record images schedule_name)
+recording images names = None
+
+abbrev pub replaying : Bool → List (List ℕ) → Option Command
+replaying images [] = None
+replaying images names = option_map (Replay images) (pairs_of names)
+
+-- the command of this verb, of these names of files
+abbrev pub command_by : List ℕ → Bool → List (List ℕ) → Option Command
+command_by verb images names =
+    if bytes_eq verb (codes "record") then recording images names
+    else if bytes_eq verb (codes "replay") then replaying images names
+    else None
+
+-- the command that the words name: a verb, and behind it names of files, and once at most the option for images
 abbrev pub command_of : List (List ℕ) → Option Command
-command_of (verb ∷ module_name ∷ log_name ∷ []) =
-    if bytes_eq verb (codes "replay") && (is_file_word module_name && is_file_word log_name) then Some (Replay module_name log_name) else None
-command_of (verb ∷ schedule_name ∷ []) =
-    if bytes_eq verb (codes "record") && is_file_word schedule_name then Some (Record schedule_name) else None
-command_of words = None
+command_of [] = None
+command_of (verb ∷ words) =
+    if nat_le (length (options_in words)) 1 && list_all is_file_word (names_in words)
+    then command_by verb (length (options_in words) == 1) (names_in words) else None
 
 -- the command that answers whether a log diverges
 abbrev pub IsReplay : Option Command → Type 0
-IsReplay (Some (Replay module_name log_name)) = Unit {0}
-IsReplay (Some (Record schedule_name)) = ⊥
+IsReplay (Some (Replay images pairs)) = Unit {0}
+IsReplay (Some (Record images schedule_name)) = ⊥
 IsReplay None = ⊥

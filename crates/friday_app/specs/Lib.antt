@@ -2,8 +2,8 @@ pub mod Numbers
 pub mod Command
 pub mod Fault
 pub mod Limits
-pub mod Tally
-pub mod Tallying
+pub mod Inputs
+pub mod Pairs
 pub mod Report
 pub mod Outcome
 pub mod Record

@@ -57,6 +57,9 @@ reason_text reason.OverLimit = codes "5 OverLimit"
 reason_text reason.NoStart = codes "6 NoStart"
 reason_text reason.BadSegment = codes "7 BadSegment"
 reason_text reason.BadHead = codes "1 BadHead"
+reason_text reason.OtherGroup = codes "2 OtherGroup"
+reason_text reason.SameProcess = codes "3 SameProcess"
+reason_text reason.SameName = codes "4 SameName"
 
 abbrev pub usage_line : List ℕ
 usage_line = codes "friday: these words are not a command\n"

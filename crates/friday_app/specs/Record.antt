@@ -4,6 +4,7 @@ use Rattle.std.specs.List.{flat_map}
 use Rattle.guest_process.specs.declared.end.End.{End}
 use Rattle.group_record.specs.declared.summary.SummaryLine.{SummaryLine}
 use Rattle.group_record.specs.Answer.{lines_from}
+use Rattle.group_record.specs.Images.{images_of}
 use Rattle.group_record.specs.Logs.{logs}
 use Rattle.group_record.specs.Run.{Group, Progress}
 use Rattle.friday_app.specs.declared.refusal.Reason.TheVariants as reason
@@ -25,22 +26,22 @@ items_line acted idle = codes "items: " ++ (decimal acted ++ (codes " acted, " +
 abbrev pub summary_text : List SummaryLine → ℕ → ℕ → List ℕ
 summary_text lines acted idle = flat_map process_line lines ++ items_line acted idle
 
--- the work of a run that was recorded whole
-abbrev pub recorded_work : Group → Progress → Work
-recorded_work group done = record {
+-- the work of a run that was recorded whole: the logs, and behind them the images that were asked for
+abbrev pub recorded_work : Bool → Group → Progress → Work
+recorded_work images group done = record {
   text = summary_text (lines_from group done.steps 0 group.names) (length done.steps) done.idle;
-  writes = logs group done.steps;
+  writes = logs group done.steps ++ images_of images group done;
   diverged = false;
 }
 
--- what was written up to an item for which a log had no room; nothing was printed
+-- what was written up to an item for which a log had no room: no image; and nothing was printed
 abbrev pub written_before : Group → Progress → Work
 written_before group done = record { text = []; writes = logs group done.steps; diverged = false }
 
-abbrev pub by_room : List ℕ → Group → Progress → Option ℕ → Outcome
-by_room schedule_name group done None = Ok (recorded_work group done)
-by_room schedule_name group done (Some item) = Err (Refuses schedule_name (reason.LogFull item) (written_before group done))
+abbrev pub by_room : Bool → List ℕ → Group → Progress → Option ℕ → Outcome
+by_room images schedule_name group done None = Ok (recorded_work images group done)
+by_room images schedule_name group done (Some item) = Err (Refuses schedule_name (reason.LogFull item) (written_before group done))
 
 -- what the run of a schedule comes to, whose file has this name
-abbrev pub run_outcome : List ℕ → Group → Progress → Outcome
-run_outcome schedule_name group done = by_room schedule_name group done done.full
+abbrev pub run_outcome : Bool → List ℕ → Group → Progress → Outcome
+run_outcome images schedule_name group done = by_room images schedule_name group done done.full

@@ -1,20 +1,24 @@
 -- The report of a replay.
-use Rattle.std.specs.Prelude.{ℕ, List, [], ◌++◌, Bool, true, false, decimal, codes, take}
+use Rattle.std.specs.Prelude.{ℕ, List, [], ◌∷◌, ◌++◌, Bool, true, false, map, decimal, codes, if◌then◌else◌}
 use Rattle.std.specs.Fmt.{signed_decimal}
+use Rattle.std.specs.List.{flat_map, list_any}
 use Rattle.wasm_types.specs.declared.traps.Trap.{Trap}
 use Rattle.wasm_types.specs.declared.traps.Trap.TheVariants as trap
 use Rattle.guest_process.specs.declared.divergence.Divergence.{Divergence}
 use Rattle.guest_process.specs.declared.divergence.Divergence.TheVariants as differs
 use Rattle.guest_process.specs.declared.end.End.{End}
 use Rattle.guest_process.specs.declared.end.End.TheVariants as ended
-use Rattle.guest_process.specs.Replay.{Verdict, Whole, Left, Diverged, accepted, replayed, verdict}
-use Rattle.guest_process.specs.State.{State}
-use Rattle.lib_calls.specs.declared.entry.Entry.{Entry}
-use Rattle.call_log.specs.Head.{Head}
-use Rattle.call_log.specs.Log.{entries_of, rest_of}
-use Rattle.friday_app.specs.declared.tally.GroupCounts.{GroupCounts}
+use Rattle.proc_replay.specs.Replaying.{Replaying}
+use Rattle.group_record.specs.Images.{image_files}
+use Rattle.group_state.specs.declared.report.ReportLine.{ReportLine}
+use Rattle.group_state.specs.declared.report.Verdict.{Verdict}
+use Rattle.group_state.specs.declared.report.Verdict.TheVariants as said
+use Rattle.group_state.specs.declared.tally.GroupCounts.{GroupCounts}
+use Rattle.group_state.specs.Image.{memory_of, printed_of}
+use Rattle.group_state.specs.Place.{group_count}
+use Rattle.group_state.specs.Report.{all_accepted, line_of}
+use Rattle.group_state.specs.Tally.{tally}
 use Rattle.friday_app.specs.Outcome.{Work}
-use Rattle.friday_app.specs.Tally.{Accepted, of_process, tally}
 
 -- a divergence by its number and name
 abbrev pub divergence_text : Divergence → List ℕ
@@ -28,9 +32,9 @@ divergence_text differs.NoHandler = codes "7 NoHandler"
 divergence_text differs.OtherClock = codes "8 OtherClock"
 
 abbrev pub verdict_text : Verdict → List ℕ
-verdict_text Whole = codes "log whole"
-verdict_text (Left bytes) = decimal bytes ++ codes " bytes left over"
-verdict_text (Diverged at why) = codes "diverged at " ++ (decimal at ++ (codes ": " ++ divergence_text why))
+verdict_text said.Whole = codes "log whole"
+verdict_text (said.Left bytes) = decimal bytes ++ codes " bytes left over"
+verdict_text (said.Diverged at why) = codes "diverged at " ++ (decimal at ++ (codes ": " ++ divergence_text why))
 
 -- why a thread trapped
 abbrev pub trap_text : Trap → List ℕ
@@ -51,13 +55,10 @@ end_text ended.Finished = codes "finished"
 end_text (ended.Exited code) = codes "exited " ++ signed_decimal code
 end_text (ended.Trapped why) = codes "trapped " ++ trap_text why
 
-abbrev pub line_text : List ℕ → ℕ → End → Verdict → List ℕ
-line_text name count end judged =
-    name ++ (codes ": " ++ (decimal count ++ (codes " events, " ++ (end_text end ++ (codes ", " ++ (verdict_text judged ++ codes "\n"))))))
-
--- the state at which a replay ends
-abbrev pub last_state : State → List Entry → State
-last_state S es = replayed S (take (accepted S es) es)
+-- the line of a log
+abbrev pub line_text : ReportLine → List ℕ
+line_text line =
+    line.name ++ (codes ": " ++ (decimal line.events ++ (codes " events, " ++ (end_text line.end ++ (codes ", " ++ (verdict_text line.verdict ++ codes "\n"))))))
 
 abbrev pub count_text : ℕ → List ℕ → List ℕ
 count_text number what = decimal number ++ what
@@ -68,27 +69,30 @@ group_text c =
     codes "group: " ++ (count_text c.sends (codes " sends, ") ++ (count_text c.receives (codes " receives, ")
     ++ (count_text c.unmatched (codes " unmatched, ") ++ count_text c.untagged (codes " untagged\n"))))
 
+-- a line for each log, and the counts
+abbrev pub report_text : List ReportLine → GroupCounts → List ℕ
+report_text lines counts = flat_map line_text lines ++ group_text counts
+
 abbrev pub is_divergence : Verdict → Bool
-is_divergence (Diverged at why) = true
-is_divergence Whole = false
-is_divergence (Left bytes) = false
+is_divergence (said.Diverged at why) = true
+is_divergence said.Whole = false
+is_divergence (said.Left bytes) = false
 
--- the work of a replay that came to so many events, this end and this verdict, and whose events say so
--- much of datagrams
-abbrev pub printed : List ℕ → ℕ → End → Verdict → GroupCounts → Work
-printed name count end judged counts =
-    record {
-      text = line_text name count end judged ++ group_text counts;
-      writes = [];
-      diverged = is_divergence judged;
-    }
+-- whether a log diverged
+abbrev pub diverges : List ReportLine → Bool
+diverges lines = list_any (λ line. is_divergence line.verdict) lines
 
--- the accepted events of a log, given by its head and its entries, from the first state of its process
-abbrev pub events_of : State → Head → List Entry → List Accepted
-events_of begun head es = of_process head.process (take (accepted begun es) es)
+-- the files of what each process leaves
+abbrev pub images_in : List Replaying → List (List ℕ × List ℕ)
+images_in start = flat_map (λ r. image_files r.head.name (memory_of r) (printed_of r)) start
 
--- what replay prints of a process, from its first state, and of a log, given by its head and what is behind it
-abbrev pub replay_work : State → Head → List ℕ → Work
-replay_work begun head left =
-    let es = entries_of left in
-    printed head.name (accepted begun es) (last_state begun es).end (verdict begun es (rest_of left)) (tally head.count (events_of begun head es))
+abbrev pub images_if : Bool → List Replaying → List (List ℕ × List ℕ)
+images_if images start = if images then images_in start else []
+
+-- the work of a replay of these logs: what is said of them all, behind the images that were asked for
+abbrev pub replay_work : Bool → List Replaying → Work
+replay_work images start = record {
+  text = report_text (map line_of start) (tally (group_count start) (all_accepted start));
+  writes = images_if images start;
+  diverged = diverges (map line_of start);
+}

@@ -1,55 +1,58 @@
 -- What the values of the code stand for.
-use Rattle.std.specs.Prelude.{◌≡◌, ℕ, List, Ok, true, false}
+use Rattle.std.specs.List.{AllByRecursion}
+use Rattle.std.specs.Prelude.{⊤, ◌≡◌, ◌≢◌, ℕ, List, [], ◌∷◌, map, Bool, true, false, Option, Some, Result, Ok, Err}
 use Rattle.fri_outside.specs.Outside.{Store}
-use Rattle.wasm_types.specs.Modules.{Module}
+use Rattle.fri_outside.specs.Several.{ChangesOnly, with_files}
+use Rattle.wasm_types.specs.Modules.{Module, module_of}
 use Rattle.schedule_text.specs.Schedule.{Schedule}
 use Rattle.group_record.specs.declared.error.RecordError.{RecordError}
 use Rattle.group_record.specs.declared.error.RecordError.TheVariants as errors
-use Rattle.lib_calls.specs.declared.entry.Entry.{Entry}
 use Rattle.friday_app.specs.declared.command.Command.{Command as Words}
 use Rattle.friday_app.specs.declared.command.Command.TheVariants as words
-use Rattle.friday_app.specs.declared.replayer.Replayed.{Replayed}
-use Rattle.friday_app.specs.declared.replayer.Verdict.{Verdict as RustVerdict}
-use Rattle.friday_app.specs.declared.replayer.Verdict.TheVariants as judged
+use Rattle.friday_app.specs.declared.command.Pair.{Pair as PairOfWords}
+use Rattle.friday_app.specs.declared.pairs.Loaded.{Loaded as LoadedFiles}
 use Rattle.friday_app.specs.declared.refusal.Answer.{Answer}
 use Rattle.friday_app.specs.declared.refusal.Answer.TheVariants as answered
 use Rattle.friday_app.specs.declared.refusal.Reason.TheVariants as reason
 use Rattle.friday_app.specs.declared.refusal.Refusal.{Refusal}
 use Rattle.friday_app.specs.declared.refusal.Refusal.TheVariants as refusal
 use Rattle.friday_app.specs.Call.{Names}
-use Rattle.friday_app.specs.Command.{Command, Record, Replay}
-use Rattle.call_log.specs.Head.{Head}
-use Rattle.guest_process.specs.Replay.{Verdict, Whole, Left, Diverged, accepted, verdict}
-use Rattle.guest_process.specs.State.{State}
+use Rattle.friday_app.specs.Command.{Command, Pair, Record, Replay}
+use Rattle.call_log.specs.Head.{IsHead}
+use Rattle.call_log.specs.Log.{head_at}
 use Rattle.friday_app.specs.Expected.{module_name, modules_of, schedule_in}
-use Rattle.friday_app.specs.Report.{events_of, last_state}
-use Rattle.friday_app.specs.Tally.{tally}
-use Rattle.friday_app.specs.Outcome.{Outcome, Work}
+use Rattle.friday_app.specs.Pairs.{Loaded}
+
+abbrev pub pair_of : PairOfWords → Pair
+pair_of pair = record { module_name = pair.module_file.now; log_name = pair.log_file.now }
 
 abbrev pub meaning : Words → Command
-meaning (words.Record schedule_name) = Record schedule_name.now
-meaning (words.Replay module_name log_name) = Replay module_name.now log_name.now
+meaning (words.Record images schedule_name) = Record images schedule_name.now
+meaning (words.Replay images pairs) = Replay images (map pair_of pairs.items)
 
-abbrev pub verdict_of : RustVerdict → Verdict
-verdict_of judged.Whole = Whole
-verdict_of (judged.Left bytes) = Left bytes
-verdict_of (judged.Diverged at why) = Diverged at why
+-- the files of a pair hold this
+pub record IsLoaded (l : LoadedFiles) (is : Loaded) : Type 0 where
+  pub name : l.module_file.now ≡ is.module_name
+  pub «module» : module_of l.«module» ≡ is.«module»
+  pub log : head_at l.log.items ≡ Some (is.head, is.left)
+  pub head : IsHead is.head
+  pub count : l.count ≡ is.head.count
+  pub process : l.process ≡ is.head.process
+  pub head_name : l.name ≡ is.head.name
 
--- a log with this head that was replayed from this state
-pub record Replays (head : Head) (S : State) (es : List Entry) (rest : List ℕ) (replayed : Replayed) : Type 0 where
-  pub accepted : replayed.accepted ≡ accepted S es
-  pub end : replayed.end ≡ (last_state S es).end
-  pub verdict : verdict_of replayed.verdict ≡ verdict S es rest
-  pub counts : replayed.counts ≡ tally head.count (events_of S head es)
+-- this is printed at the end, and says whether a log diverged
+abbrev pub Says : List ℕ → Bool → Answer → Type 0
+Says text diverged (answered.Done said) = (said ≡ text) × (diverged ≡ false)
+Says text diverged (answered.Diverged said) = (said ≡ text) × (diverged ≡ true)
 
--- what is printed at the end of this work
-abbrev pub IsWork : Answer → Work → Type 0
-IsWork (answered.Done text) work = (text ≡ work.text) × (work.diverged ≡ false)
-IsWork (answered.Diverged text) work = (text ≡ work.text) × (work.diverged ≡ true)
-
--- what is printed at the end of the work of this outcome
-abbrev pub Works : Outcome → Answer → Type 0
-Works outcome answer = (work : Work) × ((outcome ≡ Ok work) × IsWork answer work)
+-- the files were to be made, and some are made in part where a write or memory failed
+abbrev pub MakesAll : Result ⊤ Refusal → List (List ℕ × List ℕ) → Option Store → Option Store → Type 0
+MakesAll (Ok _) files before after = after ≡ with_files files before
+MakesAll (Err refusal.WriteFault) files before after = ChangesOnly before files after
+MakesAll (Err refusal.NoMemory) files before after = ChangesOnly before files after
+MakesAll (Err refusal.ReadFault) files before after = ⊥
+MakesAll (Err (refusal.Refused file why)) files before after = ⊥
+MakesAll (Err (refusal.Absent file)) files before after = ⊥
 
 -- the schedule of a schedule file, and the modules of its processes
 pub record Gathers (store : Store) (schedule_name : List ℕ) (schedule : Schedule) (modules : List Module) : Type 0 where
@@ -63,3 +66,20 @@ RefusesAs schedule_name schedule (errors.BadSegment p) e = Names (module_name sc
 RefusesAs schedule_name schedule (errors.LogFull item) e = Names schedule_name (reason.LogFull item) e
 RefusesAs schedule_name schedule errors.WriteFault e = e ≡ refusal.WriteFault
 RefusesAs schedule_name schedule errors.NoMemory e = e ≡ refusal.NoMemory
+
+-- so many pairs hold so many of these
+abbrev pub AreLoaded : List LoadedFiles → List Loaded → Type 0
+AreLoaded [] [] = Unit {0}
+AreLoaded (l ∷ ls) (is ∷ all) = IsLoaded l is × AreLoaded ls all
+AreLoaded [] (is ∷ all) = ⊥
+AreLoaded (l ∷ ls) [] = ⊥
+
+-- they are of one group, and each of another process with another name
+pub record IsApart (l other : LoadedFiles) : Type 0 where
+  pub count : l.count ≡ other.count
+  pub process : l.process ≢ other.process
+  pub name : l.name ≢ other.name
+
+abbrev pub AreApart : List LoadedFiles → Type 0
+AreApart [] = Unit {0}
+AreApart (l ∷ ls) = AllByRecursion (IsApart l) ls × AreApart ls

@@ -1,5 +1,5 @@
 -- Words and files at which a command does its work.
-use Rattle.std.specs.Prelude.{◌≡◌, ℕ, suc, ◌≤◌, List, [], ◌∷◌, ◌++◌, length, Option, Some, None, Ok}
+use Rattle.std.specs.Prelude.{◌≡◌, ◌≢◌, ℕ, suc, ◌≤◌, AllPairs, List, [], ◌∷◌, ◌++◌, length, Option, Some, None, Ok}
 use Rattle.std.specs.FinMap.{get}
 use Rattle.fri_outside.specs.Outside.{Store}
 use Rattle.wasm_types.specs.Modules.{Module}
@@ -16,7 +16,7 @@ use Rattle.schedule_text.specs.declared.process.ProcessLine.{ProcessLine}
 use Rattle.group_record.specs.Answer.{begun, group_of}
 use Rattle.group_record.specs.Run.{run}
 use Rattle.friday_app.specs.Limits.{most_module, most_schedule}
-use Rattle.friday_app.specs.Command.{Command, Record, Replay}
+use Rattle.friday_app.specs.Command.{Command, Pair, Record, Replay}
 use Rattle.friday_app.specs.Outcome.{Work}
 use Rattle.friday_app.specs.Expected.{expected}
 
@@ -70,11 +70,36 @@ pub record IsRecorded (store : Store) (schedule_name : List ℕ) : Type 0 where
   pub room : (first : List State) → begun schedule (modules_in store (length schedule.processes) 0 schedule.processes files) ≡ Ok first
       → (run (group_of schedule first) schedule.items).full ≡ None
 
+-- a module and a log of a process that begins
+pub record IsPair (store : Store) (pair : Pair) : Type 0 where
+  pub «module» : IsModuleFile store pair.module_name
+  pub log : IsLogFile store pair.log_name
+  pub begins : Begins «module».«module» log.head.process log.head.count
+
+abbrev pub ArePairs : Store → List Pair → Type 0
+ArePairs store [] = Unit {0}
+ArePairs store (pair ∷ pairs) = IsPair store pair × ArePairs store pairs
+
+-- the heads of their logs
+abbrev pub heads_in : (store : Store) (pairs : List Pair) → ArePairs store pairs → List Head
+heads_in store [] files = []
+heads_in store (pair ∷ pairs) files = files.0.log.head ∷ heads_in store pairs files.1
+
+-- of one group, and of two processes with two names
+pub record GoTogether (h other : Head) : Type 0 where
+  pub count : h.count ≡ other.count
+  pub process : h.process ≢ other.process
+  pub name : h.name ≢ other.name
+
+-- the pairs are modules and logs of one group's processes, each of another
+pub record IsGroup (store : Store) (pairs : List Pair) : Type 0 where
+  pub files : ArePairs store pairs
+  pub together : AllPairs GoTogether (heads_in store pairs files)
+
 abbrev pub IsValid : Option Command → Store → Option (List ℕ) → Type 0
 IsValid None store left = ⊥
-IsValid (Some (Record schedule_name)) store left = IsRecorded store schedule_name
-IsValid (Some (Replay module_name log_name)) store left =
-    (m : IsModuleFile store module_name) × ((l : IsLogFile store log_name) × Begins m.«module» l.head.process l.head.count)
+IsValid (Some (Record images schedule_name)) store left = IsRecorded store schedule_name
+IsValid (Some (Replay images pairs)) store left = IsGroup store pairs
 
 -- what is valid has an outcome that is work
 abbrev pub HasWork : Type 0

@@ -1,20 +1,26 @@
 // Which command the words name.
-ghost use Rattle.std.specs.Prelude.{◌≡◌, ◌∷◌, [], map, option_map, string_bytes};
-ghost use Rattle.friday_app.specs.Command.{command_of, is_file_word};
-ghost use Rattle.friday_app.specs.Seen.{meaning};
+ghost use Rattle.std.specs.Prelude.{◌≡◌, length, map, option_map, string_bytes, IfOk};
+ghost use Rattle.std.specs.List.{list_all};
+ghost use Rattle.friday_app.specs.Command.{command_by, command_of, is_file_word, is_images, names_in, options_in, pairs_of, recording, replaying};
+ghost use Rattle.friday_app.specs.Seen.{meaning, pair_of};
 
-/// A command, with the names that its words give.
+use std::alloc::{AllocError, Global};
+
+/// The files of a module and of a log of its process.
 #[derive(Clone, Copy)]
-pub enum Command<'a> {
-    Record {
-        schedule_file: &'a str,
-    },
-    Replay {
-        module_file: &'a str,
-        log_file: &'a str,
-    },
+pub struct Pair<'a> {
+    pub module_file: &'a str,
+    pub log_file: &'a str,
 }
 
+/// A command, with the names that its words give, and whether images are asked for.
+#[derive(Drop)]
+pub enum Command<'a> {
+    Record(bool, &'a str),
+    Replay(bool, Vec<Pair<'a>>),
+}
+
+// Whether the word may name a file.
 fn is_file_word(word: &str) -> bool
     ensures { result ≡ is_file_word word.now }
 {
@@ -24,40 +30,107 @@ fn is_file_word(word: &str) -> bool
     }
 }
 
-/// The command that the words name.
-pub fn parse(words: &[String]) -> Option<Command<'_>>
-    ensures { option_map meaning result ≡ command_of (map string_bytes words.now) }
+// Whether the word asks for images.
+fn is_images(word: &str) -> bool
+    ensures { result ≡ is_images word.now }
 {
-    match words {
-        [verb, schedule_file] => record_command(verb.as_str(), schedule_file.as_str()),
-        [verb, module_file, log_file] => replay_command(
-            verb.as_str(),
-            module_file.as_str(),
-            log_file.as_str(),
-        ),
+    word == "--images"
+}
+
+/// The command that the words name: a verb, and behind it names of files, and once at most `--images`.
+pub fn parse(alloc: Global, words: &[String]) -> Result<Option<Command<'_>>, AllocError>
+    ensures { IfOk result (λ command. option_map meaning command ≡ command_of (map string_bytes words.now)) }
+{
+    let [verb, words @ ..] = words else {
+        return Ok(None);
+    };
+    let options = count_options(words);
+    let names = names_in(alloc, words)?;
+    if options <= 1 && are_file_words(&names) {
+        command_by(alloc, verb, options == 1, &names)
+    } else {
+        Ok(None)
+    }
+}
+
+// How often the option stands among the words.
+fn count_options(words: &[String]) -> usize
+    ensures { result ≡ length (options_in (map string_bytes words.now)) }
+{
+    words.iter().filter(|word| is_images(word)).count()
+}
+
+// Whether each of these words may name a file.
+fn are_file_words(names: &[&str]) -> bool
+    ensures { result ≡ list_all is_file_word (map (λ name. name.now) names.now) }
+{
+    names.iter().all(|name| is_file_word(name))
+}
+
+// The words beside the option.
+fn names_in(alloc: Global, words: &[String]) -> Result<Vec<&str>, AllocError>
+    ensures { IfOk result (λ names. map (λ name. name.now) names.items ≡ names_in (map string_bytes words.now)) }
+{
+    let mut names = Vec::new(alloc);
+    for word in words {
+        if !is_images(word) {
+            names.push(word.as_str())?;
+        }
+    }
+    Ok(names)
+}
+
+// The command of this verb, of these names of files.
+fn command_by<'a>(
+    alloc: Global,
+    verb: &str,
+    images: bool,
+    names: &[&'a str],
+) -> Result<Option<Command<'a>>, AllocError>
+    ensures { IfOk result (λ command. option_map meaning command ≡ command_by verb.now images (map (λ name. name.now) names.now)) }
+{
+    match verb {
+        "record" => Ok(record_command(images, names)),
+        "replay" => replay_command(alloc, images, names),
+        _ => Ok(None),
+    }
+}
+
+fn record_command<'a>(images: bool, names: &[&'a str]) -> Option<Command<'a>>
+    ensures { option_map meaning result ≡ recording images (map (λ name. name.now) names.now) }
+{
+    match names {
+        [schedule_file] => Some(Command::Record(images, schedule_file)),
         _ => None,
     }
 }
 
-fn replay_command<'a>(verb: &str, module_file: &'a str, log_file: &'a str) -> Option<Command<'a>>
-    ensures { option_map meaning result ≡ command_of (verb.now ∷ module_file.now ∷ log_file.now ∷ []) }
+fn replay_command<'a>(
+    alloc: Global,
+    images: bool,
+    names: &[&'a str],
+) -> Result<Option<Command<'a>>, AllocError>
+    ensures { IfOk result (λ command. option_map meaning command ≡ replaying images (map (λ name. name.now) names.now)) }
 {
-    if verb == "replay" && is_file_word(module_file) && is_file_word(log_file) {
-        Some(Command::Replay {
-            module_file,
-            log_file,
-        })
-    } else {
-        None
+    if names.is_empty() {
+        return Ok(None);
     }
+    let pairs = pairs_of(alloc, names)?;
+    Ok(pairs.map(|pairs| Command::Replay(images, pairs)))
 }
 
-fn record_command<'a>(verb: &str, schedule_file: &'a str) -> Option<Command<'a>>
-    ensures { option_map meaning result ≡ command_of (verb.now ∷ schedule_file.now ∷ []) }
+// A module and a log, two by two. None comes exactly where a name is left over.
+fn pairs_of<'a>(alloc: Global, names: &[&'a str]) -> Result<Option<Vec<Pair<'a>>>, AllocError>
+    ensures { IfOk result (λ pairs. option_map (λ pairs. map pair_of pairs.items) pairs ≡ pairs_of (map (λ name. name.now) names.now)) }
 {
-    if verb == "record" && is_file_word(schedule_file) {
-        Some(Command::Record { schedule_file })
-    } else {
-        None
+    let mut pairs = Vec::new(alloc);
+    let mut left = names;
+    'pairs: while let [module_file, log_file, behind @ ..] = left {
+        pairs.push(Pair {
+            module_file,
+            log_file,
+        })?;
+        left = behind;
     }
+    Ok(if left.is_empty() { Some(pairs) } else { None })
 }

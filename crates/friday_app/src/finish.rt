@@ -36,6 +36,9 @@ fn push_reason(text: &mut Text, reason: Reason) -> Result<(), AllocError>
         Reason::NoStart => text.push_str("6 NoStart"),
         Reason::BadSegment => text.push_str("7 BadSegment"),
         Reason::BadHead => text.push_str("1 BadHead"),
+        Reason::OtherGroup => text.push_str("2 OtherGroup"),
+        Reason::SameProcess => text.push_str("3 SameProcess"),
+        Reason::SameName => text.push_str("4 SameName"),
     }
 }
 

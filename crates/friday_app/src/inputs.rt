@@ -9,7 +9,8 @@ ghost use Rattle.schedule_text.specs.Schedule.{IsProcess, IsSchedule};
 ghost use Rattle.call_log.specs.Head.{IsHead};
 ghost use Rattle.call_log.specs.Log.{head_at};
 ghost use Rattle.guest_process.specs.EventCount.{IsFresh};
-ghost use Rattle.friday_app.specs.Expected.{spelled_or, valid_or, module_of, modules_of, begun_of, schedule_in, head_or};
+ghost use Rattle.friday_app.specs.Expected.{modules_of, schedule_in};
+ghost use Rattle.friday_app.specs.Inputs.{begun_of, head_or, module_of, spelled_or, valid_or};
 ghost use Rattle.friday_app.specs.Call.{StopsAs, Raises};
 
 use crate::refusal::{Reason, Refusal};

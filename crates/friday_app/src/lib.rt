@@ -5,15 +5,14 @@ mod command;
 mod finish;
 mod inputs;
 mod laws;
+mod pairs;
 mod record;
 mod refusal;
 mod replay;
-mod replayer;
 mod report;
 mod settle;
 mod status;
 mod summary;
-mod tally;
 mod texts;
 mod top;
 

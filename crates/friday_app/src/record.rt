@@ -1,5 +1,6 @@
-// `record SCHEDULE`: runs a group as the schedule says, and writes the log of each process.
-ghost use Rattle.std.specs.Prelude.{◌≡◌, ◌<◌, ℕ, None, length, map, option_map, IfErr, IfOk, MatchResult};
+// `record [--images] SCHEDULE`: runs a group as the schedule says, and writes the log of each
+// process, and the images where they are asked for.
+ghost use Rattle.std.specs.Prelude.{◌≡◌, ◌<◌, Bool, ℕ, None, length, map, option_map, IfErr, IfOk, MatchResult};
 ghost use Rattle.fri_outside.specs.Outside.{WhenTold, NoneFell};
 ghost use Rattle.fri_outside.specs.Several.{OthersStay};
 ghost use Rattle.wasm_types.specs.Modules.{module_of as shown};
@@ -61,7 +62,7 @@ struct Inputs {
 fn gather<F: Files>(alloc: Global, schedule_file: &str, files: &mut F) -> Result<Inputs, Refusal>
     ensures answer { WhenTold (F.told files.old) (λ store. MatchResult result
         (λ inputs. Gathers store schedule_file.now inputs.schedule (map shown inputs.modules.items))
-        (StopsAs (record_outcome schedule_file.now store))) }
+        (λ e. (images : Bool) → StopsAs (record_outcome images schedule_file.now store) e)) }
     ensures count { IfOk result (λ inputs. length inputs.modules.items ≡ length inputs.schedule.processes) }
     ensures same { F.told files.new ≡ F.told files.old }
     ensures counts { NoneFell (F.counts files.old) (F.counts files.new) }
@@ -75,23 +76,24 @@ fn gather<F: Files>(alloc: Global, schedule_file: &str, files: &mut F) -> Result
 // Records a group, and prints what came of it.
 fn record_group<F: Files>(
     alloc: Global,
+    images: bool,
     schedule_file: &str,
     schedule: &Schedule,
     modules: &[ValidModule],
     files: &mut F,
 ) -> Result<Answer, Refusal>
     requires { length modules.now ≡ length schedule.now.processes }
-    ensures tells { Tells (group_outcome schedule_file.now schedule.now (begun schedule.now (map shown modules.now))) result }
-    ensures makes { Makes result (writes_of (group_outcome schedule_file.now schedule.now (begun schedule.now (map shown modules.now))))
+    ensures tells { Tells (group_outcome images schedule_file.now schedule.now (begun schedule.now (map shown modules.now))) result }
+    ensures makes { Makes result (writes_of (group_outcome images schedule_file.now schedule.now (begun schedule.now (map shown modules.now))))
         (F.told files.old) (F.told files.new) }
-    ensures stopped { StoppedWhere schedule.now (begun schedule.now (map shown modules.now)) (F.told files.old) (F.told files.new) }
+    ensures stopped { StoppedWhere schedule.now images (begun schedule.now (map shown modules.now)) (F.told files.old) (F.told files.new) }
     ensures keeps { Keeps result (F.told files.old) (F.told files.new) }
     ensures done { DivergesOnlyIn None result }
     ensures counts { NoneFell (F.counts files.old) (F.counts files.new) }
     ensures cause { IfErr result (Raises (F.counts files.old) (F.counts files.new)) }
 {
     keeps_files();
-    match run_record(alloc, schedule, modules, files) {
+    match run_record(alloc, schedule, modules, files, images) {
         Ok(summary) => {
             let text = print_summary(alloc, &summary)?;
             Ok(Answer::Done(text))
@@ -100,21 +102,22 @@ fn record_group<F: Files>(
     }
 }
 
-/// Runs the group of a schedule file, of the modules that it names, and makes the log of each process. At a
-/// fault, and where a log is full, the logs stay as they stand.
+/// Runs the group of a schedule file, of the modules that it names, and makes the log of each process, and with
+/// `images` the files of what each leaves. At a fault, and where a log is full, the logs stay as they stand.
 pub fn record<F: Files>(
     alloc: Global,
+    images: bool,
     schedule_file: &str,
     files: &mut F,
 ) -> Result<Answer, Refusal>
-    ensures tells { WhenTold (option_map (record_outcome schedule_file.now) (F.told files.old)) (λ outcome. Tells outcome result) }
-    ensures makes { WhenTold (option_map (record_outcome schedule_file.now) (F.told files.old)) (λ outcome.
+    ensures tells { WhenTold (option_map (record_outcome images schedule_file.now) (F.told files.old)) (λ outcome. Tells outcome result) }
+    ensures makes { WhenTold (option_map (record_outcome images schedule_file.now) (F.told files.old)) (λ outcome.
         Makes result (writes_of outcome) (F.told files.old) (F.told files.new)) }
-    ensures others { OthersStay (λ store. map (λ file. file.0) (writes_of (record_outcome schedule_file.now store))) (F.told files.old) (F.told files.new) }
+    ensures others { OthersStay (λ store. map (λ file. file.0) (writes_of (record_outcome images schedule_file.now store))) (F.told files.old) (F.told files.new) }
     ensures keeps { Keeps result (F.told files.old) (F.told files.new) }
     ensures done { DivergesOnlyIn None result }
     ensures recorded { IsEnd result → WhenTold (F.told files.old) (λ before. WhenTold (F.told files.new) (LeavesRecording schedule_file.now before)) }
-    ensures moment { WhenTold (F.told files.old) (λ before. LeavesMoment schedule_file.now before (F.told files.new)) }
+    ensures moment { WhenTold (F.told files.old) (λ before. LeavesMoment images schedule_file.now before (F.told files.new)) }
     ensures counts { NoneFell (F.counts files.old) (F.counts files.new) }
     ensures cause { IfErr result (Raises (F.counts files.old) (F.counts files.new)) }
 {
@@ -124,6 +127,7 @@ pub fn record<F: Files>(
     let inputs = gather(alloc, schedule_file, files)?;
     record_group(
         alloc,
+        images,
         schedule_file,
         &inputs.schedule,
         &inputs.modules,

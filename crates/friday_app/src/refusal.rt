@@ -1,7 +1,9 @@
 // What a command comes to, before its text is written.
 ghost use Rattle.std.specs.Prelude.{◌≡◌};
 ghost use Rattle.friday_app.specs.declared.refusal.Refusal.TheVariants as refusal;
+ghost use Rattle.friday_app.specs.Call.{write_refusal};
 
+use fri_outside::WriteError;
 use fri_text::Text;
 use std::alloc::{AllocError, AllocFailed, Global};
 
@@ -21,6 +23,12 @@ pub enum Reason {
     NoStart,
     BadSegment,
     BadHead,
+    /// The log is of a group of another number of processes than the first log.
+    OtherGroup,
+    /// An earlier log is of the same process.
+    SameProcess,
+    /// An earlier log is of a process of the same name.
+    SameName,
 }
 
 /// What a command prints at the end of its work, at which a log may have diverged.
@@ -77,5 +85,16 @@ impl<T: Drop> From<AllocFailed<T>> for Refusal {
 
     fn from(_: AllocFailed<T>) -> Self {
         Refusal::NoMemory
+    }
+}
+
+impl From<WriteError> for Refusal {
+    ghost from_gives = { λ error e. e ≡ write_refusal error };
+
+    fn from(error: WriteError) -> Self {
+        match error {
+            WriteError::Failed => Refusal::WriteFault,
+            WriteError::NoMemory => Refusal::NoMemory,
+        }
     }
 }

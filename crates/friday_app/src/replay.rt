@@ -1,52 +1,92 @@
-// `replay MODULE LOG`: the events of a log, made again.
-ghost use Rattle.std.specs.Prelude.{◌≡◌, option_map, IfErr, MatchResult};
-ghost use Rattle.fri_outside.specs.Outside.{Counts, WhenTold, NoneFell};
-ghost use Rattle.wasm_types.specs.Modules.{module_of as shown};
+// `replay [--images] MODULE LOG ..`: the events of a group's logs, made again.
+ghost use Rattle.std.specs.Prelude.{◌≡◌, All, List, map, option_map, IfErr};
+ghost use Rattle.fri_outside.specs.Outside.{WhenTold, NoneFell};
+ghost use Rattle.fri_outside.specs.Several.{ChangesOnly, OthersStay, with_files};
 ghost use Rattle.call_log.specs.Head.{IsHead};
-ghost use Rattle.friday_app.specs.Expected.{played, replay_outcome};
-ghost use Rattle.friday_app.specs.Call.{StopsAs, Tells, Raises};
-ghost use Rattle.friday_app.specs.Seen.{Works};
+ghost use Rattle.friday_app.specs.Call.{DivergesOnlyIn, Keeps, Makes, Raises, Tells};
+ghost use Rattle.friday_app.specs.Command.{Replay};
+ghost use Rattle.friday_app.specs.Expected.{replay_outcome};
+ghost use Rattle.friday_app.specs.Outcome.{writes_of};
+ghost use Rattle.friday_app.specs.Report.{images_if, images_in};
+ghost use Rattle.friday_app.specs.Seen.{MakesAll, pair_of};
 
-use crate::inputs::{begin_log, begin_process, take_log, take_module};
+use crate::command::Pair;
+use crate::pairs::{begin_all, load_all};
 use crate::refusal::{Answer, Refusal};
-use crate::report::report;
-use call_log::LogView;
-use fri_outside::Files;
+use crate::report::print_report;
+use fri_outside::{Files, keeps_files};
+use group_record::write_image;
+use group_state::Group;
 use std::alloc::Global;
-use wasm_types::ValidModule;
 
-// Replays the log of a module.
-fn play(
+// Writes what each process leaves, in order of the processes' numbers.
+fn write_images<F: Files>(
     alloc: Global,
-    module_file: &str,
-    guest: &ValidModule,
-    log: LogView<'_>,
-) -> Result<Answer, Refusal>
-    requires { IsHead log.head }
-    ensures answer { MatchResult result
-        (Works (played module_file.now (shown guest.now) (log.entry.head, log.entry.left)))
-        (StopsAs (played module_file.now (shown guest.now) (log.entry.head, log.entry.left))) }
-    ensures cause { (old new : Counts) → IfErr result (Raises old new) }
-{
-    let head = log.head();
-    let begun = begin_process(alloc, module_file, guest, head.process, head.count)?;
-    let answer = report(alloc, begun, log)?;
-    Ok(answer)
-}
-
-pub fn replay<F: Files>(
-    alloc: Global,
-    module_file: &str,
-    log_file: &str,
+    group: &Group<'_, '_>,
     files: &mut F,
-) -> Result<Answer, Refusal>
-    ensures tells { WhenTold (option_map (replay_outcome module_file.now log_file.now) (F.told files.old)) (λ outcome. Tells outcome result) }
-    ensures same { F.told files.new ≡ F.told files.old }
+) -> Result<(), Refusal>
+    requires { All (λ r. IsHead r.head) group.now.start }
+    ensures made { MakesAll result (images_in group.now.start) (F.told files.old) (F.told files.new) }
     ensures counts { NoneFell (F.counts files.old) (F.counts files.new) }
     ensures cause { IfErr result (Raises (F.counts files.old) (F.counts files.new)) }
 {
-    let guest = take_module(alloc, module_file, files)?;
-    let bytes = take_log(alloc, log_file, files)?;
-    let log = begin_log(alloc, log_file, &bytes)?;
-    play(alloc, module_file, &guest, log)
+    keeps_files();
+    for node in 0..group.nodes() {
+        let Some(name) = group.node_name(node) else {
+            unreachable!();
+        };
+        let Some(image) = group.image(alloc, node)? else {
+            unreachable!();
+        };
+        write_image(
+            alloc,
+            name,
+            image.memory.as_slice(),
+            image.printed.as_slice(),
+            files,
+        )?;
+    }
+    Ok(())
+}
+
+// The same where images were asked for, and else none.
+fn write_asked<F: Files>(
+    alloc: Global,
+    images: bool,
+    group: &Group<'_, '_>,
+    files: &mut F,
+) -> Result<(), Refusal>
+    requires { All (λ r. IsHead r.head) group.now.start }
+    ensures made { MakesAll result (images_if images group.now.start) (F.told files.old) (F.told files.new) }
+    ensures counts { NoneFell (F.counts files.old) (F.counts files.new) }
+    ensures cause { IfErr result (Raises (F.counts files.old) (F.counts files.new)) }
+{
+    if images {
+        write_images(alloc, group, files)
+    } else {
+        Ok(())
+    }
+}
+
+/// Replays the logs of a group, each by its module, and says what came of each and of all. With `images` the files
+/// of what the processes leave are made before.
+pub fn replay<F: Files>(
+    alloc: Global,
+    images: bool,
+    pairs: &[Pair<'_>],
+    files: &mut F,
+) -> Result<Answer, Refusal>
+    ensures tells { WhenTold (option_map (replay_outcome images (map pair_of pairs.now)) (F.told files.old)) (λ outcome. Tells outcome result) }
+    ensures makes { WhenTold (option_map (replay_outcome images (map pair_of pairs.now)) (F.told files.old)) (λ outcome.
+        Makes result (writes_of outcome) (F.told files.old) (F.told files.new)) }
+    ensures others { OthersStay (λ store. map (λ file. file.0) (writes_of (replay_outcome images (map pair_of pairs.now) store))) (F.told files.old) (F.told files.new) }
+    ensures keeps { Keeps result (F.told files.old) (F.told files.new) }
+    ensures counts { NoneFell (F.counts files.old) (F.counts files.new) }
+    ensures cause { IfErr result (Raises (F.counts files.old) (F.counts files.new)) }
+{
+    let all = load_all(alloc, pairs, files)?;
+    let group = Group::begin(alloc, begin_all(alloc, &all)?)?;
+    write_asked(alloc, images, &group, files)?;
+    let report = group.report(alloc)?;
+    Ok(print_report(alloc, &report)?)
 }

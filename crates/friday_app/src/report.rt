@@ -1,25 +1,22 @@
 // The report of a replay.
 ghost use Rattle.std.specs.Prelude.{◌≡◌, ◌++◌, IfOk, OnOk};
-ghost use Rattle.guest_process.specs.EventCount.{IsFresh};
-ghost use Rattle.friday_app.specs.Report.{count_text, group_text, line_text, printed, replay_work, verdict_text};
-ghost use Rattle.friday_app.specs.Seen.{IsWork, verdict_of};
+ghost use Rattle.group_state.specs.Report.{counts_in};
+ghost use Rattle.friday_app.specs.Report.{count_text, diverges, group_text, is_divergence, line_text, report_text, verdict_text};
+ghost use Rattle.friday_app.specs.Seen.{Says};
 
 use crate::refusal::Answer;
-use crate::replayer::{Replayed, Verdict, replay_log};
-use crate::tally::GroupCounts;
 use crate::texts::{divergence_text, push_end};
-use call_log::LogView;
 use fri_text::Text;
-use guest_process::Process;
+use group_state::{Report, ReportLine, Verdict};
 use std::alloc::{AllocError, Global};
 
 fn push_verdict(text: &mut Text, verdict: Verdict) -> Result<(), AllocError>
-    ensures { OnOk result (text.new ≡ text.old ++ verdict_text (verdict_of verdict)) }
+    ensures { OnOk result (text.new ≡ text.old ++ verdict_text verdict) }
 {
     match verdict {
         Verdict::Whole => text.push_str("log whole"),
         Verdict::Left(count) => {
-            text.push_u64(count as u64)?;
+            text.push_u64(count)?;
             text.push_str(" bytes left over")
         }
         Verdict::Diverged(at, why) => {
@@ -32,16 +29,16 @@ fn push_verdict(text: &mut Text, verdict: Verdict) -> Result<(), AllocError>
     }
 }
 
-fn push_line(text: &mut Text, name: &[u8], replayed: Replayed) -> Result<(), AllocError>
-    ensures { OnOk result (text.new ≡ text.old ++ line_text name.now replayed.accepted replayed.end (verdict_of replayed.verdict)) }
+fn push_line(text: &mut Text, line: &ReportLine) -> Result<(), AllocError>
+    ensures { OnOk result (text.new ≡ text.old ++ line_text line.now) }
 {
-    text.push_bytes(name)?;
+    text.push_bytes(line.name.as_slice())?;
     text.push_str(": ")?;
-    text.push_u64(replayed.accepted)?;
+    text.push_u64(line.events)?;
     text.push_str(" events, ")?;
-    push_end(text, replayed.end)?;
+    push_end(text, line.end)?;
     text.push_str(", ")?;
-    push_verdict(text, replayed.verdict)?;
+    push_verdict(text, line.verdict)?;
     text.push_str("\n")?;
     Ok(())
 }
@@ -55,37 +52,46 @@ fn push_count(text: &mut Text, number: u64, what: &str) -> Result<(), AllocError
     Ok(())
 }
 
-fn push_counts(text: &mut Text, counts: GroupCounts) -> Result<(), AllocError>
-    ensures { OnOk result (text.new ≡ text.old ++ group_text counts) }
+fn push_counts(text: &mut Text, report: &Report) -> Result<(), AllocError>
+    ensures { OnOk result (text.new ≡ text.old ++ group_text (counts_in report.now)) }
 {
     text.push_str("group: ")?;
-    push_count(text, counts.sends, " sends, ")?;
-    push_count(text, counts.receives, " receives, ")?;
-    push_count(text, counts.unmatched, " unmatched, ")?;
-    push_count(text, counts.untagged, " untagged\n")?;
+    push_count(text, report.sends, " sends, ")?;
+    push_count(text, report.receives, " receives, ")?;
+    push_count(text, report.unmatched, " unmatched, ")?;
+    push_count(text, report.untagged, " untagged\n")?;
     Ok(())
 }
 
-// What is printed of a log that was replayed.
-fn print(alloc: Global, name: &[u8], replayed: Replayed) -> Result<Answer, AllocError>
-    ensures { IfOk result (λ answer. IsWork answer (printed name.now replayed.accepted replayed.end (verdict_of replayed.verdict) replayed.counts)) }
+fn is_divergence(verdict: Verdict) -> bool
+    ensures { result ≡ is_divergence verdict }
 {
-    let mut text = Text::new(alloc);
-    push_line(&mut text, name, replayed)?;
-    push_counts(&mut text, replayed.counts)?;
-    Ok(match replayed.verdict {
-        Verdict::Diverged(..) => Answer::Diverged(text),
-        _ => Answer::Done(text),
-    })
+    match verdict {
+        Verdict::Whole => false,
+        Verdict::Left(_) => false,
+        Verdict::Diverged(..) => true,
+    }
 }
 
-/// Replays a log from the first state of its process, and prints what came of it.
-pub fn report(alloc: Global, begun: Process<'_>, log: LogView<'_>) -> Result<Answer, AllocError>
-    requires { IsFresh log.head.process log.head.count begun }
-    ensures { IfOk result (λ answer. IsWork answer (replay_work begun.entry log.entry.head log.entry.left)) }
+// Whether a log diverged.
+fn diverges(lines: &[ReportLine]) -> bool
+    ensures { result ≡ diverges lines.now }
 {
-    let head = log.head();
-    let replayed = replay_log(alloc, begun, log)?;
-    let answer = print(alloc, head.name, replayed)?;
-    Ok(answer)
+    lines.iter().any(|line| is_divergence(line.verdict))
+}
+
+/// A line for each log, and the counts of the group; and whether a log diverged.
+pub fn print_report(alloc: Global, report: &Report) -> Result<Answer, AllocError>
+    ensures { IfOk result (Says (report_text report.now.lines.items (counts_in report.now)) (diverges report.now.lines.items)) }
+{
+    let mut text = Text::new(alloc);
+    for line in &report.lines {
+        push_line(&mut text, line)?;
+    }
+    push_counts(&mut text, report)?;
+    if diverges(&report.lines) {
+        Ok(Answer::Diverged(text))
+    } else {
+        Ok(Answer::Done(text))
+    }
 }

@@ -34,11 +34,8 @@ fn perform<F: Files>(alloc: Global, command: Command<'_>, files: &mut F) -> Resu
     ensures cause { IfErr result (Raises (F.counts files.old) (F.counts files.new)) }
 {
     match command {
-        Command::Record { schedule_file } => record(alloc, schedule_file, files),
-        Command::Replay {
-            module_file,
-            log_file,
-        } => replay(alloc, module_file, log_file, files),
+        Command::Record(images, schedule_file) => record(alloc, images, schedule_file, files),
+        Command::Replay(images, pairs) => replay(alloc, images, &pairs, files),
     }
 }
 

@@ -12,11 +12,11 @@ ghost use Rattle.friday_app.specs.Call.{IsAnswer, IsExactUsage, IsIdle, KeepsInp
 
 use crate::command::parse;
 use crate::finish::say;
-use crate::laws::has_work;
+use crate::laws::{has_work, recordings_agree};
 use crate::settle::settle;
 use crate::status::Status;
 use fri_outside::{Files, Sink, Source};
-use std::alloc::Global;
+use std::alloc::{AllocError, Global};
 
 // Says that the words are no command.
 fn refuse_words<K: Sink>(out: &mut K) -> Status
@@ -45,9 +45,11 @@ fn run<F: Files, S: Source, K: Sink>(
         (record { told = F.told files.new; counts = F.counts files.new; left = S.left input.new; input_faults = S.faults input.new; taken = K.taken out.new; out_faults = K.faults out.new })
         result }
 {
-    match parse(words) {
-        None => refuse_words(out),
-        Some(command) => settle(alloc, command, files, out),
+    recordings_agree();
+    match parse(alloc, words) {
+        Ok(None) => refuse_words(out),
+        Ok(Some(command)) => settle(alloc, command, files, out),
+        Err(AllocError) => Status::NoMemory,
     }
 }
 
@@ -86,7 +88,8 @@ pub fn friday<F: Files, S: Source, K: Sink>(
         WhenTold (F.told files.new) (KeepsRecording (command_of (map string_bytes words.now)) before)) }
 
     // Wherever a recording was stopped, its logs are those of a moment of its run, but that behind one of them a
-    // first part of the next entry may stand; or the logs hold a first part of their heads, or are not made yet.
+    // first part of the next entry may stand; or the logs hold a first part of their heads, or are not made yet; or
+    // the whole logs stand, and behind them the first ones of the images, the last of which may be cut off.
     ensures moment { WhenTold (F.told files.old) (λ before. KeepsMoment (command_of (map string_bytes words.now)) before (F.told files.new)) }
 
     // Valid words, files and input, and no fault: the work is done, unless memory runs out.

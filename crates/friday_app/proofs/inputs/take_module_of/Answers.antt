@@ -2,7 +2,7 @@ use Rattle.std.proofs.Common.{◌≡◌, ◌∙◌, List, ℕ, MatchResult, Ok, 
 use Rattle.std.specs.Prelude.{IsUtf8}
 use Rattle.wasm_types.specs.Modules.{module_of as shown}
 use Rattle.friday_app.specs.Call.{StopsAs}
-use Rattle.friday_app.specs.Expected.{module_of}
+use Rattle.friday_app.specs.Inputs.{module_of}
 use Rattle.friday_app.proofs.Names.{module_utf8}
 use Rattle.friday_app.proofs.inputs.take_module_of.Goals as goal
 

@@ -1,47 +1,49 @@
-use Rattle.std.proofs.Common.{List, ap, map, option_map, subst, sym}
+use Rattle.std.proofs.Common.{List, map, subst, sym}
 use Rattle.std.proofs.lemmas.Result.{err_from_is_err_and}
 use Rattle.wasm_types.specs.Modules.{module_of as shown}
 use Rattle.friday_app.specs.Expected.{record_outcome}
-use Rattle.friday_app.specs.Outcome.{writes_of}
 use Rattle.friday_app.specs.Seen.{Gathers}
-use Rattle.friday_app.proofs.Gathered.{group_makes, refused_makes}
-use Rattle.friday_app.proofs.Made.{changes_others, makes_changes, same_others}
+use Rattle.friday_app.proofs.Gathered.{group_makes, refused_makes, refused_tells}
+use Rattle.friday_app.proofs.Made.{makes_others, same_others}
 use Rattle.friday_app.proofs.Recordings.{moment_before, moment_then, recording_left}
 use Rattle.friday_app.proofs.record.record.Goals as goal
+
+pub returns-in_err-inputs-clause-tells : goal.returns-in_err-inputs-clause-tells
+returns-in_err-inputs-clause-tells g c =
+    let p = err_from_is_err_and c.from_residual.result c.from_residual.ensures.1 in
+    rw (p.1, p.2) (refused_tells (record_outcome c.args.images c.args.schedule_file.now) (g.F.Files.told c.args.files.now) c.in_err-inputs.field-0.0 (λ store told. c.in_err-inputs.ensures.answer store told c.args.images))
 
 pub returns-in_err-inputs-clause-makes : goal.returns-in_err-inputs-clause-makes
 returns-in_err-inputs-clause-makes g c =
     let p = err_from_is_err_and c.from_residual.result c.from_residual.ensures.1 in
-    rw (p.1, p.2) (refused_makes (record_outcome c.args.schedule_file.now) (g.F.Files.told c.args.files.now) (g.F.Files.told c.gather.new.files) c.in_err-inputs.field-0.0 c.in_err-inputs.ensures.answer c.gather.ensures.same)
+    rw (p.1, p.2) (refused_makes (record_outcome c.args.images c.args.schedule_file.now) (g.F.Files.told c.args.files.now) (g.F.Files.told c.gather.new.files) c.in_err-inputs.field-0.0 (λ store told. c.in_err-inputs.ensures.answer store told c.args.images) c.gather.ensures.same)
 
 pub returns-in_err-inputs-clause-others : goal.returns-in_err-inputs-clause-others
 returns-in_err-inputs-clause-others g c = same_others _ _ _ c.gather.ensures.same
 
 pub returns-in_err-inputs-clause-moment : goal.returns-in_err-inputs-clause-moment
-returns-in_err-inputs-clause-moment g c = moment_before c.recordings_agree.ensures (g.F.Files.told c.args.files.now) (g.F.Files.told c.gather.new.files) c.args.schedule_file.now c.gather.ensures.same
+returns-in_err-inputs-clause-moment g c = moment_before c.recordings_agree.ensures (g.F.Files.told c.args.files.now) (g.F.Files.told c.gather.new.files) c.args.images c.args.schedule_file.now c.gather.ensures.same
 
 pub returns-in_err-inputs-clause-recorded : goal.returns-in_err-inputs-clause-recorded
 returns-in_err-inputs-clause-recorded g c = λ end.
-    recording_left c.keeps_files.ensures c.exact_outcome.ensures.schedules c.recordings_agree.ensures (g.F.Files.told c.args.files.now) (g.F.Files.told c.gather.new.files) c.args.schedule_file.now c.from_residual.result
+    recording_left c.keeps_files.ensures c.exact_outcome.ensures.schedules c.recordings_agree.ensures (g.F.Files.told c.args.files.now) (g.F.Files.told c.gather.new.files) c.args.images c.args.schedule_file.now c.from_residual.result
     (returns-in_err-inputs-clause-makes g c) end
 
 pub returns-clause-makes : goal.returns-clause-makes
 returns-clause-makes g c =
-    (group_makes (g.F.Files.told c.args.files.now) (g.F.Files.told c.gather.new.files) (g.F.Files.told c.record_group.new.files) c.args.schedule_file.now c.in_ok-inputs.inputs.schedule (map shown c.deref.result.now) c.record_group.result (λ store told. subst (λ (ms : List _). Gathers store c.args.schedule_file.now c.in_ok-inputs.inputs.schedule (map shown ms)) (sym c.deref.ensures.value) (c.in_ok-inputs.ensures.answer store told)) c.gather.ensures.same c.record_group.ensures.makes)
+    group_makes (g.F.Files.told c.args.files.now) (g.F.Files.told c.gather.new.files) (g.F.Files.told c.record_group.new.files) c.args.images c.args.schedule_file.now c.in_ok-inputs.inputs.schedule (map shown c.deref.result.now) c.record_group.result
+    (λ store told. subst (λ (ms : List _). Gathers store c.args.schedule_file.now c.in_ok-inputs.inputs.schedule (map shown ms)) (sym c.deref.ensures.value) (c.in_ok-inputs.ensures.answer store told)) c.gather.ensures.same c.record_group.ensures.makes
 
 pub returns-clause-others : goal.returns-clause-others
 returns-clause-others g c =
-    let makes =
-    (group_makes (g.F.Files.told c.args.files.now) (g.F.Files.told c.gather.new.files) (g.F.Files.told c.record_group.new.files) c.args.schedule_file.now c.in_ok-inputs.inputs.schedule (map shown c.deref.result.now) c.record_group.result (λ store told. subst (λ (ms : List _). Gathers store c.args.schedule_file.now c.in_ok-inputs.inputs.schedule (map shown ms)) (sym c.deref.ensures.value) (c.in_ok-inputs.ensures.answer store told)) c.gather.ensures.same c.record_group.ensures.makes) in
-    changes_others (λ store. writes_of (record_outcome c.args.schedule_file.now store)) (g.F.Files.told c.args.files.now) (g.F.Files.told c.record_group.new.files)
-    (λ store is. makes_changes c.record_group.result _ (g.F.Files.told c.args.files.now) (g.F.Files.told c.record_group.new.files) (makes (record_outcome c.args.schedule_file.now store) (ap (option_map (record_outcome c.args.schedule_file.now)) is)))
+    makes_others (record_outcome c.args.images c.args.schedule_file.now) (g.F.Files.told c.args.files.now) (g.F.Files.told c.record_group.new.files) c.record_group.result (returns-clause-makes g c)
 
 pub returns-clause-recorded : goal.returns-clause-recorded
 returns-clause-recorded g c = λ end.
-    recording_left c.keeps_files.ensures c.exact_outcome.ensures.schedules c.recordings_agree.ensures (g.F.Files.told c.args.files.now) (g.F.Files.told c.record_group.new.files) c.args.schedule_file.now c.record_group.result
-    (group_makes (g.F.Files.told c.args.files.now) (g.F.Files.told c.gather.new.files) (g.F.Files.told c.record_group.new.files) c.args.schedule_file.now c.in_ok-inputs.inputs.schedule (map shown c.deref.result.now) c.record_group.result (λ store told. subst (λ (ms : List _). Gathers store c.args.schedule_file.now c.in_ok-inputs.inputs.schedule (map shown ms)) (sym c.deref.ensures.value) (c.in_ok-inputs.ensures.answer store told)) c.gather.ensures.same c.record_group.ensures.makes) end
+    recording_left c.keeps_files.ensures c.exact_outcome.ensures.schedules c.recordings_agree.ensures (g.F.Files.told c.args.files.now) (g.F.Files.told c.record_group.new.files) c.args.images c.args.schedule_file.now c.record_group.result
+    (returns-clause-makes g c) end
 
 pub returns-clause-moment : goal.returns-clause-moment
 returns-clause-moment g c =
-    moment_then c.recordings_agree.ensures (g.F.Files.told c.args.files.now) (g.F.Files.told c.gather.new.files) (g.F.Files.told c.record_group.new.files) c.args.schedule_file.now c.in_ok-inputs.inputs.schedule (map shown c.deref.result.now)
+    moment_then c.recordings_agree.ensures (g.F.Files.told c.args.files.now) (g.F.Files.told c.gather.new.files) (g.F.Files.told c.record_group.new.files) c.args.images c.args.schedule_file.now c.in_ok-inputs.inputs.schedule (map shown c.deref.result.now)
     (λ store told. subst (λ (ms : List _). Gathers store c.args.schedule_file.now c.in_ok-inputs.inputs.schedule (map shown ms)) (sym c.deref.ensures.value) (c.in_ok-inputs.ensures.answer store told)) c.gather.ensures.same c.record_group.ensures.stopped

@@ -1,30 +1,98 @@
+use Rattle.std.proofs.Common.{◌∙◌, Err, Ok, ap, map, subst, sym}
 use Rattle.std.proofs.lemmas.Result.{err_from_is_err_and}
-use Rattle.std.proofs.Common.{◌∙◌, Ok, ap, sym}
-use Rattle.wasm_types.specs.Modules.{module_of as shown}
-use Rattle.friday_app.proofs.Replayed.{file_stops, head_stops, replay_tells}
+use Rattle.fri_outside.specs.Several.{with_files}
+use Rattle.group_state.specs.Place.{Place}
+use Rattle.friday_app.specs.declared.refusal.Refusal.TheVariants as refusal
+use Rattle.friday_app.specs.Expected.{replay_outcome}
+use Rattle.friday_app.specs.Report.{images_if}
+use Rattle.friday_app.specs.Seen.{MakesAll, pair_of}
+use Rattle.friday_app.proofs.Gathered.{refused_makes}
+use Rattle.friday_app.proofs.Made.{all_changes, makes_others, same_changes, same_others}
+use Rattle.friday_app.proofs.Replayed.{WasOpened, begin_stops, begun_opens, load_stops, replay_makes, some_made}
 use Rattle.friday_app.proofs.replay.replay.Goals as goal
 
-pub returns-clause-tells : goal.returns-clause-tells
-returns-clause-tells g c =
-    replay_tells c.args.module_file.now c.args.log_file.now (g.F.Files.told c.args.files.now) (shown c.in_ok-guest.guest) c.deref.result.now (c.in_ok-log.log.head, c.in_ok-log.log.left) c.play.result
-    c.in_ok-guest.ensures.answer (λ store told. c.in_ok-bytes.ensures.answer store (c.take_module.ensures.same ∙ told) ∙ ap Ok (sym c.deref.ensures.value)) c.in_ok-log.ensures.answer c.play.ensures.answer
+pub returns-in_err-all-clause-makes : goal.returns-in_err-all-clause-makes
+returns-in_err-all-clause-makes g c =
+    let p = err_from_is_err_and c.from_residual.result c.from_residual.ensures.1 in
+    rw (p.1, p.2)
+    (refused_makes (replay_outcome c.args.images (map pair_of c.args.pairs.now)) (g.F.Files.told c.args.files.now) (g.F.Files.told c.load_all.new.files) c.in_err-all.field-0.0 (load_stops c.args.images (map pair_of c.args.pairs.now) (g.F.Files.told c.args.files.now) c.in_err-all.field-0.0 c.in_err-all.ensures.answer) c.load_all.ensures.same)
 
-pub returns-clause-cause : goal.returns-clause-cause
-returns-clause-cause g c = c.play.ensures.cause (g.F.Files.counts c.args.files.now) (g.F.Files.counts c.take_log.new.files)
+pub returns-in_err-all-clause-others : goal.returns-in_err-all-clause-others
+returns-in_err-all-clause-others g c =
+    same_others _ _ _ c.load_all.ensures.same
 
-pub returns-in_err-bytes-clause-tells : goal.returns-in_err-bytes-clause-tells
-returns-in_err-bytes-clause-tells g c =
-    let p = err_from_is_err_and c.from_residual-in_err-bytes.result c.from_residual-in_err-bytes.ensures.1 in
-    rw (p.1, p.2) (file_stops c.args.module_file.now c.args.log_file.now (g.F.Files.told c.args.files.now) (shown c.in_ok-guest.guest) c.in_err-bytes.field-0.0
-    c.in_ok-guest.ensures.answer (λ store told. c.in_err-bytes.ensures.answer store (c.take_module.ensures.same ∙ told)))
+pub returns-in_err-begin_all-clause-makes : goal.returns-in_err-begin_all-clause-makes
+returns-in_err-begin_all-clause-makes g c =
+    let p = err_from_is_err_and c.from_residual-in_err-begin_all.result c.from_residual-in_err-begin_all.ensures.1 in
+    rw (p.1, p.2)
+    (refused_makes (replay_outcome c.args.images (map pair_of c.args.pairs.now)) (g.F.Files.told c.args.files.now) (g.F.Files.told c.load_all.new.files) c.in_err-begin_all.field-0.0 (begin_stops c.args.images (map pair_of c.args.pairs.now) (g.F.Files.told c.args.files.now) c.in_ok-all.all.items c.deref.result.now c.in_err-begin_all.field-0.0 c.in_ok-all.ensures.answer c.deref.ensures.value c.in_err-begin_all.ensures.answer) c.load_all.ensures.same)
 
-pub returns-in_err-log-clause-tells : goal.returns-in_err-log-clause-tells
-returns-in_err-log-clause-tells g c =
-    let p = err_from_is_err_and c.from_residual-in_err-log.result c.from_residual-in_err-log.ensures.1 in
-    rw (p.1, p.2) (head_stops c.args.module_file.now c.args.log_file.now (g.F.Files.told c.args.files.now) (shown c.in_ok-guest.guest) c.deref.result.now c.in_err-log.field-0.0
-    c.in_ok-guest.ensures.answer (λ store told. c.in_ok-bytes.ensures.answer store (c.take_module.ensures.same ∙ told) ∙ ap Ok (sym c.deref.ensures.value)) c.in_err-log.ensures.answer)
+pub returns-in_err-begin_all-clause-others : goal.returns-in_err-begin_all-clause-others
+returns-in_err-begin_all-clause-others g c =
+    same_others _ _ _ c.load_all.ensures.same
 
-pub returns-in_err-log-clause-cause : goal.returns-in_err-log-clause-cause
-returns-in_err-log-clause-cause g c =
-    let p = err_from_is_err_and c.from_residual-in_err-log.result c.from_residual-in_err-log.ensures.1 in
-    rw (p.1, p.2) (c.in_err-log.ensures.cause (g.F.Files.counts c.args.files.now) (g.F.Files.counts c.take_log.new.files))
+pub returns-in_err-begin_all-clause-cause : goal.returns-in_err-begin_all-clause-cause
+returns-in_err-begin_all-clause-cause g c =
+    let p = err_from_is_err_and c.from_residual-in_err-begin_all.result c.from_residual-in_err-begin_all.ensures.1 in
+    rw (p.1, p.2)
+    (c.in_err-begin_all.ensures.cause (g.F.Files.counts c.args.files.now) (g.F.Files.counts c.load_all.new.files))
+
+pub returns-in_err-group-clause-makes : goal.returns-in_err-group-clause-makes
+returns-in_err-group-clause-makes g c =
+    let p = err_from_is_err_and c.from_residual-in_err-group.result c.from_residual-in_err-group.ensures.1 in
+    rw (p.1, p.2)
+    (λ o here. same_changes _ _ _ c.load_all.ensures.same)
+
+pub returns-in_err-group-clause-others : goal.returns-in_err-group-clause-others
+returns-in_err-group-clause-others g c =
+    same_others _ _ _ c.load_all.ensures.same
+
+pub returns-in_err-write_asked-clause-makes : goal.returns-in_err-write_asked-clause-makes
+returns-in_err-write_asked-clause-makes g c =
+    let p = err_from_is_err_and c.from_residual-in_err-write_asked.result c.from_residual-in_err-write_asked.ensures.1 in
+    rw (p.1, p.2)
+    (replay_makes c.args.images (map pair_of c.args.pairs.now) (g.F.Files.told c.args.files.now) (g.F.Files.told c.write_asked.new.files) c.in_ok-group.group.start (Err c.in_err-write_asked.field-0.0)
+    (subst (WasOpened (map pair_of c.args.pairs.now) (g.F.Files.told c.args.files.now)) (sym (ap (λ (p : Place). p.start) c.in_ok-group.ensures))
+    (begun_opens (map pair_of c.args.pairs.now) (g.F.Files.told c.args.files.now) c.in_ok-all.all.items c.deref.result.now c.in_ok-begin_all.field-0.items c.in_ok-all.ensures.answer c.deref.ensures.value c.in_ok-begin_all.ensures.answer))
+    (some_made c.in_err-write_asked.field-0.0 _ _ _ (subst (λ t. MakesAll (Err c.in_err-write_asked.field-0.0) (images_if c.args.images c.in_ok-group.group.start) t (g.F.Files.told c.write_asked.new.files)) c.load_all.ensures.same c.in_err-write_asked.ensures.made)))
+
+pub returns-in_err-write_asked-clause-others : goal.returns-in_err-write_asked-clause-others
+returns-in_err-write_asked-clause-others g c =
+    makes_others (replay_outcome c.args.images (map pair_of c.args.pairs.now)) (g.F.Files.told c.args.files.now) (g.F.Files.told c.write_asked.new.files) c.from_residual-in_err-write_asked.result (returns-in_err-write_asked-clause-makes g c)
+
+pub returns-in_err-report-clause-makes : goal.returns-in_err-report-clause-makes
+returns-in_err-report-clause-makes g c =
+    let p = err_from_is_err_and c.from_residual-in_err-report.result c.from_residual-in_err-report.ensures.1 in
+    rw (p.1, p.2)
+    (replay_makes c.args.images (map pair_of c.args.pairs.now) (g.F.Files.told c.args.files.now) (g.F.Files.told c.write_asked.new.files) c.in_ok-group.group.start (Err refusal.NoMemory)
+    (subst (WasOpened (map pair_of c.args.pairs.now) (g.F.Files.told c.args.files.now)) (sym (ap (λ (p : Place). p.start) c.in_ok-group.ensures))
+    (begun_opens (map pair_of c.args.pairs.now) (g.F.Files.told c.args.files.now) c.in_ok-all.all.items c.deref.result.now c.in_ok-begin_all.field-0.items c.in_ok-all.ensures.answer c.deref.ensures.value c.in_ok-begin_all.ensures.answer))
+    (all_changes _ _ _ (c.in_ok-write_asked.ensures.made ∙ ap (with_files (images_if c.args.images c.in_ok-group.group.start)) c.load_all.ensures.same)))
+
+pub returns-in_err-report-clause-others : goal.returns-in_err-report-clause-others
+returns-in_err-report-clause-others g c =
+    makes_others (replay_outcome c.args.images (map pair_of c.args.pairs.now)) (g.F.Files.told c.args.files.now) (g.F.Files.told c.write_asked.new.files) c.from_residual-in_err-report.result (returns-in_err-report-clause-makes g c)
+
+pub returns-in_err-print_report-clause-makes : goal.returns-in_err-print_report-clause-makes
+returns-in_err-print_report-clause-makes g c =
+    let p = err_from_is_err_and c.from_residual-in_err-print_report.result c.from_residual-in_err-print_report.ensures.1 in
+    rw (p.1, p.2)
+    (replay_makes c.args.images (map pair_of c.args.pairs.now) (g.F.Files.told c.args.files.now) (g.F.Files.told c.write_asked.new.files) c.in_ok-group.group.start (Err refusal.NoMemory)
+    (subst (WasOpened (map pair_of c.args.pairs.now) (g.F.Files.told c.args.files.now)) (sym (ap (λ (p : Place). p.start) c.in_ok-group.ensures))
+    (begun_opens (map pair_of c.args.pairs.now) (g.F.Files.told c.args.files.now) c.in_ok-all.all.items c.deref.result.now c.in_ok-begin_all.field-0.items c.in_ok-all.ensures.answer c.deref.ensures.value c.in_ok-begin_all.ensures.answer))
+    (all_changes _ _ _ (c.in_ok-write_asked.ensures.made ∙ ap (with_files (images_if c.args.images c.in_ok-group.group.start)) c.load_all.ensures.same)))
+
+pub returns-in_err-print_report-clause-others : goal.returns-in_err-print_report-clause-others
+returns-in_err-print_report-clause-others g c =
+    makes_others (replay_outcome c.args.images (map pair_of c.args.pairs.now)) (g.F.Files.told c.args.files.now) (g.F.Files.told c.write_asked.new.files) c.from_residual-in_err-print_report.result (returns-in_err-print_report-clause-makes g c)
+
+pub returns-clause-makes : goal.returns-clause-makes
+returns-clause-makes g c =
+    replay_makes c.args.images (map pair_of c.args.pairs.now) (g.F.Files.told c.args.files.now) (g.F.Files.told c.write_asked.new.files) c.in_ok-group.group.start (Ok c.in_ok-print_report.field-0)
+    (subst (WasOpened (map pair_of c.args.pairs.now) (g.F.Files.told c.args.files.now)) (sym (ap (λ (p : Place). p.start) c.in_ok-group.ensures))
+    (begun_opens (map pair_of c.args.pairs.now) (g.F.Files.told c.args.files.now) c.in_ok-all.all.items c.deref.result.now c.in_ok-begin_all.field-0.items c.in_ok-all.ensures.answer c.deref.ensures.value c.in_ok-begin_all.ensures.answer))
+    (c.in_ok-write_asked.ensures.made ∙ ap (with_files (images_if c.args.images c.in_ok-group.group.start)) c.load_all.ensures.same)
+
+pub returns-clause-others : goal.returns-clause-others
+returns-clause-others g c =
+    makes_others (replay_outcome c.args.images (map pair_of c.args.pairs.now)) (g.F.Files.told c.args.files.now) (g.F.Files.told c.write_asked.new.files) (Ok c.in_ok-print_report.field-0) (returns-clause-makes g c)

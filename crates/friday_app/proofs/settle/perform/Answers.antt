@@ -1,18 +1,28 @@
-use Rattle.std.proofs.Common.{Some, ap, sym, subst}
+use Rattle.std.proofs.Common.{◌∙◌, Some, ap, map, sym, subst}
+use Rattle.fri_outside.specs.Outside.{WhenTold}
 use Rattle.fri_outside.specs.Several.{OthersStay}
-use Rattle.friday_app.specs.Command.{Command}
-use Rattle.friday_app.specs.Expected.{written_by}
+use Rattle.friday_app.specs.Call.{Makes, Tells}
+use Rattle.friday_app.specs.Command.{Command, Replay}
+use Rattle.friday_app.specs.Expected.{expected, written_by}
 use Rattle.friday_app.specs.Outcome.{writes_of}
-use Rattle.friday_app.specs.Seen.{meaning}
-use Rattle.friday_app.proofs.Made.{none_made, same_others, never_diverges, keeps_moment, keeps_recording, no_moment, no_recording}
-use Rattle.friday_app.proofs.Stops.{replay_writes_none}
+use Rattle.friday_app.specs.Seen.{meaning, pair_of}
+use Rattle.friday_app.proofs.Made.{never_diverges, keeps_moment, keeps_recording, no_moment, no_recording}
 use Rattle.friday_app.proofs.settle.perform.Goals as goal
 
-pub returns-in-Replay-clause-others : goal.returns-in-Replay-clause-others
-returns-in-Replay-clause-others g c = same_others _ _ _ c.replay.ensures.same
+pub returns-in-Replay-clause-tells : goal.returns-in-Replay-clause-tells
+returns-in-Replay-clause-tells g c = λ left.
+    subst (λ (words : Command). WhenTold (expected (Some words) (g.F.Files.told c.args.files.now) left) (λ outcome. Tells outcome c.replay.result))
+    (sym (ap meaning c.in-Replay.is ∙ ap (λ ps. Replay c.in-Replay.images (map pair_of ps)) (sym c.deref.ensures.value))) c.replay.ensures.tells
 
 pub returns-in-Replay-clause-makes : goal.returns-in-Replay-clause-makes
-returns-in-Replay-clause-makes g c = λ left o e. none_made c.replay.result (writes_of o) _ _ (replay_writes_none (meaning c.args.command) c.in-Replay.module_file.now c.in-Replay.log_file.now _ left o (ap meaning c.in-Replay.is) e) c.replay.ensures.same
+returns-in-Replay-clause-makes g c = λ left.
+    subst (λ (words : Command). WhenTold (expected (Some words) (g.F.Files.told c.args.files.now) left) (λ outcome. Makes c.replay.result (writes_of outcome) (g.F.Files.told c.args.files.now) (g.F.Files.told c.replay.new.files)))
+    (sym (ap meaning c.in-Replay.is ∙ ap (λ ps. Replay c.in-Replay.images (map pair_of ps)) (sym c.deref.ensures.value))) c.replay.ensures.makes
+
+pub returns-in-Replay-clause-others : goal.returns-in-Replay-clause-others
+returns-in-Replay-clause-others g c =
+    subst (λ (words : Command). OthersStay (written_by (Some words)) (g.F.Files.told c.args.files.now) (g.F.Files.told c.replay.new.files))
+    (sym (ap meaning c.in-Replay.is ∙ ap (λ ps. Replay c.in-Replay.images (map pair_of ps)) (sym c.deref.ensures.value))) c.replay.ensures.others
 
 pub returns-in-Record-clause-others : goal.returns-in-Record-clause-others
 returns-in-Record-clause-others g c =

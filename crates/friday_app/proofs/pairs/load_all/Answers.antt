@@ -1,0 +1,38 @@
+use Rattle.std.proofs.Common.{◌∙◌, ◌+◌, List, drop, subst, sym}
+use Rattle.std.proofs.lemmas.List.{drop_all, drop_more}
+use Rattle.std.proofs.lemmas.Result.{err_from_is_err_and}
+use Rattle.friday_app.specs.declared.pairs.Loaded.{Loaded}
+use Rattle.friday_app.specs.Seen.{AreLoaded}
+use Rattle.friday_app.proofs.Loading.{all_read, one_read, reading_stops}
+use Rattle.friday_app.proofs.Made.{still_none_fell}
+use Rattle.friday_app.proofs.pairs.load_all.Goals as goal
+
+pub returns-in_err-loaded-clause-answer : goal.returns-in_err-loaded-clause-answer
+returns-in_err-loaded-clause-answer g c =
+    let read = c.loop-pair.invariant in
+    let pairs = c.args.pairs.now in
+    let i = c.loop-pair.pair-index in
+    let p = err_from_is_err_and c.from_residual.result c.from_residual.ensures.1 in
+    rw (p.1, p.2) (reading_stops (g.F.Files.told c.args.files.now) pairs (drop i pairs) (drop (i + 1) pairs) _ c.loop-pair.all.items c.in_err-loaded.field-0.0 read.0 (drop_more pairs i _ c.loop-pair-test.true)
+    (λ store is ls are. c.in_err-loaded.ensures.answer store (read.1 ∙ is) ls (subst (λ (xs : List Loaded). AreLoaded xs ls) (sym c.deref.ensures.value) are)))
+
+pub loop-pair-preserved : goal.loop-pair-preserved
+loop-pair-preserved g c =
+    let read = c.loop-pair.invariant in
+    let told = g.F.Files.told c.args.files.now in
+    let pairs = c.args.pairs.now in
+    let i = c.loop-pair.pair-index in
+    let items = c.loop-pair.all.items in (
+      one_read told pairs (drop i pairs) (drop (i + 1) pairs) _ items c.push.new.self.items c.in_ok-loaded.loaded read.0 (drop_more pairs i _ c.loop-pair-test.true)
+          (λ store is ls are. c.in_ok-loaded.ensures.answer store (read.1 ∙ is) ls (subst (λ (xs : List Loaded). AreLoaded xs ls) (sym c.deref.ensures.value) are))
+          (λ ls are. c.in_ok-loaded.ensures.fits ls (subst (λ (xs : List Loaded). AreLoaded xs ls) (sym c.deref.ensures.value) are))
+          c.in_ok-push.ensures.items,
+      c.load.ensures.same ∙ read.1,
+      still_none_fell _ _ _ read.2 c.load.ensures.counts,
+    )
+
+pub returns-clause-answer : goal.returns-clause-answer
+returns-clause-answer g c =
+    let pairs = c.args.pairs.now in
+    let i = c.loop-pair.pair-index in
+    all_read (g.F.Files.told c.args.files.now) pairs (drop i pairs) c.loop-pair.all.items c.loop-pair.invariant.0 (drop_all i pairs c.loop-pair-test.false)

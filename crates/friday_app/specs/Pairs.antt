@@ -1,0 +1,83 @@
+-- The modules and logs of a group, as they are read, and the replays of the logs.
+use Rattle.std.specs.Prelude.{ℕ, List, [], ◌∷◌, ◌++◌, ◌==◌, Bool, false, not, nat_lt, bytes_eq, Option, Some, None, Result, Ok, Err, if◌then◌else◌}
+use Rattle.std.specs.List.{list_any}
+use Rattle.fri_outside.specs.Outside.{Store}
+use Rattle.wasm_types.specs.Modules.{Module}
+use Rattle.call_log.specs.Head.{Head}
+use Rattle.proc_replay.specs.Replaying.{Replaying}
+use Rattle.friday_app.specs.declared.refusal.Reason.{Reason}
+use Rattle.friday_app.specs.declared.refusal.Reason.TheVariants as reason
+use Rattle.friday_app.specs.Command.{Pair}
+use Rattle.friday_app.specs.Inputs.{begun_of, log_of, module_of}
+use Rattle.friday_app.specs.Outcome.{Stop, and_then, refuses}
+
+-- a pair that was read: the name of the module's file, the module, the log's head, and what is behind it
+pub record Loaded : Type 0 where
+  pub module_name : List ℕ
+  pub «module» : Module
+  pub head : Head
+  pub left : List ℕ
+
+-- ---- a log against the pairs before it
+
+-- its group has another number of processes than the first pair's
+abbrev pub is_other_group : List Loaded → ℕ → Bool
+is_other_group [] count = false
+is_other_group (first ∷ rest) count = not (first.head.count == count)
+
+abbrev pub has_process : List Loaded → ℕ → Bool
+has_process earlier process = list_any (λ l. l.head.process == process) earlier
+
+abbrev pub has_name : List Loaded → List ℕ → Bool
+has_name earlier name = list_any (λ l. bytes_eq l.head.name name) earlier
+
+-- why it does not go with them, by the first test that it fails
+abbrev pub clash : List Loaded → Head → Option Reason
+clash earlier head =
+    if is_other_group earlier head.count then Some reason.OtherGroup
+    else if has_process earlier head.process then Some reason.SameProcess
+    else if has_name earlier head.name then Some reason.SameName
+    else None
+
+abbrev pub unless_clash : List ℕ → Loaded → Option Reason → Result Loaded Stop
+unless_clash log_name l None = Ok l
+unless_clash log_name l (Some why) = Err (refuses log_name why)
+
+-- ---- the files, pair after pair
+
+-- the module's, then the log's, then the log against the pairs before it
+abbrev pub loaded : Store → List Loaded → Pair → Result Loaded Stop
+loaded store earlier pair =
+    and_then (module_of store pair.module_name) (λ m. and_then (log_of store pair.log_name) (λ log.
+    unless_clash pair.log_name (record { module_name = pair.module_name; «module» = m; head = log.0; left = log.1 }) (clash earlier log.0)))
+
+abbrev pub all_loaded : Store → List Loaded → List Pair → Result (List Loaded) Stop
+all_loaded store earlier [] = Ok earlier
+all_loaded store earlier (pair ∷ pairs) = and_then (loaded store earlier pair) (λ l. all_loaded store (earlier ++ l ∷ []) pairs)
+
+-- ---- the replays
+
+-- the replay of a log from the first state of its process
+abbrev pub begun_replay : Loaded → Result Replaying Stop
+begun_replay l =
+    and_then (begun_of l.module_name l.«module» l.head.process l.head.count) (λ begun. Ok (record { head = l.head; state = begun; left = l.left }))
+
+-- the replays of all logs, unless a process does not begin
+abbrev pub replays_of : List Loaded → Result (List Replaying) Stop
+replays_of [] = Ok []
+replays_of (l ∷ ls) = and_then (begun_replay l) (λ r. and_then (replays_of ls) (λ rs. Ok (r ∷ rs)))
+
+-- put in its place by the number of its process
+abbrev pub placed : Replaying → List Replaying → List Replaying
+placed r [] = r ∷ []
+placed r (s ∷ rs) = if nat_lt s.head.process r.head.process then s ∷ placed r rs else r ∷ s ∷ rs
+
+-- each in its place among these
+abbrev pub all_placed : List Replaying → List Replaying → List Replaying
+all_placed sorted [] = sorted
+all_placed sorted (r ∷ rs) = all_placed (placed r sorted) rs
+
+-- the replays of the logs of some pairs, in order of their processes' numbers. No process begins before all
+-- files are read
+abbrev pub opened : Store → List Pair → Result (List Replaying) Stop
+opened store pairs = and_then (all_loaded store [] pairs) (λ ls. and_then (replays_of ls) (λ rs. Ok (all_placed [] rs)))
