@@ -52,14 +52,7 @@ gathered store images name schedule modules g =
     modules_next store images name schedule g.spelled
     ∙ ap (λ (r : Result (List Module) Stop). and_then r (λ modules. group_outcome images name schedule (begun schedule modules))) g.found
 
--- what their recording says
-pub group_tells : (told : Option Store) (images : Bool) (name : List ℕ) (schedule : Schedule) (modules : List Module) (result : Result Answer Refusal) → WhenTold told (λ store. Gathers store name schedule modules)
-    → Tells (group_outcome images name schedule (begun schedule modules)) result
-    → (o : Outcome) → option_map (record_outcome images name) told ≡ Some o → Tells o result
-group_tells told images name schedule modules result gathers tells o is =
-    let h = outcome_at (record_outcome images name) told o is in
-    subst (λ (o : Outcome). Tells o result) (sym (h.2 ∙ gathered h.0 images name schedule modules (gathers h.0 h.1))) tells
-
+-- what their recording makes
 pub group_makes : (told middle after : Option Store) (images : Bool) (name : List ℕ) (schedule : Schedule) (modules : List Module) (result : Result Answer Refusal) → WhenTold told (λ store. Gathers store name schedule modules)
     → middle ≡ told → Makes result (writes_of (group_outcome images name schedule (begun schedule modules))) middle after
     → (o : Outcome) → option_map (record_outcome images name) told ≡ Some o → Makes result (writes_of o) told after

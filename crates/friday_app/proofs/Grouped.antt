@@ -20,7 +20,7 @@ use Rattle.friday_app.specs.declared.refusal.Answer.TheVariants as answered
 use Rattle.friday_app.specs.declared.refusal.Reason.TheVariants as reason
 use Rattle.friday_app.specs.declared.refusal.Refusal.{Refusal}
 use Rattle.friday_app.specs.declared.refusal.Refusal.TheVariants as refusal
-use Rattle.friday_app.specs.Call.{Keeps, Makes, Tells}
+use Rattle.friday_app.specs.Call.{Makes, Tells}
 use Rattle.friday_app.specs.Expected.{group_outcome}
 use Rattle.friday_app.specs.Outcome.{Refuses, nothing_done, writes_of}
 use Rattle.friday_app.specs.Record.{by_room, recorded_work, run_outcome, summary_text, written_before}
@@ -141,16 +141,6 @@ error_makes keeps images name schedule states errors.WriteFault e before after a
     subst (λ (r : Refusal). Makes (Err r) (writes_of (group_outcome images name schedule states)) before after) (sym is) (where_changes keeps images name schedule states before after answers)
 error_makes keeps images name schedule states errors.NoMemory e before after answers is =
     subst (λ (r : Refusal). Makes (Err r) (writes_of (group_outcome images name schedule states)) before after) (sym is) (where_changes keeps images name schedule states before after answers)
-
-pub error_keeps : (name : List ℕ) (schedule : Schedule) (error : RecordError) (e : Refusal) (before after : Option Store) → RefusesAs name schedule error e → Keeps (Err e) before after
-error_keeps name schedule (errors.BadSegment p) (refusal.Refused file why) before after named = tt
-error_keeps name schedule (errors.BadSegment p) refusal.NoMemory before after named = tt
-error_keeps name schedule (errors.BadSegment p) other before after named = absurd named
-error_keeps name schedule (errors.LogFull item) (refusal.Refused file why) before after named = tt
-error_keeps name schedule (errors.LogFull item) refusal.NoMemory before after named = tt
-error_keeps name schedule (errors.LogFull item) other before after named = absurd named
-error_keeps name schedule errors.WriteFault e before after is = subst (λ (r : Refusal). Keeps (Err r) before after) (sym is) tt
-error_keeps name schedule errors.NoMemory e before after is = subst (λ (r : Refusal). Keeps (Err r) before after) (sym is) tt
 
 -- ---- whatever it answers, the files are those of a moment of the run
 

@@ -17,7 +17,7 @@ use Rattle.friday_app.specs.Command.{Command, Pair, Record, Replay}
 use Rattle.friday_app.specs.declared.refusal.Refusal.{Refusal}
 use Rattle.friday_app.specs.declared.refusal.Refusal.TheVariants as refusal
 use Rattle.friday_app.specs.Outcome.{Outcome, nothing_done, writes_of}
-use Rattle.friday_app.specs.Call.{DivergesOnlyIn, Makes, Keeps, StopsAs, Tells}
+use Rattle.friday_app.specs.Call.{DivergesOnlyIn, Makes, StopsAs, Tells}
 
 -- what did not change at all changed these files only
 pub same_changes : (before after : Option Store) (files : List (List ℕ × List ℕ)) → after ≡ before → ChangesOnly before files after
@@ -69,15 +69,6 @@ all_changes (file ∷ files) before after e = record {
 pub same_others : (names : Store → List (List ℕ)) (before after : Option Store) → after ≡ before → OthersStay names before after
 same_others names before after e = record { each = λ old told. (old, e ∙ told, λ name out. refl) }
 
--- where no file was to be made and none changed, those that were to be made are made
-pub none_made : (ended : Result Answer Refusal) (files : List (List ℕ × List ℕ)) (before after : Option Store) → files ≡ [] → after ≡ before → Makes ended files before after
-none_made (Ok answer) files before after none same = same ∙ sym (ap (λ f. with_files f before) none)
-none_made (Err (refusal.Refused file why)) files before after none same = same ∙ sym (ap (λ f. with_files f before) none)
-none_made (Err (refusal.Absent file)) files before after none same = same ∙ sym (ap (λ f. with_files f before) none)
-none_made (Err refusal.ReadFault) files before after none same = same_changes before after files same
-none_made (Err refusal.WriteFault) files before after none same = same_changes before after files same
-none_made (Err refusal.NoMemory) files before after none same = same_changes before after files same
-
 -- whatever a command comes to, it changed only the files that it was to make
 pub makes_changes : (ended : Result Answer Refusal) (files : List (List ℕ × List ℕ)) (before after : Option Store) → Makes ended files before after → ChangesOnly before files after
 makes_changes (Ok answer) files before after makes = all_changes files before after makes
@@ -94,15 +85,6 @@ still_none_fell a b c first then = record {
   writes = omega (arith, first.writes, then.writes);
   misses = omega (arith, first.misses, then.misses);
 }
-
--- where no file changed, none was changed at a refusal
-pub same_keeps : (ended : Result Answer Refusal) (before after : Option Store) → after ≡ before → Keeps ended before after
-same_keeps (Ok answer) before after same = tt
-same_keeps (Err (refusal.Refused file why)) before after same = tt
-same_keeps (Err (refusal.Absent file)) before after same = same
-same_keeps (Err refusal.ReadFault) before after same = same
-same_keeps (Err refusal.WriteFault) before after same = tt
-same_keeps (Err refusal.NoMemory) before after same = tt
 
 -- the name of a file is among their names
 name_among : (files : List (List ℕ × List ℕ)) (file : List ℕ × List ℕ) → Contains files file → Contains (map (λ f. f.0) files) file.0
