@@ -30,7 +30,13 @@ def words(script):
         "replay a.wasm -a",
         "replay a.wasm ''",
         "replay '' a.log",
-        "replay --images a.wasm a.log",
+        "replay a.wasm a.log a.wasm",
+        "replay a.wasm a.log a.wasm a.log a.wasm",
+        "replay -a a.log a.wasm a.log",
+        "replay a.wasm a.log -a a.log",
+        "replay a.wasm a.log a.wasm -a",
+        "replay a.wasm a.log '' a.log",
+        "replay a.wasm a.log a.wasm ''",
         "Replay a.wasm a.log",
         "record",
         "record ''",
@@ -40,6 +46,61 @@ def words(script):
         "--help",
     ):
         script.run(line, "Usage", USAGE)
+
+
+def images_words(script):
+    both(script, "the word for images, where it makes no command")
+    script.file("s", text(FRONT + ITEMS))
+    script.file("--images", text(FRONT + ITEMS))
+    for line in (
+        "--images",
+        "--images record s",
+        "--images replay a.wasm a.log",
+        "--images --images",
+        "record --images",
+        "record --images --images",
+        "record --images --images s",
+        "record --images s --images",
+        "record s --images --images",
+        "record --images ''",
+        "record '' --images",
+        "record --images -a",
+        "record --images s s",
+        "record s --images s",
+        "record --Images s",
+        "record --image s",
+        "record --images= s",
+        "record -images s",
+        "record -- --images s",
+        "replay --images",
+        "replay --images a.wasm",
+        "replay a.wasm --images",
+        "replay a.wasm a.log a.wasm --images",
+        "replay --images --images a.wasm a.log",
+        "replay --images a.wasm a.log --images",
+        "replay a.wasm --images a.log --images",
+        "replay a.wasm a.log --images --images",
+        "replay --images a.wasm ''",
+        "replay --images -a a.log",
+        "debug --images a.wasm a.log",
+        "drill --images 1",
+    ):
+        script.run(line, "Usage", USAGE)
+    script.show("a.mem", None)
+    script.show("a.out", None)
+    for line in ("--images a.wasm a.log", "a.wasm --images a.log", "a.wasm a.log --images"):
+        with_images(script, "replay " + line, *report(3, "finished"))
+    for line in ("--images s", "s --images"):
+        with_images(script, "record " + line, *summary(3, "finished", 4, 0))
+
+
+def with_images(script, line, *printed):
+    """What the command makes of files that are there: a process without a memory, which prints nothing."""
+    for name in ("a.mem", "a.out"):
+        script.file(name, text("old"))
+    script.run(line, "Done", *printed)
+    script.show("a.mem", b"")
+    script.show("a.out", b"")
 
 
 def files_of_a_replay(script):
@@ -77,7 +138,12 @@ def too_large(script):
     script.case("files one byte too long, and at their limit")
     custom = NOW.module + b"\0" + leb(4194304 - len(NOW.module) - 5)
     script.file("long", times(4194305, b"\0"))
-    script.run("replay long x", *refused("long", "TooLarge"))
+    for process in (0, 1):
+        script.file("p%d" % process, digits(logs.head(count=2, process=process, name=b"ab"[process : process + 1])))
+    script.file("b.wasm", script.kept("now"))
+    earlier = ("", "b.wasm p0 ", "b.wasm p0 b.wasm p1 ")
+    for pairs in earlier:
+        script.run("replay %slong x" % pairs, *refused("long", "TooLarge"))
     # A custom section up to the end, whose name is empty.
     script.file("a.wasm", digits(custom) + times(4194304 - len(custom), b"\0"))
     script.file("a.log", digits(LOG))
@@ -85,8 +151,9 @@ def too_large(script):
     script.add("a.wasm", digits(b"\0"))
     script.run("replay a.wasm a.log", *refused("a.wasm", "TooLarge"))
     script.file("long", times(33554433, b"\0"))
+    for pairs in earlier:
+        script.run("replay %sb.wasm long b.wasm x" % pairs, *refused("long", "TooLarge"))
     script.file("a.wasm", script.kept("now"))
-    script.run("replay a.wasm long", *refused("long", "TooLarge"))
     script.file("a.log", digits(logs.head()) + times(33554432 - 18, b"\0"))
     script.run("replay a.wasm a.log", "Done", *report(0, "running", "33554414 bytes left over"))
     script.file("s", times(16777217, b"\n"))
@@ -150,5 +217,5 @@ def script_lines(script):
 def table(script):
     script.title("Words and files")
     script.keep("now", NOW.module)
-    for part in (words, files_of_a_replay, files_of_a_record, too_large, failing_replays, failing_records, script_lines):
+    for part in (words, images_words, files_of_a_replay, files_of_a_record, too_large, failing_replays, failing_records, script_lines):
         part(script)

@@ -9,6 +9,10 @@ def summary(events, end, acted, idle):
     return "a: %d events, %s" % (events, end), "items: %d acted, %d idle" % (acted, idle)
 
 
+def counts_line(sends, receives, unmatched, untagged):
+    return "group: %d sends, %d receives, %d unmatched, %d untagged" % (sends, receives, unmatched, untagged)
+
+
 def report(events, end, verdict="log whole", name="a"):
     return "%s: %d events, %s, %s" % (name, events, end, verdict), GROUP
 

@@ -192,12 +192,15 @@ def order(script):
 
 
 def full_log(script):
-    one(script, "a log that is full", "printer", "clock 0 1\nrun 0 0 1000\n")
-    script.run("record s", *refused("s", "item 2 LogFull"))
+    one(script, "a log that is full, of which no images are made", "printer", "clock 0 1\nrun 0 0 1000\n")
+    script.file("a.mem", text("old"))
+    script.run("record --images s", *refused("s", "item 2 LogFull"))
     events = [logs.entry(2 + at, "print", (0, 60000), 60000, data=bytes(60000)) for at in range(558)]
     held = logs.head() + BEGIN + b"".join(events)
     assert len(held) == 33504594
     script.show("a.log", held)
+    script.show("a.mem", b"old")
+    script.show("a.out", None)
 
 
 def table(script):

@@ -6,7 +6,7 @@ What the program is to print is put together here from the rules of docs/formats
 
 import os
 
-import commands, groups, guests, limits, refusals, replays, schedules, threads
+import commands, groups, guests, hostile, images, limits, pair_refusals, pairs, refusals, replays, schedules, threads
 from script import Script
 
 HERE = os.path.dirname(os.path.abspath(__file__))
@@ -14,7 +14,7 @@ HERE = os.path.dirname(os.path.abspath(__file__))
 
 def main():
     script = Script()
-    for part in (commands, schedules, groups, replays, refusals, guests, threads, limits):
+    for part in (commands, schedules, groups, pairs, pair_refusals, images, hostile, replays, refusals, guests, threads, limits):
         part.table(script)
     for name, lines in (("stdin", script.lines), ("stdout", script.told)):
         with open(os.path.join(HERE, "..", name), "w") as file:
