@@ -2,7 +2,8 @@
 // the other branches. What a transfer takes from an account is on its way until the other branch has put it on one;
 // it is sent again where no receipt comes, and put on the account once however often it comes. A lock is held from
 // when a balance is read until its new value stands, since the journal is written in between. A signal asks for a
-// statement, a note of what lies on all accounts. At the end each branch compares its balances with what was paid in and out.
+// statement, a note of what lies on all accounts. At the end each branch compares its balances with what was paid in
+// and out.
 //
 // The fault: the statement takes the lock and gives it back, also where the thread that the signal stopped held it
 // already. So that thread goes on without its lock, and another one changes the balance that it is about to write.
