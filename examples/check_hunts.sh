@@ -1,37 +1,49 @@
 #!/bin/sh
-# The three hunts: makes their schedules again from the seeds, records and replays both of each, lists what the
-# processes printed, and compares all of it with what lies beside the guests.
+# The three hunts: puts the places into the debugger's scripts again, makes the schedules again from their seeds, records
+# and replays the group of each, lists what its processes printed and noted, and compares all of it with what lies beside
+# the guests. The memories and the prints that a replay comes to have to be those of the recording.
 # Usage: check_hunts.sh [PROGRAM]   (the program that ./friday builds, if none is given)
 here=$(CDPATH='' cd -- "$(dirname -- "$0")" && pwd) || exit 1
 program=$(realpath -- "${1:-$here/../crates/friday/out/friday}") || exit 1
 folder=$(mktemp -d) || exit 1
 trap 'rm -rf "$folder"' EXIT
 
+# Records, replays and lists the group of a schedule.
 play() {
     hunt=$1 schedule=$2
-    logs=
-    "$program" record "$schedule" || return 1
+    pairs='' logs=''
     for process in $(sed -n 's/^process \([^ ]*\) .*/\1/p' "$schedule"); do
-        "$program" replay "$hunt.wasm" "$process.log" || return 1
+        pairs="$pairs $hunt.wasm $process.log"
         logs="$logs $process.log"
     done
-    python3 "$here/../tools/events.py" list --call print $logs
+    "$program" record --images "$schedule" || return 1
+    mkdir "of_$schedule" && mv ./*.mem ./*.out "of_$schedule" || return 1
+    # shellcheck disable=SC2086 # Names of processes and modules have no blanks.
+    "$program" replay --images $pairs || return 1
+    for image in *.mem *.out; do
+        cmp "of_$schedule/$image" "$image" || return 1
+    done
+    # shellcheck disable=SC2086
+    python3 "$here/../tools/events.py" list --call print --call note $logs
 }
 
 check() {
     hunt=$1
     mkdir "$folder/$hunt" && cd "$folder/$hunt" && cp "$here/$hunt/$hunt.wasm" . || return 1
+    "$here/../guests/places" "$here/$hunt/$hunt.places" < "$here/$hunt/debug.in" > debug || return 1
     "$here/$hunt/schedules.sh" "$program" > printed || return 1
+    for file in debug good failing; do
+        cmp "$here/$hunt/$file" "$file" || return 1
+    done
     for schedule in good failing; do
-        cmp "$here/$hunt/$schedule" "$schedule" || return 1
         echo "$schedule:" >> printed
-        play "$hunt" "$schedule" >> printed || return 1
+        play "$hunt" "$schedule" >> printed || { tail -n 1 printed; return 1; }
     done
     diff "$here/$hunt/expected" printed && echo "$hunt: as expected"
 }
 
 status=0
 for hunt in register election bank; do
-    check "$hunt" || status=1
+    check "$hunt" || { echo "$hunt: not as expected"; status=1; }
 done
 exit $status

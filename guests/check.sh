@@ -1,15 +1,15 @@
 #!/bin/sh
 # Builds the guests of check/, in C and in Rust, records and replays each, and compares what they note with what they
-# should. The values at the places of variables are read from the memory that two of the guests print.
+# should. The values at the places of variables are read from the memory with which the recording ends.
 # Usage: check.sh [PROGRAM]   (the program that ./friday builds, if none is given)
 here=$(CDPATH='' cd -- "$(dirname -- "$0")" && pwd) || exit 1
 program=${1:-$here/../crates/friday/out/friday}
-exec python3 - "$program" "$here" <<'PYTHON'
-import os, random, re, shutil, struct, subprocess, sys, tempfile
+PYTHONPATH=$here/../tools exec python3 - "$program" "$here" <<'PYTHON'
+import os, random, re, shutil, subprocess, sys, tempfile
+
+from logs import read_log
 
 program, here = os.path.abspath(sys.argv[1]), sys.argv[2]
-ARGUMENTS = (0, 1, 1, 2, 0, 1, 2, 0, 3, 3, 3, 2, 0, 1, 1, 1, 2, 0)
-NOTE, PRINT = 2, 3
 TIMES = 20
 ROUNDS = 5
 
@@ -63,38 +63,34 @@ def run(words, folder, text="", wanted=0):
     return done.stdout if wanted == 0 else done.stderr
 
 
-# The kind, the arguments and the outgoing bytes of each event of a log.
-def events_of(path):
-    with open(path, "rb") as file:
-        log = file.read()
-    at = 17 + log[16]
-    while at < len(log):
-        (size,) = struct.unpack_from("<I", log, at)
-        body = log[at + 4 : at + 4 + size]
-        count = ARGUMENTS[body[10]]
-        yield body[10], struct.unpack_from("<%dq" % count, body, 12), body[12 + 8 * count + 12 :]
-        at += 4 + size
+# The events of a process that are of some call.
+def events_of(folder, name, call):
+    return [entry for entry in read_log(os.path.join(folder, name + ".log")).entries if entry.call.name == call]
 
 
-def notes_of(path):
-    return [arguments[0] for kind, arguments, _ in events_of(path) if kind == NOTE]
+def notes_of(folder, name):
+    return [entry.arguments[0] for entry in events_of(folder, name, "note")]
 
 
-# Records a group of some guests, and replays each.
+def prints_of(folder, name):
+    return [entry.sent.decode() for entry in events_of(folder, name, "print")]
+
+
+# Records a group of some guests, and replays it.
 def record(folder, names, items, end):
     lines = ["friday 1"] + ["process %s %s.wasm" % (name, name) for name in names] + items
     with open(os.path.join(folder, "schedule"), "w") as file:
         file.write("\n".join(lines) + "\n")
-    recorded = run([program, "record", "schedule"], folder)
+    recorded = run([program, "record", "--images", "schedule"], folder)
     assert ", %s\n" % end in recorded.splitlines(True)[0], recorded
-    for name in names:
-        assert ", log whole\n" in run([program, "replay", name + ".wasm", name + ".log"], folder)
+    replayed = run([program, "replay"] + [name + kind for name in names for kind in (".wasm", ".log")], folder)
+    assert replayed.count(", log whole\n") == len(names) and ", 0 unmatched, " in replayed, replayed
 
 
 def check_texts(source, folder):
     name = source.split(".")[0]
     record(folder, [name], ["run 0 0 100"], "exited 10")
-    texts = [out.decode() for kind, _, out in events_of(os.path.join(folder, name + ".log")) if kind == PRINT]
+    texts = prints_of(folder, name)
     wanted = TEXTS + (COMPARISONS if source.endswith(".c") else [""])
     assert texts == wanted, (texts, wanted)
     print("%s: %d texts" % (source, len(texts)))
@@ -102,17 +98,17 @@ def check_texts(source, folder):
 
 def check_calls(folder):
     record(folder, ["calls"], ITEMS, "finished")
-    notes = notes_of(os.path.join(folder, "calls.log"))
+    notes = notes_of(folder, "calls")
     assert notes == NOTES, notes
     print("calls.rs: %d notes" % len(notes))
 
 
-# What an expression of the debugger comes to, over memory that begins at some address.
-def value_of(expression, memory, start):
+# What an expression of the debugger comes to in a memory.
+def value_of(expression, memory):
     def load(width, address):
-        size, at = int(width[1:]) // 8, address - start
-        assert 0 <= at and at + size <= len(memory), "outside of what was printed"
-        return int.from_bytes(memory[at : at + size], "little", signed=width[0] == "i")
+        size = int(width[1:]) // 8
+        assert 0 <= address <= len(memory) - size, "outside of the memory"
+        return int.from_bytes(memory[address : address + size], "little", signed=width[0] == "i")
 
     code = re.sub(r"@\w+\.([ui]\d+)\[", r"load('\1',", expression).replace("]", ")").replace("/", "//")
     return eval(code, {"load": load})
@@ -123,13 +119,14 @@ def check_places(source, folder):
     with open(os.path.join(folder, source)) as file:
         paths = re.findall(r"note\(.*\); // (\S+)\n", file.read())
     record(folder, [name], ["clock 0 5", "run 0 0 100"], "finished")
-    (start, memory), = [(a[0], out) for kind, a, out in events_of(os.path.join(folder, name + ".log")) if kind == PRINT]
-    notes = notes_of(os.path.join(folder, name + ".log"))
+    with open(os.path.join(folder, name + ".mem"), "rb") as file:
+        memory = file.read()
+    notes = notes_of(folder, name)
     assert len(notes) == len(paths) > 0, (notes, paths)
     script = "".join("print @a.{%s}\n" % path for path in paths)
     lines = run([os.path.join(here, "places"), name + ".places"], folder, script).splitlines()
     for path, line, note in zip(paths, lines, notes):
-        value = value_of(line[len("print ") :], memory, start)
+        value = value_of(line[len("print ") :], memory)
         assert value == note, "%s: %s is %d, and the guest notes %d" % (path, line, value, note)
     print("%s: %d values at their places" % (source, len(paths)))
 
@@ -155,7 +152,7 @@ def check_threads(source, folder):
         chance = random.Random(seed)
         items = ["run 0 %d" % chance.randrange(4) for _ in range(300)] + ["run 0 %d 20" % (n % 4) for n in range(40)]
         record(folder, [name], items, "finished")
-        assert notes_of(os.path.join(folder, name + ".log")) == wanted
+        assert notes_of(folder, name) == wanted
     print("%s: %d interleavings note %d" % (source, TIMES, wanted[0]))
 
 
@@ -171,8 +168,8 @@ def items_of_group(chance):
 def check_group(source, folder):
     for seed in range(TIMES):
         record(folder, ["ask", "answer"], list(items_of_group(random.Random(seed))), "exited 0")
-        assert notes_of(os.path.join(folder, "ask.log")) == [2 * n for n in range(1, ROUNDS + 1)]
-        asked = [int(out) for kind, _, out in events_of(os.path.join(folder, "ask.log")) if kind == PRINT]
+        assert notes_of(folder, "ask") == [2 * n for n in range(1, ROUNDS + 1)]
+        asked = [int(text) for text in prints_of(folder, "ask")]
         assert asked == list(range(1, len(asked) + 1)), asked
     print("%s, answer.rs: %d lossy recordings, at last after %d questions" % (source, TIMES, len(asked)))
 

@@ -130,8 +130,10 @@ def read_table(path):
         with open(path, encoding="ascii") as file:
             lines = file.read().splitlines()
         table = _parse_table(lines)
-    except (OSError, ValueError, IndexError, AttributeError, RecursionError) as error:
-        raise Refusal("%s is no file of places: %s" % (path, error)) from None
+    except OSError as error:
+        raise Refusal("%s: %s" % (path, error.strerror)) from None
+    except (ValueError, IndexError, AttributeError, RecursionError):
+        raise Refusal("%s is no file of places that guests/build wrote" % path) from None
     module = os.path.join(os.path.dirname(path), table.module)
     if os.path.exists(module) and digest_of(module) != table.digest:
         raise Refusal("%s is of an older %s: build it again" % (path, table.module))

@@ -55,24 +55,25 @@ def list_events(logs, calls):
             print("    " + line)
 
 
-def trap_of(program, module, path):
-    """How the process trapped, as the report of its replay says, or nothing."""
-    done = subprocess.run([program, "replay", module, path], stdout=subprocess.PIPE, text=True)
+def ends_of(program, pairs):
+    """How each process ended, by its name, as the report of the group's replay says."""
+    done = subprocess.run([program, "replay", *pairs], stdout=subprocess.PIPE, text=True)
     if done.returncode not in (0, 1):
-        sys.exit(done.stdout.strip() or "replay of %s ended with status %d" % (path, done.returncode))
-    end = done.stdout.split("\n")[0].split(", ")[1]
-    return end if end.startswith("trapped ") else None
+        sys.exit(done.stdout.strip() or "the replay ended with status %d" % done.returncode)
+    lines = done.stdout.splitlines()[:-1]
+    return {line.split(": ")[0]: line.split(", ")[1] for line in lines}
 
 
 def print_traps(program, pairs):
-    logs = [read_log(path) for _, path in pairs]
+    ends = ends_of(program, pairs)
+    logs = [read_log(path) for path in pairs[1::2]]
     order = in_group_order(logs)
-    for (module, path), log in zip(pairs, logs):
-        trap = trap_of(program, module, path)
-        if trap is None:
+    for log in logs:
+        end = ends[log.name]
+        if not end.startswith("trapped "):
             continue
         position = max(place for place, (_, other) in enumerate(order, 1) if other is log)
-        print("# %s %s in what follows event %d: %s" % (log.name, trap, position, log.entries[-1].text(log.name)))
+        print("# %s %s in what follows event %d: %s" % (log.name, end, position, log.entries[-1].text(log.name)))
         print("goto %d\nevents 3\nthreads %s\nstep" % (position - 1, log.name))
 
 
@@ -97,7 +98,7 @@ def main():
         if chosen.work == "list":
             list_events([read_log(path) for path in chosen.logs], chosen.call)
         else:
-            print_traps(chosen.program, list(zip(chosen.pairs[::2], chosen.pairs[1::2])))
+            print_traps(chosen.program, chosen.pairs)
     except BadLog as error:
         sys.exit("%s is no log" % error)
     except OSError as error:

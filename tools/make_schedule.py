@@ -12,6 +12,7 @@ A rate is a chance from 0 to 1. The same words and the same modules make the sam
 import argparse
 import os
 import random
+import re
 import sys
 
 from network import Network
@@ -170,29 +171,30 @@ class Maker:
 def rate(word):
     number = float(word)
     if not 0 <= number <= 1:
-        raise ValueError
+        raise argparse.ArgumentTypeError("a rate is 0 to 1, and not %s" % word)
     return number
 
 
 def signal(word):
-    number, chance = word.split("=")
+    number, _, chance = word.partition("=")
     if not 1 <= int(number) <= 31:
-        raise ValueError
+        raise argparse.ArgumentTypeError("a signal is 1 to 31, and not %s" % number)
     return int(number), rate(chance)
 
 
 def process(word):
-    name, module = word.split("=", 1)
-    allowed = 1 <= len(module) <= 255 and all("!" <= letter <= "~" for letter in module)
-    if not allowed or module.endswith((".log", ".mem", ".out")):
-        raise ValueError
+    name, _, module = word.partition("=")
+    if not re.fullmatch("[a-z0-9_]{1,32}", name):
+        raise argparse.ArgumentTypeError("a name is 1 to 32 of a to z, 0 to 9 and _, and a = follows it: %r" % word)
+    if not re.fullmatch("[!-~]{1,255}", module) or module.endswith((".log", ".mem", ".out")):
+        raise argparse.ArgumentTypeError("no schedule can name the module of %r" % word)
     return name, module
 
 
 def at_least(least):
     def number(word):
         if int(word) < least:
-            raise ValueError
+            raise argparse.ArgumentTypeError("it has to be at least %d, and is %s" % (least, word))
         return int(word)
 
     return number

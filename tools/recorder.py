@@ -59,15 +59,16 @@ class Recorder:
     """Runs the program in a folder of its own, where the module of process P is `P.wasm`."""
 
     def __init__(self, program, processes):
-        self.program, self.processes = os.path.abspath(program), processes
+        self.program, self.processes, self.modules = os.path.abspath(program), processes, []
+        for _, module in processes:
+            with open(module, "rb") as file:
+                self.modules.append(file.read())
 
     def __enter__(self):
         self.folder = tempfile.mkdtemp()
-        self.modules = []
-        for number, (_, module) in enumerate(self.processes):
-            shutil.copy(module, os.path.join(self.folder, "%d.wasm" % number))
-            with open(module, "rb") as file:
-                self.modules.append(file.read())
+        for number, module in enumerate(self.modules):
+            with open(os.path.join(self.folder, "%d.wasm" % number), "wb") as file:
+                file.write(module)
         return self
 
     def __exit__(self, *_):

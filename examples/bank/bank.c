@@ -2,12 +2,12 @@
 // the other branches. What a transfer takes from an account is on its way until the other branch has put it on one;
 // it is sent again where no receipt comes, and put on the account once however often it comes. A lock is held from
 // when a balance is read until its new value stands, since the journal is written in between. A signal asks for a
-// statement of all accounts. At the end each branch compares its balances with what was paid in and out.
+// statement, a note of what lies on all accounts. At the end each branch compares its balances with what was paid in
+// and out.
 //
 // The fault: the statement takes the lock and gives it back, also where the thread that the signal stopped held it
 // already. So that thread goes on without its lock, and another one changes the balance that it is about to write.
-#include "liblog.h"
-#include "../guests/lines.h"
+#include "../print_two.h"
 
 enum { BRANCHES = 3, ACCOUNTS = 2, TELLERS = 2, TRANSFERS = 3 };
 enum { SENT = TELLERS * TRANSFERS, FIRST_BALANCE = 100 };
@@ -27,17 +27,19 @@ struct transfer {
     struct message message;
 };
 
-uint32_t me;
+static LIBLOG_WATCHED uint32_t me;
 
 // The balances, and what was paid into and out of all accounts of the branch.
-int64_t balances[ACCOUNTS] = {FIRST_BALANCE, FIRST_BALANCE};
-int64_t paid_in, paid_out;
+static LIBLOG_WATCHED int64_t balances[ACCOUNTS] = {FIRST_BALANCE, FIRST_BALANCE};
+static LIBLOG_WATCHED int64_t paid_in, paid_out;
 
 // What the branch sent, how many of these have no receipt, and what it took of each other branch.
-struct transfer transfers[SENT];
-uint32_t without_receipt = SENT;
-uint8_t taken[BRANCHES][SENT];
-uint32_t taken_count;
+static LIBLOG_WATCHED struct transfer transfers[SENT];
+static LIBLOG_WATCHED uint32_t without_receipt = SENT;
+static LIBLOG_WATCHED uint8_t taken[BRANCHES][SENT];
+static LIBLOG_WATCHED uint32_t taken_count;
+
+static _Alignas(16) uint8_t take_stack[1024], remind_stack[1024], teller_stacks[TELLERS][1024];
 
 static int64_t all_balances(void) {
     int64_t sum = 0;
@@ -63,11 +65,11 @@ static void change(uint32_t account, int64_t amount) {
     liblog_unlock(LEDGER);
 }
 
-// Prints a statement of all accounts. The handler of a signal.
+// Notes what lies on all accounts. The handler of a signal, so it has no locals in memory.
 static void state_balances(int32_t signal) {
     (void)signal;
     liblog_lock(LEDGER);
-    print_two("statement: ", all_balances(), " on accounts: ", ACCOUNTS);
+    liblog_note(all_balances());
     liblog_unlock(LEDGER);
 }
 
@@ -147,10 +149,10 @@ static int books_agree(void) {
 void _start(void) {
     me = (uint32_t)liblog_me();
     liblog_on_signal(STATEMENT, state_balances);
-    liblog_spawn(take_all, 0);
-    liblog_spawn(remind, PATIENCE);
+    thread_start(take_all, 0, take_stack, sizeof take_stack);
+    thread_start(remind, PATIENCE, remind_stack, sizeof remind_stack);
     for (int32_t teller = 0; teller < TELLERS; teller++)
-        liblog_spawn(serve, teller);
+        thread_start(serve, teller, teller_stacks[teller], sizeof teller_stacks[teller]);
 
     // Each branch is sent as many transfers as it sends.
     int64_t time = liblog_now();

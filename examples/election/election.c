@@ -4,8 +4,7 @@
 //
 // The fault: the thread that waits for a leader's silence works out the next term before it sleeps, and stands for it
 // afterwards. Where it wakes late, the node may have voted in that term meanwhile, and gives its vote a second time.
-#include "liblog.h"
-#include "../guests/lines.h"
+#include "../print_two.h"
 
 enum { NODES = 3, MAJORITY = 2, NOBODY = 255 };
 enum { SHORTEST = 150, HEARTBEAT = 100, LAST_TIME = 2000 };
@@ -17,16 +16,18 @@ struct message {
     uint32_t term;
 };
 
-uint32_t me;
+static LIBLOG_WATCHED uint32_t me;
 
 // The newest term that the node knows of, whom it voted for in it, and the leader that it heard of.
-uint32_t term, voted_for = NOBODY, leader = NOBODY;
+static LIBLOG_WATCHED uint32_t term, voted_for = NOBODY, leader = NOBODY;
 
 // The term that the node leads, or 0, and the term that it stands for, or 0, with the nodes that voted for it.
-uint32_t leads_term, stands_term, voters;
+static LIBLOG_WATCHED uint32_t leads_term, stands_term, voters;
 
 // When the node stands for the next term if it hears nothing.
-int64_t deadline;
+static LIBLOG_WATCHED int64_t deadline;
+
+static _Alignas(16) uint8_t watch_stack[1024], beat_stack[1024];
 
 // What follows, up to `handle`, is called by a thread that holds the lock STATE.
 static void tell(uint32_t to, enum kind kind) {
@@ -141,8 +142,8 @@ static void beat(int32_t unused) {
 void _start(void) {
     me = (uint32_t)liblog_me();
     wait_anew();
-    liblog_spawn(watch_leader, 0);
-    liblog_spawn(beat, 0);
+    thread_start(watch_leader, 0, watch_stack, sizeof watch_stack);
+    thread_start(beat, 0, beat_stack, sizeof beat_stack);
     for (;;) {
         struct message message;
         uint32_t from;

@@ -4,14 +4,14 @@
 # Usage: check.sh [PROGRAM]   (the program that ./friday builds, if none is given)
 here=$(CDPATH='' cd -- "$(dirname -- "$0")" && pwd) || exit 1
 program=${1:-$here/../../crates/friday/out/friday}
-exec python3 - "$program" "$here" <<'PYTHON'
-import os, shutil, struct, subprocess, sys, tempfile
+PYTHONPATH=$here/../../tools exec python3 - "$program" "$here" <<'PYTHON'
+import os, shutil, subprocess, sys, tempfile
+
+from logs import read_log
 
 program, here = os.path.abspath(sys.argv[1]), sys.argv[2]
 GUESTS = ("checksum", "sort", "format")
 TRIES = 1000
-# How many arguments the calls of the guests have, by kind: begin, exit, note and print.
-ARGUMENTS = {0: 0, 1: 1, 2: 1, 3: 2}
 
 
 def run(words, folder, wanted=0):
@@ -28,26 +28,13 @@ def native(guest, folder):
     return run([os.path.join(folder, "native")], folder).splitlines()
 
 
-# The entries of a log of such calls, as the lines that a guest writes where it runs by itself.
-def lines_of(log):
-    assert log[:8] == b"LLOG" + struct.pack("<I", 1), "the head of the log"
-    at, lines, events = 17 + log[16], [], 0
-    while at < len(log):
-        (size,) = struct.unpack_from("<I", log, at)
-        body = log[at + 4 : at + 4 + size]
-        assert len(body) == size, "an entry is cut off"
-        kind, count = body[10], ARGUMENTS[body[10]]
-        arguments = struct.unpack_from("<%dq" % count, body, 12)
-        rest = body[12 + 8 * count + 8 :]
-        if kind == 1:
-            lines.append("exit %d" % struct.unpack("<i", struct.pack("<I", arguments[0]))[0])
-        if kind == 2:
-            lines.append("note %d" % arguments[0])
-        if kind == 3:
-            assert struct.unpack_from("<I", rest)[0] == len(rest) - 4 == arguments[1], "the bytes of a print"
-            lines.append("print " + rest[4:].hex())
-        at, events = at + 4 + size, events + 1
-    return lines, events
+# The events of exits, notes and prints, as the lines that a guest writes where it runs by itself.
+def lines_of(entries):
+    for entry in entries:
+        if entry.call.name in ("exit", "note"):
+            yield "%s %d" % (entry.call.name, entry.arguments[0])
+        if entry.call.name == "print":
+            yield "print " + entry.sent.hex()
 
 
 def check(guest, folder):
@@ -55,8 +42,8 @@ def check(guest, folder):
     with open(os.path.join(folder, "schedule"), "w") as file:
         file.write("friday 1\nprocess %s %s.wasm\nrun 0 0 %d\n" % (guest, guest, TRIES))
     recorded = run([program, "record", "schedule"], folder)
-    with open(os.path.join(folder, guest + ".log"), "rb") as file:
-        lines, events = lines_of(file.read())
+    entries = read_log(os.path.join(folder, guest + ".log")).entries
+    lines, events = list(lines_of(entries)), len(entries)
     exits = [line for line in lines if line.startswith("exit ")]
     end = "exited " + exits[0][5:] if exits else "finished"
     wanted = "%s: %d events, %s\nitems: %d acted, %d idle\n" % (guest, events, end, events, TRIES - events)

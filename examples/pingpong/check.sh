@@ -1,5 +1,5 @@
 #!/bin/sh
-# Records ping and pong by both schedules beside this script, replays each log, and compares what is printed.
+# Records ping and pong by both schedules beside this script, replays their logs together, and compares what is printed.
 # Usage: check.sh [PROGRAM]   (the program that ./friday builds, if none is given)
 here=$(CDPATH='' cd -- "$(dirname -- "$0")" && pwd) || exit 1
 program=$(realpath -- "${1:-$here/../../crates/friday/out/friday}") || exit 1
@@ -9,9 +9,6 @@ cp "$here"/ping.wasm "$here"/pong.wasm "$here"/schedule "$here"/in_order "$folde
 cd "$folder" || exit 1
 for schedule in in_order schedule; do
     echo "$schedule:"
-    "$program" record "$schedule" || exit 1
-    for process in ping pong; do
-        "$program" replay "$process.wasm" "$process.log" || exit 1
-    done
+    "$program" record "$schedule" && "$program" replay ping.wasm ping.log pong.wasm pong.log || break
 done > printed
 diff "$here/expected" printed && echo "as expected"

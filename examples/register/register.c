@@ -5,8 +5,7 @@
 //
 // The fault: `ask` counts answers and not the replicas that gave them. An answer that comes twice makes a majority
 // of one replica, and the reader can then find two replicas that know nothing of the write.
-#include "liblog.h"
-#include "../guests/lines.h"
+#include "../print_two.h"
 
 enum { REPLICAS = 3, MAJORITY = 2, WRITER = 3, READER = 4, PROCESSES = 5 };
 enum { WRITES = 4, PATIENCE = 300, FAREWELLS = 3 };
@@ -30,15 +29,17 @@ static const struct group replicas = {0, REPLICAS, MAJORITY};
 static const struct group reader = {READER, 1, 1};
 
 // What a replica holds: the number of the last write that it stored, and its value.
-uint32_t held_write, held_value;
+static LIBLOG_WATCHED uint32_t held_write, held_value;
 
 // The last write that the writer takes for stored, and the last one that the reader was told of and that it read.
-uint32_t complete_write, told_write, read_write;
+static LIBLOG_WATCHED uint32_t complete_write, told_write, read_write;
 
 // The question that waits for answers, how many came, and the newest write among them.
-struct message question, newest;
-struct group asked;
-uint32_t answers, waiting;
+static LIBLOG_WATCHED struct message question, newest;
+static LIBLOG_WATCHED struct group asked;
+static LIBLOG_WATCHED uint32_t answers, waiting;
+
+static _Alignas(16) uint8_t remind_stack[512];
 
 static int receive(struct message *message, uint32_t *from) {
     return liblog_recv(message, sizeof *message, from) == sizeof *message && *from < PROCESSES;
@@ -163,7 +164,7 @@ void _start(void) {
     int32_t me = liblog_me();
     if (me < REPLICAS)
         replicate();
-    liblog_spawn(remind, PATIENCE);
+    thread_start(remind, PATIENCE, remind_stack, sizeof remind_stack);
     if (me == WRITER)
         write_all();
     read_all();

@@ -4,11 +4,12 @@
 # Usage: check.sh [PROGRAM]   (the program that ./friday builds, if none is given)
 here=$(CDPATH='' cd -- "$(dirname -- "$0")" && pwd) || exit 1
 program=${1:-$here/../../crates/friday/out/friday}
-exec python3 - "$program" "$here" <<'PYTHON'
-import os, random, shutil, struct, subprocess, sys, tempfile
+PYTHONPATH=$here/../../tools exec python3 - "$program" "$here" <<'PYTHON'
+import os, random, shutil, subprocess, sys, tempfile
+
+from logs import read_log
 
 program, here = os.path.abspath(sys.argv[1]), sys.argv[2]
-ARGUMENTS = {0: 0, 1: 1, 2: 1, 11: 2, 12: 0, 13: 1, 14: 1, 15: 1, 16: 2}
 HANDLED = 7
 
 
@@ -23,17 +24,10 @@ def native(guest, folder):
 
 
 # The notes of a log, and how many signals were delivered in it.
-def notes_of(log):
-    at, lines, signals = 17 + log[16], [], 0
-    while at < len(log):
-        (size,) = struct.unpack_from("<I", log, at)
-        body = log[at + 4 : at + 4 + size]
-        kind, signal = body[10], body[11]
-        signals += signal != 0
-        if kind == 2:
-            lines.append("note %d" % struct.unpack_from("<q", body, 12))
-        at += 4 + size
-    return lines, signals
+def notes_of(path):
+    entries = read_log(path).entries
+    lines = ["note %d" % entry.arguments[0] for entry in entries if entry.call.name == "note"]
+    return lines, sum(entry.signal != 0 for entry in entries)
 
 
 # Tries of the threads in some order, and the signals in between; at the end enough tries of each in turn.
@@ -56,8 +50,7 @@ def check(guest, folder, times):
             file.write(schedule_of(guest, random.Random(seed)))
         recorded = run([program, "record", "schedule"], folder)
         assert ", finished\n" in recorded, recorded
-        with open(os.path.join(folder, guest + ".log"), "rb") as file:
-            lines, signals = notes_of(file.read())
+        lines, signals = notes_of(os.path.join(folder, guest + ".log"))
         assert lines == alone, (guest, seed, lines, alone)
         assert signals == (HANDLED if guest == "handler" else 0), (guest, signals)
         replayed = run([program, "replay", guest + ".wasm", guest + ".log"], folder)

@@ -1,8 +1,8 @@
-// Variables of many types. It prints its memory from 0 on and notes some values, each beside a path to it, so that
-// check.sh can read the value at the place of the path.
+// Variables of many types. It notes the values that some have at its end, each beside a path to it, so that check.sh can
+// read the value at the place of the path.
 #include "runtime.h"
 
-enum { PRINTED = 60000, PEERS = 3 };
+enum { PEERS = 3 };
 enum mood { CALM = 1, BUSY = 70000 };
 
 struct peer {
@@ -74,7 +74,6 @@ void _start(void) {
     if (step != 9)
         liblog_note(step);
     step = -5;
-    liblog_print(0, PRINTED);
     liblog_note(peers[1].distance); // peers[1].distance
     liblog_note(peers[2].ports[0]); // peers[2].ports[0]
     liblog_note(head->next->seen); // head->next->seen
@@ -96,5 +95,5 @@ void _start(void) {
     liblog_note(shared.low); // shared.low
     liblog_note(shared.whole); // shared.whole
     liblog_note(shared.bytes[3]); // shared.bytes[3]
-    liblog_note(next_call() - 1); // calls
+    liblog_note(next_call()); // calls
 }

@@ -1,13 +1,11 @@
-//! Variables of many types. It prints its memory from 65536 on and notes some values, each beside a path to it, so that
-//! check.sh can read the value at the place of the path.
+//! Variables of many types. It notes the values that some have at its end, each beside a path to it, so that check.sh can
+//! read the value at the place of the path.
 #![no_std]
 #![no_main]
 
 use core::cell::Cell;
 
 use liblog::{me, note, Shared};
-
-const DATA: usize = 65_536;
 
 #[derive(Clone, Copy)]
 enum Mood {
@@ -60,11 +58,6 @@ static SERVER: Shared<Server> = Shared::new(Server {
     sums: [[0; 3]; 2],
 });
 
-fn print_memory() {
-    // SAFETY: the memory has two pages at least, and is read only.
-    unsafe { liblog::raw::print(DATA as *const u8, 4096) };
-}
-
 fn fill(server: &mut Server, seed: i64) {
     server.count += 41;
     server.mood = if seed > 0 {
@@ -89,7 +82,6 @@ fn since(mood: Mood) -> i64 {
 pub extern "C" fn _start() {
     SERVER.with(|server| {
         fill(server, me() as i64 + 3);
-        print_memory();
         note(server.count as i64); // SERVER.value.count
         note(since(server.mood)); // SERVER.value.mood.Away.since
         note(server.last.unwrap_or(0) as i64); // SERVER.value.last.Some.0
