@@ -1,0 +1,4 @@
+pub mod Blanks
+pub mod Named
+pub mod Pieces
+pub mod Viable

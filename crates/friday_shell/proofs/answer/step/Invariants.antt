@@ -1,0 +1,13 @@
+use Rattle.std.proofs.Common.{◌≡◌, ◌+◌, ◌≤◌, length}
+use Rattle.group_state.specs.Place.{events}
+use Rattle.friday_shell.proofs.answer.step.Given as goal
+
+abbrev pub invariant-steps : goal.invariant-steps
+invariant-steps l = record {
+  start : l.group.start ≡ l.initial.group.start;
+  at : l.group.at + l.left ≡ l.initial.group.at + l.count;
+  within : l.group.at ≤ length (events l.group.start);
+}
+
+abbrev pub decreases-steps : goal.decreases-steps
+decreases-steps l = l.left

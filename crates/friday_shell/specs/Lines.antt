@@ -1,0 +1,125 @@
+-- The commands that lines spell.
+use Rattle.std.specs.Prelude.{ℕ, suc, ◌+◌, Bool, false, ◌&&◌, nat_le, is_none, List, [], ◌∷◌, ◌++◌, length, drop, codes, bytes_eq, position, slice_get, Option, Some, None, option_and_then, Result, Ok, Err, if◌then◌else◌}
+use Rattle.std.specs.List.{find}
+use Rattle.watch_expr.specs.Computed.{begins_some, tree_of}
+use Rattle.watch_expr.specs.Faulty.{is_nested, lacks_node}
+use Rattle.watch_expr.specs.Spelling.{is_word, number_of}
+use Rattle.watch_expr.specs.Tree.{Tree}
+use Rattle.friday_shell.specs.declared.command.Verb.{Verb}
+use Rattle.friday_shell.specs.declared.command.Verb.TheVariants as verb
+
+-- a command. A node is given by its number, or none where no process has the name
+pub data Command : Type 0 where
+  Goto : (position : ℕ) → Command
+  Step : (count : ℕ) → Command
+  Print : (tree : Tree) → Command
+  Mem : (node : Option ℕ) → (addr len : ℕ) → Command
+  Threads : (node : Option ℕ) → Command
+  Events : (count : ℕ) → Command
+  Quit : Command
+
+-- ---- one token
+
+abbrev pub verb_word : Verb → List ℕ
+verb_word verb.Goto = codes "goto"
+verb_word verb.Step = codes "step"
+verb_word verb.Print = codes "print"
+verb_word verb.Mem = codes "mem"
+verb_word verb.Threads = codes "threads"
+verb_word verb.Events = codes "events"
+verb_word verb.Quit = codes "quit"
+
+abbrev pub verbs : List Verb
+verbs = verb.Goto ∷ verb.Step ∷ verb.Print ∷ verb.Mem ∷ verb.Threads ∷ verb.Events ∷ verb.Quit ∷ []
+
+unfoldable pub verb_of : List ℕ → Option Verb
+verb_of text = find (λ v. bytes_eq (verb_word v) text) verbs
+
+-- a number from the one to the other
+abbrev pub number_within : ℕ → ℕ → Option ℕ → Option ℕ
+number_within least most None = None
+number_within least most (Some n) = if nat_le least n && nat_le n most then Some n else None
+
+abbrev pub number_from : ℕ → ℕ → List ℕ → Option ℕ
+number_from least most text = number_within least most (number_of text)
+
+-- a word that names a node, and which one, if there is one with the name
+abbrev pub node_named : List (List ℕ) → List ℕ → Option (Option ℕ)
+node_named names text = if is_word text then Some (position (λ name. bytes_eq name text) names) else None
+
+-- ---- a line of tokens, or the number of the first token, from 0, that no command could have there; that of the
+-- line's end is the number of tokens
+
+abbrev pub or_at : {A : Type 0} → ℕ → Option A → Result A ℕ
+or_at n None = Err n
+or_at n (Some a) = Ok a
+
+-- the token with this number, as what it is to be
+abbrev pub token_as : {A : Type 0} → (List ℕ → Option A) → List (List ℕ) → ℕ → Result A ℕ
+token_as meaning texts n = or_at n (option_and_then meaning (slice_get texts n))
+
+abbrev pub then_reads : {A B : Type 0} → Result A ℕ → (A → Result B ℕ) → Result B ℕ
+then_reads (Ok a) next = next a
+then_reads (Err n) next = Err n
+
+-- no token has this number
+abbrev pub ends_at : List (List ℕ) → ℕ → Command → Result Command ℕ
+ends_at texts n command = if nat_le (length texts) n then Ok command else Err n
+
+-- the greatest number that a token is
+abbrev pub most_number : ℕ
+most_number = 9223372036854775807
+
+-- how many of these tokens, behind those before, begin some expression with them
+abbrev pub viable : List (List ℕ) → List (List ℕ) → List (List ℕ) → ℕ
+viable names before [] = 0
+viable names before (t ∷ ts) = if begins_some names (before ++ t ∷ []) then suc (viable names (before ++ t ∷ []) ts) else 0
+
+abbrev pub tree_or : ℕ → Option Tree → Result Tree ℕ
+tree_or n None = Err n
+tree_or n (Some x) = Ok x
+
+-- all tokens from this one on are an expression
+abbrev pub expression_from : List (List ℕ) → List (List ℕ) → ℕ → Result Tree ℕ
+expression_from names texts from = tree_or (from + viable names [] (drop from texts)) (tree_of names (drop from texts))
+
+-- a count that may be left out
+abbrev pub count_or : ℕ → ℕ → ℕ → List (List ℕ) → Result ℕ ℕ
+count_or least most absent texts = if nat_le (length texts) 1 then Ok absent else token_as (number_from least most) texts 1
+
+abbrev pub command_by : List (List ℕ) → List (List ℕ) → Verb → Result Command ℕ
+command_by names texts verb.Goto = then_reads (token_as (number_from 0 most_number) texts 1) (λ k. ends_at texts 2 (Goto k))
+command_by names texts verb.Step = then_reads (count_or 0 most_number 1 texts) (λ n. ends_at texts 2 (Step n))
+command_by names texts verb.Print = then_reads (expression_from names texts 1) (λ x. Ok (Print x))
+command_by names texts verb.Mem =
+    then_reads (token_as (node_named names) texts 1) (λ node. then_reads (token_as (number_from 0 most_number) texts 2) (λ addr.
+    then_reads (token_as (number_from 1 256) texts 3) (λ len. ends_at texts 4 (Mem node addr len))))
+command_by names texts verb.Threads = then_reads (token_as (node_named names) texts 1) (λ node. ends_at texts 2 (Threads node))
+command_by names texts verb.Events = then_reads (count_or 1 1000 10 texts) (λ n. ends_at texts 2 (Events n))
+command_by names texts verb.Quit = ends_at texts 1 Quit
+
+-- the command that the tokens spell, over a group whose processes have these names
+abbrev pub command_of : List (List ℕ) → List (List ℕ) → Result Command ℕ
+command_of names texts = then_reads (token_as verb_of texts 0) (command_by names texts)
+
+-- ---- what is wrong with a command that is of the grammar
+
+-- an aggregate stands in an aggregate
+abbrev pub nests : Command → Bool
+nests (Print x) = is_nested x
+nests (Goto k) = false
+nests (Step n) = false
+nests (Mem place addr len) = false
+nests (Threads place) = false
+nests (Events n) = false
+nests Quit = false
+
+-- it names no node where it is to name one
+abbrev pub names_none : Command → Bool
+names_none (Print x) = lacks_node false x
+names_none (Mem node addr len) = is_none node
+names_none (Threads node) = is_none node
+names_none (Goto k) = false
+names_none (Step n) = false
+names_none (Events n) = false
+names_none Quit = false

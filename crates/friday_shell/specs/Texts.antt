@@ -1,0 +1,112 @@
+-- How events, positions and threads are shown.
+use Rattle.std.specs.Prelude.{ℕ, suc, ◌-◌, ◌%◌, ◌^◌, ◌==◌, Bool, true, false, List, [], ◌∷◌, ◌++◌, map, take, drop, decimal, codes, Option, Some, None, if◌then◌else◌, slice_index_or}
+use Rattle.std.specs.Fmt.{signed_decimal}
+use Rattle.std.specs.Int.{w32, w64, cast_signed}
+use Rattle.std.specs.List.{flat_map}
+use Rattle.call_table.specs.Table.{kind_numbered, row}
+use Rattle.call_table.specs.declared.kind.Kind.{Kind}
+use Rattle.call_table.specs.declared.signature.Signature.{Signature}
+use Rattle.coop_threads.specs.declared.slot.Slot.{Slot}
+use Rattle.coop_threads.specs.Crew.{value_of}
+use Rattle.lib_calls.specs.declared.entry.Call.{Call}
+use Rattle.lib_calls.specs.declared.entry.Entry.{Entry}
+use Rattle.guest_process.specs.declared.waiting.Waiting.{Waiting}
+use Rattle.guest_process.specs.State.{State, is_running}
+use Rattle.group_order.specs.Order.{Event}
+use Rattle.proc_replay.specs.Replaying.{Replaying}
+use Rattle.group_state.specs.Moves.{last_of}
+use Rattle.group_state.specs.Place.{Place, events}
+use Rattle.friday_shell.specs.Ends.{end_text}
+
+-- ---- calls
+
+-- a number of 64 bits, or of the lowest 32, signed
+abbrev pub signed_text : Bool → ℕ → List ℕ
+signed_text true n = signed_decimal (cast_signed w64 n)
+signed_text false n = signed_decimal (cast_signed w32 (n % 2 ^ 32))
+
+-- an argument, with a space in front
+abbrev pub argument_text : Signature → ℕ → List ℕ
+argument_text s n = codes " " ++ signed_text s.wide_param n
+
+-- the arguments that a call has
+abbrev pub arguments_text : Signature → Call → List ℕ
+arguments_text s c = flat_map (argument_text s) (take s.params (c.a0 ∷ c.a1 ∷ c.a2 ∷ []))
+
+abbrev pub call_of_kind : Option Kind → Call → List ℕ
+call_of_kind None c = []
+call_of_kind (Some kind) c = (row kind).name ++ arguments_text (row kind).signature c
+
+-- the name of a call, and its arguments
+abbrev pub call_text : Call → List ℕ
+call_text c = call_of_kind (kind_numbered c.kind) c
+
+-- the reply of a call with a result of so many bits, where it has one
+abbrev pub reply_by : ℕ → ℕ → List ℕ
+reply_by bits reply = if bits == 0 then [] else codes " = " ++ signed_text (bits == 64) reply
+
+abbrev pub reply_of_kind : Option Kind → ℕ → List ℕ
+reply_of_kind None reply = []
+reply_of_kind (Some kind) reply = reply_by (row kind).signature.result reply
+
+abbrev pub reply_text : Entry → List ℕ
+reply_text e = reply_of_kind (kind_numbered e.call.kind) e.reply
+
+-- the signal that was delivered, where one was
+abbrev pub signal_text : ℕ → List ℕ
+signal_text s = if s == 0 then [] else codes " ! " ++ decimal s
+
+-- ---- events and positions
+
+-- the name of a node's process
+abbrev pub name_of : List Replaying → ℕ → List ℕ
+name_of start node = slice_index_or (map (λ r. r.head.name) start) node []
+
+-- the clock, the name of the process and the thread
+abbrev pub stamp_text : List Replaying → Event Entry → List ℕ
+stamp_text start e = decimal e.entry.clock ++ (codes " " ++ (name_of start e.node ++ (codes " " ++ decimal e.entry.thread)))
+
+-- these and the call; then the reply and the signal
+abbrev pub event_text : List Replaying → Event Entry → List ℕ
+event_text start e =
+    stamp_text start e ++ (codes " " ++ (call_text e.entry.call ++ (reply_text e.entry ++ signal_text e.entry.signal)))
+
+abbrev pub with_event : List Replaying → Option (Event Entry) → List ℕ
+with_event start None = codes "\n"
+with_event start (Some e) = codes ": " ++ (event_text start e ++ codes "\n")
+
+-- a position, and the event that led there
+abbrev pub position_line : Place → List ℕ
+position_line place = codes "at " ++ (decimal place.at ++ with_event place.start (last_of place))
+
+-- an event with its position
+abbrev pub event_line : List Replaying → ℕ → Event Entry → List ℕ
+event_line start k e = decimal k ++ (codes ": " ++ (event_text start e ++ codes "\n"))
+
+-- events, of which the first has this position
+abbrev pub event_lines : List Replaying → ℕ → List (Event Entry) → List ℕ
+event_lines start k [] = []
+event_lines start k (e ∷ es) = event_line start k e ++ event_lines start (suc k) es
+
+-- the last n events up to the position
+abbrev pub last_lines : Place → ℕ → List ℕ
+last_lines place n = event_lines place.start (suc (place.at - n)) (drop (place.at - n) (take place.at (events place.start)))
+
+-- ---- threads
+
+abbrev pub standing_text : Option Waiting → List ℕ
+standing_text None = codes " ended\n"
+standing_text (Some w) = codes " at " ++ (call_text w.call ++ codes "\n")
+
+-- a line for each thread from this one on
+abbrev pub thread_lines : ℕ → List (Slot Waiting) → List ℕ
+thread_lines t [] = []
+thread_lines t (slot ∷ slots) = decimal t ++ (standing_text (value_of slot) ++ thread_lines (suc t) slots)
+
+-- how each thread of a process that runs stands
+abbrev pub threads_text : State → List ℕ
+threads_text S = if is_running S then thread_lines 0 S.crew.threads else []
+
+-- how a process stands, and where it runs each of its threads
+abbrev pub process_text : List ℕ → State → List ℕ
+process_text name S = name ++ (codes " " ++ (end_text S.end ++ (codes "\n" ++ threads_text S)))
