@@ -3,16 +3,23 @@ use Rattle.std.proofs.Common.{◌≡◌, ◌∙◌, ℕ, Bool, List, [], Option,
 use Rattle.fri_outside.specs.Outside.{Store, WhenTold}
 use Rattle.proc_replay.specs.Replaying.{Replaying}
 use Rattle.friday_app.specs.declared.pairs.Loaded.{Loaded as LoadedFiles}
+use Rattle.group_state.specs.declared.report.Report.{Report}
+use Rattle.group_state.specs.declared.report.ReportLine.{ReportLine}
+use Rattle.group_state.specs.declared.tally.GroupCounts.{GroupCounts}
+use Rattle.group_state.specs.Place.{group_count}
+use Rattle.group_state.specs.Report.{IsReport, all_accepted, counts_in}
+use Rattle.group_state.specs.Tally.{tally}
 use Rattle.friday_app.specs.declared.refusal.Answer.{Answer}
+use Rattle.friday_app.specs.declared.refusal.Answer.TheVariants as answered
 use Rattle.friday_app.specs.declared.refusal.Refusal.{Refusal}
 use Rattle.friday_app.specs.declared.refusal.Refusal.TheVariants as refusal
 use Rattle.friday_app.specs.Command.{Pair}
-use Rattle.friday_app.specs.Call.{Makes, StopsAs}
+use Rattle.friday_app.specs.Call.{Makes, StopsAs, Tells}
 use Rattle.friday_app.specs.Expected.{replay_outcome}
 use Rattle.friday_app.specs.Outcome.{Outcome, Stop, and_then, writes_of}
 use Rattle.friday_app.specs.Pairs.{Loaded, all_loaded, all_placed, opened, replays_of}
-use Rattle.friday_app.specs.Report.{images_if, replay_work}
-use Rattle.friday_app.specs.Seen.{AreLoaded, MakesAll}
+use Rattle.friday_app.specs.Report.{diverges, images_if, replay_work, report_text}
+use Rattle.friday_app.specs.Seen.{AreLoaded, MakesAll, Says}
 use Rattle.friday_app.proofs.Gathered.{stops_then}
 use Rattle.friday_app.proofs.Made.{outcome_at}
 
@@ -71,3 +78,19 @@ some_made (refusal.Absent file) files before after made = absurd made
 some_made refusal.ReadFault files before after made = absurd made
 some_made refusal.WriteFault files before after made = made
 some_made refusal.NoMemory files before after made = made
+
+-- ---- what is said
+
+says_of : (images : Bool) (start : List Replaying) (o : Outcome) (answer : Answer) → o ≡ Ok (replay_work images start)
+    → Says (replay_work images start).text (replay_work images start).diverged answer → Tells o (Ok answer)
+says_of images start o (answered.Done text) is says = (replay_work images start, is, says.0, says.1)
+says_of images start o (answered.Diverged text) is says = (replay_work images start, is, says.0, says.1)
+
+-- the report was printed
+pub report_tells : (images : Bool) (pairs : List Pair) (told : Option Store) (start : List Replaying) (report : Report) (answer : Answer) → WasOpened pairs told start → IsReport start report
+    → Says (report_text report.lines.items (counts_in report)) (diverges report.lines.items) answer
+    → (o : Outcome) → option_map (replay_outcome images pairs) told ≡ Some o → Tells o (Ok answer)
+report_tells images pairs told start report answer opens is says o here =
+    says_of images start o answer (opened_works images pairs told start opens o here)
+    (subst (λ (lines : List ReportLine). Says (report_text lines (tally (group_count start) (all_accepted start))) (diverges lines) answer) is.lines
+    (subst (λ (counts : GroupCounts). Says (report_text report.lines.items counts) (diverges report.lines.items) answer) is.counts says))

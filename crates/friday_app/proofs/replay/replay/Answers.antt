@@ -8,7 +8,7 @@ use Rattle.friday_app.specs.Report.{images_if}
 use Rattle.friday_app.specs.Seen.{MakesAll, pair_of}
 use Rattle.friday_app.proofs.Gathered.{refused_makes}
 use Rattle.friday_app.proofs.Made.{all_changes, makes_others, same_changes, same_others}
-use Rattle.friday_app.proofs.Replayed.{WasOpened, begin_stops, begun_opens, load_stops, replay_makes, some_made}
+use Rattle.friday_app.proofs.Replayed.{WasOpened, begin_stops, begun_opens, load_stops, replay_makes, report_tells, some_made}
 use Rattle.friday_app.proofs.replay.replay.Goals as goal
 
 pub returns-in_err-all-clause-makes : goal.returns-in_err-all-clause-makes
@@ -85,6 +85,13 @@ returns-in_err-print_report-clause-makes g c =
 pub returns-in_err-print_report-clause-others : goal.returns-in_err-print_report-clause-others
 returns-in_err-print_report-clause-others g c =
     makes_others (replay_outcome c.args.images (map pair_of c.args.pairs.now)) (g.F.Files.told c.args.files.now) (g.F.Files.told c.write_asked.new.files) c.from_residual-in_err-print_report.result (returns-in_err-print_report-clause-makes g c)
+
+pub returns-clause-tells : goal.returns-clause-tells
+returns-clause-tells g c =
+    report_tells c.args.images (map pair_of c.args.pairs.now) (g.F.Files.told c.args.files.now) c.in_ok-group.group.start c.in_ok-report.report c.in_ok-print_report.field-0
+    (subst (WasOpened (map pair_of c.args.pairs.now) (g.F.Files.told c.args.files.now)) (sym (ap (λ (p : Place). p.start) c.in_ok-group.ensures))
+    (begun_opens (map pair_of c.args.pairs.now) (g.F.Files.told c.args.files.now) c.in_ok-all.all.items c.deref.result.now c.in_ok-begin_all.field-0.items c.in_ok-all.ensures.answer c.deref.ensures.value c.in_ok-begin_all.ensures.answer))
+    c.in_ok-report.ensures c.in_ok-print_report.ensures
 
 pub returns-clause-makes : goal.returns-clause-makes
 returns-clause-makes g c =

@@ -11,23 +11,23 @@ returns-in_err-image-clause-made g c =
 
 pub unreachable-requires-in_default-2 : goal.unreachable-requires-in_default-2
 unreachable-requires-in_default-2 g c =
-    has_image c.args.group.now.start c.loop-node.node c.in-Some.name.now c.in-Some.ensures (sym c.in_default-2.is ∙ c.in_ok-image.ensures)
+    has_image c.args.group.now.start c.loop-node.node c.in-Some.name.now c.in-Some.ensures (sym c.in_default-2.is ∙ c.in_ok-image.ensures.image)
 
 pub write_image-requires : goal.write_image-requires
 write_image-requires g c =
-    node_named c.args.group.now.start c.loop-node.node c.in-Some.name.now c.in-Some-2.image c.requires c.in-Some.ensures (sym c.in-Some-2.is ∙ c.in_ok-image.ensures)
+    node_named c.args.group.now.start c.loop-node.node c.in-Some.name.now c.in-Some-2.image c.requires c.in-Some.ensures (sym c.in-Some-2.is ∙ c.in_ok-image.ensures.image)
 
 pub returns-in_err-write_image-clause-made : goal.returns-in_err-write_image-clause-made
 returns-in_err-write_image-clause-made g c =
     let p = err_from_is_err_and c.from_residual-in_err-write_image.result c.from_residual-in_err-write_image.ensures.1 in
-    let own = own_files c.args.group.now.start c.loop-node.node c.in-Some.name.now c.as_slice.result.now c.as_slice-in-loop-node.result.now c.in-Some-2.image c.in-Some.ensures (sym c.in-Some-2.is ∙ c.in_ok-image.ensures) c.as_slice.ensures c.as_slice-in-loop-node.ensures in
+    let own = own_files c.args.group.now.start c.loop-node.node c.in-Some.name.now c.as_slice.result.now c.as_slice-in-loop-node.result.now c.in-Some-2.image c.in-Some.ensures (sym c.in-Some-2.is ∙ c.in_ok-image.ensures.image) c.as_slice.ensures c.as_slice-in-loop-node.ensures in
     rw (p.1, p.2)
     (failed_makes c.in_err-write_image.field-0.0 _ _ _
     (part_made c.keeps_files.ensures c.args.group.now.start c.loop-node.node _ _ _ _ own c.loop-node.invariant.0 c.in_err-write_image.ensures.err))
 
 pub loop-node-preserved : goal.loop-node-preserved
 loop-node-preserved g c =
-    let own = own_files c.args.group.now.start c.loop-node.node c.in-Some.name.now c.as_slice.result.now c.as_slice-in-loop-node.result.now c.in-Some-2.image c.in-Some.ensures (sym c.in-Some-2.is ∙ c.in_ok-image.ensures) c.as_slice.ensures c.as_slice-in-loop-node.ensures in (
+    let own = own_files c.args.group.now.start c.loop-node.node c.in-Some.name.now c.as_slice.result.now c.as_slice-in-loop-node.result.now c.in-Some-2.image c.in-Some.ensures (sym c.in-Some-2.is ∙ c.in_ok-image.ensures.image) c.as_slice.ensures c.as_slice-in-loop-node.ensures in (
       one_made c.args.group.now.start c.loop-node.node _ _ _ _ own c.loop-node.invariant.0 c.in_ok-write_image.ensures.ok,
       still_none_fell _ _ _ c.loop-node.invariant.1 c.in_ok-write_image.ensures.counts,
     )
