@@ -1,13 +1,8 @@
 -- The report of a replay.
 use Rattle.std.specs.Prelude.{ℕ, List, [], ◌∷◌, ◌++◌, Bool, true, false, map, decimal, codes, if◌then◌else◌}
-use Rattle.std.specs.Fmt.{signed_decimal}
 use Rattle.std.specs.List.{flat_map, list_any}
-use Rattle.wasm_types.specs.declared.traps.Trap.{Trap}
-use Rattle.wasm_types.specs.declared.traps.Trap.TheVariants as trap
 use Rattle.guest_process.specs.declared.divergence.Divergence.{Divergence}
 use Rattle.guest_process.specs.declared.divergence.Divergence.TheVariants as differs
-use Rattle.guest_process.specs.declared.end.End.{End}
-use Rattle.guest_process.specs.declared.end.End.TheVariants as ended
 use Rattle.proc_replay.specs.Replaying.{Replaying}
 use Rattle.group_record.specs.Images.{image_files}
 use Rattle.group_state.specs.declared.report.ReportLine.{ReportLine}
@@ -18,6 +13,7 @@ use Rattle.group_state.specs.Image.{memory_of, printed_of}
 use Rattle.group_state.specs.Place.{group_count}
 use Rattle.group_state.specs.Report.{all_accepted, line_of}
 use Rattle.group_state.specs.Tally.{tally}
+use Rattle.friday_shell.specs.Ends.{end_text}
 use Rattle.friday_app.specs.Outcome.{Work}
 
 -- a divergence by its number and name
@@ -35,25 +31,6 @@ abbrev pub verdict_text : Verdict → List ℕ
 verdict_text said.Whole = codes "log whole"
 verdict_text (said.Left bytes) = decimal bytes ++ codes " bytes left over"
 verdict_text (said.Diverged at why) = codes "diverged at " ++ (decimal at ++ (codes ": " ++ divergence_text why))
-
--- why a thread trapped
-abbrev pub trap_text : Trap → List ℕ
-trap_text trap.Unreachable = codes "unreachable"
-trap_text trap.ZeroDivisor = codes "zero divisor"
-trap_text trap.Overflow = codes "overflow"
-trap_text trap.MemoryRange = codes "memory range"
-trap_text trap.TableRange = codes "table range"
-trap_text trap.EmptyElement = codes "empty element"
-trap_text trap.TypeDiffers = codes "type differs"
-trap_text trap.Exhausted = codes "exhausted"
-trap_text trap.Spent = codes "spent"
-
--- how a process stands
-abbrev pub end_text : End → List ℕ
-end_text ended.Running = codes "running"
-end_text ended.Finished = codes "finished"
-end_text (ended.Exited code) = codes "exited " ++ signed_decimal code
-end_text (ended.Trapped why) = codes "trapped " ++ trap_text why
 
 -- the line of a log
 abbrev pub line_text : ReportLine → List ℕ

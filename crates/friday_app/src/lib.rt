@@ -13,7 +13,6 @@ mod report;
 mod settle;
 mod status;
 mod summary;
-mod texts;
 mod top;
 
 pub use status::Status;

@@ -1,14 +1,31 @@
 // The report of a replay.
 ghost use Rattle.std.specs.Prelude.{◌≡◌, ◌++◌, IfOk, OnOk};
 ghost use Rattle.group_state.specs.Report.{counts_in};
-ghost use Rattle.friday_app.specs.Report.{count_text, diverges, group_text, is_divergence, line_text, report_text, verdict_text};
+ghost use Rattle.friday_app.specs.Report.{count_text, divergence_text, diverges, group_text, is_divergence, line_text, report_text, verdict_text};
 ghost use Rattle.friday_app.specs.Seen.{Says};
 
 use crate::refusal::Answer;
-use crate::texts::{divergence_text, push_end};
 use fri_text::Text;
+use friday_shell::push_end;
 use group_state::{Report, ReportLine, Verdict};
+use guest_process::Divergence;
 use std::alloc::{AllocError, Global};
+
+// The number and the name of a divergence.
+fn divergence_text(why: Divergence) -> &'static str
+    ensures { result.now ≡ divergence_text why }
+{
+    match why {
+        Divergence::AfterEnd => "1 AfterEnd",
+        Divergence::NoThread => "2 NoThread",
+        Divergence::OtherCall => "3 OtherCall",
+        Divergence::OtherArguments => "4 OtherArguments",
+        Divergence::OtherBytes => "5 OtherBytes",
+        Divergence::OtherReply => "6 OtherReply",
+        Divergence::NoHandler => "7 NoHandler",
+        Divergence::OtherClock => "8 OtherClock",
+    }
+}
 
 fn push_verdict(text: &mut Text, verdict: Verdict) -> Result<(), AllocError>
     ensures { OnOk result (text.new ≡ text.old ++ verdict_text verdict) }
