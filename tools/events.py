@@ -10,39 +10,11 @@ The debugger counts the events that replay accepts: give it the same logs, and w
 """
 
 import argparse
-import os
-import subprocess
 import sys
 
 from logs import BadLog, in_group_order, read_log
-
-BUILT = os.path.join(os.path.dirname(os.path.abspath(__file__)), "../crates/friday/out/friday")
-
-
-def shown(data):
-    """Bytes as text where all of them can be printed, and otherwise in hexadecimal digits."""
-    text = data.decode("latin-1")
-    if data and all(" " <= letter <= "~" or letter == "\n" for letter in text):
-        return '"%s"' % text.replace("\n", "\\n")
-    return data.hex() or "nothing"
-
-
-def source(tag, names):
-    if tag is None:
-        return "outside"
-    return "%s at its clock %d" % (names.get(tag[0], str(tag[0])), tag[1])
-
-
-def bytes_lines(entry, names):
-    if entry.call.name == "print":
-        yield "printed " + shown(entry.sent)
-    elif entry.call.name == "send":
-        receiver = names.get(entry.arguments[0], str(entry.arguments[0]))
-        yield "sent to %s: %s" % (receiver, shown(entry.sent))
-    elif entry.call.has_tag and entry.reply >= 0:
-        yield "taken from %s: %s" % (source(entry.tag, names), shown(entry.taken))
-    elif entry.call.takes_bytes and entry.reply >= 0:
-        yield "taken " + shown(entry.taken)
+from report import BUILT, Refused, replayed
+from wording import bytes_lines
 
 
 def list_events(logs, calls):
@@ -55,21 +27,12 @@ def list_events(logs, calls):
             print("    " + line)
 
 
-def ends_of(program, pairs):
-    """How each process ended, by its name, as the report of the group's replay says."""
-    done = subprocess.run([program, "replay", *pairs], stdout=subprocess.PIPE, text=True)
-    if done.returncode not in (0, 1):
-        sys.exit(done.stdout.strip() or "the replay ended with status %d" % done.returncode)
-    lines = done.stdout.splitlines()[:-1]
-    return {line.split(": ")[0]: line.split(", ")[1] for line in lines}
-
-
 def print_traps(program, pairs):
-    ends = ends_of(program, pairs)
+    results = replayed(program, pairs)
     logs = [read_log(path) for path in pairs[1::2]]
     order = in_group_order(logs)
     for log in logs:
-        end = ends[log.name]
+        end = results[log.name].end
         if not end.startswith("trapped "):
             continue
         position = max(place for place, (_, other) in enumerate(order, 1) if other is log)
@@ -101,6 +64,8 @@ def main():
             print_traps(chosen.program, chosen.pairs)
     except BadLog as error:
         sys.exit("%s is no log" % error)
+    except Refused as error:
+        sys.exit(str(error))
     except OSError as error:
         sys.exit("%s: %s" % (error.filename, error.strerror))
 

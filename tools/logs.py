@@ -1,5 +1,7 @@
 """The log of a process: its head and the entries of its events."""
 
+from __future__ import annotations
+
 import struct
 from dataclasses import dataclass
 

@@ -1,0 +1,111 @@
+#!/usr/bin/env python3
+"""A picture of a recording: a line for each process, its events in the order of their Lamport clocks, and an arrow
+from each send to the event that took its datagram. It is printed as SVG, or with --shiviz as a log for ShiViz.
+
+The logs tell which events and datagrams there are. How processes ended is asked of the program's replay, and where their
+threads stand of its debugger; without the program a picture is made all the same.
+"""
+
+import argparse
+import os
+import sys
+
+from captions import Captions
+from drawing import Picture
+from group import NotOneGroup, read_group
+from logs import BadLog
+from report import BUILT, Refused, replayed
+from standing import by_logs, by_replay, threads_at
+from traffic import traffic_of
+from vector_clocks import shiviz_text
+
+MANY = 3000
+
+
+class OneLineParser(argparse.ArgumentParser):
+    """Says what is wrong with the words in one line."""
+
+    def error(self, message):
+        self.exit(2, "%s: %s\n" % (self.prog, message))
+
+
+def arguments():
+    parser = OneLineParser(
+        description=__doc__, formatter_class=argparse.RawDescriptionHelpFormatter, allow_abbrev=False
+    )
+    parser.add_argument("--shiviz", action="store_true", help="print a log for ShiViz in place of a picture")
+    parser.add_argument("--from", dest="first", type=int, metavar="K", help="the position of the first event")
+    parser.add_argument("--to", dest="last", type=int, metavar="K", help="the position of the last event")
+    parser.add_argument("--program", help="the program friday, if not the one that ./friday builds")
+    parser.add_argument("--logs-alone", action="store_true", help="ask no program how the processes ended")
+    parser.add_argument("pairs", nargs="+", metavar="MODULE LOG", help="the log of each process behind its module")
+    chosen = parser.parse_args()
+    if len(chosen.pairs) % 2:
+        parser.error("each module needs its log")
+    return chosen
+
+
+def span(chosen, count):
+    """The positions of the first and the last event."""
+    first = 1 if chosen.first is None else chosen.first
+    last = count if chosen.last is None else min(chosen.last, count)
+    if not 1 <= first <= last:
+        raise NotOneGroup("no events lie from %d to %d; the logs have %d" % (first, last, count))
+    return first, last
+
+
+def program_of(chosen):
+    """The program to ask, if there is one."""
+    if chosen.logs_alone or (chosen.program is None and not os.access(BUILT, os.X_OK)):
+        return None
+    return chosen.program or BUILT
+
+
+def ends_of(program, pairs, logs, traffic, last):
+    """How each process is at the last position, by its name."""
+    drawn = {log.name: all(event.position <= last for event in traffic.events if event.log is log) for log in logs}
+    if program is None:
+        return {log.name: by_logs(log, drawn[log.name]) for log in logs}
+    results = replayed(program, pairs)
+    whole = all(results[log.name].accepted == len(log.entries) for log in logs)
+    threads = threads_at(program, pairs, [log.name for log in logs], last) if whole else {}
+    return {log.name: by_replay(log, drawn[log.name], results[log.name], threads.get(log.name, ())) for log in logs}
+
+
+def made(chosen):
+    logs = read_group(chosen.pairs)
+    traffic = traffic_of(logs)
+    captions = Captions(logs, traffic)
+    first, last = span(chosen, len(traffic.events))
+    if chosen.shiviz:
+        return shiviz_text(traffic, captions.lines, first, last)
+    if last - first >= MANY:
+        print("%d events make a large picture; --from and --to draw a part" % (last - first + 1), file=sys.stderr)
+    ends = ends_of(program_of(chosen), chosen.pairs, logs, traffic, last)
+    return Picture(logs, traffic, captions, ends, first, last).svg()
+
+
+def main():
+    chosen = arguments()
+    try:
+        text = made(chosen)
+    except BadLog as error:
+        sys.exit("%s is no log" % error)
+    except (NotOneGroup, Refused) as error:
+        sys.exit(str(error))
+    except OSError as error:
+        sys.exit("%s: %s" % (error.filename, error.strerror))
+    write(text)
+
+
+def write(text):
+    try:
+        sys.stdout.write(text)
+        sys.stdout.flush()
+    except OSError as error:
+        os.dup2(os.open(os.devnull, os.O_WRONLY), sys.stdout.fileno())
+        sys.exit("the output was not written: %s" % error.strerror)
+
+
+if __name__ == "__main__":
+    main()
