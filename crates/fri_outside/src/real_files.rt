@@ -113,6 +113,20 @@ fn open_error(error: &io::Error) -> WriteError {
     }
 }
 
+// How many bytes are copied at once.
+const PIECE: usize = 65_536;
+
+// Puts whole pieces behind the bytes, of so many bytes in all that are expected. `read_to_end` would first fill what it
+// reads into with zeros, byte by byte, which takes longer than to read.
+fn append_pieces<F: Read>(file: &mut F, expected: u64, bytes: &mut Vec<u8>) -> io::Result<()> {
+    let mut piece = [0; PIECE];
+    for _ in 0..expected / PIECE as u64 {
+        file.read_exact(&mut piece)?;
+        bytes.extend_from_slice(&piece)?;
+    }
+    Ok(())
+}
+
 // The bytes of a file, and one more than the limit of a file that is longer.
 fn read_up_to<R: rt::Files>(
     rt: &R,
@@ -123,10 +137,14 @@ fn read_up_to<R: rt::Files>(
     let file = fs::open(rt, name)?;
     let end = (limit as u64).saturating_add(1);
     // With room for one byte more than the file has, the last read finds the end without growing.
-    let expected = file.metadata().map_or(0, |metadata| metadata.len());
-    let room = expected.min(end).saturating_add(1);
-    let mut bytes = Vec::with_capacity(alloc, room as usize)?;
-    file.take(end).read_to_end(&mut bytes)?;
+    let expected = file
+        .metadata()
+        .map_or(0, |metadata| metadata.len())
+        .min(end);
+    let mut bytes = Vec::with_capacity(alloc, expected.saturating_add(1) as usize)?;
+    let mut file = file.take(end);
+    append_pieces(&mut file, expected, &mut bytes)?;
+    file.read_to_end(&mut bytes)?;
     Ok(bytes)
 }
 
