@@ -1,4 +1,9 @@
 pub mod Blanks
+pub mod Held
 pub mod Named
+pub mod Picked
 pub mod Pieces
+pub mod Stops
+pub mod Trimmed
 pub mod Viable
+pub mod Walked

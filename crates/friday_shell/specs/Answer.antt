@@ -1,7 +1,8 @@
--- What a line of a session answers, and where the session then stands.
-use Rattle.std.specs.Prelude.{ℕ, ◌+◌, min, Bool, true, false, nat_le, nat_lt, ◌==◌, List, [], ◌∷◌, ◌++◌, length, map, slice_get, codes, Option, Some, None, ℤ, Result, Ok, Err, if◌then◌else◌}
-use Rattle.std.specs.Fmt.{signed_decimal}
+-- What a line of a session answers, and what the session then keeps.
+use Rattle.std.specs.Prelude.{ℕ, ◌+◌, min, Bool, true, false, nat_le, nat_lt, ◌==◌, List, [], ◌∷◌, ◌++◌, length, map, slice_get, codes, decimal, Option, Some, None, ℤ, Result, Ok, Err, if◌then◌else◌}
+use Rattle.std.specs.List.{flat_map, list_all}
 use Rattle.fri_text.specs.Hex.{hex_word}
+use Rattle.call_table.specs.declared.kind.Kind.{Kind}
 use Rattle.proc_replay.specs.Replaying.{Replaying}
 use Rattle.guest_process.specs.State.{State}
 use Rattle.watch_expr.specs.Computed.{cut}
@@ -10,83 +11,145 @@ use Rattle.watch_expr.specs.Value.{value}
 use Rattle.watch_expr.specs.View.{piece_at}
 use Rattle.group_state.specs.Place.{Place, events, states}
 use Rattle.group_state.specs.Seen.{nodes_at}
-use Rattle.friday_shell.specs.Lines.{Command, Goto, Step, Print, Mem, Threads, Events, Quit, command_of, names_none, nests}
+use Rattle.friday_shell.specs.Firing.{lines_at, no_variable, place_at, stop_after, value_word}
+use Rattle.friday_shell.specs.Lines.{At, Break, Command, Continue, Delete, Events, Everywhere, Goto, ListPoints, Mem, Print, Quit, Scope, Step, Threads, Watch, command_of, names_none, nests, watches_variable}
+use Rattle.friday_shell.specs.Points.{Point, SessionState, Trigger, has_point, with_point, without_point}
+use Rattle.friday_shell.specs.Points.{Break as OnCall, Watch as OnChange}
 use Rattle.friday_shell.specs.declared.refusal.Refusal.{Refusal}
 use Rattle.friday_shell.specs.declared.refusal.Refusal.TheVariants as refusal
 use Rattle.friday_shell.specs.Refusals.{refusal_line}
 use Rattle.friday_shell.specs.Texts.{last_lines, name_of, position_line, process_text}
 
--- the text, the position after it, and whether the session ends
+-- the text, the session after it, and whether the session ends
 pub record Answered : Type 0 where
   pub text : List ℕ
-  pub at : ℕ
+  pub state : SessionState
   pub quits : Bool
 
--- text at the position where the session stands
-abbrev pub says : Place → List ℕ → Answered
-says place text = record { text = text; at = place.at; quits = false }
+-- text, and the session as it was
+abbrev pub says : SessionState → List ℕ → Answered
+says state text = record { text = text; state = state; quits = false }
 
 -- a refusal, which leaves the session as it was
-abbrev pub refuses : Place → Refusal → Answered
-refuses place why = says place (refusal_line why)
+abbrev pub refuses : SessionState → Refusal → Answered
+refuses state why = says state (refusal_line why)
 
--- the session goes to this position
-abbrev pub goes_to : Place → ℕ → Answered
-goes_to place k = record { text = position_line (record { start = place.start; at = k }); at = k; quits = false }
+-- the session at this position
+abbrev pub moved_to : SessionState → ℕ → SessionState
+moved_to state k = record state { place = place_at state.place.start k }
+
+-- lines, and then the position to which the session goes
+abbrev pub arrives : SessionState → List ℕ → ℕ → Answered
+arrives state lines k = record { text = lines ++ position_line (place_at state.place.start k); state = moved_to state k; quits = false }
 
 -- ---- the answers of commands
 
 abbrev pub value_text : Option ℤ → List ℕ
-value_text None = codes "undef\n"
-value_text (Some z) = signed_decimal z ++ codes "\n"
+value_text v = value_word v ++ codes "\n"
 
 abbrev pub piece_text : Option (List ℕ) → List ℕ
 piece_text None = codes "undef\n"
 piece_text (Some bytes) = hex_word bytes ++ codes "\n"
 
+-- of a node that no process is, nothing is said: such a line is refused
+abbrev pub memory_text : Place → Option ℕ → ℕ → ℕ → List ℕ
+memory_text place None addr len = []
+memory_text place (Some n) addr len = piece_text (piece_at (nodes_at place) n addr len)
+
 abbrev pub text_of_state : List ℕ → Option State → List ℕ
 text_of_state name None = []
 text_of_state name (Some S) = process_text name S
 
-abbrev pub no_variable : List ℕ → Option ℤ
-no_variable name = None
+abbrev pub threads_of : Place → Option ℕ → List ℕ
+threads_of place None = []
+threads_of place (Some n) = text_of_state (name_of place.start n) (slice_get (states place.start place.at) n)
 
-abbrev pub answer_of : Place → Command → Answered
-answer_of place (Goto k) = if nat_le k (length (events place.start)) then goes_to place k else refuses place refusal.NoPosition
-answer_of place (Step n) = goes_to place (min (place.at + n) (length (events place.start)))
-answer_of place (Print x) = says place (value_text (value (nodes_at place) no_variable x))
-answer_of place (Mem None addr len) = says place []
-answer_of place (Mem (Some node) addr len) = says place (piece_text (piece_at (nodes_at place) node addr len))
-answer_of place (Threads None) = says place []
-answer_of place (Threads (Some node)) = says place (text_of_state (name_of place.start node) (slice_get (states place.start place.at) node))
-answer_of place (Events n) = says place (last_lines place n)
-answer_of place Quit = record { text = []; at = place.at; quits = true }
+-- how many points may be held at once
+abbrev pub most_points : ℕ
+most_points = 64
+
+-- a point more, with the line that made it, unless there are as many as there may be
+abbrev pub adds : SessionState → List ℕ → Trigger → Answered
+adds state text trigger =
+    if nat_lt (length state.points) most_points
+    then record { text = codes "point " ++ (decimal (state.made + 1) ++ codes "\n"); state = with_point state text trigger; quits = false }
+    else refuses state refusal.TooMany
+
+abbrev pub deletes : SessionState → ℕ → Answered
+deletes state n =
+    if has_point state.points n
+    then record { text = codes "deleted " ++ (decimal n ++ codes "\n"); state = record state { points = without_point state.points n }; quits = false }
+    else refuses state refusal.NoPoint
+
+abbrev pub point_text : Point → List ℕ
+point_text p = decimal p.number ++ (codes " " ++ (p.text ++ codes "\n"))
+
+-- to the next position at which a point fires, or to the last
+abbrev pub continues_to : SessionState → Option ℕ → Answered
+continues_to state None = arrives state (codes "end\n") (length (events state.place.start))
+continues_to state (Some k) = arrives state (lines_at state.place.start state.points k) k
+
+-- of a breakpoint for a node that no process is, nothing is said either
+abbrev pub breaks_at : SessionState → List ℕ → Kind → Scope → Answered
+breaks_at state text kind Everywhere = adds state text (OnCall None kind)
+breaks_at state text kind (At None) = says state []
+breaks_at state text kind (At (Some n)) = adds state text (OnCall (Some n) kind)
+
+-- what a command answers, whose line without outer blanks is this
+abbrev pub answer_of : SessionState → List ℕ → Command → Answered
+answer_of state line (Goto k) = if nat_le k (length (events state.place.start)) then arrives state [] k else refuses state refusal.NoPosition
+answer_of state line (Step n) = arrives state [] (min (state.place.at + n) (length (events state.place.start)))
+answer_of state line (Print x) = says state (value_text (value (nodes_at state.place) no_variable x))
+answer_of state line (Mem node addr len) = says state (memory_text state.place node addr len)
+answer_of state line (Threads node) = says state (threads_of state.place node)
+answer_of state line (Events n) = says state (last_lines state.place n)
+answer_of state line (Watch x) = adds state line (OnChange x)
+answer_of state line (Break scope kind) = breaks_at state line kind scope
+answer_of state line (Delete n) = deletes state n
+answer_of state line ListPoints = says state (flat_map point_text state.points)
+answer_of state line Continue = continues_to state (stop_after state.place state.points)
+answer_of state line Quit = record { text = []; state = state; quits = true }
 
 -- ---- the answer of a line
 
--- a command of the grammar, unless something is wrong with it
-abbrev pub judged : Place → Command → Answered
-judged place command =
-    if nests command then refuses place refusal.Nested
-    else if names_none command then refuses place refusal.NoNode
-    else answer_of place command
+-- bytes without the blanks in front
+abbrev pub without_front : List ℕ → List ℕ
+without_front [] = []
+without_front (b ∷ bytes) = if is_blank b then without_front bytes else b ∷ bytes
 
-abbrev pub by_command : Place → Lexed → Result Command ℕ → Answered
-by_command place line (Err n) = refuses place (refusal.Syntax (column_at line n))
-by_command place line (Ok command) = judged place command
+-- bytes without the blanks at their end
+abbrev pub without_end : List ℕ → List ℕ
+without_end [] = []
+without_end (b ∷ bytes) = if list_all is_blank (b ∷ bytes) then [] else b ∷ without_end bytes
+
+-- a line without its outer blanks
+abbrev pub trimmed : List ℕ → List ℕ
+trimmed line = without_end (without_front line)
+
+-- a command of the grammar, unless something is wrong with it
+abbrev pub judged : SessionState → List ℕ → Command → Answered
+judged state line command =
+    if nests command then refuses state refusal.Nested
+    else if names_none command then refuses state refusal.NoNode
+    else if watches_variable command then refuses state refusal.NamesVariable
+    else answer_of state line command
+
+abbrev pub by_command : SessionState → List ℕ → Lexed → Result Command ℕ → Answered
+by_command state line tokens (Err n) = refuses state (refusal.Syntax (column_at tokens n))
+by_command state line tokens (Ok command) = judged state (trimmed line) command
 
 -- the names of the processes
 abbrev pub names_of : List Replaying → List (List ℕ)
 names_of start = map (λ r. r.head.name) start
 
-abbrev pub by_tokens : Place → Lexed → Answered
-by_tokens place line =
-    if is_too_deep (texts line) then refuses place refusal.TooDeep
-    else by_command place line (command_of (names_of place.start) (texts line))
+abbrev pub by_tokens : SessionState → List ℕ → Lexed → Answered
+by_tokens state line tokens =
+    if is_too_deep (texts tokens) then refuses state refusal.TooDeep
+    else by_command state line tokens (command_of (names_of state.place.start) (texts tokens))
 
-abbrev pub by_cut : Place → ℕ → Result (List Placed) ℕ → Answered
-by_cut place end (Err column) = refuses place (refusal.Syntax column)
-by_cut place end (Ok tokens) = by_tokens place (record { tokens = tokens; end = end })
+abbrev pub by_cut : SessionState → List ℕ → Result (List Placed) ℕ → Answered
+by_cut state line (Err column) = refuses state (refusal.Syntax column)
+by_cut state line (Ok tokens) = by_tokens state line (record { tokens = tokens; end = length line + 1 })
 
 -- a line of blanks, or one whose first byte behind blanks is `#`
 abbrev pub is_silent : List ℕ → Bool
@@ -94,8 +157,8 @@ is_silent [] = true
 is_silent (b ∷ bytes) = if is_blank b then is_silent bytes else b == 35
 
 -- the answer of a line, in which the tests come in this order
-abbrev pub answer : Place → List ℕ → Answered
-answer place line =
-    if nat_lt 4096 (length line) then refuses place refusal.TooLong
-    else if is_silent line then says place []
-    else by_cut place (length line + 1) (cut line)
+abbrev pub answer : SessionState → List ℕ → Answered
+answer state line =
+    if nat_lt 4096 (length line) then refuses state refusal.TooLong
+    else if is_silent line then says state []
+    else by_cut state line (cut line)

@@ -2,5 +2,10 @@ pub mod Ends
 pub mod Texts
 pub mod Lines
 pub mod Refusals
+pub mod Coding
+pub mod Points
+pub mod Firing
 pub mod Answer
 pub mod Seen
+pub mod Session
+pub mod Reading

@@ -1,12 +1,19 @@
 -- The commands that lines spell.
-use Rattle.std.specs.Prelude.{ℕ, suc, ◌+◌, Bool, false, ◌&&◌, nat_le, is_none, List, [], ◌∷◌, ◌++◌, length, drop, codes, bytes_eq, position, slice_get, Option, Some, None, option_and_then, Result, Ok, Err, if◌then◌else◌}
+use Rattle.std.specs.Prelude.{ℕ, suc, ◌+◌, Bool, false, ◌&&◌, nat_le, is_none, List, [], ◌∷◌, ◌++◌, length, drop, codes, bytes_eq, position, slice_get, Option, Some, None, option_and_then, option_map, Result, Ok, Err, if◌then◌else◌}
 use Rattle.std.specs.List.{find}
 use Rattle.watch_expr.specs.Computed.{begins_some, tree_of}
-use Rattle.watch_expr.specs.Faulty.{is_nested, lacks_node}
+use Rattle.call_table.specs.Table.{kind_named}
+use Rattle.call_table.specs.declared.kind.Kind.{Kind}
+use Rattle.watch_expr.specs.Faulty.{is_nested, lacks_node, names_variable}
 use Rattle.watch_expr.specs.Spelling.{is_word, number_of}
 use Rattle.watch_expr.specs.Tree.{Tree}
 use Rattle.friday_shell.specs.declared.command.Verb.{Verb}
 use Rattle.friday_shell.specs.declared.command.Verb.TheVariants as verb
+
+-- which nodes a breakpoint is for: all, or the one with a name, as which it is given by its number
+pub data Scope : Type 0 where
+  Everywhere : Scope
+  At : (node : Option ℕ) → Scope
 
 -- a command. A node is given by its number, or none where no process has the name
 pub data Command : Type 0 where
@@ -16,6 +23,11 @@ pub data Command : Type 0 where
   Mem : (node : Option ℕ) → (addr len : ℕ) → Command
   Threads : (node : Option ℕ) → Command
   Events : (count : ℕ) → Command
+  Watch : (tree : Tree) → Command
+  Break : (scope : Scope) → (kind : Kind) → Command
+  Delete : (number : ℕ) → Command
+  ListPoints : Command
+  Continue : Command
   Quit : Command
 
 -- ---- one token
@@ -27,10 +39,17 @@ verb_word verb.Print = codes "print"
 verb_word verb.Mem = codes "mem"
 verb_word verb.Threads = codes "threads"
 verb_word verb.Events = codes "events"
+verb_word verb.Watch = codes "watch"
+verb_word verb.Break = codes "break"
+verb_word verb.Delete = codes "delete"
+verb_word verb.List = codes "list"
+verb_word verb.Continue = codes "continue"
 verb_word verb.Quit = codes "quit"
 
 abbrev pub verbs : List Verb
-verbs = verb.Goto ∷ verb.Step ∷ verb.Print ∷ verb.Mem ∷ verb.Threads ∷ verb.Events ∷ verb.Quit ∷ []
+verbs =
+    verb.Goto ∷ verb.Step ∷ verb.Print ∷ verb.Mem ∷ verb.Threads ∷ verb.Events ∷ verb.Watch ∷ verb.Break ∷ verb.Delete ∷ verb.List
+    ∷ verb.Continue ∷ verb.Quit ∷ []
 
 unfoldable pub verb_of : List ℕ → Option Verb
 verb_of text = find (λ v. bytes_eq (verb_word v) text) verbs
@@ -46,6 +65,10 @@ number_from least most text = number_within least most (number_of text)
 -- a word that names a node, and which one, if there is one with the name
 abbrev pub node_named : List (List ℕ) → List ℕ → Option (Option ℕ)
 node_named names text = if is_word text then Some (position (λ name. bytes_eq name text) names) else None
+
+-- a star, or a word that names a node
+abbrev pub scope_named : List (List ℕ) → List ℕ → Option Scope
+scope_named names text = if bytes_eq text (codes "*") then Some Everywhere else option_map At (node_named names text)
 
 -- ---- a line of tokens, or the number of the first token, from 0, that no command could have there; that of the
 -- line's end is the number of tokens
@@ -96,6 +119,12 @@ command_by names texts verb.Mem =
     then_reads (token_as (number_from 1 256) texts 3) (λ len. ends_at texts 4 (Mem node addr len))))
 command_by names texts verb.Threads = then_reads (token_as (node_named names) texts 1) (λ node. ends_at texts 2 (Threads node))
 command_by names texts verb.Events = then_reads (count_or 1 1000 10 texts) (λ n. ends_at texts 2 (Events n))
+command_by names texts verb.Watch = then_reads (expression_from names texts 1) (λ x. Ok (Watch x))
+command_by names texts verb.Break =
+    then_reads (token_as (scope_named names) texts 1) (λ scope. then_reads (token_as kind_named texts 2) (λ kind. ends_at texts 3 (Break scope kind)))
+command_by names texts verb.Delete = then_reads (token_as (number_from 0 most_number) texts 1) (λ n. ends_at texts 2 (Delete n))
+command_by names texts verb.List = ends_at texts 1 ListPoints
+command_by names texts verb.Continue = ends_at texts 1 Continue
 command_by names texts verb.Quit = ends_at texts 1 Quit
 
 -- the command that the tokens spell, over a group whose processes have these names
@@ -107,6 +136,11 @@ command_of names texts = then_reads (token_as verb_of texts 0) (command_by names
 -- an aggregate stands in an aggregate
 abbrev pub nests : Command → Bool
 nests (Print x) = is_nested x
+nests (Watch x) = is_nested x
+nests (Break scope kind) = false
+nests (Delete n) = false
+nests ListPoints = false
+nests Continue = false
 nests (Goto k) = false
 nests (Step n) = false
 nests (Mem place addr len) = false
@@ -114,12 +148,36 @@ nests (Threads place) = false
 nests (Events n) = false
 nests Quit = false
 
+abbrev pub scopes_none : Scope → Bool
+scopes_none Everywhere = false
+scopes_none (At node) = is_none node
+
 -- it names no node where it is to name one
 abbrev pub names_none : Command → Bool
 names_none (Print x) = lacks_node false x
+names_none (Watch x) = lacks_node false x
+names_none (Break scope kind) = scopes_none scope
+names_none (Delete n) = false
+names_none ListPoints = false
+names_none Continue = false
 names_none (Mem node addr len) = is_none node
 names_none (Threads node) = is_none node
 names_none (Goto k) = false
 names_none (Step n) = false
 names_none (Events n) = false
 names_none Quit = false
+
+-- a watchpoint names a variable
+abbrev pub watches_variable : Command → Bool
+watches_variable (Watch x) = names_variable x
+watches_variable (Print x) = false
+watches_variable (Break scope kind) = false
+watches_variable (Delete n) = false
+watches_variable ListPoints = false
+watches_variable Continue = false
+watches_variable (Goto k) = false
+watches_variable (Step n) = false
+watches_variable (Mem place addr len) = false
+watches_variable (Threads place) = false
+watches_variable (Events n) = false
+watches_variable Quit = false

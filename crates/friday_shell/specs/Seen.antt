@@ -1,20 +1,32 @@
 -- What the values of the code stand for.
-use Rattle.std.specs.Prelude.{◌≡◌, ℕ, ◌+◌, Bool, true, false, List, [], length, Result, Ok, Err}
-use Rattle.group_state.specs.Place.{Place}
+use Rattle.std.specs.Prelude.{◌≡◌, ℕ, Bool, true, false, List, [], map, Result, Ok, Err}
 use Rattle.watch_expr.specs.declared.error.ExprError.{ExprError}
 use Rattle.watch_expr.specs.declared.error.ExprError.TheVariants.{Syntax, NoNode, TooDeep, Nested, NoMemory}
 use Rattle.watch_expr.specs.Computed.{cut}
 use Rattle.watch_expr.specs.Lexing.{Lexed, column_at}
 use Rattle.watch_expr.specs.Tree.{tree}
+use Rattle.group_state.specs.Place.{Place}
 use Rattle.friday_shell.specs.declared.command.Command.{Command as Spelled}
 use Rattle.friday_shell.specs.declared.command.Command.TheVariants as spelled
+use Rattle.friday_shell.specs.declared.command.Scope.{Scope as ScopeSpelled}
+use Rattle.friday_shell.specs.declared.command.Scope.TheVariants as scopes
+use Rattle.friday_shell.specs.declared.points.Point.{Point as Held}
+use Rattle.friday_shell.specs.declared.points.Trigger.{Trigger as HeldTrigger}
+use Rattle.friday_shell.specs.declared.points.Trigger.TheVariants as held
+use Rattle.friday_shell.specs.declared.state.State.{State as Stands}
 use Rattle.friday_shell.specs.declared.session.Go.{Go}
 use Rattle.friday_shell.specs.declared.session.Go.TheVariants as go
-use Rattle.friday_shell.specs.Lines.{Command, Goto, Step, Print, Mem, Threads, Events, Quit}
+use Rattle.friday_shell.specs.Lines.{At, Break, Command, Continue, Delete, Events, Everywhere, Goto, ListPoints, Mem, Print, Quit, Scope, Step, Threads, Watch}
+use Rattle.friday_shell.specs.Points.{Point, SessionState, Trigger}
+use Rattle.friday_shell.specs.Points.{Break as OnCall, Watch as OnChange}
 use Rattle.friday_shell.specs.declared.line.Line.{Line}
 use Rattle.friday_shell.specs.declared.line.Line.TheVariants as line
 use Rattle.friday_shell.specs.declared.refusal.Refusal.TheVariants as refusal
-use Rattle.friday_shell.specs.Answer.{Answered, answer, answer_of, by_cut, judged, names_of, refuses, says}
+use Rattle.friday_shell.specs.Answer.{Answered, answer, answer_of, by_cut, judged, names_of, refuses, says, trimmed}
+
+abbrev pub scope : ScopeSpelled → Scope
+scope scopes.Everywhere = Everywhere
+scope (scopes.At n) = At n
 
 abbrev pub command : Spelled → Command
 command (spelled.Goto position) = Goto position
@@ -23,7 +35,41 @@ command (spelled.Print x) = Print (tree x)
 command (spelled.Mem node addr len) = Mem node addr len
 command (spelled.Threads node) = Threads node
 command (spelled.Events count) = Events count
+command (spelled.Watch x) = Watch (tree x)
+command (spelled.Break place kind) = Break (scope place) kind
+command (spelled.Delete n) = Delete n
+command spelled.List = ListPoints
+command spelled.Continue = Continue
 command spelled.Quit = Quit
+
+-- ---- points
+
+abbrev pub trigger : HeldTrigger → Trigger
+trigger (held.Watch x) = OnChange (tree x)
+trigger (held.Break of_node kind) = OnCall of_node kind
+
+abbrev pub point : Held → Point
+point p = record { number = p.number; text = p.text; trigger = trigger p.trigger }
+
+-- what a session keeps, whose group stands there and which holds these points, of so many that were made
+abbrev pub state_with : Place → List Held → ℕ → SessionState
+state_with place points made = record { place = place; points = map {A = Held} point points; made = made }
+
+-- where a session stands
+abbrev pub state_of : Stands → SessionState
+state_of s = state_with s.group s.points.items s.made
+
+-- a command was done: this was its answer, and the session stands where the answer says
+pub record Performs (answered : Answered) (new : SessionState) (text : List ℕ) : Type 0 where
+  pub text_is : text ≡ answered.text
+  pub state : new ≡ answered.state
+
+-- a walk over points came to where `continue` comes, and said this
+pub record Walks (old : Place) (points : List Held) (new : Place) (text : List ℕ) : Type 0 where
+  pub text_is : (made : ℕ) → text ≡ (answer_of (state_with old points made) [] Continue).text
+  pub state : (made : ℕ) → state_with new points made ≡ (answer_of (state_with old points made) [] Continue).state
+
+-- ---- lines
 
 -- what was read of tokens: what there is to read, or the column of the token that is none such; or want of memory
 abbrev pub ReadsAs : {A B : Type 0} → (A → B) → Lexed → Result B ℕ → Result A ExprError → Type 0
@@ -39,35 +85,30 @@ is_quit go.On = false
 is_quit go.Quit = true
 
 -- a session answered this
-pub record Answers (old : Place) (answered : Answered) (new : Place) (text : List ℕ) (goes : Go) : Type 0 where
+pub record Answers (answered : Answered) (new : SessionState) (text : List ℕ) (goes : Go) : Type 0 where
   pub text_is : text ≡ answered.text
-  pub place : new ≡ record { start = old.start; at = answered.at }
+  pub state : new ≡ answered.state
   pub quits : is_quit goes ≡ answered.quits
 
--- a command was done: this was its answer, and the group stands where the answer says
-pub record Performs (old : Place) (answered : Answered) (new : Place) (text : List ℕ) : Type 0 where
-  pub text_is : text ≡ answered.text
-  pub place : new ≡ record { start = old.start; at = answered.at }
-
--- what a line of this kind answers
-abbrev pub answer_to : Place → Line → Answered
-answer_to place line.Silent = says place []
-answer_to place (line.Refused why) = refuses place why
-answer_to place (line.Does c) = answer_of place (command c)
+-- what a line of this kind answers, which without outer blanks is this
+abbrev pub answer_to : SessionState → List ℕ → Line → Answered
+answer_to state bytes line.Silent = says state []
+answer_to state bytes (line.Refused why) = refuses state why
+answer_to state bytes (line.Does c) = answer_of state bytes (command c)
 
 -- what a line is, over a group whose processes have these names
 abbrev pub IsLine : List (List ℕ) → List ℕ → Line → Type 0
-IsLine names bytes line = (place : Place) → names_of place.start ≡ names → answer place bytes ≡ answer_to place line
+IsLine names bytes line = (state : SessionState) → names_of state.place.start ≡ names → answer state bytes ≡ answer_to state (trimmed bytes) line
 
 -- the tokens of a line answer this, over a group whose processes have these names
-abbrev pub TokensAnswer : List (List ℕ) → List ℕ → (Place → Answered) → Type 0
-TokensAnswer names bytes says = (place : Place) → names_of place.start ≡ names → by_cut place (length bytes + 1) (cut bytes) ≡ says place
+abbrev pub TokensAnswer : List (List ℕ) → List ℕ → (SessionState → Answered) → Type 0
+TokensAnswer names bytes says = (state : SessionState) → names_of state.place.start ≡ names → by_cut state bytes (cut bytes) ≡ says state
 
 -- the command that a line's tokens spell, or why they spell none; or want of memory
 abbrev pub Spells : List (List ℕ) → List ℕ → Result Spelled ExprError → Type 0
-Spells names bytes (Ok c) = TokensAnswer names bytes (λ place. judged place (command c))
-Spells names bytes (Err (Syntax column)) = TokensAnswer names bytes (λ place. refuses place (refusal.Syntax column))
-Spells names bytes (Err TooDeep) = TokensAnswer names bytes (λ place. refuses place refusal.TooDeep)
+Spells names bytes (Ok c) = TokensAnswer names bytes (λ state. judged state (trimmed bytes) (command c))
+Spells names bytes (Err (Syntax column)) = TokensAnswer names bytes (λ state. refuses state (refusal.Syntax column))
+Spells names bytes (Err TooDeep) = TokensAnswer names bytes (λ state. refuses state refusal.TooDeep)
 Spells names bytes (Err NoMemory) = Unit {0}
 Spells names bytes (Err NoNode) = ⊥
 Spells names bytes (Err Nested) = ⊥

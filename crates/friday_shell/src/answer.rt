@@ -1,87 +1,131 @@
 // What a command answers.
-ghost use Rattle.std.specs.Prelude.{◌≡◌, ◌<◌, ◌≤◌, Some, None, IfOk, length};
-ghost use Rattle.guest_memory.specs.Memory.{Memory};
-ghost use Rattle.friday_shell.specs.Answer.{answer_of, goes_to, piece_text, says, value_text};
-ghost use Rattle.friday_shell.specs.Lines.{Events, Goto, Mem, Print, Step, Threads};
-ghost use Rattle.friday_shell.specs.Seen.{Performs, command as command_meant};
-ghost use Rattle.watch_expr.specs.Tree.{tree};
+ghost use Rattle.std.specs.Prelude.{◌≡◌, ◌+◌, IfOk, Ok, [], length, min};
+ghost use Rattle.friday_shell.specs.Answer.{answer_of};
+ghost use Rattle.friday_shell.specs.Firing.{place_at};
+ghost use Rattle.friday_shell.specs.Lines.{Continue, Events, Goto, Step};
+ghost use Rattle.friday_shell.specs.Seen.{Performs, command as command_meant, state_of};
+ghost use Rattle.friday_shell.specs.Texts.{last_lines, position_line};
+ghost use Rattle.group_state.specs.Place.{events};
 
 use crate::command::Command;
-use crate::event::{push_event_line, push_position, push_process};
+use crate::event::{push_event_line, push_position};
+use crate::points::{Trigger, add, add_breakpoint, delete, list};
 use crate::refusal::{Refusal, refused};
+use crate::shown::{print, show_memory, show_threads};
+use crate::state::State;
+use crate::walk::walk;
 use fri_text::Text;
 use group_state::Group;
-use lib_calls::memory_part;
 use std::alloc::{AllocError, Global};
-use watch_expr::{Expr, Scope, eval};
 
-// No variable has a value.
-struct NoVariables;
-
-impl Scope for NoVariables {
-    ghost use Rattle.friday_shell.specs.Answer.{no_variable};
-
-    ghost variables = { λ _. no_variable };
-
-    fn value(&self, _: &[u8]) -> Option<i64> {
-        None
-    }
-}
-
-/// What a command answers, and the group where the session then stands.
+/// What a command answers, whose line without outer blanks is this, and where the session then stands.
 pub(crate) fn perform<'m, 'a>(
     alloc: Global,
-    group: Group<'m, 'a>,
-    command: &Command,
-) -> Result<(Group<'m, 'a>, Text), AllocError>
-    ensures { IfOk result (λ done. Performs group.entry (answer_of group.entry (command_meant command.now)) done.0 done.1) }
+    state: State<'m, 'a>,
+    line: &[u8],
+    command: Command,
+) -> Result<(State<'m, 'a>, Text), AllocError>
+    ensures answer { IfOk result (λ done. Performs (answer_of (state_of state.entry) line.now (command_meant command)) (state_of done.0) done.1) }
+    ensures start { IfOk result (λ done. done.0.group.start ≡ state.entry.group.start) }
 {
     match command {
-        Command::Goto(position) => go_to(alloc, group, *position),
-        Command::Step(count) => step(alloc, group, *count),
-        Command::Print(expression) => print(alloc, group, expression),
-        Command::Mem(node, addr, len) => show_memory(alloc, group, *node, *addr, *len),
-        Command::Threads(node) => show_threads(alloc, group, *node),
-        Command::Events(count) => show_events(alloc, group, *count),
-        Command::Quit => Ok((group, Text::new(alloc))),
+        Command::Goto(position) => go_to(alloc, state, position),
+        Command::Step(count) => step(alloc, state, count),
+        Command::Print(expression) => told(print(alloc, &state.group, &expression), state),
+        Command::Mem(node, addr, len) => {
+            told(show_memory(alloc, &state.group, node, addr, len), state)
+        }
+        Command::Threads(node) => told(show_threads(alloc, &state.group, node), state),
+        Command::Events(count) => show_events(alloc, state, count),
+        Command::Watch(expression) => add(alloc, state, line, Trigger::Watch(expression)),
+        Command::Break(scope, kind) => add_breakpoint(alloc, state, line, scope, kind),
+        Command::Delete(number) => delete(alloc, state, number),
+        Command::List => told(list(alloc, &state.points), state),
+        Command::Continue => go_on(alloc, state),
+        Command::Quit => Ok((state, Text::new(alloc))),
     }
 }
 
-// The position of a group.
+// A text, which leaves the session as it was.
+fn told<'m, 'a>(
+    text: Result<Text, AllocError>,
+    state: State<'m, 'a>,
+) -> Result<(State<'m, 'a>, Text), AllocError>
+    ensures state { IfOk result (λ done. done.0 ≡ state.entry) }
+    ensures text { IfOk result (λ done. text ≡ Ok done.1) }
+{
+    let text = text?;
+    Ok((state, text))
+}
+
+// The position at which a session stands.
 fn show_position<'m, 'a>(
     alloc: Global,
-    group: Group<'m, 'a>,
-) -> Result<(Group<'m, 'a>, Text), AllocError>
-    ensures { IfOk result (λ done. Performs group.entry (goes_to group.entry group.entry.at) done.0 done.1) }
+    state: State<'m, 'a>,
+) -> Result<(State<'m, 'a>, Text), AllocError>
+    ensures state { IfOk result (λ done. done.0 ≡ state.entry) }
+    ensures text { IfOk result (λ done. done.1 ≡ position_line state.entry.group) }
 {
     let mut text = Text::new(alloc);
-    push_position(&mut text, &group)?;
-    Ok((group, text))
+    push_position(&mut text, &state.group)?;
+    Ok((state, text))
 }
 
 // Goes to a position.
 fn go_to<'m, 'a>(
     alloc: Global,
-    group: Group<'m, 'a>,
+    state: State<'m, 'a>,
     position: u64,
-) -> Result<(Group<'m, 'a>, Text), AllocError>
-    ensures { IfOk result (λ done. Performs group.entry (answer_of group.entry (Goto position)) done.0 done.1) }
+) -> Result<(State<'m, 'a>, Text), AllocError>
+    ensures answer { IfOk result (λ done. Performs (answer_of (state_of state.entry) [] (Goto position)) (state_of done.0) done.1) }
+    ensures start { IfOk result (λ done. done.0.group.start ≡ state.entry.group.start) }
 {
+    let State {
+        group,
+        points,
+        made,
+    } = state;
     let (group, there) = group.goto(alloc, position)?;
+    let state = State {
+        group,
+        points,
+        made,
+    };
     if there {
-        show_position(alloc, group)
-    } else {
-        Ok((group, refused(alloc, Refusal::NoPosition)?))
+        return show_position(alloc, state);
     }
+    let text = refused(alloc, Refusal::NoPosition)?;
+    Ok((state, text))
 }
 
 // Goes so many positions forward, and at most to the end.
 fn step<'m, 'a>(
     alloc: Global,
-    group: Group<'m, 'a>,
+    state: State<'m, 'a>,
     count: u64,
-) -> Result<(Group<'m, 'a>, Text), AllocError>
-    ensures { IfOk result (λ done. Performs group.entry (answer_of group.entry (Step count)) done.0 done.1) }
+) -> Result<(State<'m, 'a>, Text), AllocError>
+    ensures answer { IfOk result (λ done. Performs (answer_of (state_of state.entry) [] (Step count)) (state_of done.0) done.1) }
+    ensures start { IfOk result (λ done. done.0.group.start ≡ state.entry.group.start) }
+{
+    let State {
+        group,
+        points,
+        made,
+    } = state;
+    let group = advance(group, count)?;
+    show_position(
+        alloc,
+        State {
+            group,
+            points,
+            made,
+        },
+    )
+}
+
+// The group so many positions further, and at most at the end.
+fn advance<'m, 'a>(group: Group<'m, 'a>, count: u64) -> Result<Group<'m, 'a>, AllocError>
+    ensures { IfOk result (λ there. there ≡ place_at group.entry.start (min (group.entry.at + count) (length (events group.entry.start)))) }
 {
     let mut group = group;
     let mut left = count;
@@ -89,82 +133,67 @@ fn step<'m, 'a>(
         let (next, event) = group.forward()?;
         group = next;
         if event.is_none() {
-            return show_position(alloc, group);
+            return Ok(group);
         }
         left -= 1;
     }
-    show_position(alloc, group)
+    Ok(group)
 }
 
-// The value of an expression.
-fn print<'m, 'a>(
-    alloc: Global,
-    group: Group<'m, 'a>,
-    expression: &Expr,
-) -> Result<(Group<'m, 'a>, Text), AllocError>
-    ensures { IfOk result (λ done. Performs group.entry (answer_of group.entry (Print (tree expression.now))) done.0 done.1) }
+// Goes on to where a point fires.
+fn go_on<'m, 'a>(alloc: Global, state: State<'m, 'a>) -> Result<(State<'m, 'a>, Text), AllocError>
+    ensures answer { IfOk result (λ done. Performs (answer_of (state_of state.entry) [] Continue) (state_of done.0) done.1) }
+    ensures start { IfOk result (λ done. done.0.group.start ≡ state.entry.group.start) }
 {
-    let mut text = Text::new(alloc);
-    match eval(expression, &group, &NoVariables) {
-        Some(value) => text.push_i64(value)?,
-        None => text.push_str("undef")?,
-    }
-    text.push_str("\n")?;
-    Ok((group, text))
+    let State {
+        group,
+        points,
+        made,
+    } = state;
+    let (group, text) = walk(alloc, group, &points)?;
+    Ok((
+        State {
+            group,
+            points,
+            made,
+        },
+        text,
+    ))
 }
 
-// A range of a node's memory.
-fn show_memory<'m, 'a>(
+// The last events up to the position.
+fn show_events<'m, 'a>(
     alloc: Global,
-    group: Group<'m, 'a>,
-    node: Option<u32>,
-    addr: u64,
-    len: u64,
-) -> Result<(Group<'m, 'a>, Text), AllocError>
-    ensures { IfOk result (λ done. Performs group.entry (answer_of group.entry (Mem node addr len)) done.0 done.1) }
+    state: State<'m, 'a>,
+    count: u64,
+) -> Result<(State<'m, 'a>, Text), AllocError>
+    ensures answer { IfOk result (λ done. Performs (answer_of (state_of state.entry) [] (Events count)) (state_of done.0) done.1) }
+    ensures start { IfOk result (λ done. done.0.group.start ≡ state.entry.group.start) }
 {
-    let mut text = Text::new(alloc);
-    let Some(node) = node else {
-        return Ok((group, text));
-    };
-    let found = match group.process(node) {
-        Some(process) => memory_part(alloc, process.memory(), addr, len)?,
-        None => None,
-    };
-    match found {
-        Some(bytes) => text.push_hex(alloc, bytes.as_slice())?,
-        None => text.push_str("undef")?,
-    }
-    text.push_str("\n")?;
-    Ok((group, text))
-}
-
-// How the process of a node stands.
-fn show_threads<'m, 'a>(
-    alloc: Global,
-    group: Group<'m, 'a>,
-    node: Option<u32>,
-) -> Result<(Group<'m, 'a>, Text), AllocError>
-    ensures { IfOk result (λ done. Performs group.entry (answer_of group.entry (Threads node)) done.0 done.1) }
-{
-    let mut text = Text::new(alloc);
-    let Some(node) = node else {
-        return Ok((group, text));
-    };
-    let Some(process) = group.process(node) else {
-        return Ok((group, text));
-    };
-    push_process(&mut text, &group, node, process)?;
-    Ok((group, text))
+    let State {
+        group,
+        points,
+        made,
+    } = state;
+    let (group, text) = last_events(alloc, group, count)?;
+    Ok((
+        State {
+            group,
+            points,
+            made,
+        },
+        text,
+    ))
 }
 
 // The last events up to the position, which are made once more.
-fn show_events<'m, 'a>(
+fn last_events<'m, 'a>(
     alloc: Global,
     group: Group<'m, 'a>,
     count: u64,
 ) -> Result<(Group<'m, 'a>, Text), AllocError>
-    ensures { IfOk result (λ done. Performs group.entry (answer_of group.entry (Events count)) done.0 done.1) }
+    ensures group { IfOk result (λ done. done.0 ≡ group.entry) }
+    ensures text { IfOk result (λ done. done.1 ≡ last_lines group.entry count) }
 {
     let at = group.position();
     let (mut group, _) = group.goto(alloc, at.saturating_sub(count))?;

@@ -1,5 +1,6 @@
 // The commands of the shell.
 
+use lib_calls::Kind;
 use watch_expr::Expr;
 
 /// The word that a command begins with.
@@ -11,7 +12,19 @@ pub(crate) enum Verb {
     Mem,
     Threads,
     Events,
+    Watch,
+    Break,
+    Delete,
+    List,
+    Continue,
     Quit,
+}
+
+/// Which nodes a breakpoint is for: all, or the one with a name, as which it is given by its number.
+#[derive(Clone, Copy, Debug, PartialEq, Eq)]
+pub(crate) enum Scope {
+    Everywhere,
+    At(Option<u32>),
 }
 
 /// A command. A node is given by its number, or none where no process has the name.
@@ -23,5 +36,10 @@ pub(crate) enum Command {
     Mem(Option<u32>, u64, u64),
     Threads(Option<u32>),
     Events(u64),
+    Watch(Expr),
+    Break(Scope, Kind),
+    Delete(u64),
+    List,
+    Continue,
     Quit,
 }

@@ -5,10 +5,16 @@ mod answer;
 mod command;
 mod end;
 mod event;
+mod firing;
 mod line;
+mod points;
 mod read;
 mod refusal;
 mod session;
+mod shown;
+mod state;
+mod verbs;
+mod walk;
 
 pub use end::push_end;
 pub use session::{Go, Session};

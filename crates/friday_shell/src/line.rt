@@ -1,16 +1,16 @@
 // What a line of a session is.
-ghost use Rattle.std.specs.Prelude.{◌≡◌, ◌<◌, ◌≤◌, ◌^◌, IfOk, Ok, length, not, true};
+ghost use Rattle.std.specs.Prelude.{◌≡◌, ◌<◌, ◌≤◌, ◌^◌, ℕ, IfOk, List, Ok, length, not, true};
 ghost use Rattle.std.specs.List.{find};
-ghost use Rattle.friday_shell.specs.Answer.{is_silent, judged};
-ghost use Rattle.friday_shell.specs.Lines.{names_none, nests};
+ghost use Rattle.friday_shell.specs.Answer.{is_silent, judged, trimmed, without_end, without_front};
+ghost use Rattle.friday_shell.specs.Lines.{names_none, nests, scopes_none, watches_variable};
+ghost use Rattle.friday_shell.specs.Points.{SessionState};
 ghost use Rattle.friday_shell.specs.declared.line.Line.TheVariants.{Silent};
-ghost use Rattle.friday_shell.specs.Seen.{IsLine, Spells, answer_to, command};
-ghost use Rattle.group_state.specs.Place.{Place};
+ghost use Rattle.friday_shell.specs.Seen.{IsLine, Spells, answer_to, command, scope};
 ghost use Rattle.watch_expr.specs.Lexing.{is_blank};
 
-use crate::command::Command;
-use crate::read::read_command;
+use crate::command::{Command, Scope};
 use crate::refusal::Refusal;
+use crate::verbs::read_command;
 use fri_bytes::Bytes;
 use std::alloc::{AllocError, Global};
 use watch_expr::{ExprError, exact_cut, find_faults, lex};
@@ -88,6 +88,7 @@ fn nests(spelled: &Command) -> bool
 {
     match spelled {
         Command::Print(expression) => find_faults(expression).nested,
+        Command::Watch(expression) => find_faults(expression).nested,
         _ => false,
     }
 }
@@ -98,21 +99,71 @@ fn names_none(spelled: &Command) -> bool
 {
     match spelled {
         Command::Print(expression) => find_faults(expression).no_node,
+        Command::Watch(expression) => find_faults(expression).no_node,
         Command::Mem(node, ..) => node.is_none(),
         Command::Threads(node) => node.is_none(),
+        Command::Break(scope, _) => scopes_none(*scope),
+        _ => false,
+    }
+}
+
+fn scopes_none(spelled: Scope) -> bool
+    ensures { result ≡ scopes_none (scope spelled) }
+{
+    match spelled {
+        Scope::Everywhere => false,
+        Scope::At(node) => node.is_none(),
+    }
+}
+
+// Whether the command is a watchpoint whose expression names a variable.
+fn watches_variable(spelled: &Command) -> bool
+    ensures { result ≡ watches_variable (command spelled.now) }
+{
+    match spelled {
+        Command::Watch(expression) => find_faults(expression).variable,
         _ => false,
     }
 }
 
 // A command of the grammar, unless something is wrong with it.
 fn judge(spelled: Command) -> Line
-    ensures { (place : Place) → judged place (command spelled) ≡ answer_to place result }
+    ensures { (state : SessionState) (line : List ℕ) → judged state line (command spelled) ≡ answer_to state line result }
 {
     if nests(&spelled) {
         Line::Refused(Refusal::Nested)
     } else if names_none(&spelled) {
         Line::Refused(Refusal::NoNode)
+    } else if watches_variable(&spelled) {
+        Line::Refused(Refusal::NamesVariable)
     } else {
         Line::Does(spelled)
+    }
+}
+
+/// A line without its outer blanks.
+pub(crate) fn trimmed(line: &[u8]) -> &[u8]
+    ensures { result.now ≡ trimmed line.now }
+{
+    without_end(without_front(line))
+}
+
+// Bytes without the blanks in front.
+fn without_front(bytes: &[u8]) -> &[u8]
+    ensures { result.now ≡ without_front bytes.now }
+{
+    match bytes.iter().position(|b| !is_blank(*b)) {
+        Some(first) => &bytes[first..],
+        None => &[],
+    }
+}
+
+// Bytes without the blanks at their end.
+fn without_end(bytes: &[u8]) -> &[u8]
+    ensures { result.now ≡ without_end bytes.now }
+{
+    match bytes.iter().rposition(|b| !is_blank(*b)) {
+        Some(last) => &bytes[..=last],
+        None => &[],
     }
 }

@@ -1,126 +1,26 @@
-// Which command the tokens of a line spell.
-ghost use Rattle.std.specs.Prelude.{◌≡◌, ◌<◌, ◌^◌, IfSome, bytes_eq, length, position};
+// What single tokens of a command are, and the expression behind its verb.
+ghost use Rattle.std.specs.Prelude.{◌≡◌, ◌<◌, ◌^◌, IfSome, bytes_eq, length, option_map, position};
 ghost use Rattle.std.specs.List.{list_all};
-ghost use Rattle.friday_shell.specs.Lines.{command_by, command_of, count_or, ends_at, expression_from, node_named, number_from, token_as, verb_of};
-ghost use Rattle.friday_shell.specs.Seen.{ReadsAs, command};
+ghost use Rattle.call_table.specs.Table.{kind_named};
+ghost use Rattle.friday_shell.specs.Lines.{count_or, ends_at, expression_from, node_named, number_from, scope_named, token_as};
+ghost use Rattle.friday_shell.specs.Seen.{ReadsAs, command, scope};
 ghost use Rattle.watch_expr.specs.Lexing.{texts};
 ghost use Rattle.watch_expr.specs.Spelling.{is_word, is_word_byte};
 ghost use Rattle.watch_expr.specs.Tree.{tree};
 
-use crate::command::{Command, Verb};
+use crate::command::{Command, Scope};
 use fri_bytes::Bytes;
+use lib_calls::Kind;
 use std::alloc::Global;
 use watch_expr::{Expr, ExprError, Tokens, exact_reading, parse};
 
-// The greatest number that a token is.
-const MOST_NUMBER: u64 = 9_223_372_036_854_775_807;
-
-const VERBS: [Verb; 7] = [
-    Verb::Goto,
-    Verb::Step,
-    Verb::Print,
-    Verb::Mem,
-    Verb::Threads,
-    Verb::Events,
-    Verb::Quit,
-];
-
-impl Verb {
-    ghost use Rattle.friday_shell.specs.Lines.{verb_word};
-
-    fn word(self) -> &'static str
-        ensures { result.now ≡ verb_word self }
-    {
-        match self {
-            Verb::Goto => "goto",
-            Verb::Step => "step",
-            Verb::Print => "print",
-            Verb::Mem => "mem",
-            Verb::Threads => "threads",
-            Verb::Events => "events",
-            Verb::Quit => "quit",
-        }
-    }
-}
-
-/// The command that the tokens spell, over a group whose processes have these names, or the column of the first token
-/// that no command could have there.
-pub(crate) fn read_command(
-    alloc: Global,
+/// The number that token n is, from the least to the most.
+pub(crate) fn read_number(
     tokens: &Tokens<'_>,
-    names: &[Bytes],
-) -> Result<Command, ExprError>
-    requires { length names.now < 2 ^ 32 }
-    ensures { ReadsAs command tokens.now (command_of names.now (texts tokens.now)) result }
-{
-    let verb = read_verb(tokens)?;
-    read_behind(alloc, verb, tokens, names)
-}
-
-// The command of this verb.
-fn read_behind(
-    alloc: Global,
-    verb: Verb,
-    tokens: &Tokens<'_>,
-    names: &[Bytes],
-) -> Result<Command, ExprError>
-    requires { length names.now < 2 ^ 32 }
-    ensures { ReadsAs command tokens.now (command_by names.now (texts tokens.now) verb) result }
-{
-    match verb {
-        Verb::Goto => {
-            let position = read_number(tokens, 1, 0, MOST_NUMBER)?;
-            ending(tokens, 2, Command::Goto(position))
-        }
-        Verb::Step => {
-            let count = read_count(tokens, 0, MOST_NUMBER, 1)?;
-            ending(tokens, 2, Command::Step(count))
-        }
-        Verb::Print => Ok(Command::Print(read_expression(alloc, tokens, names)?)),
-        Verb::Mem => {
-            let node = read_node(tokens, 1, names)?;
-            let addr = read_number(tokens, 2, 0, MOST_NUMBER)?;
-            let len = read_number(tokens, 3, 1, 256)?;
-            ending(tokens, 4, Command::Mem(node, addr, len))
-        }
-        Verb::Threads => {
-            let node = read_node(tokens, 1, names)?;
-            ending(tokens, 2, Command::Threads(node))
-        }
-        Verb::Events => {
-            let count = read_count(tokens, 1, 1000, 10)?;
-            ending(tokens, 2, Command::Events(count))
-        }
-        Verb::Quit => ending(tokens, 1, Command::Quit),
-    }
-}
-
-// The verb in front.
-fn read_verb(tokens: &Tokens<'_>) -> Result<Verb, ExprError>
-    ensures { ReadsAs (λ v. v) tokens.now (token_as verb_of (texts tokens.now) 0) result }
-{
-    match tokens.text(0) {
-        Some(text) => match named_verb(text) {
-            Some(verb) => Ok(verb),
-            None => Err(ExprError::Syntax(tokens.column(0))),
-        },
-        None => Err(ExprError::Syntax(tokens.column(0))),
-    }
-}
-
-// The verb with this word.
-#[tactic(auto, unfolding(crate::specs::Lines::verb_of))]
-fn named_verb(text: &[u8]) -> Option<Verb>
-    ensures { result ≡ verb_of text.now }
-{
-    VERBS
-        .iter()
-        .copied()
-        .find(|verb| verb.word().as_bytes() == text)
-}
-
-// The number that token n is, from the least to the most.
-fn read_number(tokens: &Tokens<'_>, n: usize, least: u64, most: u64) -> Result<u64, ExprError>
+    n: usize,
+    least: u64,
+    most: u64,
+) -> Result<u64, ExprError>
     ensures { ReadsAs (λ v. v) tokens.now (token_as (number_from least most) (texts tokens.now) n) result }
 {
     match tokens.number(n) {
@@ -129,8 +29,13 @@ fn read_number(tokens: &Tokens<'_>, n: usize, least: u64, most: u64) -> Result<u
     }
 }
 
-// The count behind the verb, where there is one.
-fn read_count(tokens: &Tokens<'_>, least: u64, most: u64, absent: u64) -> Result<u64, ExprError>
+/// The count behind the verb, where there is one.
+pub(crate) fn read_count(
+    tokens: &Tokens<'_>,
+    least: u64,
+    most: u64,
+    absent: u64,
+) -> Result<u64, ExprError>
     ensures { ReadsAs (λ v. v) tokens.now (count_or least most absent (texts tokens.now)) result }
 {
     if tokens.count() <= 1 {
@@ -140,8 +45,12 @@ fn read_count(tokens: &Tokens<'_>, least: u64, most: u64, absent: u64) -> Result
     }
 }
 
-// The node that token n names, if it is a word.
-fn read_node(tokens: &Tokens<'_>, n: usize, names: &[Bytes]) -> Result<Option<u32>, ExprError>
+/// The node that token n names, if it is a word.
+pub(crate) fn read_node(
+    tokens: &Tokens<'_>,
+    n: usize,
+    names: &[Bytes],
+) -> Result<Option<u32>, ExprError>
     requires { length names.now < 2 ^ 32 }
     ensures { ReadsAs (λ v. v) tokens.now (token_as (node_named names.now) (texts tokens.now) n) result }
 {
@@ -149,6 +58,36 @@ fn read_node(tokens: &Tokens<'_>, n: usize, names: &[Bytes]) -> Result<Option<u3
         Some(text) if is_word(text) => Ok(place_of(text, names)),
         _ => Err(ExprError::Syntax(tokens.column(n))),
     }
+}
+
+/// Which nodes token n is for: a star is for all, and a word for the one that it names.
+pub(crate) fn read_scope(tokens: &Tokens<'_>, n: usize, names: &[Bytes]) -> Result<Scope, ExprError>
+    requires { length names.now < 2 ^ 32 }
+    ensures { ReadsAs scope tokens.now (token_as (scope_named names.now) (texts tokens.now) n) result }
+{
+    let place = tokens.text(n).and_then(|text| scope_named(text, names));
+    place.ok_or(ExprError::Syntax(tokens.column(n)))
+}
+
+fn scope_named(text: &[u8], names: &[Bytes]) -> Option<Scope>
+    requires { length names.now < 2 ^ 32 }
+    ensures { option_map scope result ≡ scope_named names.now text.now }
+{
+    if text == b"*".as_slice() {
+        return Some(Scope::Everywhere);
+    }
+    if is_word(text) {
+        return Some(Scope::At(place_of(text, names)));
+    }
+    None
+}
+
+/// The kind of call that token n names.
+pub(crate) fn read_kind(tokens: &Tokens<'_>, n: usize) -> Result<Kind, ExprError>
+    ensures { ReadsAs (λ v. v) tokens.now (token_as kind_named (texts tokens.now) n) result }
+{
+    let kind = tokens.text(n).and_then(Kind::from_name);
+    kind.ok_or(ExprError::Syntax(tokens.column(n)))
 }
 
 // Whether the token is a word.
@@ -186,8 +125,12 @@ fn place_among(text: &[u8], names: &[Bytes]) -> Option<usize>
     names.iter().position(|name| name.as_slice() == text)
 }
 
-// The expression that all tokens behind the verb are.
-fn read_expression(alloc: Global, tokens: &Tokens<'_>, names: &[Bytes]) -> Result<Expr, ExprError>
+/// The expression that all tokens behind the verb are.
+pub(crate) fn read_expression(
+    alloc: Global,
+    tokens: &Tokens<'_>,
+    names: &[Bytes],
+) -> Result<Expr, ExprError>
     requires { length names.now < 2 ^ 32 }
     ensures { ReadsAs tree tokens.now (expression_from names.now (texts tokens.now) 1) result }
 {
@@ -199,8 +142,8 @@ fn read_expression(alloc: Global, tokens: &Tokens<'_>, names: &[Bytes]) -> Resul
     Ok(expression)
 }
 
-// The command, where there are no more than so many tokens.
-fn ending(tokens: &Tokens<'_>, n: usize, spelled: Command) -> Result<Command, ExprError>
+/// The command, where there are no more than so many tokens.
+pub(crate) fn ending(tokens: &Tokens<'_>, n: usize, spelled: Command) -> Result<Command, ExprError>
     ensures { ReadsAs command tokens.now (ends_at (texts tokens.now) n (command spelled)) result }
 {
     if tokens.count() <= n {

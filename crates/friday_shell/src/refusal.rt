@@ -12,8 +12,11 @@ pub(crate) enum Refusal {
     NoNode,
     TooDeep,
     Nested,
+    NamesVariable,
+    NoPoint,
     NoPosition,
     TooLong,
+    TooMany,
 }
 
 /// The line that says so.
@@ -29,8 +32,11 @@ pub(crate) fn refused(alloc: Global, refusal: Refusal) -> Result<Text, AllocErro
         Refusal::NoNode => text.push_str("? 2 no node")?,
         Refusal::TooDeep => text.push_str("? 3 too deep")?,
         Refusal::Nested => text.push_str("? 4 nested")?,
+        Refusal::NamesVariable => text.push_str("? 5 variable in a watch")?,
+        Refusal::NoPoint => text.push_str("? 6 no such point")?,
         Refusal::NoPosition => text.push_str("? 7 no such position")?,
         Refusal::TooLong => text.push_str("? 8 line too long")?,
+        Refusal::TooMany => text.push_str("? 9 too many")?,
     }
     text.push_str("\n")?;
     Ok(text)

@@ -1,14 +1,16 @@
 // A session of the debugger.
-ghost use Rattle.std.specs.Prelude.{◌≡◌, ◌≤◌, IfOk, codes, length, true};
+ghost use Rattle.std.specs.Prelude.{◌≡◌, ℕ, ◌≤◌, IfOk, List, codes, length, true};
 ghost use Rattle.std.specs.Result.{IsOk};
 ghost use Rattle.friday_shell.specs.Answer.{answer, answer_of, is_silent, names_of};
+ghost use Rattle.friday_shell.specs.Points.{SessionState};
 ghost use Rattle.friday_shell.specs.Seen.{Answers, command, is_quit};
-ghost use Rattle.group_state.specs.Place.{Place};
+ghost use Rattle.friday_shell.specs.Session.{opening};
 
 use crate::answer::perform;
 use crate::command::Command;
-use crate::line::{Line, read_line};
+use crate::line::{Line, read_line, trimmed};
 use crate::refusal::refused;
+use crate::state::State;
 use fri_bytes::Bytes;
 use fri_text::Text;
 use group_state::Group;
@@ -22,10 +24,11 @@ pub enum Go {
     Quit,
 }
 
-/// A debugger over the logs of a group. Contracts see the replays at position 0, and the position.
+/// A debugger over the logs of a group. Contracts see where its group stands, the points that it holds, and how many
+/// were made.
 #[derive(Drop)]
 pub struct Session<'m, 'a> {
-    group: Group<'m, 'a>,
+    state: State<'m, 'a>,
     names: Vec<Bytes>,
 }
 
@@ -33,63 +36,72 @@ impl<'m, 'a> Model for Session<'m, 'a> {
     ghost use Rattle.std.specs.Prelude.{◌≡◌};
     ghost use Rattle.std.specs.Coded.{codes};
     ghost use Rattle.guest_process.specs.Coding.{crew_code, trees_code};
-    ghost use Rattle.group_state.specs.Place.{Place};
+    ghost use Rattle.friday_shell.specs.Coding.{tree_code};
+    ghost use Rattle.friday_shell.specs.Points.{SessionState};
+
+    ghost Value = { SessionState };
+
+    ghost coded = { Prim.hlevel (codes, trees_code, crew_code, tree_code) };
+
     ghost use Rattle.friday_shell.specs.Answer.{names_of};
+    ghost use Rattle.friday_shell.specs.Seen.{state_of};
 
-    ghost Value = { Place };
+    ghost view = { λ s. state_of s.state };
 
-    ghost coded = { Prim.hlevel (codes, trees_code, crew_code) };
-
-    ghost view = { λ s. s.group };
-
-    ghost invariant = { λ s. s.names.items ≡ names_of s.group.start };
+    ghost invariant = { λ s. s.names.items ≡ names_of s.state.group.start };
 }
 
 impl<'m, 'a> Session<'m, 'a> {
     /// A session over a group at position 0, and the line with which it begins.
     pub fn begin(alloc: Global, group: Group<'m, 'a>) -> Result<(Session<'m, 'a>, Text), AllocError>
         requires { group.at ≡ 0 }
-        ensures session { IfOk result (λ begun. begun.0 ≡ group.entry) }
+        ensures session { IfOk result (λ begun. begun.0 ≡ opening group.entry.start) }
         ensures text { IfOk result (λ begun. begun.1 ≡ codes "at 0\n") }
     {
         let names = names_of(alloc, &group)?;
         let mut text = Text::new(alloc);
         text.push_str("at 0\n")?;
-        Ok((Session { group, names }, text))
+        let state = State {
+            group,
+            points: Vec::new(alloc),
+            made: 0,
+        };
+        Ok((Session { state, names }, text))
     }
 
     /// The answer of a line, without its line feed, and whether the session goes on. A line that is refused leaves the
     /// session as it was. A silent line takes no memory.
     pub fn line(self, alloc: Global, line: &[u8]) -> Result<(Session<'m, 'a>, Text, Go), AllocError>
-        ensures answer { IfOk result (λ said. Answers self.entry (answer self.entry line.now) said.0 said.1 said.2) }
+        ensures answer { IfOk result (λ said. Answers (answer self.entry line.now) said.0 said.1 said.2) }
         ensures silent { length line.now ≤ 4096 → is_silent line.now ≡ true → IsOk result }
     {
-        let Session { group, names } = self;
-        let _ = group.nodes();
+        let Session { state, names } = self;
+        let _ = state.group.nodes();
         match read_line(alloc, line, &names)? {
-            Line::Silent => Ok((Session { group, names }, Text::new(alloc), Go::On)),
+            Line::Silent => Ok((Session { state, names }, Text::new(alloc), Go::On)),
             Line::Refused(why) => {
                 let text = refused(alloc, why)?;
-                Ok((Session { group, names }, text, Go::On))
+                Ok((Session { state, names }, text, Go::On))
             }
             Line::Does(command) => {
-                let (group, text) = perform(alloc, group, &command)?;
-                Ok((Session { group, names }, text, go_after(&command)))
+                let goes = go_after(&command);
+                let (state, text) = perform(alloc, state, trimmed(line), command)?;
+                Ok((Session { state, names }, text, goes))
             }
         }
     }
 
     /// The group, which stands at the session's position.
     pub fn group(&self) -> &Group<'m, 'a>
-        ensures { result.now ≡ self.now }
+        ensures { result.now ≡ self.now.place }
     {
-        &self.group
+        &self.state.group
     }
 }
 
 // Whether a session goes on after a command.
 fn go_after(spelled: &Command) -> Go
-    ensures { (place : Place) → is_quit result ≡ (answer_of place (command spelled.now)).quits }
+    ensures { (state : SessionState) (line : List ℕ) → is_quit result ≡ (answer_of state line (command spelled.now)).quits }
 {
     match spelled {
         Command::Quit => Go::Quit,

@@ -1,6 +1,6 @@
 use Rattle.std.proofs.Common.{◌≡◌, ◌+◌, ◌≤◌, length}
 use Rattle.group_state.specs.Place.{events}
-use Rattle.friday_shell.proofs.answer.step.Given as goal
+use Rattle.friday_shell.proofs.answer.advance.Given as goal
 
 abbrev pub invariant-steps : goal.invariant-steps
 invariant-steps l = record {

@@ -5,7 +5,7 @@ use Rattle.group_state.specs.Moves.{event_of}
 use Rattle.group_state.specs.Place.{Place, events}
 use Rattle.friday_shell.specs.Texts.{event_line, last_lines}
 use Rattle.friday_shell.proofs.Pieces.{events_more}
-use Rattle.friday_shell.proofs.answer.show_events.Goals as goal
+use Rattle.friday_shell.proofs.answer.last_events.Goals as goal
 
 pub events-preserved : goal.events-preserved
 events-preserved c =

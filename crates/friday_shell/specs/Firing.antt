@@ -1,0 +1,90 @@
+-- Where points fire, and where `continue` comes to.
+use Rattle.std.specs.Prelude.{ℕ, zero, suc, ◌+◌, ◌-◌, ◌==◌, ◌&&◌, Bool, true, false, not, List, [], ◌++◌, length, filter, codes, decimal, Option, Some, None, ℤ, if◌then◌else◌}
+use Rattle.std.specs.Fmt.{signed_decimal}
+use Rattle.std.specs.List.{flat_map, list_any}
+use Rattle.call_table.specs.Table.{row}
+use Rattle.call_table.specs.declared.kind.Kind.{Kind}
+use Rattle.group_order.specs.Order.{Event}
+use Rattle.lib_calls.specs.declared.entry.Entry.{Entry}
+use Rattle.proc_replay.specs.Replaying.{Replaying}
+use Rattle.group_state.specs.Moves.{last_of}
+use Rattle.group_state.specs.Place.{Place, events}
+use Rattle.group_state.specs.Seen.{nodes_at}
+use Rattle.watch_expr.specs.Tree.{Tree}
+use Rattle.watch_expr.specs.Value.{equal, value}
+use Rattle.friday_shell.specs.Points.{Break, Point, Trigger, Watch}
+
+abbrev pub no_variable : List ℕ → Option ℤ
+no_variable name = None
+
+-- the group at position k
+abbrev pub place_at : List Replaying → ℕ → Place
+place_at start k = record { start = start; at = k }
+
+-- ---- watchpoints
+
+-- the value of an expression at position k
+abbrev pub value_at : List Replaying → Tree → ℕ → Option ℤ
+value_at start x k = value (nodes_at (place_at start k)) no_variable x
+
+-- `undef` is equal to itself alone
+abbrev pub is_same : Option ℤ → Option ℤ → Bool
+is_same None None = true
+is_same None (Some b) = false
+is_same (Some a) None = false
+is_same (Some a) (Some b) = equal a b
+
+-- the value at position k, from 1, is another one than at the position before
+abbrev pub fires : List Replaying → Tree → ℕ → Bool
+fires start x zero = false
+fires start x (suc k) = not (is_same (value_at start x k) (value_at start x (suc k)))
+
+-- ---- breakpoints
+
+abbrev pub is_of_node : Option ℕ → ℕ → Bool
+is_of_node None n = true
+is_of_node (Some wanted) n = wanted == n
+
+abbrev pub is_of : Option ℕ → Kind → Option (Event Entry) → Bool
+is_of of_node kind None = false
+is_of of_node kind (Some e) = is_of_node of_node e.node && e.entry.call.kind == (row kind).number
+
+-- the event that led to position k is of this kind and node
+abbrev pub breaks : List Replaying → Option ℕ → Kind → ℕ → Bool
+breaks start of_node kind k = is_of of_node kind (last_of (place_at start k))
+
+-- ---- what a point says where it fires
+
+abbrev pub is_due : List Replaying → ℕ → Trigger → Bool
+is_due start k (Watch x) = fires start x k
+is_due start k (Break of_node kind) = breaks start of_node kind k
+
+abbrev pub value_word : Option ℤ → List ℕ
+value_word None = codes "undef"
+value_word (Some z) = signed_decimal z
+
+-- the value at position k, and that at the position before
+abbrev pub change_text : List Replaying → Tree → ℕ → List ℕ
+change_text start x zero = []
+change_text start x (suc k) = value_word (value_at start x k) ++ (codes " -> " ++ value_word (value_at start x (suc k)))
+
+abbrev pub line_of : List Replaying → ℕ → ℕ → Trigger → List ℕ
+line_of start k number (Watch x) = codes "watch " ++ (decimal number ++ (codes ": " ++ (change_text start x k ++ codes "\n")))
+line_of start k number (Break of_node kind) = codes "break " ++ (decimal number ++ codes "\n")
+
+-- the lines of all points that fire at position k, in order of their numbers
+abbrev pub lines_at : List Replaying → List Point → ℕ → List ℕ
+lines_at start points k = flat_map (λ p. line_of start k p.number p.trigger) (filter (λ p. is_due start k p.trigger) points)
+
+-- a point fires at position k
+abbrev pub is_stop : List Replaying → List Point → ℕ → Bool
+is_stop start points k = list_any (λ p. is_due start k p.trigger) points
+
+-- the first of so many positions behind this one at which a point fires
+abbrev pub next_stop : List Replaying → List Point → ℕ → ℕ → Option ℕ
+next_stop start points at zero = None
+next_stop start points at (suc left) = if is_stop start points (suc at) then Some (suc at) else next_stop start points (suc at) left
+
+-- the first position behind this one at which a point fires
+abbrev pub stop_after : Place → List Point → Option ℕ
+stop_after place points = next_stop place.start points place.at (length (events place.start) - place.at)

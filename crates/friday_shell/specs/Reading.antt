@@ -1,0 +1,34 @@
+-- What a point reads at a position, and what it says there by what it read at the position before.
+use Rattle.std.specs.Prelude.{ℕ, Bool, not, List, [], ◌++◌, map, codes, decimal, Option, None, ℤ, if◌then◌else◌}
+use Rattle.lib_calls.specs.declared.entry.Entry.{Entry}
+use Rattle.group_order.specs.Order.{Event}
+use Rattle.proc_replay.specs.Replaying.{Replaying}
+use Rattle.friday_shell.specs.Firing.{is_of, is_same, value_at, value_word}
+use Rattle.friday_shell.specs.Points.{Break, Point, Trigger, Watch}
+
+-- the value of a watchpoint's expression at position k; a breakpoint reads nothing
+abbrev pub reading : List Replaying → ℕ → Trigger → Option ℤ
+reading start k (Watch x) = value_at start x k
+reading start k (Break of_node kind) = None
+
+-- what each point reads at position k
+abbrev pub readings : List Replaying → ℕ → List Point → List (Option ℤ)
+readings start k points = map (λ p. reading start k p.trigger) points
+
+-- it fires, where it read this before and now reads that, and this event was between
+abbrev pub is_due_by : Option ℤ → Option ℤ → Option (Event Entry) → Trigger → Bool
+is_due_by before now event (Watch x) = not (is_same before now)
+is_due_by before now event (Break of_node kind) = is_of of_node kind event
+
+-- from one value to another
+abbrev pub change_by : Option ℤ → Option ℤ → List ℕ
+change_by before now = value_word before ++ (codes " -> " ++ value_word now)
+
+-- the line that it then says
+abbrev pub line_by : Option ℤ → Option ℤ → ℕ → Trigger → List ℕ
+line_by before now number (Watch x) = codes "watch " ++ (decimal number ++ (codes ": " ++ (change_by before now ++ codes "\n")))
+line_by before now number (Break of_node kind) = codes "break " ++ (decimal number ++ codes "\n")
+
+-- the line of a point that fires, and nothing of another
+abbrev pub says_by : Option ℤ → Option ℤ → Option (Event Entry) → Point → List ℕ
+says_by before now event p = if is_due_by before now event p.trigger then line_by before now p.number p.trigger else []

@@ -1,0 +1,34 @@
+-- A session from its begin to its end.
+use Rattle.std.specs.Prelude.{ℕ, Bool, false, ◌||◌, List, [], ◌∷◌, ◌++◌, codes, if◌then◌else◌}
+use Rattle.std.specs.List.{list_any}
+use Rattle.fri_text.specs.Line.{is_line_feed, lines_of}
+use Rattle.proc_replay.specs.Replaying.{Replaying}
+use Rattle.friday_shell.specs.Answer.{answer}
+use Rattle.friday_shell.specs.Points.{SessionState}
+
+-- a session that begins over these replays
+abbrev pub opening : List Replaying → SessionState
+opening start = record { place = record { start = start; at = 0 }; points = []; made = 0 }
+
+-- the answers of lines, one after the other, up to that of a line that ends the session
+abbrev pub answers : SessionState → List (List ℕ) → List ℕ
+answers state [] = []
+answers state (line ∷ lines) = (answer state line).text ++ (if (answer state line).quits then [] else answers (answer state line).state lines)
+
+-- one of the lines ends the session
+abbrev pub ends : SessionState → List (List ℕ) → Bool
+ends state [] = false
+ends state (line ∷ lines) = (answer state line).quits || ends (answer state line).state lines
+
+-- the text of a session in which these lines are typed
+abbrev pub session_text : List Replaying → List (List ℕ) → List ℕ
+session_text start lines = codes "at 0\n" ++ answers (opening start) lines
+
+-- the bytes up to the last line feed, and with it
+abbrev pub whole_part : List ℕ → List ℕ
+whole_part [] = []
+whole_part (b ∷ bytes) = if list_any is_line_feed (b ∷ bytes) then b ∷ whole_part bytes else []
+
+-- the lines that end with a line feed
+abbrev pub whole_lines : List ℕ → List (List ℕ)
+whole_lines bytes = lines_of (whole_part bytes)

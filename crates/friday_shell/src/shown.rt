@@ -1,0 +1,77 @@
+// What a command shows of the group, which stays as it is.
+ghost use Rattle.std.specs.Prelude.{◌≡◌, IfOk};
+ghost use Rattle.friday_shell.specs.Answer.{memory_text, threads_of, value_text};
+ghost use Rattle.friday_shell.specs.Firing.{no_variable};
+ghost use Rattle.group_state.specs.Seen.{nodes_at};
+ghost use Rattle.watch_expr.specs.Tree.{tree};
+ghost use Rattle.watch_expr.specs.Value.{value};
+
+use crate::event::push_process;
+use crate::firing::NoVariables;
+use fri_text::Text;
+use group_state::Group;
+use lib_calls::memory_part;
+use std::alloc::{AllocError, Global};
+use watch_expr::{Expr, eval};
+
+/// The value of an expression.
+pub(crate) fn print(
+    alloc: Global,
+    group: &Group<'_, '_>,
+    expression: &Expr,
+) -> Result<Text, AllocError>
+    ensures { IfOk result (λ text. text ≡ value_text (value (nodes_at group.now) no_variable (tree expression.now))) }
+{
+    let mut text = Text::new(alloc);
+    match eval(expression, group, &NoVariables) {
+        Some(value) => text.push_i64(value)?,
+        None => text.push_str("undef")?,
+    }
+    text.push_str("\n")?;
+    Ok(text)
+}
+
+/// A range of a node's memory.
+pub(crate) fn show_memory(
+    alloc: Global,
+    group: &Group<'_, '_>,
+    node: Option<u32>,
+    addr: u64,
+    len: u64,
+) -> Result<Text, AllocError>
+    ensures { IfOk result (λ text. text ≡ memory_text group.now node addr len) }
+{
+    let mut text = Text::new(alloc);
+    let Some(node) = node else {
+        return Ok(text);
+    };
+    let found = match group.process(node) {
+        Some(process) => memory_part(alloc, process.memory(), addr, len)?,
+        None => None,
+    };
+    match found {
+        Some(bytes) => text.push_hex(alloc, bytes.as_slice())?,
+        None => text.push_str("undef")?,
+    }
+    text.push_str("\n")?;
+    Ok(text)
+}
+
+/// How the process of a node stands.
+pub(crate) fn show_threads(
+    alloc: Global,
+    group: &Group<'_, '_>,
+    node: Option<u32>,
+) -> Result<Text, AllocError>
+    ensures { IfOk result (λ text. text ≡ threads_of group.now node) }
+{
+    let mut text = Text::new(alloc);
+    let Some(node) = node else {
+        return Ok(text);
+    };
+    let Some(process) = group.process(node) else {
+        return Ok(text);
+    };
+    push_process(&mut text, group, node, process)?;
+    Ok(text)
+}
