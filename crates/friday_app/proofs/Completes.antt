@@ -1,6 +1,7 @@
 -- Valid words and files have an outcome that is work, and where no fault comes the work is done.
-use Rattle.std.proofs.Common.{◌≡◌, ◌⊎◌, ◌↔◌, ◌++◌, ℕ, suc, List, [], ◌∷◌, length, map, Bool, Option, Some, None, Result, Ok, refl, sym, ap, subst, append_assoc, append-nil, inl, inr, ◌∙◌}
-use Rattle.std.specs.Prelude.{AllPairs}
+use Rattle.std.proofs.Common.{◌≡◌, ◌⊎◌, ◌↔◌, ◌≤◌, ◌&&◌, ◌++◌, ℕ, suc, List, [], ◌∷◌, length, map, not, Bool, true, false, Option, Some, None, option_map, Result, Ok, refl, sym, ap, subst, append_assoc, append-nil, inl, inr, ◌∙◌}
+use Rattle.std.specs.Prelude.{AllPairs, nat_lt}
+use Rattle.std.proofs.lemmas.Bool.{le-ltb}
 use Rattle.std.proofs.lemmas.List.{map-append}
 use Rattle.fri_outside.specs.Laws.{KeepsFiles}
 use Rattle.fri_outside.specs.Outside.{Store, found_within}
@@ -14,14 +15,17 @@ use Rattle.call_log.specs.Log.{head_at}
 use Rattle.friday_app.specs.declared.status.Status.{Status}
 use Rattle.friday_app.specs.declared.status.Status.TheVariants as ends
 use Rattle.call_log.specs.Limits.{most_log}
-use Rattle.friday_app.specs.Limits.{most_module, most_schedule}
-use Rattle.friday_app.specs.Command.{Command, Pair, Record, Replay}
+use Rattle.fri_text.specs.Line.{lines_of}
+use Rattle.friday_shell.specs.Session.{ends as ends_session, opening, session_text}
+use Rattle.friday_app.specs.Limits.{most_input, most_module, most_schedule}
+use Rattle.friday_app.specs.Command.{Command, Debug, Pair, Record, Replay}
+use Rattle.friday_app.specs.Debug.{early_lines, opened_outcome, session_outcome, spoken}
 use Rattle.guest_process.specs.State.{State}
 use Rattle.proc_replay.specs.Replaying.{Replaying}
-use Rattle.friday_app.specs.Outcome.{Work, Stop, and_then, file_of, given}
+use Rattle.friday_app.specs.Outcome.{Outcome, Work, Stop, and_then, file_of, given}
 use Rattle.friday_app.specs.Expected.{expected, group_outcome, modules_of, record_outcome, replay_outcome, schedule_in, schedule_or}
 use Rattle.friday_app.specs.Inputs.{module_of, begun_of, begun_or, log_of, spelled_or, unless_refused, valid_or, head_or}
-use Rattle.friday_app.specs.Pairs.{Loaded, all_loaded, all_placed, begun_replay, replays_of}
+use Rattle.friday_app.specs.Pairs.{Loaded, all_loaded, all_placed, begun_replay, opened, replays_of}
 use Rattle.friday_app.specs.Record.{by_room, recorded_work}
 use Rattle.friday_app.specs.Report.{replay_work}
 use Rattle.schedule_text.specs.Laws.{GivesSchedules}
@@ -32,7 +36,8 @@ use Rattle.group_record.specs.Answer.{begun, begun_from, begun_then, group_of}
 use Rattle.group_record.specs.Run.{run}
 use Rattle.friday_app.specs.Call.{IsAnswer}
 use Rattle.friday_app.specs.Run.{Outside, Run, NoFault, Works}
-use Rattle.friday_app.specs.Valid.{HasWork, IsValid, AreModuleFiles, ArePairs, Begins, GoTogether, IsGroup, IsLogFile, IsModuleFile, IsPair, IsRecorded, IsScheduleFile, Stands, heads_in, modules_in}
+use Rattle.friday_app.specs.Valid.{HasWork, IsValid, AreModuleFiles, ArePairs, Begins, GoTogether, IsGroup, IsLogFile, IsModuleFile, IsPair, IsRecorded, IsScheduleFile, IsSession, Stands, heads_in, modules_in}
+use Rattle.friday_app.proofs.Debugging.{spoken_if}
 use Rattle.friday_app.proofs.Faults.{no_fault}
 use Rattle.friday_app.proofs.Loading.{pair_stands, read_as}
 use Rattle.friday_app.proofs.Together.{no_clash}
@@ -44,6 +49,20 @@ pub record Laws : Type 0 where
   pub faults : ExactFault
   pub logs : ExactLogs
   pub schedules : GivesSchedules
+
+-- an input is not too large where it is within the limit, or a line ends the session early
+not_large : (size limit : ℕ) (early : Bool) → (size ≤ limit) ⊎ (early ≡ true) → nat_lt limit size && not early ≡ false
+not_large size limit early (inl within) = ap (λ (b : Bool). b && not early) (le-ltb limit size within)
+not_large size limit early (inr ended) = ap (λ (b : Bool). nat_lt limit size && not b) ended ∙ no_more (nat_lt limit size) where
+  no_more : (b : Bool) → b && false ≡ false
+  no_more true = refl
+  no_more false = refl
+
+within_input : (start : List Replaying) (input : List ℕ) → (length input ≤ most_input) ⊎ (ends_session (opening start) (early_lines input) ≡ true)
+    → session_outcome start input ≡ Ok (spoken (session_text start (lines_of input)))
+within_input start input within =
+    ap (λ (large : Bool). spoken_if large (session_text start (early_lines input)) (session_text start (lines_of input)))
+    (not_large (length input) most_input (ends_session (opening start) (early_lines input)) within)
 
 begins_at : (name : List ℕ) (m : Module) (who count : ℕ) (h : Begins m who count) → begun_of name m who count ≡ Ok h.0
 begins_at name m who count h = ap (begun_or name) h.1
@@ -142,17 +161,30 @@ module _ (laws : Laws) where
       ap (λ (r : Result Replaying Stop). and_then r (λ r. and_then (replays_of (held_in store pairs files.1)) (λ rs. Ok (r ∷ rs)))) (replay_begins store pair files.0)
       ∙ ap (λ (o : Result (List Replaying) Stop). and_then o (λ rs. Ok (replay_in store pair files.0 ∷ rs))) (replays_begin store pairs files.1)
 
+  -- the replays of a group begin
+  group_opens : (pairs : List Pair) (store : Store) (h : IsGroup store pairs) → opened store pairs ≡ Ok (all_placed [] (replays_in store pairs h.files))
+  group_opens pairs store h =
+      ap (λ (r : Result (List Loaded) Stop). and_then r (λ ls. and_then (replays_of ls) (λ rs. Ok (all_placed [] rs)))) (pairs_stand store [] pairs h.files h.together)
+      ∙ ap (λ (r : Result (List Replaying) Stop). and_then r (λ rs. Ok (all_placed [] rs))) (replays_begin store pairs h.files)
+
   replaying_works : (images : Bool) (pairs : List Pair) (store : Store) → IsGroup store pairs → (work : Work) × (replay_outcome images pairs store ≡ Ok work)
   replaying_works images pairs store h =
-      let rs = replays_in store pairs h.files in (
-        replay_work images (all_placed [] rs),
-        ap (λ (r : Result (List Loaded) Stop). and_then (and_then r (λ ls. and_then (replays_of ls) (λ rs. Ok (all_placed [] rs)))) (λ start. Ok (replay_work images start))) (pairs_stand store [] pairs h.files h.together)
-            ∙ ap (λ (r : Result (List Replaying) Stop). and_then (and_then r (λ rs. Ok (all_placed [] rs))) (λ start. Ok (replay_work images start))) (replays_begin store pairs h.files),
+      (replay_work images (all_placed [] (replays_in store pairs h.files)), ap (λ (r : Result (List Replaying) Stop). and_then r (λ start. Ok (replay_work images start))) (group_opens pairs store h))
+
+  debugging_works : (pairs : List Pair) (store : Store) (left : Option (List ℕ)) → IsSession store pairs left → (work : Work) × (expected (Some (Debug pairs)) (Some store) left ≡ Some (Ok work))
+  debugging_works pairs store left h =
+      let start = all_placed [] (replays_in store pairs h.group.files) in
+      let opens = group_opens pairs store h.group in (
+        spoken (session_text start (lines_of h.input)),
+        ap (λ (r : Result (List Replaying) Stop). opened_outcome r left) opens
+            ∙ ap (option_map (session_outcome start)) h.told
+            ∙ ap (λ (o : Outcome). Some o) (within_input start h.input (h.within start opens)),
       )
 
   pub valid_works : (command : Command) (store : Store) (left : Option (List ℕ)) → IsValid (Some command) store left → (work : Work) × (expected (Some command) (Some store) left ≡ Some (Ok work))
   valid_works (Record images schedule_name) store left h = let w = recording_works images schedule_name store h in (w.0, ap Some w.1)
   valid_works (Replay images pairs) store left h = let w = replaying_works images pairs store h in (w.0, ap Some w.1)
+  valid_works (Debug pairs) store left h = debugging_works pairs store left h
 
 settled : (answer wanted : Status) → (IsAnswer answer → answer ≡ wanted) → (answer ≡ ends.ReadFault → ⊥) → (answer ≡ ends.WriteFault → ⊥) → (answer ≡ wanted) ⊎ (answer ≡ ends.NoMemory)
 settled ends.ReadFault wanted answers reads writes = absurd (reads refl)

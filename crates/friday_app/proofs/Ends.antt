@@ -1,5 +1,5 @@
 -- What a command's result comes to.
-use Rattle.std.proofs.Common.{◌≡◌, ◌++◌, ℕ, List, [], Option, Some, None, Result, Ok, Err, IfSome, IfNone, refl, sym, ap, subst, ◌∙◌, inl, inr, append-nil, IfErr, arith, cond, string_bytes}
+use Rattle.std.proofs.Common.{◌≡◌, ◌≢◌, ◌⊎◌, ◌++◌, ℕ, List, [], Option, Some, None, Result, Ok, Err, IfSome, IfNone, refl, sym, ap, subst, ◌∙◌, inl, inr, append-nil, IfErr, arith, cond, string_bytes}
 use Rattle.std.specs.Io.KnownBytes.{append_known}
 use Rattle.std.proofs.lemmas.Grind.{common_steps}
 use Rattle.std.proofs.lemmas.Option.{same_Some}
@@ -11,12 +11,16 @@ use Rattle.friday_app.specs.declared.refusal.Answer.{Answer}
 use Rattle.friday_app.specs.declared.refusal.Answer.TheVariants as answered
 use Rattle.friday_app.specs.declared.refusal.Refusal.{Refusal}
 use Rattle.friday_app.specs.declared.refusal.Refusal.TheVariants as refusal
-use Rattle.friday_app.specs.Command.{Command, Record, Replay}
+use Rattle.friday_app.specs.declared.command.Batch.{Batch}
+use Rattle.friday_app.specs.declared.command.Batch.TheVariants as batch
+use Rattle.friday_app.specs.Command.{Command, Debug, Pair, Record, Replay}
 use Rattle.friday_app.specs.Outcome.{Outcome, refused_line, usage_line, status_of, text_of, writes_of}
 use Rattle.friday_app.specs.Expected.{expected, written_by}
 use Rattle.friday_app.specs.Agreement.{KeepsMoment, KeepsRecording, RecordingsAgree}
 use Rattle.friday_app.specs.Run.{Outside, Run}
-use Rattle.friday_app.specs.Call.{Prints, PrintsAbsent, PrintsLast, PrintsRefusal, KeepsInput, Untouched, DivergesOnlyIn, Leaves, IsAnswer, IsEnd, Tells, Makes, Keeps, Raises, FaultStatus, answer_of, Finishes}
+use Rattle.friday_app.specs.Call.{Prints, PrintsAbsent, PrintsLast, PrintsRefusal, DivergesOnlyIn, Leaves, IsAnswer, IsEnd, Tells, Makes, Keeps, Raises, FaultStatus, answer_of, Finishes}
+use Rattle.friday_app.specs.Conversation.{KeepsInput, Untouched}
+use Rattle.friday_app.specs.Seen.{batch_of}
 use Rattle.friday_app.proofs.Made.{same_changes, all_changes, same_others}
 use Rattle.friday_app.proofs.Recordings.{moment_before}
 
@@ -25,7 +29,7 @@ nothing_more None = refl
 nothing_more (Some xs) = ap Some (sym (append-nil xs))
 
 -- nothing was printed, at a status that is no answer
-prints_none : (answer : Status) (text : List ℕ) (before after : Option (List ℕ)) → (IsAnswer answer → ⊥) → after ≡ before → Prints answer text before after
+pub prints_none : (answer : Status) (text : List ℕ) (before after : Option (List ℕ)) → (IsAnswer answer → ⊥) → after ≡ before → Prints answer text before after
 prints_none answer text before after none e = record { whole = λ is. absurd (none is); part = (0, e ∙ nothing_more before) }
 
 text_ends : (ended : Result Answer Refusal) (answer : Status) (outcome : Outcome) (before after : Option (List ℕ))
@@ -50,7 +54,7 @@ text_ends (Err refusal.NoMemory) answer outcome before after is prints silent fa
     prints_none answer _ before after (λ h. subst IsAnswer fault h) silent
 
 -- the files, where none of them was made and none was to be made
-none_left : (answer : Status) (outcome : Outcome) (before after : Option Store) → writes_of outcome ≡ [] → after ≡ before → Leaves answer (writes_of outcome) before after
+pub none_left : (answer : Status) (outcome : Outcome) (before after : Option Store) → writes_of outcome ≡ [] → after ≡ before → Leaves answer (writes_of outcome) before after
 none_left answer outcome before after none same = record {
   whole = λ _. same ∙ ap (λ w. with_files w before) (sym none);
   part = same_changes before after (writes_of outcome) same;
@@ -67,19 +71,19 @@ files_end (Err refusal.ReadFault) answer files before after makes fault = record
 files_end (Err refusal.WriteFault) answer files before after makes fault = record { whole = λ h. absurd (subst IsAnswer fault h); part = makes }
 files_end (Err refusal.NoMemory) answer files before after makes fault = record { whole = λ h. absurd (subst IsAnswer fault h); part = makes }
 
-refusal_ends : (ended : Result Answer Refusal) (answer : Status) (before after : Option (List ℕ)) (old new : Counts)
+refusal_ends : {Other : List ℕ → Type 0} (ended : Result Answer Refusal) (answer : Status) (before after : Option (List ℕ)) (old new : Counts)
     → IfSome (answer_of ended) (λ a. IsAnswer answer → answer ≡ a.0)
     → IfSome (answer_of ended) (λ a. Prints answer a.1 before after)
     → FaultStatus ended answer
     → IfErr ended (Raises old new)
     → answer ≡ ends.Refused
-    → PrintsRefusal before after (Rose old.misses new.misses)
+    → PrintsRefusal before after (λ file. Rose old.misses new.misses ⊎ Other file)
 refusal_ends (Ok (answered.Done text)) answer before after old new answers prints fault cause is =
     let e : ends.Refused ≡ ends.Done = sym is ∙ answers (subst IsAnswer (sym is) tt) in cc
 refusal_ends (Ok (answered.Diverged text)) answer before after old new answers prints fault cause is =
     let e : ends.Refused ≡ ends.Diverged = sym is ∙ answers (subst IsAnswer (sym is) tt) in cc
 refusal_ends (Err (refusal.Refused file why)) answer before after old new answers prints fault cause is =
-    ([], (string_bytes file), (why, prints.whole (subst IsAnswer (sym is) tt), cause))
+    ([], (string_bytes file), (why, prints.whole (subst IsAnswer (sym is) tt), λ large. inl (cause large)))
 refusal_ends (Err (refusal.Absent file)) answer before after old new answers prints fault cause is =
     let e : ends.Refused ≡ ends.Absent = sym is ∙ answers (subst IsAnswer (sym is) tt) in cc
 refusal_ends (Err refusal.ReadFault) answer before after old new answers prints fault cause is = let e = sym is ∙ fault in cc
@@ -140,11 +144,33 @@ last_ends (Err refusal.ReadFault) files printed printed_after before after makes
 last_ends (Err refusal.WriteFault) files printed printed_after before after makes silent = inl silent
 last_ends (Err refusal.NoMemory) files printed printed_after before after makes silent = inl silent
 
--- an input that is as it was
-pub kept_input : {untouched : Type 0} (command : Option Command) → untouched → KeepsInput command untouched
-kept_input None same = same
-kept_input (Some (Record images schedule_name)) same = same
-kept_input (Some (Replay images pairs)) same = same
+-- a failed read was one of a file
+reads_end : (ended : Result Answer Refusal) (answer : Status) (old new : Counts)
+    → IfSome (answer_of ended) (λ _. answer ≢ ends.ReadFault)
+    → FaultStatus ended answer
+    → IfErr ended (Raises old new)
+    → answer ≡ ends.ReadFault
+    → Rose old.reads new.reads
+reads_end (Ok (answered.Done text)) answer old new other fault cause is = absurd (other is)
+reads_end (Ok (answered.Diverged text)) answer old new other fault cause is = absurd (other is)
+reads_end (Err (refusal.Refused file why)) answer old new other fault cause is = absurd (other is)
+reads_end (Err (refusal.Absent file)) answer old new other fault cause is = absurd (other is)
+reads_end (Err refusal.ReadFault) answer old new other fault cause is = cause
+reads_end (Err refusal.WriteFault) answer old new other fault cause is = let e = sym is ∙ fault in cc
+reads_end (Err refusal.NoMemory) answer old new other fault cause is = let e = sym is ∙ fault in cc
+
+-- ---- an input that is as it was
+
+-- no session was held
+pub unread_input : (pairs : List Pair) (told : Option Store) (left after : Option (List ℕ)) (answer : Status) (faults faults_after : ℕ) → (answer ≡ ends.Done → ⊥) → Untouched left after faults faults_after
+    → KeepsInput (Some (Debug pairs)) told left after answer (Untouched left after faults faults_after)
+unread_input pairs told left after answer faults faults_after going untouched = inl (untouched, going)
+
+-- a batch does not read it
+pub batch_input : (b : Batch) (told : Option Store) (left after : Option (List ℕ)) (answer : Status) (faults faults_after : ℕ) → Untouched left after faults faults_after
+    → KeepsInput (Some (batch_of b)) told left after answer (Untouched left after faults faults_after)
+batch_input (batch.Record images schedule_file) told left after answer faults faults_after untouched = untouched
+batch_input (batch.Replay images pairs) told left after answer faults faults_after untouched = untouched
 
 -- a run of a command whose result was finished
 pub run_ends : (command : Command) (ended : Result Answer Refusal) (answer : Status) (old new : Outside)
@@ -157,9 +183,9 @@ pub run_ends : (command : Command) (ended : Result Answer Refusal) (answer : Sta
     → (IsEnd ended → WhenTold old.told (λ before. WhenTold new.told (KeepsRecording (Some command) before)))
     → WhenTold old.told (λ before. KeepsMoment (Some command) before new.told)
     → Finishes ended answer old.taken new.taken old.out_faults new.out_faults
-    → Untouched old.left new.left old.input_faults new.input_faults
+    → KeepsInput (Some command) old.told old.left new.left answer (Untouched old.left new.left old.input_faults new.input_faults)
     → Run (Some command) old new answer
-run_ends command ended answer old new diverges tells makes others keeps cause recorded moment f untouched = record {
+run_ends command ended answer old new diverges tells makes others keeps cause recorded moment f input = record {
   usage = grind (arith, common_steps);
   diverged = grind (arith, common_steps);
   status = λ o e h. status_ends ended answer o (tells o e) f.status f.fault h;
@@ -169,7 +195,8 @@ run_ends command ended answer old new diverges tells makes others keeps cause re
   recorded = λ is. recorded (is_end ended answer f.fault is);
   moment = moment;
   idle = grind (arith, common_steps);
-  input = kept_input (Some command) untouched;
+  input = input;
+  answered = λ is quiet. absurd (quiet (reads_end ended answer old.counts new.counts f.read_fault f.fault cause is));
   prints_last = λ o e. last_ends ended (writes_of o) _ _ _ _ (makes o e) f.silent;
   absent_text = absent_ends ended answer _ _ f.status f.text f.fault;
   absent = grind (arith, common_steps);
@@ -198,6 +225,7 @@ run_none answer old new same usage prints reads writes untouched = record {
   moment = λ before told. tt;
   idle = λ _. same;
   input = untouched;
+  answered = λ is. absurd (reads is);
   prints_last = λ o e. inr (same ∙ ap (λ w. with_files w old.told) (ap writes_of (same_Some _ _ e)));
   absent_text = λ is. let e : ends.Absent ≡ ends.Usage = sym is ∙ usage (subst IsAnswer (sym is) tt) in absurd (usage_not_absent e);
   absent = λ is. let e : ends.Absent ≡ ends.Usage = sym is ∙ usage (subst IsAnswer (sym is) tt) in cc;
@@ -232,7 +260,8 @@ run_stopped agree command old new same silent untouched = record {
   recorded = λ h. absurd h;
   moment = untouched_moment agree command old.told new.told same;
   idle = λ h. absurd h;
-  input = kept_input command untouched;
+  input = untouched_input command old.told old.left new.left untouched;
+  answered = λ is. absurd cc;
   prints_last = λ o e. inl silent;
   absent_text = λ is. absurd cc;
   absent = λ is. absurd cc;
@@ -245,3 +274,14 @@ run_stopped agree command old new same silent untouched = record {
   untouched_moment agree None told after same before is = tt
   untouched_moment agree (Some (Record images schedule_name)) told after same before is = moment_before agree told after images schedule_name same before is
   untouched_moment agree (Some (Replay images pairs)) told after same before is = tt
+  untouched_moment agree (Some (Debug pairs)) told after same before is = tt
+
+  no_memory_not_done : ends.NoMemory ≡ ends.Done → ⊥
+  no_memory_not_done e = cc
+
+  untouched_input : (command : Option Command) (told : Option Store) (left after : Option (List ℕ)) → Untouched left after old.input_faults new.input_faults
+      → KeepsInput command told left after ends.NoMemory (Untouched left after old.input_faults new.input_faults)
+  untouched_input None told left after same = same
+  untouched_input (Some (Record images schedule_name)) told left after same = same
+  untouched_input (Some (Replay images pairs)) told left after same = same
+  untouched_input (Some (Debug pairs)) told left after same = unread_input pairs told left after ends.NoMemory old.input_faults new.input_faults no_memory_not_done same

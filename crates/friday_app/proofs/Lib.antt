@@ -1,11 +1,16 @@
 pub mod Beginning
+pub mod Bytes
 pub mod Clashing
 pub mod Completes
+pub mod Conversing
+pub mod Debugging
 pub mod Ends
 pub mod Faults
 pub mod Gathered
 pub mod Grouped
+pub mod Hearing
 pub mod Imaging
+pub mod Listening
 pub mod Loading
 pub mod Made
 pub mod Modules
@@ -16,5 +21,7 @@ pub mod Recordings
 pub mod Replayed
 pub mod Stopped
 pub mod Summaries
+pub mod Talking
 pub mod Together
+pub mod WholeLines
 pub mod Wording

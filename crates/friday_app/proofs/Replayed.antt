@@ -17,7 +17,7 @@ use Rattle.friday_app.specs.Command.{Pair}
 use Rattle.friday_app.specs.Call.{Makes, StopsAs, Tells}
 use Rattle.friday_app.specs.Expected.{replay_outcome}
 use Rattle.friday_app.specs.Outcome.{Outcome, Stop, and_then, writes_of}
-use Rattle.friday_app.specs.Pairs.{Loaded, all_loaded, all_placed, opened, replays_of}
+use Rattle.friday_app.specs.Pairs.{Loaded, WasOpened, all_loaded, all_placed, opened, replays_of}
 use Rattle.friday_app.specs.Report.{diverges, images_if, replay_work, report_text}
 use Rattle.friday_app.specs.Seen.{AreLoaded, MakesAll, Says}
 use Rattle.friday_app.proofs.Gathered.{stops_then}
@@ -25,28 +25,35 @@ use Rattle.friday_app.proofs.Made.{outcome_at}
 
 -- ---- the files were refused
 
--- no pair could be read
+-- no group of replays was opened
+abbrev pub NoneOpened : List Pair → Option Store → Refusal → Type 0
+NoneOpened pairs told e = WhenTold told (λ store. StopsAs (opened store pairs) e)
+
+-- since some pair could not be read
+pub unread_stops : (pairs : List Pair) (told : Option Store) (e : Refusal) → WhenTold told (λ store. StopsAs (all_loaded store [] pairs) e) → NoneOpened pairs told e
+unread_stops pairs told e stops store is = stops_then (all_loaded store [] pairs) _ e (stops store is)
+
 pub load_stops : (images : Bool) (pairs : List Pair) (told : Option Store) (e : Refusal) → WhenTold told (λ store. StopsAs (all_loaded store [] pairs) e) → WhenTold told (λ store. StopsAs (replay_outcome images pairs store) e)
-load_stops images pairs told e stops store is = stops_then (opened store pairs) _ e (stops_then (all_loaded store [] pairs) _ e (stops store is))
+load_stops images pairs told e stops store is = stops_then (opened store pairs) _ e (unread_stops pairs told e stops store is)
 
 -- the pairs were read
 abbrev pub WereLoaded : List Pair → Option Store → List LoadedFiles → Type 0
 WereLoaded pairs told all = WhenTold told (λ store. (ls : List Loaded) × ((all_loaded store [] pairs ≡ Ok ls) × AreLoaded all ls))
 
--- a process did not begin
+-- and a process did not begin
+pub unbegun_stops : (pairs : List Pair) (told : Option Store) (all shown : List LoadedFiles) (e : Refusal) → WereLoaded pairs told all → shown ≡ all → ((ls : List Loaded) → AreLoaded shown ls → StopsAs (replays_of ls) e)
+    → NoneOpened pairs told e
+unbegun_stops pairs told all shown e loaded same stops store is =
+    let l = loaded store is in
+    subst (λ (r : Result (List Loaded) Stop). StopsAs (and_then r (λ ls. and_then (replays_of ls) (λ rs. Ok (all_placed [] rs)))) e) (sym l.1.0)
+    (stops_then (replays_of l.0) _ e (stops l.0 (subst (λ (all : List LoadedFiles). AreLoaded all l.0) (sym same) l.1.1)))
+
 pub begin_stops : (images : Bool) (pairs : List Pair) (told : Option Store) (all shown : List LoadedFiles) (e : Refusal) → WereLoaded pairs told all → shown ≡ all → ((ls : List Loaded) → AreLoaded shown ls → StopsAs (replays_of ls) e)
     → WhenTold told (λ store. StopsAs (replay_outcome images pairs store) e)
 begin_stops images pairs told all shown e loaded same stops store is =
-    let l = loaded store is in
-    stops_then (opened store pairs) _ e
-    (subst (λ (r : Result (List Loaded) Stop). StopsAs (and_then r (λ ls. and_then (replays_of ls) (λ rs. Ok (all_placed [] rs)))) e) (sym l.1.0)
-    (stops_then (replays_of l.0) _ e (stops l.0 (subst (λ (all : List LoadedFiles). AreLoaded all l.0) (sym same) l.1.1))))
+    stops_then (opened store pairs) _ e (unbegun_stops pairs told all shown e loaded same stops store is)
 
 -- ---- the replays began
-
--- a group of these replays was opened
-abbrev pub WasOpened : List Pair → Option Store → List Replaying → Type 0
-WasOpened pairs told start = WhenTold told (λ store. opened store pairs ≡ Ok start)
 
 pub begun_opens : (pairs : List Pair) (told : Option Store) (all shown : List LoadedFiles) (start : List Replaying) → WereLoaded pairs told all → shown ≡ all
     → ((ls : List Loaded) → AreLoaded shown ls → (rs : List Replaying) × ((replays_of ls ≡ Ok rs) × (start ≡ all_placed [] rs))) → WasOpened pairs told start

@@ -13,7 +13,7 @@ use Rattle.group_record.specs.Images.{images_of}
 use Rattle.group_record.specs.Laws.{Takes}
 use Rattle.group_record.specs.Logs.{TellsEvents, log_name}
 use Rattle.group_record.specs.Run.{Group, Had, IsFront, Progress, Step, log_of, name_of, run, size}
-use Rattle.friday_app.specs.Command.{Command, Record, Replay}
+use Rattle.friday_app.specs.Command.{Command, Debug, Record, Replay}
 use Rattle.friday_app.specs.Expected.{modules_of, schedule_in}
 
 -- the files spell a schedule and modules with which its processes begin
@@ -59,6 +59,7 @@ abbrev pub KeepsRecording : Option Command → Store → Store → Type 0
 KeepsRecording None before after = Unit {0}
 KeepsRecording (Some (Record images schedule_name)) before after = LeavesRecording schedule_name before after
 KeepsRecording (Some (Replay images pairs)) before after = Unit {0}
+KeepsRecording (Some (Debug pairs)) before after = Unit {0}
 
 -- wherever it is stopped, the logs are those of a moment of its run, but for a first part of the next entry; or the
 -- whole logs stand, and some of the images that were asked for
@@ -70,3 +71,4 @@ abbrev pub KeepsMoment : Option Command → Store → Option Store → Type 0
 KeepsMoment None before after = Unit {0}
 KeepsMoment (Some (Record images schedule_name)) before after = LeavesMoment images schedule_name before after
 KeepsMoment (Some (Replay images pairs)) before after = Unit {0}
+KeepsMoment (Some (Debug pairs)) before after = Unit {0}

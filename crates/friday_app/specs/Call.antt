@@ -13,7 +13,7 @@ use Rattle.friday_app.specs.declared.refusal.Reason.{Reason}
 use Rattle.friday_app.specs.declared.refusal.Reason.TheVariants as reason
 use Rattle.friday_app.specs.declared.refusal.Refusal.{Refusal}
 use Rattle.friday_app.specs.declared.refusal.Refusal.TheVariants as refusal
-use Rattle.friday_app.specs.Command.{Command, Record, Replay, IsReplay}
+use Rattle.friday_app.specs.Command.{Command, IsReplay}
 use Rattle.friday_app.specs.Outcome.{Outcome, Work, Stop, Refuses, Lacks, refuses, refused_line, absent_line}
 
 -- statuses 0 to 4: the call came to its end, with no fault and no want of memory
@@ -45,26 +45,15 @@ IsIdle ends.Absent = Unit {0}
 IsIdle ends.ReadFault = Unit {0}
 IsIdle answer = ⊥
 
--- a sink took the line that refuses a file: for its size only where the cause held
-abbrev pub PrintsRefusal : Option (List ℕ) → Option (List ℕ) → Type 0 → Type 0
+-- a sink took the line that refuses a file: for its size only where that file's cause held
+abbrev pub PrintsRefusal : Option (List ℕ) → Option (List ℕ) → (List ℕ → Type 0) → Type 0
 PrintsRefusal before after cause =
     (earlier file : List ℕ) × ((why : Reason) × (after ≡ append_known before (earlier ++ refused_line file why))
-    × (why ≡ reason.TooLarge → cause))
+    × (why ≡ reason.TooLarge → cause file))
 
 -- a sink took the line that says of some file that it is absent
 abbrev pub PrintsAbsent : Option (List ℕ) → Option (List ℕ) → Type 0
 PrintsAbsent before after = (file : List ℕ) × (after ≡ append_known before (absent_line file))
-
--- an input is as it was
-pub record Untouched (left_before left_after : Option (List ℕ)) (faults_before faults_after : ℕ) : Type 0 where
-  pub left : left_after ≡ left_before
-  pub faults : faults_after ≡ faults_before
-
--- no command that is built reads the input
-abbrev pub KeepsInput : Option Command → Type 0 → Type 0
-KeepsInput None untouched = untouched
-KeepsInput (Some (Record images schedule_name)) untouched = untouched
-KeepsInput (Some (Replay images pairs)) untouched = untouched
 
 -- nothing was printed, or all files that were to be made were made before
 abbrev pub PrintsLast : List (List ℕ × List ℕ) → Option (List ℕ) → Option (List ℕ) → Option Store → Option Store → Type 0

@@ -10,6 +10,7 @@ pub record Pair : Type 0 where
 pub data Command : Type 0 where
   Record : (images : Bool) → (schedule_name : List ℕ) → Command
   Replay : (images : Bool) → (pairs : List Pair) → Command
+  Debug : (pairs : List Pair) → Command
 
 -- a word that may name a file: it is not empty, and does not begin with `-`
 abbrev pub is_file_word : List ℕ → Bool
@@ -41,11 +42,16 @@ abbrev pub replaying : Bool → List (List ℕ) → Option Command
 replaying images [] = None
 replaying images names = option_map (Replay images) (pairs_of names)
 
+abbrev pub debugging : Bool → List (List ℕ) → Option Command
+debugging images [] = None
+debugging images names = if images then None else option_map Debug (pairs_of names)
+
 -- the command of this verb, of these names of files
 abbrev pub command_by : List ℕ → Bool → List (List ℕ) → Option Command
 command_by verb images names =
     if bytes_eq verb (codes "record") then recording images names
     else if bytes_eq verb (codes "replay") then replaying images names
+    else if bytes_eq verb (codes "debug") then debugging images names
     else None
 
 -- the command that the words name: a verb, and behind it names of files, and once at most the option for images
@@ -59,4 +65,5 @@ command_of (verb ∷ words) =
 abbrev pub IsReplay : Option Command → Type 0
 IsReplay (Some (Replay images pairs)) = Unit {0}
 IsReplay (Some (Record images schedule_name)) = ⊥
+IsReplay (Some (Debug pairs)) = ⊥
 IsReplay None = ⊥

@@ -1,6 +1,6 @@
 -- What each command comes to, given the files and the input.
 use Rattle.std.specs.List.{slice_index_or}
-use Rattle.std.specs.Prelude.{ℕ, List, [], ◌∷◌, Bool, Option, Some, None, map, option_map, Result, Ok, Err}
+use Rattle.std.specs.Prelude.{ℕ, List, [], ◌∷◌, Bool, Option, Some, None, map, option_map, option_and_then, Result, Ok, Err}
 use Rattle.fri_outside.specs.Outside.{Store}
 use Rattle.wasm_types.specs.Modules.{Module}
 use Rattle.schedule_text.specs.declared.process.ProcessLine.{ProcessLine}
@@ -11,7 +11,8 @@ use Rattle.group_record.specs.Answer.{begun, group_of}
 use Rattle.group_record.specs.Run.{run}
 use Rattle.friday_app.specs.declared.refusal.Reason.TheVariants as reason
 use Rattle.friday_app.specs.Limits.{most_schedule}
-use Rattle.friday_app.specs.Command.{Command, Pair, Record, Replay}
+use Rattle.friday_app.specs.Command.{Command, Debug, Pair, Record, Replay}
+use Rattle.friday_app.specs.Debug.{debug_outcome}
 use Rattle.friday_app.specs.Inputs.{module_of}
 use Rattle.friday_app.specs.Pairs.{opened}
 use Rattle.friday_app.specs.Outcome.{Stop, NotACommand, Outcome, refuses, and_then, file_of, writes_of}
@@ -61,9 +62,11 @@ abbrev pub expected : Option Command → Option Store → Option (List ℕ) → 
 expected None told left = Some (Err NotACommand)
 expected (Some (Record images schedule_name)) told left = option_map (record_outcome images schedule_name) told
 expected (Some (Replay images pairs)) told left = option_map (replay_outcome images pairs) told
+expected (Some (Debug pairs)) told left = option_and_then (debug_outcome pairs left) told
 
 -- the names that a command may write, given the files
 abbrev pub written_by : Option Command → Store → List (List ℕ)
 written_by None store = []
 written_by (Some (Record images schedule_name)) store = map (λ file. file.0) (writes_of (record_outcome images schedule_name store))
 written_by (Some (Replay images pairs)) store = map (λ file. file.0) (writes_of (replay_outcome images pairs store))
+written_by (Some (Debug pairs)) store = []

@@ -7,9 +7,12 @@ pub mod Pairs
 pub mod Report
 pub mod Outcome
 pub mod Record
+pub mod Debug
 pub mod Expected
 pub mod Agreement
 pub mod Seen
 pub mod Call
+pub mod Conversation
 pub mod Run
 pub mod Valid
+pub mod Talk

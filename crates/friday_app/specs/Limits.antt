@@ -6,3 +6,7 @@ most_module = 4194304
 
 abbrev pub most_schedule : ℕ
 most_schedule = 16777216
+
+-- how many bytes of its input a session may read before a line ends it
+abbrev pub most_input : ℕ
+most_input = 16777216

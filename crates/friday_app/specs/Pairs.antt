@@ -1,7 +1,7 @@
 -- The modules and logs of a group, as they are read, and the replays of the logs.
-use Rattle.std.specs.Prelude.{ℕ, List, [], ◌∷◌, ◌++◌, ◌==◌, Bool, false, not, nat_lt, bytes_eq, Option, Some, None, Result, Ok, Err, if◌then◌else◌}
+use Rattle.std.specs.Prelude.{◌≡◌, ℕ, List, [], ◌∷◌, ◌++◌, ◌==◌, Bool, false, not, nat_lt, bytes_eq, Option, Some, None, Result, Ok, Err, if◌then◌else◌}
 use Rattle.std.specs.List.{list_any}
-use Rattle.fri_outside.specs.Outside.{Store}
+use Rattle.fri_outside.specs.Outside.{Store, WhenTold}
 use Rattle.wasm_types.specs.Modules.{Module}
 use Rattle.call_log.specs.Head.{Head}
 use Rattle.proc_replay.specs.Replaying.{Replaying}
@@ -81,3 +81,7 @@ all_placed sorted (r ∷ rs) = all_placed (placed r sorted) rs
 -- files are read
 abbrev pub opened : Store → List Pair → Result (List Replaying) Stop
 opened store pairs = and_then (all_loaded store [] pairs) (λ ls. and_then (replays_of ls) (λ rs. Ok (all_placed [] rs)))
+
+-- they are these, as far as the store tells its files
+abbrev pub WasOpened : List Pair → Option Store → List Replaying → Type 0
+WasOpened pairs told start = WhenTold told (λ store. opened store pairs ≡ Ok start)

@@ -8,7 +8,8 @@ use Rattle.friday_app.specs.Command.{Command, IsReplay, command_of}
 use Rattle.friday_app.specs.Outcome.{Outcome, Work, status_of, text_of, writes_of}
 use Rattle.friday_app.specs.Expected.{expected, written_by}
 use Rattle.friday_app.specs.Agreement.{KeepsMoment, KeepsRecording}
-use Rattle.friday_app.specs.Call.{IsAnswer, IsExactUsage, IsIdle, KeepsInput, Prints, PrintsAbsent, PrintsLast, PrintsRefusal, Leaves, Untouched}
+use Rattle.friday_app.specs.Call.{IsAnswer, IsExactUsage, IsIdle, Prints, PrintsAbsent, PrintsLast, PrintsRefusal, Leaves}
+use Rattle.friday_app.specs.Conversation.{AnswersFirst, IsLargeInput, KeepsInput, Untouched}
 
 -- what is said of the outcome of these words, as far as the store and the input tell it
 abbrev pub Expects : List (List ℕ) → Option Store → Option (List ℕ) → (Outcome → Type 0) → Type 0
@@ -47,11 +48,12 @@ pub record Run (command : Option Command) (old new : Outside) (answer : Status) 
   pub recorded : IsAnswer answer → WhenTold old.told (λ before. WhenTold new.told (KeepsRecording command before))
   pub moment : WhenTold old.told (λ before. KeepsMoment command before new.told)
   pub idle : IsIdle answer → new.told ≡ old.told
-  pub input : KeepsInput command (Untouched old.left new.left old.input_faults new.input_faults)
+  pub input : KeepsInput command old.told old.left new.left answer (Untouched old.left new.left old.input_faults new.input_faults)
+  pub answered : answer ≡ ends.ReadFault → (Rose old.counts.reads new.counts.reads → ⊥) → AnswersFirst command old.told old.left new.left old.taken new.taken
   pub prints_last : WhenTold (expected command old.told old.left) (λ outcome. PrintsLast (writes_of outcome) old.taken new.taken old.told new.told)
   pub absent : answer ≡ ends.Absent → Rose old.counts.misses new.counts.misses
   pub absent_text : answer ≡ ends.Absent → PrintsAbsent old.taken new.taken
-  pub refused : answer ≡ ends.Refused → PrintsRefusal old.taken new.taken (Rose old.counts.misses new.counts.misses)
+  pub refused : answer ≡ ends.Refused → PrintsRefusal old.taken new.taken (λ file. Rose old.counts.misses new.counts.misses ⊎ IsLargeInput command old.told old.left file)
   pub read_fault : answer ≡ ends.ReadFault → Rose old.counts.reads new.counts.reads ⊎ Rose old.input_faults new.input_faults
   pub write_fault : answer ≡ ends.WriteFault → Rose old.counts.writes new.counts.writes ⊎ Rose old.out_faults new.out_faults
   pub out_fault : WhenTold (expected command old.told old.left) (λ outcome. answer ≡ ends.WriteFault

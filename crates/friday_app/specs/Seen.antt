@@ -7,6 +7,8 @@ use Rattle.wasm_types.specs.Modules.{Module, module_of}
 use Rattle.schedule_text.specs.Schedule.{Schedule}
 use Rattle.group_record.specs.declared.error.RecordError.{RecordError}
 use Rattle.group_record.specs.declared.error.RecordError.TheVariants as errors
+use Rattle.friday_app.specs.declared.command.Batch.{Batch as BatchOfWords}
+use Rattle.friday_app.specs.declared.command.Batch.TheVariants as batch
 use Rattle.friday_app.specs.declared.command.Command.{Command as Words}
 use Rattle.friday_app.specs.declared.command.Command.TheVariants as words
 use Rattle.friday_app.specs.declared.command.Pair.{Pair as PairOfWords}
@@ -17,7 +19,7 @@ use Rattle.friday_app.specs.declared.refusal.Reason.TheVariants as reason
 use Rattle.friday_app.specs.declared.refusal.Refusal.{Refusal}
 use Rattle.friday_app.specs.declared.refusal.Refusal.TheVariants as refusal
 use Rattle.friday_app.specs.Call.{Names}
-use Rattle.friday_app.specs.Command.{Command, Pair, Record, Replay}
+use Rattle.friday_app.specs.Command.{Command, Debug, Pair, Record, Replay}
 use Rattle.call_log.specs.Head.{IsHead}
 use Rattle.call_log.specs.Log.{head_at}
 use Rattle.friday_app.specs.Expected.{module_name, modules_of, schedule_in}
@@ -26,9 +28,14 @@ use Rattle.friday_app.specs.Pairs.{Loaded}
 abbrev pub pair_of : PairOfWords → Pair
 pair_of pair = record { module_name = pair.module_file.now; log_name = pair.log_file.now }
 
+-- a command that prints once, at its end
+abbrev pub batch_of : BatchOfWords → Command
+batch_of (batch.Record images schedule_name) = Record images schedule_name.now
+batch_of (batch.Replay images pairs) = Replay images (map pair_of pairs.items)
+
 abbrev pub meaning : Words → Command
-meaning (words.Record images schedule_name) = Record images schedule_name.now
-meaning (words.Replay images pairs) = Replay images (map pair_of pairs.items)
+meaning (words.Batch b) = batch_of b
+meaning (words.Debug pairs) = Debug (map pair_of pairs.items)
 
 -- the files of a pair hold this
 pub record IsLoaded (l : LoadedFiles) (is : Loaded) : Type 0 where

@@ -1,5 +1,5 @@
 -- Words and files at which a command does its work.
-use Rattle.std.specs.Prelude.{◌≡◌, ◌≢◌, ℕ, suc, ◌≤◌, AllPairs, List, [], ◌∷◌, ◌++◌, length, Option, Some, None, Ok}
+use Rattle.std.specs.Prelude.{◌≡◌, ◌≢◌, ◌⊎◌, ℕ, true, suc, ◌≤◌, AllPairs, List, [], ◌∷◌, ◌++◌, length, Option, Some, None, Ok}
 use Rattle.std.specs.FinMap.{get}
 use Rattle.fri_outside.specs.Outside.{Store}
 use Rattle.wasm_types.specs.Modules.{Module}
@@ -15,8 +15,12 @@ use Rattle.call_log.specs.Limits.{most_log}
 use Rattle.schedule_text.specs.declared.process.ProcessLine.{ProcessLine}
 use Rattle.group_record.specs.Answer.{begun, group_of}
 use Rattle.group_record.specs.Run.{run}
-use Rattle.friday_app.specs.Limits.{most_module, most_schedule}
-use Rattle.friday_app.specs.Command.{Command, Pair, Record, Replay}
+use Rattle.proc_replay.specs.Replaying.{Replaying}
+use Rattle.friday_shell.specs.Session.{ends, opening}
+use Rattle.friday_app.specs.Limits.{most_input, most_module, most_schedule}
+use Rattle.friday_app.specs.Command.{Command, Debug, Pair, Record, Replay}
+use Rattle.friday_app.specs.Debug.{early_lines}
+use Rattle.friday_app.specs.Pairs.{opened}
 use Rattle.friday_app.specs.Outcome.{Work}
 use Rattle.friday_app.specs.Expected.{expected}
 
@@ -96,10 +100,18 @@ pub record IsGroup (store : Store) (pairs : List Pair) : Type 0 where
   pub files : ArePairs store pairs
   pub together : AllPairs GoTogether (heads_in store pairs files)
 
+-- the pairs are those of a group, and the input is told, and ends, or a line of it ends the session, within the limit
+pub record IsSession (store : Store) (pairs : List Pair) (left : Option (List ℕ)) : Type 0 where
+  pub group : IsGroup store pairs
+  pub input : List ℕ
+  pub told : left ≡ Some input
+  pub within : (start : List Replaying) → opened store pairs ≡ Ok start → (length input ≤ most_input) ⊎ (ends (opening start) (early_lines input) ≡ true)
+
 abbrev pub IsValid : Option Command → Store → Option (List ℕ) → Type 0
 IsValid None store left = ⊥
 IsValid (Some (Record images schedule_name)) store left = IsRecorded store schedule_name
 IsValid (Some (Replay images pairs)) store left = IsGroup store pairs
+IsValid (Some (Debug pairs)) store left = IsSession store pairs left
 
 -- what is valid has an outcome that is work
 abbrev pub HasWork : Type 0

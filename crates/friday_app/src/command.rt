@@ -1,7 +1,7 @@
 // Which command the words name.
 ghost use Rattle.std.specs.Prelude.{◌≡◌, length, map, option_map, string_bytes, IfOk};
 ghost use Rattle.std.specs.List.{list_all};
-ghost use Rattle.friday_app.specs.Command.{command_by, command_of, is_file_word, is_images, names_in, options_in, pairs_of, recording, replaying};
+ghost use Rattle.friday_app.specs.Command.{command_by, command_of, debugging, is_file_word, is_images, names_in, options_in, pairs_of, recording, replaying};
 ghost use Rattle.friday_app.specs.Seen.{meaning, pair_of};
 
 use std::alloc::{AllocError, Global};
@@ -13,11 +13,18 @@ pub struct Pair<'a> {
     pub log_file: &'a str,
 }
 
-/// A command, with the names that its words give, and whether images are asked for.
+/// A command that prints once, at its end, with the names that its words give, and whether images are asked for.
 #[derive(Drop)]
-pub enum Command<'a> {
+pub enum Batch<'a> {
     Record(bool, &'a str),
     Replay(bool, Vec<Pair<'a>>),
+}
+
+/// A command, with the names that its words give.
+#[derive(Drop)]
+pub enum Command<'a> {
+    Batch(Batch<'a>),
+    Debug(Vec<Pair<'a>>),
 }
 
 // Whether the word may name a file.
@@ -92,6 +99,7 @@ fn command_by<'a>(
     match verb {
         "record" => Ok(record_command(images, names)),
         "replay" => replay_command(alloc, images, names),
+        "debug" => debug_command(alloc, images, names),
         _ => Ok(None),
     }
 }
@@ -100,7 +108,7 @@ fn record_command<'a>(images: bool, names: &[&'a str]) -> Option<Command<'a>>
     ensures { option_map meaning result ≡ recording images (map (λ name. name.now) names.now) }
 {
     match names {
-        [schedule_file] => Some(Command::Record(images, schedule_file)),
+        [schedule_file] => Some(Command::Batch(Batch::Record(images, schedule_file))),
         _ => None,
     }
 }
@@ -116,7 +124,21 @@ fn replay_command<'a>(
         return Ok(None);
     }
     let pairs = pairs_of(alloc, names)?;
-    Ok(pairs.map(|pairs| Command::Replay(images, pairs)))
+    Ok(pairs.map(|pairs| Command::Batch(Batch::Replay(images, pairs))))
+}
+
+fn debug_command<'a>(
+    alloc: Global,
+    images: bool,
+    names: &[&'a str],
+) -> Result<Option<Command<'a>>, AllocError>
+    ensures { IfOk result (λ command. option_map meaning command ≡ debugging images (map (λ name. name.now) names.now)) }
+{
+    if images || names.is_empty() {
+        return Ok(None);
+    }
+    let pairs = pairs_of(alloc, names)?;
+    Ok(pairs.map(Command::Debug))
 }
 
 // A module and a log, two by two. None comes exactly where a name is left over.

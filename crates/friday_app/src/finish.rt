@@ -78,7 +78,8 @@ pub fn say<K: Sink>(out: &mut K, text: &[u8], status: Status) -> Status
     }
 }
 
-fn say_refused<K: Sink>(alloc: Global, file: &str, reason: Reason, out: &mut K) -> Status
+/// Writes the line that refuses a file.
+pub fn say_refused<K: Sink>(alloc: Global, file: &str, reason: Reason, out: &mut K) -> Status
     ensures status { IsAnswer result → result ≡ Status.Refused }
     ensures text { Prints result (refused_line file.now reason) (K.taken out.old) (K.taken out.new) }
     ensures read_fault { result ≢ Status.ReadFault }

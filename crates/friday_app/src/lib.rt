@@ -2,6 +2,8 @@
 #![tactic(auto)]
 
 mod command;
+mod converse;
+mod debug;
 mod finish;
 mod inputs;
 mod laws;

@@ -2,14 +2,14 @@
 ghost use Rattle.std.specs.Prelude.{◌≡◌, List, ℕ, Option, Some, IfErr};
 ghost use Rattle.fri_outside.specs.Outside.{WhenTold, NoneFell};
 ghost use Rattle.fri_outside.specs.Several.{OthersStay};
-ghost use Rattle.friday_app.specs.Seen.{meaning};
+ghost use Rattle.friday_app.specs.Seen.{batch_of};
 ghost use Rattle.friday_app.specs.Outcome.{writes_of};
 ghost use Rattle.friday_app.specs.Expected.{expected, written_by};
 ghost use Rattle.friday_app.specs.Call.{Tells, Makes, Keeps, DivergesOnlyIn, IsEnd, Raises};
 ghost use Rattle.friday_app.specs.Agreement.{KeepsMoment, KeepsRecording};
 ghost use Rattle.friday_app.specs.Run.{Run};
 
-use crate::command::Command;
+use crate::command::Batch;
 use crate::finish::finish;
 use crate::record::record;
 use crate::refusal::{Answer, Refusal};
@@ -19,34 +19,34 @@ use fri_outside::{Files, Sink};
 use std::alloc::Global;
 
 // Does the work of a command that prints one text at its end, and reads no input.
-fn perform<F: Files>(alloc: Global, command: Command<'_>, files: &mut F) -> Result<Answer, Refusal>
-    ensures tells { (left : Option (List ℕ)) → WhenTold (expected (Some (meaning command.entry)) (F.told files.old) left)
+fn perform<F: Files>(alloc: Global, command: Batch<'_>, files: &mut F) -> Result<Answer, Refusal>
+    ensures tells { (left : Option (List ℕ)) → WhenTold (expected (Some (batch_of command.entry)) (F.told files.old) left)
         (λ outcome. Tells outcome result) }
-    ensures makes { (left : Option (List ℕ)) → WhenTold (expected (Some (meaning command.entry)) (F.told files.old) left) (λ outcome.
+    ensures makes { (left : Option (List ℕ)) → WhenTold (expected (Some (batch_of command.entry)) (F.told files.old) left) (λ outcome.
         Makes result (writes_of outcome) (F.told files.old) (F.told files.new)) }
-    ensures others { OthersStay (written_by (Some (meaning command.entry))) (F.told files.old) (F.told files.new) }
+    ensures others { OthersStay (written_by (Some (batch_of command.entry))) (F.told files.old) (F.told files.new) }
     ensures keeps { Keeps result (F.told files.old) (F.told files.new) }
-    ensures diverges { DivergesOnlyIn (Some (meaning command.entry)) result }
+    ensures diverges { DivergesOnlyIn (Some (batch_of command.entry)) result }
     ensures recorded { IsEnd result → WhenTold (F.told files.old) (λ before.
-        WhenTold (F.told files.new) (KeepsRecording (Some (meaning command.entry)) before)) }
-    ensures moment { WhenTold (F.told files.old) (λ before. KeepsMoment (Some (meaning command.entry)) before (F.told files.new)) }
+        WhenTold (F.told files.new) (KeepsRecording (Some (batch_of command.entry)) before)) }
+    ensures moment { WhenTold (F.told files.old) (λ before. KeepsMoment (Some (batch_of command.entry)) before (F.told files.new)) }
     ensures counts { NoneFell (F.counts files.old) (F.counts files.new) }
     ensures cause { IfErr result (Raises (F.counts files.old) (F.counts files.new)) }
 {
     match command {
-        Command::Record(images, schedule_file) => record(alloc, images, schedule_file, files),
-        Command::Replay(images, pairs) => replay(alloc, images, &pairs, files),
+        Batch::Record(images, schedule_file) => record(alloc, images, schedule_file, files),
+        Batch::Replay(images, pairs) => replay(alloc, images, &pairs, files),
     }
 }
 
 /// Does a command that reads no input, and writes what it comes to.
 pub fn settle<F: Files, K: Sink>(
     alloc: Global,
-    command: Command<'_>,
+    command: Batch<'_>,
     files: &mut F,
     out: &mut K,
 ) -> Status
-    ensures { (left : Option (List ℕ)) (faults : ℕ) → Run (Some (meaning command.entry))
+    ensures { (left : Option (List ℕ)) (faults : ℕ) → Run (Some (batch_of command.entry))
         (record { told = F.told files.old; counts = F.counts files.old; left = left; input_faults = faults; taken = K.taken out.old; out_faults = K.faults out.old })
         (record { told = F.told files.new; counts = F.counts files.new; left = left; input_faults = faults; taken = K.taken out.new; out_faults = K.faults out.new })
         result }

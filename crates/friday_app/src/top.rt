@@ -8,9 +8,11 @@ ghost use Rattle.friday_app.specs.Expected.{written_by};
 ghost use Rattle.friday_app.specs.Agreement.{KeepsMoment, KeepsRecording};
 ghost use Rattle.friday_app.specs.Valid.{IsValid};
 ghost use Rattle.friday_app.specs.Run.{Run, NoFault, Works, Expects};
-ghost use Rattle.friday_app.specs.Call.{IsAnswer, IsExactUsage, IsIdle, KeepsInput, Prints, PrintsAbsent, PrintsLast, PrintsRefusal, Leaves, Untouched};
+ghost use Rattle.friday_app.specs.Call.{IsAnswer, IsExactUsage, IsIdle, Prints, PrintsAbsent, PrintsLast, PrintsRefusal, Leaves};
+ghost use Rattle.friday_app.specs.Conversation.{AnswersFirst, IsLargeInput, KeepsInput, Untouched};
 
-use crate::command::parse;
+use crate::command::{Command, parse};
+use crate::debug::debug;
 use crate::finish::say;
 use crate::laws::{has_work, recordings_agree};
 use crate::settle::settle;
@@ -32,7 +34,7 @@ fn refuse_words<K: Sink>(out: &mut K) -> Status
     )
 }
 
-// Runs what the words say. A command that reads no input leaves it as it is.
+// Runs what the words say.
 fn run<F: Files, S: Source, K: Sink>(
     alloc: Global,
     words: &[String],
@@ -48,7 +50,8 @@ fn run<F: Files, S: Source, K: Sink>(
     recordings_agree();
     match parse(alloc, words) {
         Ok(None) => refuse_words(out),
-        Ok(Some(command)) => settle(alloc, command, files, out),
+        Ok(Some(Command::Batch(batch))) => settle(alloc, batch, files, out),
+        Ok(Some(Command::Debug(pairs))) => debug(alloc, &pairs, files, input, out),
         Err(AllocError) => Status::NoMemory,
     }
 }
@@ -79,8 +82,12 @@ pub fn friday<F: Files, S: Source, K: Sink>(
     ensures prints_last { Expects (map string_bytes words.now) (F.told files.old) (S.left input.old) (λ outcome.
         PrintsLast (writes_of outcome) (K.taken out.old) (K.taken out.new) (F.told files.old) (F.told files.new)) }
 
-    // The input
-    ensures input { KeepsInput (command_of (map string_bytes words.now)) (Untouched (S.left input.old) (S.left input.new) (S.faults input.old) (S.faults input.new)) }
+    // The input is read by `debug` alone, and by it no further than it must. Each whole line is answered before more
+    // is asked for, so that where a read fails the answers are those to all whole lines before.
+    ensures input { KeepsInput (command_of (map string_bytes words.now)) (F.told files.old) (S.left input.old) (S.left input.new) result
+        (Untouched (S.left input.old) (S.left input.new) (S.faults input.old) (S.faults input.new)) }
+    ensures answered { result ≡ Status.ReadFault → (Rose (F.counts files.old).reads (F.counts files.new).reads → ⊥)
+        → AnswersFirst (command_of (map string_bytes words.now)) (F.told files.old) (S.left input.old) (S.left input.new) (K.taken out.old) (K.taken out.new) }
 
     // The logs that a recording leaves hold its events: replay accepts each, and makes the recorded states of them.
     // So it is where a log was full, too. Each datagram that was taken came from outside or is one that was sent.
@@ -101,8 +108,8 @@ pub fn friday<F: Files, S: Source, K: Sink>(
     // The causes, over any objects
     ensures absent { result ≡ Status.Absent → Rose (F.counts files.old).misses (F.counts files.new).misses }
     ensures absent_text { result ≡ Status.Absent → PrintsAbsent (K.taken out.old) (K.taken out.new) }
-    ensures refused { result ≡ Status.Refused → PrintsRefusal (K.taken out.old) (K.taken out.new)
-        (Rose (F.counts files.old).misses (F.counts files.new).misses) }
+    ensures refused { result ≡ Status.Refused → PrintsRefusal (K.taken out.old) (K.taken out.new) (λ file.
+        Rose (F.counts files.old).misses (F.counts files.new).misses ⊎ IsLargeInput (command_of (map string_bytes words.now)) (F.told files.old) (S.left input.old) file) }
     ensures read_fault { result ≡ Status.ReadFault → Rose (F.counts files.old).reads (F.counts files.new).reads
         ⊎ Rose (S.faults input.old) (S.faults input.new) }
     ensures write_fault { result ≡ Status.WriteFault → Rose (F.counts files.old).writes (F.counts files.new).writes

@@ -8,7 +8,8 @@ use Rattle.friday_app.specs.Report.{images_if}
 use Rattle.friday_app.specs.Seen.{MakesAll, pair_of}
 use Rattle.friday_app.proofs.Gathered.{refused_makes}
 use Rattle.friday_app.proofs.Made.{all_changes, makes_others, same_changes, same_others}
-use Rattle.friday_app.proofs.Replayed.{WasOpened, begin_stops, begun_opens, load_stops, replay_makes, report_tells, some_made}
+use Rattle.friday_app.specs.Pairs.{WasOpened}
+use Rattle.friday_app.proofs.Replayed.{begin_stops, begun_opens, load_stops, replay_makes, report_tells, some_made}
 use Rattle.friday_app.proofs.replay.replay.Goals as goal
 
 pub returns-in_err-all-clause-makes : goal.returns-in_err-all-clause-makes

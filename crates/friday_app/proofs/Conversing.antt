@@ -1,0 +1,118 @@
+-- The status and the text with which a session ends.
+use Rattle.std.proofs.Common.{◌≡◌, ℕ, ◌+◌, ◌≤◌, List, ◌++◌, length, take, Option, refl, sym, ap, subst, ◌∙◌}
+use Rattle.std.specs.Io.KnownBytes.{append_known}
+use Rattle.std.proofs.Math.Seq.{take-append-add, take-length}
+use Rattle.fri_outside.specs.Outside.{Rose}
+use Rattle.proc_replay.specs.Replaying.{Replaying}
+use Rattle.friday_shell.specs.Session.{session_text, whole_lines}
+use Rattle.friday_app.specs.declared.converse.Ended.TheVariants as cause
+use Rattle.friday_app.specs.declared.refusal.Reason.TheVariants as reason
+use Rattle.friday_app.specs.declared.status.Status.{Status}
+use Rattle.friday_app.specs.declared.status.Status.TheVariants as status
+use Rattle.friday_app.specs.Call.{IsAnswer, Prints}
+use Rattle.friday_app.specs.Conversation.{Converses, IsNone}
+use Rattle.friday_app.specs.Debug.{input_name, session_outcome}
+use Rattle.friday_app.specs.Outcome.{refused_line, text_of}
+use Rattle.friday_app.specs.Talk.{Held}
+use Rattle.friday_app.proofs.Hearing.{rose_earlier}
+use Rattle.friday_app.proofs.Printed.{prints_all}
+use Rattle.friday_app.proofs.Talking.{append_twice, part_of}
+
+prints_behind : (answer : Status) (earlier line : List ℕ) (before mid after : Option (List ℕ)) → mid ≡ append_known before earlier → Prints answer line mid after → Prints answer (earlier ++ line) before after
+prints_behind answer earlier line before mid after e p = record {
+  whole = λ is. p.whole is ∙ ap (λ (k : Option (List ℕ)). append_known k line) e ∙ append_twice before earlier line;
+  part = (
+    length earlier + p.part.0,
+    p.part.1 ∙ ap (λ (k : Option (List ℕ)). append_known k (take p.part.0 line)) e ∙ append_twice before earlier (take p.part.0 line)
+        ∙ ap (append_known before) (sym (take-append-add earlier line p.part.0)),
+  );
+}
+
+is_refused : (answer : Status) → (IsAnswer answer → answer ≡ status.Refused) → IsNone answer → ⊥
+is_refused status.Done only none = none
+is_refused status.Diverged only none = let e = only tt in absurd cc
+is_refused status.Usage only none = let e = only tt in absurd cc
+is_refused status.Refused only none = none
+is_refused status.Absent only none = let e = only tt in absurd cc
+is_refused status.ReadFault only none = none
+is_refused status.WriteFault only none = none
+is_refused status.NoMemory only none = none
+
+never_done : (answer : Status) → (IsAnswer answer → answer ≡ status.Refused) → answer ≡ status.Done → ⊥
+never_done answer only is = let e : answer ≡ status.Refused = only (subst IsAnswer (sym is) tt) in absurd cc
+
+module _ (start : List Replaying) (left after printed now : Option (List ℕ)) (faults faults_after out_faults out_faults_after : ℕ) (later : faults ≤ faults_after) where
+  pub conversed_done : Held start left after printed now cause.Done → Converses start left after printed now faults faults_after out_faults out_faults_after status.Done
+  unfolding Held
+  conversed_done h = record {
+    ended = λ input told answer. let s = h.said input told in (let fits = s.fits in rw fits refl);
+    text = λ input told. let s = h.said input told in (let fits = s.fits in rw fits (prints_all _ _ _ _ _ refl s.text));
+    input = λ input told. record { taken = h.taken; is_taken = h.read input told; asks = h.asks; at_end = λ is. (let s = h.said input told in s.at_end) };
+    answered = λ is. absurd cc;
+    other = λ none. none;
+    refused = λ is. absurd cc;
+    later = later;
+    read_fault = λ is. absurd cc;
+    write_fault = λ is. absurd cc;
+  }
+
+  pub conversed_read : Held start left after printed now cause.ReadFault → Rose faults faults_after → Converses start left after printed now faults faults_after out_faults out_faults_after status.ReadFault
+  unfolding Held
+  conversed_read h rose = record {
+    ended = λ input told answer. absurd answer;
+    text = λ input told. (let s = h.said input told in let r = h.read input told in
+        let p = part_of start printed now h.taken (length (session_text start (whole_lines h.taken))) s.within (s.text ∙ ap (append_known printed) (sym (take-length (session_text start (whole_lines h.taken))))) r.rest in
+        record { whole = λ answer. absurd answer; part = (p.0, p.1 ∙ ap (λ (l : List ℕ). append_known printed (take p.0 (text_of (session_outcome start l)))) (sym r.whole)) });
+    input = λ input told. record { taken = h.taken; is_taken = h.read input told; asks = h.asks; at_end = λ is. absurd cc };
+    answered = λ is input told. (let s = h.said input told in record { taken = h.taken; is_taken = h.read input told; text = s.text; goes_on = s.goes_on });
+    other = λ none. none;
+    refused = λ is. absurd cc;
+    later = later;
+    read_fault = λ is. rose;
+    write_fault = λ is. absurd cc;
+  }
+
+  pub conversed_write : Held start left after printed now cause.WriteFault → Rose out_faults out_faults_after → Converses start left after printed now faults faults_after out_faults out_faults_after status.WriteFault
+  unfolding Held
+  conversed_write h rose = record {
+    ended = λ input told answer. absurd answer;
+    text = λ input told. record { whole = λ answer. absurd answer; part = h.said input told };
+    input = λ input told. record { taken = h.taken; is_taken = h.read input told; asks = h.asks; at_end = λ is. absurd cc };
+    answered = λ is. absurd cc;
+    other = λ none. none;
+    refused = λ is. absurd cc;
+    later = later;
+    read_fault = λ is. absurd cc;
+    write_fault = λ is. rose;
+  }
+
+  pub conversed_memory : Held start left after printed now cause.NoMemory → Converses start left after printed now faults faults_after out_faults out_faults_after status.NoMemory
+  unfolding Held
+  conversed_memory h = record {
+    ended = λ input told answer. absurd answer;
+    text = λ input told. record { whole = λ answer. absurd answer; part = h.said input told };
+    input = λ input told. record { taken = h.taken; is_taken = h.read input told; asks = h.asks; at_end = λ is. absurd cc };
+    answered = λ is. absurd cc;
+    other = λ none. none;
+    refused = λ is. absurd cc;
+    later = later;
+    read_fault = λ is. absurd cc;
+    write_fault = λ is. absurd cc;
+  }
+
+  -- the refusal was said, or could not be said
+  pub conversed_large : (mid : Option (List ℕ)) (out_faults_mid : ℕ) (answer : Status) → Held start left after printed mid cause.TooLarge → out_faults ≤ out_faults_mid
+      → (IsAnswer answer → answer ≡ status.Refused) → Prints answer (refused_line input_name reason.TooLarge) mid now → (answer ≡ status.ReadFault → ⊥)
+      → (answer ≡ status.WriteFault → Rose out_faults_mid out_faults_after) → Converses start left after printed now faults faults_after out_faults out_faults_after answer
+  unfolding Held
+  conversed_large mid out_faults_mid answer h out_later only prints not_read rose = record {
+    ended = λ input told is. (let s = h.said input told in let large = s.0 in rw large (only is));
+    text = λ input told. (let s = h.said input told in let large = s.0 in rw large (prints_behind answer _ _ printed mid now s.1 prints));
+    input = λ input told. record { taken = h.taken; is_taken = h.read input told; asks = h.asks; at_end = λ is. absurd (never_done answer only is) };
+    answered = λ is. absurd (not_read is);
+    other = is_refused answer only;
+    refused = λ is. (let l = h.large refl in let w = prints_behind answer l.0 (refused_line input_name reason.TooLarge) printed mid now l.1 prints in (l.0, w.whole (subst IsAnswer (sym is) tt)));
+    later = later;
+    read_fault = λ is. absurd (not_read is);
+    write_fault = λ is. rose_earlier out_faults out_faults_mid out_faults_after out_later (rose is);
+  }

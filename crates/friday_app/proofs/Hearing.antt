@@ -1,0 +1,220 @@
+-- Bytes after bytes, and the pieces of an input, as a session takes them.
+use Rattle.std.proofs.Common.{◌≡◌, ℕ, ◌+◌, ◌≤◌, false, List, [], ◌∷◌, ◌++◌, length, take, drop, Option, None, Some, refl, sym, ap, subst, ◌∙◌, append_assoc, append-nil, length-append, arith, inl, inr}
+use Rattle.std.specs.Prelude.{Err, if◌then◌else◌}
+use Rattle.std.specs.Io.KnownBytes.{append_known}
+use Rattle.std.proofs.lemmas.List.{take-append-drop}
+use Rattle.std.proofs.Math.Seq.{take-append-add}
+use Rattle.fri_outside.specs.Outside.{Rose, WhenTold}
+use Rattle.fri_outside.specs.declared.files.WriteError.{WriteError}
+use Rattle.fri_outside.specs.declared.files.WriteError.TheVariants as writing
+use Rattle.fri_text.specs.Line.{lines_of}
+use Rattle.proc_replay.specs.Replaying.{Replaying}
+use Rattle.friday_shell.specs.Answer.{answer}
+use Rattle.friday_shell.specs.Points.{SessionState}
+use Rattle.friday_shell.specs.Session.{answers, ends, opening, session_text, whole_lines}
+use Rattle.friday_app.specs.declared.converse.Ended.{Ended}
+use Rattle.friday_app.specs.declared.converse.Ended.TheVariants as cause
+use Rattle.friday_app.specs.Conversation.{Asks, IsTaken}
+use Rattle.friday_app.specs.Debug.{early_lines, is_large, session_outcome}
+use Rattle.friday_app.specs.Limits.{most_input}
+use Rattle.friday_app.specs.Outcome.{text_of}
+use Rattle.friday_app.specs.Talk.{Breaks, Concludes, GoesOn, Holds, PrintsPart, Said, SaysSome, Spoke, Stands, Stops, StopsAt, StopsIn, after, ended_by}
+use Rattle.friday_app.proofs.WholeLines.{few_lines-open, lines_of-open, session_more}
+use Rattle.friday_app.proofs.Talking.{append_twice, fits_short, overruns_more, part_more, quits_more, take_front}
+
+-- ---- bytes after bytes
+
+pub stops_more : (start : List Replaying) (printed now : Option (List ℕ)) (taken more : List ℕ) (why : Ended) → Stops start printed now taken why → Stops start printed now (taken ++ more) why
+stops_more start printed now taken more cause.Done s = quits_more start printed now taken more s
+stops_more start printed now taken more cause.TooLarge s = overruns_more start printed now taken more s
+stops_more start printed now taken more cause.ReadFault s = absurd s
+stops_more start printed now taken more cause.WriteFault s = part_more start printed now taken more s
+stops_more start printed now taken more cause.NoMemory s = part_more start printed now taken more s
+
+pub goes_on_none : (now : Option (List ℕ)) (state : SessionState) (begun : List ℕ) (count : ℕ) → GoesOn [] now now state begun count state begun count
+unfolding GoesOn
+goes_on_none now state begun count = λ start printed taken s. subst (Stands start printed now state begun count) (sym (append-nil taken)) s
+
+pub goes_on_more : (a b : List ℕ) (before mid now : Option (List ℕ)) (state : SessionState) (begun : List ℕ) (count : ℕ) (state1 : SessionState) (begun1 : List ℕ) (count1 : ℕ) (state2 : SessionState) (begun2 : List ℕ) (count2 : ℕ)
+    → GoesOn a before mid state begun count state1 begun1 count1 → GoesOn b mid now state1 begun1 count1 state2 begun2 count2 → GoesOn (a ++ b) before now state begun count state2 begun2 count2
+unfolding GoesOn
+goes_on_more a b before mid now state begun count state1 begun1 count1 state2 begun2 count2 first second = λ start printed taken s.
+    subst (Stands start printed now state2 begun2 count2) (append_assoc taken a b) (second start printed (taken ++ a) (first start printed taken s))
+
+pub stops_later : (a b more : List ℕ) (before mid now : Option (List ℕ)) (state : SessionState) (begun : List ℕ) (count : ℕ) (state1 : SessionState) (begun1 : List ℕ) (count1 : ℕ) (why : Ended)
+    → GoesOn a before mid state begun count state1 begun1 count1 → StopsIn b mid now state1 begun1 count1 why → StopsIn ((a ++ b) ++ more) before now state begun count why
+unfolding GoesOn StopsIn
+stops_later a b more before mid now state begun count state1 begun1 count1 why first second = (
+  second.0,
+  λ start printed taken s.
+      let there = second.1 start printed (taken ++ a) (first start printed taken s) in
+      let longer = stops_more start printed now ((taken ++ a) ++ b) more why there in
+      subst (λ (l : List ℕ). Stops start printed now l why) (ap (λ (l : List ℕ). l ++ more) (append_assoc taken a b) ∙ append_assoc taken (a ++ b) more) longer,
+)
+
+-- a byte of a piece, and what is before and behind it
+pub piece_split : (piece : List ℕ) (i b : ℕ) → take (i + 1) piece ≡ take i piece ++ b ∷ [] → (take i piece ++ b ∷ []) ++ drop (i + 1) piece ≡ piece
+piece_split piece i b e = ap (λ (l : List ℕ). l ++ drop (i + 1) piece) (sym e) ∙ take-append-drop (i + 1) piece
+
+-- ---- counts
+
+pub rose_later : (before mid now : ℕ) → Rose before mid → mid ≤ now → Rose before now
+rose_later before mid now rose later = omega (arith, rose)
+
+pub rose_earlier : (before mid now : ℕ) → before ≤ mid → Rose mid now → Rose before now
+rose_earlier before mid now later rose = omega (arith, rose)
+
+-- ---- pieces
+
+pub taken_more : (left mid after : Option (List ℕ)) (a b : List ℕ) → WhenTold left (λ input. IsTaken input mid a) → WhenTold mid (λ input. IsTaken input after b) → WhenTold left (λ input. IsTaken input after (a ++ b))
+taken_more left mid after a b first second = λ input told.
+    let f = first input told in
+    let s = second f.rest f.left in
+    record { rest = s.rest; left = s.left; whole = f.whole ∙ ap (λ (l : List ℕ). a ++ l) s.whole ∙ sym (append_assoc a b s.rest) }
+
+pub taken_none : (left : Option (List ℕ)) → WhenTold left (λ input. IsTaken input left [])
+taken_none left = λ input told. record { rest = input; left = told; whole = refl }
+
+pub stops_at : (start : List Replaying) (printed now : Option (List ℕ)) (taken : List ℕ) (why : Ended) → Stops start printed now taken why → StopsAt start printed now taken why
+stops_at start printed now taken cause.Done s = s
+stops_at start printed now taken cause.TooLarge s = s
+stops_at start printed now taken cause.ReadFault s = absurd s
+stops_at start printed now taken cause.WriteFault s = s
+stops_at start printed now taken cause.NoMemory s = s
+
+-- ---- a session that stopped at a piece
+
+-- what was said is said of the input that the source told
+pub said_of : (start : List Replaying) (printed now : Option (List ℕ)) (taken rest input : List ℕ) (why : Ended) → input ≡ taken ++ rest → StopsAt start printed now taken why → Said start printed now taken input why
+said_of start printed now taken rest input cause.Done e q = record {
+  fits = ap (is_large start) e ∙ q.fits rest;
+  text = q.text rest ∙ ap (λ (l : List ℕ). append_known printed (session_text start (lines_of l))) (sym e);
+  at_end = inr q.ended;
+}
+said_of start printed now taken rest input cause.TooLarge e o =
+    (ap (is_large start) e ∙ o.large rest, o.text rest ∙ ap (λ (l : List ℕ). append_known printed (session_text start (early_lines l))) (sym e))
+said_of start printed now taken rest input cause.ReadFault e p = p
+said_of start printed now taken rest input cause.WriteFault e p =
+    let f = p rest in (f.0, f.1 ∙ ap (λ (l : List ℕ). append_known printed (take f.0 (text_of (session_outcome start l)))) (sym e))
+said_of start printed now taken rest input cause.NoMemory e p =
+    let f = p rest in (f.0, f.1 ∙ ap (λ (l : List ℕ). append_known printed (take f.0 (text_of (session_outcome start l)))) (sym e))
+
+large_said : (start : List Replaying) (printed now : Option (List ℕ)) (taken : List ℕ) (why : Ended) → StopsAt start printed now taken why → why ≡ cause.TooLarge → (earlier : List ℕ) × (now ≡ append_known printed earlier)
+large_said start printed now taken cause.Done s is = absurd cc
+large_said start printed now taken cause.TooLarge s is = (session_text start (early_lines (taken ++ [])), s.text [])
+large_said start printed now taken cause.ReadFault s is = absurd cc
+large_said start printed now taken cause.WriteFault s is = absurd cc
+large_said start printed now taken cause.NoMemory s is = absurd cc
+
+pub holds_broken : (start : List Replaying) (printed now : Option (List ℕ)) (earlier : List ℕ) (left mid after : Option (List ℕ)) (size : ℕ) (why : Ended)
+    → WhenTold left (λ input. IsTaken input mid earlier) → ends (opening start) (whole_lines earlier) ≡ false → size ≤ 4096 → length earlier + size ≤ most_input + 1
+    → Breaks start printed now earlier mid after size why → Holds start left after printed now why
+holds_broken start printed now earlier left mid after size why read on short within b =
+    let whole = taken_more left mid after earlier b.piece read b.read in
+    record {
+      taken = earlier ++ b.piece;
+      asks = record { earlier = earlier; piece = b.piece; parts = refl; short = omega (arith, b.short); within = rw length-append (omega (arith, b.short)); goes_on = on };
+      read = whole;
+      said = λ input told. let w = whole input told in said_of start printed now (earlier ++ b.piece) w.rest input why w.whole b.stops;
+      large = large_said start printed now (earlier ++ b.piece) why b.stops;
+    }
+
+-- ---- a session at the end of its input
+
+module _ (start : List Replaying) (printed mid now : Option (List ℕ)) (state : SessionState) (begun : List ℕ) (count : ℕ) (taken : List ℕ) (s : Stands start printed mid state begun count taken) where
+  within : length taken ≤ most_input
+  within = omega (arith, s.count_is, s.within)
+
+  fits : is_large start taken ≡ false
+  fits = fits_short most_input start taken within
+
+  lines : lines_of taken ≡ whole_lines taken ++ take 1 (lines_of begun)
+  lines = lines_of-open taken begun s.whole ∙ ap (λ (l : List (List ℕ)). whole_lines taken ++ l) (sym (few_lines-open begun s.open_line))
+
+  text_is : session_text start (lines_of taken) ≡ session_text start (whole_lines taken) ++ answers state (take 1 (lines_of begun))
+  text_is = ap (session_text start) lines ∙ session_more start (whole_lines taken) (take 1 (lines_of begun)) s.goes_on
+      ∙ ap (λ (p : SessionState). session_text start (whole_lines taken) ++ answers p (take 1 (lines_of begun))) (sym s.state_is)
+
+  whole_is : text_of (session_outcome start taken) ≡ session_text start (lines_of taken)
+  whole_is = rw fits refl
+
+  concludes : (input : List ℕ) → input ≡ taken → now ≡ append_known mid (answers state (take 1 (lines_of begun))) → Concludes start printed now taken input
+  concludes input e said = record {
+    fits = ap (is_large start) e ∙ fits;
+    text = said ∙ ap (λ (k : Option (List ℕ)). append_known k (answers state (take 1 (lines_of begun)))) s.text
+        ∙ append_twice printed (session_text start (whole_lines taken)) (answers state (take 1 (lines_of begun)))
+        ∙ ap (append_known printed) (sym text_is) ∙ ap (λ (l : List ℕ). append_known printed (session_text start (lines_of l))) (sym e);
+    at_end = inl e;
+  }
+
+  some : (input : List ℕ) → input ≡ taken → PrintsPart state (take 1 (lines_of begun)) mid now → SaysSome start printed now input
+  some input e p =
+      let said = session_text start (whole_lines taken) in
+      let told = answers state (take 1 (lines_of begun)) in (
+        length said + p.0,
+        p.1 ∙ ap (λ (k : Option (List ℕ)). append_known k (take p.0 told)) s.text
+            ∙ append_twice printed said (take p.0 told)
+            ∙ ap (append_known printed) (sym (take-append-add said told p.0) ∙ ap (take (length said + p.0)) (sym (whole_is ∙ text_is)))
+            ∙ ap (λ (l : List ℕ). append_known printed (take (length said + p.0) (text_of (session_outcome start l)))) (sym e),
+      )
+
+  said_all : (input : List ℕ) → input ≡ taken → (printed_all : now ≡ append_known mid (answers state (take 1 (lines_of begun)))) → Said start printed now taken input cause.Done
+  said_all input e spoke = concludes input e spoke
+
+  said_error : (input : List ℕ) (why : Ended) → input ≡ taken → Spoke state (take 1 (lines_of begun)) mid now (Err why) → Said start printed now taken input why
+  said_error input cause.Done e spoke = concludes input e spoke.0
+  said_error input cause.TooLarge e spoke = absurd spoke
+  said_error input cause.ReadFault e spoke = absurd spoke
+  said_error input cause.WriteFault e spoke = some input e spoke
+  said_error input cause.NoMemory e spoke = some input e spoke
+
+  never_large : (why : Ended) → Spoke state (take 1 (lines_of begun)) mid now (Err why) → why ≡ cause.TooLarge → ⊥
+  never_large cause.Done spoke is = absurd cc
+  never_large cause.TooLarge spoke is = spoke
+  never_large cause.ReadFault spoke is = spoke
+  never_large cause.WriteFault spoke is = absurd cc
+  never_large cause.NoMemory spoke is = absurd cc
+
+  module _ (left left_after : Option (List ℕ)) (read : WhenTold left (λ input. IsTaken input left_after taken)) (last : WhenTold left (λ input. input ≡ taken)) where
+    asks : Asks start taken
+    asks = record { earlier = taken; piece = []; parts = sym (append-nil taken); short = omega arith; within = omega (arith, within); goes_on = s.goes_on }
+
+    pub holds_all : now ≡ append_known mid (answers state (take 1 (lines_of begun))) → Holds start left left_after printed now cause.Done
+    holds_all spoke = record {
+      taken = taken;
+      asks = asks;
+      read = read;
+      said = λ input told. said_all input (last input told) spoke;
+      large = λ is. absurd cc;
+    }
+
+    pub holds_error : (why : Ended) → Spoke state (take 1 (lines_of begun)) mid now (Err why) → Holds start left left_after printed now why
+    holds_error why spoke = record {
+      taken = taken;
+      asks = asks;
+      read = read;
+      said = λ input told. said_error input why (last input told) spoke;
+      large = λ is. absurd (never_large why spoke is);
+    }
+
+-- ---- a line that could not be said whole
+
+spoke_part : (state : SessionState) (line : List ℕ) (n : ℕ) (old new : Option (List ℕ)) → new ≡ append_known old (take n (answer state line).text) → PrintsPart state (line ∷ []) old new
+spoke_part state line n old new e =
+    let f = take_front n (answer state line).text (answers state (line ∷ [])) (if (answer state line).quits then [] else [], refl) in
+    (f.0, e ∙ ap (append_known old) f.1)
+
+spoke_lines : (state : SessionState) (ls : List (List ℕ)) (line : List ℕ) (old new : Option (List ℕ)) (e : WriteError) → ls ≡ line ∷ [] → PrintsPart state (line ∷ []) old new → Spoke state ls old new (Err (ended_by e))
+spoke_lines state ls line old new writing.Failed is part = subst (λ (l : List (List ℕ)). PrintsPart state l old new) (sym is) part
+spoke_lines state ls line old new writing.NoMemory is part = subst (λ (l : List (List ℕ)). PrintsPart state l old new) (sym is) part
+
+pub spoke_failed : (state : SessionState) (bytes line : List ℕ) (rest : List (List ℕ)) (text : List ℕ) (n : ℕ) (old new : Option (List ℕ)) (e : WriteError)
+    → lines_of bytes ≡ line ∷ rest → text ≡ (answer state line).text → new ≡ append_known old (take n text) → Spoke state (take 1 (lines_of bytes)) old new (Err (ended_by e))
+spoke_failed state bytes line rest text n old new e is said printed =
+    spoke_lines state (take 1 (lines_of bytes)) line old new e (ap (take 1) is)
+    (spoke_part state line n old new (printed ∙ ap (λ (t : List ℕ). append_known old (take n t)) said))
+
+-- of lines that there was no memory to answer nothing was said
+pub spoke_nothing : (state : SessionState) (lines : List (List ℕ)) (printed : Option (List ℕ)) → Spoke state lines printed printed (Err cause.NoMemory)
+spoke_nothing state ls None = (0, refl)
+spoke_nothing state ls (Some text) = (0, ap Some (sym (append-nil text)))
