@@ -9,11 +9,12 @@
 //! | line | what it does |
 //! |---|---|
 //! | `keep NAME BYTES` | keeps the bytes for all cases |
-//! | `case TEXT` | begins a case, with no files |
+//! | `case TEXT` | begins a case, with no files and an empty input |
 //! | `file NAME BYTES` | sets the bytes of a file |
 //! | `add NAME BYTES` | puts the bytes at the end of a file |
 //! | `cut NAME N` | leaves the first N bytes of a file |
 //! | `set NAME AT BYTES` | puts the bytes over those of a file, from an offset on |
+//! | `input N BYTES` | hands the bytes in to each command that the case makes, of which a read gives N at most |
 //! | `fail files N` | lets the call of this number fail, of those on files that the case makes |
 //! | `fail input N`, `fail output N` | lets the read or the write of this number fail, of those that the next command makes |
 //! | `run WORDS` | makes the call with these words |

@@ -41,6 +41,10 @@ pub enum Order<'a> {
         at: usize,
         pieces: &'a str,
     },
+    Input {
+        piece: usize,
+        pieces: &'a str,
+    },
     Fail {
         side: Side,
         call: u64,
@@ -117,6 +121,10 @@ pub fn read_order(line: &str) -> anyhow::Result<Order<'_>> {
             len: number(pieces)?,
         },
         "set" => set(rest)?,
+        "input" => Order::Input {
+            piece: number(name)?,
+            pieces,
+        },
         "fail" => fail(rest)?,
         "run" => Order::Run(rest),
         "cuts" => each(Change::Cut, rest)?,

@@ -16,12 +16,14 @@ const SHOWN: usize = 512;
 /// The bytes of a file that stand in one line.
 const ROW: usize = 32;
 
-/// What was kept for all cases, and the files of the one that was begun last.
+/// What was kept for all cases, and the files and the input of the one that was begun last.
 #[derive(Drop)]
 pub struct Session {
     alloc: Global,
     kept: MemFiles,
     files: MemFiles,
+    input: Vec<u8>,
+    piece: usize,
     failing_reads: Vec<u64>,
     failing_writes: Vec<u64>,
 }
@@ -32,6 +34,8 @@ impl Session {
             alloc,
             kept: MemFiles::new(alloc),
             files: MemFiles::new(alloc),
+            input: Vec::new(alloc),
+            piece: 1,
             failing_reads: Vec::new(alloc),
             failing_writes: Vec::new(alloc),
         }
@@ -52,6 +56,7 @@ impl Session {
             Order::Add { name, pieces } => self.add(name, pieces),
             Order::Cut { name, len } => self.cut(name, len),
             Order::Set { name, at, pieces } => self.set(name, at, pieces),
+            Order::Input { piece, pieces } => self.hand_in(piece, pieces),
             Order::Fail { side, call } => self.fail(side, call),
             Order::Run(words) => self.run(words),
             Order::Each {
@@ -73,6 +78,7 @@ impl Session {
 
     fn begin(&mut self, name: &str) -> anyhow::Result<String> {
         self.files = MemFiles::new(self.alloc);
+        self.input.clear();
         self.failing_reads.clear();
         self.failing_writes.clear();
         Ok(format!(in self.alloc; "\ncase {name}\n")?)
@@ -118,6 +124,14 @@ impl Session {
         self.put("set", name, &bytes)
     }
 
+    fn hand_in(&mut self, piece: usize, pieces: &str) -> anyhow::Result<String> {
+        ensure!(piece > 0, "a read gives a byte at least");
+        self.input = spelled(self.alloc, pieces, &self.kept)?;
+        self.piece = piece;
+        let len = self.input.len();
+        Ok(format!(in self.alloc; "input: {len} bytes, {piece} at most in a read\n")?)
+    }
+
     fn fail(&mut self, side: Side, call: u64) -> anyhow::Result<String> {
         let name = match side {
             Side::Files => {
@@ -141,10 +155,11 @@ impl Session {
         Ok(format!(in self.alloc; "run {words}: {told}")?)
     }
 
-    // Makes the call with a fresh input and a fresh output.
+    // Makes the call with the input from its beginning, and a fresh output.
     fn call(&mut self, words: &str) -> Result<Outcome, AllocError> {
         let words = split_words(self.alloc, words)?;
-        let mut input = MemSource::new(Vec::new(self.alloc), 1);
+        let bytes = Vec::from_slice(self.alloc, &self.input)?;
+        let mut input = MemSource::new(bytes, self.piece.max(1));
         for read in &self.failing_reads {
             input.fail_at(*read)?;
         }

@@ -42,7 +42,18 @@ def words(script):
         "record ''",
         "record -a",
         "record a.log a.log",
-        "debug a.wasm a.log",
+        "debug",
+        "debug a.wasm",
+        "debug a.wasm a.log a.log",
+        "debug a.wasm ''",
+        "debug '' a.log",
+        "debug -a a.log",
+        "debug a.wasm -a",
+        "debug - a.log",
+        "debug a.wasm a.log a.wasm",
+        "debug a.wasm a.log a.wasm -a",
+        "debug a.wasm a.log --",
+        "Debug a.wasm a.log",
         "--help",
     ):
         script.run(line, "Usage", USAGE)
@@ -82,7 +93,11 @@ def images_words(script):
         "replay a.wasm a.log --images --images",
         "replay --images a.wasm ''",
         "replay --images -a a.log",
+        "debug --images",
         "debug --images a.wasm a.log",
+        "debug a.wasm --images a.log",
+        "debug a.wasm a.log --images",
+        "debug --images a.wasm a.log --images",
         "drill --images 1",
     ):
         script.run(line, "Usage", USAGE)
@@ -117,6 +132,7 @@ def files_of_a_replay(script):
         ("a.wasm a.wasm", "Refused", "refused a.wasm: 1 BadHead"),
     ):
         script.run("replay " + line, status, "friday: " + said)
+        script.run("debug " + line, status, "friday: " + said)
 
 
 def files_of_a_record(script):
@@ -143,7 +159,8 @@ def too_large(script):
     script.file("b.wasm", script.kept("now"))
     earlier = ("", "b.wasm p0 ", "b.wasm p0 b.wasm p1 ")
     for pairs in earlier:
-        script.run("replay %slong x" % pairs, *refused("long", "TooLarge"))
+        for verb in ("replay", "debug"):
+            script.run("%s %slong x" % (verb, pairs), *refused("long", "TooLarge"))
     # A custom section up to the end, whose name is empty.
     script.file("a.wasm", digits(custom) + times(4194304 - len(custom), b"\0"))
     script.file("a.log", digits(LOG))
@@ -152,10 +169,12 @@ def too_large(script):
     script.run("replay a.wasm a.log", *refused("a.wasm", "TooLarge"))
     script.file("long", times(33554433, b"\0"))
     for pairs in earlier:
-        script.run("replay %sb.wasm long b.wasm x" % pairs, *refused("long", "TooLarge"))
+        for verb in ("replay", "debug"):
+            script.run("%s %sb.wasm long b.wasm x" % (verb, pairs), *refused("long", "TooLarge"))
     script.file("a.wasm", script.kept("now"))
     script.file("a.log", digits(logs.head()) + times(33554432 - 18, b"\0"))
     script.run("replay a.wasm a.log", "Done", *report(0, "running", "33554414 bytes left over"))
+    script.run("debug a.wasm a.log", "Done", "at 0")
     script.file("s", times(16777217, b"\n"))
     script.run("record s", *refused("s", "TooLarge"))
     script.file("s", text(FRONT + "#") + times(16777216 - len(FRONT) - 1, b"-"))
@@ -173,7 +192,7 @@ def failing_replays(script):
     for line in ("replay a.wasm a.log", "replay a.log a.log", "replay x x", "replay"):
         script.fail("output", 1)
         script.run(line, "WriteFault")
-    # No command that is built reads its input, and one that is done makes one write.
+    # Neither a replay nor a recording reads its input, and one that is done makes one write.
     script.fail("input", 1)
     script.fail("output", 2)
     script.run("replay a.wasm a.log", "Done", *report(3, "finished"))
@@ -211,6 +230,8 @@ def script_lines(script):
     script.broken("add s 00", "there is no file s")
     script.broken("file s =nothing", "nothing is kept as nothing")
     script.broken("cut s all", "all is no number")
+    script.broken("input all 00", "all is no number")
+    script.broken("input 0 00", "a read gives a byte at least")
     script.show("s", None)
 
 

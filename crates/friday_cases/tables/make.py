@@ -6,15 +6,20 @@ What the program is to print is put together here from the rules of docs/formats
 
 import os
 
-import commands, groups, guests, hostile, images, limits, pair_refusals, pairs, refusals, replays, schedules, threads
+import commands, debug_inputs, debug_points, debugger, groups, guests, hostile, images, limits, pair_refusals, pairs
+import point_refusals, refusals, replays, schedules, shell_refusals, shell_values, threads
 from script import Script
 
+PARTS = (
+    *(commands, schedules, groups, pairs, pair_refusals, images, hostile, replays, refusals, guests, threads, limits),
+    *(debugger, debug_points, shell_values, shell_refusals, point_refusals, debug_inputs),
+)
 HERE = os.path.dirname(os.path.abspath(__file__))
 
 
 def main():
     script = Script()
-    for part in (commands, schedules, groups, pairs, pair_refusals, images, hostile, replays, refusals, guests, threads, limits):
+    for part in PARTS:
         part.table(script)
     for name, lines in (("stdin", script.lines), ("stdout", script.told)):
         with open(os.path.join(HERE, "..", name), "w") as file:

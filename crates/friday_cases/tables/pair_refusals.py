@@ -1,4 +1,5 @@
-"""Files of several pairs that are refused, absent or not read: which of them the first is, and that it is told."""
+"""Files of several pairs that are refused, absent or not read, in a replay and in a session of the debugger: which of
+them the first is, and that it is told."""
 
 import logs
 from common import refused
@@ -40,6 +41,12 @@ def replay(script, pairs, outcome):
     script.run("replay " + " ".join(pairs), *outcome)
 
 
+def judged(script, pairs, outcome):
+    """What comes of a replay; the debugger refuses the same."""
+    replay(script, pairs, outcome)
+    script.run("debug " + " ".join(pairs), *(("Done", "at 0") if outcome[0] == "Done" else outcome))
+
+
 def at_each_pair(script):
     """A bad file of each pair, where those before it are good and those behind it absent."""
     begin(script, "a bad file of the first, the second and the third pair")
@@ -51,7 +58,7 @@ def at_each_pair(script):
     bad += [("m head", refused("head", "1 BadHead")), ("m m", refused("m", "1 BadHead"))]
     for at in range(3):
         for pair, outcome in bad:
-            replay(script, (*GOOD[:at], pair, "x y"), outcome)
+            judged(script, (*GOOD[:at], pair, "x y"), outcome)
 
 
 def whole(*heads):
@@ -80,20 +87,20 @@ def clashes(script):
     begin(script, "a log that does not go with those before it")
     for count, process, name, reason in CLASHES:
         script.file("l", begun(count, process, name))
-        replay(script, ("m l0", "m l1", "m l"), refused("l", reason))
-        replay(script, ("m l1", "m l0", "m l", "x y"), refused("l", reason))
+        judged(script, ("m l0", "m l1", "m l"), refused("l", reason))
+        judged(script, ("m l1", "m l0", "m l", "x y"), refused("l", reason))
         # By itself it is as good as any.
-        replay(script, ("m l",), ("Done", *whole((process, name))))
+        judged(script, ("m l",), ("Done", *whole((process, name))))
     script.file("l", begun(3, 1, b"one"))
-    replay(script, ("m l", "m l0", "m x"), refused("l0", "2 OtherGroup"))
+    judged(script, ("m l", "m l0", "m x"), refused("l0", "2 OtherGroup"))
     script.file("l", begun(4, 1, b"one"))
-    replay(script, ("m l", "m l0", "m x"), refused("l0", "4 SameName"))
-    replay(script, ("m l", "m l1", "m x"), refused("l1", "3 SameProcess"))
-    replay(script, ("m l", "m l2", "m l0", "m l1"), refused("l0", "4 SameName"))
-    replay(script, ("m l0", "m l1", "m l0"), refused("l0", "3 SameProcess"))
+    judged(script, ("m l", "m l0", "m x"), refused("l0", "4 SameName"))
+    judged(script, ("m l", "m l1", "m x"), refused("l1", "3 SameProcess"))
+    judged(script, ("m l", "m l2", "m l0", "m l1"), refused("l0", "4 SameName"))
+    judged(script, ("m l0", "m l1", "m l0"), refused("l0", "3 SameProcess"))
     # Names are told apart by all their bytes.
     script.file("l", begun(4, 3, b"tw"))
-    replay(script, ("m l0", "m l1", "m l"), ("Done", *whole((0, b"one"), (1, b"two"), (3, b"tw"))))
+    judged(script, ("m l0", "m l1", "m l"), ("Done", *whole((0, b"one"), (1, b"two"), (3, b"tw"))))
 
 
 def in_turn(script):
@@ -112,7 +119,7 @@ def in_turn(script):
         (("m l0", "x other", "bad y"), absent("x")),
         (("m l0", "m y", "m other"), absent("y")),
     ):
-        replay(script, pairs, outcome)
+        judged(script, pairs, outcome)
 
 
 def segments(script):
@@ -137,7 +144,7 @@ def segments(script):
         (("far l0", "m l0"), refused("l0", "3 SameProcess")),
         (("far l0", "m same"), refused("same", "4 SameName")),
     ):
-        replay(script, pairs, outcome)
+        judged(script, pairs, outcome)
         replay(script, ("--images", *pairs), outcome)
     script.show("one.mem", None)
     script.show("two.out", None)

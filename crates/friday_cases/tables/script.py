@@ -91,6 +91,11 @@ class Script:
     def set(self, name, at, data):
         self._change("set", name, "%d %s" % (at, data.hex()), self.sizes[name])
 
+    def input(self, piece, pieces):
+        """Hands these bytes in to the commands of the case that come after, of which a read gives `piece` at most."""
+        self.lines.append("input %d %s" % (piece, pieces.spelled))
+        self.told.append("input: %d bytes, %d at most in a read" % (len(pieces.data), piece))
+
     def fail(self, side, call):
         self.lines.append("fail %s %d" % (side, call))
         self.told.append("fail %s %d" % (side, call))
