@@ -1,5 +1,6 @@
 #!/bin/sh
 # Records ping and pong by both schedules beside this script, replays their logs together, and compares what is printed.
+# Then the lines of `session` are answered over the logs of the last one, from a file and from a pipe, and compared too.
 # Usage: check.sh [PROGRAM]   (the program that ./friday builds, if none is given)
 here=$(CDPATH='' cd -- "$(dirname -- "$0")" && pwd) || exit 1
 program=$(realpath -- "${1:-$here/../../crates/friday/out/friday}") || exit 1
@@ -11,4 +12,11 @@ for schedule in in_order schedule; do
     echo "$schedule:"
     "$program" record "$schedule" && "$program" replay ping.wasm ping.log pong.wasm pong.log || break
 done > printed
-diff "$here/expected" printed && echo "as expected"
+diff "$here/expected" printed || exit 1
+
+debug() {
+    "$program" debug ping.wasm ping.log pong.wasm pong.log
+}
+debug < "$here/session" > from_file || exit 1
+while read -r line; do echo "$line"; done < "$here/session" | debug > from_pipe || exit 1
+diff "$here/answers" from_file && cmp from_file from_pipe && echo "as expected"

@@ -1,0 +1,122 @@
+#!/bin/sh
+# `continue` over 16 processes that pass datagrams round in a ring, from position 0 to the end, with 0, 1 and 10 watchpoints
+# that never fire, in logs of 100,000 and 1,000,000 events; beside `goto` to the end. The watchpoints read a number of one
+# process, or add up one of each process. Prints the processor's time for each event, and that for each value of a watchpoint, which
+# is what the walk takes longer than without any; instructions by valgrind for the shorter logs; and the peak of memory. The
+# guest is built with wat2wasm of the package wabt.
+# Usage: bench/walks.sh [PROGRAM]   (the program that ./friday builds, if none is given)
+here=$(CDPATH='' cd -- "$(dirname -- "$0")/.." && pwd) || exit 1
+program=${1:-$here/crates/friday/out/friday}
+exec python3 - "$program" <<'PYTHON'
+import os, re, shutil, subprocess, sys, tempfile
+
+program = os.path.abspath(sys.argv[1])
+COUNT, TRIES = 16, 3
+
+# Sends 4 bytes to the next process of the ring and takes those of the one before it, for ever.
+RING = """(module
+  (import "liblog" "me" (func $me (result i32)))
+  (import "liblog" "send" (func $send (param i32 i32 i32) (result i32)))
+  (import "liblog" "recv" (func $recv (param i32 i32 i32) (result i32)))
+  (memory 1)
+  (func (export "_start") (local $next i32)
+    (local.set $next (i32.rem_u (i32.add (call $me) (i32.const 1)) (i32.const 16)))
+    (loop
+      (drop (call $send (local.get $next) (i32.const 0) (i32.const 4)))
+      (drop (call $recv (i32.const 8) (i32.const 16) (i32.const 4)))
+      (br 0))))
+"""
+# What no event changes: a number of one process, and one of each.
+ONE = ["@p%d.u32[%d]" % (n, 4000 + 4 * n) for n in range(10)]
+EACH = ["sum(@_.u32[%d])" % (4000 + 4 * n) for n in range(10)]
+
+
+# Begin and `me` of each process, and then rounds of a send, its delivery and its receipt.
+def write_ring(path, events):
+    with open(path, "w") as file:
+        file.write("friday 1\n")
+        for p in range(COUNT):
+            file.write("process p%d ring.wasm\n" % p)
+        for p in range(COUNT):
+            file.write("run %d 0 2\n" % p)
+        for round in range(1, (events - 2 * COUNT) // (2 * COUNT) + 1):
+            for p in range(COUNT):
+                file.write("run %d 0\ndeliver %d %d\n" % (p, p, round))
+            for p in range(COUNT):
+                file.write("run %d 0\n" % p)
+
+
+def record(folder, events):
+    write_ring(os.path.join(folder, "s"), events)
+    told = subprocess.run([program, "record", "s"], cwd=folder, stdout=subprocess.PIPE, text=True, check=True).stdout
+    return sum(int(n) for n in re.findall(r": (\d+) events", told))
+
+
+WORDS = ["debug"] + [word for p in range(COUNT) for word in ("ring.wasm", "p%d.log" % p)]
+
+
+# The processor's seconds of a session of these lines, and its peak of memory.
+def ask(folder, lines):
+    given = "".join(line + "\n" for line in lines).encode()
+    child = subprocess.Popen([program] + WORDS, cwd=folder, stdin=subprocess.PIPE, stdout=subprocess.DEVNULL)
+    child.stdin.write(given)
+    child.stdin.close()
+    _, status, usage = os.wait4(child.pid, 0)
+    assert os.waitstatus_to_exitcode(status) == 0, status
+    return usage.ru_utime + usage.ru_stime, usage.ru_maxrss * 1024
+
+
+# The least of some tries, since the machine may be at work on other things.
+def least(folder, lines):
+    return tuple(map(min, zip(*(ask(folder, lines) for _ in range(TRIES)))))
+
+
+# Instructions by valgrind's count, the same however busy the machine is.
+def instructions(folder, lines):
+    words = ["valgrind", "--tool=callgrind", "--callgrind-out-file=/dev/null", program] + WORDS
+    given = "".join(line + "\n" for line in lines)
+    told = subprocess.run(words, cwd=folder, input=given, stdout=subprocess.DEVNULL, stderr=subprocess.PIPE, text=True).stderr
+    return int(re.search(r"Collected : (\d+)", told).group(1))
+
+
+def walk(watched):
+    return ["watch " + expression for expression in watched] + ["continue"]
+
+
+# A cost, beside that without watchpoints: for each event, and for each value of a watchpoint.
+def shared(cost, bare, events, points):
+    if cost is None:
+        return "-", "-"
+    return "%.0f" % (cost / events), "%.0f" % ((cost - bare) / events / points) if points else "-"
+
+
+# The time, the peak of memory, and the instructions or None, without those of a session that stays at position 0.
+def costs(folder, lines, counted):
+    still, (spent, peak) = least(folder, ["# nothing"])[0], least(folder, lines)
+    if not counted or shutil.which("valgrind") is None:
+        return spent - still, peak, None
+    return spent - still, peak, instructions(folder, lines) - instructions(folder, ["# nothing"])
+
+
+def table(folder, events, counted):
+    bare = costs(folder, walk([]), counted)
+    rows = [("none", []), *((name, some) for name, made in (("of one process", ONE), ("of each process", EACH)) for some in (made[:1], made))]
+    for name, expressions in rows:
+        points = len(expressions)
+        spent, peak, count = costs(folder, walk(expressions), counted) if points else bare
+        each, value = shared(spent * 1e9, bare[0] * 1e9, events, points)
+        each_count, value_count = shared(count, bare[2], events, points)
+        print("%8d  %2d %-16s %9s %9s %12s %12s %8.1f" % (events, points, name, each, value, each_count, value_count, peak / 1e6), flush=True)
+    spent, peak, count = costs(folder, ["goto %d" % events], counted)
+    print("%8d  %-19s %9.0f %9s %12s %12s %8.1f" % (events, "goto to the end", spent / events * 1e9, "", shared(count, 0, events, 0)[0], "", peak / 1e6), flush=True)
+
+
+with tempfile.TemporaryDirectory() as folder:
+    with open(os.path.join(folder, "ring.wat"), "w") as file:
+        file.write(RING)
+    subprocess.run(["wat2wasm", "ring.wat", "-o", "ring.wasm"], cwd=folder, check=True)
+    print("%8s  %-19s %9s %9s %12s %12s %8s" % ("", "", "ns", "ns", "instructions", "instructions", "peak"))
+    print("%8s  %-19s %9s %9s %12s %12s %8s" % ("events", "watchpoints", "an event", "a value", "an event", "a value", "MB"))
+    for wanted in (100_000, 1_000_000):
+        table(folder, record(folder, wanted), wanted <= 100_000)
+PYTHON
