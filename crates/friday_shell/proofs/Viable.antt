@@ -5,12 +5,12 @@ use Rattle.std.proofs.lemmas.Bool.{ltb-true, ltb-false}
 use Rattle.std.proofs.lemmas.List.{take-append-drop}
 use Rattle.watch_expr.specs.declared.error.ExprError.{ExprError}
 use Rattle.watch_expr.specs.declared.error.ExprError.TheVariants.{Syntax, NoNode, TooDeep, Nested, NoMemory}
-use Rattle.watch_expr.specs.Computed.{begins_some, tree_of}
-use Rattle.watch_expr.specs.Grammar.{Begins, IsExpr, Parsed, Takes}
+use Rattle.watch_expr.specs.Computed.{tree_of, viable}
+use Rattle.watch_expr.specs.Grammar.{IsExpr, Parsed, Takes}
 use Rattle.watch_expr.specs.Laws.{ExactReading}
 use Rattle.watch_expr.specs.Lexing.{Lexed, texts}
 use Rattle.watch_expr.specs.Tree.{Tree, tree}
-use Rattle.friday_shell.specs.Lines.{expression_from, tree_or, viable}
+use Rattle.friday_shell.specs.Lines.{expression_from, tree_or}
 use Rattle.friday_shell.specs.Seen.{ReadsAs}
 
 tested : (b : Bool) → (b ≡ true) ⊎ (b ≡ false)
@@ -19,25 +19,6 @@ tested false = inr refl
 
 le_cases : (a b : ℕ) → a ≤ b → (a < b) ⊎ (a ≡ b)
 le_cases a b le = elim (tested (nat_lt a b)) [ inl t ↦ inl (ltb-true a b t) | inr f ↦ inr (omega (arith, ltb-false a b f)) ]
-
--- what begins an expression does so from its first tokens on
-begins_front : (names a b : List (List ℕ)) → Begins names (a ++ b) → Begins names a
-begins_front names a b h = record { rest = b ++ h.rest; whole = h.whole; spelled = subst (λ (ts : List (List ℕ)). IsExpr names ts h.whole) (append_assoc a b h.rest) h.spelled }
-
-not_begun : ExactReading → (names ts : List (List ℕ)) → (Begins names ts → ⊥) → begins_some names ts ≡ false
-not_begun law names ts never = elim (tested (begins_some names ts)) [ inl t ↦ absurd (never ((law.begun names ts).0 t)) | inr f ↦ f ]
-
-viable_behind : ExactReading → (names before ts : List (List ℕ)) (n : ℕ) → n ≤ length ts → Begins names (before ++ take n ts) → (n < length ts → Begins names (before ++ take (suc n) ts) → ⊥) → viable names before ts ≡ n
-viable_behind law names before [] n within begins longest = omega arith
-viable_behind law names before (t ∷ ts) zero within begins longest = rw (not_begun law names (before ++ t ∷ []) (longest (omega arith))) refl
-viable_behind law names before (t ∷ ts) (suc n) within begins longest =
-    let regroup : (m : ℕ) → (before ++ t ∷ []) ++ take m ts ≡ before ++ (t ∷ take m ts) = λ m. append_assoc before (t ∷ []) (take m ts) in
-    let on : Begins names ((before ++ t ∷ []) ++ take n ts) = subst (Begins names) (sym (regroup n)) begins in
-    let first : begins_some names (before ++ t ∷ []) ≡ true = (law.begun names (before ++ t ∷ [])).1 (begins_front names (before ++ t ∷ []) (take n ts) on) in
-    rw first (ap suc (viable_behind law names (before ++ t ∷ []) ts n (omega arith) on (λ lt b. longest (omega arith) (subst (Begins names) (regroup (suc n)) b))))
-
-viable_is : ExactReading → (names ts : List (List ℕ)) (n : ℕ) → Takes names ts n → viable names [] ts ≡ n
-viable_is law names ts n h = viable_behind law names [] ts n h.within h.begins (λ lt b. h.longest lt (subst (λ (m : ℕ). Begins names (take m ts)) (sym (add-one n)) b))
 
 -- where the tokens that begin an expression are none, all of them are none
 none_whole : ExactReading → (names ts : List (List ℕ)) (n : ℕ) → Takes names ts n → ((x : Tree) → IsExpr names (take n ts) x → ⊥) ⊎ (n < length ts) → (o : Option Tree) → tree_of names ts ≡ o → tree_of names ts ≡ None
@@ -59,7 +40,7 @@ stops_at law names ts from n le h short =
     let inside : n < length ts → n - from < length (drop from ts) = λ lt. omega (arith, length-drop from ts) in
     let behind : ((x : Tree) → IsExpr names (take (n - from) (drop from ts)) x → ⊥) ⊎ (n - from < length (drop from ts)) = elim short [ inl never ↦ inl never | inr lt ↦ inr (inside lt) ] in
     let none : tree_of names (drop from ts) ≡ None = none_whole law names (drop from ts) (n - from) h behind (tree_of names (drop from ts)) refl in
-    let count : from + viable names [] (drop from ts) ≡ n = rw (viable_is law names (drop from ts) (n - from) h) (omega arith) in
+    let count : from + viable names [] (drop from ts) ≡ n = rw (law.viable names (drop from ts) (n - from) h) (omega arith) in
     ap (tree_or (from + viable names [] (drop from ts))) none ∙ ap (λ (m : ℕ). Err m) count
 
 -- all tokens are the expression

@@ -2,7 +2,6 @@ pub mod Ends
 pub mod Texts
 pub mod Lines
 pub mod Refusals
-pub mod Coding
 pub mod Points
 pub mod Firing
 pub mod Answer

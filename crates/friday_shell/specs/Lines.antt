@@ -1,7 +1,7 @@
 -- The commands that lines spell.
 use Rattle.std.specs.Prelude.{ℕ, suc, ◌+◌, Bool, false, ◌&&◌, nat_le, is_none, List, [], ◌∷◌, ◌++◌, length, drop, codes, bytes_eq, position, slice_get, Option, Some, None, option_and_then, option_map, Result, Ok, Err, if◌then◌else◌}
 use Rattle.std.specs.List.{find}
-use Rattle.watch_expr.specs.Computed.{begins_some, tree_of}
+use Rattle.watch_expr.specs.Computed.{tree_of, viable}
 use Rattle.call_table.specs.Table.{kind_named}
 use Rattle.call_table.specs.declared.kind.Kind.{Kind}
 use Rattle.watch_expr.specs.Faulty.{is_nested, lacks_node, names_variable}
@@ -92,11 +92,6 @@ ends_at texts n command = if nat_le (length texts) n then Ok command else Err n
 -- the greatest number that a token is
 abbrev pub most_number : ℕ
 most_number = 9223372036854775807
-
--- how many of these tokens, behind those before, begin some expression with them
-abbrev pub viable : List (List ℕ) → List (List ℕ) → List (List ℕ) → ℕ
-viable names before [] = 0
-viable names before (t ∷ ts) = if begins_some names (before ++ t ∷ []) then suc (viable names (before ++ t ∷ []) ts) else 0
 
 abbrev pub tree_or : ℕ → Option Tree → Result Tree ℕ
 tree_or n None = Err n

@@ -1,18 +1,16 @@
 // What single tokens of a command are, and the expression behind its verb.
 ghost use Rattle.std.specs.Prelude.{◌≡◌, ◌<◌, ◌^◌, IfSome, bytes_eq, length, option_map, position};
-ghost use Rattle.std.specs.List.{list_all};
 ghost use Rattle.call_table.specs.Table.{kind_named};
 ghost use Rattle.friday_shell.specs.Lines.{count_or, ends_at, expression_from, node_named, number_from, scope_named, token_as};
 ghost use Rattle.friday_shell.specs.Seen.{ReadsAs, command, scope};
 ghost use Rattle.watch_expr.specs.Lexing.{texts};
-ghost use Rattle.watch_expr.specs.Spelling.{is_word, is_word_byte};
 ghost use Rattle.watch_expr.specs.Tree.{tree};
 
 use crate::command::{Command, Scope};
 use fri_bytes::Bytes;
 use lib_calls::Kind;
 use std::alloc::Global;
-use watch_expr::{Expr, ExprError, Tokens, exact_reading, parse};
+use watch_expr::{Expr, ExprError, Tokens, exact_reading, is_word, parse};
 
 /// The number that token n is, from the least to the most.
 pub(crate) fn read_number(
@@ -88,25 +86,6 @@ pub(crate) fn read_kind(tokens: &Tokens<'_>, n: usize) -> Result<Kind, ExprError
 {
     let kind = tokens.text(n).and_then(Kind::from_name);
     kind.ok_or(ExprError::Syntax(tokens.column(n)))
-}
-
-// Whether the token is a word.
-fn is_word(text: &[u8]) -> bool
-    ensures { result ≡ is_word text.now }
-{
-    !text.is_empty() && are_word_bytes(text)
-}
-
-fn are_word_bytes(bytes: &[u8]) -> bool
-    ensures { result ≡ list_all is_word_byte bytes.now }
-{
-    bytes.iter().all(|b| is_word_byte(*b))
-}
-
-fn is_word_byte(b: u8) -> bool
-    ensures { result ≡ is_word_byte b }
-{
-    b.is_ascii_alphanumeric() || b == b'_'
 }
 
 // Which of the names this is.

@@ -36,7 +36,7 @@ impl<'m, 'a> Model for Session<'m, 'a> {
     ghost use Rattle.std.specs.Prelude.{◌≡◌};
     ghost use Rattle.std.specs.Coded.{codes};
     ghost use Rattle.guest_process.specs.Coding.{crew_code, trees_code};
-    ghost use Rattle.friday_shell.specs.Coding.{tree_code};
+    ghost use Rattle.watch_expr.specs.Coding.{tree_code};
     ghost use Rattle.friday_shell.specs.Points.{SessionState};
 
     ghost Value = { SessionState };

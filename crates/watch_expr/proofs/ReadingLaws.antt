@@ -1,10 +1,10 @@
 -- What is computed of tokens is what they spell.
-use Rattle.std.proofs.Common.{◌≡◌, ◌↔◌, ℕ, true, List, [], Option, Some, None, refl, ap, ◌∙◌}
+use Rattle.std.proofs.Common.{◌≡◌, ◌↔◌, ℕ, zero, suc, ◌+◌, ◌<◌, ◌≤◌, Bool, true, false, List, [], ◌∷◌, ◌++◌, length, take, Option, Some, None, ◌⊎◌, inl, inr, refl, sym, ap, ◌∙◌, subst, append_assoc, arith, add-one}
 use Rattle.std.specs.Prelude.{is_some}
 use Rattle.watch_expr.specs.Tree.{Tree}
-use Rattle.watch_expr.specs.Grammar.{IsExpr, Begins}
+use Rattle.watch_expr.specs.Grammar.{IsExpr, Begins, Takes}
 use Rattle.watch_expr.specs.Machine.{State, Want, steps}
-use Rattle.watch_expr.specs.Computed.{whole_if, tree_of, begins_some}
+use Rattle.watch_expr.specs.Computed.{whole_if, tree_of, begins_some, viable}
 use Rattle.watch_expr.proofs.Reading.{steps_keep, stands_begins, whole_says, whole_again, begins_reads}
 
 says : (names ts : List (List ℕ)) (x : Tree) (o : Option State) → steps names (Some (Want [])) ts ≡ o → whole_if o ≡ Some x → IsExpr names ts x
@@ -28,3 +28,28 @@ begun names ts = (
   λ e. begins_says names ts (steps names (Some (Want [])) ts) refl e,
   λ h. let r = begins_reads names ts h in ap is_some r.1,
 )
+
+-- ---- how many tokens begin an expression
+
+tested : (b : Bool) → (b ≡ true) ⊎ (b ≡ false)
+tested true = inl refl
+tested false = inr refl
+
+-- what begins an expression does so from its first tokens on
+begins_front : (names a b : List (List ℕ)) → Begins names (a ++ b) → Begins names a
+begins_front names a b h = record { rest = b ++ h.rest; whole = h.whole; spelled = subst (λ (ts : List (List ℕ)). IsExpr names ts h.whole) (append_assoc a b h.rest) h.spelled }
+
+not_begun : (names ts : List (List ℕ)) → (Begins names ts → ⊥) → begins_some names ts ≡ false
+not_begun names ts never = elim (tested (begins_some names ts)) [ inl t ↦ absurd (never ((begun names ts).0 t)) | inr f ↦ f ]
+
+viable_behind : (names before ts : List (List ℕ)) (n : ℕ) → n ≤ length ts → Begins names (before ++ take n ts) → (n < length ts → Begins names (before ++ take (suc n) ts) → ⊥) → viable names before ts ≡ n
+viable_behind names before [] n within begins longest = omega arith
+viable_behind names before (t ∷ ts) zero within begins longest = rw (not_begun names (before ++ t ∷ []) (longest (omega arith))) refl
+viable_behind names before (t ∷ ts) (suc n) within begins longest =
+    let regroup : (m : ℕ) → (before ++ t ∷ []) ++ take m ts ≡ before ++ (t ∷ take m ts) = λ m. append_assoc before (t ∷ []) (take m ts) in
+    let on : Begins names ((before ++ t ∷ []) ++ take n ts) = subst (Begins names) (sym (regroup n)) begins in
+    let first : begins_some names (before ++ t ∷ []) ≡ true = (begun names (before ++ t ∷ [])).1 (begins_front names (before ++ t ∷ []) (take n ts) on) in
+    rw first (ap suc (viable_behind names (before ++ t ∷ []) ts n (omega arith) on (λ lt b. longest (omega arith) (subst (Begins names) (regroup (suc n)) b))))
+
+pub viable_is : (names ts : List (List ℕ)) (n : ℕ) → Takes names ts n → viable names [] ts ≡ n
+viable_is names ts n h = viable_behind names [] ts n h.within h.begins (λ lt b. h.longest lt (subst (λ (m : ℕ). Begins names (take m ts)) (sym (add-one n)) b))

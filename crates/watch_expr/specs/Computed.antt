@@ -1,5 +1,5 @@
 -- What the tokens of a line and the grammar say, as functions that compute.
-use Rattle.std.specs.Prelude.{ℕ, zero, suc, ◌+◌, Bool, if◌then◌else◌, List, [], ◌∷◌, length, take, drop, Option, Some, None, Result, Ok, Err, is_some}
+use Rattle.std.specs.Prelude.{ℕ, zero, suc, ◌+◌, Bool, if◌then◌else◌, List, [], ◌∷◌, ◌++◌, length, take, drop, Option, Some, None, Result, Ok, Err, is_some}
 use Rattle.watch_expr.specs.Front.{front}
 use Rattle.watch_expr.specs.Lexing.{Placed, is_blank}
 use Rattle.watch_expr.specs.Machine.{State, Want, steps, whole}
@@ -39,3 +39,8 @@ tree_of names ts = whole_if (steps names (Some (Want [])) ts)
 -- whether the tokens begin some expression
 unfoldable pub begins_some : List (List ℕ) → List (List ℕ) → Bool
 begins_some names ts = is_some (steps names (Some (Want [])) ts)
+
+-- how many of these tokens, behind those before, begin some expression with them
+abbrev pub viable : List (List ℕ) → List (List ℕ) → List (List ℕ) → ℕ
+viable names before [] = 0
+viable names before (t ∷ ts) = if begins_some names (before ++ t ∷ []) then suc (viable names (before ++ t ∷ []) ts) else 0

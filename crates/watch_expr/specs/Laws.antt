@@ -1,9 +1,9 @@
 -- What holds of lines and expressions, whatever they are.
-use Rattle.std.specs.Prelude.{◌≡◌, ◌↔◌, ℕ, Bool, true, not, ◌||◌, ◌==◌, codes, bytes_eq, slice_index, List, Some, Ok, Err}
+use Rattle.std.specs.Prelude.{◌≡◌, ◌↔◌, ℕ, Bool, true, not, ◌||◌, ◌==◌, codes, bytes_eq, slice_index, List, [], Some, Ok, Err}
 use Rattle.std.specs.List.{list_all}
 use Rattle.watch_expr.specs.Lexing.{Placed, Lexes, IsBadAt}
-use Rattle.watch_expr.specs.Computed.{cut, tree_of, begins_some}
-use Rattle.watch_expr.specs.Grammar.{IsExpr, Begins}
+use Rattle.watch_expr.specs.Computed.{cut, tree_of, begins_some, viable}
+use Rattle.watch_expr.specs.Grammar.{IsExpr, Begins, Takes}
 use Rattle.watch_expr.specs.Tree.{Tree}
 
 -- What is computed of a line is its tokens, or the column of the first byte that begins none. So a line has one of
@@ -12,11 +12,12 @@ pub record ExactCut : Type 0 where
   pub tokens : (line : List ℕ) (ts : List Placed) → (cut line ≡ Ok ts) ↔ Lexes 1 line ts
   pub bad : (line : List ℕ) (column : ℕ) → (cut line ≡ Err column) ↔ IsBadAt 1 line column
 
--- What is computed of tokens is the expression that they spell, and whether they begin one. So tokens spell one
--- expression at most.
+-- What is computed of tokens is the expression that they spell, whether they begin one, and how many of them do. So
+-- tokens spell one expression at most.
 pub record ExactReading : Type 0 where
   pub trees : (names ts : List (List ℕ)) (x : Tree) → (tree_of names ts ≡ Some x) ↔ IsExpr names ts x
   pub begun : (names ts : List (List ℕ)) → (begins_some names ts ≡ true) ↔ Begins names ts
+  pub viable : (names ts : List (List ℕ)) (n : ℕ) → Takes names ts n → viable names [] ts ≡ n
 
 -- a comma, a semicolon, a brace or a string
 abbrev pub is_apart : List ℕ → Bool

@@ -1,3 +1,4 @@
+pub mod Coding
 pub mod Computed
 pub mod Faulty
 pub mod Front

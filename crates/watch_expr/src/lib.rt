@@ -23,3 +23,4 @@ pub use parser::parse;
 pub use token::Tokens;
 pub use value::eval;
 pub use view::{Scope, View};
+pub use word::is_word;

@@ -180,8 +180,8 @@ pub(crate) fn is_word_byte(b: u8) -> bool
     b.is_ascii_alphanumeric() || b == b'_'
 }
 
-/// Whether the bytes are a word.
-pub(crate) fn is_word(text: &[u8]) -> bool
+/// Whether the bytes are a word: letters, digits and underscores, one or more. It takes no memory.
+pub fn is_word(text: &[u8]) -> bool
     ensures { result ≡ is_word_text text.now }
 {
     !text.is_empty() && are_word_bytes(text)
