@@ -1,0 +1,22 @@
+use Rattle.std.proofs.Common.{◌≡◌, ℕ, List, Option, ℤ, sym, ap, ◌∙◌}
+use Rattle.std.specs.Global.{Vec}
+use Rattle.indexmap.specs.IndexMap.{IndexMap}
+use Rattle.embed_cmds.proofs.Kept.{inserted, written}
+use Rattle.embed_cmds.specs.Kept.{variables_of}
+use Rattle.embed_cmds.specs.Variables.{Variable, with_value}
+use Rattle.embed_cmds.proofs.variables.Vars.set.Goals as goal
+
+pub returns-in-Some : goal.returns-in-Some
+returns-in-Some c =
+    ap variables_of (c.get_mut.follows.holds c.args.value).0
+    ∙ written c.args.name.now c.args.value c.in-Some.kept.now c.self.inside.values.entries (sym c.in-Some.ensures.value)
+    ∙ ap (λ (vs : List Variable). with_value vs c.args.name.now c.args.value) c.self.view_is
+
+pub returns : goal.returns
+returns c =
+    let before : variables_of c.get_mut.follows.lender-at-none.entries ≡ c.args.self.now =
+    ap (λ (m : IndexMap (Vec ℕ) (Option ℤ) _). variables_of m.entries) c.get_mut.follows.holds-at-none ∙ c.self.view_is in
+    ap variables_of c.in_ok-insert.ensures.entries
+    ∙ inserted c.in_ok-from_slice.field-0 c.args.value c.get_mut.follows.lender-at-none.entries
+    ∙ ap (λ (name : List ℕ). with_value (variables_of c.get_mut.follows.lender-at-none.entries) name c.args.value) c.in_ok-from_slice.ensures.items
+    ∙ ap (λ (vs : List Variable). with_value vs c.args.name.now c.args.value) before

@@ -1,0 +1,47 @@
+-- The grammar of programs, over the texts of tokens.
+use Rattle.std.specs.Prelude.{◌≡◌, ℕ, true, codes, List, [], ◌∷◌, ◌++◌}
+use Rattle.watch_expr.specs.Grammar.{IsExpr}
+use Rattle.watch_expr.specs.Spelling.{is_word}
+use Rattle.watch_expr.specs.Tree.{Tree}
+use Rattle.embed_cmds.specs.Tree.{Item, Words, Value, Statement, Set, Say, Stop, If, Statements, End, Then}
+
+-- with these names of nodes, the tokens spell the item: a string in its quotes, or an expression
+pub data IsItem (names : List (List ℕ)) : List (List ℕ) → Item → Type 0 where
+  words : (body : List ℕ) → IsItem names ((34 ∷ (body ++ 34 ∷ [])) ∷ []) (Words body)
+  value : {a : List (List ℕ)} {x : Tree} → IsExpr names a x → IsItem names a (Value x)
+
+-- items with commas between them
+pub data IsItems (names : List (List ℕ)) : List (List ℕ) → List Item → Type 0 where
+  last : {a : List (List ℕ)} {i : Item} → IsItem names a i → IsItems names a (i ∷ [])
+  more : {a b : List (List ℕ)} {i : Item} {is : List Item} → IsItem names a i → IsItems names b is → IsItems names (a ++ codes "," ∷ b) (i ∷ is)
+
+mutual
+  pub data IsStatement (names : List (List ℕ)) : List (List ℕ) → Statement → Type 0 where
+    set : {a : List (List ℕ)} {x : Tree} (name : List ℕ) → is_word name ≡ true → IsExpr names a x → IsStatement names (codes "set" ∷ codes "$" ∷ name ∷ a) (Set name x)
+    say : {a : List (List ℕ)} {items : List Item} → IsItems names a items → IsStatement names (codes "say" ∷ a) (Say items)
+    stop : IsStatement names (codes "stop" ∷ []) Stop
+    if_alone : {a b : List (List ℕ)} {x : Tree} {p : Statements} → IsExpr names a x → IsProgram names b p → IsStatement names (codes "if" ∷ (a ++ codes "{" ∷ (b ++ codes "}" ∷ []))) (If x p End)
+    if_else : {a b c : List (List ℕ)} {x : Tree} {p q : Statements} → IsExpr names a x → IsProgram names b p → IsProgram names c q → IsStatement names (codes "if" ∷ (a ++ codes "{" ∷ (b ++ codes "}" ∷ codes "else" ∷ codes "{" ∷ (c ++ codes "}" ∷ [])))) (If x p q)
+
+  -- statements with semicolons between them
+  pub data IsProgram (names : List (List ℕ)) : List (List ℕ) → Statements → Type 0 where
+    last : {a : List (List ℕ)} {s : Statement} → IsStatement names a s → IsProgram names a (Then s End)
+    more : {a b : List (List ℕ)} {s : Statement} {p : Statements} → IsStatement names a s → IsProgram names b p → IsProgram names (a ++ codes ";" ∷ b) (Then s p)
+
+-- the tokens begin some program
+pub record BeginsProgram (names ts : List (List ℕ)) : Type 0 where
+  pub rest : List (List ℕ)
+  pub whole : Statements
+  pub spelled : IsProgram names (ts ++ rest) whole
+
+-- no program begins with these and then the first of those, if there is one
+abbrev pub GoesOnWithNone : List (List ℕ) → List (List ℕ) → List (List ℕ) → Type 0
+GoesOnWithNone names front [] = (p : Statements) → IsProgram names front p → ⊥
+GoesOnWithNone names front (t ∷ left) = BeginsProgram names (front ++ t ∷ []) → ⊥
+
+-- the tokens are no program, and of them those begin one that stand in front of the ones that are left, and no more do
+pub record StopsAt (names ts left : List (List ℕ)) : Type 0 where
+  pub front : List (List ℕ)
+  pub parts : ts ≡ front ++ left
+  pub begins : BeginsProgram names front
+  pub stops : GoesOnWithNone names front left

@@ -1,0 +1,57 @@
+-- Programs as contracts see them: trees, with lists where the program has vectors.
+use Rattle.std.specs.Prelude.{ℕ, List, [], ◌∷◌, map}
+use Rattle.watch_expr.specs.Tree.{Tree, tree}
+use Rattle.embed_cmds.specs.declared.program.Program.{Program}
+use Rattle.embed_cmds.specs.declared.program.SayItem.{SayItem}
+use Rattle.embed_cmds.specs.declared.program.SayItem.TheVariants as said
+use Rattle.embed_cmds.specs.declared.program.Stmt.{Stmt, Row_of-Stmt, end_of-Stmt, more_of-Stmt}
+use Rattle.embed_cmds.specs.declared.program.Stmt as stmt
+
+-- what a line says: the bytes of a string, or a value
+pub data Item : Type 0 where
+  Words : (bytes : List ℕ) → Item
+  Value : (x : Tree) → Item
+
+mutual
+  -- a statement with those inside it
+  pub data Statement : Type 0 where
+    Set : (name : List ℕ) → (x : Tree) → Statement
+    Say : (items : List Item) → Statement
+    Stop : Statement
+    If : (x : Tree) → (on_true on_false : Statements) → Statement
+
+  -- statements, one after the other
+  pub data Statements : Type 0 where
+    End : Statements
+    Then : (first : Statement) → (rest : Statements) → Statements
+
+-- statements of a list
+abbrev pub sequence : List Statement → Statements
+sequence [] = End
+sequence (first ∷ rest) = Then first (sequence rest)
+
+abbrev pub item : SayItem → Item
+item (said.Words bytes) = Words bytes
+item (said.Value x) = Value (tree x)
+
+abbrev mutual
+  -- the statement that the value in memory is
+  pub statement : Stmt → Statement
+  statement (stmt.Set name x) = Set name (tree x)
+  statement (stmt.Say items) = Say (map {A = SayItem} item items.items)
+  statement stmt.Stop = Stop
+  statement (stmt.If' x n on_true m on_false) = If (tree x) (statements_of_row on_true) (statements_of_row on_false)
+
+  -- the statements of the elements of a vector inside a statement
+  pub statements_of_row : {m : _} → Row_of-Stmt m → Statements
+  statements_of_row end_of-Stmt = End
+  statements_of_row (more_of-Stmt first rest) = Then (statement first) (statements_of_row rest)
+
+-- the statements of a list
+abbrev pub statements : List Stmt → Statements
+statements [] = End
+statements (first ∷ rest) = Then (statement first) (statements rest)
+
+-- the statements of a program
+abbrev pub body : Program → Statements
+body p = statements p.stmts.items

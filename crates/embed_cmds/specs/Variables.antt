@@ -1,0 +1,29 @@
+-- The variables of a session, in the order in which they were first mentioned.
+use Rattle.std.specs.Prelude.{ℕ, List, [], ◌∷◌, ◌++◌, Bool, bytes_eq, Option, None, ℤ, if◌then◌else◌}
+use Rattle.std.specs.List.{list_any}
+
+-- a variable: its name, and its value, None for undef
+abbrev pub Variable : Type 0
+Variable = List ℕ × Option ℤ
+
+abbrev pub is_mentioned : List Variable → List ℕ → Bool
+is_mentioned variables name = list_any (λ v. bytes_eq v.0 name) variables
+
+-- the value of a variable, which is undef where it was never set
+abbrev pub value_of : List Variable → List ℕ → Option ℤ
+value_of [] name = None
+value_of (v ∷ variables) name = if bytes_eq v.0 name then v.1 else value_of variables name
+
+-- with this value of a variable, which comes last where it was not mentioned before
+abbrev pub with_value : List Variable → List ℕ → Option ℤ → List Variable
+with_value [] name value = (name, value) ∷ []
+with_value (v ∷ variables) name value = if bytes_eq v.0 name then (v.0, value) ∷ variables else v ∷ with_value variables name value
+
+-- a variable is mentioned: where it was not before, it comes last and is undef
+abbrev pub mention : List Variable → List ℕ → List Variable
+mention variables name = if is_mentioned variables name then variables else variables ++ (name, None) ∷ []
+
+-- these are mentioned, one after the other
+abbrev pub mention_all : List Variable → List (List ℕ) → List Variable
+mention_all variables [] = variables
+mention_all variables (name ∷ names) = mention_all (mention variables name) names

@@ -1,0 +1,127 @@
+// What programs do.
+ghost use Rattle.std.specs.Prelude.{◌≡◌, ◌++◌, false, map, IfOk, OnOk};
+ghost use Rattle.watch_expr.specs.Tree.{tree};
+ghost use Rattle.embed_cmds.specs.Running.{after, after_all, holds, item_text, line_text, value_in, value_word};
+ghost use Rattle.embed_cmds.specs.Tree.{body, item, statement, statements};
+ghost use Rattle.embed_cmds.specs.Variables.{with_value};
+
+use crate::program::{Program, SayItem, Stmt};
+use crate::variables::Vars;
+use fri_bytes::Bytes;
+use fri_text::Text;
+use std::alloc::{AllocError, Global};
+use watch_expr::{Expr, View, eval};
+
+/// Appends a value in decimal, or `undef`.
+pub fn push_value(text: &mut Text, value: Option<i64>) -> Result<(), AllocError>
+    ensures { OnOk result (text.new ≡ text.old ++ value_word value) }
+{
+    match value {
+        Some(number) => text.push_i64(number),
+        None => text.push_str("undef"),
+    }
+}
+
+/// Runs a program over the nodes of a view, and tells whether a `stop` was reached. The lines that it says are
+/// appended to `out`. After want of memory a part of its effects may stand in `vars` and `out`.
+pub fn run_program<V: View>(
+    alloc: Global,
+    p: &Program,
+    v: &V,
+    vars: &mut Vars,
+    out: &mut Text,
+) -> Result<bool, AllocError>
+    ensures { IfOk result (λ stopped. after_all (V.nodes v.now) (record { variables = vars.old; text = out.old; stopped = false }) (body p.now) ≡ record { variables = vars.new; text = out.new; stopped = stopped }) }
+{
+    run_all(alloc, &p.stmts, v, vars, out)
+}
+
+#[cycle(run)]
+fn run_all<V: View>(
+    alloc: Global,
+    stmts: &[Stmt],
+    v: &V,
+    vars: &mut Vars,
+    out: &mut Text,
+) -> Result<bool, AllocError>
+    ensures { IfOk result (λ stopped. after_all (V.nodes v.now) (record { variables = vars.old; text = out.old; stopped = false }) (statements stmts.now) ≡ record { variables = vars.new; text = out.new; stopped = stopped }) }
+{
+    for stmt in stmts {
+        if run(alloc, stmt, v, vars, out)? {
+            return Ok(true);
+        }
+    }
+    Ok(false)
+}
+
+#[cycle(run)]
+fn run<V: View>(
+    alloc: Global,
+    stmt: &Stmt,
+    v: &V,
+    vars: &mut Vars,
+    out: &mut Text,
+) -> Result<bool, AllocError>
+    ensures { IfOk result (λ stopped. after (V.nodes v.now) (record { variables = vars.old; text = out.old; stopped = false }) (statement stmt.now) ≡ record { variables = vars.new; text = out.new; stopped = stopped }) }
+{
+    match stmt {
+        Stmt::Set(name, x) => {
+            set(alloc, name, x, v, vars)?;
+            Ok(false)
+        }
+        Stmt::Say(items) => {
+            say(items, v, vars, out)?;
+            Ok(false)
+        }
+        Stmt::Stop => Ok(true),
+        Stmt::If(x, on_true, on_false) => {
+            if is_true(eval(x, v, vars)) {
+                run_all(alloc, on_true, v, vars, out)
+            } else {
+                run_all(alloc, on_false, v, vars, out)
+            }
+        }
+    }
+}
+
+fn set<V: View>(
+    alloc: Global,
+    name: &Bytes,
+    x: &Expr,
+    v: &V,
+    vars: &mut Vars,
+) -> Result<(), AllocError>
+    ensures { OnOk result (vars.new ≡ with_value vars.old name.now (value_in (V.nodes v.now) vars.old (tree x.now))) }
+{
+    let value = eval(x, v, vars);
+    vars.set(alloc, name.as_slice(), value)
+}
+
+// A line, with its end.
+fn say<V: View>(items: &[SayItem], v: &V, vars: &Vars, out: &mut Text) -> Result<(), AllocError>
+    ensures { OnOk result (out.new ≡ out.old ++ line_text (V.nodes v.now) vars.now (map item items.now)) }
+{
+    for item in items {
+        push_item(item, v, vars, out)?;
+    }
+    out.push_str("\n")
+}
+
+fn push_item<V: View>(said: &SayItem, v: &V, vars: &Vars, out: &mut Text) -> Result<(), AllocError>
+    ensures { OnOk result (out.new ≡ out.old ++ item_text (V.nodes v.now) vars.now (item said.now)) }
+{
+    match said {
+        SayItem::Words(bytes) => out.push_bytes(bytes.as_slice()),
+        SayItem::Value(x) => push_value(out, eval(x, v, vars)),
+    }
+}
+
+// A number other than 0.
+fn is_true(value: Option<i64>) -> bool
+    ensures { result ≡ holds value }
+{
+    match value {
+        Some(number) => number != 0,
+        None => false,
+    }
+}
