@@ -1,10 +1,11 @@
 -- Points as the code holds them, and as they are meant.
-use Rattle.std.proofs.Common.{◌≡◌, ◌∙◌, ℕ, ◌+◌, ◌<◌, Bool, true, false, not, cond, nat_eq, ◌||◌, List, [], ◌∷◌, ◌++◌, length, drop, filter, map, refl, sym, ap, append_assoc, slice_index_or}
-use Rattle.std.specs.List.{flat_map, list_any}
+use Rattle.std.proofs.Common.{◌≡◌, ◌∙◌, ℕ, ◌+◌, ◌<◌, Bool, true, false, not, cond, nat_eq, ◌||◌, List, [], ◌∷◌, ◌++◌, length, drop, filter, map, nat_lt, Some, None, refl, sym, ap, append_assoc, slice_index_or}
+use Rattle.std.specs.List.{flat_map, list_any, position, position_or_len, prefix_len}
+use Rattle.std.proofs.lemmas.List.{length-map}
 use Rattle.std.proofs.lemmas.List.{drop_more}
 use Rattle.friday_shell.specs.Answer.{point_text}
 use Rattle.friday_shell.specs.declared.points.Point.{Point as Held}
-use Rattle.friday_shell.specs.Points.{Point, has_point, without_point}
+use Rattle.friday_shell.specs.Points.{Point, has_point, place_of, without_point}
 use Rattle.friday_shell.specs.Seen.{point}
 
 pub held_same : (ps : List Held) (n : ℕ) → list_any (λ (p : Held). nat_eq p.number n) ps ≡ has_point (map {A = Held} point ps) n
@@ -19,6 +20,16 @@ kept false p us vs e = e
 pub without_same : (ps : List Held) (n : ℕ) → map {A = Held} point (filter (λ (p : Held). not (nat_eq p.number n)) ps) ≡ without_point (map {A = Held} point ps) n
 without_same [] n = refl
 without_same (p ∷ ps) n = kept (not (nat_eq p.number n)) p (filter (λ (p : Held). not (nat_eq p.number n)) ps) (without_point (map {A = Held} point ps) n) (without_same ps n)
+
+ahead_same : (ps : List Held) (n : ℕ) → prefix_len (λ (p : Held). not (nat_eq p.number n)) ps ≡ prefix_len (λ (p : Point). not (nat_eq p.number n)) (map {A = Held} point ps)
+ahead_same [] n = refl
+ahead_same (p ∷ ps) n = ap (λ (k : ℕ). cond (not (nat_eq p.number n)) (1 + k) 0) (ahead_same ps n)
+
+pub places_same : (ps : List Held) (n : ℕ) → position (λ (p : Held). nat_eq p.number n) ps ≡ place_of (map {A = Held} point ps) n
+places_same ps n =
+    ap (λ (k : ℕ). cond (nat_lt k (length ps)) (Some k) None) (ahead_same ps n)
+    ∙ ap (λ (l : ℕ). cond (nat_lt (position_or_len (λ (p : Point). nat_eq p.number n) (map {A = Held} point ps)) l) (Some (position_or_len (λ (p : Point). nat_eq p.number n) (map {A = Held} point ps))) None)
+    (sym (length-map ps point))
 
 -- one point's line more
 pub listed : (text next whole : List ℕ) (ps : List Held) (i : ℕ) (p d : Held) → i < length ps → p ≡ slice_index_or ps i d → next ≡ text ++ point_text (point p)

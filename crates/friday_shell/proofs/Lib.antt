@@ -1,9 +1,10 @@
+pub mod Attached
 pub mod Blanks
 pub mod Held
+pub mod Listed
 pub mod Named
-pub mod Picked
 pub mod Pieces
-pub mod Stops
+pub mod Programs
 pub mod Trimmed
 pub mod Viable
-pub mod Walked
+pub mod Walks

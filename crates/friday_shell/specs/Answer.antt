@@ -1,5 +1,5 @@
 -- What a line of a session answers, and what the session then keeps.
-use Rattle.std.specs.Prelude.{ℕ, ◌+◌, min, Bool, true, false, nat_le, nat_lt, ◌==◌, List, [], ◌∷◌, ◌++◌, length, map, slice_get, codes, decimal, Option, Some, None, ℤ, Result, Ok, Err, if◌then◌else◌}
+use Rattle.std.specs.Prelude.{ℕ, ◌+◌, min, Bool, true, false, ◌||◌, nat_le, nat_lt, ◌==◌, List, [], ◌∷◌, ◌++◌, length, map, slice_get, codes, decimal, Option, Some, None, ℤ, Result, Ok, Err, if◌then◌else◌}
 use Rattle.std.specs.List.{flat_map, list_all}
 use Rattle.fri_text.specs.Hex.{hex_word}
 use Rattle.call_table.specs.declared.kind.Kind.{Kind}
@@ -7,18 +7,22 @@ use Rattle.proc_replay.specs.Replaying.{Replaying}
 use Rattle.guest_process.specs.State.{State}
 use Rattle.watch_expr.specs.Computed.{cut}
 use Rattle.watch_expr.specs.Lexing.{Lexed, Placed, column_at, is_blank, is_too_deep, texts}
-use Rattle.watch_expr.specs.Value.{value}
 use Rattle.watch_expr.specs.View.{piece_at}
 use Rattle.group_state.specs.Place.{Place, events, states}
 use Rattle.group_state.specs.Seen.{nodes_at}
-use Rattle.friday_shell.specs.Firing.{lines_at, no_variable, place_at, stop_after, value_word}
-use Rattle.friday_shell.specs.Lines.{At, Break, Command, Continue, Delete, Events, Everywhere, Goto, ListPoints, Mem, Print, Quit, Scope, Step, Threads, Watch, command_of, names_none, nests, watches_variable}
-use Rattle.friday_shell.specs.Points.{Point, SessionState, Trigger, has_point, with_point, without_point}
+use Rattle.embed_cmds.specs.Faulty.{set_names}
+use Rattle.embed_cmds.specs.Running.{value_in, value_word}
+use Rattle.embed_cmds.specs.Tree.{Statements}
+use Rattle.embed_cmds.specs.Variables.{Variable, is_mentioned, mention_all, with_value}
+use Rattle.friday_shell.specs.Firing.{place_at}
+use Rattle.friday_shell.specs.Lines.{At, Break, Command, Continue, Delete, Do, Events, Everywhere, Goto, ListPoints, ListVariables, Mem, Print, Quit, Scope, SetTo, Step, Threads, Watch, command_of, has_nested, names_none, watches_variable}
+use Rattle.friday_shell.specs.Points.{Point, SessionState, Trigger, has_point, place_of, with_point, with_program, without_point}
 use Rattle.friday_shell.specs.Points.{Break as OnCall, Watch as OnChange}
 use Rattle.friday_shell.specs.declared.refusal.Refusal.{Refusal}
 use Rattle.friday_shell.specs.declared.refusal.Refusal.TheVariants as refusal
 use Rattle.friday_shell.specs.Refusals.{refusal_line}
 use Rattle.friday_shell.specs.Texts.{last_lines, name_of, position_line, process_text}
+use Rattle.friday_shell.specs.Walking.{Walk, walk_from}
 
 -- the text, the session after it, and whether the session ends
 pub record Answered : Type 0 where
@@ -84,10 +88,39 @@ deletes state n =
 abbrev pub point_text : Point → List ℕ
 point_text p = decimal p.number ++ (codes " " ++ (p.text ++ codes "\n"))
 
--- to the next position at which a point fires, or to the last
-abbrev pub continues_to : SessionState → Option ℕ → Answered
-continues_to state None = arrives state (codes "end\n") (length (events state.place.start))
-continues_to state (Some k) = arrives state (lines_at state.place.start state.points k) k
+-- a walk's lines, and then the position to which the session goes
+abbrev pub walks : SessionState → Walk → Answered
+walks state w = record {
+  text = w.text ++ position_line (place_at state.place.start w.at);
+  state = record state { place = place_at state.place.start w.at; variables = w.variables };
+  quits = false;
+}
+
+-- how many variables there may be
+abbrev pub most_variables : ℕ
+most_variables = 256
+
+-- a variable gets a value, unless there were too many then
+abbrev pub sets : SessionState → List ℕ → Option ℤ → Answered
+sets state name value =
+    if is_mentioned state.variables name || nat_lt (length state.variables) most_variables
+    then says (record state { variables = with_value state.variables name value }) []
+    else refuses state refusal.TooMany
+
+-- A program is attached to the point at this place. Then all variables that it sets are mentioned, unless there were too many
+-- then.
+abbrev pub attaches_at : SessionState → Statements → Option ℕ → Answered
+attaches_at state body None = refuses state refusal.NoPoint
+attaches_at state body (Some place) =
+    if nat_le (length (mention_all state.variables (set_names body))) most_variables
+    then says (record state { points = with_program state.points place body; variables = mention_all state.variables (set_names body) }) []
+    else refuses state refusal.TooMany
+
+abbrev pub attaches : SessionState → ℕ → Statements → Answered
+attaches state n body = attaches_at state body (place_of state.points n)
+
+abbrev pub variable_text : Variable → List ℕ
+variable_text v = codes "$" ++ (v.0 ++ (codes " " ++ value_text v.1))
 
 -- of a breakpoint for a node that no process is, nothing is said either
 abbrev pub breaks_at : SessionState → List ℕ → Kind → Scope → Answered
@@ -99,15 +132,18 @@ breaks_at state text kind (At (Some n)) = adds state text (OnCall (Some n) kind)
 abbrev pub answer_of : SessionState → List ℕ → Command → Answered
 answer_of state line (Goto k) = if nat_le k (length (events state.place.start)) then arrives state [] k else refuses state refusal.NoPosition
 answer_of state line (Step n) = arrives state [] (min (state.place.at + n) (length (events state.place.start)))
-answer_of state line (Print x) = says state (value_text (value (nodes_at state.place) no_variable x))
+answer_of state line (Print x) = says state (value_text (value_in (nodes_at state.place) state.variables x))
 answer_of state line (Mem node addr len) = says state (memory_text state.place node addr len)
 answer_of state line (Threads node) = says state (threads_of state.place node)
 answer_of state line (Events n) = says state (last_lines state.place n)
 answer_of state line (Watch x) = adds state line (OnChange x)
 answer_of state line (Break scope kind) = breaks_at state line kind scope
 answer_of state line (Delete n) = deletes state n
+answer_of state line (Do n body) = attaches state n body
 answer_of state line ListPoints = says state (flat_map point_text state.points)
-answer_of state line Continue = continues_to state (stop_after state.place state.points)
+answer_of state line (SetTo name x) = sets state name (value_in (nodes_at state.place) state.variables x)
+answer_of state line ListVariables = says state (flat_map variable_text state.variables)
+answer_of state line Continue = walks state (walk_from state.place state.points state.variables)
 answer_of state line Quit = record { text = []; state = state; quits = true }
 
 -- ---- the answer of a line
@@ -129,7 +165,7 @@ trimmed line = without_end (without_front line)
 -- a command of the grammar, unless something is wrong with it
 abbrev pub judged : SessionState → List ℕ → Command → Answered
 judged state line command =
-    if nests command then refuses state refusal.Nested
+    if has_nested command then refuses state refusal.Nested
     else if names_none command then refuses state refusal.NoNode
     else if watches_variable command then refuses state refusal.NamesVariable
     else answer_of state line command

@@ -1,18 +1,17 @@
--- Where points fire, and where `continue` comes to.
-use Rattle.std.specs.Prelude.{ℕ, zero, suc, ◌+◌, ◌-◌, ◌==◌, ◌&&◌, Bool, true, false, not, List, [], ◌++◌, length, filter, codes, decimal, Option, Some, None, ℤ, if◌then◌else◌}
-use Rattle.std.specs.Fmt.{signed_decimal}
-use Rattle.std.specs.List.{flat_map, list_any}
+-- Where points fire, and what they say there.
+use Rattle.std.specs.Prelude.{ℕ, zero, suc, ◌==◌, ◌&&◌, Bool, true, false, not, List, [], ◌++◌, codes, decimal, Option, Some, None, ℤ}
 use Rattle.call_table.specs.Table.{row}
 use Rattle.call_table.specs.declared.kind.Kind.{Kind}
 use Rattle.group_order.specs.Order.{Event}
 use Rattle.lib_calls.specs.declared.entry.Entry.{Entry}
 use Rattle.proc_replay.specs.Replaying.{Replaying}
 use Rattle.group_state.specs.Moves.{last_of}
-use Rattle.group_state.specs.Place.{Place, events}
+use Rattle.group_state.specs.Place.{Place}
 use Rattle.group_state.specs.Seen.{nodes_at}
 use Rattle.watch_expr.specs.Tree.{Tree}
 use Rattle.watch_expr.specs.Value.{equal, value}
-use Rattle.friday_shell.specs.Points.{Break, Point, Trigger, Watch}
+use Rattle.embed_cmds.specs.Running.{value_word}
+use Rattle.friday_shell.specs.Points.{Break, Trigger, Watch}
 
 abbrev pub no_variable : List ℕ → Option ℤ
 no_variable name = None
@@ -59,10 +58,6 @@ abbrev pub is_due : List Replaying → ℕ → Trigger → Bool
 is_due start k (Watch x) = fires start x k
 is_due start k (Break of_node kind) = breaks start of_node kind k
 
-abbrev pub value_word : Option ℤ → List ℕ
-value_word None = codes "undef"
-value_word (Some z) = signed_decimal z
-
 -- the value at position k, and that at the position before
 abbrev pub change_text : List Replaying → Tree → ℕ → List ℕ
 change_text start x zero = []
@@ -71,20 +66,3 @@ change_text start x (suc k) = value_word (value_at start x k) ++ (codes " -> " +
 abbrev pub line_of : List Replaying → ℕ → ℕ → Trigger → List ℕ
 line_of start k number (Watch x) = codes "watch " ++ (decimal number ++ (codes ": " ++ (change_text start x k ++ codes "\n")))
 line_of start k number (Break of_node kind) = codes "break " ++ (decimal number ++ codes "\n")
-
--- the lines of all points that fire at position k, in order of their numbers
-abbrev pub lines_at : List Replaying → List Point → ℕ → List ℕ
-lines_at start points k = flat_map (λ p. line_of start k p.number p.trigger) (filter (λ p. is_due start k p.trigger) points)
-
--- a point fires at position k
-abbrev pub is_stop : List Replaying → List Point → ℕ → Bool
-is_stop start points k = list_any (λ p. is_due start k p.trigger) points
-
--- the first of so many positions behind this one at which a point fires
-abbrev pub next_stop : List Replaying → List Point → ℕ → ℕ → Option ℕ
-next_stop start points at zero = None
-next_stop start points at (suc left) = if is_stop start points (suc at) then Some (suc at) else next_stop start points (suc at) left
-
--- the first position behind this one at which a point fires
-abbrev pub stop_after : Place → List Point → Option ℕ
-stop_after place points = next_stop place.start points place.at (length (events place.start) - place.at)

@@ -8,3 +8,4 @@ pub mod Answer
 pub mod Seen
 pub mod Session
 pub mod Reading
+pub mod Walking

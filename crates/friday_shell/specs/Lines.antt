@@ -1,5 +1,5 @@
 -- The commands that lines spell.
-use Rattle.std.specs.Prelude.{ℕ, suc, ◌+◌, Bool, false, ◌&&◌, nat_le, is_none, List, [], ◌∷◌, ◌++◌, length, drop, codes, bytes_eq, position, slice_get, Option, Some, None, option_and_then, option_map, Result, Ok, Err, if◌then◌else◌}
+use Rattle.std.specs.Prelude.{ℕ, ◌+◌, ◌-◌, Bool, false, ◌&&◌, nat_le, is_none, List, [], ◌∷◌, length, drop, codes, bytes_eq, position, slice_get, Option, Some, None, option_and_then, option_map, Result, Ok, Err, if◌then◌else◌}
 use Rattle.std.specs.List.{find}
 use Rattle.watch_expr.specs.Computed.{tree_of, viable}
 use Rattle.call_table.specs.Table.{kind_named}
@@ -7,6 +7,9 @@ use Rattle.call_table.specs.declared.kind.Kind.{Kind}
 use Rattle.watch_expr.specs.Faulty.{is_nested, lacks_node, names_variable}
 use Rattle.watch_expr.specs.Spelling.{is_word, number_of}
 use Rattle.watch_expr.specs.Tree.{Tree}
+use Rattle.embed_cmds.specs.Faulty.{lacks, nests}
+use Rattle.embed_cmds.specs.Reading.{program_of}
+use Rattle.embed_cmds.specs.Tree.{Statements}
 use Rattle.friday_shell.specs.declared.command.Verb.{Verb}
 use Rattle.friday_shell.specs.declared.command.Verb.TheVariants as verb
 
@@ -26,7 +29,10 @@ pub data Command : Type 0 where
   Watch : (tree : Tree) → Command
   Break : (scope : Scope) → (kind : Kind) → Command
   Delete : (number : ℕ) → Command
+  Do : (number : ℕ) → (program : Statements) → Command
   ListPoints : Command
+  SetTo : (name : List ℕ) → (tree : Tree) → Command
+  ListVariables : Command
   Continue : Command
   Quit : Command
 
@@ -42,14 +48,17 @@ verb_word verb.Events = codes "events"
 verb_word verb.Watch = codes "watch"
 verb_word verb.Break = codes "break"
 verb_word verb.Delete = codes "delete"
+verb_word verb.Do = codes "do"
 verb_word verb.List = codes "list"
+verb_word verb.Set = codes "set"
+verb_word verb.Vars = codes "vars"
 verb_word verb.Continue = codes "continue"
 verb_word verb.Quit = codes "quit"
 
 abbrev pub verbs : List Verb
 verbs =
-    verb.Goto ∷ verb.Step ∷ verb.Print ∷ verb.Mem ∷ verb.Threads ∷ verb.Events ∷ verb.Watch ∷ verb.Break ∷ verb.Delete ∷ verb.List
-    ∷ verb.Continue ∷ verb.Quit ∷ []
+    verb.Goto ∷ verb.Step ∷ verb.Print ∷ verb.Mem ∷ verb.Threads ∷ verb.Events ∷ verb.Watch ∷ verb.Break ∷ verb.Delete ∷ verb.Do
+    ∷ verb.List ∷ verb.Set ∷ verb.Vars ∷ verb.Continue ∷ verb.Quit ∷ []
 
 unfoldable pub verb_of : List ℕ → Option Verb
 verb_of text = find (λ v. bytes_eq (verb_word v) text) verbs
@@ -70,6 +79,14 @@ node_named names text = if is_word text then Some (position (λ name. bytes_eq n
 abbrev pub scope_named : List (List ℕ) → List ℕ → Option Scope
 scope_named names text = if bytes_eq text (codes "*") then Some Everywhere else option_map At (node_named names text)
 
+-- a word that names a variable
+abbrev pub word_of : List ℕ → Option (List ℕ)
+word_of text = if is_word text then Some text else None
+
+-- this sign
+abbrev pub sign_of : List ℕ → List ℕ → Option (List ℕ)
+sign_of sign text = if bytes_eq text sign then Some text else None
+
 -- ---- a line of tokens, or the number of the first token, from 0, that no command could have there; that of the
 -- line's end is the number of tokens
 
@@ -89,6 +106,10 @@ then_reads (Err n) next = Err n
 abbrev pub ends_at : List (List ℕ) → ℕ → Command → Result Command ℕ
 ends_at texts n command = if nat_le (length texts) n then Ok command else Err n
 
+-- a dollar and a word, which name a variable
+abbrev pub variable_at : List (List ℕ) → ℕ → Result (List ℕ) ℕ
+variable_at texts n = then_reads (token_as (sign_of (codes "$")) texts n) (λ _. token_as word_of texts (n + 1))
+
 -- the greatest number that a token is
 abbrev pub most_number : ℕ
 most_number = 9223372036854775807
@@ -100,6 +121,15 @@ tree_or n (Some x) = Ok x
 -- all tokens from this one on are an expression
 abbrev pub expression_from : List (List ℕ) → List (List ℕ) → ℕ → Result Tree ℕ
 expression_from names texts from = tree_or (from + viable names [] (drop from texts)) (tree_of names (drop from texts))
+
+-- where a program was read or not, of all these tokens
+abbrev pub located : List (List ℕ) → Result Statements (List (List ℕ)) → Result Statements ℕ
+located texts (Ok program) = Ok program
+located texts (Err left) = Err (length texts - length left)
+
+-- all tokens from this one on are a program
+abbrev pub program_from : List (List ℕ) → List (List ℕ) → ℕ → Result Statements ℕ
+program_from names texts from = located texts (program_of names (drop from texts))
 
 -- a count that may be left out
 abbrev pub count_or : ℕ → ℕ → ℕ → List (List ℕ) → Result ℕ ℕ
@@ -118,7 +148,11 @@ command_by names texts verb.Watch = then_reads (expression_from names texts 1) (
 command_by names texts verb.Break =
     then_reads (token_as (scope_named names) texts 1) (λ scope. then_reads (token_as kind_named texts 2) (λ kind. ends_at texts 3 (Break scope kind)))
 command_by names texts verb.Delete = then_reads (token_as (number_from 0 most_number) texts 1) (λ n. ends_at texts 2 (Delete n))
+command_by names texts verb.Do = then_reads (token_as (number_from 0 most_number) texts 1) (λ n. then_reads (program_from names texts 2) (λ p. Ok (Do n p)))
 command_by names texts verb.List = ends_at texts 1 ListPoints
+command_by names texts verb.Set =
+    then_reads (variable_at texts 1) (λ name. then_reads (expression_from names texts 3) (λ x. Ok (SetTo name x)))
+command_by names texts verb.Vars = ends_at texts 1 ListVariables
 command_by names texts verb.Continue = ends_at texts 1 Continue
 command_by names texts verb.Quit = ends_at texts 1 Quit
 
@@ -129,19 +163,22 @@ command_of names texts = then_reads (token_as verb_of texts 0) (command_by names
 -- ---- what is wrong with a command that is of the grammar
 
 -- an aggregate stands in an aggregate
-abbrev pub nests : Command → Bool
-nests (Print x) = is_nested x
-nests (Watch x) = is_nested x
-nests (Break scope kind) = false
-nests (Delete n) = false
-nests ListPoints = false
-nests Continue = false
-nests (Goto k) = false
-nests (Step n) = false
-nests (Mem place addr len) = false
-nests (Threads place) = false
-nests (Events n) = false
-nests Quit = false
+abbrev pub has_nested : Command → Bool
+has_nested (Print x) = is_nested x
+has_nested (Watch x) = is_nested x
+has_nested (Break scope kind) = false
+has_nested (Delete n) = false
+has_nested (Do n program) = nests program
+has_nested ListPoints = false
+has_nested (SetTo name x) = is_nested x
+has_nested ListVariables = false
+has_nested Continue = false
+has_nested (Goto k) = false
+has_nested (Step n) = false
+has_nested (Mem place addr len) = false
+has_nested (Threads place) = false
+has_nested (Events n) = false
+has_nested Quit = false
 
 abbrev pub scopes_none : Scope → Bool
 scopes_none Everywhere = false
@@ -153,7 +190,10 @@ names_none (Print x) = lacks_node false x
 names_none (Watch x) = lacks_node false x
 names_none (Break scope kind) = scopes_none scope
 names_none (Delete n) = false
+names_none (Do n program) = lacks program
 names_none ListPoints = false
+names_none (SetTo name x) = lacks_node false x
+names_none ListVariables = false
 names_none Continue = false
 names_none (Mem node addr len) = is_none node
 names_none (Threads node) = is_none node
@@ -168,7 +208,10 @@ watches_variable (Watch x) = names_variable x
 watches_variable (Print x) = false
 watches_variable (Break scope kind) = false
 watches_variable (Delete n) = false
+watches_variable (Do n program) = false
 watches_variable ListPoints = false
+watches_variable (SetTo name x) = false
+watches_variable ListVariables = false
 watches_variable Continue = false
 watches_variable (Goto k) = false
 watches_variable (Step n) = false

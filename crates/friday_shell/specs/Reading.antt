@@ -1,10 +1,13 @@
--- What a point reads at a position, and what it says there by what it read at the position before.
-use Rattle.std.specs.Prelude.{ℕ, Bool, not, List, [], ◌++◌, map, codes, decimal, Option, None, ℤ, if◌then◌else◌}
+-- What a point reads at a position, and what it does there by what it read at the position before.
+use Rattle.std.specs.Prelude.{ℕ, Bool, not, List, ◌++◌, map, codes, decimal, Option, None, ℤ, if◌then◌else◌}
 use Rattle.lib_calls.specs.declared.entry.Entry.{Entry}
 use Rattle.group_order.specs.Order.{Event}
 use Rattle.proc_replay.specs.Replaying.{Replaying}
-use Rattle.friday_shell.specs.Firing.{is_of, is_same, value_at, value_word}
+use Rattle.watch_expr.specs.View.{Node}
+use Rattle.embed_cmds.specs.Running.{Run, value_word}
+use Rattle.friday_shell.specs.Firing.{is_of, is_same, value_at}
 use Rattle.friday_shell.specs.Points.{Break, Point, Trigger, Watch}
+use Rattle.friday_shell.specs.Walking.{does}
 
 -- the value of a watchpoint's expression at position k; a breakpoint reads nothing
 abbrev pub reading : List Replaying → ℕ → Trigger → Option ℤ
@@ -29,6 +32,6 @@ abbrev pub line_by : Option ℤ → Option ℤ → ℕ → Trigger → List ℕ
 line_by before now number (Watch x) = codes "watch " ++ (decimal number ++ (codes ": " ++ (change_by before now ++ codes "\n")))
 line_by before now number (Break of_node kind) = codes "break " ++ (decimal number ++ codes "\n")
 
--- the line of a point that fires, and nothing of another
-abbrev pub says_by : Option ℤ → Option ℤ → Option (Event Entry) → Point → List ℕ
-says_by before now event p = if is_due_by before now event p.trigger then line_by before now p.number p.trigger else []
+-- what it then does, over these nodes
+abbrev pub treat_by : Option ℤ → Option ℤ → Option (Event Entry) → List Node → Run → Point → Run
+treat_by before now event nodes r p = if is_due_by before now event p.trigger then does nodes r (line_by before now p.number p.trigger) p.program else r

@@ -1,11 +1,14 @@
 -- What the values of the code stand for.
-use Rattle.std.specs.Prelude.{◌≡◌, ℕ, Bool, true, false, List, [], map, Result, Ok, Err}
+use Rattle.std.specs.Prelude.{◌≡◌, ℕ, Bool, true, false, List, [], ◌++◌, map, option_map, Result, Ok, Err}
 use Rattle.watch_expr.specs.declared.error.ExprError.{ExprError}
 use Rattle.watch_expr.specs.declared.error.ExprError.TheVariants.{Syntax, NoNode, TooDeep, Nested, NoMemory}
 use Rattle.watch_expr.specs.Computed.{cut}
 use Rattle.watch_expr.specs.Lexing.{Lexed, column_at}
 use Rattle.watch_expr.specs.Tree.{tree}
 use Rattle.group_state.specs.Place.{Place}
+use Rattle.embed_cmds.specs.Running.{Run}
+use Rattle.embed_cmds.specs.Tree.{body}
+use Rattle.embed_cmds.specs.Variables.{Variable}
 use Rattle.friday_shell.specs.declared.command.Command.{Command as Spelled}
 use Rattle.friday_shell.specs.declared.command.Command.TheVariants as spelled
 use Rattle.friday_shell.specs.declared.command.Scope.{Scope as ScopeSpelled}
@@ -13,16 +16,21 @@ use Rattle.friday_shell.specs.declared.command.Scope.TheVariants as scopes
 use Rattle.friday_shell.specs.declared.points.Point.{Point as Held}
 use Rattle.friday_shell.specs.declared.points.Trigger.{Trigger as HeldTrigger}
 use Rattle.friday_shell.specs.declared.points.Trigger.TheVariants as held
+use Rattle.friday_shell.specs.declared.state.Kept.{Kept}
 use Rattle.friday_shell.specs.declared.state.State.{State as Stands}
+use Rattle.friday_shell.specs.declared.turn.Turn.{Turn}
 use Rattle.friday_shell.specs.declared.session.Go.{Go}
 use Rattle.friday_shell.specs.declared.session.Go.TheVariants as go
-use Rattle.friday_shell.specs.Lines.{At, Break, Command, Continue, Delete, Events, Everywhere, Goto, ListPoints, Mem, Print, Quit, Scope, Step, Threads, Watch}
+use Rattle.friday_shell.specs.Lines.{At, Break, Command, Continue, Delete, Do, Events, Everywhere, Goto, ListPoints, ListVariables, Mem, Print, Quit, Scope, SetTo, Step, Threads, Watch, has_nested, names_none}
 use Rattle.friday_shell.specs.Points.{Point, SessionState, Trigger}
 use Rattle.friday_shell.specs.Points.{Break as OnCall, Watch as OnChange}
 use Rattle.friday_shell.specs.declared.line.Line.{Line}
 use Rattle.friday_shell.specs.declared.line.Line.TheVariants as line
 use Rattle.friday_shell.specs.declared.refusal.Refusal.TheVariants as refusal
 use Rattle.friday_shell.specs.Answer.{Answered, answer, answer_of, by_cut, judged, names_of, refuses, says, trimmed}
+use Rattle.friday_shell.specs.Firing.{place_at}
+use Rattle.friday_shell.specs.Texts.{position_line}
+use Rattle.friday_shell.specs.Walking.{walk_from}
 
 abbrev pub scope : ScopeSpelled → Scope
 scope scopes.Everywhere = Everywhere
@@ -38,7 +46,10 @@ command (spelled.Events count) = Events count
 command (spelled.Watch x) = Watch (tree x)
 command (spelled.Break place kind) = Break (scope place) kind
 command (spelled.Delete n) = Delete n
+command (spelled.Do n p) = Do n (body p)
 command spelled.List = ListPoints
+command (spelled.Set name x) = SetTo name (tree x)
+command spelled.Vars = ListVariables
 command spelled.Continue = Continue
 command spelled.Quit = Quit
 
@@ -49,25 +60,30 @@ trigger (held.Watch x) = OnChange (tree x)
 trigger (held.Break of_node kind) = OnCall of_node kind
 
 abbrev pub point : Held → Point
-point p = record { number = p.number; text = p.text; trigger = trigger p.trigger }
+point p = record { number = p.number; text = p.text; trigger = trigger p.trigger; program = option_map body p.program }
 
--- what a session keeps, whose group stands there and which holds these points, of so many that were made
-abbrev pub state_with : Place → List Held → ℕ → SessionState
-state_with place points made = record { place = place; points = map {A = Held} point points; made = made }
+-- what a session keeps, whose group stands there
+abbrev pub state_with : Place → Kept → SessionState
+state_with place kept = record { place = place; points = map {A = Held} point kept.points.items; made = kept.made; variables = kept.variables }
 
 -- where a session stands
 abbrev pub state_of : Stands → SessionState
-state_of s = state_with s.group s.points.items s.made
+state_of s = state_with s.group s.kept
 
 -- a command was done: this was its answer, and the session stands where the answer says
 pub record Performs (answered : Answered) (new : SessionState) (text : List ℕ) : Type 0 where
   pub text_is : text ≡ answered.text
   pub state : new ≡ answered.state
 
--- a walk over points came to where `continue` comes, and said this
-pub record Walks (old : Place) (points : List Held) (new : Place) (text : List ℕ) : Type 0 where
-  pub text_is : (made : ℕ) → text ≡ (answer_of (state_with old points made) [] Continue).text
-  pub state : (made : ℕ) → state_with new points made ≡ (answer_of (state_with old points made) [] Continue).state
+-- what points did so far at a position
+abbrev pub run_of : Turn → Run
+run_of t = record { variables = t.variables; text = t.text; stopped = t.stops }
+
+-- a walk from a place came to where it comes
+pub record Walks (old : Place) (points : List Point) (before : List Variable) (new : Place) (after : List Variable) (text : List ℕ) : Type 0 where
+  pub place : new ≡ place_at old.start (walk_from old points before).at
+  pub variables : after ≡ (walk_from old points before).variables
+  pub text_is : text ≡ (walk_from old points before).text ++ position_line new
 
 -- ---- lines
 
@@ -79,6 +95,16 @@ ReadsAs shown line wanted (Err NoMemory) = Unit {0}
 ReadsAs shown line wanted (Err NoNode) = ⊥
 ReadsAs shown line wanted (Err TooDeep) = ⊥
 ReadsAs shown line wanted (Err Nested) = ⊥
+
+-- the command that was read of tokens, or why none was: the column of the token that none has there, or what is wrong with
+-- the one that they spell; or want of memory
+abbrev pub ReadsCommand : Lexed → Result Command ℕ → Result Spelled ExprError → Type 0
+ReadsCommand line wanted (Ok c) = wanted ≡ Ok (command c)
+ReadsCommand line wanted (Err (Syntax column)) = (n : ℕ) × (wanted ≡ Err n) × (column ≡ column_at line n)
+ReadsCommand line wanted (Err Nested) = (c : Command) × (wanted ≡ Ok c) × (has_nested c ≡ true)
+ReadsCommand line wanted (Err NoNode) = (c : Command) × (wanted ≡ Ok c) × (has_nested c ≡ false) × (names_none c ≡ true)
+ReadsCommand line wanted (Err TooDeep) = ⊥
+ReadsCommand line wanted (Err NoMemory) = Unit {0}
 
 abbrev pub is_quit : Go → Bool
 is_quit go.On = false
@@ -110,5 +136,5 @@ Spells names bytes (Ok c) = TokensAnswer names bytes (λ state. judged state (tr
 Spells names bytes (Err (Syntax column)) = TokensAnswer names bytes (λ state. refuses state (refusal.Syntax column))
 Spells names bytes (Err TooDeep) = TokensAnswer names bytes (λ state. refuses state refusal.TooDeep)
 Spells names bytes (Err NoMemory) = Unit {0}
-Spells names bytes (Err NoNode) = ⊥
-Spells names bytes (Err Nested) = ⊥
+Spells names bytes (Err Nested) = TokensAnswer names bytes (λ state. refuses state refusal.Nested)
+Spells names bytes (Err NoNode) = TokensAnswer names bytes (λ state. refuses state refusal.NoNode)

@@ -8,7 +8,7 @@ use Rattle.friday_shell.specs.Points.{SessionState}
 
 -- a session that begins over these replays
 abbrev pub opening : List Replaying → SessionState
-opening start = record { place = record { start = start; at = 0 }; points = []; made = 0 }
+opening start = record { place = record { start = start; at = 0 }; points = []; made = 0; variables = [] }
 
 -- the answers of lines, one after the other, up to that of a line that ends the session
 abbrev pub answers : SessionState → List (List ℕ) → List ℕ

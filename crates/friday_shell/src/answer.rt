@@ -9,10 +9,11 @@ ghost use Rattle.group_state.specs.Place.{events};
 
 use crate::command::Command;
 use crate::event::{push_event_line, push_position};
-use crate::points::{Trigger, add, add_breakpoint, delete, list};
+use crate::points::{Trigger, add, add_breakpoint, attach, delete, list};
 use crate::refusal::{Refusal, refused};
 use crate::shown::{print, show_memory, show_threads};
-use crate::state::State;
+use crate::state::{Kept, State};
+use crate::variables::{list_variables, set};
 use crate::walk::walk;
 use fri_text::Text;
 use group_state::Group;
@@ -31,7 +32,7 @@ pub(crate) fn perform<'m, 'a>(
     match command {
         Command::Goto(position) => go_to(alloc, state, position),
         Command::Step(count) => step(alloc, state, count),
-        Command::Print(expression) => told(print(alloc, &state.group, &expression), state),
+        Command::Print(expression) => told(print(alloc, &state, &expression), state),
         Command::Mem(node, addr, len) => {
             told(show_memory(alloc, &state.group, node, addr, len), state)
         }
@@ -40,7 +41,10 @@ pub(crate) fn perform<'m, 'a>(
         Command::Watch(expression) => add(alloc, state, line, Trigger::Watch(expression)),
         Command::Break(scope, kind) => add_breakpoint(alloc, state, line, scope, kind),
         Command::Delete(number) => delete(alloc, state, number),
-        Command::List => told(list(alloc, &state.points), state),
+        Command::Do(number, program) => attach(alloc, state, number, program),
+        Command::List => told(list(alloc, &state.kept.points), state),
+        Command::Set(name, expression) => set(alloc, state, &name, &expression),
+        Command::Vars => told(list_variables(alloc, &state.kept.variables), state),
         Command::Continue => go_on(alloc, state),
         Command::Quit => Ok((state, Text::new(alloc))),
     }
@@ -80,17 +84,9 @@ fn go_to<'m, 'a>(
     ensures answer { IfOk result (λ done. Performs (answer_of (state_of state.entry) [] (Goto position)) (state_of done.0) done.1) }
     ensures start { IfOk result (λ done. done.0.group.start ≡ state.entry.group.start) }
 {
-    let State {
-        group,
-        points,
-        made,
-    } = state;
+    let State { group, kept } = state;
     let (group, there) = group.goto(alloc, position)?;
-    let state = State {
-        group,
-        points,
-        made,
-    };
+    let state = State { group, kept };
     if there {
         return show_position(alloc, state);
     }
@@ -107,20 +103,9 @@ fn step<'m, 'a>(
     ensures answer { IfOk result (λ done. Performs (answer_of (state_of state.entry) [] (Step count)) (state_of done.0) done.1) }
     ensures start { IfOk result (λ done. done.0.group.start ≡ state.entry.group.start) }
 {
-    let State {
-        group,
-        points,
-        made,
-    } = state;
+    let State { group, kept } = state;
     let group = advance(group, count)?;
-    show_position(
-        alloc,
-        State {
-            group,
-            points,
-            made,
-        },
-    )
+    show_position(alloc, State { group, kept })
 }
 
 // The group so many positions further, and at most at the end.
@@ -145,20 +130,23 @@ fn go_on<'m, 'a>(alloc: Global, state: State<'m, 'a>) -> Result<(State<'m, 'a>, 
     ensures answer { IfOk result (λ done. Performs (answer_of (state_of state.entry) [] Continue) (state_of done.0) done.1) }
     ensures start { IfOk result (λ done. done.0.group.start ≡ state.entry.group.start) }
 {
-    let State {
-        group,
+    let State { group, kept } = state;
+    let Kept {
         points,
         made,
-    } = state;
-    let (group, text) = walk(alloc, group, &points)?;
-    Ok((
-        State {
-            group,
-            points,
-            made,
-        },
-        text,
-    ))
+        variables,
+    } = kept;
+    let walked = walk(alloc, group, &points, variables)?;
+    let kept = Kept {
+        points,
+        made,
+        variables: walked.variables,
+    };
+    let state = State {
+        group: walked.group,
+        kept,
+    };
+    Ok((state, walked.text))
 }
 
 // The last events up to the position.
@@ -170,20 +158,9 @@ fn show_events<'m, 'a>(
     ensures answer { IfOk result (λ done. Performs (answer_of (state_of state.entry) [] (Events count)) (state_of done.0) done.1) }
     ensures start { IfOk result (λ done. done.0.group.start ≡ state.entry.group.start) }
 {
-    let State {
-        group,
-        points,
-        made,
-    } = state;
+    let State { group, kept } = state;
     let (group, text) = last_events(alloc, group, count)?;
-    Ok((
-        State {
-            group,
-            points,
-            made,
-        },
-        text,
-    ))
+    Ok((State { group, kept }, text))
 }
 
 // The last events up to the position, which are made once more.

@@ -1,5 +1,7 @@
 // The commands of the shell.
 
+use embed_cmds::Program;
+use fri_bytes::Bytes;
 use lib_calls::Kind;
 use watch_expr::Expr;
 
@@ -15,7 +17,10 @@ pub(crate) enum Verb {
     Watch,
     Break,
     Delete,
+    Do,
     List,
+    Set,
+    Vars,
     Continue,
     Quit,
 }
@@ -39,7 +44,10 @@ pub(crate) enum Command {
     Watch(Expr),
     Break(Scope, Kind),
     Delete(u64),
+    Do(u64, Program),
     List,
+    Set(Bytes, Expr),
+    Vars,
     Continue,
     Quit,
 }

@@ -1,20 +1,21 @@
 // What points read at a position, and what they say where they fire.
-ghost use Rattle.std.specs.Prelude.{◌≡◌, ◌<◌, ◌-◌, ◌++◌, Some, IfOk, OnOk, map};
+ghost use Rattle.std.specs.Prelude.{◌≡◌, ◌++◌, Some, IfOk, OnOk, map};
 ghost use Rattle.group_state.specs.Moves.{event_of, last_of};
-ghost use Rattle.friday_shell.specs.Firing.{is_of, is_same, lines_at, value_word};
-ghost use Rattle.friday_shell.specs.Reading.{is_due_by, line_by, reading, readings, says_by};
+ghost use Rattle.friday_shell.specs.Firing.{is_of, is_same};
+ghost use Rattle.friday_shell.specs.Reading.{is_due_by, line_by, reading, readings};
 ghost use Rattle.friday_shell.specs.Seen.{point as seen, trigger as seen_trigger};
 ghost use Rattle.friday_shell.specs.declared.points.Point.{Point as Held};
 
 use crate::points::{Point, Trigger};
+use embed_cmds::push_value;
 use fri_text::Text;
 use group_state::{Group, GroupEvent};
 use lib_calls::Kind;
 use std::alloc::{AllocError, Global};
 use watch_expr::{Scope, eval};
 
-/// A scope in which no variable has a value.
-pub(crate) struct NoVariables;
+// A scope in which no variable has a value.
+struct NoVariables;
 
 impl Scope for NoVariables {
     ghost use Rattle.friday_shell.specs.Firing.{no_variable};
@@ -74,8 +75,13 @@ fn is_of(node: Option<u32>, kind: Kind, event: &GroupEvent<'_>) -> bool
     of_node && event.entry.call.kind == kind.number()
 }
 
-// Whether a point fires where the group stands.
-fn is_due(trigger: &Trigger, before: Option<i64>, now: Option<i64>, group: &Group<'_, '_>) -> bool
+/// Whether a point fires where the group stands.
+pub(crate) fn is_due(
+    trigger: &Trigger,
+    before: Option<i64>,
+    now: Option<i64>,
+    group: &Group<'_, '_>,
+) -> bool
     ensures { result ≡ is_due_by before now (last_of group.now) (seen_trigger trigger.now) }
 {
     match trigger {
@@ -87,18 +93,8 @@ fn is_due(trigger: &Trigger, before: Option<i64>, now: Option<i64>, group: &Grou
     }
 }
 
-/// Appends a value, or `undef`.
-pub(crate) fn push_value(text: &mut Text, value: Option<i64>) -> Result<(), AllocError>
-    ensures { OnOk result (text.new ≡ text.old ++ value_word value) }
-{
-    match value {
-        Some(value) => text.push_i64(value),
-        None => text.push_str("undef"),
-    }
-}
-
-// What a point says that fires.
-fn push_line(
+/// What a point says that fires.
+pub(crate) fn push_line(
     text: &mut Text,
     point: &Point,
     before: Option<i64>,
@@ -122,41 +118,4 @@ fn push_line(
             text.push_str("\n")
         }
     }
-}
-
-// What a point says where the group stands.
-fn push_due(
-    text: &mut Text,
-    point: &Point,
-    before: Option<i64>,
-    now: Option<i64>,
-    group: &Group<'_, '_>,
-) -> Result<(), AllocError>
-    ensures { OnOk result (text.new ≡ text.old ++ says_by before now (last_of group.now) (seen point.now)) }
-{
-    if is_due(&point.trigger, before, now, group) {
-        return push_line(text, point, before, now);
-    }
-    Ok(())
-}
-
-/// The lines of all points that fire where the group stands, by what they read at the position before and what they
-/// read now.
-pub(crate) fn lines_here(
-    alloc: Global,
-    points: &[Point],
-    before: &[Option<i64>],
-    now: &[Option<i64>],
-    group: &Group<'_, '_>,
-) -> Result<Text, AllocError>
-    requires moved { 0 < group.now.at }
-    requires before { before.now ≡ readings group.now.start (group.now.at - 1) (map {A = Held} seen points.now) }
-    requires now { now.now ≡ readings group.now.start group.now.at (map {A = Held} seen points.now) }
-    ensures { IfOk result (λ lines. lines ≡ lines_at group.now.start (map {A = Held} seen points.now) group.now.at) }
-{
-    let mut lines = Text::new(alloc);
-    for (n, point) in points.iter().enumerate() {
-        push_due(&mut lines, point, before[n], now[n], group)?;
-    }
-    Ok(lines)
 }

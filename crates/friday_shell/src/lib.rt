@@ -13,6 +13,8 @@ mod refusal;
 mod session;
 mod shown;
 mod state;
+mod turn;
+mod variables;
 mod verbs;
 mod walk;
 

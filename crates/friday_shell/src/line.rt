@@ -2,7 +2,7 @@
 ghost use Rattle.std.specs.Prelude.{◌≡◌, ◌<◌, ◌≤◌, ◌^◌, ℕ, IfOk, List, Ok, length, not, true};
 ghost use Rattle.std.specs.List.{find};
 ghost use Rattle.friday_shell.specs.Answer.{is_silent, judged, trimmed, without_end, without_front};
-ghost use Rattle.friday_shell.specs.Lines.{names_none, nests, scopes_none, watches_variable};
+ghost use Rattle.friday_shell.specs.Lines.{has_nested, names_none, scopes_none, watches_variable};
 ghost use Rattle.friday_shell.specs.Points.{SessionState};
 ghost use Rattle.friday_shell.specs.declared.line.Line.TheVariants.{Silent};
 ghost use Rattle.friday_shell.specs.Seen.{IsLine, Spells, answer_to, command, scope};
@@ -11,6 +11,7 @@ ghost use Rattle.watch_expr.specs.Lexing.{is_blank};
 use crate::command::{Command, Scope};
 use crate::refusal::Refusal;
 use crate::verbs::read_command;
+use embed_cmds::program_faults;
 use fri_bytes::Bytes;
 use std::alloc::{AllocError, Global};
 use watch_expr::{ExprError, exact_cut, find_faults, lex};
@@ -43,8 +44,8 @@ pub(crate) fn read_line(alloc: Global, bytes: &[u8], names: &[Bytes]) -> Result<
         Err(ExprError::Syntax(column)) => Ok(Line::Refused(Refusal::Syntax(column))),
         Err(ExprError::TooDeep) => Ok(Line::Refused(Refusal::TooDeep)),
         Err(ExprError::NoMemory) => Err(AllocError),
-        Err(ExprError::NoNode) => unreachable!(),
-        Err(ExprError::Nested) => unreachable!(),
+        Err(ExprError::Nested) => Ok(Line::Refused(Refusal::Nested)),
+        Err(ExprError::NoNode) => Ok(Line::Refused(Refusal::NoNode)),
     }
 }
 
@@ -83,12 +84,14 @@ fn is_blank(b: u8) -> bool
 }
 
 // Whether an aggregate stands in an aggregate.
-fn nests(spelled: &Command) -> bool
-    ensures { result ≡ nests (command spelled.now) }
+fn has_nested(spelled: &Command) -> bool
+    ensures { result ≡ has_nested (command spelled.now) }
 {
     match spelled {
         Command::Print(expression) => find_faults(expression).nested,
         Command::Watch(expression) => find_faults(expression).nested,
+        Command::Set(_, expression) => find_faults(expression).nested,
+        Command::Do(_, program) => program_faults(program).nested,
         _ => false,
     }
 }
@@ -100,6 +103,8 @@ fn names_none(spelled: &Command) -> bool
     match spelled {
         Command::Print(expression) => find_faults(expression).no_node,
         Command::Watch(expression) => find_faults(expression).no_node,
+        Command::Set(_, expression) => find_faults(expression).no_node,
+        Command::Do(_, program) => program_faults(program).no_node,
         Command::Mem(node, ..) => node.is_none(),
         Command::Threads(node) => node.is_none(),
         Command::Break(scope, _) => scopes_none(*scope),
@@ -130,7 +135,7 @@ fn watches_variable(spelled: &Command) -> bool
 fn judge(spelled: Command) -> Line
     ensures { (state : SessionState) (line : List ℕ) → judged state line (command spelled) ≡ answer_to state line result }
 {
-    if nests(&spelled) {
+    if has_nested(&spelled) {
         Line::Refused(Refusal::Nested)
     } else if names_none(&spelled) {
         Line::Refused(Refusal::NoNode)

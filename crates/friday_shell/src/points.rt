@@ -1,13 +1,16 @@
 // The points of a session.
-ghost use Rattle.std.specs.Prelude.{◌≡◌, ◌++◌, IfOk, OnOk, codes, decimal, map};
+ghost use Rattle.std.specs.Prelude.{◌≡◌, ◌<◌, ◌++◌, ◌==◌, IfOk, IfSome, OnOk, codes, decimal, length, map, position};
 ghost use Rattle.std.specs.List.{flat_map};
-ghost use Rattle.friday_shell.specs.Answer.{adds, breaks_at, deletes, point_text};
-ghost use Rattle.friday_shell.specs.Points.{has_point, without_point};
+ghost use Rattle.friday_shell.specs.Answer.{adds, attaches, breaks_at, deletes, point_text};
+ghost use Rattle.friday_shell.specs.Points.{has_point, with_program, without_point};
+ghost use Rattle.embed_cmds.specs.Tree.{body};
 ghost use Rattle.friday_shell.specs.Seen.{Performs, point as point_meant, scope as scope_meant, state_of, trigger as trigger_meant};
 
 use crate::command::Scope;
 use crate::refusal::{Refusal, refused};
 use crate::state::State;
+use crate::variables::MOST_VARIABLES;
+use embed_cmds::Program;
 use fri_bytes::Bytes;
 use fri_text::Text;
 use lib_calls::Kind;
@@ -25,12 +28,13 @@ pub(crate) enum Trigger {
     Break(Option<u32>, Kind),
 }
 
-/// A point, with its number, from 1, and the line that made it.
+/// A point, with its number, from 1, the line that made it, and the program that is attached to it.
 #[derive(Drop)]
 pub(crate) struct Point {
     pub(crate) number: u64,
     pub(crate) text: Bytes,
     pub(crate) trigger: Trigger,
+    pub(crate) program: Option<Program>,
 }
 
 /// A point more, which this line makes, unless there are as many as there may be.
@@ -43,37 +47,20 @@ pub(crate) fn add<'m, 'a>(
     ensures answer { IfOk result (λ done. Performs (adds (state_of state.entry) line.now (trigger_meant trigger)) (state_of done.0) done.1) }
     ensures group { IfOk result (λ done. done.0.group ≡ state.entry.group) }
 {
-    let State {
-        group,
-        mut points,
-        made,
-    } = state;
-    if points.len() >= MOST_POINTS {
+    if state.kept.points.len() >= MOST_POINTS {
         let text = refused(alloc, Refusal::TooMany)?;
-        return Ok((
-            State {
-                group,
-                points,
-                made,
-            },
-            text,
-        ));
+        return Ok((state, text));
     }
-    let made = made.checked_add(1).ok_or(AllocError)?;
-    points.push(Point {
-        number: made,
+    let State { group, mut kept } = state;
+    kept.made = kept.made.checked_add(1).ok_or(AllocError)?;
+    kept.points.push(Point {
+        number: kept.made,
         text: Bytes::from_slice(alloc, line)?,
         trigger,
+        program: None,
     })?;
-    let text = numbered(alloc, "point ", made)?;
-    Ok((
-        State {
-            group,
-            points,
-            made,
-        },
-        text,
-    ))
+    let text = numbered(alloc, "point ", kept.made)?;
+    Ok((State { group, kept }, text))
 }
 
 /// A breakpoint more. Of one for a node that no process is, nothing is said.
@@ -103,25 +90,38 @@ pub(crate) fn delete<'m, 'a>(
     ensures answer { IfOk result (λ done. Performs (deletes (state_of state.entry) number) (state_of done.0) done.1) }
     ensures group { IfOk result (λ done. done.0.group ≡ state.entry.group) }
 {
-    if !is_held(&state.points, number) {
+    if !is_held(&state.kept.points, number) {
         let text = refused(alloc, Refusal::NoPoint)?;
         return Ok((state, text));
     }
-    let State {
-        group,
-        mut points,
-        made,
-    } = state;
-    remove(&mut points, number);
+    let State { group, mut kept } = state;
+    remove(&mut kept.points, number);
     let text = numbered(alloc, "deleted ", number)?;
-    Ok((
-        State {
-            group,
-            points,
-            made,
-        },
-        text,
-    ))
+    Ok((State { group, kept }, text))
+}
+
+/// Attaches a program to the point with this number, in place of an older one, where it is held; and mentions all variables
+/// that the program sets, unless there were too many then.
+pub(crate) fn attach<'m, 'a>(
+    alloc: Global,
+    state: State<'m, 'a>,
+    number: u64,
+    program: Program,
+) -> Result<(State<'m, 'a>, Text), AllocError>
+    ensures answer { IfOk result (λ done. Performs (attaches (state_of state.entry) number (body program)) (state_of done.0) done.1) }
+    ensures group { IfOk result (λ done. done.0.group ≡ state.entry.group) }
+{
+    let Some(place) = place_of(&state.kept.points, number) else {
+        let text = refused(alloc, Refusal::NoPoint)?;
+        return Ok((state, text));
+    };
+    let State { group, mut kept } = state;
+    if !kept.variables.mention_all(alloc, &program, MOST_VARIABLES)? {
+        let text = refused(alloc, Refusal::TooMany)?;
+        return Ok((State { group, kept }, text));
+    }
+    put(&mut kept.points, place, program);
+    Ok((State { group, kept }, Text::new(alloc)))
 }
 
 /// The number of each point, and the line that made it.
@@ -160,6 +160,22 @@ fn is_held(points: &[Point], number: u64) -> bool
     ensures { result ≡ has_point (map point_meant points.now) number }
 {
     points.iter().any(|point| point.number == number)
+}
+
+// Where the point with this number stands.
+fn place_of(points: &[Point], number: u64) -> Option<usize>
+    ensures place { result ≡ position (λ p. p.number == number) points.now }
+    ensures within { IfSome result (λ place. place < length points.now) }
+{
+    points.iter().position(|point| point.number == number)
+}
+
+// The program is attached to the point at this place.
+fn put(points: &mut Vec<Point>, place: usize, program: Program)
+    requires { place < length points.now.items }
+    ensures { map point_meant points.new.items ≡ with_program (map point_meant points.old.items) place (body program) }
+{
+    points[place].program = Some(program);
 }
 
 // All points but that with this number.

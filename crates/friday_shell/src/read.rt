@@ -1,8 +1,8 @@
 // What single tokens of a command are, and the expression behind its verb.
 ghost use Rattle.std.specs.Prelude.{◌≡◌, ◌<◌, ◌^◌, IfSome, bytes_eq, length, option_map, position};
 ghost use Rattle.call_table.specs.Table.{kind_named};
-ghost use Rattle.friday_shell.specs.Lines.{count_or, ends_at, expression_from, node_named, number_from, scope_named, token_as};
-ghost use Rattle.friday_shell.specs.Seen.{ReadsAs, command, scope};
+ghost use Rattle.friday_shell.specs.Lines.{count_or, ends_at, expression_from, node_named, number_from, scope_named, token_as, variable_at};
+ghost use Rattle.friday_shell.specs.Seen.{ReadsAs, ReadsCommand, command, scope};
 ghost use Rattle.watch_expr.specs.Lexing.{texts};
 ghost use Rattle.watch_expr.specs.Tree.{tree};
 
@@ -104,17 +104,35 @@ fn place_among(text: &[u8], names: &[Bytes]) -> Option<usize>
     names.iter().position(|name| name.as_slice() == text)
 }
 
-/// The expression that all tokens behind the verb are.
+/// The variable that token n and the one behind it name: a dollar and a word.
+pub(crate) fn read_variable(
+    alloc: Global,
+    tokens: &Tokens<'_>,
+    n: usize,
+) -> Result<Bytes, ExprError>
+    ensures { ReadsAs (λ v. v) tokens.now (variable_at (texts tokens.now) n) result }
+{
+    if tokens.text(n) != Some(b"$".as_slice()) {
+        return Err(ExprError::Syntax(tokens.column(n)));
+    }
+    match tokens.text(n + 1) {
+        Some(text) if is_word(text) => Ok(Bytes::from_slice(alloc, text)?),
+        _ => Err(ExprError::Syntax(tokens.column(n + 1))),
+    }
+}
+
+/// The expression that all tokens from this one on are.
 pub(crate) fn read_expression(
     alloc: Global,
     tokens: &Tokens<'_>,
+    from: usize,
     names: &[Bytes],
 ) -> Result<Expr, ExprError>
     requires { length names.now < 2 ^ 32 }
-    ensures { ReadsAs tree tokens.now (expression_from names.now (texts tokens.now) 1) result }
+    ensures { ReadsAs tree tokens.now (expression_from names.now (texts tokens.now) from) result }
 {
     exact_reading();
-    let (expression, next) = parse(alloc, tokens, 1, names)?;
+    let (expression, next) = parse(alloc, tokens, from, names)?;
     if next < tokens.count() {
         return Err(ExprError::Syntax(tokens.column(next)));
     }
@@ -123,7 +141,7 @@ pub(crate) fn read_expression(
 
 /// The command, where there are no more than so many tokens.
 pub(crate) fn ending(tokens: &Tokens<'_>, n: usize, spelled: Command) -> Result<Command, ExprError>
-    ensures { ReadsAs command tokens.now (ends_at (texts tokens.now) n (command spelled)) result }
+    ensures { ReadsCommand tokens.now (ends_at (texts tokens.now) n (command spelled)) result }
 {
     if tokens.count() <= n {
         Ok(spelled)

@@ -10,7 +10,8 @@ use crate::answer::perform;
 use crate::command::Command;
 use crate::line::{Line, read_line, trimmed};
 use crate::refusal::refused;
-use crate::state::State;
+use crate::state::{Kept, State};
+use embed_cmds::Vars;
 use fri_bytes::Bytes;
 use fri_text::Text;
 use group_state::Group;
@@ -24,8 +25,8 @@ pub enum Go {
     Quit,
 }
 
-/// A debugger over the logs of a group. Contracts see where its group stands, the points that it holds, and how many
-/// were made.
+/// A debugger over the logs of a group. Contracts see where its group stands, the points that it holds, how many were
+/// made, and the variables.
 #[derive(Drop)]
 pub struct Session<'m, 'a> {
     state: State<'m, 'a>,
@@ -37,11 +38,12 @@ impl<'m, 'a> Model for Session<'m, 'a> {
     ghost use Rattle.std.specs.Coded.{codes};
     ghost use Rattle.guest_process.specs.Coding.{crew_code, trees_code};
     ghost use Rattle.watch_expr.specs.Coding.{tree_code};
+    ghost use Rattle.embed_cmds.specs.Coding.{statements_code};
     ghost use Rattle.friday_shell.specs.Points.{SessionState};
 
     ghost Value = { SessionState };
 
-    ghost coded = { Prim.hlevel (codes, trees_code, crew_code, tree_code) };
+    ghost coded = { Prim.hlevel (codes, trees_code, crew_code, tree_code, statements_code) };
 
     ghost use Rattle.friday_shell.specs.Answer.{names_of};
     ghost use Rattle.friday_shell.specs.Seen.{state_of};
@@ -63,8 +65,11 @@ impl<'m, 'a> Session<'m, 'a> {
         text.push_str("at 0\n")?;
         let state = State {
             group,
-            points: Vec::new(alloc),
-            made: 0,
+            kept: Kept {
+                points: Vec::new(alloc),
+                made: 0,
+                variables: Vars::new(alloc),
+            },
         };
         Ok((Session { state, names }, text))
     }

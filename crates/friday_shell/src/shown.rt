@@ -1,13 +1,13 @@
 // What a command shows of the group, which stays as it is.
 ghost use Rattle.std.specs.Prelude.{◌≡◌, IfOk};
 ghost use Rattle.friday_shell.specs.Answer.{memory_text, threads_of, value_text};
-ghost use Rattle.friday_shell.specs.Firing.{no_variable};
+ghost use Rattle.embed_cmds.specs.Running.{value_in};
 ghost use Rattle.group_state.specs.Seen.{nodes_at};
 ghost use Rattle.watch_expr.specs.Tree.{tree};
-ghost use Rattle.watch_expr.specs.Value.{value};
 
 use crate::event::push_process;
-use crate::firing::NoVariables;
+use crate::state::State;
+use embed_cmds::push_value;
 use fri_text::Text;
 use group_state::Group;
 use lib_calls::memory_part;
@@ -17,16 +17,14 @@ use watch_expr::{Expr, eval};
 /// The value of an expression.
 pub(crate) fn print(
     alloc: Global,
-    group: &Group<'_, '_>,
+    state: &State<'_, '_>,
     expression: &Expr,
 ) -> Result<Text, AllocError>
-    ensures { IfOk result (λ text. text ≡ value_text (value (nodes_at group.now) no_variable (tree expression.now))) }
+    ensures { IfOk result (λ text. text ≡ value_text (value_in (nodes_at state.now.group) state.now.kept.variables (tree expression.now))) }
 {
+    let value = eval(expression, &state.group, &state.kept.variables);
     let mut text = Text::new(alloc);
-    match eval(expression, group, &NoVariables) {
-        Some(value) => text.push_i64(value)?,
-        None => text.push_str("undef")?,
-    }
+    push_value(&mut text, value)?;
     text.push_str("\n")?;
     Ok(text)
 }

@@ -2,13 +2,15 @@
 ghost use Rattle.std.specs.Prelude.{◌≡◌, ◌<◌, ◌^◌, length};
 ghost use Rattle.friday_shell.specs.Lines.{command_by, command_of, token_as, verb_of};
 ghost use Rattle.friday_shell.specs.declared.command.Verb.TheVariants as verb;
-ghost use Rattle.friday_shell.specs.Seen.{ReadsAs, command};
+ghost use Rattle.friday_shell.specs.Seen.{ReadsAs, ReadsCommand};
 ghost use Rattle.watch_expr.specs.Lexing.{texts};
 
 use crate::command::{Command, Verb};
 use crate::read::{
     ending, read_count, read_expression, read_kind, read_node, read_number, read_scope,
+    read_variable,
 };
+use embed_cmds::parse_program;
 use fri_bytes::Bytes;
 use std::alloc::Global;
 use watch_expr::{ExprError, Tokens};
@@ -16,7 +18,7 @@ use watch_expr::{ExprError, Tokens};
 // The greatest number that a token is.
 const MOST_NUMBER: u64 = 9_223_372_036_854_775_807;
 
-const VERBS: [Verb; 12] = [
+const VERBS: [Verb; 15] = [
     Verb::Goto,
     Verb::Step,
     Verb::Print,
@@ -26,7 +28,10 @@ const VERBS: [Verb; 12] = [
     Verb::Watch,
     Verb::Break,
     Verb::Delete,
+    Verb::Do,
     Verb::List,
+    Verb::Set,
+    Verb::Vars,
     Verb::Continue,
     Verb::Quit,
 ];
@@ -47,7 +52,10 @@ impl Verb {
             Verb::Watch => "watch",
             Verb::Break => "break",
             Verb::Delete => "delete",
+            Verb::Do => "do",
             Verb::List => "list",
+            Verb::Set => "set",
+            Verb::Vars => "vars",
             Verb::Continue => "continue",
             Verb::Quit => "quit",
         }
@@ -62,7 +70,7 @@ pub(crate) fn read_command(
     names: &[Bytes],
 ) -> Result<Command, ExprError>
     requires { length names.now < 2 ^ 32 }
-    ensures { ReadsAs command tokens.now (command_of names.now (texts tokens.now)) result }
+    ensures { ReadsCommand tokens.now (command_of names.now (texts tokens.now)) result }
 {
     let verb = read_verb(tokens)?;
     read_behind(alloc, verb, tokens, names)
@@ -76,7 +84,7 @@ fn read_behind(
     names: &[Bytes],
 ) -> Result<Command, ExprError>
     requires { length names.now < 2 ^ 32 }
-    ensures { ReadsAs command tokens.now (command_by names.now (texts tokens.now) verb) result }
+    ensures { ReadsCommand tokens.now (command_by names.now (texts tokens.now) verb) result }
 {
     match verb {
         Verb::Goto => {
@@ -87,7 +95,7 @@ fn read_behind(
             let count = read_count(tokens, 0, MOST_NUMBER, 1)?;
             ending(tokens, 2, Command::Step(count))
         }
-        Verb::Print => Ok(Command::Print(read_expression(alloc, tokens, names)?)),
+        Verb::Print => Ok(Command::Print(read_expression(alloc, tokens, 1, names)?)),
         Verb::Mem => read_mem(tokens, names),
         Verb::Threads => {
             let node = read_node(tokens, 1, names)?;
@@ -97,13 +105,16 @@ fn read_behind(
             let count = read_count(tokens, 1, 1000, 10)?;
             ending(tokens, 2, Command::Events(count))
         }
-        Verb::Watch => Ok(Command::Watch(read_expression(alloc, tokens, names)?)),
+        Verb::Watch => Ok(Command::Watch(read_expression(alloc, tokens, 1, names)?)),
         Verb::Break => read_break(tokens, names),
         Verb::Delete => {
             let number = read_number(tokens, 1, 0, MOST_NUMBER)?;
             ending(tokens, 2, Command::Delete(number))
         }
+        Verb::Do => read_do(alloc, tokens, names),
         Verb::List => ending(tokens, 1, Command::List),
+        Verb::Set => read_set(alloc, tokens, names),
+        Verb::Vars => ending(tokens, 1, Command::Vars),
         Verb::Continue => ending(tokens, 1, Command::Continue),
         Verb::Quit => ending(tokens, 1, Command::Quit),
     }
@@ -112,7 +123,7 @@ fn read_behind(
 // A node, an address and a length.
 fn read_mem(tokens: &Tokens<'_>, names: &[Bytes]) -> Result<Command, ExprError>
     requires { length names.now < 2 ^ 32 }
-    ensures { ReadsAs command tokens.now (command_by names.now (texts tokens.now) verb.Mem) result }
+    ensures { ReadsCommand tokens.now (command_by names.now (texts tokens.now) verb.Mem) result }
 {
     let node = read_node(tokens, 1, names)?;
     let addr = read_number(tokens, 2, 0, MOST_NUMBER)?;
@@ -123,11 +134,31 @@ fn read_mem(tokens: &Tokens<'_>, names: &[Bytes]) -> Result<Command, ExprError>
 // Which nodes, and the kind of call.
 fn read_break(tokens: &Tokens<'_>, names: &[Bytes]) -> Result<Command, ExprError>
     requires { length names.now < 2 ^ 32 }
-    ensures { ReadsAs command tokens.now (command_by names.now (texts tokens.now) verb.Break) result }
+    ensures { ReadsCommand tokens.now (command_by names.now (texts tokens.now) verb.Break) result }
 {
     let place = read_scope(tokens, 1, names)?;
     let kind = read_kind(tokens, 2)?;
     ending(tokens, 3, Command::Break(place, kind))
+}
+
+// The number of a point, and a program.
+fn read_do(alloc: Global, tokens: &Tokens<'_>, names: &[Bytes]) -> Result<Command, ExprError>
+    requires { length names.now < 2 ^ 32 }
+    ensures { ReadsCommand tokens.now (command_by names.now (texts tokens.now) verb.Do) result }
+{
+    let number = read_number(tokens, 1, 0, MOST_NUMBER)?;
+    let program = parse_program(alloc, tokens, 2, names)?;
+    Ok(Command::Do(number, program))
+}
+
+// A variable, and an expression.
+fn read_set(alloc: Global, tokens: &Tokens<'_>, names: &[Bytes]) -> Result<Command, ExprError>
+    requires { length names.now < 2 ^ 32 }
+    ensures { ReadsCommand tokens.now (command_by names.now (texts tokens.now) verb.Set) result }
+{
+    let name = read_variable(alloc, tokens, 1)?;
+    let value = read_expression(alloc, tokens, 3, names)?;
+    Ok(Command::Set(name, value))
 }
 
 // The verb in front.

@@ -1,50 +1,100 @@
-// Goes on to where a point fires.
-ghost use Rattle.std.specs.Prelude.{◌≡◌, ◌++◌, IfOk};
-ghost use Rattle.friday_shell.specs.Seen.{Walks};
+// Goes on to where a point asks to stop.
+ghost use Rattle.std.specs.Prelude.{◌≡◌, ◌++◌, IfOk, map};
+ghost use Rattle.friday_shell.specs.Seen.{Walks, point as seen};
 ghost use Rattle.friday_shell.specs.Texts.{position_line};
+ghost use Rattle.friday_shell.specs.Walking.{lines_in};
+ghost use Rattle.friday_shell.specs.declared.points.Point.{Point as Held};
 
 use crate::event::push_position;
-use crate::firing::{lines_here, readings};
+use crate::firing::readings;
 use crate::points::Point;
+use crate::turn::treat_all;
+use embed_cmds::Vars;
 use fri_text::Text;
 use group_state::Group;
 use std::alloc::{AllocError, Global};
 
-/// Goes to the first position behind this one at which a point fires, and says which do; or to the last position.
+// A walk that has said so many lines pauses.
+const MOST_LINES: usize = 10_000;
+
+/// Where a walk came to, what it made of the variables, and what it said.
+#[derive(Drop)]
+pub(crate) struct Walked<'m, 'a> {
+    pub(crate) group: Group<'m, 'a>,
+    pub(crate) variables: Vars,
+    pub(crate) text: Text,
+}
+
+/// Goes to the first position behind this one at which a point asks to stop or enough was said, or to the last.
 pub(crate) fn walk<'m, 'a>(
     alloc: Global,
     group: Group<'m, 'a>,
     points: &[Point],
-) -> Result<(Group<'m, 'a>, Text), AllocError>
-    ensures { IfOk result (λ done. Walks group.entry points.now done.0 done.1) }
+    variables: Vars,
+) -> Result<Walked<'m, 'a>, AllocError>
+    ensures { IfOk result (λ done. Walks group.entry (map {A = Held} seen points.now) variables done.group done.variables done.text) }
 {
     let _ = group.position();
-    let mut group = group;
-    let mut before = readings(alloc, points, &group)?;
+    let mut walked = Walked {
+        group,
+        variables,
+        text: Text::new(alloc),
+    };
+    let mut before = readings(alloc, points, &walked.group)?;
+    let mut said = 0;
     'positions: loop {
-        let (next, event) = group.forward()?;
-        group = next;
+        let Walked {
+            group,
+            variables,
+            mut text,
+        } = walked;
+        let (group, event) = group.forward()?;
         if event.is_none() {
-            let mut end = Text::new(alloc);
-            end.push_str("end\n")?;
-            return arrive(group, end);
+            return arrive(group, variables, text, "end\n");
         }
         let now = readings(alloc, points, &group)?;
-        let lines = lines_here(alloc, points, &before, &now, &group)?;
-        // Each point that fires says something.
-        if !lines.bytes().is_empty() {
-            return arrive(group, lines);
+        let turn = treat_all(alloc, points, &before, &now, &group, variables)?;
+        text.push_bytes(turn.text.bytes())?;
+        if turn.stops {
+            return arrive(group, turn.variables, text, "");
+        }
+        said += lines_in(&turn.text);
+        if said >= MOST_LINES {
+            return arrive(group, turn.variables, text, "paused\n");
         }
         before = now;
+        walked = Walked {
+            group,
+            variables: turn.variables,
+            text,
+        };
     }
 }
 
-// What was said on the way, and then the position of the group.
-fn arrive<'m, 'a>(group: Group<'m, 'a>, said: Text) -> Result<(Group<'m, 'a>, Text), AllocError>
-    ensures group { IfOk result (λ done. done.0 ≡ group.entry) }
-    ensures text { IfOk result (λ done. done.1 ≡ said ++ position_line group.entry) }
+// How many lines a text has.
+fn lines_in(text: &Text) -> usize
+    ensures { result ≡ lines_in text.now }
 {
-    let mut text = said;
+    text.bytes().iter().filter(|b| **b == b'\n').count()
+}
+
+// The word with which a walk ends, and the position of the group.
+fn arrive<'m, 'a>(
+    group: Group<'m, 'a>,
+    variables: Vars,
+    text: Text,
+    word: &str,
+) -> Result<Walked<'m, 'a>, AllocError>
+    ensures group { IfOk result (λ done. done.group ≡ group.entry) }
+    ensures variables { IfOk result (λ done. done.variables ≡ variables) }
+    ensures text { IfOk result (λ done. done.text ≡ (text ++ word.now) ++ position_line group.entry) }
+{
+    let mut text = text;
+    text.push_str(word)?;
     push_position(&mut text, &group)?;
-    Ok((group, text))
+    Ok(Walked {
+        group,
+        variables,
+        text,
+    })
 }

@@ -1,19 +1,21 @@
 use Rattle.std.proofs.Common.{◌≡◌, ◌-◌, ◌≤◌, length, map}
 use Rattle.group_state.specs.Place.{events}
 use Rattle.friday_shell.specs.declared.points.Point.{Point as Held}
-use Rattle.friday_shell.specs.Firing.{stop_after}
 use Rattle.friday_shell.specs.Reading.{readings}
 use Rattle.friday_shell.specs.Seen.{point}
+use Rattle.friday_shell.specs.Walking.{lines_in, walk_from, walk_over}
 use Rattle.friday_shell.proofs.walk.walk.Given as goal
 
--- the first position at which a point fires is still ahead
+-- the walk from here on, behind what it made and said so far, is the whole
 abbrev pub invariant-positions : goal.invariant-positions
 invariant-positions l = record {
-  start : l.group.start ≡ l.fn.group.start;
-  within : l.group.at ≤ length (events l.fn.group.start);
-  read : l.before.items ≡ readings l.fn.group.start l.group.at (map {A = Held} point l.points);
-  ahead : stop_after l.group (map {A = Held} point l.points) ≡ stop_after l.fn.group (map {A = Held} point l.points);
+  start : l.walked.group.start ≡ l.fn.group.start;
+  within : l.walked.group.at ≤ length (events l.fn.group.start);
+  read : l.before.items ≡ readings l.fn.group.start l.walked.group.at (map {A = Held} point l.points);
+  said : l.said ≡ lines_in l.walked.text;
+  ahead : walk_over l.fn.group.start (map {A = Held} point l.points) l.walked.group.at (length (events l.fn.group.start) - l.walked.group.at) l.walked.variables l.walked.text
+      ≡ walk_from l.fn.group (map {A = Held} point l.points) l.fn.variables;
 }
 
 abbrev pub decreases-positions : goal.decreases-positions
-decreases-positions l = length (events l.fn.group.start) - l.group.at
+decreases-positions l = length (events l.fn.group.start) - l.walked.group.at

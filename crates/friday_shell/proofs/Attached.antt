@@ -1,0 +1,58 @@
+-- What attaching a program answers.
+use Rattle.std.proofs.Common.{◌≡◌, ◌∙◌, ℕ, zero, suc, ◌<◌, Bool, true, false, cond, nat_le, List, [], ◌∷◌, length, map, get_or, Option, Some, None, refl, sym, ap, subst, arith}
+use Rattle.std.specs.Prelude.{slice_set}
+use Rattle.embed_cmds.specs.declared.program.Program.{Program}
+use Rattle.embed_cmds.specs.Faulty.{set_names}
+use Rattle.embed_cmds.specs.Tree.{Statements, body}
+use Rattle.embed_cmds.specs.Variables.{Variable, mention_all}
+use Rattle.friday_shell.specs.declared.points.Point.{Point as Held}
+use Rattle.friday_shell.specs.declared.refusal.Refusal.TheVariants as refusal
+use Rattle.friday_shell.specs.Answer.{Answered, attaches, attaches_at, most_variables, refuses, says}
+use Rattle.friday_shell.specs.Points.{Point, SessionState, place_of, with_program}
+use Rattle.friday_shell.specs.Refusals.{refusal_line}
+use Rattle.friday_shell.specs.Seen.{Performs, point}
+
+-- the point at a place has a program
+pub put_same : (ps : List Held) (k : ℕ) (e : Held) (p : Program) → k < length ps → get_or ps k e ≡ e
+    → map {A = Held} point (slice_set ps k (record { number = e.number; text = e.text; trigger = e.trigger; program = Some p })) ≡ with_program (map {A = Held} point ps) k (body p)
+put_same [] k e p within here = absurd (omega (arith, within))
+put_same (q ∷ ps) zero e p within here = ap (λ (r : Held). point (record { number = r.number; text = r.text; trigger = r.trigger; program = Some p }) ∷ map {A = Held} point ps) (sym here)
+put_same (q ∷ ps) (suc k) e p within here = ap (λ (rest : List Point). point q ∷ rest) (put_same ps k e p (omega (arith, within)) here)
+
+-- no point has the number
+pub none_held : (state : SessionState) (n : ℕ) (program : Statements) (text : List ℕ) → None ≡ place_of state.points n → text ≡ refusal_line refusal.NoPoint
+    → Performs (attaches state n program) state text
+none_held state n program text none said = subst (λ (o : Option ℕ). Performs (attaches_at state program o) state text) none (record { text_is = said; state = refl })
+
+abbrev mentioned : SessionState → Statements → List Variable
+mentioned state program = mention_all state.variables (set_names program)
+
+abbrev attaches_if : SessionState → Statements → ℕ → Bool → Answered
+attaches_if state program place few =
+    cond few (says (record state { points = with_program state.points place program; variables = mentioned state program }) []) (refuses state refusal.TooMany)
+
+-- there were too many variables then
+pub too_many : (state : SessionState) (n : ℕ) (program : Statements) (place : ℕ) (variables : List Variable) (done : Bool) (text : List ℕ) → Some place ≡ place_of state.points n
+    → (done ≡ nat_le (length (mentioned state program)) most_variables) × (variables ≡ cond done (mentioned state program) state.variables) → done ≡ false
+    → text ≡ refusal_line refusal.TooMany → Performs (attaches state n program) (record state { variables = variables }) text
+too_many state n program place variables done text found mentions many said =
+    let new : SessionState = record state { variables = variables } in
+    let same : variables ≡ state.variables = mentions.1 ∙ ap (λ (b : Bool). cond b (mentioned state program) state.variables) many in
+    let few : nat_le (length (mentioned state program)) most_variables ≡ false = sym mentions.0 ∙ many in
+    subst (λ (o : Option ℕ). Performs (attaches_at state program o) new text) found
+    (subst (λ (b : Bool). Performs (attaches_if state program place b) new text) (sym few)
+    (record { text_is = said; state = ap (λ (vs : List Variable). record state { variables = vs }) same }))
+
+-- it is attached
+pub attached_there : (state : SessionState) (n : ℕ) (program : Statements) (place : ℕ) (points : List Point) (variables : List Variable) (done : Bool) (text : List ℕ)
+    → Some place ≡ place_of state.points n
+    → (done ≡ nat_le (length (mentioned state program)) most_variables) × (variables ≡ cond done (mentioned state program) state.variables) → done ≡ true
+    → points ≡ with_program state.points place program → text ≡ []
+    → Performs (attaches state n program) (record { place = state.place; points = points; made = state.made; variables = variables }) text
+attached_there state n program place points variables done text found mentions few put said =
+    let new : SessionState = record { place = state.place; points = points; made = state.made; variables = variables } in
+    let all : variables ≡ mentioned state program = mentions.1 ∙ ap (λ (b : Bool). cond b (mentioned state program) state.variables) few in
+    let room : nat_le (length (mentioned state program)) most_variables ≡ true = sym mentions.0 ∙ few in
+    subst (λ (o : Option ℕ). Performs (attaches_at state program o) new text) found
+    (subst (λ (b : Bool). Performs (attaches_if state program place b) new text) (sym room)
+    (record { text_is = said; state = λ i. record { place = state.place; points = put i; made = state.made; variables = all i } }))
