@@ -39,7 +39,7 @@ VERBS = (
     "foo ^# a comment is a line of its own",
 )
 # Words of the shell that are not built yet.
-LATER = ("^back", "^back 1", "^do 1 stop", "  ^do 1 stop", "^set $n 1", "^vars", "^rcontinue")
+LATER = ("^back", "^back 1", "  ^back 1", "^rcontinue", "\t^rcontinue")
 MOVES = (
     "goto^",
     "goto ^",
