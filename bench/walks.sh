@@ -1,9 +1,10 @@
 #!/bin/sh
 # `continue` over 16 processes that pass datagrams round in a ring, from position 0 to the end, with 0, 1 and 10 watchpoints
-# that never fire, in logs of 100,000 and 1,000,000 events; beside `goto` to the end. The watchpoints read a number of one
-# process, or add up one of each process. Prints the processor's time for each event, and that for each value of a watchpoint, which
-# is what the walk takes longer than without any; instructions by valgrind for the shorter logs; and the peak of memory. The
-# guest is built with wat2wasm of the package wabt.
+# that never fire, in logs of 100,000 and 1,000,000 events; beside `goto` to the end, and a walk with a break point whose
+# program counts the sends. The watchpoints read a number of one process, or add up one of each process. Prints the
+# processor's time for each event, and that for each value of a watchpoint or run of the program, which is what the walk
+# takes longer than without points; instructions by valgrind for the shorter logs; and the peak of memory. The guest is built
+# with wat2wasm of the package wabt.
 # Usage: bench/walks.sh [PROGRAM]   (the program that ./friday builds, if none is given)
 here=$(CDPATH='' cd -- "$(dirname -- "$0")/.." && pwd) || exit 1
 program=${1:-$here/crates/friday/out/friday}
@@ -26,6 +27,8 @@ RING = """(module
       (drop (call $recv (i32.const 8) (i32.const 16) (i32.const 4)))
       (br 0))))
 """
+# A program that counts the sends.
+COUNTING = ["set $sends 0", "break * send", "do 1 set $sends $sends + 1", "continue"]
 # What no event changes: a number of one process, and one of each.
 ONE = ["@p%d.u32[%d]" % (n, 4000 + 4 * n) for n in range(10)]
 EACH = ["sum(@_.u32[%d])" % (4000 + 4 * n) for n in range(10)]
@@ -107,6 +110,11 @@ def table(folder, events, counted):
         each, value = shared(spent * 1e9, bare[0] * 1e9, events, points)
         each_count, value_count = shared(count, bare[2], events, points)
         print("%8d  %2d %-16s %9s %9s %12s %12s %8.1f" % (events, points, name, each, value, each_count, value_count, peak / 1e6), flush=True)
+    spent, peak, count = costs(folder, COUNTING, counted)
+    sends = (events - 2 * COUNT) // 2
+    each, run = "%.0f" % (spent * 1e9 / events), "%.0f" % ((spent - bare[0]) * 1e9 / sends)
+    each_count, run_count = (shared(count, 0, events, 0)[0], "-" if count is None else "%.0f" % ((count - bare[2]) / sends))
+    print("%8d  %-19s %9s %9s %12s %12s %8.1f" % (events, "a program at sends", each, run, each_count, run_count, peak / 1e6), flush=True)
     spent, peak, count = costs(folder, ["goto %d" % events], counted)
     print("%8d  %-19s %9.0f %9s %12s %12s %8.1f" % (events, "goto to the end", spent / events * 1e9, "", shared(count, 0, events, 0)[0], "", peak / 1e6), flush=True)
 
