@@ -1,7 +1,8 @@
 #!/bin/sh
 # The three hunts: puts the places into the debugger's scripts again, makes the schedules again from their seeds, records
 # and replays the group of each, lists what its processes printed and noted, and compares all of it with what lies beside
-# the guests. The memories and the prints that a replay comes to have to be those of the recording.
+# the guests. The memories and the prints that a replay comes to have to be those of the recording. Last, the debugger's
+# script is answered over the logs of the failing schedule, and its answers are compared too.
 # Usage: check_hunts.sh [PROGRAM]   (the program that ./friday builds, if none is given)
 here=$(CDPATH='' cd -- "$(dirname -- "$0")" && pwd) || exit 1
 program=$(realpath -- "${1:-$here/../crates/friday/out/friday}") || exit 1
@@ -39,7 +40,9 @@ check() {
         echo "$schedule:" >> printed
         play "$hunt" "$schedule" >> printed || { tail -n 1 printed; return 1; }
     done
-    diff "$here/$hunt/expected" printed && echo "$hunt: as expected"
+    # shellcheck disable=SC2086 # These are the pairs of the schedule that was played last.
+    "$program" debug $pairs < ./debug > answers || return 1
+    diff "$here/$hunt/expected" printed && diff "$here/$hunt/answers" answers && echo "$hunt: as expected"
 }
 
 status=0

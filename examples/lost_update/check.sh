@@ -1,0 +1,16 @@
+#!/bin/sh
+# Puts the places into the debugger's script again, records the schedule beside this script, replays the logs together, and
+# answers the script over them. What is printed is compared with what lies here.
+# Usage: check.sh [PROGRAM]   (the program that ./friday builds, if none is given)
+here=$(CDPATH='' cd -- "$(dirname -- "$0")" && pwd) || exit 1
+program=$(realpath -- "${1:-$here/../../crates/friday/out/friday}") || exit 1
+folder=$(mktemp -d) || exit 1
+trap 'rm -rf "$folder"' EXIT
+mkdir "$folder/bank" "$folder/lost_update" && cp "$here/../bank/bank.wasm" "$folder/bank" || exit 1
+cp "$here/schedule" "$folder/lost_update" && cd "$folder/lost_update" || exit 1
+set -- ../bank/bank.wasm north.log ../bank/bank.wasm south.log ../bank/bank.wasm east.log
+"$here/../../guests/places" "$here/../bank/bank.places" < "$here/debug.in" > debug || exit 1
+cmp "$here/debug" debug || exit 1
+{ "$program" record schedule && "$program" replay "$@"; } > printed || exit 1
+"$program" debug "$@" < ./debug > answers || exit 1
+diff "$here/expected" printed && diff "$here/answers" answers && echo "as expected"
