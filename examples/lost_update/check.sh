@@ -1,6 +1,6 @@
 #!/bin/sh
 # Puts the places into the debugger's script again, records the schedule beside this script, replays the logs together, and
-# answers the script over them. What is printed is compared with what lies here.
+# answers the script over them. The logs and what is printed are compared with what lies here.
 # Usage: check.sh [PROGRAM]   (the program that ./friday builds, if none is given)
 here=$(CDPATH='' cd -- "$(dirname -- "$0")" && pwd) || exit 1
 program=$(realpath -- "${1:-$here/../../crates/friday/out/friday}") || exit 1
@@ -12,5 +12,6 @@ set -- ../bank/bank.wasm north.log ../bank/bank.wasm south.log ../bank/bank.wasm
 "$here/../../guests/places" "$here/../bank/bank.places" < "$here/debug.in" > debug || exit 1
 cmp "$here/debug" debug || exit 1
 { "$program" record schedule && "$program" replay "$@"; } > printed || exit 1
+for log in north.log south.log east.log; do cmp "$here/$log" "$log" || exit 1; done
 "$program" debug "$@" < ./debug > answers || exit 1
 diff "$here/expected" printed && diff "$here/answers" answers && echo "as expected"
