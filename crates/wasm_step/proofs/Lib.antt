@@ -3,6 +3,7 @@ pub mod Begins
 pub mod Branches
 pub mod Bursts
 pub mod Callees
+pub mod Ends
 pub mod Fits
 pub mod LevelEnds
 pub mod Opcodes

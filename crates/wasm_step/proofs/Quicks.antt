@@ -8,9 +8,9 @@ use Rattle.wasm_types.specs.Code.{Tree, Then}
 use Rattle.wasm_values.specs.Numeric.{Gives, binary, is_unary, unary}
 use Rattle.wasm_store.specs.Store.{Store}
 use Rattle.wasm_step.specs.declared.stack.Stack.TheInside.{Inside}
-use Rattle.wasm_step.specs.Burst.{At, after_both, after_step, at_further, settle, burst}
+use Rattle.wasm_step.specs.Burst.{At, settle, burst}
 use Rattle.wasm_step.specs.Quick.{Within}
-use Rattle.wasm_step.specs.Reduce.{Both, After, Goes, Stops, branch, keep, limited, numeric, put, row, trapped, with_top}
+use Rattle.wasm_step.specs.Reduce.{Both, After, Goes, Stops, limited, numeric, put, row, trapped, with_top}
 use Rattle.wasm_step.specs.Thread.{Thread, is_within, size, with_operand}
 use Rattle.wasm_step.specs.View.{IsSound, thread_of}
 use Rattle.wasm_step.proofs.Runs.{settle_here, burst_on}
@@ -45,13 +45,6 @@ step_by t v u i g g' here goes within n =
     let at : settle t ≡ At i v = ap settle here ∙ settle_here (record v { todo = Then i v.todo }) refl in
     burst_on n t v u g g' i at (ap (λ (b : Both). limited b.after) goes ∙ ap (λ b. if b then Goes u else trapped Exhausted) (within_is u within)) (ap (λ (b : Both). b.store) goes)
 
--- a branch that is still to be made is made within its step
-pub branches_by : (t v u : Thread) (i : Tree) (g g' : Store) (k : ℕ) → t ≡ record v { todo = Then i v.todo } → row i v g ≡ keep g' (branch k u) → (n : ℕ) → burst (suc n) t g ≡ after_step (limited (branch k u)) g' (burst n)
-unfolding burst
-branches_by t v u i g g' k here goes n =
-    let at : settle t ≡ At i v = ap settle here ∙ settle_here (record v { todo = Then i v.todo }) refl in
-    ap (λ x. after_both (at_further x g) (burst n)) at ∙ ap (λ (b : Both). after_step (limited b.after) b.store (burst n)) goes
-
 -- a numeric instruction on two operands, and on one
 pub combined_by : (op : ℕ) (t : Thread) (x y v : Value) → t.stack ≡ y ∷ (x ∷ drop 2 t.stack) → is_unary op ≡ false → Gives v ≡ binary op x y → Goes (record t { stack = v ∷ drop 2 t.stack }) ≡ numeric op t
 combined_by op t x y v st two e =
@@ -75,7 +68,7 @@ within_two t x y v st h = let two = ap length st in record { frames = h.frames; 
 pub within_one : (t : Thread) (x v : Value) → t.stack ≡ x ∷ drop 1 t.stack → Within t → Within (record t { stack = v ∷ drop 1 t.stack })
 within_one t x v st h = let one = ap length st in record { frames = h.frames; size = omega (arith, h.size, one) }
 
-module _ (s : Inside) (w1 w3 : Vec Value Global) (x v : Value) (h : IsSound s) (enough : s.here.label.floor < length s.operands.items) (cap1 : s.operands.cap ≤ w1.cap) (cap3 : w1.cap ≤ w3.cap) (e1 : s.operands.items ≡ w1.items ++ x ∷ []) (e3 : w3.items ≡ w1.items ++ v ∷ []) where
+module _ (s : Inside) (w1 w3 : Vec Value Global) (x v : Value) (h : IsSound s) (enough : s.here.floor < length s.operands.items) (cap1 : s.operands.cap ≤ w1.cap) (cap3 : w1.cap ≤ w3.cap) (e1 : s.operands.items ≡ w1.items ++ x ∷ []) (e3 : w3.items ≡ w1.items ++ v ∷ []) where
   one_sound : IsSound (record s { operands = w1 })
   one_sound = IsSound-operands s w1 h cap1 (keeps_popped s w1.items x enough e1)
 
@@ -87,11 +80,11 @@ module _ (s : Inside) (w1 w3 : Vec Value Global) (x v : Value) (h : IsSound s) (
       pushed_view (record s { operands = w1 }) w3 v one_sound e3
       ∙ ap (λ (t : Thread). record t { stack = v ∷ drop 1 t.stack }) (sym (popped_view s w1 x h enough e1))
 
-module _ (s : Inside) (w1 w2 w3 : Vec Value Global) (x y v : Value) (h : IsSound s) (enough : s.here.label.floor + 2 ≤ length s.operands.items) (cap1 : s.operands.cap ≤ w1.cap) (cap2 : w1.cap ≤ w2.cap) (cap3 : w2.cap ≤ w3.cap) (e1 : s.operands.items ≡ w1.items ++ y ∷ []) (e2 : w1.items ≡ w2.items ++ x ∷ []) (e3 : w3.items ≡ w2.items ++ v ∷ []) where
-  lt1 : s.here.label.floor < length s.operands.items
+module _ (s : Inside) (w1 w2 w3 : Vec Value Global) (x y v : Value) (h : IsSound s) (enough : s.here.floor + 2 ≤ length s.operands.items) (cap1 : s.operands.cap ≤ w1.cap) (cap2 : w1.cap ≤ w2.cap) (cap3 : w2.cap ≤ w3.cap) (e1 : s.operands.items ≡ w1.items ++ y ∷ []) (e2 : w1.items ≡ w2.items ++ x ∷ []) (e3 : w3.items ≡ w2.items ++ v ∷ []) where
+  lt1 : s.here.floor < length s.operands.items
   lt1 = omega (arith, enough)
 
-  lt2 : s.here.label.floor < length w1.items
+  lt2 : s.here.floor < length w1.items
   lt2 = omega (arith, enough, ap length e1, length-append w1.items (y ∷ []))
 
   h1 : IsSound (record s { operands = w1 })

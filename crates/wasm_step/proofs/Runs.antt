@@ -3,8 +3,10 @@ use Rattle.std.proofs.Common.{◌≡◌, ℕ, zero, suc, Bool, true, false, List
 use Rattle.wasm_types.specs.declared.code.Value.{Value}
 use Rattle.wasm_types.specs.Code.{Tree, Trees, End, Then}
 use Rattle.wasm_step.specs.Paused.{settled_of}
-use Rattle.wasm_step.specs.Answer.{after_of, stop_of}
+use Rattle.wasm_step.specs.Answer.{after_of, stop_of, way_of}
 use Rattle.wasm_step.specs.declared.halt.Next.{Next}
+use Rattle.wasm_step.specs.declared.halt.Way.{Way}
+use Rattle.wasm_step.specs.declared.halt.Way.TheVariants as way
 use Rattle.wasm_step.specs.declared.halt.Next.TheVariants.{Going, Calling, Ended, Trapped, Stuck}
 use Rattle.wasm_store.specs.Store.{Store}
 use Rattle.wasm_step.specs.Thread.{Level, Frame, Thread, is_end, closed_to, left, left_to, waiting, depth}
@@ -68,10 +70,6 @@ halted_is Ended t h = refl
 halted_is (Trapped trap) t h = refl
 halted_is Stuck t h = refl
 
--- what does not go on is a stop
-pub halts : (n : Next) (t : Thread) (a : After) → after_of n t ≡ a → (n ≡ Going → ⊥) → a ≡ Stops (stop_of (after_of n t))
-halts n t a e h = sym e ∙ halted_is n t h
-
 pub settle_halts : (n : Next) (t u : Thread) → settled_of (after_of n u) ≡ settle t → (n ≡ Going → ⊥) → settle t ≡ Done (stop_of (after_of n u))
 settle_halts n t u e h = sym e ∙ ap settled_of (halted_is n u h)
 
@@ -111,3 +109,40 @@ stopped_step (Calling f n) t g k h = refl
 stopped_step Ended t g k h = refl
 stopped_step (Trapped trap) t g k h = refl
 stopped_step Stuck t g k h = refl
+
+settle_stops : (n : ℕ) (t : Thread) (s : Stop) → t.todo ≡ End → ended t ≡ Stops s → settle_by n t ≡ Done s
+settle_stops zero t s none e = ap (λ is. at_next is t (after_end (ended t) (λ u. Done Sticks))) none ∙ ap (λ a. after_end a (λ u. Done Sticks)) e
+settle_stops (suc n) t s none e = ap (λ is. at_next is t (after_end (ended t) (settle_by n))) none ∙ ap (λ a. after_end a (settle_by n)) e
+
+-- a thread that ends, or sticks, at an end
+pub burst_ended : (n : ℕ) (t : Thread) (g : Store) (s : Stop) → is_end t.todo ≡ true → ended t ≡ Stops s → burst n t g ≡ record { stop = s; store = g }
+burst_ended n t g s e stops = burst_done n t g s (settle_stops (depth t) t s (none_left t.todo e) stops)
+
+pub way_halts : (w : Way) (n : Next) (t : Thread) → after_of n t ≡ way_of w t → (w ≡ way.Goes → ⊥) → way_of w t ≡ Stops (stop_of (after_of n t))
+way_halts way.Goes n t e h = absurd (h refl)
+way_halts way.Ends n t e h = ap (λ a. Stops (stop_of a)) (sym e)
+way_halts way.Sticks n t e h = ap (λ a. Stops (stop_of a)) (sym e)
+
+pub first_on : (k : ℕ) (t v u : Thread) (g h : Store) (i : Tree) (n : Next) → settle t ≡ At i v → after_of n u ≡ (reduce i v g).after → h ≡ (reduce i v g).store → after_step (after_of n u) h (burst k) ≡ burst (suc k) t g
+unfolding burst
+first_on k t v u g h i n at e store =
+    ap (λ a. after_step a h (burst k)) e
+    ∙ ap (λ (x : Store). after_step (reduce i v g).after x (burst k)) store
+    ∙ sym (ap (λ x. after_both (at_further x g) (burst k)) at)
+
+-- an instruction on a thread and a store that are as they were
+module _ (t v v' u : Thread) (g h h' : Store) (i : Tree) (here : t ≡ record v { todo = Then i v.todo }) (same : v' ≡ v) (kept : h ≡ g) (store : h' ≡ (reduce i v' h).store) where
+  at : settle t ≡ At i v
+  at = ap settle here ∙ settle_here (record v { todo = Then i v.todo }) refl
+
+  store_is : (reduce i v g).store ≡ h'
+  store_is = sym (store ∙ ap (λ (x : Thread). (reduce i x h).store) same ∙ ap (λ (x : Store). (reduce i v x).store) kept)
+
+  after_is : (a : After) → a ≡ (reduce i v' h).after → (reduce i v g).after ≡ a
+  after_is a e = sym (e ∙ ap (λ (x : Thread). (reduce i x h).after) same ∙ ap (λ (x : Store). (reduce i v x).after) kept)
+
+  pub step_on : (n : ℕ) → Goes u ≡ (reduce i v' h).after → burst (suc n) t g ≡ burst n u h'
+  step_on n e = burst_on n t v u g h' i at (after_is (Goes u) e) store_is
+
+  pub step_stop : (n : ℕ) (a : Next) → after_of a u ≡ (reduce i v' h).after → (a ≡ Going → ⊥) → burst (suc n) t g ≡ record { stop = stop_of (after_of a u); store = h' }
+  step_stop n a e halted = burst_stop n t v g h' i (stop_of (after_of a u)) at (after_is (after_of a u) e ∙ halted_is a u halted) store_is

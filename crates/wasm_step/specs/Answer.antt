@@ -4,12 +4,12 @@ use Rattle.wasm_types.specs.declared.code.Value.{Value}
 use Rattle.wasm_step.specs.Call.{site_of}
 use Rattle.wasm_step.specs.declared.halt.Next.{Next}
 use Rattle.wasm_step.specs.declared.halt.Next.TheVariants.{Going, Calling, Ended, Trapped, Stuck}
+use Rattle.wasm_step.specs.declared.halt.Way.{Way}
+use Rattle.wasm_step.specs.declared.halt.Way.TheVariants as way
 use Rattle.wasm_step.specs.declared.halt.Stopped.{Stopped}
 use Rattle.wasm_step.specs.declared.halt.Stopped.TheVariants as stopped
-use Rattle.wasm_step.specs.declared.control.Carried as code
-use Rattle.wasm_step.specs.declared.control.Carried.TheVariants as code'
 use Rattle.wasm_step.specs.Thread.{Thread, arguments, without}
-use Rattle.wasm_step.specs.Reduce.{Stop, Calls, Ends, Traps, Sticks, After, Goes, Stops, Carried, Takes, Lacks}
+use Rattle.wasm_step.specs.Reduce.{Stop, Calls, Ends, Traps, Sticks, After, Goes, Stops}
 
 -- a call of the library, whose n arguments are the topmost operands
 abbrev pub calling : Option (List Value) → ℕ → ℕ → Thread → Stop
@@ -23,6 +23,11 @@ after_of Ended t = Stops Ends
 after_of (Trapped trap) t = Stops (Traps trap)
 after_of Stuck t = Stops Sticks
 
+abbrev pub way_of : Way → Thread → After
+way_of way.Goes t = Goes t
+way_of way.Ends t = Stops Ends
+way_of way.Sticks t = Stops Sticks
+
 -- how a thread stops that does not go on
 abbrev pub stop_of : After → Stop
 stop_of (Goes t) = Sticks
@@ -33,7 +38,3 @@ stopped_of (stopped.Calling site) t = Calls t site
 stopped_of stopped.Ended t = Ends
 stopped_of (stopped.Trapped trap) t = Traps trap
 stopped_of stopped.Stuck t = Sticks
-
-abbrev pub carried_of : code.Carried → Thread → Carried
-carried_of (code'.Takes o) t = Takes o t
-carried_of code'.Lacks t = Lacks

@@ -8,6 +8,7 @@ pub mod Paused
 pub mod Quick
 pub mod Reduce
 pub mod Strand
+pub mod Target
 pub mod Thread
 pub mod View
 pub use Rattle.wasm_store.specs.Start

@@ -1,49 +1,92 @@
 -- The thread that the stacks of a strand stand for.
-use Rattle.std.specs.Prelude.{◌≡◌, ℕ, ◌+◌, ◌-◌, ◌≤◌, List, [], ◌∷◌, reverse, take, drop, length}
+use Rattle.std.specs.Prelude.{◌≡◌, ℕ, ◌+◌, ◌-◌, ◌≤◌, Bool, true, false, List, [], ◌∷◌, Option, Some, None, is_some, reverse, take, drop, length}
 use Rattle.wasm_types.specs.declared.code.Value.{Value}
-use Rattle.wasm_types.specs.Code.{trees}
+use Rattle.wasm_types.specs.declared.code.ValType.{ValType}
+use Rattle.wasm_types.specs.Code.{Tree, Block, Loop, If, Trees, End, tree, trees}
 use Rattle.wasm_step.specs.declared.stack.Label.{Label}
 use Rattle.wasm_step.specs.declared.stack.Held.{Held}
 use Rattle.wasm_step.specs.declared.stack.Stack.TheInside.{Inside}
 use Rattle.wasm_step.specs.Thread.{Level, Frame, Thread}
 
--- a label's level, whose operands are the last of these
-abbrev pub level_of : Label → List Value → Level
-level_of l ops =
-    record { gives = l.gives; todo = trees l.todo.now; stack = reverse (drop l.floor ops); target = trees l.target.now; carries = l.carries; loops = l.loops }
+-- what a level is by how it was opened: the type of what it leaves, where a branch to it goes on, whether that carries
+-- an operand, and whether it begins the level anew
+pub record Opened : Type 0 where
+  pub gives : Option ValType
+  pub target : Trees
+  pub carries : Bool
+  pub loops : Bool
+
+-- what the level leaves that an instruction opens
+abbrev pub given_by : Tree → Option ValType
+given_by (Block gives body) = gives
+given_by (Loop gives body) = gives
+given_by (If gives on_true on_false) = gives
+given_by _ = None
+
+-- the body of a loop
+abbrev pub repeated_by : Tree → Option Trees
+repeated_by (Loop gives body) = Some body
+repeated_by _ = None
+
+abbrev pub opened_as : Option Trees → Option ValType → Trees → Opened
+opened_as None gives rest = record { gives = gives; target = rest; carries = is_some gives; loops = false }
+opened_as (Some body) gives rest = record { gives = gives; target = body; carries = false; loops = true }
+
+-- the level that this instruction opens, in front of these
+abbrev pub opened_by : Tree → Trees → Opened
+opened_by i rest = opened_as (repeated_by i) (given_by i) rest
+
+-- the innermost of a function's levels, with these around it: what the last of them opened, or the function's own
+abbrev pub innermost : Option ValType → List Label → Opened
+innermost gives [] = record { gives = gives; target = End; carries = is_some gives; loops = false }
+innermost gives (l ∷ ls) = opened_by (tree l.opener.now) (trees l.todo.now)
+
+-- a level whose operands are the last of these
+abbrev pub level : Opened → Trees → ℕ → List Value → Level
+level o todo floor ops =
+    record { gives = o.gives; todo = todo; stack = reverse (drop floor ops); target = o.target; carries = o.carries; loops = o.loops }
 
 -- the levels of these labels, the innermost first, over these operands
-abbrev pub levels_of : List Label → List Value → List Level
-levels_of [] ops = []
-levels_of (l ∷ ls) ops = level_of l ops ∷ levels_of ls (take l.floor ops)
+abbrev pub levels_of : Option ValType → List Label → List Value → List Level
+levels_of gives [] ops = []
+levels_of gives (l ∷ ls) ops = level (innermost gives ls) (trees l.todo.now) l.floor ops ∷ levels_of gives ls (take l.floor ops)
+
+-- the labels of a frame, the innermost first
+abbrev pub around : Held → List Label → List Label
+around f labels = reverse (drop f.labels_from labels)
 
 -- the frames that wait, the innermost first
 abbrev pub frames_of : List Held → List Label → List Value → List Value → List Frame
 frames_of [] labels locals ops = []
 frames_of (f ∷ fs) labels locals ops =
     record {
-      here = level_of f.label ops;
-      outer = levels_of (reverse (drop f.labels_from labels)) (take f.label.floor ops);
+      here = level (innermost f.gives (around f labels)) (trees f.todo.now) f.floor ops;
+      outer = levels_of f.gives (around f labels) (take f.floor ops);
       func = f.func;
       locals = drop f.locals_from locals;
-      returns = f.returns;
+      returns = is_some f.gives;
     }
     ∷ frames_of fs (take f.labels_from labels) (take f.locals_from locals) (take f.bottom ops)
 
+-- the thread whose innermost frame is this
+abbrev pub thread_in : Held → List Label → List Value → List Value → List Held → Thread
+thread_in f labels locals ops callers =
+    let o = innermost f.gives (around f labels) in record {
+      gives = o.gives;
+      todo = trees f.todo.now;
+      stack = reverse (drop f.floor ops);
+      target = o.target;
+      carries = o.carries;
+      loops = o.loops;
+      outer = levels_of f.gives (around f labels) (take f.floor ops);
+      func = f.func;
+      locals = drop f.locals_from locals;
+      returns = is_some f.gives;
+      callers = frames_of (reverse callers) (take f.labels_from labels) (take f.locals_from locals) (take f.bottom ops);
+    }
+
 abbrev pub thread_of : Inside → Thread
-thread_of s = record {
-  gives = s.here.label.gives;
-  todo = trees s.here.label.todo.now;
-  stack = reverse (drop s.here.label.floor s.operands.items);
-  target = trees s.here.label.target.now;
-  carries = s.here.label.carries;
-  loops = s.here.label.loops;
-  outer = levels_of (reverse (drop s.here.labels_from s.labels.items)) (take s.here.label.floor s.operands.items);
-  func = s.here.func;
-  locals = drop s.here.locals_from s.locals.items;
-  returns = s.here.returns;
-  callers = frames_of (reverse s.callers.items) (take s.here.labels_from s.labels.items) (take s.here.locals_from s.locals.items) (take s.here.bottom s.operands.items);
-}
+thread_of s = thread_in s.here s.labels.items s.locals.items s.operands.items s.callers.items
 
 -- each label's operands begin at or below those of the next, and at or above the frame's
 abbrev pub AreCut : ℕ → List Label → ℕ → Type 0
@@ -52,8 +95,8 @@ AreCut bottom (l ∷ ls) top = (l.floor ≤ top) × AreCut bottom ls l.floor
 
 -- each frame has its part of the labels, the locals and the operands
 pub record IsPart (f : Held) (labels : List Label) (locals ops : List Value) : Type 0 where
-  pub top : f.label.floor ≤ length ops
-  pub cut : AreCut f.bottom (reverse (drop f.labels_from labels)) f.label.floor
+  pub top : f.floor ≤ length ops
+  pub cut : AreCut f.bottom (reverse (drop f.labels_from labels)) f.floor
   pub labels_in : f.labels_from ≤ length labels
   pub locals_in : f.locals_from ≤ length locals
 

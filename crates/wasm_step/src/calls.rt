@@ -1,5 +1,5 @@
 // Calls: of the library, of the program's own functions, and through the table.
-ghost use Rattle.std.specs.Prelude.{◌≡◌, ◌+◌, ◌&&◌, ◌<◌, ◌≤◌, [], ◌∷◌, IfOk, IfSome, IfNone, None, OnOk, Some, length, slice_get};
+ghost use Rattle.std.specs.Prelude.{◌≡◌, ◌+◌, ◌<◌, ◌≤◌, [], ◌∷◌, IfOk, IfSome, IfNone, None, OnOk, Some, length, slice_get};
 ghost use Rattle.wasm_types.specs.Modules.{func_type, module_of};
 ghost use Rattle.wasm_step.specs.Answer.{after_of};
 ghost use Rattle.wasm_step.specs.Reduce.{call, call_element, call_indirect, call_library, call_own, go_on, limited};
@@ -31,13 +31,14 @@ impl<'m> Stack<'m> {
     }
 
     /// A call of the program's own function, whose limits are tested before its frame is made.
+    #[inline(always)]
     fn call_typed(
         &mut self,
         index: u32,
         callee: Callee<'m>,
         kind: &FuncType,
     ) -> Result<Next, AllocError>
-        ensures { IfOk result (λ a. limited (after_of a self.new) ≡ limited (go_on (called self.old index callee.entry (func_type kind.now)))) }
+        ensures { IfOk result (λ a. after_of a self.new ≡ limited (go_on (called self.old index callee.entry (func_type kind.now)))) }
     {
         let n = kind.params.len();
         if !self.has_arguments(n) {
@@ -47,7 +48,6 @@ impl<'m> Stack<'m> {
             return Ok(Next::Trapped(Trap::Exhausted));
         }
         if self.enter(index, callee, n, result_of(kind))? {
-            self.find_room();
             Ok(Next::Going)
         } else {
             Ok(Next::Stuck)
@@ -55,11 +55,12 @@ impl<'m> Stack<'m> {
     }
 
     // Whether a frame with these declared locals keeps to the limits.
+    #[inline(always)]
     fn can_enter(&self, declared: &[(u32, ValType)]) -> bool
         ensures { result ≡ has_frame_room (length (zeros declared.now)) self.now }
     {
         match count_locals(declared) {
-            Some(count) => self.has_frame_room(count),
+            Some(count) => self.has_frame_place(count) || self.has_frame_room(count),
             None => false,
         }
     }
@@ -93,13 +94,14 @@ impl<'m> Stack<'m> {
         Ok(())
     }
 
+    #[inline(always)]
     fn call_own(
         &mut self,
         program: &'m ValidModule,
         index: u32,
         place: usize,
     ) -> Result<Next, AllocError>
-        ensures { IfOk result (λ a. limited (after_of a self.new) ≡ limited (call_own (module_of program.now) index (slice_get (module_of program.now).funcs place) self.old)) }
+        ensures { IfOk result (λ a. after_of a self.new ≡ limited (call_own (module_of program.now) index (slice_get (module_of program.now).funcs place) self.old)) }
     {
         let Some(callee) = own_func(program, place) else {
             return Ok(Next::Stuck);
@@ -110,8 +112,9 @@ impl<'m> Stack<'m> {
         self.call_typed(index, callee, kind)
     }
 
+    #[inline(never)]
     pub fn call(&mut self, program: &'m ValidModule, index: u32) -> Result<Next, AllocError>
-        ensures { IfOk result (λ a. limited (after_of a self.new) ≡ limited (call (module_of program.now) index self.old)) }
+        ensures { IfOk result (λ a. after_of a self.new ≡ limited (call (module_of program.now) index self.old)) }
     {
         let code = program.module();
         let place = index as usize;
@@ -130,7 +133,7 @@ impl<'m> Stack<'m> {
         kind: u32,
         element: Option<Option<u32>>,
     ) -> Result<Next, AllocError>
-        ensures { IfOk result (λ a. limited (after_of a self.new) ≡ limited (call_element (module_of program.now) kind element self.old)) }
+        ensures { IfOk result (λ a. after_of a self.new ≡ limited (call_element (module_of program.now) kind element self.old)) }
     {
         let Some(place) = element else {
             return Ok(Next::Trapped(Trap::TableRange));
@@ -151,6 +154,7 @@ impl<'m> Stack<'m> {
         self.call(program, index)
     }
 
+    #[inline(never)]
     pub fn call_indirect(
         &mut self,
         program: &'m ValidModule,
@@ -158,7 +162,7 @@ impl<'m> Stack<'m> {
         kind: u32,
     ) -> Result<Next, AllocError>
         requires { module_of program.now ≡ store.now.program }
-        ensures { IfOk result (λ a. limited (after_of a self.new) ≡ limited (call_indirect kind store.now self.old)) }
+        ensures { IfOk result (λ a. after_of a self.new ≡ limited (call_indirect kind store.now self.old)) }
     {
         match self.pop() {
             Some(Value::I32(i)) => self.call_element(program, kind, store.element(i)),

@@ -1,152 +1,124 @@
-// Blocks and branches, and the ends of levels and frames.
-ghost use Rattle.std.specs.Prelude.{◌≡◌, IfOk, OnOk, slice_get};
-ghost use Rattle.wasm_types.specs.Code.{trees};
-ghost use Rattle.wasm_step.specs.Answer.{after_of, carried_of};
-ghost use Rattle.wasm_step.specs.Reduce.{branch, branch_if, branch_table, carried, choose, ended, given, jump, jump_out, label_at, resumed, return_from};
+// Branches, and the ends of levels and frames. What they carry finds its room where it was, so none wants memory.
+ghost use Rattle.std.specs.Prelude.{◌≡◌, IfOk, false, slice_get};
+ghost use Rattle.wasm_types.specs.Code.{tree, trees};
+ghost use Rattle.wasm_step.specs.Answer.{after_of, way_of};
+ghost use Rattle.wasm_step.specs.Quick.{entered_by};
+ghost use Rattle.wasm_step.specs.Reduce.{Goes, branch, branch_if, branch_table, carried, ended, jump, jump_out, label_at, on_test, resumed, return_from, with_carried, with_top};
 ghost use Rattle.wasm_step.specs.Thread.{left};
 
-use crate::halt::Next;
-use crate::stack::Stack;
+use crate::halt::{Next, Way};
+use crate::stack::{Stack, Target};
 use std::alloc::AllocError;
-use wasm_types::{Instr, ValType, Value};
-
-/// What a branch or an end carries.
-#[derive(Clone, Copy)]
-pub enum Carried {
-    Takes(Option<Value>),
-    Lacks,
-}
+use wasm_types::{Instr, Value};
 
 impl<'m> Stack<'m> {
-    fn carry(&mut self, is_there: bool) -> Carried
-        ensures { carried_of result self.new ≡ carried is_there self.old }
+    // The end of the innermost frame, from any of its levels, which leaves its topmost operand or none.
+    #[inline(always)]
+    fn end_frame(&mut self, carries: bool) -> Way
+        ensures { way_of result self.new ≡ with_carried (carried carries self.old) (λ o t. resumed (left t) o) }
     {
-        if !is_there {
-            return Carried::Takes(None);
+        if !carries {
+            return if self.leave() { Way::Goes } else { Way::Ends };
         }
-        match self.pop() {
-            Some(v) => Carried::Takes(Some(v)),
-            None => Carried::Lacks,
+        if !self.has_operand() {
+            return Way::Sticks;
+        }
+        if self.leave_with_top() {
+            Way::Goes
+        } else {
+            Way::Ends
         }
     }
 
-    /// What is carried goes onto the operands.
-    pub fn give(&mut self, carried: Option<Value>) -> Result<(), AllocError>
-        ensures { OnOk result (self.new ≡ given carried self.old) }
+    #[inline(never)]
+    pub fn return_from(&mut self) -> Way
+        ensures { way_of result self.new ≡ return_from self.old }
     {
-        if let Some(v) = carried {
-            self.push(v)?;
-        }
-        Ok(())
+        let carries = self.returns();
+        self.end_frame(carries)
     }
 
-    pub fn return_from(&mut self) -> Result<Next, AllocError>
-        ensures { IfOk result (λ n. after_of n self.new ≡ return_from self.old) }
+    // A branch out of the innermost level, which is no loop.
+    #[inline(always)]
+    fn jump_out(&mut self, carries: bool) -> Way
+        requires carries { self.old.carries ≡ carries }
+        requires loops { self.old.loops ≡ false }
+        ensures { way_of result self.new ≡ jump_out self.old }
     {
-        let is_there = self.returns();
-        match self.carry(is_there) {
-            Carried::Takes(carried) => self.resume(carried),
-            Carried::Lacks => Ok(Next::Stuck),
+        if !self.has_outer() {
+            return self.end_frame(carries);
         }
-    }
-
-    fn resume(&mut self, carried: Option<Value>) -> Result<Next, AllocError>
-        ensures { IfOk result (λ n. after_of n self.new ≡ resumed (left self.old) carried) }
-    {
-        if !self.leave() {
-            return Ok(Next::Ended);
+        if !carries {
+            self.clear();
+        } else if !self.keep_top() {
+            return Way::Sticks;
         }
-        self.give(carried)?;
-        Ok(Next::Going)
+        let is_closed = self.close();
+        prove!(is_closed);
+        Way::Goes
     }
 
     // A branch to the innermost level.
-    fn jump(&mut self) -> Result<Next, AllocError>
-        ensures { IfOk result (λ n. after_of n self.new ≡ jump self.old) }
+    #[inline(always)]
+    fn jump(&mut self) -> Way
+        ensures { way_of result self.new ≡ jump self.old }
     {
-        if self.loops() {
-            let target = self.target();
-            self.clear();
-            self.go_to(target);
-            return Ok(Next::Going);
-        }
-        let next = self.jump_out()?;
-        Ok(next)
-    }
-
-    fn jump_out(&mut self) -> Result<Next, AllocError>
-        ensures { IfOk result (λ n. after_of n self.new ≡ jump_out self.old) }
-    {
-        let target = self.target();
-        let is_there = self.carries();
-        match self.carry(is_there) {
-            Carried::Takes(carried) => {
+        match self.target() {
+            Target::Again(body) => {
                 self.clear();
-                if !self.close() {
-                    let next = self.resume(carried)?;
-                    return Ok(next);
-                }
-                self.go_to(target);
-                self.give(carried)?;
-                Ok(Next::Going)
+                self.go_to(body);
+                Way::Goes
             }
-            Carried::Lacks => Ok(Next::Stuck),
+            Target::Out(carries) => self.jump_out(carries),
         }
     }
 
     /// A branch past n levels.
-    pub fn branch(&mut self, n: u32) -> Result<Next, AllocError>
-        ensures { IfOk result (λ a. after_of a self.new ≡ branch n self.old) }
+    #[inline(never)]
+    pub fn branch(&mut self, n: u32) -> Way
+        ensures { way_of result self.new ≡ branch n self.old }
     {
-        for _i in 0..n {
-            if !self.close() {
-                return Ok(Next::Stuck);
-            }
+        if !self.past(n) {
+            return Way::Sticks;
         }
-        let next = self.jump()?;
-        Ok(next)
+        self.jump()
     }
 
-    pub fn branch_if(&mut self, n: u32) -> Result<Next, AllocError>
-        ensures { IfOk result (λ a. after_of a self.new ≡ branch_if n self.old) }
+    pub fn branch_if(&mut self, n: u32) -> Way
+        ensures { way_of result self.new ≡ branch_if n self.old }
     {
         match self.pop() {
-            Some(Value::I32(0)) => Ok(Next::Going),
-            Some(Value::I32(_)) => {
-                let next = self.branch(n)?;
-                Ok(next)
-            }
-            _ => Ok(Next::Stuck),
+            Some(Value::I32(0)) => Way::Goes,
+            Some(Value::I32(_)) => self.branch(n),
+            _ => Way::Sticks,
         }
     }
 
-    pub fn branch_table(&mut self, labels: &[u32], default: u32) -> Result<Next, AllocError>
-        ensures { IfOk result (λ a. after_of a self.new ≡ branch_table labels.now default self.old) }
+    pub fn branch_table(&mut self, labels: &[u32], default: u32) -> Way
+        ensures { way_of result self.new ≡ branch_table labels.now default self.old }
     {
         match self.pop() {
-            Some(Value::I32(i)) => {
-                let next = self.branch(label_at(labels, i, default))?;
-                Ok(next)
-            }
-            _ => Ok(Next::Stuck),
+            Some(Value::I32(i)) => self.branch(label_at(labels, i, default)),
+            _ => Way::Sticks,
         }
     }
 
+    /// A choice, of which this instruction is the opener.
     pub fn choose(
         &mut self,
-        gives: Option<ValType>,
+        opener: &'m Instr,
         on_true: &'m [Instr],
         on_false: &'m [Instr],
     ) -> Result<Next, AllocError>
-        ensures { IfOk result (λ a. after_of a self.new ≡ choose gives (trees on_true.now) (trees on_false.now) self.old) }
+        ensures { IfOk result (λ a. after_of a self.new ≡ with_top self.old (λ v t. on_test v (Goes (entered_by (tree opener.now) (trees on_false.now) t)) (Goes (entered_by (tree opener.now) (trees on_true.now) t)))) }
     {
         match self.pop() {
             Some(Value::I32(0)) => {
-                self.open(gives, on_false, self.todo(), gives.is_some(), false)?;
+                self.open(opener, on_false)?;
                 Ok(Next::Going)
             }
             Some(Value::I32(_)) => {
-                self.open(gives, on_true, self.todo(), gives.is_some(), false)?;
+                self.open(opener, on_true)?;
                 Ok(Next::Going)
             }
             _ => Ok(Next::Stuck),
@@ -154,14 +126,14 @@ impl<'m> Stack<'m> {
     }
 
     /// The end of a level, or of a frame with its outermost level.
-    pub fn end(&mut self) -> Result<Next, AllocError>
-        ensures { IfOk result (λ a. after_of a self.new ≡ ended self.old) }
+    #[inline(always)]
+    pub fn end(&mut self) -> Way
+        ensures { way_of result self.new ≡ ended self.old }
     {
         if self.close() {
-            return Ok(Next::Going);
+            return Way::Goes;
         }
-        let next = self.return_from()?;
-        Ok(next)
+        self.return_from()
     }
 }
 

@@ -1,4 +1,9 @@
 // What comes after an instruction, and how a burst stops.
+ghost use Rattle.std.specs.Prelude.{◌≡◌, if◌then◌else◌};
+ghost use Rattle.wasm_step.specs.Answer.{after_of, way_of};
+ghost use Rattle.wasm_step.specs.Reduce.{Goes, Sticks, Stops};
+ghost use Rattle.wasm_step.specs.Thread.{Thread};
+
 use crate::call::CallSite;
 use wasm_types::Trap;
 
@@ -12,6 +17,35 @@ pub enum Next {
     Trapped(Trap),
     /// No rule is for the thread.
     Stuck,
+}
+
+/// What comes after a branch, or after the end of a level or of a frame.
+#[derive(Clone, Copy, Drop)]
+pub enum Way {
+    Goes,
+    Ends,
+    Sticks,
+}
+
+impl Way {
+    #[inline(always)]
+    pub fn next(self) -> Next
+        ensures { (t : Thread) → after_of result t ≡ way_of self t }
+    {
+        match self {
+            Way::Goes => Next::Going,
+            Way::Ends => Next::Ended,
+            Way::Sticks => Next::Stuck,
+        }
+    }
+}
+
+/// Going, unless no rule is for the thread.
+#[inline(always)]
+pub fn unless_stuck(goes: bool) -> Next
+    ensures { (t : Thread) → after_of result t ≡ (if goes then Goes t else Stops Sticks) }
+{
+    if goes { Next::Going } else { Next::Stuck }
 }
 
 /// How a burst of a thread stops. A call of the library has taken its arguments.

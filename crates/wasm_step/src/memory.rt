@@ -1,10 +1,9 @@
 // Instructions on globals and on the memory.
-ghost use Rattle.std.specs.Prelude.{◌≡◌, ◌+◌, IfOk, IfSome, IsTrue, OnOk, Some, false};
+ghost use Rattle.std.specs.Prelude.{◌≡◌, ◌+◌, IfOk, IfSome, IsTrue, OnOk, Some, false, if◌then◌else◌};
 ghost use Rattle.guest_memory.specs.LittleEndian.{IsWidth};
 ghost use Rattle.wasm_step.specs.Answer.{after_of};
 ghost use Rattle.wasm_step.specs.Quick.{Within};
-ghost use Rattle.wasm_values.specs.Values.{bits_of};
-ghost use Rattle.wasm_step.specs.Reduce.{Goes, global_get, global_set, grow_answer, keep, load, memory_grow, memory_size, write, write_at};
+ghost use Rattle.wasm_step.specs.Reduce.{Goes, Sticks, Stops, global_get, global_set, grow_answer, keep, load, memory_grow, memory_size, write, write_at};
 
 use crate::halt::Next;
 use crate::stack::Stack;
@@ -21,33 +20,42 @@ impl<'m> Stack<'m> {
         self.got(value)
     }
 
-    pub fn global_set(&mut self, store: &mut Store<'m>, x: u32) -> Next
-        ensures after { after_of result self.new ≡ (global_set x store.old self.old).after }
-        ensures store { store.new ≡ (global_set x store.old self.old).store }
+    #[inline(always)]
+    pub fn global_set(&mut self, store: &mut Store<'m>, x: u32) -> bool
+        ensures after { keep store.new (if result then Goes self.new else Stops Sticks) ≡ global_set x store.old self.old }
+        ensures within { Within self.old → Within self.new }
+        ensures same { result ≡ false → self.new ≡ self.old }
+        ensures store { result ≡ false → store.new ≡ store.old }
     {
-        let Some(v) = self.pop() else {
-            return Next::Stuck;
+        let Some(v) = self.top() else {
+            return false;
         };
-        if store.set_global(x as usize, v) {
-            Next::Going
-        } else {
-            Next::Stuck
+        if !store.set_global(x as usize, v) {
+            return false;
         }
+        self.drop_last(1);
+        true
     }
 
-    pub fn load(&mut self, store: &Store<'m>, op: u8, offset: u32) -> Result<Next, AllocError>
-        ensures { IfOk result (λ n. after_of n self.new ≡ load op offset store.now.memory self.old) }
+    #[inline(never)]
+    pub fn load(&mut self, store: &Store<'m>, op: u8, offset: u32) -> Next
+        ensures { after_of result self.new ≡ load op offset store.now.memory self.old }
     {
-        let Some(Value::I32(base)) = self.pop() else {
-            return Ok(Next::Stuck);
+        let Some(Value::I32(base)) = self.top() else {
+            return Next::Stuck;
         };
         let Some(width) = load_width(op) else {
-            return Ok(Next::Stuck);
+            return Next::Stuck;
         };
-        match store.memory().load(address(base, offset), width) {
-            Some(n) => self.got(load_value(op, n)),
-            None => Ok(Next::Trapped(Trap::MemoryRange)),
-        }
+        let Some(n) = store.memory().load(address(base, offset), width) else {
+            return Next::Trapped(Trap::MemoryRange);
+        };
+        let Some(v) = load_value(op, n) else {
+            return Next::Stuck;
+        };
+        let is_put = self.put_one(v);
+        prove!(is_put);
+        Next::Going
     }
 
     #[tactic(auto, using(crate::proofs::Accesses::load_by, crate::proofs::Quicks::within_one))]
@@ -97,24 +105,6 @@ impl<'m> Stack<'m> {
         }
         self.drop_last(2);
         Ok(true)
-    }
-
-    #[inline(always)]
-    pub fn quick_global_set(&mut self, store: &mut Store<'m>, x: u32) -> bool
-        requires { Within self.old }
-        ensures goes { IsTrue result → global_set x store.old self.old ≡ keep store.new (Goes self.new) }
-        ensures within { Within self.new }
-        ensures same { result ≡ false → self.new ≡ self.old }
-        ensures store { result ≡ false → store.new ≡ store.old }
-    {
-        let Some(v) = self.top() else {
-            return false;
-        };
-        if !store.set_global(x as usize, v) {
-            return false;
-        }
-        self.drop_last(1);
-        true
     }
 
     fn write_at(
@@ -167,11 +157,12 @@ impl<'m> Stack<'m> {
         ensures after { IfOk result (λ n. after_of n self.new ≡ (memory_grow store.old self.old).after) }
         ensures store { OnOk result (store.new ≡ (memory_grow store.old self.old).store) }
     {
-        let Some(Value::I32(pages)) = self.pop() else {
+        let Some(Value::I32(pages)) = self.top() else {
             return Ok(Next::Stuck);
         };
         let before = store.grow(pages)?;
-        self.push(grow_answer(before))?;
+        let is_put = self.put_one(grow_answer(before));
+        prove!(is_put);
         Ok(Next::Going)
     }
 }

@@ -1,8 +1,10 @@
-// Instructions on operands, locals and numbers.
-ghost use Rattle.std.specs.Prelude.{◌≡◌, IfOk};
+// Instructions on operands, locals and numbers. Each that takes an operand before it gives one finds its room there,
+// so none of them wants memory.
+ghost use Rattle.std.specs.Prelude.{◌≡◌, IfOk, OnOk, false, true, if◌then◌else◌};
+ghost use Rattle.wasm_values.specs.Numeric.{is_unary};
 ghost use Rattle.wasm_step.specs.Answer.{after_of};
-ghost use Rattle.wasm_values.specs.Numeric.{computed_of};
-ghost use Rattle.wasm_step.specs.Reduce.{drop_top, got, local_get, local_put, local_set, local_tee, numeric, put, select};
+ghost use Rattle.wasm_step.specs.Quick.{Within};
+ghost use Rattle.wasm_step.specs.Reduce.{Goes, Sticks, Stops, drop_top, given, got, local_get, local_set, local_tee, numeric, select};
 
 use crate::halt::Next;
 use crate::stack::Stack;
@@ -11,71 +13,93 @@ use wasm_types::Value;
 use wasm_values::{Number, binary, is_unary, unary};
 
 impl<'m> Stack<'m> {
-    /// What was computed goes onto the operands.
-    #[inline(always)]
-    fn put(&mut self, number: Number) -> Result<Next, AllocError>
-        ensures { IfOk result (λ n. after_of n self.new ≡ put (computed_of number) self.old) }
+    fn numeric_one(&mut self, op: u8) -> Next
+        requires { is_unary op ≡ true }
+        ensures { after_of result self.new ≡ numeric op self.old }
     {
-        match number {
+        let Some(x) = self.top() else {
+            return Next::Stuck;
+        };
+        match unary(op, x) {
             Number::Given(v) => {
-                self.push(v)?;
-                Ok(Next::Going)
+                let is_put = self.put_one(v);
+                prove!(is_put);
+                Next::Going
             }
-            Number::Failed(trap) => Ok(Next::Trapped(trap)),
-            Number::Missing => Ok(Next::Stuck),
+            Number::Failed(trap) => Next::Trapped(trap),
+            Number::Missing => Next::Stuck,
         }
     }
 
-    #[inline(always)]
-    pub fn numeric(&mut self, op: u8) -> Result<Next, AllocError>
-        ensures { IfOk result (λ n. after_of n self.new ≡ numeric op self.old) }
+    fn numeric_two(&mut self, op: u8) -> Next
+        requires { is_unary op ≡ false }
+        ensures { after_of result self.new ≡ numeric op self.old }
     {
-        let Some(y) = self.pop() else {
-            return Ok(Next::Stuck);
+        let Some((x, y)) = self.two() else {
+            return Next::Stuck;
         };
-        if is_unary(op) {
-            return self.put(unary(op, y));
+        match binary(op, x, y) {
+            Number::Given(v) => {
+                let is_put = self.put_two(v);
+                prove!(is_put);
+                Next::Going
+            }
+            Number::Failed(trap) => Next::Trapped(trap),
+            Number::Missing => Next::Stuck,
         }
-        let Some(x) = self.pop() else {
-            return Ok(Next::Stuck);
-        };
-        self.put(binary(op, x, y))
+    }
+
+    pub fn numeric(&mut self, op: u8) -> Next
+        ensures { after_of result self.new ≡ numeric op self.old }
+    {
+        if is_unary(op) {
+            return self.numeric_one(op);
+        }
+        self.numeric_two(op)
     }
 
     #[inline(always)]
-    pub fn drop_top(&mut self) -> Next
-        ensures { after_of result self.new ≡ drop_top self.old }
+    pub fn drop_top(&mut self) -> bool
+        ensures after { (if result then Goes self.new else Stops Sticks) ≡ drop_top self.old }
+        ensures within { Within self.old → Within self.new }
+        ensures same { result ≡ false → self.new ≡ self.old }
     {
         match self.pop() {
-            Some(_) => Next::Going,
-            None => Next::Stuck,
+            Some(_) => true,
+            None => false,
         }
     }
 
     #[inline(always)]
-    pub fn select(&mut self) -> Result<Next, AllocError>
-        ensures { IfOk result (λ n. after_of n self.new ≡ select self.old) }
+    pub fn select(&mut self) -> bool
+        ensures after { (if result then Goes self.new else Stops Sticks) ≡ select self.old }
+        ensures within { Within self.old → Within self.new }
+        ensures same { result ≡ false → self.new ≡ self.old }
     {
-        let Some(condition) = self.pop() else {
-            return Ok(Next::Stuck);
+        let Some((_first, second, condition)) = self.three() else {
+            return false;
         };
-        let Some(second) = self.pop() else {
-            return Ok(Next::Stuck);
+        let Value::I32(x) = condition else {
+            return false;
         };
-        let Some(first) = self.pop() else {
-            return Ok(Next::Stuck);
-        };
-        match condition {
-            Value::I32(0) => {
-                self.push(second)?;
-                Ok(Next::Going)
-            }
-            Value::I32(_) => {
-                self.push(first)?;
-                Ok(Next::Going)
-            }
-            Value::I64(_) => Ok(Next::Stuck),
+        if x != 0 {
+            self.drop_last(2);
+            return true;
         }
+        self.drop_last(1);
+        let is_put = self.put_two(second);
+        prove!(is_put);
+        true
+    }
+
+    /// What is given goes onto the operands.
+    pub fn give(&mut self, value: Option<Value>) -> Result<(), AllocError>
+        ensures { OnOk result (self.new ≡ given value self.old) }
+    {
+        if let Some(v) = value {
+            self.push(v)?;
+        }
+        Ok(())
     }
 
     /// A value that was read goes onto the operands.
@@ -101,34 +125,33 @@ impl<'m> Stack<'m> {
     }
 
     #[inline(always)]
-    fn local_put(&mut self, x: u32, v: Value) -> Next
-        ensures { after_of result self.new ≡ local_put x v self.old }
+    pub fn local_set(&mut self, x: u32) -> bool
+        ensures after { (if result then Goes self.new else Stops Sticks) ≡ local_set x self.old }
+        ensures within { Within self.old → Within self.new }
+        ensures same { result ≡ false → self.new ≡ self.old }
     {
-        if self.set_local(x as usize, v) {
-            Next::Going
-        } else {
-            Next::Stuck
+        if !self.has_local(x as usize) || !self.has_operand() {
+            return false;
         }
+        let v = self.last();
+        let is_set = self.set_local(x as usize, v);
+        prove!(is_set);
+        self.drop_last(1);
+        true
     }
 
     #[inline(always)]
-    pub fn local_set(&mut self, x: u32) -> Next
-        ensures { after_of result self.new ≡ local_set x self.old }
+    pub fn local_tee(&mut self, x: u32) -> bool
+        ensures after { (if result then Goes self.new else Stops Sticks) ≡ local_tee x self.old }
+        ensures within { Within self.old → Within self.new }
+        ensures same { result ≡ false → self.new ≡ self.old }
     {
-        match self.pop() {
-            Some(v) => self.local_put(x, v),
-            None => Next::Stuck,
+        if !self.has_local(x as usize) || !self.has_operand() {
+            return false;
         }
-    }
-
-    #[inline(always)]
-    pub fn local_tee(&mut self, x: u32) -> Result<Next, AllocError>
-        ensures { IfOk result (λ n. after_of n self.new ≡ local_tee x self.old) }
-    {
-        let Some(v) = self.pop() else {
-            return Ok(Next::Stuck);
-        };
-        self.push(v)?;
-        Ok(self.local_put(x, v))
+        let v = self.last();
+        let is_set = self.set_local(x as usize, v);
+        prove!(is_set);
+        true
     }
 }

@@ -1,11 +1,13 @@
 // A thread as an owned value: one stack each of operands, labels, locals and frames.
 ghost use Rattle.std.specs.Prelude.{◌∷◌, OnErr, ◌≡◌, ◌+◌, ◌-◌, ◌<◌, ◌≤◌, [], ◌++◌, drop, length, IfOk, OnOk, Some, None, if◌then◌else◌, IfSome, IfNone, IsTrue, nat_lt, nat_le, ◌&&◌, false, is_some, slice_get, slice_set, take, true};
 ghost use Rattle.wasm_types.specs.Code.{End, Then, tree, trees};
-ghost use Rattle.wasm_step.specs.Thread.{is_end, with_operand, opened, closed, left, called_with, arguments, without, has_frame_room, has_room, is_within, size, at_start};
+ghost use Rattle.wasm_step.specs.Thread.{is_end, with_operand, closed, left, called_with, arguments, without, has_frame_room, has_room, is_within, at_start};
 ghost use Rattle.wasm_values.specs.Values.{zeros};
 ghost use Rattle.std.specs.Vec.{vec_capacity};
 ghost use Rattle.wasm_step.specs.Call.{sited};
-ghost use Rattle.wasm_step.specs.Quick.{Within};
+ghost use Rattle.wasm_step.specs.Quick.{Within, closed_by, entered_by};
+ghost use Rattle.wasm_step.specs.Target.{IsTarget};
+ghost use Rattle.wasm_step.specs.Reduce.{Ends, Goes, Stops, on_top, resumed};
 
 use crate::call::{CallSite, site};
 use std::alloc::{AllocError, Global};
@@ -14,27 +16,34 @@ use wasm_store::Callee;
 use wasm_types::{Instr, ValType, Value};
 use wasm_values::zero_of;
 
-/// An open level: the type of what it leaves, the instructions that are left, where a branch to it goes
-/// on, whether that carries an operand, whether it begins the level anew, and how many operands lie below it.
+/// A level around another: the instruction that opened the other, those behind it, and how many operands lie below
+/// the level.
 #[derive(Clone, Copy)]
 pub struct Label<'m> {
-    gives: Option<ValType>,
+    opener: &'m Instr,
     todo: &'m [Instr],
-    target: &'m [Instr],
-    carries: bool,
-    loops: bool,
     floor: usize,
 }
 
-/// A frame: its innermost level, and where its labels, locals and operands begin.
+/// A frame: the instructions that are left in its innermost level and how many operands lie below that, where its
+/// levels, locals and operands begin, its function, and the type of what it leaves.
 #[derive(Clone, Copy)]
 pub struct Held<'m> {
-    label: Label<'m>,
+    todo: &'m [Instr],
+    floor: usize,
     labels_from: usize,
     locals_from: usize,
     bottom: usize,
     func: u32,
-    returns: bool,
+    gives: Option<ValType>,
+}
+
+/// Where a branch to a level goes on: at these instructions, which begin it anew, or behind the level, with an operand
+/// or without one.
+#[derive(Clone, Copy)]
+pub enum Target<'m> {
+    Again(&'m [Instr]),
+    Out(bool),
 }
 
 /// A thread.
@@ -80,19 +89,13 @@ impl<'m> Stack<'m> {
         append_zeros(&mut locals, callee.declared())?;
         Ok(Stack {
             here: Held {
-                label: Label {
-                    gives,
-                    todo: callee.body(),
-                    target: &[],
-                    carries: gives.is_some(),
-                    loops: false,
-                    floor: 0,
-                },
+                todo: callee.body(),
+                floor: 0,
                 labels_from: 0,
                 locals_from: 0,
                 bottom: 0,
                 func: index,
-                returns: gives.is_some(),
+                gives,
             },
             operands: Vec::new(alloc),
             labels: Vec::new(alloc),
@@ -100,33 +103,6 @@ impl<'m> Stack<'m> {
             callers: Vec::new(alloc),
             room: 0,
         })
-    }
-
-    /// A thread that does nothing.
-    pub fn idle(&self) -> Stack<'m> {
-        let alloc = *self.operands.allocator();
-        Stack {
-            here: Held {
-                label: Label {
-                    gives: None,
-                    todo: &[],
-                    target: &[],
-                    carries: false,
-                    loops: false,
-                    floor: 0,
-                },
-                labels_from: 0,
-                locals_from: 0,
-                bottom: 0,
-                func: 0,
-                returns: false,
-            },
-            operands: Vec::new(alloc),
-            labels: Vec::new(alloc),
-            locals: Vec::new(alloc),
-            callers: Vec::new(alloc),
-            room: 0,
-        }
     }
 
     /// An equal thread.
@@ -148,7 +124,7 @@ impl<'m> Stack<'m> {
     pub fn is_at_end(&self) -> bool
         ensures { result ≡ is_end self.now.todo }
     {
-        match self.here.label.todo {
+        match self.here.todo {
             [] => true,
             [_first, _rest @ ..] => false,
         }
@@ -160,10 +136,10 @@ impl<'m> Stack<'m> {
         ensures none { IfNone result ((self.old.todo ≡ End) × (self.new ≡ self.old)) }
         ensures some { IfSome result (λ instr. self.old ≡ record self.new { todo = Then (tree instr.now) self.new.todo }) }
     {
-        match self.here.label.todo {
+        match self.here.todo {
             [] => None,
             [first, rest @ ..] => {
-                self.here.label.todo = rest;
+                self.here.todo = rest;
                 Some(first)
             }
         }
@@ -174,43 +150,28 @@ impl<'m> Stack<'m> {
     pub fn go_to(&mut self, todo: &'m [Instr])
         ensures { self.new ≡ record self.old { todo = trees todo.now } }
     {
-        self.here.label.todo = todo;
-    }
-
-    /// The instructions that are left in the innermost level.
-    #[inline(always)]
-    pub fn todo(&self) -> &'m [Instr]
-        ensures { trees result.now ≡ self.now.todo }
-    {
-        self.here.label.todo
+        self.here.todo = todo;
     }
 
     /// Where a branch to the innermost level goes on.
     #[inline(always)]
-    pub fn target(&self) -> &'m [Instr]
-        ensures { trees result.now ≡ self.now.target }
+    pub fn target(&self) -> Target<'m>
+        ensures { IsTarget result self.now }
     {
-        self.here.label.target
-    }
-
-    pub fn carries(&self) -> bool
-        ensures { result ≡ self.now.carries }
-    {
-        self.here.label.carries
-    }
-
-    /// Whether a branch begins the innermost level anew.
-    #[inline(always)]
-    pub fn loops(&self) -> bool
-        ensures { result ≡ self.now.loops }
-    {
-        self.here.label.loops
+        if self.labels.len() <= self.here.labels_from {
+            return Target::Out(self.here.gives.is_some());
+        }
+        match self.labels[self.labels.len() - 1].opener {
+            Instr::Loop(_, body) => Target::Again(body),
+            Instr::Block(gives, _) | Instr::If(gives, _, _) => Target::Out(gives.is_some()),
+            _ => Target::Out(false),
+        }
     }
 
     pub fn returns(&self) -> bool
         ensures { result ≡ self.now.returns }
     {
-        self.here.returns
+        self.here.gives.is_some()
     }
 
     /// One more operand.
@@ -218,7 +179,7 @@ impl<'m> Stack<'m> {
     pub fn push(&mut self, v: Value) -> Result<(), AllocError>
         ensures { OnOk result (self.new ≡ with_operand self.old v) }
     {
-        push_to(&mut self.operands, v)?;
+        push_operand(&mut self.operands, v)?;
         Ok(())
     }
 
@@ -238,6 +199,7 @@ impl<'m> Stack<'m> {
     }
 
     /// Takes the room that the operands' memory and the limit leave.
+    #[inline(always)]
     pub fn find_room(&mut self)
         ensures { self.new ≡ self.old }
     {
@@ -248,22 +210,14 @@ impl<'m> Stack<'m> {
         );
     }
 
-    /// Room for many operands and levels, where the limit leaves it.
-    pub fn make_room(&mut self) -> Result<(), AllocError>
-        ensures { OnOk result (self.new ≡ self.old) }
-    {
-        self.operands.reserve(ROOM)?;
-        self.find_room();
-        Ok(())
-    }
-
     /// The topmost operand of the level, which stays.
     #[inline(always)]
     pub fn top(&self) -> Option<Value>
-        ensures { IfSome result (λ v. self.now.stack ≡ v ∷ drop 1 self.now.stack) }
+        ensures some { IfSome result (λ v. self.now.stack ≡ v ∷ drop 1 self.now.stack) }
+        ensures none { IfNone result (self.now.stack ≡ []) }
     {
         let height = self.operands.len();
-        if height <= self.here.label.floor {
+        if height <= self.here.floor {
             return None;
         }
         Some(self.operands[height - 1])
@@ -272,23 +226,42 @@ impl<'m> Stack<'m> {
     /// The two topmost operands of the level, which stay.
     #[inline(always)]
     pub fn two(&self) -> Option<(Value, Value)>
-        ensures { IfSome result (λ p. self.now.stack ≡ p.1 ∷ (p.0 ∷ drop 2 self.now.stack)) }
+        ensures some { IfSome result (λ p. self.now.stack ≡ p.1 ∷ (p.0 ∷ drop 2 self.now.stack)) }
+        ensures none { IfNone result (length self.now.stack < 2) }
     {
         let height = self.operands.len();
-        if height < 2 || height - 2 < self.here.label.floor {
+        if height < self.here.floor + 2 {
             return None;
         }
         Some((self.operands[height - 2], self.operands[height - 1]))
+    }
+
+    /// The three topmost operands of the level, which stay.
+    #[inline(always)]
+    pub fn three(&self) -> Option<(Value, Value, Value)>
+        ensures some { IfSome result (λ p. self.now.stack ≡ p.2 ∷ (p.1 ∷ (p.0 ∷ drop 3 self.now.stack))) }
+        ensures none { IfNone result (length self.now.stack < 3) }
+    {
+        let height = self.operands.len();
+        if height < self.here.floor + 3 {
+            return None;
+        }
+        Some((
+            self.operands[height - 3],
+            self.operands[height - 2],
+            self.operands[height - 1],
+        ))
     }
 
     /// The value in place of the topmost operand, if there is one.
     #[inline(always)]
     pub fn put_one(&mut self, v: Value) -> bool
         ensures put { IsTrue result → self.new ≡ record self.old { stack = v ∷ drop 1 self.old.stack } }
+        ensures enough { 1 ≤ length self.old.stack → result ≡ true }
         ensures same { result ≡ false → self.new ≡ self.old }
     {
         let height = self.operands.len();
-        if height <= self.here.label.floor {
+        if height <= self.here.floor {
             return false;
         }
         let Some(_x) = self.operands.pop() else {
@@ -302,10 +275,11 @@ impl<'m> Stack<'m> {
     #[inline(always)]
     pub fn put_two(&mut self, v: Value) -> bool
         ensures put { IsTrue result → self.new ≡ record self.old { stack = v ∷ drop 2 self.old.stack } }
+        ensures enough { 2 ≤ length self.old.stack → result ≡ true }
         ensures same { result ≡ false → self.new ≡ self.old }
     {
         let height = self.operands.len();
-        if height < 2 || height - 2 < self.here.label.floor {
+        if height < self.here.floor + 2 {
             return false;
         }
         let Some(y) = self.operands.pop() else {
@@ -329,6 +303,33 @@ impl<'m> Stack<'m> {
         self.operands.truncate(height - n);
     }
 
+    /// A local of the innermost frame that it has.
+    #[inline(always)]
+    pub fn local_at(&self, x: usize) -> Value
+        requires { x < length self.now.locals }
+        ensures { slice_get self.now.locals x ≡ Some result }
+    {
+        self.locals[self.here.locals_from + x]
+    }
+
+    /// Whether the level has an operand.
+    #[inline(always)]
+    pub fn has_operand(&self) -> bool
+        ensures some { IsTrue result → 1 ≤ length self.now.stack }
+        ensures none { result ≡ false → self.now.stack ≡ [] }
+    {
+        self.operands.len() > self.here.floor
+    }
+
+    /// The topmost operand of a level that has one.
+    #[inline(always)]
+    pub fn last(&self) -> Value
+        requires { 1 ≤ length self.now.stack }
+        ensures { self.now.stack ≡ result ∷ drop 1 self.now.stack }
+    {
+        self.operands[self.operands.len() - 1]
+    }
+
     /// Whether the innermost frame has a local of this number.
     #[inline(always)]
     pub fn has_local(&self, x: usize) -> bool
@@ -343,7 +344,7 @@ impl<'m> Stack<'m> {
         ensures none { IfNone result ((self.old.stack ≡ []) × (self.new ≡ self.old)) }
         ensures some { IfSome result (λ v. self.old ≡ with_operand self.new v) }
     {
-        if self.operands.len() <= self.here.label.floor {
+        if self.operands.len() <= self.here.floor {
             return None;
         }
         let Some(v) = self.operands.pop() else {
@@ -357,7 +358,7 @@ impl<'m> Stack<'m> {
     pub fn clear(&mut self)
         ensures { self.new ≡ record self.old { stack = [] } }
     {
-        self.operands.truncate(self.here.label.floor);
+        self.operands.truncate(self.here.floor);
     }
 
     /// A local of the innermost frame.
@@ -381,35 +382,73 @@ impl<'m> Stack<'m> {
         true
     }
 
-    /// A new innermost level.
-    #[inline(always)]
-    pub fn open(
-        &mut self,
-        gives: Option<ValType>,
-        body: &'m [Instr],
-        target: &'m [Instr],
-        carries: bool,
-        loops: bool,
-    ) -> Result<(), AllocError>
-        ensures { OnOk result (self.new ≡ opened self.old gives (trees body.now) (trees target.now) carries loops) }
+    /// A new innermost level, which this instruction opens.
+    pub fn open(&mut self, opener: &'m Instr, body: &'m [Instr]) -> Result<(), AllocError>
+        ensures { OnOk result (self.new ≡ entered_by (tree opener.now) (trees body.now) self.old) }
     {
         self.room = one_less(self.room);
-        push_to(&mut self.labels, self.here.label)?;
-        self.here.label = Label {
-            gives,
-            todo: body,
-            target,
-            carries,
-            loops,
-            floor: self.operands.len(),
+        let label = Label {
+            opener,
+            todo: self.here.todo,
+            floor: self.here.floor,
         };
+        push_to(&mut self.labels, label)?;
+        self.here.todo = body;
+        self.here.floor = self.operands.len();
         Ok(())
+    }
+
+    /// The same where there is room for it.
+    #[inline(always)]
+    pub fn open_within(&mut self, opener: &'m Instr, body: &'m [Instr]) -> bool
+        requires { Within self.old }
+        ensures opened { IsTrue result → self.new ≡ entered_by (tree opener.now) (trees body.now) self.old }
+        ensures within { Within self.new }
+        ensures same { result ≡ false → self.new ≡ self.old }
+    {
+        if self.operands.len() >= self.room || self.labels.len() >= self.labels.capacity() {
+            return false;
+        }
+        self.room -= 1;
+        self.labels.push_reserved(Label {
+            opener,
+            todo: self.here.todo,
+            floor: self.here.floor,
+        });
+        self.here.todo = body;
+        self.here.floor = self.operands.len();
+        true
+    }
+
+    /// The same without the topmost operand of the level, which has one.
+    #[inline(always)]
+    pub fn open_without_top(&mut self, opener: &'m Instr, body: &'m [Instr]) -> bool
+        requires within { Within self.old }
+        requires some { 1 ≤ length self.old.stack }
+        ensures opened { IsTrue result → self.new ≡ entered_by (tree opener.now) (trees body.now) (without 1 self.old) }
+        ensures within { Within self.new }
+        ensures same { result ≡ false → self.new ≡ self.old }
+    {
+        let height = self.operands.len();
+        if height >= self.room || self.labels.len() >= self.labels.capacity() {
+            return false;
+        }
+        self.room -= 1;
+        self.operands.truncate(height - 1);
+        self.labels.push_reserved(Label {
+            opener,
+            todo: self.here.todo,
+            floor: self.here.floor,
+        });
+        self.here.todo = body;
+        self.here.floor = height - 1;
+        true
     }
 
     /// Whether there is a level around the innermost.
     #[inline(always)]
     pub fn has_outer(&self) -> bool
-        ensures { IsTrue result → is_some (closed self.now) ≡ true }
+        ensures { result ≡ is_some (closed self.now) }
     {
         self.labels.len() > self.here.labels_from
     }
@@ -419,20 +458,60 @@ impl<'m> Stack<'m> {
     pub fn close(&mut self) -> bool
         ensures closed { closed self.old ≡ (if result then Some self.new else None) }
         ensures same { result ≡ false → self.new ≡ self.old }
+        ensures behind { IsTrue result → self.old.loops ≡ false → self.new.todo ≡ self.old.target }
     {
         if self.labels.len() <= self.here.labels_from {
             return false;
         }
         match self.labels.pop() {
             Some(label) => {
-                self.here.label = label;
+                self.here.todo = label.todo;
+                self.here.floor = label.floor;
                 true
             }
             None => false,
         }
     }
 
+    /// The level n levels around the innermost, with the operands of all, if there is one.
+    #[inline(always)]
+    pub fn past(&mut self, n: u32) -> bool
+        ensures { closed_by n self.old ≡ (if result then Some self.new else None) }
+    {
+        if n == 0 {
+            return true;
+        }
+        let height = self.labels.len();
+        let around = n as usize;
+        if height - self.here.labels_from < around {
+            return false;
+        }
+        let label = self.labels[height - around];
+        self.labels.truncate(height - around);
+        self.here.todo = label.todo;
+        self.here.floor = label.floor;
+        true
+    }
+
+    /// The level keeps its topmost operand alone.
+    #[inline(always)]
+    pub fn keep_top(&mut self) -> bool
+        ensures kept { IsTrue result → self.new ≡ record self.old { stack = take 1 self.old.stack } }
+        ensures some { IsTrue result → 1 ≤ length self.old.stack }
+        ensures none { result ≡ false → self.old.stack ≡ [] }
+    {
+        let height = self.operands.len();
+        if height <= self.here.floor {
+            return false;
+        }
+        let v = self.operands[height - 1];
+        self.operands.truncate(self.here.floor);
+        self.operands.push_reserved(v);
+        true
+    }
+
     /// The frame that waits for the innermost, if there is one.
+    #[inline(always)]
     pub fn leave(&mut self) -> bool
         ensures left { left self.old ≡ (if result then Some self.new else None) }
         ensures same { result ≡ false → self.new ≡ self.old }
@@ -449,11 +528,32 @@ impl<'m> Stack<'m> {
         }
     }
 
+    /// The same with the topmost operand of the level, which has one.
+    #[inline(always)]
+    pub fn leave_with_top(&mut self) -> bool
+        requires { 1 ≤ length self.old.stack }
+        ensures left { on_top self.old.stack self.old (λ v t. resumed (left t) (Some v)) ≡ (if result then Goes self.new else Stops Ends) }
+        ensures same { result ≡ false → self.new ≡ self.old }
+    {
+        let v = self.operands[self.operands.len() - 1];
+        match self.callers.pop() {
+            Some(held) => {
+                self.operands.truncate(self.here.bottom);
+                self.operands.push_reserved(v);
+                self.labels.truncate(self.here.labels_from);
+                self.locals.truncate(self.here.locals_from);
+                self.here = held;
+                true
+            }
+            None => false,
+        }
+    }
+
     /// Whether the level has this many operands.
     pub fn has_arguments(&self, n: usize) -> bool
         ensures { result ≡ is_some (arguments n self.now) }
     {
-        self.operands.len() - self.here.label.floor >= n
+        self.operands.len() - self.here.floor >= n
     }
 
     /// The n topmost operands as the arguments of a call of the library, if there are as many.
@@ -462,7 +562,7 @@ impl<'m> Stack<'m> {
         ensures some { IfSome result (λ s. (sited func (arguments n self.old) ≡ Some s) × (self.new ≡ without n self.old)) }
     {
         let height = self.operands.len();
-        if height - self.here.label.floor < n {
+        if height - self.here.floor < n {
             return None;
         }
         let first = height - n;
@@ -473,6 +573,7 @@ impl<'m> Stack<'m> {
 
     /// A new innermost frame of this function, whose locals begin with the n topmost operands, if there
     /// are as many.
+    #[inline(always)]
     pub fn enter(
         &mut self,
         index: u32,
@@ -483,31 +584,26 @@ impl<'m> Stack<'m> {
         ensures { IfOk result (λ is_in. called_with (arguments n self.old) n self.old index callee.entry gives ≡ (if is_in then Some self.new else None)) }
     {
         let height = self.operands.len();
-        if height - self.here.label.floor < n {
+        if height - self.here.floor < n {
             return Ok(false);
         }
         let first = height - n;
         let locals_from = self.locals.len();
         self.room = 0;
-        self.locals.extend_from_slice(&self.operands[first..])?;
-        append_zeros(&mut self.locals, callee.declared())?;
-        self.callers.push(self.here)?;
+        append_all(&mut self.locals, &self.operands[first..])?;
+        if callee.declared().len() > 0 {
+            append_zeros(&mut self.locals, callee.declared())?;
+        }
+        push_to(&mut self.callers, self.here)?;
         self.operands.truncate(first);
-        self.here = Held {
-            label: Label {
-                gives,
-                todo: callee.body(),
-                target: &[],
-                carries: gives.is_some(),
-                loops: false,
-                floor: first,
-            },
-            labels_from: self.labels.len(),
-            locals_from,
-            bottom: first,
-            func: index,
-            returns: gives.is_some(),
-        };
+        self.here.todo = callee.body();
+        self.here.floor = first;
+        self.here.labels_from = self.labels.len();
+        self.here.locals_from = locals_from;
+        self.here.bottom = first;
+        self.here.func = index;
+        self.here.gives = gives;
+        self.find_room();
         Ok(true)
     }
 
@@ -536,14 +632,6 @@ impl<'m> Stack<'m> {
         self.has_room(0)
     }
 
-    /// Whether there is room for one more operand or level.
-    #[inline(always)]
-    pub fn has_place(&self) -> bool
-        ensures { IsTrue result → size self.now < 16384 }
-    {
-        self.operands.len() < self.room && self.labels.len() < self.labels.capacity()
-    }
-
     /// Whether the thread keeps to the limits without the n topmost operands and with this many more.
     pub fn has_room_without(&self, n: usize, more: usize) -> bool
         requires { n ≤ length self.now.stack }
@@ -556,6 +644,16 @@ impl<'m> Stack<'m> {
             self.locals.len(),
             more,
         )
+    }
+
+    /// Whether there is room for a frame and so many locals.
+    #[inline(always)]
+    pub fn has_frame_place(&self, more: usize) -> bool
+        ensures { IsTrue result → has_frame_room more self.now ≡ true }
+    {
+        more < self.room
+            && self.operands.len() < self.room - more
+            && self.callers.len() + 1 < FRAME_LIMIT
     }
 
     /// The same with one more frame.
@@ -589,7 +687,7 @@ fn keeps_limits(frames: usize, operands: usize, labels: usize, locals: usize, mo
 /// At most so many frames of a thread, of which all but one wait.
 pub(crate) const FRAME_LIMIT: usize = 512;
 
-/// Room is made for so many operands and labels at a time.
+/// Room is made for so many operands at a time.
 const ROOM: usize = 512;
 
 /// At most so many operands, locals and open labels of a thread.
@@ -639,6 +737,19 @@ fn push_to_full<T: Drop>(items: &mut Vec<T>, item: T) -> Result<(), AllocError>
     Ok(())
 }
 
+// One more operand. Where there is no room for it, room is made for many.
+fn push_operand(operands: &mut Vec<Value>, v: Value) -> Result<(), AllocError>
+    ensures ok { OnOk result (operands.new.items ≡ operands.old.items ++ v ∷ []) }
+    ensures err { OnErr result (operands.new.items ≡ operands.old.items) }
+    ensures capacity { vec_capacity operands.old ≤ vec_capacity operands.new }
+{
+    if operands.len() >= operands.capacity() {
+        operands.reserve(ROOM)?;
+    }
+    operands.push_reserved(v);
+    Ok(())
+}
+
 // What declared locals start as.
 fn append_zeros(locals: &mut Vec<Value>, declared: &[(u32, ValType)]) -> Result<(), AllocError>
     ensures ok { OnOk result (locals.new.items ≡ locals.old.items ++ zeros declared.now) }
@@ -646,6 +757,17 @@ fn append_zeros(locals: &mut Vec<Value>, declared: &[(u32, ValType)]) -> Result<
 {
     for local in declared {
         locals.resize(locals.len() + local.0 as usize, zero_of(local.1))?;
+    }
+    Ok(())
+}
+
+#[inline(always)]
+fn append_all(items: &mut Vec<Value>, more: &[Value]) -> Result<(), AllocError>
+    ensures ok { OnOk result (items.new.items ≡ items.old.items ++ more.now) }
+    ensures kept { take (length items.old.items) items.new.items ≡ items.old.items }
+{
+    for item in more {
+        push_to(items, *item)?;
     }
     Ok(())
 }

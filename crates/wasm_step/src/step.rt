@@ -1,11 +1,11 @@
-// One instruction.
+// One instruction by its full case.
 ghost use Rattle.std.specs.Prelude.{◌≡◌, IfOk, OnOk};
-ghost use Rattle.wasm_types.specs.Code.{Then, tree, trees};
+ghost use Rattle.wasm_types.specs.Code.{tree};
 ghost use Rattle.wasm_types.specs.Modules.{module_of};
 ghost use Rattle.wasm_step.specs.Answer.{after_of};
 ghost use Rattle.wasm_step.specs.Reduce.{limited, reduce, row};
 
-use crate::halt::Next;
+use crate::halt::{Next, unless_stuck};
 use crate::stack::Stack;
 use std::alloc::AllocError;
 use wasm_store::Store;
@@ -26,29 +26,25 @@ impl<'m> Stack<'m> {
         match instr {
             Instr::Unreachable => Ok(Next::Trapped(Trap::Unreachable)),
             Instr::Nop => Ok(Next::Going),
-            Instr::Block(gives, body) => {
-                self.open(*gives, body, self.todo(), gives.is_some(), false)?;
+            Instr::Block(_, body) | Instr::Loop(_, body) => {
+                self.open(instr, body)?;
                 Ok(Next::Going)
             }
-            Instr::Loop(gives, body) => {
-                self.open(*gives, body, body, false, true)?;
-                Ok(Next::Going)
-            }
-            Instr::If(gives, on_true, on_false) => self.choose(*gives, on_true, on_false),
-            Instr::Br(n) => self.branch(*n),
-            Instr::BrIf(n) => self.branch_if(*n),
-            Instr::BrTable(labels, default) => self.branch_table(labels, *default),
-            Instr::Return => self.return_from(),
+            Instr::If(_, on_true, on_false) => self.choose(instr, on_true, on_false),
+            Instr::Br(n) => Ok(self.branch(*n).next()),
+            Instr::BrIf(n) => Ok(self.branch_if(*n).next()),
+            Instr::BrTable(labels, default) => Ok(self.branch_table(labels, *default).next()),
+            Instr::Return => Ok(self.return_from().next()),
             Instr::CallFunc(index) => self.call(program, *index),
             Instr::CallIndirect(kind) => self.call_indirect(program, store, *kind),
-            Instr::DropTop => Ok(self.drop_top()),
-            Instr::Select => self.select(),
+            Instr::DropTop => Ok(unless_stuck(self.drop_top())),
+            Instr::Select => Ok(unless_stuck(self.select())),
             Instr::LocalGet(x) => self.local_get(*x),
-            Instr::LocalSet(x) => Ok(self.local_set(*x)),
-            Instr::LocalTee(x) => self.local_tee(*x),
+            Instr::LocalSet(x) => Ok(unless_stuck(self.local_set(*x))),
+            Instr::LocalTee(x) => Ok(unless_stuck(self.local_tee(*x))),
             Instr::GlobalGet(x) => self.global_get(store, *x),
-            Instr::GlobalSet(x) => Ok(self.global_set(store, *x)),
-            Instr::Load { opcode, offset, .. } => self.load(store, *opcode, *offset),
+            Instr::GlobalSet(x) => Ok(unless_stuck(self.global_set(store, *x))),
+            Instr::Load { opcode, offset, .. } => Ok(self.load(store, *opcode, *offset)),
             Instr::Store { opcode, offset, .. } => self.write(store, *opcode, *offset),
             Instr::MemorySize => self.memory_size(store),
             Instr::MemoryGrow => self.memory_grow(store),
@@ -61,12 +57,12 @@ impl<'m> Stack<'m> {
                 Ok(Next::Going)
             }
             Instr::ConstF32(_) | Instr::ConstF64(_) => Ok(Next::Stuck),
-            Instr::Op(op) => self.numeric(*op),
+            Instr::Op(op) => Ok(self.numeric(*op)),
         }
     }
 
-    /// One instruction, which the thread has left behind.
-    #[inline(always)]
+    /// One instruction, which the thread has left behind. Room for further operands is found.
+    #[inline(never)]
     pub fn step(
         &mut self,
         program: &'m ValidModule,
@@ -82,6 +78,7 @@ impl<'m> Stack<'m> {
                 if !self.is_within() {
                     return Ok(Next::Trapped(Trap::Exhausted));
                 }
+                self.find_room();
                 Ok(Next::Going)
             }
             halted => Ok(halted),

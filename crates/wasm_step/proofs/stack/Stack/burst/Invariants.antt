@@ -1,14 +1,16 @@
-use Rattle.std.proofs.Common.{◌≡◌, ◌<◌}
+use Rattle.std.proofs.Common.{◌≡◌, ◌+◌, ◌*◌}
 use Rattle.wasm_types.specs.Modules.{module_of}
 use Rattle.wasm_step.specs.Burst.{burst}
+use Rattle.wasm_step.specs.Quick.{Within}
+use Rattle.wasm_step.specs.Thread.{depth}
 use Rattle.wasm_step.proofs.stack.Stack.burst.Given as goal
 
-abbrev pub invariant-rounds : goal.invariant-rounds
-invariant-rounds l = record {
-  left : burst l.left l.self l.store ≡ burst 10000000 l.fn.self l.fn.store;
-  full : 0 < l.full;
+abbrev pub invariant-steps : goal.invariant-steps
+invariant-steps l = record {
+  same : burst l.left l.self l.store ≡ burst 10000000 l.fn.self l.fn.store;
+  within : Within l.self;
   program : module_of l.program ≡ l.store.program;
 }
 
-abbrev pub decreases-rounds : goal.decreases-rounds
-decreases-rounds l = l.left
+abbrev pub decreases-steps : goal.decreases-steps
+decreases-steps l = l.left * 17000 + depth l.self

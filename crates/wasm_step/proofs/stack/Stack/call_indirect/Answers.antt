@@ -14,4 +14,4 @@ returns-in-Some-I32 c =
     ap (λ e. limited (call_element g.program c.args.kind e c.pop.new.self)) c.element.ensures
     ∙ ap (λ (t : Thread). limited (call_indirect c.args.kind g t)) (sym t)
     in
-    subst (λ (x : After). IfOk c.call_element.result (λ a. limited (after_of a c.call_element.new.self) ≡ x)) same (subst (λ (m : Module). IfOk c.call_element.result (λ a. limited (after_of a c.call_element.new.self) ≡ limited (call_element m c.args.kind c.element.result c.pop.new.self))) c.requires c.call_element.ensures)
+    subst (λ (x : After). IfOk c.call_element.result (λ a. after_of a c.call_element.new.self ≡ x)) same (subst (λ (m : Module). IfOk c.call_element.result (λ a. after_of a c.call_element.new.self ≡ limited (call_element m c.args.kind c.element.result c.pop.new.self))) c.requires c.call_element.ensures)

@@ -8,17 +8,17 @@ pub overflow_sub-height : goal.overflow_sub-height
 overflow_sub-height c =
     let s = c.self.inside in
     let stack = ap (λ (t : Thread). length t.stack) c.self.view_is in
-    omega (arith, stack, length-reverse (drop s.here.label.floor s.operands.items), length-drop s.here.label.floor s.operands.items, c.len-height.ensures, s.operands.ok.0, c.requires)
+    omega (arith, stack, length-reverse (drop s.here.floor s.operands.items), length-drop s.here.floor s.operands.items, c.len-height.ensures, s.operands.ok.0, c.requires)
 
 module _ (c : goal.After-truncate) where
   height : c.len-height.result ≡ length c.self.inside.operands.items
   height = c.len-height.ensures ∙ c.self.inside.operands.ok.0
 
-  enough : c.args.n ≤ length c.self.inside.operands.items - c.self.inside.here.label.floor
+  enough : c.args.n ≤ length c.self.inside.operands.items - c.self.inside.here.floor
   enough =
       let s = c.self.inside in
       let stack = ap (λ (t : Thread). length t.stack) c.self.view_is in
-      omega (arith, stack, length-reverse (drop s.here.label.floor s.operands.items), length-drop s.here.label.floor s.operands.items, c.requires)
+      omega (arith, stack, length-reverse (drop s.here.floor s.operands.items), length-drop s.here.floor s.operands.items, c.requires)
 
   kept : c.truncate.new.self.items ≡ take (length c.self.inside.operands.items - c.args.n) c.self.inside.operands.items
   kept = c.truncate.ensures.items ∙ ap (λ k. take (k - c.args.n) c.self.inside.operands.items) height

@@ -5,9 +5,9 @@ use Rattle.wasm_step.proofs.stack.Stack.push.Goals as goal
 
 pub invariant_of-self-2 : goal.invariant_of-self-2
 invariant_of-self-2 c =
-    IsSound-operands c.self.inside c.push_to.new.items c.self.invariant c.push_to.ensures.capacity (keeps_pushed c.self.inside _ c.args.v c.self.invariant c.in_ok-push_to.ensures.ok)
+    IsSound-operands c.self.inside c.push_operand.new.operands c.self.invariant c.push_operand.ensures.capacity (keeps_pushed c.self.inside _ c.args.v c.self.invariant c.in_ok-push_operand.ensures.ok)
 
 pub returns : goal.returns
 returns c =
-    pushed_view c.self.inside c.push_to.new.items c.args.v c.self.invariant c.in_ok-push_to.ensures.ok
+    pushed_view c.self.inside c.push_operand.new.operands c.args.v c.self.invariant c.in_ok-push_operand.ensures.ok
     ∙ ap (λ t. with_operand t c.args.v) c.self.view_is

@@ -4,7 +4,7 @@ use Rattle.wasm_step.proofs.Quicks.{put_one_sound, put_one_view}
 use Rattle.wasm_step.proofs.stack.Stack.put_one.Goals as goal
 
 module _ (c : goal.After-push_reserved) where
-  enough : c.self.inside.here.label.floor < length c.self.inside.operands.items
+  enough : c.self.inside.here.floor < length c.self.inside.operands.items
   enough = omega (arith, c.len-height.ensures, c.self.inside.operands.ok.0)
 
 pub invariant_of-self-2 : goal.invariant_of-self-2

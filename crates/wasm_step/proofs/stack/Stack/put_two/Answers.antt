@@ -4,8 +4,8 @@ use Rattle.wasm_step.proofs.Quicks.{put_two_sound, put_two_view}
 use Rattle.wasm_step.proofs.stack.Stack.put_two.Goals as goal
 
 module _ (c : goal.After-push_reserved-2) where
-  enough : c.self.inside.here.label.floor + 2 ≤ length c.self.inside.operands.items
-  enough = omega (arith, c.len-height.ensures ∙ c.self.inside.operands.ok.0, c.if-height-lt2.false, c.if-height-self.false)
+  enough : c.self.inside.here.floor + 2 ≤ length c.self.inside.operands.items
+  enough = omega (arith, c.len-height.ensures, c.self.inside.operands.ok.0)
 
 pub invariant_of-self-2 : goal.invariant_of-self-2
 invariant_of-self-2 c =

@@ -1,5 +1,5 @@
 use Rattle.std.proofs.Common.{◌≡◌, true, rules, sym, ap, ◌∙◌}
-use Rattle.wasm_step.specs.Answer.{after_of}
+use Rattle.wasm_step.specs.Answer.{way_of}
 use Rattle.wasm_step.proofs.Runs.{none_left, settle_end}
 use Rattle.wasm_step.proofs.stack.Stack.settle.Goals as goal
 
@@ -7,5 +7,4 @@ pub ends-preserved : goal.ends-preserved
 ends-preserved c =
     let ended : c.is_at_end.result ≡ true = search rules in
     let none = none_left c.ends.self.todo (sym c.is_at_end.ensures ∙ ended) in
-    settle_end c.ends.self c.end.new.self none (sym c.in_ok-halted.ensures ∙ ap (λ n. after_of n c.end.new.self) c.in-Going.is)
-    ∙ c.ends.invariant
+    settle_end c.ends.self c.end.new.self none (sym c.end.ensures ∙ ap (λ w. way_of w c.end.new.self) c.in-Goes.is) ∙ c.ends.invariant

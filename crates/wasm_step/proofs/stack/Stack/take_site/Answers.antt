@@ -9,7 +9,7 @@ module _ (c : goal.After-truncate) where
   height : c.len-height.result ≡ length c.self.inside.operands.items
   height = c.len-height.ensures ∙ c.self.inside.operands.ok.0
 
-  enough : c.args.n ≤ length c.self.inside.operands.items - c.self.inside.here.label.floor
+  enough : c.args.n ≤ length c.self.inside.operands.items - c.self.inside.here.floor
   enough = omega (arith, height)
 
   kept : c.truncate.new.self.items ≡ take (length c.self.inside.operands.items - c.args.n) c.self.inside.operands.items

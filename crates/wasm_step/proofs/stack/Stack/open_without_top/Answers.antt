@@ -1,0 +1,69 @@
+use Rattle.std.proofs.Common.{◌≡◌, ◌<◌, ◌≤◌, ◌-◌, ◌∙◌, length, take, drop, refl, sym, ap, subst, arith, length-drop}
+use Rattle.std.proofs.lemmas.List.{length-reverse, length-take-le}
+use Rattle.wasm_types.specs.Code.{tree, trees}
+use Rattle.wasm_step.specs.declared.stack.Held.{Held}
+use Rattle.wasm_step.specs.declared.stack.Stack.TheInside.{Inside}
+use Rattle.wasm_step.specs.Quick.{Within, entered_by}
+use Rattle.wasm_step.specs.Thread.{Thread, size, without}
+use Rattle.wasm_step.specs.View.{IsSound, opened_by, thread_of}
+use Rattle.wasm_step.proofs.Accesses.{within_without}
+use Rattle.wasm_step.proofs.LevelEnds.{within_opened}
+use Rattle.wasm_step.proofs.Views.{IsSound-operands, keeps_without, opened_sound, opened_view, without_view}
+use Rattle.wasm_step.proofs.stack.Stack.open_without_top.Goals as goal
+
+module _ (c : goal.After-self-2-1) where
+  enough : 1 ≤ length c.self.inside.operands.items - c.self.inside.here.floor
+  enough =
+      let s = c.self.inside in
+      let stack = ap (λ (t : Thread). length t.stack) c.self.view_is in
+      omega (arith, stack, length-reverse (drop s.here.floor s.operands.items), length-drop s.here.floor s.operands.items, c.requires.some)
+
+  height : c.len-height.result ≡ length c.self.inside.operands.items
+  height = c.len-height.ensures ∙ c.self.inside.operands.ok.0
+
+  kept : c.truncate.new.self.items ≡ take (length c.self.inside.operands.items - 1) c.self.inside.operands.items
+  kept = c.truncate.ensures.items ∙ ap (λ k. take (k - 1) c.self.inside.operands.items) height
+
+  -- without the operand
+  less : Inside
+  less = record c.self.inside { operands = c.truncate.new.self }
+
+  less_sound : IsSound less
+  unfolding less
+  less_sound =
+      let s = c.self.inside in
+      IsSound-operands s c.truncate.new.self c.self.invariant (omega (arith, c.truncate.ensures.capacity)) (keeps_without s 1 c.self.invariant enough c.truncate.new.self.items kept)
+
+  less_view : thread_of less ≡ without 1 c.args.self.now
+  unfolding less
+  less_view = without_view c.self.inside 1 c.self.invariant enough c.truncate.new.self kept ∙ ap (without 1) c.self.view_is
+
+  now : Held
+  now = record c.self.inside.here { todo = c.args.body; floor = c.len-height.result - 1 }
+
+  top : now.floor ≡ length less.operands.items
+  unfolding now less
+  top = omega (arith, height, ap length kept, length-take-le (length c.self.inside.operands.items - 1) c.self.inside.operands.items (omega arith))
+
+  view : thread_of (record less { here = record less.here { todo = now.todo; floor = now.floor }; labels = c.push_reserved.new.self; room = c.self.inside.room - 1 }) ≡ entered_by (tree c.args.opener.now) (trees c.args.body.now) (without 1 c.args.self.now)
+  unfolding now less
+  view =
+      opened_view less now c.push_reserved.new.self (record { opener = c.args.opener; todo = c.self.inside.here.todo; floor = c.self.inside.here.floor }) less_sound top refl c.push_reserved.ensures.items refl (c.self.inside.room - 1)
+      ∙ ap (entered_by (tree c.args.opener.now) (trees c.args.body.now)) less_view
+
+pub invariant_of-self : goal.invariant_of-self
+unfolding now less
+invariant_of-self c =
+    opened_sound (less c) (now c) c.push_reserved.new.self (record { opener = c.args.opener; todo = c.self.inside.here.todo; floor = c.self.inside.here.floor }) (less_sound c) (top c) refl c.push_reserved.ensures.items (c.self.inside.room - 1) (omega arith)
+
+pub returns-clause-opened : goal.returns-clause-opened
+unfolding now less
+returns-clause-opened c = λ _. view c
+
+pub returns-clause-within : goal.returns-clause-within
+unfolding now less
+returns-clause-within c =
+    let t = without 1 c.args.self.now in
+    let o = opened_by (tree c.args.opener.now) t.todo in
+    let fewer : size t < 16384 = omega (arith, c.requires.within.size, c.requires.some, length-drop 1 c.args.self.now.stack) in
+    subst (λ (t : Thread). Within t) (sym (view c)) (within_opened t o.gives (trees c.args.body.now) o.target o.carries o.loops (within_without 1 c.args.self.now c.requires.within) fewer)
