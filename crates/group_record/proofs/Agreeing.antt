@@ -24,7 +24,7 @@ use Rattle.guest_process.specs.Live.{Answered, Env, Event, answered, event, from
 use Rattle.guest_process.specs.Next.{next}
 use Rattle.guest_process.specs.OneEvent.{IsKept, IsStarted, OneEvent, Rises, RisesTo}
 use Rattle.guest_process.specs.OneEvent.{Agrees as IsTold}
-use Rattle.guest_process.specs.Replay.{accepted, one_more_where, replayed}
+use Rattle.guest_process.specs.Replay.{accepted, reach, reach_then, replayed}
 use Rattle.guest_process.specs.State.{State, thread_at}
 use Rattle.group_world.specs.History.{Act, put_last_if, time}
 use Rattle.group_world.specs.History as world
@@ -49,10 +49,10 @@ replays-last S [] e = refl
 replays-last S (x ∷ es) e = ap (λ (xs : List State). next S x ∷ xs) (replays-last (next S x) es e)
 
 accepted-last : (S : State) (es : List Entry) (e : Entry) → accepted S es ≡ length es → reason (replayed S es) e ≡ None → accepted S (es ++ e ∷ []) ≡ length (es ++ e ∷ [])
-accepted-last S [] e all legal = ap (λ (o : Option Divergence). one_more_where o 0) legal
+accepted-last S [] e all legal = ap (λ (o : Option Divergence). (reach_then o (reach (next S e) [])).accepted) legal
 accepted-last S (x ∷ es) e all legal = step (reason S x) refl all (λ rest. accepted-last (next S x) es e rest legal) where
-  step : (o : Option Divergence) → reason S x ≡ o → one_more_where o (accepted (next S x) es) ≡ suc (length es) → (accepted (next S x) es ≡ length es → accepted (next S x) (es ++ e ∷ []) ≡ length (es ++ e ∷ [])) → one_more_where (reason S x) (accepted (next S x) (es ++ e ∷ [])) ≡ suc (length (es ++ e ∷ []))
-  step None is all more = ap (λ (o : Option Divergence). one_more_where o (accepted (next S x) (es ++ e ∷ []))) is ∙ ap suc (more (omega (arith, all)))
+  step : (o : Option Divergence) → reason S x ≡ o → (reach_then o (reach (next S x) es)).accepted ≡ suc (length es) → (accepted (next S x) es ≡ length es → accepted (next S x) (es ++ e ∷ []) ≡ length (es ++ e ∷ [])) → (reach_then (reason S x) (reach (next S x) (es ++ e ∷ []))).accepted ≡ suc (length (es ++ e ∷ []))
+  step None is all more = ap (λ (o : Option Divergence). (reach_then o (reach (next S x) (es ++ e ∷ []))).accepted) is ∙ ap suc (more (omega (arith, all)))
   step (Some why) is all more = absurd (omega (arith, all))
 
 nothing_there : {P : Type 0} (o : Option State) (s : State) → o ≡ None → o ≡ Some s → P

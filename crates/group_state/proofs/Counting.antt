@@ -10,7 +10,7 @@ use Rattle.guest_process.specs.Fits.{StateFits}
 use Rattle.guest_process.specs.Legal.{reason}
 use Rattle.guest_process.specs.Next.{next}
 use Rattle.guest_process.specs.OneEvent.{IsKept, Rises}
-use Rattle.guest_process.specs.Replay.{accepted, one_more_where}
+use Rattle.guest_process.specs.Replay.{accepted, reach, reach_then}
 use Rattle.guest_process.specs.State.{State}
 use Rattle.proc_replay.specs.Course.{ahead}
 use Rattle.proc_replay.specs.Replaying.{Replaying}
@@ -55,7 +55,7 @@ are_new rises kept [] S p t fits until = tt
 are_new rises kept (e ∷ es) S p t fits until = by_reason (are_new rises kept es (next S e) p (with_event t (event p e))) (reason S e) refl
   where
     by_reason : (StateFits (next S e) → Until p (next S e).clock (with_event t (event p e)).sent → AreNew (with_event t (event p e)) (of_process p (take (accepted (next S e) es) es)))
-        → (o : Option Divergence) → reason S e ≡ o → AreNew t (of_process p (take (one_more_where o (accepted (next S e) es)) (e ∷ es)))
+        → (o : Option Divergence) → reason S e ≡ o → AreNew t (of_process p (take (reach_then o (reach (next S e) es)).accepted (e ∷ es)))
     by_reason rest None legal =
         let r = rises S e fits legal in
         let later : S.clock < e.clock = omega (arith, r.last, r.told) in (

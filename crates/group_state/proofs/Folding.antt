@@ -6,7 +6,7 @@ use Rattle.lib_calls.specs.Traffic.{prints}
 use Rattle.lib_calls.specs.declared.entry.Entry.{Entry}
 use Rattle.call_log.specs.Log.{entries_of, rest_of}
 use Rattle.guest_process.specs.declared.end.End.{End}
-use Rattle.guest_process.specs.Replay.{Verdict, accepted, divergence, state_after, verdict, verdict_by}
+use Rattle.guest_process.specs.Replay.{Verdict, accepted, last_state, reach, verdict, verdict_of}
 use Rattle.guest_process.specs.State.{State}
 use Rattle.proc_replay.specs.Course.{AreTurns, Outcome, Tells, ahead, outcome_at}
 use Rattle.proc_replay.specs.Replaying.{Replaying, turn}
@@ -19,7 +19,7 @@ use Rattle.group_state.specs.Report.{EndsAt, line_of, said_of}
 -- the replay of these entries from a first state comes to the state T and this verdict
 pub record Comes (S T : State) (es : List Entry) (rest : List ℕ) (v : Verdict) : Type 0 where
   pub events : T.events ≡ accepted S es
-  pub last : T ≡ state_after S es (accepted S es)
+  pub last : T ≡ last_state S es
   pub verdict : v ≡ verdict S es rest
 
 comes_at : (S T : State) (es : List Entry) (rest behind : List ℕ) (v : Verdict) → S.events ≡ 0
@@ -28,7 +28,7 @@ comes_at S T es rest behind v fresh comes =
     let all : S.events + accepted S es ≡ accepted S es = omega (arith, fresh) in record {
       events = sym (ap (λ (o : Outcome). o.accepted) comes) ∙ all;
       last = sym (ap (λ (o : Outcome). o.last) comes);
-      verdict = sym (ap (λ (o : Outcome). o.verdict) comes) ∙ ap (λ n. verdict_by (divergence S es) n rest) all;
+      verdict = sym (ap (λ (o : Outcome). o.verdict) comes) ∙ ap (λ n. verdict_of (record (reach S es) { accepted = n }) rest) all;
     }
 
 pub comes : AreTurns → (first last : Replaying) (v : Verdict) → first.state.events ≡ 0 → EndsAt first last → Tells (turn last) last.left v

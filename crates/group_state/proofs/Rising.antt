@@ -9,7 +9,7 @@ use Rattle.guest_process.specs.Fits.{StateFits}
 use Rattle.guest_process.specs.Legal.{reason}
 use Rattle.guest_process.specs.Next.{next}
 use Rattle.guest_process.specs.OneEvent.{IsKept, Rises as AreRising}
-use Rattle.guest_process.specs.Replay.{accepted, one_more_where}
+use Rattle.guest_process.specs.Replay.{accepted, reach, reach_then}
 use Rattle.guest_process.specs.State.{State}
 use Rattle.group_order.specs.Order.{Rises}
 use Rattle.proc_replay.specs.Course.{ahead}
@@ -31,7 +31,7 @@ pub record Climbs (floor : ℕ) (es : List Entry) : Type 0 where
 
 module _ (rising : AreRising) (kept : IsKept) where
   climbs_by : (S : State) (e : Entry) (es : List Entry) → StateFits S → (StateFits (next S e) → Climbs (next S e).clock (take (accepted (next S e) es) es))
-      → (o : Option Divergence) → reason S e ≡ o → Climbs S.clock (take (one_more_where o (accepted (next S e) es)) (e ∷ es))
+      → (o : Option Divergence) → reason S e ≡ o → Climbs S.clock (take (reach_then o (reach (next S e) es)).accepted (e ∷ es))
   climbs_by S e es fits more None legal =
       let to = rising S e fits legal in
       let left = more (kept S e fits legal) in

@@ -1,7 +1,7 @@
 -- What a process leaves.
 use Rattle.std.specs.Prelude.{ℕ, List}
 use Rattle.call_log.specs.Log.{entries_of}
-use Rattle.guest_process.specs.Replay.{accepted, state_after}
+use Rattle.guest_process.specs.Replay.{last_state}
 use Rattle.lib_calls.specs.Traffic.{prints}
 use Rattle.proc_replay.specs.Course.{ahead}
 use Rattle.proc_replay.specs.Replaying.{Replaying}
@@ -9,7 +9,7 @@ use Rattle.group_state.specs.declared.image.Image.{Image}
 
 -- the bytes of the memory after all accepted events of a log
 abbrev pub memory_of : Replaying → List ℕ
-memory_of r = (state_after r.state (entries_of r.left) (accepted r.state (entries_of r.left))).store.memory.bytes
+memory_of r = (last_state r.state (entries_of r.left)).store.memory.bytes
 
 -- what they printed
 abbrev pub printed_of : Replaying → List ℕ

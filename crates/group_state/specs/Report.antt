@@ -2,7 +2,7 @@
 use Rattle.std.specs.Prelude.{◌≡◌, List, map}
 use Rattle.std.specs.List.{flat_map}
 use Rattle.call_log.specs.Log.{entries_of, rest_of}
-use Rattle.guest_process.specs.Replay.{Verdict, Whole, Left, Diverged, accepted, state_after, verdict}
+use Rattle.guest_process.specs.Replay.{Verdict, Whole, Left, Diverged, accepted, last_state, verdict}
 use Rattle.proc_replay.specs.Course.{Tells, ahead, outcome}
 use Rattle.proc_replay.specs.Replaying.{Replaying, turn}
 use Rattle.group_state.specs.declared.report.Report.{Report}
@@ -25,7 +25,7 @@ line_of r =
     record {
       name = r.head.name;
       events = accepted r.state es;
-      end = (state_after r.state es (accepted r.state es)).end;
+      end = (last_state r.state es).end;
       verdict = said_of (verdict r.state es (rest_of r.left));
     }
 

@@ -1,5 +1,5 @@
 -- The replay of entries: events are made from them, up to the first that is not legal.
-use Rattle.std.specs.Prelude.{ℕ, suc, List, [], ◌∷◌, length, take, Option, Some, None}
+use Rattle.std.specs.Prelude.{ℕ, suc, List, [], ◌∷◌, length, take, Option, Some, None, option_map, unwrap_or}
 use Rattle.lib_calls.specs.declared.entry.Entry.{Entry}
 use Rattle.guest_process.specs.declared.divergence.Divergence.{Divergence}
 use Rattle.guest_process.specs.Legal.{reason}
@@ -15,23 +15,27 @@ replayed S (e ∷ es) = replayed (next S e) es
 abbrev pub state_after : State → List Entry → ℕ → State
 state_after S es n = replayed S (take n es)
 
-abbrev pub one_more_where : Option Divergence → ℕ → ℕ
-one_more_where None n = suc n
-one_more_where (Some why) n = 0
+-- how far the replay of entries comes: how many are accepted, the longest prefix of which each is legal at the
+-- state where it comes, and why the one behind them is not legal, where there is one
+pub record Reach : Type 0 where
+  pub accepted : ℕ
+  pub divergence : Option Divergence
 
--- how many entries are accepted: the longest prefix of which each is legal at the state where it comes
+-- how far it comes with one more entry before them, which is legal or not
+abbrev pub reach_then : Option Divergence → Reach → Reach
+reach_then None rest = record rest { accepted = suc rest.accepted }
+reach_then (Some why) rest = record { accepted = 0; divergence = Some why }
+
+abbrev pub reach : State → List Entry → Reach
+reach S [] = record { accepted = 0; divergence = None }
+reach S (e ∷ es) = reach_then (reason S e) (reach (next S e) es)
+
 abbrev pub accepted : State → List Entry → ℕ
-accepted S [] = 0
-accepted S (e ∷ es) = one_more_where (reason S e) (accepted (next S e) es)
+accepted S es = (reach S es).accepted
 
-abbrev pub first_of : Option Divergence → Option Divergence → Option Divergence
-first_of None later = later
-first_of (Some why) later = Some why
-
--- why the first entry that is not accepted is not legal, where there is one
-abbrev pub divergence : State → List Entry → Option Divergence
-divergence S [] = None
-divergence S (e ∷ es) = first_of (reason S e) (divergence (next S e) es)
+-- the state after the events of those that are accepted
+abbrev pub last_state : State → List Entry → State
+last_state S es = state_after S es (accepted S es)
 
 -- all entries are accepted and nothing is left behind them; or so many bytes are left; or the entry with
 -- this number, from 1 on, is the first that is not legal
@@ -44,10 +48,10 @@ abbrev pub left_over : List ℕ → Verdict
 left_over [] = Whole
 left_over (first ∷ rest) = Left (suc (length rest))
 
-abbrev pub verdict_by : Option Divergence → ℕ → List ℕ → Verdict
-verdict_by None count rest = left_over rest
-verdict_by (Some why) count rest = Diverged (suc count) why
+-- the verdict on entries that are replayed so far, with these bytes behind them
+abbrev pub verdict_of : Reach → List ℕ → Verdict
+verdict_of reach rest = unwrap_or (option_map (Diverged (suc reach.accepted)) reach.divergence) (left_over rest)
 
 -- the verdict on the entries of a log and on what is left behind them
 abbrev pub verdict : State → List Entry → List ℕ → Verdict
-verdict S es rest = verdict_by (divergence S es) (accepted S es) rest
+verdict S es rest = verdict_of (reach S es) rest

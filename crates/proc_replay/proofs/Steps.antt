@@ -1,5 +1,5 @@
 -- One turn of a replay: it makes the event of the next entry, or it stands.
-use Rattle.std.proofs.Common.{◌≡◌, ◌⊎◌, inl, inr, ℕ, suc, ◌+◌, ◌≤◌, List, [], ◌∷◌, length, take, Option, Some, None, refl, sym, ap, ◌∙◌, add-one, arith}
+use Rattle.std.proofs.Common.{◌≡◌, ◌⊎◌, inl, inr, ℕ, suc, ◌+◌, ◌≤◌, List, [], ◌∷◌, length, take, Option, Some, None, refl, sym, ap, ◌∙◌, arith}
 use Rattle.lib_calls.specs.declared.entry.Entry.{Entry}
 use Rattle.call_log.specs.Log.{entry_at, entries_of, rest_of}
 use Rattle.call_log.specs.Walk.{IsEnd, IsStep}
@@ -7,10 +7,10 @@ use Rattle.guest_process.specs.declared.divergence.Divergence.{Divergence}
 use Rattle.guest_process.specs.EventCount.{IsCounted}
 use Rattle.guest_process.specs.Legal.{reason}
 use Rattle.guest_process.specs.Next.{next}
-use Rattle.guest_process.specs.Replay.{Diverged, accepted, divergence, first_of, left_over, one_more_where, state_after, verdict_by}
+use Rattle.guest_process.specs.Replay.{Reach, Diverged, accepted, left_over, reach, reach_then, state_after, verdict_of}
 use Rattle.guest_process.specs.State.{State}
 use Rattle.proc_replay.specs.Replaying.{Replaying, Makes, Ends, Diverges, after, after_at, judged, moved, turn, turn_at}
-use Rattle.proc_replay.specs.Course.{Tells, ahead, outcome, outcome_by}
+use Rattle.proc_replay.specs.Course.{Tells, ahead, further, outcome, outcome_at, outcome_by}
 
 -- the turn makes the event of this entry
 pub record Goes (r : Replaying) : Type 0 where
@@ -27,7 +27,7 @@ pub record Goes (r : Replaying) : Type 0 where
 pub record Stands (r : Replaying) : Type 0 where
   pub none : accepted r.state (entries_of r.left) ≡ 0
   pub stays : after r ≡ r
-  pub tells : Tells (turn r) r.left (verdict_by (divergence r.state (entries_of r.left)) r.state.events (rest_of r.left))
+  pub tells : Tells (turn r) r.left (outcome r).verdict
 
 pub cases : IsStep → IsEnd → (r : Replaying) → Goes r ⊎ Stands r
 cases step end r = by_entry (entry_at r.left) refl
@@ -48,11 +48,13 @@ cases step end r = by_entry (entry_at r.left) refl
     by_reason e behind found (Some why) differs =
         let here = step r.left e behind found in
         let turns : turn r ≡ Diverges (r.state.events + 1) why = ap (turn_at r.state) found ∙ ap (judged r.state e) differs in
-        let diverges : divergence r.state (entries_of r.left) ≡ Some why = ap (divergence r.state) here.entries ∙ ap (λ o. first_of o (divergence (next r.state e) (entries_of behind))) differs in
-        let verdict : verdict_by (divergence r.state (entries_of r.left)) r.state.events (rest_of r.left) ≡ Diverged (r.state.events + 1) why =
-        ap (λ o. verdict_by o r.state.events (rest_of r.left)) diverges ∙ ap (λ n. Diverged n why) (sym (add-one r.state.events)) in
+        let reaches : reach r.state (entries_of r.left) ≡ record { accepted = 0; divergence = Some why } =
+        ap (reach r.state) here.entries ∙ ap (λ o. reach_then o (reach (next r.state e) (entries_of behind))) differs in
+        let at : suc (r.state.events + 0) ≡ r.state.events + 1 = omega arith in
+        let verdict : (outcome r).verdict ≡ Diverged (r.state.events + 1) why =
+        ap (λ (far : Reach). verdict_of (further r.state.events far) (rest_of r.left)) reaches ∙ ap (λ n. Diverged n why) at in
         inr (record {
-          none = ap (accepted r.state) here.entries ∙ ap (λ o. one_more_where o (accepted (next r.state e) (entries_of behind))) differs;
+          none = ap (λ (far : Reach). far.accepted) reaches;
           stays = ap (after_at r) found ∙ ap (moved r e behind) differs;
           tells = rw turns verdict;
         })
@@ -61,8 +63,8 @@ cases step end r = by_entry (entry_at r.left) refl
     by_entry None none =
         let here = end r.left none in
         let turns : turn r ≡ Ends = ap (turn_at r.state) none in
-        let verdict : verdict_by (divergence r.state (entries_of r.left)) r.state.events (rest_of r.left) ≡ left_over r.left =
-        ap (λ es. verdict_by (divergence r.state es) r.state.events (rest_of r.left)) here.entries ∙ ap left_over here.rest in
+        let verdict : (outcome r).verdict ≡ left_over r.left =
+        ap (λ es. verdict_of (further r.state.events (reach r.state es)) (rest_of r.left)) here.entries ∙ ap left_over here.rest in
         inr (record {
           none = ap (accepted r.state) here.entries;
           stays = ap (after_at r) none;
@@ -72,36 +74,39 @@ cases step end r = by_entry (entry_at r.left) refl
 
 -- ---- what a legal entry in front changes
 
-pub one_accepted : (S : State) (e : Entry) (es : List Entry) → reason S e ≡ None → accepted S (e ∷ es) ≡ suc (accepted (next S e) es)
-one_accepted S e es legal = ap (λ o. one_more_where o (accepted (next S e) es)) legal
+pub one_further : (S : State) (e : Entry) (es : List Entry) → reason S e ≡ None → reach S (e ∷ es) ≡ reach_then None (reach (next S e) es)
+one_further S e es legal = ap (λ o. reach_then o (reach (next S e) es)) legal
 
-pub none_differs : (S : State) (e : Entry) (es : List Entry) → reason S e ≡ None → divergence S (e ∷ es) ≡ divergence (next S e) es
-none_differs S e es legal = ap (λ o. first_of o (divergence (next S e) es)) legal
+pub one_accepted : (S : State) (e : Entry) (es : List Entry) → reason S e ≡ None → accepted S (e ∷ es) ≡ suc (accepted (next S e) es)
+one_accepted S e es legal = ap (λ (far : Reach). far.accepted) (one_further S e es legal)
 
 -- ---- what a replay comes to
 
-equal : (n m : ℕ) (S T : State) (v w : Option Divergence) (x y : List ℕ) → n ≡ m → S ≡ T → v ≡ w → x ≡ y → outcome_by n S v x ≡ outcome_by m T w y
-equal n m S T v w x y a b c d = rw (a, b, c, d) refl
+equal : (f g : Reach) (S T : State) (x y : List ℕ) → f ≡ g → S ≡ T → x ≡ y → outcome_by f S x ≡ outcome_by g T y
+equal f g S T x y a b c = rw (a, b, c) refl
+
+-- an event that was made is one of those before the rest
+made_before : (n m : ℕ) (far : Reach) → n ≡ m + 1 → further n far ≡ further m (reach_then None far)
+made_before n m far one = let all : n + far.accepted ≡ m + suc far.accepted = omega (arith, one) in ap (λ k. record far { accepted = k }) all
 
 -- a turn that makes an event leaves it
 pub goes_same : IsCounted → (r : Replaying) → Goes r → outcome (after r) ≡ outcome r
 goes_same counted r g =
     let S = next r.state g.entry in
     let es = entries_of g.behind in
-    let one = one_accepted r.state g.entry es g.legal in
-    let count = counted r.state g.entry g.legal in
+    let one = one_further r.state g.entry es g.legal in
     ap outcome g.moves
-    ∙ equal (S.events + accepted S es) (r.state.events + accepted r.state (g.entry ∷ es)) _ _ _ _ _ _
-    (omega (arith, one, count))
-    (sym (ap (state_after r.state (g.entry ∷ es)) one))
-    (sym (none_differs r.state g.entry es g.legal))
+    ∙ equal _ (further r.state.events (reach r.state (g.entry ∷ es))) _ _ _ _
+    (made_before S.events r.state.events (reach S es) (counted r.state g.entry g.legal) ∙ ap (further r.state.events) (sym one))
+    (ap (λ (far : Reach). state_after r.state (g.entry ∷ es) far.accepted) (sym one))
     (sym g.rest)
-    ∙ ap (λ all. outcome_by (r.state.events + accepted r.state all) (state_after r.state all (accepted r.state all)) (divergence r.state all) (rest_of r.left)) (sym g.entries)
+    ∙ ap (λ all. outcome_at r.state all (rest_of r.left)) (sym g.entries)
 
 -- where it stands it is there
-pub stands_at : (r : Replaying) → Stands r → outcome r ≡ outcome_by r.state.events r.state (divergence r.state (entries_of r.left)) (rest_of r.left)
+pub stands_at : (r : Replaying) → Stands r → outcome r ≡ record { accepted = r.state.events; last = r.state; verdict = (outcome r).verdict; rest = rest_of r.left }
 stands_at r s =
-    equal _ _ _ _ _ _ _ _ (omega (arith, s.none)) (ap (state_after r.state (entries_of r.left)) s.none) refl refl
+    let made : r.state.events + accepted r.state (entries_of r.left) ≡ r.state.events = omega (arith, s.none) in
+    rw (made, s.none) refl
 
 -- ---- what is ahead
 

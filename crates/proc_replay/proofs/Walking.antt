@@ -6,9 +6,10 @@ use Rattle.lib_calls.specs.declared.entry.Entry.{Entry}
 use Rattle.call_log.specs.Log.{entries_of, rest_of}
 use Rattle.call_log.specs.Walk.{IsEnd, IsStep}
 use Rattle.guest_process.specs.EventCount.{IsCounted}
-use Rattle.guest_process.specs.Replay.{Verdict, accepted, divergence, state_after, verdict_by}
+use Rattle.guest_process.specs.Replay.{Verdict, accepted, reach, state_after, verdict, verdict_of}
+use Rattle.guest_process.specs.State.{State}
 use Rattle.proc_replay.specs.Replaying.{Replaying, Move, Makes, Ends, Diverges, after, turn}
-use Rattle.proc_replay.specs.Course.{AreReplays, AreTurns, Outcome, Tells, ahead, outcome, turns}
+use Rattle.proc_replay.specs.Course.{AreReplays, AreTurns, Outcome, Tells, ahead, outcome, outcome_at, turns}
 use Rattle.proc_replay.proofs.Steps.{Goes, Stands, cases, goes_ahead, goes_same, one_accepted, stands_ahead, stands_at}
 
 -- the number of events from here on
@@ -30,14 +31,19 @@ stands_still r stays (suc n) = ap (λ s. turns s n) stays ∙ stands_still r sta
 stands_tells : (r : Replaying) → Stands r → (n : ℕ) → Tells (turn (turns r n)) (turns r n).left (outcome r).verdict
 stands_tells r s n =
     let still = stands_still r s.stays n in
-    let here = ap (λ (o : Outcome). o.verdict) (stands_at r s) in
-    rw (still, here) s.tells
+    rw still s.tells
 
 -- a turn tells one verdict
 tells_once : (t : Move) (left : List ℕ) (v w : Verdict) → Tells t left v → Tells t left w → v ≡ w
 tells_once (Makes e) left v w a b = absurd a
 tells_once Ends left v w a b = a ∙ sym b
 tells_once (Diverges at why) left v w a b = a ∙ sym b
+
+-- with no event before, the verdict is that of the entries
+fresh_verdict : (S : State) (es : List Entry) (rest : List ℕ) → S.events ≡ 0 → (outcome_at S es rest).verdict ≡ verdict S es rest
+fresh_verdict S es rest fresh =
+    let all : S.events + accepted S es ≡ accepted S es = omega (arith, fresh) in
+    ap (λ n. verdict_of (record (reach S es) { accepted = n }) rest) all
 
 -- an event is that of one entry
 same_entry : (e f : Entry) → Makes e ≡ Makes f → e ≡ f
@@ -84,8 +90,8 @@ module _ (step : IsStep) (end : IsEnd) (counted : IsCounted) where
     states = λ n few. states n first few;
     events = λ n e few at. events n first e few at;
     verdict = λ n many.
-        subst (λ k. Tells (turn (turns first n)) (turns first n).left (verdict_by (divergence first.state (entries_of first.left)) k (rest_of first.left)))
-        (omega (arith, fresh)) (verdicts n first many);
+        subst (Tells (turn (turns first n)) (turns first n).left)
+        (fresh_verdict first.state (entries_of first.left) (rest_of first.left) fresh) (verdicts n first many);
   }
 
   -- the law over one turn
@@ -101,8 +107,8 @@ module _ (step : IsStep) (end : IsEnd) (counted : IsCounted) where
     }
     | inr s ↦ record {
       same = ap outcome s.stays;
-      takes = λ e makes. absurd (subst (λ t. Tells t r.left (verdict_by (divergence r.state (entries_of r.left)) r.state.events (rest_of r.left))) makes s.tells);
-      makes = λ e makes. absurd (subst (λ t. Tells t r.left (verdict_by (divergence r.state (entries_of r.left)) r.state.events (rest_of r.left))) makes s.tells);
+      takes = λ e makes. absurd (subst (λ t. Tells t r.left (outcome r).verdict) makes s.tells);
+      makes = λ e makes. absurd (subst (λ t. Tells t r.left (outcome r).verdict) makes s.tells);
       none = λ v tells. stands_ahead r s;
       stays = λ v tells. s.stays;
       comes = λ v tells. stands_at r s ∙ ap (λ w. record { accepted = r.state.events; last = r.state; verdict = w; rest = rest_of r.left }) (tells_once (turn r) r.left _ v s.tells tells);

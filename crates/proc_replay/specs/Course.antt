@@ -1,9 +1,8 @@
 -- Turn after turn gives the replay of a log's entries.
-use Rattle.std.specs.Prelude.{◌≡◌, ℕ, zero, suc, ◌+◌, ◌<◌, ◌≤◌, List, [], ◌∷◌, length, slice_get, take, Option, Some}
+use Rattle.std.specs.Prelude.{◌≡◌, ℕ, zero, suc, ◌+◌, ◌<◌, ◌≤◌, List, [], ◌∷◌, length, slice_get, take, Some}
 use Rattle.lib_calls.specs.declared.entry.Entry.{Entry}
 use Rattle.call_log.specs.Log.{entries_of, rest_of}
-use Rattle.guest_process.specs.declared.divergence.Divergence.{Divergence}
-use Rattle.guest_process.specs.Replay.{Verdict, Diverged, accepted, divergence, left_over, state_after, verdict, verdict_by}
+use Rattle.guest_process.specs.Replay.{Reach, Verdict, Diverged, accepted, last_state, left_over, reach, state_after, verdict, verdict_of}
 use Rattle.guest_process.specs.State.{State}
 use Rattle.proc_replay.specs.Replaying.{Replaying, Move, Makes, Ends, Diverges, turn, after}
 
@@ -40,12 +39,16 @@ pub record Outcome : Type 0 where
   pub verdict : Verdict
   pub rest : List ℕ
 
-abbrev pub outcome_by : ℕ → State → Option Divergence → List ℕ → Outcome
-outcome_by count S why rest = record { accepted = count; last = S; verdict = verdict_by why count rest; rest = rest }
+abbrev pub outcome_by : Reach → State → List ℕ → Outcome
+outcome_by reach last rest = record { accepted = reach.accepted; last = last; verdict = verdict_of reach rest; rest = rest }
+
+-- how far a replay comes that had so many events before
+abbrev pub further : ℕ → Reach → Reach
+further n reach = record reach { accepted = n + reach.accepted }
 
 -- the events so far and those of the entries ahead
 abbrev pub outcome_at : State → List Entry → List ℕ → Outcome
-outcome_at S es rest = outcome_by (S.events + accepted S es) (state_after S es (accepted S es)) (divergence S es) rest
+outcome_at S es rest = outcome_by (further S.events (reach S es)) (last_state S es) rest
 
 abbrev pub outcome : Replaying → Outcome
 outcome r = outcome_at r.state (entries_of r.left) (rest_of r.left)
