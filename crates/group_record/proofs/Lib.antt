@@ -5,6 +5,7 @@ pub mod Printing
 pub mod Heads
 pub mod Starting
 pub mod Recording
+pub mod Counted
 pub mod Begins
 pub mod Loops
 pub mod Summing

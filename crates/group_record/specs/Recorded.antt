@@ -1,5 +1,5 @@
 -- What a recorder has done so far, and what it says of what it does next.
-use Rattle.std.specs.Prelude.{◌≡◌, ◌≢◌, ℕ, ◌+◌, ◌++◌, ◌≤◌, [], ⊤, Bool, true, false, ◌&&◌, not, is_some, option_and_then, if◌then◌else◌, IsTrue, All, AllPairs, List, length, map, Option, Some, None, Result, Ok, Err, slice_get, slice_set, string_bytes}
+use Rattle.std.specs.Prelude.{◌≡◌, ◌≢◌, ℕ, ◌+◌, ◌++◌, ◌<◌, ◌≤◌, ◌^◌, [], ⊤, Bool, true, false, ◌&&◌, not, is_some, option_and_then, if◌then◌else◌, IsTrue, All, AllPairs, List, length, map, Option, Some, None, Result, Ok, Err, slice_get, slice_set, string_bytes}
 use Rattle.std.specs.List.{slice_index_or}
 use Rattle.fri_outside.specs.Outside.{Store}
 use Rattle.fri_outside.specs.Several.{with_files}
@@ -30,6 +30,21 @@ use Rattle.group_record.specs.Files.{IsStopped}
 use Rattle.group_record.specs.Images.{IsPart, images_of}
 use Rattle.group_record.specs.Members.{kept}
 use Rattle.group_record.specs.Answer.{IsSummary}
+
+-- ---- the counts
+
+-- how many tries and items a recorder has counted
+abbrev pub counted : Recorder → ℕ
+counted r = r.acted + r.idle
+
+-- how many it counts of an item: each try of a run, and one of any other
+abbrev pub counted_of : Item → ℕ
+counted_of (item.Run p thread times) = times
+counted_of _ = 1
+
+-- its counts have room for so many more
+abbrev pub HasCountsFor : ℕ → Recorder → Type 0
+HasCountsFor n r = counted r + n < 2 ^ 64
 
 -- ---- one event
 

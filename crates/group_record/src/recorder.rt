@@ -1,5 +1,5 @@
 // A group that is recorded, try by try.
-ghost use Rattle.std.specs.Prelude.{◌≡◌, ◌+◌, ◌<◌, ◌≤◌, ℕ, All, IfOk, IsTrue, length, slice_get, Some, if◌then◌else◌};
+ghost use Rattle.std.specs.Prelude.{◌≡◌, ◌+◌, ◌<◌, ◌≤◌, ◌^◌, ℕ, All, IfOk, IsTrue, length, slice_get, sum_by, Some, if◌then◌else◌};
 ghost use Rattle.fri_outside.specs.Outside.{NoneFell};
 ghost use Rattle.call_log.specs.Entry.{encoding};
 ghost use Rattle.lib_calls.specs.Entry.{IsShaped};
@@ -9,7 +9,7 @@ ghost use Rattle.schedule_text.specs.Schedule.{IsInRange};
 ghost use Rattle.group_world.specs.World.{place_of, size};
 ghost use Rattle.group_record.specs.declared.member.Member.{Member as MemberOf};
 ghost use Rattle.group_record.specs.Run.{after_item, after_items, attempt, attempts};
-ghost use Rattle.group_record.specs.Recorded.{Does, Kept, UnderWay, acted_on, acts, after_act};
+ghost use Rattle.group_record.specs.Recorded.{Does, HasCountsFor, Kept, UnderWay, acted_on, acts, after_act, counted, counted_of};
 ghost use Rattle.group_record.specs.Members.{CanKeep, Writes};
 ghost use Rattle.group_record.specs.Answer.{HasWriteCause};
 
@@ -37,21 +37,15 @@ pub(crate) struct Recorder<'m> {
     pub(crate) idle: u64,
 }
 
-// One more. No memory holds a schedule with so many items that the count would not fit.
-fn next(count: u64) -> Result<u64, AllocError>
-    ensures { IfOk result (λ n. n ≡ count + 1) }
-{
-    count.checked_add(1).ok_or(AllocError)
-}
-
 // The counts of what acted and what was idle, with one item more.
-fn counts(acts: bool, acted: u64, idle: u64) -> Result<(u64, u64), AllocError>
-    ensures { IfOk result (λ counts. counts ≡ (if acts then (acted + 1, idle) else (acted, idle + 1))) }
+fn counts(acts: bool, acted: u64, idle: u64) -> (u64, u64)
+    requires { acted + idle + 1 < 2 ^ 64 }
+    ensures { result ≡ (if acts then (acted + 1, idle) else (acted, idle + 1)) }
 {
     if acts {
-        Ok((next(acted)?, idle))
+        (acted + 1, idle)
     } else {
-        Ok((acted, next(idle)?))
+        (acted, idle + 1)
     }
 }
 
@@ -64,6 +58,7 @@ impl<'m> Recorder<'m> {
     ) -> Result<Recorder<'m>, RecordError>
         requires under_way { UnderWay self (F.told files.old) }
         requires in_range { All (IsInRange (length self.members.items)) items.now }
+        requires few { HasCountsFor (sum_by counted_of items.now) self }
         ensures comes { Does (λ group. after_items group 1 items.now) self.entry result (F.told files.old) (F.told files.new) }
         ensures prints { IfOk result (λ r. length r.prints ≡ length self.entry.prints) }
         ensures counts { NoneFell (F.counts files.old) (F.counts files.new) }
@@ -87,7 +82,9 @@ impl<'m> Recorder<'m> {
     ) -> Result<Recorder<'m>, RecordError>
         requires under_way { UnderWay self (F.told files.old) }
         requires in_range { IsInRange (length self.members.items) item.now }
+        requires few { HasCountsFor (counted_of item.now) self }
         ensures comes { Does (λ group. after_item group number item.now) self.entry result (F.told files.old) (F.told files.new) }
+        ensures counted { IfOk result (λ r. counted r ≡ counted self.entry + counted_of item.now) }
         ensures prints { IfOk result (λ r. length r.prints ≡ length self.entry.prints) }
         ensures counts { NoneFell (F.counts files.old) (F.counts files.new) }
         ensures cause { HasWriteCause (F.counts files.old) (F.counts files.new) result }
@@ -114,7 +111,9 @@ impl<'m> Recorder<'m> {
     ) -> Result<Recorder<'m>, RecordError>
         requires under_way { UnderWay self (F.told files.old) }
         requires process { p < length self.members.items }
+        requires few { HasCountsFor times self }
         ensures comes { Does (λ group. attempts group number p thread times) self.entry result (F.told files.old) (F.told files.new) }
+        ensures counted { IfOk result (λ r. counted r ≡ counted self.entry + times) }
         ensures prints { IfOk result (λ r. length r.prints ≡ length self.entry.prints) }
         ensures counts { NoneFell (F.counts files.old) (F.counts files.new) }
         ensures cause { HasWriteCause (F.counts files.old) (F.counts files.new) result }
@@ -136,7 +135,9 @@ impl<'m> Recorder<'m> {
     ) -> Result<Recorder<'m>, RecordError>
         requires under_way { UnderWay self (F.told files.old) }
         requires process { p < length self.members.items }
+        requires few { HasCountsFor 1 self }
         ensures comes { Does (λ group. attempt group number p thread) self.entry result (F.told files.old) (F.told files.new) }
+        ensures counted { IfOk result (λ r. counted r ≡ counted self.entry + 1) }
         ensures prints { IfOk result (λ r. length r.prints ≡ length self.entry.prints) }
         ensures counts { NoneFell (F.counts files.old) (F.counts files.new) }
         ensures cause { HasWriteCause (F.counts files.old) (F.counts files.new) result }
@@ -147,7 +148,7 @@ impl<'m> Recorder<'m> {
             unreachable!();
         };
         match live_entry(self.alloc, process, thread, &self.world, p)? {
-            None => Ok(self.idled()?),
+            None => Ok(self.idled()),
             Some(entry) => self.keep(number, p, &entry, files),
         }
     }
@@ -166,6 +167,7 @@ impl<'m> Recorder<'m> {
         requires event { (m : MemberOf) → slice_get self.members.items p ≡ Some m → CanKeep m entry.now }
         requires datagram { IsTrue (is_taken_of entry.now) → 1 ≤ length (mailbox_of self.world.net p) }
         requires drawn { drawn_of entry.now ≤ length (place_of self.world p).pool }
+        requires few { HasCountsFor 1 self }
         ensures writes { (m : MemberOf) → slice_get self.entry.members.items p ≡ Some m →
             Writes m number (encoding entry.now) result (F.told files.old) (F.told files.new) }
         ensures ok { IfOk result (λ r. (m : MemberOf) → slice_get self.entry.members.items p ≡ Some m → Kept self.entry p m entry.now r) }
@@ -192,7 +194,7 @@ impl<'m> Recorder<'m> {
             world,
             prints,
             bytes,
-            acted: next(acted)?,
+            acted: acted + 1,
             idle,
         })
     }
@@ -201,6 +203,7 @@ impl<'m> Recorder<'m> {
     fn act(self, item: &Item) -> Result<Recorder<'m>, AllocError>
         requires around { size self.world ≡ length self.members.items }
         requires in_range { IsInRange (length self.members.items) item.now }
+        requires few { HasCountsFor 1 self }
         ensures { IfOk result (λ r. r ≡ acted_on (acts self.entry.members.items self.entry.world item.now)
             (after_act self.entry.members.items self.entry.world item.now) self.entry) }
     {
@@ -214,7 +217,7 @@ impl<'m> Recorder<'m> {
             idle,
         } = self;
         let acts = act(item, &members, &mut world)?;
-        let (acted, idle) = counts(acts, acted, idle)?;
+        let (acted, idle) = counts(acts, acted, idle);
         Ok(Recorder {
             alloc,
             members,
@@ -227,8 +230,9 @@ impl<'m> Recorder<'m> {
     }
 
     // Counts a try that was idle.
-    fn idled(self) -> Result<Recorder<'m>, AllocError>
-        ensures { IfOk result (λ r. r ≡ record self.entry { idle = self.entry.idle + 1 }) }
+    fn idled(self) -> Recorder<'m>
+        requires { HasCountsFor 1 self }
+        ensures { result ≡ record self.entry { idle = self.entry.idle + 1 } }
     {
         let Recorder {
             alloc,
@@ -239,14 +243,14 @@ impl<'m> Recorder<'m> {
             acted,
             idle,
         } = self;
-        Ok(Recorder {
+        Recorder {
             alloc,
             members,
             world,
             prints,
             bytes,
             acted,
-            idle: next(idle)?,
-        })
+            idle: idle + 1,
+        }
     }
 }

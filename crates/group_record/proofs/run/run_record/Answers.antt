@@ -1,6 +1,8 @@
-use Rattle.std.proofs.Common.{◌∙◌, List, length, map, ap, sym, subst}
+use Rattle.std.proofs.Common.{◌∙◌, ◌≤◌, List, length, map, ap, sym, subst, arith}
 use Rattle.std.specs.Prelude.{Ok, Err}
 use Rattle.std.proofs.lemmas.Result.{err_from_is_err_and}
+use Rattle.schedule_text.specs.Limits.{most_runs}
+use Rattle.schedule_text.specs.Schedule.{run_count}
 use Rattle.schedule_text.specs.declared.item.Item.{Item}
 use Rattle.schedule_text.specs.declared.process.ProcessLine.{ProcessLine}
 use Rattle.wasm_types.specs.Modules.{module_of}
@@ -8,6 +10,7 @@ use Rattle.group_record.specs.Answer.{begun, group_of}
 use Rattle.group_record.specs.Recorded.{Does, MakesImages, Sums}
 use Rattle.group_record.specs.Run.{after_items, run}
 use Rattle.group_record.proofs.Answering.{all_present, begin_fails, images_fail, last_count, last_keeps, run_done, run_fails, saying_fails}
+use Rattle.group_record.proofs.Counted.{schedule_few}
 use Rattle.group_record.proofs.Recording.{world_size}
 use Rattle.group_record.proofs.run.run_record.Goals as goal
 
@@ -21,6 +24,12 @@ returns-in_err-recorder-clause-answers g c =
     let p = err_from_is_err_and c.from_residual-in_err-recorder.result c.from_residual-in_err-recorder.ensures.1 in
     let does = subst (λ (items : List Item). Does (λ group. after_items group 1 items) c.in_ok-begun.begun (Err c.in_err-recorder.field-0.0) (g.F.Files.told c.begin.new.files) (g.F.Files.told c.perform_all.new.files)) c.items.ensures.value c.in_err-recorder.ensures.comes in
     rw (p.1, p.2) (run_fails c.args.images c.args.schedule.now (begun c.args.schedule.now (map module_of c.args.modules.now)) c.in_ok-begun.begun c.in_err-recorder.field-0.0 (g.F.Files.told c.args.files.now) (g.F.Files.told c.begin.new.files) (g.F.Files.told c.perform_all.new.files) c.in_ok-begun.ensures.begins does)
+
+pub perform_all-requires-clause-few : goal.perform_all-requires-clause-few
+perform_all-requires-clause-few g c =
+    let keeps = c.in_ok-begun.ensures.begins.2 in
+    schedule_few c.items.result.now c.in_ok-begun.begun keeps.acted keeps.idle (omega (arith, c.items.type_inv.1))
+    (subst (λ (items : List Item). run_count items ≤ most_runs) (sym c.items.ensures.value) c.items.ensures.in_range.runs)
 
 pub summary_of-requires-clause-members : goal.summary_of-requires-clause-members
 summary_of-requires-clause-members g c =

@@ -3,6 +3,7 @@ use Rattle.std.proofs.lemmas.Result.{err_from_is_err_and}
 use Rattle.group_record.specs.declared.member.Member.{Member}
 use Rattle.group_record.specs.Around.{env_of}
 use Rattle.group_record.specs.Run.{attempt}
+use Rattle.group_record.proofs.Counted.{counted_kept}
 use Rattle.group_record.proofs.Going.{attempt_leads}
 use Rattle.group_record.proofs.Recording.{can_keep, few_had, group_size, kept_at, lives_of, memory_stops, never_away, tells_of, try_event, try_idle}
 use Rattle.group_record.proofs.Small.{at_place, only_one}
@@ -32,19 +33,14 @@ returns-in_err-live_entry-clause-comes g c = λ group done before keeps files.
     let p = err_from_is_err_and c.from_residual.result c.from_residual.ensures.1 in
     rw (p.1, p.2) (memory_stops group done (attempt group c.args.number c.args.p c.args.thread done) before (g.F.Files.told c.args.files.now) (attempt_leads group c.args.number c.args.p c.args.thread done) files)
 
-pub returns-in_err-idled-in-None-clause-comes : goal.returns-in_err-idled-in-None-clause-comes
-returns-in_err-idled-in-None-clause-comes g c = λ group done before keeps files.
-    let p = err_from_is_err_and c.from_residual-in_err-idled-in-None.result c.from_residual-in_err-idled-in-None.ensures.1 in
-    rw (p.1, p.2) (memory_stops group done (attempt group c.args.number c.args.p c.args.thread done) before (g.F.Files.told c.args.files.now) (attempt_leads group c.args.number c.args.p c.args.thread done) files)
-
-pub returns-in_ok-idled-in-None-clause-comes : goal.returns-in_ok-idled-in-None-clause-comes
-returns-in_ok-idled-in-None-clause-comes g c = λ group done before keeps files.
+pub returns-in-None-clause-comes : goal.returns-in-None-clause-comes
+returns-in-None-clause-comes g c = λ group done before keeps files.
     let m = c.index.result.now in
     let at = at_place c.args.self.members.items c.args.p m c.requires.process c.index.ensures in
     let none = rw c.in-None.is at c.in_ok-live_entry.ensures in
-    try_idle c.by_counting.ensures.counted group done before (g.F.Files.told c.args.files.now) c.args.self c.in_ok-idled-in-None.field-0 c.args.number c.args.p c.args.thread m keeps files
+    try_idle c.by_counting.ensures.counted group done before (g.F.Files.told c.args.files.now) c.args.self c.idled.result c.args.number c.args.p c.args.thread m keeps files
     (omega (arith, c.requires.process, keeps.count)) (keeps.members c.args.p m at)
-    (lives_of group done c.args.self c.args.p c.args.thread m (env_of c.args.self.world c.args.p) keeps at c.in-Some.process c.in-Some.is none) c.in_ok-idled-in-None.ensures
+    (lives_of group done c.args.self c.args.p c.args.thread m (env_of c.args.self.world c.args.p) keeps at c.in-Some.process c.in-Some.is none) c.idled.ensures
 
 pub keep-requires-clause-event : goal.keep-requires-clause-event
 keep-requires-clause-event g c = λ other there.
@@ -65,3 +61,9 @@ returns-in-Some-2-clause-comes g c = λ group done before keeps files.
     (omega (arith, c.requires.process, keeps.count)) (keeps.members c.args.p m at)
     (tells_of group done c.args.self c.args.p c.args.thread m (env_of c.args.self.world c.args.p) c.in-Some-2.entry keeps at c.in-Some.process c.in-Some.is tells)
     (c.keep.ensures.writes m at) (kept_at c.keep.result c.args.self c.args.p m c.in-Some-2.entry at c.keep.ensures.ok)
+
+pub returns-in-Some-2-clause-counted : goal.returns-in-Some-2-clause-counted
+returns-in-Some-2-clause-counted g c =
+    let m = c.index.result.now in
+    let at = at_place c.args.self.members.items c.args.p m c.requires.process c.index.ensures in
+    counted_kept c.keep.result c.args.self c.args.p m c.in-Some-2.entry (kept_at c.keep.result c.args.self c.args.p m c.in-Some-2.entry at c.keep.ensures.ok)

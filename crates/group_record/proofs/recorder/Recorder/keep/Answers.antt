@@ -29,12 +29,6 @@ returns-in_err-event-clause-writes g c = λ m at.
     let same = only_one c.args.self.members.items c.args.p c.index_mut.result.now m c.requires.process c.index_mut.ensures.value at in
     rw (p.1, p.2) (inr (written_of c.index_mut.result.now m (entry_of c.view-entry.result) c.args.entry.now (g.F.Files.told c.args.files.now) (g.F.Files.told c.keep.new.files) same c.view-entry.ensures c.in_ok-keep.ensures.writes))
 
-pub returns-in_err-next-clause-writes : goal.returns-in_err-next-clause-writes
-returns-in_err-next-clause-writes g c = λ m at.
-    let p = err_from_is_err_and c.from_residual-in_err-next.result c.from_residual-in_err-next.ensures.1 in
-    let same = only_one c.args.self.members.items c.args.p c.index_mut.result.now m c.requires.process c.index_mut.ensures.value at in
-    rw (p.1, p.2) (inr (written_of c.index_mut.result.now m (entry_of c.view-entry.result) c.args.entry.now (g.F.Files.told c.args.files.now) (g.F.Files.told c.keep.new.files) same c.view-entry.ensures c.in_ok-keep.ensures.writes))
-
 pub returns-clause-writes : goal.returns-clause-writes
 returns-clause-writes g c = λ m at.
     let same = only_one c.args.self.members.items c.args.p c.index_mut.result.now m c.requires.process c.index_mut.ensures.value at in
@@ -46,8 +40,8 @@ returns-clause-ok g c = λ m at.
     let made : c.keep.new.self ≡ kept m c.args.entry.now = c.in_ok-keep.ensures.ok ∙ ap (λ (m : Member). kept m (entry_of c.view-entry.result)) same ∙ ap (kept m) c.view-entry.ensures in
     record {
       members = ap (λ (x : Member). slice_set c.args.self.members.items c.args.p x) made;
-      world = c.world-2.view_is ∙ c.in_ok-event.ensures.ok ∙ ap (after_event c.args.self.world c.args.p) c.view-entry.ensures;
-      prints = c.prints-2.view_is ∙ c.in_ok-add.ensures ∙ ap (λ (e : Entry). with_print c.args.self.prints c.args.p (printed e)) c.view-entry.ensures;
-      acted = c.in_ok-next.ensures;
+      world = c.in_ok-event.ensures.ok ∙ ap (after_event c.args.self.world c.args.p) c.view-entry.ensures;
+      prints = c.in_ok-add.ensures ∙ ap (λ (e : Entry). with_print c.args.self.prints c.args.p (printed e)) c.view-entry.ensures;
+      acted = refl;
       idle = refl;
     }

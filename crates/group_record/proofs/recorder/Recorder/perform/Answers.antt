@@ -2,6 +2,7 @@ use Rattle.std.proofs.Common.{◌∙◌, sym, rules}
 use Rattle.std.proofs.lemmas.Result.{err_from_is_err_and}
 use Rattle.group_record.specs.Recorded.{acts, after_act}
 use Rattle.group_record.specs.Run.{after_item}
+use Rattle.group_record.proofs.Counted.{counted_other, few_other}
 use Rattle.group_record.proofs.Going.{item_leads}
 use Rattle.group_record.proofs.Recording.{acted_prints, is_other, item_comes, memory_stops, world_size}
 use Rattle.group_record.proofs.recorder.Recorder.perform.Goals as goal
@@ -9,7 +10,7 @@ use Rattle.group_record.proofs.recorder.Recorder.perform.Goals as goal
 pub act-requires : goal.act-requires
 act-requires g c =
     let u = c.requires.under_way in
-    record { around = world_size c.by_counting.ensures.counted u.group u.done c.args.self u.keeps ∙ sym u.keeps.count; in_range = c.requires.in_range }
+    record { around = world_size c.by_counting.ensures.counted u.group u.done c.args.self u.keeps ∙ sym u.keeps.count; in_range = c.requires.in_range; few = few_other c.args.self c.args.item.now (is_other c.args.item.now c.in_default.not-Run) c.requires.few }
 
 pub returns-in_err-act-in_default : goal.returns-in_err-act-in_default
 returns-in_err-act-in_default g c =
@@ -17,6 +18,7 @@ returns-in_err-act-in_default g c =
     record {
       comes = λ group done before keeps files.
           rw (p.1, p.2) (memory_stops group done (after_item group c.args.number c.args.item.now done) before (g.F.Files.told c.args.files.now) (item_leads group c.args.number c.args.item.now done) files);
+      counted = rw p.1 tt;
       prints = rw p.1 tt;
       counts = search rules;
       cause = rw (p.1, p.2) tt;
@@ -26,6 +28,8 @@ pub returns-in_ok-act-in_default : goal.returns-in_ok-act-in_default
 returns-in_ok-act-in_default g c = record {
   comes = λ group done before keeps files.
       item_comes c.by_counting.ensures.counted group done before (g.F.Files.told c.args.files.now) c.args.self c.in_ok-act-in_default.field-0 c.args.number c.args.item.now keeps files c.requires.in_range
+      (is_other c.args.item.now c.in_default.not-Run) c.in_ok-act-in_default.ensures;
+  counted = counted_other (acts c.args.self.members.items c.args.self.world c.args.item.now) (after_act c.args.self.members.items c.args.self.world c.args.item.now) c.args.self c.in_ok-act-in_default.field-0 c.args.item.now
       (is_other c.args.item.now c.in_default.not-Run) c.in_ok-act-in_default.ensures;
   prints = acted_prints (acts c.args.self.members.items c.args.self.world c.args.item.now) (after_act c.args.self.members.items c.args.self.world c.args.item.now) c.args.self c.in_ok-act-in_default.field-0 c.in_ok-act-in_default.ensures;
   counts = search rules;

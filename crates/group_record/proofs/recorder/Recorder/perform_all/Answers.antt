@@ -1,6 +1,7 @@
 use Rattle.std.proofs.Common.{◌∙◌, ◌+◌, drop, arith}
 use Rattle.std.proofs.lemmas.Result.{err_from_is_err_and}
 use Rattle.group_record.specs.Run.{Group, Progress, after_item, after_items}
+use Rattle.group_record.proofs.Counted.{few_first, few_next}
 use Rattle.group_record.proofs.Loops.{count_next, has_come, item_next, item_stops, items_end, under_next}
 use Rattle.group_record.proofs.Small.{none_fell_on}
 use Rattle.group_record.proofs.recorder.Recorder.perform_all.Goals as goal
@@ -13,6 +14,9 @@ returns-in_err-recorder-clause-comes g c = λ group done before keeps files.
     before (g.F.Files.told l.files) (g.F.Files.told c.perform.new.files) (after_items group 1 c.args.items.now done) c.loop-item-test.true c.item-item.is
     (l.invariant.comes group done before keeps files) c.in_err-recorder.ensures.comes)
 
+pub perform-requires-clause-few : goal.perform-requires-clause-few
+perform-requires-clause-few g c = few_first c.args.items.now c.loop-item.item-index c.item-item.result c.loop-item.recorder c.loop-item-test.true c.item-item.is c.loop-item.invariant.few
+
 pub loop-item-preserved : goal.loop-item-preserved
 loop-item-preserved g c =
     let l = c.loop-item in
@@ -21,6 +25,7 @@ loop-item-preserved g c =
       number = omega (arith, l.invariant.number);
       under = under_next next l.recorder c.in_ok-recorder.recorder (g.F.Files.told l.files) (g.F.Files.told c.perform.new.files) l.invariant.under c.in_ok-recorder.ensures.comes;
       count = count_next next l.recorder c.in_ok-recorder.recorder (g.F.Files.told l.files) (g.F.Files.told c.perform.new.files) l.invariant.under c.in_ok-recorder.ensures.comes ∙ l.invariant.count;
+      few = few_next c.args.items.now l.item-index c.item-item.result l.recorder c.in_ok-recorder.recorder c.loop-item-test.true c.item-item.is l.invariant.few c.in_ok-recorder.ensures.counted;
       prints = c.in_ok-recorder.ensures.prints ∙ l.invariant.prints;
       comes = λ group done before keeps files.
           item_next group (l.number + 1) (l.number + 1 + 1) c.args.items.now l.item-index c.item-item.result l.recorder c.in_ok-recorder.recorder

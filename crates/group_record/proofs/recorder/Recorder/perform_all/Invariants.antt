@@ -1,7 +1,8 @@
 use Rattle.std.proofs.Common.{◌≡◌, ◌+◌, length, drop, Option}
+use Rattle.std.specs.Prelude.{sum_by}
 use Rattle.fri_outside.specs.Outside.{NoneFell, Store}
 use Rattle.group_record.specs.Run.{Group, Progress, after_items}
-use Rattle.group_record.specs.Recorded.{FilesOf, KeepsUp, UnderWay}
+use Rattle.group_record.specs.Recorded.{FilesOf, HasCountsFor, KeepsUp, UnderWay, counted_of}
 use Rattle.group_record.proofs.Loops.{ComesTo}
 use Rattle.group_record.proofs.recorder.Recorder.perform_all.Given as goal
 
@@ -10,6 +11,7 @@ invariant-loop-item g l = record {
   number : l.number ≡ l.item-index;
   under : UnderWay l.recorder (g.F.Files.told l.files);
   count : length l.recorder.members.items ≡ length l.initial.recorder.members.items;
+  few : HasCountsFor (sum_by counted_of (drop l.item-index l.items)) l.recorder;
   prints : length l.recorder.prints ≡ length l.initial.recorder.prints;
   comes : (group : Group) (done : Progress) (before : Option Store) → KeepsUp group done l.initial.recorder → FilesOf group done before (g.F.Files.told l.initial.files)
       → ComesTo group l.recorder before (g.F.Files.told l.files) (after_items group (l.number + 1) (drop l.item-index l.items)) (after_items group 1 l.items done);

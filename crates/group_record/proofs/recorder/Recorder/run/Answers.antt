@@ -20,6 +20,7 @@ loop-preserved g c =
     record {
       under = under_next next c.loop.recorder c.in_ok-recorder.recorder (g.F.Files.told c.loop.files) (g.F.Files.told c.attempt.new.files) c.loop.invariant.under c.in_ok-recorder.ensures.comes;
       count = count_next next c.loop.recorder c.in_ok-recorder.recorder (g.F.Files.told c.loop.files) (g.F.Files.told c.attempt.new.files) c.loop.invariant.under c.in_ok-recorder.ensures.comes ∙ c.loop.invariant.count;
+      counted = omega (arith, c.in_ok-recorder.ensures.counted, c.loop.invariant.counted);
       prints = c.in_ok-recorder.ensures.prints ∙ c.loop.invariant.prints;
       comes = λ group done before keeps files.
           try_next group c.args.number c.args.p c.args.thread (c.args.times - c.loop.counter) (c.args.times - (c.loop.counter + 1)) c.loop.recorder c.in_ok-recorder.recorder
