@@ -3,7 +3,7 @@
 #![tactic(auto)]
 
 ghost use Rattle.std.specs.Prelude.{◌≡◌, OnErr, OnOk};
-ghost use Rattle.friday_app.specs.Call.{IsAnswer};
+ghost use Rattle.friday_app.specs.Call.{IsAnswerStatus};
 
 use fri_outside::{ReaderSource, RealFiles, WriteError, WriterSink};
 use friday_app::{Status, friday};
@@ -27,8 +27,8 @@ fn words<R: Env + AllocGlobal>(rt: &R) -> io::Result<Vec<String>> {
 // written to it, which is a write fault where nothing failed before.
 fn status_once_closed(status: Status, closed: Result<(), WriteError>) -> Status
     ensures closed { OnOk closed (result ≡ status) }
-    ensures lost { OnErr closed (IsAnswer status → result ≡ Status.WriteFault) }
-    ensures first { ¬ IsAnswer status → result ≡ status }
+    ensures lost { OnErr closed (IsAnswerStatus status → result ≡ Status.WriteFault) }
+    ensures first { ¬ IsAnswerStatus status → result ≡ status }
 {
     match status {
         Status::ReadFault | Status::WriteFault | Status::NoMemory => status,

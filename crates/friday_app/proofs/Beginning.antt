@@ -9,10 +9,10 @@ use Rattle.proc_replay.specs.Replaying.{Replaying}
 use Rattle.friday_app.specs.declared.pairs.Loaded.{Loaded as LoadedFiles}
 use Rattle.friday_app.specs.declared.refusal.Refusal.{Refusal}
 use Rattle.friday_app.specs.Call.{StopsAs}
-use Rattle.friday_app.specs.Inputs.{begun_of}
+use Rattle.friday_app.specs.Inputs.{first_state_of}
 use Rattle.friday_app.specs.Outcome.{Stop, and_then}
-use Rattle.friday_app.specs.Pairs.{Loaded, all_placed, begun_replay, placed, replays_of}
-use Rattle.friday_app.specs.Seen.{AreApart, AreLoaded, IsApart, IsLoaded}
+use Rattle.friday_app.specs.Pairs.{Loaded, insert_replay, replay_of_log, replays_of, sort_replays}
+use Rattle.friday_app.specs.Seen.{AreLoaded, AreOneGroup, IsApart, IsLoaded}
 use Rattle.friday_app.proofs.Clashing.{all_so}
 use Rattle.friday_app.proofs.Gathered.{stops_then}
 use Rattle.friday_app.proofs.Modules.{follows}
@@ -34,9 +34,9 @@ AreOf (x ∷ xs) [] = ⊥
 abbrev begun_at : Loaded → State → Result Replaying Stop
 begun_at l S = Ok (record { head = l.head; state = S; left = l.left })
 
-is_of : (x : LoadedFiles) (l : Loaded) (r : Replaying) → IsLoaded x l → begun_replay l ≡ Ok r → IsOf x r
+is_of : (x : LoadedFiles) (l : Loaded) (r : Replaying) → IsLoaded x l → replay_of_log l ≡ Ok r → IsOf x r
 is_of x l r one begun =
-    let f = follows (begun_of l.module_name l.«module» l.head.process l.head.count) _ r begun in
+    let f = follows (first_state_of l.module_name l.«module» l.head.process l.head.count) _ r begun in
     of f.given f.comes where
       head_in : Result Replaying Stop → Head
       head_in (Ok r) = r.head
@@ -55,7 +55,7 @@ are_of : (xs : List LoadedFiles) (ls : List Loaded) (rs : List Replaying) → Ar
 are_of [] [] [] all is = tt
 are_of [] [] (r ∷ rs) all is = cc
 are_of (x ∷ xs) (l ∷ ls) rs all is =
-    let first = follows (begun_replay l) _ rs is in
+    let first = follows (replay_of_log l) _ rs is in
     let rest = follows (replays_of ls) _ rs first.comes in
     subst (AreOf (x ∷ xs)) (ap (value_in []) rest.comes) (is_of x l first.given all.0 first.is_given, are_of xs ls rest.given all.1 rest.is_given) where
       value_in : List Replaying → Result (List Replaying) Stop → List Replaying
@@ -77,7 +77,7 @@ differ_of x r (y ∷ xs) (s ∷ rs) one are apart =
 differ_of x r [] (s ∷ rs) one are apart = absurd are
 differ_of x r (y ∷ xs) [] one are apart = absurd are
 
-distinct_of : (xs : List LoadedFiles) (rs : List Replaying) → AreOf xs rs → AreApart xs → AreDistinct rs
+distinct_of : (xs : List LoadedFiles) (rs : List Replaying) → AreOf xs rs → AreOneGroup xs → AreDistinct rs
 distinct_of [] [] are apart = tt
 distinct_of (x ∷ xs) (r ∷ rs) are apart = (differ_of x r xs rs are.0 are.1 apart.0, distinct_of xs rs are.1 apart.1)
 distinct_of [] (r ∷ rs) are apart = absurd are
@@ -90,7 +90,7 @@ same_of x r (y ∷ xs) (s ∷ rs) one are apart =
 same_of x r [] (s ∷ rs) one are apart = absurd are
 same_of x r (y ∷ xs) [] one are apart = absurd are
 
-counts_of : (xs : List LoadedFiles) (rs : List Replaying) → AreOf xs rs → AreApart xs → AllByRecursion (λ r. r.head.count ≡ group_count rs) rs
+counts_of : (xs : List LoadedFiles) (rs : List Replaying) → AreOf xs rs → AreOneGroup xs → AllByRecursion (λ r. r.head.count ≡ group_count rs) rs
 counts_of [] [] are apart = tt
 counts_of (x ∷ xs) (r ∷ rs) are apart = (refl, same_of x r xs rs are.0 are.1 apart.0)
 counts_of [] (r ∷ rs) are apart = absurd are
@@ -111,11 +111,11 @@ pub record MakesGroup (rs : List Replaying) : Type 0 where
   pub parts : AreParts rs
   pub heads : All (λ r. IsHead r.head) rs
 
-pub makes_group : (xs : List LoadedFiles) (ls : List Loaded) (rs : List Replaying) → AreLoaded xs ls → AreApart xs → replays_of ls ≡ Ok rs → AllByRecursion (λ r. r.state.events ≡ 0) rs → MakesGroup (all_placed [] rs)
+pub makes_group : (xs : List LoadedFiles) (ls : List Loaded) (rs : List Replaying) → AreLoaded xs ls → AreOneGroup xs → replays_of ls ≡ Ok rs → AllByRecursion (λ r. r.state.events ≡ 0) rs → MakesGroup (sort_replays [] rs)
 makes_group xs ls rs all apart begun fresh =
     let are = are_of xs ls rs all begun in
     let heads = heads_of xs rs are in
-    let sorted = all_placed [] rs in
+    let sorted = sort_replays [] rs in
     let ascends = all_ascend [] rs tt (none_new rs) (distinct_of xs rs are apart) in
     let below = all_placed_keeps (λ r. r.head.process < 16) [] rs tt (all_so (λ r. IsHead r.head) (λ r. r.head.process < 16) rs (λ r h. omega (arith, h.few, h.within)) heads) in
     let few : 0 + length sorted ≤ 16 = few_from 0 16 sorted (omega arith) ascends (all_so (λ r. r.head.process < 16) (λ r. 0 ≤ r.head.process) sorted (λ r h. omega arith) below) below in
@@ -146,7 +146,7 @@ with_one rs r (Err stop) = refl
 pub record HasBegun (ls left : List Loaded) (sorted : List Replaying) : Type 0 where
   pub begun : List Replaying
   pub so_far : replays_of ls ≡ begun_before begun (replays_of left)
-  pub placed : sorted ≡ all_placed [] begun
+  pub placed : sorted ≡ sort_replays [] begun
   pub fresh : AllByRecursion (λ r. r.state.events ≡ 0) begun
 
 -- so it is, whatever the pairs are that were read
@@ -160,18 +160,18 @@ fresh_push : (rs : List Replaying) (r : Replaying) → AllByRecursion (λ r. r.s
 fresh_push [] r all one = (one, tt)
 fresh_push (s ∷ rs) r all one = (all.0, fresh_push rs r all.1 one)
 
-begun_more : (ls left : List Loaded) (l : Loaded) (r : Replaying) (sorted after : List Replaying) → HasBegun ls (l ∷ left) sorted → begun_replay l ≡ Ok r → r.state.events ≡ 0 → after ≡ placed r sorted → HasBegun ls left after
+begun_more : (ls left : List Loaded) (l : Loaded) (r : Replaying) (sorted after : List Replaying) → HasBegun ls (l ∷ left) sorted → replay_of_log l ≡ Ok r → r.state.events ≡ 0 → after ≡ insert_replay r sorted → HasBegun ls left after
 begun_more ls left l r sorted after has is starts put = record {
   begun = has.begun ++ r ∷ [];
   so_far =
       has.so_far ∙ ap (λ (o : Result Replaying Stop). begun_before has.begun (and_then o (λ r. and_then (replays_of left) (λ more. Ok (r ∷ more))))) is
       ∙ with_one has.begun r (replays_of left);
-  placed = put ∙ ap (placed r) has.placed ∙ sym (placed_last [] has.begun r);
+  placed = put ∙ ap (insert_replay r) has.placed ∙ sym (placed_last [] has.begun r);
   fresh = fresh_push has.begun r has.fresh starts;
 }
 
 pub one_begun : (all before rest : List LoadedFiles) (x : LoadedFiles) (r : Replaying) (sorted after : List Replaying) → AreBegun all before sorted → before ≡ x ∷ rest
-    → ((l : Loaded) → IsLoaded x l → begun_replay l ≡ Ok r) → r.state.events ≡ 0 → after ≡ placed r sorted → AreBegun all rest after
+    → ((l : Loaded) → IsLoaded x l → replay_of_log l ≡ Ok r) → r.state.events ≡ 0 → after ≡ insert_replay r sorted → AreBegun all rest after
 one_begun all before rest x r sorted after has next begins starts put ls are = step (has ls are) where
   step : (left : List Loaded) × (AreLoaded before left × HasBegun ls left sorted) → (left : List Loaded) × (AreLoaded rest left × HasBegun ls left after)
   step ([], (none, h)) = absurd (subst (λ (xs : List LoadedFiles). AreLoaded xs []) next none)
@@ -181,14 +181,14 @@ one_begun all before rest x r sorted after has next begins starts put ls are = s
 
 -- a process did not begin
 pub beginning_stops : (all before rest : List LoadedFiles) (x : LoadedFiles) (sorted : List Replaying) (e : Refusal) → AreBegun all before sorted → before ≡ x ∷ rest
-    → ((l : Loaded) → IsLoaded x l → StopsAs (begun_replay l) e) → (ls : List Loaded) → AreLoaded all ls → StopsAs (replays_of ls) e
+    → ((l : Loaded) → IsLoaded x l → StopsAs (replay_of_log l) e) → (ls : List Loaded) → AreLoaded all ls → StopsAs (replays_of ls) e
 beginning_stops all before rest x sorted e has next stops ls are = step (has ls are) where
   step : (left : List Loaded) × (AreLoaded before left × HasBegun ls left sorted) → StopsAs (replays_of ls) e
   step ([], (none, h)) = absurd (subst (λ (xs : List LoadedFiles). AreLoaded xs []) next none)
   step (l ∷ left, (some, h)) =
       let at = subst (λ (xs : List LoadedFiles). AreLoaded xs (l ∷ left)) next some in
       subst (λ (o : Result (List Replaying) Stop). StopsAs o e) (sym h.so_far)
-      (stops_then (replays_of (l ∷ left)) _ e (stops_then (begun_replay l) _ e (stops l at.0)))
+      (stops_then (replays_of (l ∷ left)) _ e (stops_then (replay_of_log l) _ e (stops l at.0)))
 
 -- something that was read stands at this place
 pub one_loaded : (all before rest : List LoadedFiles) (x : LoadedFiles) (sorted : List Replaying) → AreBegun all before sorted → before ≡ x ∷ rest → (ls : List Loaded) × AreLoaded all ls → (l : Loaded) × IsLoaded x l
@@ -201,7 +201,7 @@ one_loaded all before rest x sorted has next loaded = step (has loaded.0 loaded.
 pub record AllBegun (ls : List Loaded) (sorted : List Replaying) : Type 0 where
   pub begun : List Replaying
   pub comes : replays_of ls ≡ Ok begun
-  pub placed : sorted ≡ all_placed [] begun
+  pub placed : sorted ≡ sort_replays [] begun
   pub fresh : AllByRecursion (λ r. r.state.events ≡ 0) begun
 
 pub all_begun : (all rest : List LoadedFiles) (sorted : List Replaying) → AreBegun all rest sorted → rest ≡ [] → (ls : List Loaded) → AreLoaded all ls → AllBegun ls sorted
@@ -215,7 +215,7 @@ all_begun all rest sorted has none ls are = step (has ls are) where
   }
   step (l ∷ left, (some, h)) = absurd (subst (λ (xs : List LoadedFiles). AreLoaded xs (l ∷ left)) none some)
 
-pub group_begun : (all rest : List LoadedFiles) (sorted : List Replaying) → AreBegun all rest sorted → rest ≡ [] → (ls : List Loaded) × AreLoaded all ls → AreApart all → MakesGroup sorted
+pub group_begun : (all rest : List LoadedFiles) (sorted : List Replaying) → AreBegun all rest sorted → rest ≡ [] → (ls : List Loaded) × AreLoaded all ls → AreOneGroup all → MakesGroup sorted
 group_begun all rest sorted has none loaded apart =
     let b = all_begun all rest sorted has none loaded.0 loaded.1 in
     subst MakesGroup (sym b.placed) (makes_group all loaded.0 b.begun loaded.1 apart b.comes b.fresh)

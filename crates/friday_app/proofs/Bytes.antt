@@ -7,7 +7,7 @@ use Rattle.friday_shell.specs.Points.{SessionState}
 use Rattle.friday_app.specs.declared.converse.Ended.{Ended}
 use Rattle.friday_app.specs.declared.converse.Ended.TheVariants as cause
 use Rattle.friday_app.specs.Limits.{most_input}
-use Rattle.friday_app.specs.Talk.{GoesOn, ReadsOn, Spoke, Stands, Stops, StopsIn}
+use Rattle.friday_app.specs.Talk.{GoesOn, ReadsOn, SessionStands, Spoke, Stops, StopsIn}
 use Rattle.friday_app.proofs.Talking.{overruns, part_ended, part_kept, quits_ended, stands_ended, stands_other}
 
 feed_of : (b : ℕ) → b ≡ 10 → is_line_feed b ≡ true
@@ -34,7 +34,7 @@ module _ (state : SessionState) (begun : List ℕ) (count b : ℕ) where
     unfolding GoesOn
     takes_ended next spoke = λ start printed taken s. stands_ended start printed old state begun count taken s b new (feed_of b feed) room next spoke.0 spoke.1.0 spoke.1.1
 
-    stops_by : (start : List Replaying) (printed : Option (List ℕ)) (taken : List ℕ) → Stands start printed old state begun count taken → (why : Ended) → Spoke state (take 1 (lines_of (begun ++ b ∷ []))) old new (Err why) → Stops start printed new (taken ++ b ∷ []) why
+    stops_by : (start : List Replaying) (printed : Option (List ℕ)) (taken : List ℕ) → SessionStands start printed old state begun count taken → (why : Ended) → Spoke state (take 1 (lines_of (begun ++ b ∷ []))) old new (Err why) → Stops start printed new (taken ++ b ∷ []) why
     stops_by start printed taken s cause.Done spoke = quits_ended start printed old state begun count taken s b new (feed_of b feed) room spoke.0 spoke.1
     stops_by start printed taken s cause.TooLarge spoke = absurd spoke
     stops_by start printed taken s cause.ReadFault spoke = absurd spoke

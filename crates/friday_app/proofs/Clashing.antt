@@ -10,7 +10,7 @@ use Rattle.friday_app.specs.declared.pairs.Loaded.{Loaded as LoadedFiles}
 use Rattle.friday_app.specs.declared.refusal.Reason.{Reason}
 use Rattle.friday_app.specs.declared.refusal.Reason.TheVariants as reason
 use Rattle.friday_app.specs.Pairs.{Loaded, clash, has_name, has_process, is_other_group}
-use Rattle.friday_app.specs.Seen.{AreApart, AreLoaded, IsApart, IsLoaded}
+use Rattle.friday_app.specs.Seen.{AreLoaded, AreOneGroup, IsApart, IsLoaded}
 
 -- ---- all of a list
 
@@ -76,7 +76,7 @@ other_name : (a b : List ℕ) → bytes_eq a b ≡ false → a ≢ b
 other_name a b none same = false≢true (sym none ∙ (bytes_eq-Decides a b).1 same)
 
 -- all are of as many processes as a further one
-counts_same : (xs : List LoadedFiles) (ls : List Loaded) (x : LoadedFiles) (l : Loaded) → AreLoaded xs ls → IsLoaded x l → AreApart xs → is_other_group ls l.head.count ≡ false → AllByRecursion (λ y. y.count ≡ x.count) xs
+counts_same : (xs : List LoadedFiles) (ls : List Loaded) (x : LoadedFiles) (l : Loaded) → AreLoaded xs ls → IsLoaded x l → AreOneGroup xs → is_other_group ls l.head.count ≡ false → AllByRecursion (λ y. y.count ≡ x.count) xs
 counts_same [] [] x l all one apart same = tt
 counts_same (y ∷ xs) (k ∷ ls) x l all one apart same =
     let first : y.count ≡ x.count = all.0.count ∙ not_equal k.head.count l.head.count same ∙ sym one.count in
@@ -100,12 +100,12 @@ apart_from (y ∷ xs) (k ∷ ls) x l all one counts process name =
 apart_from [] (k ∷ ls) x l all one counts process name = absurd all
 apart_from (y ∷ xs) [] x l all one counts process name = absurd all
 
-apart_push : (xs : List LoadedFiles) (x : LoadedFiles) → AreApart xs → AllByRecursion (λ y. IsApart y x) xs → AreApart (xs ++ x ∷ [])
+apart_push : (xs : List LoadedFiles) (x : LoadedFiles) → AreOneGroup xs → AllByRecursion (λ y. IsApart y x) xs → AreOneGroup (xs ++ x ∷ [])
 apart_push [] x apart each = (tt, tt)
 apart_push (y ∷ xs) x apart each = (all_push (IsApart y) xs x apart.0 each.0, apart_push xs x apart.1 each.1)
 
 -- one pair more, whose log does not clash
-pub apart_more : (xs : List LoadedFiles) (ls : List Loaded) (x : LoadedFiles) (l : Loaded) → AreLoaded xs ls → IsLoaded x l → AreApart xs → clash ls l.head ≡ None → AreApart (xs ++ x ∷ [])
+pub apart_more : (xs : List LoadedFiles) (ls : List Loaded) (x : LoadedFiles) (l : Loaded) → AreLoaded xs ls → IsLoaded x l → AreOneGroup xs → clash ls l.head ≡ None → AreOneGroup (xs ++ x ∷ [])
 apart_more xs ls x l all one apart none =
     let h = passes ls l.head none in
     apart_push xs x apart (apart_from xs ls x l all one (counts_same xs ls x l all one apart h.group) h.process h.name)

@@ -22,21 +22,21 @@ use Rattle.friday_app.specs.Command.{Command, Debug, Pair, Record, Replay}
 use Rattle.friday_app.specs.Debug.{early_lines, opened_outcome, session_outcome, spoken}
 use Rattle.guest_process.specs.State.{State}
 use Rattle.proc_replay.specs.Replaying.{Replaying}
-use Rattle.friday_app.specs.Outcome.{Outcome, Work, Stop, and_then, file_of, given}
-use Rattle.friday_app.specs.Expected.{expected, group_outcome, modules_of, record_outcome, replay_outcome, schedule_in, schedule_or}
-use Rattle.friday_app.specs.Inputs.{module_of, begun_of, begun_or, log_of, spelled_or, unless_refused, valid_or, head_or}
-use Rattle.friday_app.specs.Pairs.{Loaded, all_loaded, all_placed, begun_replay, opened, replays_of}
-use Rattle.friday_app.specs.Record.{by_room, recorded_work}
+use Rattle.friday_app.specs.Outcome.{CommandOutcome, Work, Stop, and_then, file_of, bytes_or_stop}
+use Rattle.friday_app.specs.Expected.{expected, group_outcome, modules_of, record_outcome, replay_outcome, schedule_in, schedule_or_refusal}
+use Rattle.friday_app.specs.Inputs.{module_in, first_state_of, state_or_bad_segment, log_in, spelled_module, module_unless_refused, valid_module, log_or_bad_head}
+use Rattle.friday_app.specs.Pairs.{Loaded, loaded_pairs, replay_of_log, replays_of, replays_of_pairs, sort_replays}
+use Rattle.friday_app.specs.Record.{outcome_by_room, recorded_work}
 use Rattle.friday_app.specs.Report.{replay_work}
 use Rattle.schedule_text.specs.Laws.{GivesSchedules}
 use Rattle.schedule_text.specs.Reading.{schedule_of}
 use Rattle.schedule_text.specs.Schedule.{Schedule}
 use Rattle.schedule_text.specs.declared.process.ProcessLine.{ProcessLine}
-use Rattle.group_record.specs.Answer.{begun, begun_from, begun_then, group_of}
+use Rattle.group_record.specs.Answer.{first_states, first_states_from, group_of, with_first_state}
 use Rattle.group_record.specs.Run.{run}
-use Rattle.friday_app.specs.Call.{IsAnswer}
-use Rattle.friday_app.specs.Run.{Outside, Run, NoFault, Works}
-use Rattle.friday_app.specs.Valid.{HasWork, IsValid, AreModuleFiles, ArePairs, Begins, GoTogether, IsGroup, IsLogFile, IsModuleFile, IsPair, IsRecorded, IsScheduleFile, IsSession, Stands, heads_in, modules_in}
+use Rattle.friday_app.specs.Call.{IsAnswerStatus}
+use Rattle.friday_app.specs.Run.{Outside, CommandRun, NoFault, Works}
+use Rattle.friday_app.specs.Valid.{HasWork, IsValidCall, AreModuleFiles, ArePairs, ProcessBegins, GoTogether, IsGroup, IsLogFile, IsModuleFile, IsPairOfFiles, RecordsWhole, IsScheduleFile, IsSession, IsFileWithin, heads_in, modules_in}
 use Rattle.friday_app.proofs.Debugging.{spoken_if}
 use Rattle.friday_app.proofs.Faults.{no_fault}
 use Rattle.friday_app.proofs.Loading.{pair_stands, read_as}
@@ -64,28 +64,28 @@ within_input start input within =
     ap (λ (large : Bool). spoken_if large (session_text start (early_lines input)) (session_text start (lines_of input)))
     (not_large (length input) most_input (ends_session (opening start) (early_lines input)) within)
 
-begins_at : (name : List ℕ) (m : Module) (who count : ℕ) (h : Begins m who count) → begun_of name m who count ≡ Ok h.0
-begins_at name m who count h = ap (begun_or name) h.1
+begins_at : (name : List ℕ) (m : Module) (who count : ℕ) (h : ProcessBegins m who count) → first_state_of name m who count ≡ Ok h.0
+begins_at name m who count h = ap (state_or_bad_segment name) h.1
 
 module _ (laws : Laws) where
-  stands_given : (store : Store) (name : List ℕ) (limit : ℕ) (bytes : List ℕ) → Stands store name limit bytes → file_of store name limit ≡ Ok bytes
-  stands_given store name limit bytes h = ap (given name) (ap (found_within limit) h.held ∙ laws.files.within limit bytes h.within)
+  stands_given : (store : Store) (name : List ℕ) (limit : ℕ) (bytes : List ℕ) → IsFileWithin store name limit bytes → file_of store name limit ≡ Ok bytes
+  stands_given store name limit bytes h = ap (bytes_or_stop name) (ap (found_within limit) h.held ∙ laws.files.within limit bytes h.within)
 
-  module_stands : (store : Store) (name : List ℕ) (h : IsModuleFile store name) → module_of store name ≡ Ok h.«module»
+  module_stands : (store : Store) (name : List ℕ) (h : IsModuleFile store name) → module_in store name ≡ Ok h.«module»
   module_stands store name h =
-      ap (λ (r : Result (List ℕ) Stop). and_then r (λ bytes. and_then (spelled_or name (module_of_bytes bytes)) (valid_or name))) (stands_given store name most_module h.bytes h.stands)
-      ∙ ap (λ (m : Option Module). and_then (spelled_or name m) (valid_or name)) ((laws.modules h.bytes h.«module»).1 h.spelled)
-      ∙ ap (unless_refused name h.«module») (no_fault laws.faults h.«module» h.valid)
+      ap (λ (r : Result (List ℕ) Stop). and_then r (λ bytes. and_then (spelled_module name (module_of_bytes bytes)) (valid_module name))) (stands_given store name most_module h.bytes h.stands)
+      ∙ ap (λ (m : Option Module). and_then (spelled_module name m) (valid_module name)) ((laws.modules h.bytes h.«module»).1 h.spelled)
+      ∙ ap (module_unless_refused name h.«module») (no_fault laws.faults h.«module» h.valid)
 
-  log_stands : (store : Store) (name : List ℕ) (h : IsLogFile store name) → log_of store name ≡ Ok (h.head, h.left)
+  log_stands : (store : Store) (name : List ℕ) (h : IsLogFile store name) → log_in store name ≡ Ok (h.head, h.left)
   log_stands store name h =
-      ap (λ (r : Result (List ℕ) Stop). and_then r (λ bytes. head_or name (head_at bytes))) (stands_given store name most_log (head_bytes h.head ++ h.left) h.stands)
-      ∙ ap (head_or name) ((laws.logs.heads (head_bytes h.head ++ h.left) h.head h.left).1 (h.in_range, refl))
+      ap (λ (r : Result (List ℕ) Stop). and_then r (λ bytes. log_or_bad_head name (head_at bytes))) (stands_given store name most_log (head_bytes h.head ++ h.left) h.stands)
+      ∙ ap (log_or_bad_head name) ((laws.logs.heads (head_bytes h.head ++ h.left) h.head h.left).1 (h.in_range, refl))
 
   schedule_stands : (store : Store) (name : List ℕ) (schedule : Schedule) (h : IsScheduleFile store name schedule) → schedule_in store name ≡ Ok schedule
   schedule_stands store name schedule h =
-      ap (λ (r : Result (List ℕ) Stop). and_then r (λ bytes. schedule_or name (schedule_of bytes))) (stands_given store name most_schedule h.bytes h.stands)
-      ∙ ap (schedule_or name) ((laws.schedules h.bytes schedule).1 (h.spelled, h.few))
+      ap (λ (r : Result (List ℕ) Stop). and_then r (λ bytes. schedule_or_refusal name (schedule_of bytes))) (stands_given store name most_schedule h.bytes h.stands)
+      ∙ ap (schedule_or_refusal name) ((laws.schedules h.bytes schedule).1 (h.spelled, h.few))
 
   modules_stand : (store : Store) (count p : ℕ) (lines : List ProcessLine) (files : AreModuleFiles store count p lines) → modules_of store lines ≡ Ok (modules_in store count p lines files)
   modules_stand store count p [] files = refl
@@ -98,36 +98,36 @@ module _ (laws : Laws) where
   states_in store count p [] files = []
   states_in store count p (line ∷ lines) files = files.0.1.0 ∷ states_in store count (suc p) lines files.1
 
-  states_stand : (store : Store) (count p : ℕ) (lines : List ProcessLine) (files : AreModuleFiles store count p lines) → begun_from count p (modules_in store count p lines files) ≡ Ok (states_in store count p lines files)
+  states_stand : (store : Store) (count p : ℕ) (lines : List ProcessLine) (files : AreModuleFiles store count p lines) → first_states_from count p (modules_in store count p lines files) ≡ Ok (states_in store count p lines files)
   states_stand store count p [] files = refl
   states_stand store count p (line ∷ lines) files =
-      ap (λ (o : Option State). begun_then o p (begun_from count (suc p) (modules_in store count (suc p) lines files.1))) files.0.1.1
-      ∙ ap (begun_then (Some files.0.1.0) p) (states_stand store count (suc p) lines files.1)
+      ap (λ (o : Option State). with_first_state o p (first_states_from count (suc p) (modules_in store count (suc p) lines files.1))) files.0.1.1
+      ∙ ap (with_first_state (Some files.0.1.0) p) (states_stand store count (suc p) lines files.1)
 
-  recording_works : (images : Bool) (schedule_name : List ℕ) (store : Store) → IsRecorded store schedule_name → (work : Work) × (record_outcome images schedule_name store ≡ Ok work)
+  recording_works : (images : Bool) (schedule_name : List ℕ) (store : Store) → RecordsWhole store schedule_name → (work : Work) × (record_outcome images schedule_name store ≡ Ok work)
   recording_works images schedule_name store h =
       let schedule = h.schedule in
       let count = length schedule.processes in
       let modules = modules_in store count 0 schedule.processes h.files in
       let first = states_in store count 0 schedule.processes h.files in
       let group = group_of schedule first in
-      let begins : begun schedule modules ≡ Ok first = states_stand store count 0 schedule.processes h.files in (
+      let begins : first_states schedule modules ≡ Ok first = states_stand store count 0 schedule.processes h.files in (
         recorded_work images group (run group schedule.items),
-        ap (λ (r : Result Schedule Stop). and_then r (λ schedule. and_then (modules_of store schedule.processes) (λ modules. group_outcome images schedule_name schedule (begun schedule modules)))) (schedule_stands store schedule_name schedule h.file)
-            ∙ ap (λ (r : Result (List Module) Stop). and_then r (λ modules. group_outcome images schedule_name schedule (begun schedule modules))) (modules_stand store count 0 schedule.processes h.files)
+        ap (λ (r : Result Schedule Stop). and_then r (λ schedule. and_then (modules_of store schedule.processes) (λ modules. group_outcome images schedule_name schedule (first_states schedule modules)))) (schedule_stands store schedule_name schedule h.file)
+            ∙ ap (λ (r : Result (List Module) Stop). and_then r (λ modules. group_outcome images schedule_name schedule (first_states schedule modules))) (modules_stand store count 0 schedule.processes h.files)
             ∙ ap (group_outcome images schedule_name schedule) begins
-            ∙ ap (by_room images schedule_name group (run group schedule.items)) (h.room first begins),
+            ∙ ap (outcome_by_room images schedule_name group (run group schedule.items)) (h.room first begins),
       )
 
   -- what the files of a pair hold, and its replay
-  abbrev held : (store : Store) (pair : Pair) → IsPair store pair → Loaded
+  abbrev held : (store : Store) (pair : Pair) → IsPairOfFiles store pair → Loaded
   held store pair file = read_as pair file.«module».«module» (file.log.head, file.log.left)
 
   abbrev held_in : (store : Store) (pairs : List Pair) → ArePairs store pairs → List Loaded
   held_in store [] files = []
   held_in store (pair ∷ pairs) files = held store pair files.0 ∷ held_in store pairs files.1
 
-  abbrev replay_in : (store : Store) (pair : Pair) → IsPair store pair → Replaying
+  abbrev replay_in : (store : Store) (pair : Pair) → IsPairOfFiles store pair → Replaying
   replay_in store pair file = record { head = file.log.head; state = file.begins.0; left = file.log.left }
 
   abbrev replays_in : (store : Store) (pairs : List Pair) → ArePairs store pairs → List Replaying
@@ -136,7 +136,7 @@ module _ (laws : Laws) where
 
   -- the pairs behind some others, where the heads of them all go together
   pairs_stand : (store : Store) (earlier : List Loaded) (pairs : List Pair) (files : ArePairs store pairs) → AllPairs GoTogether (map (λ l. l.head) earlier ++ heads_in store pairs files)
-      → all_loaded store earlier pairs ≡ Ok (earlier ++ held_in store pairs files)
+      → loaded_pairs store earlier pairs ≡ Ok (earlier ++ held_in store pairs files)
   pairs_stand store earlier [] files together = ap (λ (ls : List Loaded). Ok ls) (sym (append-nil earlier))
   pairs_stand store earlier (pair ∷ pairs) files together =
       let file = files.0 in
@@ -146,11 +146,11 @@ module _ (laws : Laws) where
       let one = pair_stands store earlier pair file.«module».«module» (file.log.head, file.log.left) (module_stands store pair.module_name file.«module») (log_stands store pair.log_name file.log) none in
       let same : map (λ l. l.head) earlier ++ file.log.head ∷ heads ≡ map (λ l. l.head) (earlier ++ l ∷ []) ++ heads =
       sym (append_assoc (map (λ l. l.head) earlier) (file.log.head ∷ []) heads) ∙ ap (λ (hs : List Head). hs ++ heads) (sym (map-append (λ (l : Loaded). l.head) earlier (l ∷ []))) in
-      ap (λ (r : Result Loaded Stop). and_then r (λ l. all_loaded store (earlier ++ l ∷ []) pairs)) one
+      ap (λ (r : Result Loaded Stop). and_then r (λ l. loaded_pairs store (earlier ++ l ∷ []) pairs)) one
       ∙ pairs_stand store (earlier ++ l ∷ []) pairs files.1 (subst (λ (hs : List Head). AllPairs GoTogether hs) same together)
       ∙ ap (λ (ls : List Loaded). Ok ls) (append_assoc earlier (l ∷ []) (held_in store pairs files.1))
 
-  replay_begins : (store : Store) (pair : Pair) (file : IsPair store pair) → begun_replay (held store pair file) ≡ Ok (replay_in store pair file)
+  replay_begins : (store : Store) (pair : Pair) (file : IsPairOfFiles store pair) → replay_of_log (held store pair file) ≡ Ok (replay_in store pair file)
   replay_begins store pair file =
       ap (λ (r : Result State Stop). and_then r (λ begun. Ok (record { head = file.log.head; state = begun; left = file.log.left })))
       (begins_at pair.module_name file.«module».«module» file.log.head.process file.log.head.count file.begins)
@@ -162,31 +162,31 @@ module _ (laws : Laws) where
       ∙ ap (λ (o : Result (List Replaying) Stop). and_then o (λ rs. Ok (replay_in store pair files.0 ∷ rs))) (replays_begin store pairs files.1)
 
   -- the replays of a group begin
-  group_opens : (pairs : List Pair) (store : Store) (h : IsGroup store pairs) → opened store pairs ≡ Ok (all_placed [] (replays_in store pairs h.files))
+  group_opens : (pairs : List Pair) (store : Store) (h : IsGroup store pairs) → replays_of_pairs store pairs ≡ Ok (sort_replays [] (replays_in store pairs h.files))
   group_opens pairs store h =
-      ap (λ (r : Result (List Loaded) Stop). and_then r (λ ls. and_then (replays_of ls) (λ rs. Ok (all_placed [] rs)))) (pairs_stand store [] pairs h.files h.together)
-      ∙ ap (λ (r : Result (List Replaying) Stop). and_then r (λ rs. Ok (all_placed [] rs))) (replays_begin store pairs h.files)
+      ap (λ (r : Result (List Loaded) Stop). and_then r (λ ls. and_then (replays_of ls) (λ rs. Ok (sort_replays [] rs)))) (pairs_stand store [] pairs h.files h.together)
+      ∙ ap (λ (r : Result (List Replaying) Stop). and_then r (λ rs. Ok (sort_replays [] rs))) (replays_begin store pairs h.files)
 
   replaying_works : (images : Bool) (pairs : List Pair) (store : Store) → IsGroup store pairs → (work : Work) × (replay_outcome images pairs store ≡ Ok work)
   replaying_works images pairs store h =
-      (replay_work images (all_placed [] (replays_in store pairs h.files)), ap (λ (r : Result (List Replaying) Stop). and_then r (λ start. Ok (replay_work images start))) (group_opens pairs store h))
+      (replay_work images (sort_replays [] (replays_in store pairs h.files)), ap (λ (r : Result (List Replaying) Stop). and_then r (λ start. Ok (replay_work images start))) (group_opens pairs store h))
 
   debugging_works : (pairs : List Pair) (store : Store) (left : Option (List ℕ)) → IsSession store pairs left → (work : Work) × (expected (Some (Debug pairs)) (Some store) left ≡ Some (Ok work))
   debugging_works pairs store left h =
-      let start = all_placed [] (replays_in store pairs h.group.files) in
+      let start = sort_replays [] (replays_in store pairs h.group.files) in
       let opens = group_opens pairs store h.group in (
         spoken (session_text start (lines_of h.input)),
         ap (λ (r : Result (List Replaying) Stop). opened_outcome r left) opens
             ∙ ap (option_map (session_outcome start)) h.told
-            ∙ ap (λ (o : Outcome). Some o) (within_input start h.input (h.within start opens)),
+            ∙ ap (λ (o : CommandOutcome). Some o) (within_input start h.input (h.within start opens)),
       )
 
-  pub valid_works : (command : Command) (store : Store) (left : Option (List ℕ)) → IsValid (Some command) store left → (work : Work) × (expected (Some command) (Some store) left ≡ Some (Ok work))
+  pub valid_works : (command : Command) (store : Store) (left : Option (List ℕ)) → IsValidCall (Some command) store left → (work : Work) × (expected (Some command) (Some store) left ≡ Some (Ok work))
   valid_works (Record images schedule_name) store left h = let w = recording_works images schedule_name store h in (w.0, ap Some w.1)
   valid_works (Replay images pairs) store left h = let w = replaying_works images pairs store h in (w.0, ap Some w.1)
   valid_works (Debug pairs) store left h = debugging_works pairs store left h
 
-settled : (answer wanted : Status) → (IsAnswer answer → answer ≡ wanted) → (answer ≡ ends.ReadFault → ⊥) → (answer ≡ ends.WriteFault → ⊥) → (answer ≡ wanted) ⊎ (answer ≡ ends.NoMemory)
+settled : (answer wanted : Status) → (IsAnswerStatus answer → answer ≡ wanted) → (answer ≡ ends.ReadFault → ⊥) → (answer ≡ ends.WriteFault → ⊥) → (answer ≡ wanted) ⊎ (answer ≡ ends.NoMemory)
 settled ends.ReadFault wanted answers reads writes = absurd (reads refl)
 settled ends.WriteFault wanted answers reads writes = absurd (writes refl)
 settled ends.NoMemory wanted answers reads writes = inr refl
@@ -201,7 +201,7 @@ either (inl a) f g = f a
 either (inr b) f g = g b
 
 -- valid words and files, and no fault: the command does its work
-pub run_completes : HasWork → (command : Option Command) (old new : Outside) (answer : Status) (store : Store) → Run command old new answer → old.told ≡ Some store → IsValid command store old.left → NoFault old new
+pub run_completes : HasWork → (command : Option Command) (old new : Outside) (answer : Status) (store : Store) → CommandRun command old new answer → old.told ≡ Some store → IsValidCall command store old.left → NoFault old new
     → Works command old.told old.left answer
 run_completes has_work None old new answer store run told valid quiet = absurd valid
 run_completes has_work (Some command) old new answer store run told valid quiet =

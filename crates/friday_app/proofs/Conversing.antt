@@ -9,10 +9,10 @@ use Rattle.friday_app.specs.declared.converse.Ended.TheVariants as cause
 use Rattle.friday_app.specs.declared.refusal.Reason.TheVariants as reason
 use Rattle.friday_app.specs.declared.status.Status.{Status}
 use Rattle.friday_app.specs.declared.status.Status.TheVariants as status
-use Rattle.friday_app.specs.Call.{IsAnswer, Prints}
+use Rattle.friday_app.specs.Call.{IsAnswerStatus, Prints}
 use Rattle.friday_app.specs.Conversation.{Converses, IsNone}
 use Rattle.friday_app.specs.Debug.{input_name, session_outcome}
-use Rattle.friday_app.specs.Outcome.{refused_line, text_of}
+use Rattle.friday_app.specs.Outcome.{outcome_text, refused_line}
 use Rattle.friday_app.specs.Talk.{Held}
 use Rattle.friday_app.proofs.Hearing.{rose_earlier}
 use Rattle.friday_app.proofs.Printed.{prints_all}
@@ -28,7 +28,7 @@ prints_behind answer earlier line before mid after e p = record {
   );
 }
 
-is_refused : (answer : Status) → (IsAnswer answer → answer ≡ status.Refused) → IsNone answer → ⊥
+is_refused : (answer : Status) → (IsAnswerStatus answer → answer ≡ status.Refused) → IsNone answer → ⊥
 is_refused status.Done only none = none
 is_refused status.Diverged only none = let e = only tt in absurd cc
 is_refused status.Usage only none = let e = only tt in absurd cc
@@ -38,8 +38,8 @@ is_refused status.ReadFault only none = none
 is_refused status.WriteFault only none = none
 is_refused status.NoMemory only none = none
 
-never_done : (answer : Status) → (IsAnswer answer → answer ≡ status.Refused) → answer ≡ status.Done → ⊥
-never_done answer only is = let e : answer ≡ status.Refused = only (subst IsAnswer (sym is) tt) in absurd cc
+never_done : (answer : Status) → (IsAnswerStatus answer → answer ≡ status.Refused) → answer ≡ status.Done → ⊥
+never_done answer only is = let e : answer ≡ status.Refused = only (subst IsAnswerStatus (sym is) tt) in absurd cc
 
 module _ (start : List Replaying) (left after printed now : Option (List ℕ)) (faults faults_after out_faults out_faults_after : ℕ) (later : faults ≤ faults_after) where
   pub conversed_done : Held start left after printed now cause.Done → Converses start left after printed now faults faults_after out_faults out_faults_after status.Done
@@ -62,7 +62,7 @@ module _ (start : List Replaying) (left after printed now : Option (List ℕ)) (
     ended = λ input told answer. absurd answer;
     text = λ input told. (let s = h.said input told in let r = h.read input told in
         let p = part_of start printed now h.taken (length (session_text start (whole_lines h.taken))) s.within (s.text ∙ ap (append_known printed) (sym (take-length (session_text start (whole_lines h.taken))))) r.rest in
-        record { whole = λ answer. absurd answer; part = (p.0, p.1 ∙ ap (λ (l : List ℕ). append_known printed (take p.0 (text_of (session_outcome start l)))) (sym r.whole)) });
+        record { whole = λ answer. absurd answer; part = (p.0, p.1 ∙ ap (λ (l : List ℕ). append_known printed (take p.0 (outcome_text (session_outcome start l)))) (sym r.whole)) });
     input = λ input told. record { taken = h.taken; is_taken = h.read input told; asks = h.asks; at_end = λ is. absurd cc };
     answered = λ is input told. (let s = h.said input told in record { taken = h.taken; is_taken = h.read input told; text = s.text; goes_on = s.goes_on });
     other = λ none. none;
@@ -102,7 +102,7 @@ module _ (start : List Replaying) (left after printed now : Option (List ℕ)) (
 
   -- the refusal was said, or could not be said
   pub conversed_large : (mid : Option (List ℕ)) (out_faults_mid : ℕ) (answer : Status) → Held start left after printed mid cause.TooLarge → out_faults ≤ out_faults_mid
-      → (IsAnswer answer → answer ≡ status.Refused) → Prints answer (refused_line input_name reason.TooLarge) mid now → (answer ≡ status.ReadFault → ⊥)
+      → (IsAnswerStatus answer → answer ≡ status.Refused) → Prints answer (refused_line input_name reason.TooLarge) mid now → (answer ≡ status.ReadFault → ⊥)
       → (answer ≡ status.WriteFault → Rose out_faults_mid out_faults_after) → Converses start left after printed now faults faults_after out_faults out_faults_after answer
   unfolding Held
   conversed_large mid out_faults_mid answer h out_later only prints not_read rose = record {
@@ -111,7 +111,7 @@ module _ (start : List Replaying) (left after printed now : Option (List ℕ)) (
     input = λ input told. record { taken = h.taken; is_taken = h.read input told; asks = h.asks; at_end = λ is. absurd (never_done answer only is) };
     answered = λ is. absurd (not_read is);
     other = is_refused answer only;
-    refused = λ is. (let l = h.large refl in let w = prints_behind answer l.0 (refused_line input_name reason.TooLarge) printed mid now l.1 prints in (l.0, w.whole (subst IsAnswer (sym is) tt)));
+    refused = λ is. (let l = h.large refl in let w = prints_behind answer l.0 (refused_line input_name reason.TooLarge) printed mid now l.1 prints in (l.0, w.whole (subst IsAnswerStatus (sym is) tt)));
     later = later;
     read_fault = λ is. absurd (not_read is);
     write_fault = λ is. rose_earlier out_faults out_faults_mid out_faults_after out_later (rose is);

@@ -10,14 +10,14 @@ use Rattle.friday_app.specs.declared.status.Status.TheVariants as ends
 use Rattle.friday_app.specs.declared.refusal.Reason.TheVariants as reason
 use Rattle.friday_app.specs.declared.refusal.Refusal.{Refusal}
 use Rattle.friday_app.specs.declared.refusal.Refusal.TheVariants as refusal
-use Rattle.friday_app.specs.Call.{Finishes, FaultStatus, IsAnswer, Keeps, Prints, Raises, StopsAs, answer_of}
+use Rattle.friday_app.specs.Call.{FinishesCall, FaultStatus, IsAnswerStatus, Keeps, Prints, Raises, StopsAs, status_and_text}
 use Rattle.friday_app.specs.Command.{Debug, Pair}
 use Rattle.friday_app.specs.Conversation.{Converses, IsNone}
 use Rattle.friday_app.specs.Debug.{early_lines, input_name, is_large, opened_outcome, session_outcome, spoken}
 use Rattle.friday_app.specs.Expected.{expected}
-use Rattle.friday_app.specs.Outcome.{Outcome, Refuses, Stop, status_of, text_of, writes_of}
-use Rattle.friday_app.specs.Pairs.{WasOpened, opened}
-use Rattle.friday_app.specs.Run.{Outside, Run}
+use Rattle.friday_app.specs.Outcome.{CommandOutcome, Refuses, Stop, outcome_status, outcome_text, writes_of}
+use Rattle.friday_app.specs.Pairs.{WasOpened, replays_of_pairs}
+use Rattle.friday_app.specs.Run.{CommandRun, Outside}
 use Rattle.friday_app.proofs.Ends.{none_left, run_ends, unread_input}
 use Rattle.friday_app.proofs.Made.{same_others, stops_make, stops_tell}
 use Rattle.friday_app.proofs.Replayed.{NoneOpened}
@@ -26,32 +26,32 @@ use Rattle.std.proofs.lemmas.Option.{same_Some}
 -- ---- no session began
 
 -- the outcome is the stop at which the replays could not begin
-stop_is : (begun : Result (List Replaying) Stop) (left : Option (List ℕ)) (o : Outcome) (stop : Stop) → begun ≡ Err stop → opened_outcome begun left ≡ Some o → o ≡ Err stop
+stop_is : (begun : Result (List Replaying) Stop) (left : Option (List ℕ)) (o : CommandOutcome) (stop : Stop) → begun ≡ Err stop → opened_outcome begun left ≡ Some o → o ≡ Err stop
 stop_is begun left o stop is here = sym (same_Some _ _ (sym (ap (λ (r : Result (List Replaying) Stop). opened_outcome r left) is) ∙ here))
 
-stops_as : (begun : Result (List Replaying) Stop) (left : Option (List ℕ)) (o : Outcome) (e : Refusal) → StopsAs begun e → opened_outcome begun left ≡ Some o → StopsAs o e
+stops_as : (begun : Result (List Replaying) Stop) (left : Option (List ℕ)) (o : CommandOutcome) (e : Refusal) → StopsAs begun e → opened_outcome begun left ≡ Some o → StopsAs o e
 stops_as begun left o (refusal.Refused file why) is here = stop_is begun left o _ is here
 stops_as begun left o (refusal.Absent file) is here = stop_is begun left o _ is here
 stops_as begun left o refusal.ReadFault is here = tt
 stops_as begun left o refusal.WriteFault is here = tt
 stops_as begun left o refusal.NoMemory is here = tt
 
-refused_stops : (pairs : List Pair) (told : Option Store) (left : Option (List ℕ)) (e : Refusal) → NoneOpened pairs told e → (o : Outcome) → expected (Some (Debug pairs)) told left ≡ Some o → StopsAs o e
+refused_stops : (pairs : List Pair) (told : Option Store) (left : Option (List ℕ)) (e : Refusal) → NoneOpened pairs told e → (o : CommandOutcome) → expected (Some (Debug pairs)) told left ≡ Some o → StopsAs o e
 refused_stops pairs None left e stops o here = cc
-refused_stops pairs (Some store) left e stops o here = stops_as (opened store pairs) left o e (stops store refl) here
+refused_stops pairs (Some store) left e stops o here = stops_as (replays_of_pairs store pairs) left o e (stops store refl) here
 
 -- a refusal is never the end of a session
-refused_not_done : (e : Refusal) (answer : Status) → IfSome (answer_of (Err e)) (λ a. IsAnswer answer → answer ≡ a.0) → FaultStatus (Err e) answer → answer ≡ ends.Done → ⊥
-refused_not_done (refusal.Refused file why) answer answers fault is = let e : ends.Done ≡ ends.Refused = sym is ∙ answers (subst IsAnswer (sym is) tt) in cc
-refused_not_done (refusal.Absent file) answer answers fault is = let e : ends.Done ≡ ends.Absent = sym is ∙ answers (subst IsAnswer (sym is) tt) in cc
+refused_not_done : (e : Refusal) (answer : Status) → IfSome (status_and_text (Err e)) (λ a. IsAnswerStatus answer → answer ≡ a.0) → FaultStatus (Err e) answer → answer ≡ ends.Done → ⊥
+refused_not_done (refusal.Refused file why) answer answers fault is = let e : ends.Done ≡ ends.Refused = sym is ∙ answers (subst IsAnswerStatus (sym is) tt) in cc
+refused_not_done (refusal.Absent file) answer answers fault is = let e : ends.Done ≡ ends.Absent = sym is ∙ answers (subst IsAnswerStatus (sym is) tt) in cc
 refused_not_done refusal.ReadFault answer answers fault is = let e = sym is ∙ fault in cc
 refused_not_done refusal.WriteFault answer answers fault is = let e = sym is ∙ fault in cc
 refused_not_done refusal.NoMemory answer answers fault is = let e = sym is ∙ fault in cc
 
 pub run_refused : (pairs : List Pair) (e : Refusal) (answer : Status) (old new : Outside) → NoneOpened pairs old.told e → Raises old.counts new.counts e
-    → Finishes (Err e) answer old.taken new.taken old.out_faults new.out_faults
+    → FinishesCall (Err e) answer old.taken new.taken old.out_faults new.out_faults
     → new.told ≡ old.told → new.left ≡ old.left → new.input_faults ≡ old.input_faults
-    → Run (Some (Debug pairs)) old new answer
+    → CommandRun (Some (Debug pairs)) old new answer
 run_refused pairs e answer old new stops cause f same left faults =
     run_ends (Debug pairs) (Err e) answer old new tt
     (λ o here. stops_tell o e (refused_stops pairs old.told old.left e stops o here))
@@ -68,45 +68,45 @@ run_refused pairs e answer old new stops cause f same left faults =
 -- ---- a session was held
 
 -- what it comes to, where the input is told
-record IsSpoken (start : List Replaying) (left : Option (List ℕ)) (o : Outcome) : Type 0 where
+record IsSpoken (start : List Replaying) (left : Option (List ℕ)) (o : CommandOutcome) : Type 0 where
   input : List ℕ
   told : left ≡ Some input
   outcome : o ≡ session_outcome start input
 
-spoken_by : (start : List Replaying) (left : Option (List ℕ)) (o : Outcome) → option_map (session_outcome start) left ≡ Some o → IsSpoken start left o
+spoken_by : (start : List Replaying) (left : Option (List ℕ)) (o : CommandOutcome) → option_map (session_outcome start) left ≡ Some o → IsSpoken start left o
 spoken_by start None o here = cc
 spoken_by start (Some input) o here = record { input = input; told = refl; outcome = sym (same_Some _ _ here) }
 
-is_spoken : (pairs : List Pair) (told : Option Store) (left : Option (List ℕ)) (start : List Replaying) → WasOpened pairs told start → (o : Outcome) → expected (Some (Debug pairs)) told left ≡ Some o → IsSpoken start left o
+is_spoken : (pairs : List Pair) (told : Option Store) (left : Option (List ℕ)) (start : List Replaying) → WasOpened pairs told start → (o : CommandOutcome) → expected (Some (Debug pairs)) told left ≡ Some o → IsSpoken start left o
 is_spoken pairs None left start opens o here = cc
 is_spoken pairs (Some store) left start opens o here =
     spoken_by start left o (sym (ap (λ (r : Result (List Replaying) Stop). opened_outcome r left) (opens store refl)) ∙ here)
 
 -- by whether the input is too large
-abbrev pub spoken_if : Bool → List ℕ → List ℕ → Outcome
+abbrev pub spoken_if : Bool → List ℕ → List ℕ → CommandOutcome
 spoken_if large early whole = cond large (Err (Refuses input_name reason.TooLarge (spoken early))) (Ok (spoken whole))
 
 makes_none : (large : Bool) (early whole : List ℕ) → writes_of (spoken_if large early whole) ≡ []
 makes_none true early whole = refl
 makes_none false early whole = refl
 
-was_large : (large : Bool) (early whole : List ℕ) → ends.Refused ≡ status_of (spoken_if large early whole) → large ≡ true
+was_large : (large : Bool) (early whole : List ℕ) → ends.Refused ≡ outcome_status (spoken_if large early whole) → large ≡ true
 was_large true early whole is = refl
 was_large false early whole is = cc
 
-session_makes_none : (start : List Replaying) (left : Option (List ℕ)) (o : Outcome) → IsSpoken start left o → writes_of o ≡ []
+session_makes_none : (start : List Replaying) (left : Option (List ℕ)) (o : CommandOutcome) → IsSpoken start left o → writes_of o ≡ []
 session_makes_none start left o s =
     ap writes_of s.outcome ∙ makes_none (is_large start s.input) (session_text start (early_lines s.input)) (session_text start (lines_of s.input))
 
 pub run_conversed : (pairs : List Pair) (start : List Replaying) (answer : Status) (old new : Outside) → WasOpened pairs old.told start
     → Converses start old.left new.left old.taken new.taken old.input_faults new.input_faults old.out_faults new.out_faults answer
     → new.told ≡ old.told
-    → Run (Some (Debug pairs)) old new answer
+    → CommandRun (Some (Debug pairs)) old new answer
 run_conversed pairs start answer old new opens c same = record {
   usage = record { only = λ is. absurd (c.other (subst IsNone (sym is) tt)); always = λ none h. cc };
   diverged = λ is. absurd (c.other (subst IsNone (sym is) tt));
-  status = λ o e h. let s = said o e in c.ended s.input s.told h ∙ ap status_of (sym s.outcome);
-  text = λ o e. let s = said o e in subst (λ (o : Outcome). Prints answer (text_of o) old.taken new.taken) (sym s.outcome) (c.text s.input s.told);
+  status = λ o e h. let s = said o e in c.ended s.input s.told h ∙ ap outcome_status (sym s.outcome);
+  text = λ o e. let s = said o e in subst (λ (o : CommandOutcome). Prints answer (outcome_text o) old.taken new.taken) (sym s.outcome) (c.text s.input s.told);
   files = λ o e. none_left answer o old.told new.told (session_makes_none start old.left o (said o e)) same;
   others = same_others _ _ _ same;
   recorded = λ is before told after here. tt;
@@ -122,12 +122,12 @@ run_conversed pairs start answer old new opens c same = record {
   write_fault = λ is. inr (c.write_fault is);
   out_fault = λ o e is. inr (made o e);
 } where
-  said : (o : Outcome) → expected (Some (Debug pairs)) old.told old.left ≡ Some o → IsSpoken start old.left o
+  said : (o : CommandOutcome) → expected (Some (Debug pairs)) old.told old.left ≡ Some o → IsSpoken start old.left o
   said o e = is_spoken pairs old.told old.left start opens o e
 
-  made : (o : Outcome) → expected (Some (Debug pairs)) old.told old.left ≡ Some o → new.told ≡ with_files (writes_of o) old.told
+  made : (o : CommandOutcome) → expected (Some (Debug pairs)) old.told old.left ≡ Some o → new.told ≡ with_files (writes_of o) old.told
   made o e = same ∙ ap (λ (files : List (List ℕ × List ℕ)). with_files files old.told) (sym (session_makes_none start old.left o (said o e)))
 
   large : answer ≡ ends.Refused → WhenTold old.left (λ input. is_large start input ≡ true)
   large is input told =
-      was_large (is_large start input) (session_text start (early_lines input)) (session_text start (lines_of input)) (sym is ∙ c.ended input told (subst IsAnswer (sym is) tt))
+      was_large (is_large start input) (session_text start (early_lines input)) (session_text start (lines_of input)) (sym is ∙ c.ended input told (subst IsAnswerStatus (sym is) tt))

@@ -14,11 +14,11 @@ use Rattle.friday_app.specs.declared.refusal.Refusal.TheVariants as refusal
 use Rattle.friday_app.specs.declared.command.Batch.{Batch}
 use Rattle.friday_app.specs.declared.command.Batch.TheVariants as batch
 use Rattle.friday_app.specs.Command.{Command, Debug, Pair, Record, Replay}
-use Rattle.friday_app.specs.Outcome.{Outcome, refused_line, usage_line, status_of, text_of, writes_of}
+use Rattle.friday_app.specs.Outcome.{CommandOutcome, refused_line, usage_line, outcome_status, outcome_text, writes_of}
 use Rattle.friday_app.specs.Expected.{expected, written_by}
 use Rattle.friday_app.specs.Agreement.{KeepsMoment, KeepsRecording, RecordingsAgree}
-use Rattle.friday_app.specs.Run.{Outside, Run}
-use Rattle.friday_app.specs.Call.{Prints, PrintsAbsent, PrintsLast, PrintsRefusal, DivergesOnlyIn, Leaves, IsAnswer, IsEnd, Tells, Makes, Keeps, Raises, FaultStatus, answer_of, Finishes}
+use Rattle.friday_app.specs.Run.{CommandRun, Outside}
+use Rattle.friday_app.specs.Call.{Prints, PrintsAbsent, PrintsLast, PrintsRefusal, DivergesOnlyIn, LeavesFiles, IsAnswerStatus, IsAnswerResult, TellsOutcome, Makes, Keeps, Raises, FaultStatus, status_and_text, FinishesCall}
 use Rattle.friday_app.specs.Conversation.{KeepsInput, Untouched}
 use Rattle.friday_app.specs.Seen.{batch_of}
 use Rattle.friday_app.proofs.Made.{same_changes, all_changes, same_others}
@@ -29,32 +29,32 @@ nothing_more None = refl
 nothing_more (Some xs) = ap Some (sym (append-nil xs))
 
 -- nothing was printed, at a status that is no answer
-pub prints_none : (answer : Status) (text : List ℕ) (before after : Option (List ℕ)) → (IsAnswer answer → ⊥) → after ≡ before → Prints answer text before after
+pub prints_none : (answer : Status) (text : List ℕ) (before after : Option (List ℕ)) → (IsAnswerStatus answer → ⊥) → after ≡ before → Prints answer text before after
 prints_none answer text before after none e = record { whole = λ is. absurd (none is); part = (0, e ∙ nothing_more before) }
 
-text_ends : (ended : Result Answer Refusal) (answer : Status) (outcome : Outcome) (before after : Option (List ℕ))
-    → Tells outcome ended
-    → IfSome (answer_of ended) (λ a. Prints answer a.1 before after)
-    → IfNone (answer_of ended) (after ≡ before)
+text_ends : (ended : Result Answer Refusal) (answer : Status) (outcome : CommandOutcome) (before after : Option (List ℕ))
+    → TellsOutcome outcome ended
+    → IfSome (status_and_text ended) (λ a. Prints answer a.1 before after)
+    → IfNone (status_and_text ended) (after ≡ before)
     → FaultStatus ended answer
-    → Prints answer (text_of outcome) before after
+    → Prints answer (outcome_text outcome) before after
 text_ends (Ok (answered.Done text)) answer outcome before after (work, is, same, diverged) prints silent fault =
-    subst (λ t. Prints answer t before after) (same ∙ sym (ap text_of is)) prints
+    subst (λ t. Prints answer t before after) (same ∙ sym (ap outcome_text is)) prints
 text_ends (Ok (answered.Diverged text)) answer outcome before after (work, is, same, diverged) prints silent fault =
-    subst (λ t. Prints answer t before after) (same ∙ sym (ap text_of is)) prints
+    subst (λ t. Prints answer t before after) (same ∙ sym (ap outcome_text is)) prints
 text_ends (Err (refusal.Refused file why)) answer outcome before after (done, is, none) prints silent fault =
-    subst (λ t. Prints answer t before after) (ap (λ t. t ++ refused_line (string_bytes file) why) (sym none) ∙ sym (ap text_of is)) prints
+    subst (λ t. Prints answer t before after) (ap (λ t. t ++ refused_line (string_bytes file) why) (sym none) ∙ sym (ap outcome_text is)) prints
 text_ends (Err (refusal.Absent file)) answer outcome before after is prints silent fault =
-    subst (λ o. Prints answer (text_of o) before after) (sym is) prints
+    subst (λ o. Prints answer (outcome_text o) before after) (sym is) prints
 text_ends (Err refusal.ReadFault) answer outcome before after is prints silent fault =
-    prints_none answer _ before after (λ h. subst IsAnswer fault h) silent
+    prints_none answer _ before after (λ h. subst IsAnswerStatus fault h) silent
 text_ends (Err refusal.WriteFault) answer outcome before after is prints silent fault =
-    prints_none answer _ before after (λ h. subst IsAnswer fault h) silent
+    prints_none answer _ before after (λ h. subst IsAnswerStatus fault h) silent
 text_ends (Err refusal.NoMemory) answer outcome before after is prints silent fault =
-    prints_none answer _ before after (λ h. subst IsAnswer fault h) silent
+    prints_none answer _ before after (λ h. subst IsAnswerStatus fault h) silent
 
 -- the files, where none of them was made and none was to be made
-pub none_left : (answer : Status) (outcome : Outcome) (before after : Option Store) → writes_of outcome ≡ [] → after ≡ before → Leaves answer (writes_of outcome) before after
+pub none_left : (answer : Status) (outcome : CommandOutcome) (before after : Option Store) → writes_of outcome ≡ [] → after ≡ before → LeavesFiles answer (writes_of outcome) before after
 none_left answer outcome before after none same = record {
   whole = λ _. same ∙ ap (λ w. with_files w before) (sym none);
   part = same_changes before after (writes_of outcome) same;
@@ -63,70 +63,70 @@ none_left answer outcome before after none same = record {
 files_end : (ended : Result Answer Refusal) (answer : Status) (files : List (List ℕ × List ℕ)) (before after : Option Store)
     → Makes ended files before after
     → FaultStatus ended answer
-    → Leaves answer files before after
+    → LeavesFiles answer files before after
 files_end (Ok given) answer files before after makes fault = record { whole = λ _. makes; part = all_changes files before after makes }
 files_end (Err (refusal.Refused file why)) answer files before after makes fault = record { whole = λ _. makes; part = all_changes files before after makes }
 files_end (Err (refusal.Absent file)) answer files before after makes fault = record { whole = λ _. makes; part = all_changes files before after makes }
-files_end (Err refusal.ReadFault) answer files before after makes fault = record { whole = λ h. absurd (subst IsAnswer fault h); part = makes }
-files_end (Err refusal.WriteFault) answer files before after makes fault = record { whole = λ h. absurd (subst IsAnswer fault h); part = makes }
-files_end (Err refusal.NoMemory) answer files before after makes fault = record { whole = λ h. absurd (subst IsAnswer fault h); part = makes }
+files_end (Err refusal.ReadFault) answer files before after makes fault = record { whole = λ h. absurd (subst IsAnswerStatus fault h); part = makes }
+files_end (Err refusal.WriteFault) answer files before after makes fault = record { whole = λ h. absurd (subst IsAnswerStatus fault h); part = makes }
+files_end (Err refusal.NoMemory) answer files before after makes fault = record { whole = λ h. absurd (subst IsAnswerStatus fault h); part = makes }
 
 refusal_ends : {Other : List ℕ → Type 0} (ended : Result Answer Refusal) (answer : Status) (before after : Option (List ℕ)) (old new : Counts)
-    → IfSome (answer_of ended) (λ a. IsAnswer answer → answer ≡ a.0)
-    → IfSome (answer_of ended) (λ a. Prints answer a.1 before after)
+    → IfSome (status_and_text ended) (λ a. IsAnswerStatus answer → answer ≡ a.0)
+    → IfSome (status_and_text ended) (λ a. Prints answer a.1 before after)
     → FaultStatus ended answer
     → IfErr ended (Raises old new)
     → answer ≡ ends.Refused
     → PrintsRefusal before after (λ file. Rose old.misses new.misses ⊎ Other file)
 refusal_ends (Ok (answered.Done text)) answer before after old new answers prints fault cause is =
-    let e : ends.Refused ≡ ends.Done = sym is ∙ answers (subst IsAnswer (sym is) tt) in cc
+    let e : ends.Refused ≡ ends.Done = sym is ∙ answers (subst IsAnswerStatus (sym is) tt) in cc
 refusal_ends (Ok (answered.Diverged text)) answer before after old new answers prints fault cause is =
-    let e : ends.Refused ≡ ends.Diverged = sym is ∙ answers (subst IsAnswer (sym is) tt) in cc
+    let e : ends.Refused ≡ ends.Diverged = sym is ∙ answers (subst IsAnswerStatus (sym is) tt) in cc
 refusal_ends (Err (refusal.Refused file why)) answer before after old new answers prints fault cause is =
-    ([], (string_bytes file), (why, prints.whole (subst IsAnswer (sym is) tt), λ large. inl (cause large)))
+    ([], (string_bytes file), (why, prints.whole (subst IsAnswerStatus (sym is) tt), λ large. inl (cause large)))
 refusal_ends (Err (refusal.Absent file)) answer before after old new answers prints fault cause is =
-    let e : ends.Refused ≡ ends.Absent = sym is ∙ answers (subst IsAnswer (sym is) tt) in cc
+    let e : ends.Refused ≡ ends.Absent = sym is ∙ answers (subst IsAnswerStatus (sym is) tt) in cc
 refusal_ends (Err refusal.ReadFault) answer before after old new answers prints fault cause is = let e = sym is ∙ fault in cc
 refusal_ends (Err refusal.WriteFault) answer before after old new answers prints fault cause is = let e = sym is ∙ fault in cc
 refusal_ends (Err refusal.NoMemory) answer before after old new answers prints fault cause is = let e = sym is ∙ fault in cc
 
 -- the status of a finished result
-status_ends : (ended : Result Answer Refusal) (answer : Status) (outcome : Outcome)
-    → Tells outcome ended
-    → IfSome (answer_of ended) (λ a. IsAnswer answer → answer ≡ a.0)
+status_ends : (ended : Result Answer Refusal) (answer : Status) (outcome : CommandOutcome)
+    → TellsOutcome outcome ended
+    → IfSome (status_and_text ended) (λ a. IsAnswerStatus answer → answer ≡ a.0)
     → FaultStatus ended answer
-    → IsAnswer answer
-    → answer ≡ status_of outcome
+    → IsAnswerStatus answer
+    → answer ≡ outcome_status outcome
 status_ends (Ok (answered.Done text)) answer outcome (work, is, same, diverged) answers fault h =
-    answers h ∙ ap (λ b. cond b ends.Diverged ends.Done) (sym diverged) ∙ sym (ap status_of is)
+    answers h ∙ ap (λ b. cond b ends.Diverged ends.Done) (sym diverged) ∙ sym (ap outcome_status is)
 status_ends (Ok (answered.Diverged text)) answer outcome (work, is, same, diverged) answers fault h =
-    answers h ∙ ap (λ b. cond b ends.Diverged ends.Done) (sym diverged) ∙ sym (ap status_of is)
-status_ends (Err (refusal.Refused file why)) answer outcome (done, is, none) answers fault h = answers h ∙ sym (ap status_of is)
-status_ends (Err (refusal.Absent file)) answer outcome is answers fault h = answers h ∙ sym (ap status_of is)
-status_ends (Err refusal.ReadFault) answer outcome is answers fault h = absurd (subst IsAnswer fault h)
-status_ends (Err refusal.WriteFault) answer outcome is answers fault h = absurd (subst IsAnswer fault h)
-status_ends (Err refusal.NoMemory) answer outcome is answers fault h = absurd (subst IsAnswer fault h)
+    answers h ∙ ap (λ b. cond b ends.Diverged ends.Done) (sym diverged) ∙ sym (ap outcome_status is)
+status_ends (Err (refusal.Refused file why)) answer outcome (done, is, none) answers fault h = answers h ∙ sym (ap outcome_status is)
+status_ends (Err (refusal.Absent file)) answer outcome is answers fault h = answers h ∙ sym (ap outcome_status is)
+status_ends (Err refusal.ReadFault) answer outcome is answers fault h = absurd (subst IsAnswerStatus fault h)
+status_ends (Err refusal.WriteFault) answer outcome is answers fault h = absurd (subst IsAnswerStatus fault h)
+status_ends (Err refusal.NoMemory) answer outcome is answers fault h = absurd (subst IsAnswerStatus fault h)
 
 -- at an answer a command came to its end
-is_end : (ended : Result Answer Refusal) (answer : Status) → FaultStatus ended answer → IsAnswer answer → IsEnd ended
+is_end : (ended : Result Answer Refusal) (answer : Status) → FaultStatus ended answer → IsAnswerStatus answer → IsAnswerResult ended
 is_end (Ok given) answer fault is = tt
 is_end (Err (refusal.Refused file why)) answer fault is = tt
 is_end (Err (refusal.Absent file)) answer fault is = tt
-is_end (Err refusal.ReadFault) answer fault is = subst IsAnswer fault is
-is_end (Err refusal.WriteFault) answer fault is = subst IsAnswer fault is
-is_end (Err refusal.NoMemory) answer fault is = subst IsAnswer fault is
+is_end (Err refusal.ReadFault) answer fault is = subst IsAnswerStatus fault is
+is_end (Err refusal.WriteFault) answer fault is = subst IsAnswerStatus fault is
+is_end (Err refusal.NoMemory) answer fault is = subst IsAnswerStatus fault is
 
 -- the text of an absent file
 absent_ends : (ended : Result Answer Refusal) (answer : Status) (before after : Option (List ℕ))
-    → IfSome (answer_of ended) (λ a. IsAnswer answer → answer ≡ a.0)
-    → IfSome (answer_of ended) (λ a. Prints answer a.1 before after)
+    → IfSome (status_and_text ended) (λ a. IsAnswerStatus answer → answer ≡ a.0)
+    → IfSome (status_and_text ended) (λ a. Prints answer a.1 before after)
     → FaultStatus ended answer
     → answer ≡ ends.Absent
     → PrintsAbsent before after
-absent_ends (Ok (answered.Done text)) answer before after answers prints fault is = let e : ends.Absent ≡ ends.Done = sym is ∙ answers (subst IsAnswer (sym is) tt) in cc
-absent_ends (Ok (answered.Diverged text)) answer before after answers prints fault is = let e : ends.Absent ≡ ends.Diverged = sym is ∙ answers (subst IsAnswer (sym is) tt) in cc
-absent_ends (Err (refusal.Refused file why)) answer before after answers prints fault is = let e : ends.Absent ≡ ends.Refused = sym is ∙ answers (subst IsAnswer (sym is) tt) in cc
-absent_ends (Err (refusal.Absent file)) answer before after answers prints fault is = (string_bytes file, prints.whole (subst IsAnswer (sym is) tt))
+absent_ends (Ok (answered.Done text)) answer before after answers prints fault is = let e : ends.Absent ≡ ends.Done = sym is ∙ answers (subst IsAnswerStatus (sym is) tt) in cc
+absent_ends (Ok (answered.Diverged text)) answer before after answers prints fault is = let e : ends.Absent ≡ ends.Diverged = sym is ∙ answers (subst IsAnswerStatus (sym is) tt) in cc
+absent_ends (Err (refusal.Refused file why)) answer before after answers prints fault is = let e : ends.Absent ≡ ends.Refused = sym is ∙ answers (subst IsAnswerStatus (sym is) tt) in cc
+absent_ends (Err (refusal.Absent file)) answer before after answers prints fault is = (string_bytes file, prints.whole (subst IsAnswerStatus (sym is) tt))
 absent_ends (Err refusal.ReadFault) answer before after answers prints fault is = let e = sym is ∙ fault in cc
 absent_ends (Err refusal.WriteFault) answer before after answers prints fault is = let e = sym is ∙ fault in cc
 absent_ends (Err refusal.NoMemory) answer before after answers prints fault is = let e = sym is ∙ fault in cc
@@ -134,7 +134,7 @@ absent_ends (Err refusal.NoMemory) answer before after answers prints fault is =
 -- a text is printed where all files were made, and none where some were not
 last_ends : (ended : Result Answer Refusal) (files : List (List ℕ × List ℕ)) (printed printed_after : Option (List ℕ)) (before after : Option Store)
     → Makes ended files before after
-    → IfNone (answer_of ended) (printed_after ≡ printed)
+    → IfNone (status_and_text ended) (printed_after ≡ printed)
     → PrintsLast files printed printed_after before after
 last_ends (Ok (answered.Done text)) files printed printed_after before after makes silent = inr makes
 last_ends (Ok (answered.Diverged text)) files printed printed_after before after makes silent = inr makes
@@ -146,7 +146,7 @@ last_ends (Err refusal.NoMemory) files printed printed_after before after makes 
 
 -- a failed read was one of a file
 reads_end : (ended : Result Answer Refusal) (answer : Status) (old new : Counts)
-    → IfSome (answer_of ended) (λ _. answer ≢ ends.ReadFault)
+    → IfSome (status_and_text ended) (λ _. answer ≢ ends.ReadFault)
     → FaultStatus ended answer
     → IfErr ended (Raises old new)
     → answer ≡ ends.ReadFault
@@ -175,16 +175,16 @@ batch_input (batch.Replay images pairs) told left after answer faults faults_aft
 -- a run of a command whose result was finished
 pub run_ends : (command : Command) (ended : Result Answer Refusal) (answer : Status) (old new : Outside)
     → DivergesOnlyIn (Some command) ended
-    → ((o : Outcome) → expected (Some command) old.told old.left ≡ Some o → Tells o ended)
-    → ((o : Outcome) → expected (Some command) old.told old.left ≡ Some o → Makes ended (writes_of o) old.told new.told)
+    → ((o : CommandOutcome) → expected (Some command) old.told old.left ≡ Some o → TellsOutcome o ended)
+    → ((o : CommandOutcome) → expected (Some command) old.told old.left ≡ Some o → Makes ended (writes_of o) old.told new.told)
     → OthersStay (written_by (Some command)) old.told new.told
     → Keeps ended old.told new.told
     → IfErr ended (Raises old.counts new.counts)
-    → (IsEnd ended → WhenTold old.told (λ before. WhenTold new.told (KeepsRecording (Some command) before)))
+    → (IsAnswerResult ended → WhenTold old.told (λ before. WhenTold new.told (KeepsRecording (Some command) before)))
     → WhenTold old.told (λ before. KeepsMoment (Some command) before new.told)
-    → Finishes ended answer old.taken new.taken old.out_faults new.out_faults
+    → FinishesCall ended answer old.taken new.taken old.out_faults new.out_faults
     → KeepsInput (Some command) old.told old.left new.left answer (Untouched old.left new.left old.input_faults new.input_faults)
-    → Run (Some command) old new answer
+    → CommandRun (Some command) old new answer
 run_ends command ended answer old new diverges tells makes others keeps cause recorded moment f input = record {
   usage = grind (arith, common_steps);
   diverged = grind (arith, common_steps);
@@ -208,17 +208,17 @@ run_ends command ended answer old new diverges tells makes others keeps cause re
 
 -- a run of words that are no command
 pub run_none : (answer : Status) (old new : Outside) → new.told ≡ old.told
-    → (IsAnswer answer → answer ≡ ends.Usage)
+    → (IsAnswerStatus answer → answer ≡ ends.Usage)
     → Prints answer usage_line old.taken new.taken
     → (answer ≡ ends.ReadFault → ⊥)
     → (answer ≡ ends.WriteFault → Rose old.out_faults new.out_faults)
     → Untouched old.left new.left old.input_faults new.input_faults
-    → Run None old new answer
+    → CommandRun None old new answer
 run_none answer old new same usage prints reads writes untouched = record {
   usage = record { only = λ _. refl; always = λ _ h. usage h };
-  diverged = λ is. let e : ends.Diverged ≡ ends.Usage = sym is ∙ usage (subst IsAnswer (sym is) tt) in absurd (usage_not_diverged e);
-  status = λ o e h. usage h ∙ ap status_of (same_Some _ _ e);
-  text = λ o e. subst (λ o. Prints answer (text_of o) old.taken new.taken) (same_Some _ _ e) prints;
+  diverged = λ is. let e : ends.Diverged ≡ ends.Usage = sym is ∙ usage (subst IsAnswerStatus (sym is) tt) in absurd (usage_not_diverged e);
+  status = λ o e h. usage h ∙ ap outcome_status (same_Some _ _ e);
+  text = λ o e. subst (λ o. Prints answer (outcome_text o) old.taken new.taken) (same_Some _ _ e) prints;
   files = λ o e. none_left answer o _ _ (sym (ap writes_of (same_Some _ _ e))) same;
   others = same_others _ _ _ same;
   recorded = λ is before told after here. tt;
@@ -227,9 +227,9 @@ run_none answer old new same usage prints reads writes untouched = record {
   input = untouched;
   answered = λ is. absurd (reads is);
   prints_last = λ o e. inr (same ∙ ap (λ w. with_files w old.told) (ap writes_of (same_Some _ _ e)));
-  absent_text = λ is. let e : ends.Absent ≡ ends.Usage = sym is ∙ usage (subst IsAnswer (sym is) tt) in absurd (usage_not_absent e);
-  absent = λ is. let e : ends.Absent ≡ ends.Usage = sym is ∙ usage (subst IsAnswer (sym is) tt) in cc;
-  refused = λ is. let e : ends.Refused ≡ ends.Usage = sym is ∙ usage (subst IsAnswer (sym is) tt) in absurd (usage_not_refused e);
+  absent_text = λ is. let e : ends.Absent ≡ ends.Usage = sym is ∙ usage (subst IsAnswerStatus (sym is) tt) in absurd (usage_not_absent e);
+  absent = λ is. let e : ends.Absent ≡ ends.Usage = sym is ∙ usage (subst IsAnswerStatus (sym is) tt) in cc;
+  refused = λ is. let e : ends.Refused ≡ ends.Usage = sym is ∙ usage (subst IsAnswerStatus (sym is) tt) in absurd (usage_not_refused e);
   read_fault = λ is. absurd (reads is);
   write_fault = λ is. inr (writes is);
   out_fault = λ o e is. inr (same ∙ ap (λ w. with_files w old.told) (ap writes_of (same_Some _ _ e)));
@@ -244,12 +244,12 @@ run_none answer old new same usage prints reads writes untouched = record {
   usage_not_diverged e = cc
 
 -- the same of words that come to that
-pub run_same : {command said : Option Command} {old new : Outside} {answer : Status} → command ≡ said → Run command old new answer → Run said old new answer
-run_same {old = old} {new = new} {answer = answer} is run = subst (λ k. Run k old new answer) is run
+pub run_same : {command said : Option Command} {old new : Outside} {answer : Status} → command ≡ said → CommandRun command old new answer → CommandRun said old new answer
+run_same {old = old} {new = new} {answer = answer} is run = subst (λ k. CommandRun k old new answer) is run
 
 -- a run that ended for want of memory before anything was read
 pub run_stopped : RecordingsAgree → (command : Option Command) (old new : Outside) → new.told ≡ old.told → new.taken ≡ old.taken
-    → Untouched old.left new.left old.input_faults new.input_faults → Run command old new ends.NoMemory
+    → Untouched old.left new.left old.input_faults new.input_faults → CommandRun command old new ends.NoMemory
 run_stopped agree command old new same silent untouched = record {
   usage = record { only = λ is. absurd cc; always = λ none h. absurd h };
   diverged = λ is. absurd cc;

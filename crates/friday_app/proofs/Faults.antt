@@ -11,8 +11,8 @@ use Rattle.friday_app.specs.declared.refusal.Reason.{Reason}
 use Rattle.friday_app.specs.declared.refusal.Reason.TheVariants as reason
 use Rattle.friday_app.specs.declared.refusal.Refusal.{Refusal}
 use Rattle.friday_app.specs.declared.refusal.Refusal.TheVariants as refusal
-use Rattle.friday_app.specs.Call.{Names, StopsAs}
-use Rattle.friday_app.specs.Inputs.{valid_or}
+use Rattle.friday_app.specs.Call.{RefusesFile, StopsAs}
+use Rattle.friday_app.specs.Inputs.{valid_module}
 use Rattle.friday_app.specs.Fault.{fault_of, reason_of}
 
 module _ (exact : ExactFault) where
@@ -40,7 +40,7 @@ module _ (exact : ExactFault) where
   no_start m first = caused_by m invalid.NoStart (λ e. absurd cc) first
 
 -- what is refused so is what is expected
-pub fault_stops : (name : List ℕ) (m : Module) (why : Reason) (r : Refusal) → fault_of m ≡ Some why → Names name why r → StopsAs (valid_or name m) r
+pub fault_stops : (name : List ℕ) (m : Module) (why : Reason) (r : Refusal) → fault_of m ≡ Some why → RefusesFile name why r → StopsAs (valid_module name m) r
 fault_stops name m why (refusal.Refused file found) is (named, same) = rw (is, named, same) refl
 fault_stops name m why refusal.NoMemory is named = tt
 fault_stops name m why other is named = absurd named

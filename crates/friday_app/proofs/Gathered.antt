@@ -3,26 +3,26 @@ use Rattle.std.proofs.Common.{◌≡◌, ℕ, Bool, List, Option, Some, option_m
 use Rattle.fri_outside.specs.Outside.{Store, WhenTold}
 use Rattle.wasm_types.specs.Modules.{Module}
 use Rattle.schedule_text.specs.Schedule.{Schedule}
-use Rattle.group_record.specs.Answer.{begun}
+use Rattle.group_record.specs.Answer.{first_states}
 use Rattle.friday_app.specs.declared.refusal.Answer.{Answer}
 use Rattle.friday_app.specs.declared.refusal.Refusal.{Refusal}
 use Rattle.friday_app.specs.declared.refusal.Refusal.TheVariants as refusal
 use Rattle.friday_app.specs.Expected.{group_outcome, modules_of, record_outcome, schedule_in}
-use Rattle.friday_app.specs.Outcome.{Outcome, Stop, and_then, writes_of}
-use Rattle.friday_app.specs.Call.{Makes, StopsAs, Tells}
+use Rattle.friday_app.specs.Outcome.{CommandOutcome, Stop, and_then, writes_of}
+use Rattle.friday_app.specs.Call.{Makes, StopsAs, TellsOutcome}
 use Rattle.friday_app.specs.Seen.{Gathers}
 use Rattle.friday_app.proofs.Made.{outcome_at, stops_make, stops_tell}
 
 -- what gathering says at a refusal
-pub refused_tells : (f : Store → Outcome) (told : Option Store) (e : Refusal) → WhenTold told (λ store. StopsAs (f store) e) → (o : Outcome) → option_map f told ≡ Some o → Tells o (Err e)
+pub refused_tells : (f : Store → CommandOutcome) (told : Option Store) (e : Refusal) → WhenTold told (λ store. StopsAs (f store) e) → (o : CommandOutcome) → option_map f told ≡ Some o → TellsOutcome o (Err e)
 refused_tells f told e stops o is =
     let h = outcome_at f told o is in
-    subst (λ (o : Outcome). Tells o (Err e)) (sym h.2) (stops_tell (f h.0) e (stops h.0 h.1))
+    subst (λ (o : CommandOutcome). TellsOutcome o (Err e)) (sym h.2) (stops_tell (f h.0) e (stops h.0 h.1))
 
-pub refused_makes : (f : Store → Outcome) (told after : Option Store) (e : Refusal) → WhenTold told (λ store. StopsAs (f store) e) → after ≡ told → (o : Outcome) → option_map f told ≡ Some o → Makes (Err e) (writes_of o) told after
+pub refused_makes : (f : Store → CommandOutcome) (told after : Option Store) (e : Refusal) → WhenTold told (λ store. StopsAs (f store) e) → after ≡ told → (o : CommandOutcome) → option_map f told ≡ Some o → Makes (Err e) (writes_of o) told after
 refused_makes f told after e stops same o is =
     let h = outcome_at f told o is in
-    subst (λ (o : Outcome). Makes (Err e) (writes_of o) told after) (sym h.2) (stops_make (f h.0) e told after (stops h.0 h.1) same)
+    subst (λ (o : CommandOutcome). Makes (Err e) (writes_of o) told after) (sym h.2) (stops_make (f h.0) e told after (stops h.0 h.1) same)
 
 pub stops_then : {A B : Type 0} (r : Result A Stop) (next : A → Result B Stop) (e : Refusal) → StopsAs r e → StopsAs (and_then r next) e
 stops_then r next (refusal.Refused file why) is = ap (λ r. and_then r next) is
@@ -36,27 +36,27 @@ pub schedule_stops : (store : Store) (images : Bool) (name : List ℕ) (e : Refu
 schedule_stops store images name e stops = stops_then (schedule_in store name) _ e stops
 
 modules_next : (store : Store) (images : Bool) (name : List ℕ) (schedule : Schedule) → schedule_in store name ≡ Ok schedule
-    → record_outcome images name store ≡ and_then (modules_of store schedule.processes) (λ modules. group_outcome images name schedule (begun schedule modules))
+    → record_outcome images name store ≡ and_then (modules_of store schedule.processes) (λ modules. group_outcome images name schedule (first_states schedule modules))
 modules_next store images name schedule read =
-    ap (λ (r : Result Schedule Stop). and_then r (λ schedule. and_then (modules_of store schedule.processes) (λ modules. group_outcome images name schedule (begun schedule modules)))) read
+    ap (λ (r : Result Schedule Stop). and_then r (λ schedule. and_then (modules_of store schedule.processes) (λ modules. group_outcome images name schedule (first_states schedule modules)))) read
 
 -- a module of a schedule was refused
 pub modules_stop : (store : Store) (images : Bool) (name : List ℕ) (schedule : Schedule) (e : Refusal) → schedule_in store name ≡ Ok schedule → StopsAs (modules_of store schedule.processes) e → StopsAs (record_outcome images name store) e
 modules_stop store images name schedule e read stops =
-    subst (λ (o : Outcome). StopsAs o e) (sym (modules_next store images name schedule read)) (stops_then (modules_of store schedule.processes) _ e stops)
+    subst (λ (o : CommandOutcome). StopsAs o e) (sym (modules_next store images name schedule read)) (stops_then (modules_of store schedule.processes) _ e stops)
 
 -- a schedule and its modules are recorded
 pub gathered : (store : Store) (images : Bool) (name : List ℕ) (schedule : Schedule) (modules : List Module) → Gathers store name schedule modules
-    → record_outcome images name store ≡ group_outcome images name schedule (begun schedule modules)
+    → record_outcome images name store ≡ group_outcome images name schedule (first_states schedule modules)
 gathered store images name schedule modules g =
     modules_next store images name schedule g.spelled
-    ∙ ap (λ (r : Result (List Module) Stop). and_then r (λ modules. group_outcome images name schedule (begun schedule modules))) g.found
+    ∙ ap (λ (r : Result (List Module) Stop). and_then r (λ modules. group_outcome images name schedule (first_states schedule modules))) g.found
 
 -- what their recording makes
 pub group_makes : (told middle after : Option Store) (images : Bool) (name : List ℕ) (schedule : Schedule) (modules : List Module) (result : Result Answer Refusal) → WhenTold told (λ store. Gathers store name schedule modules)
-    → middle ≡ told → Makes result (writes_of (group_outcome images name schedule (begun schedule modules))) middle after
-    → (o : Outcome) → option_map (record_outcome images name) told ≡ Some o → Makes result (writes_of o) told after
+    → middle ≡ told → Makes result (writes_of (group_outcome images name schedule (first_states schedule modules))) middle after
+    → (o : CommandOutcome) → option_map (record_outcome images name) told ≡ Some o → Makes result (writes_of o) told after
 group_makes told middle after images name schedule modules result gathers same makes o is =
     let h = outcome_at (record_outcome images name) told o is in
-    subst (λ (o : Outcome). Makes result (writes_of o) told after) (sym (h.2 ∙ gathered h.0 images name schedule modules (gathers h.0 h.1)))
-    (subst (λ (t : Option Store). Makes result (writes_of (group_outcome images name schedule (begun schedule modules))) t after) same makes)
+    subst (λ (o : CommandOutcome). Makes result (writes_of o) told after) (sym (h.2 ∙ gathered h.0 images name schedule modules (gathers h.0 h.1)))
+    (subst (λ (t : Option Store). Makes result (writes_of (group_outcome images name schedule (first_states schedule modules))) t after) same makes)

@@ -11,19 +11,19 @@ use Rattle.group_record.specs.declared.error.RecordError.{RecordError}
 use Rattle.group_record.specs.declared.error.RecordError.TheVariants as errors
 use Rattle.group_record.specs.declared.summary.Summary.{Summary}
 use Rattle.group_record.specs.declared.summary.SummaryLine.{SummaryLine}
-use Rattle.group_record.specs.Answer.{Answers, StoppedWhere, IsSummary, begun, group_of, lines_from}
+use Rattle.group_record.specs.Answer.{RecordAnswers, StoppedWhere, IsSummary, first_states, group_of, summary_lines}
 use Rattle.group_record.specs.Files.{Between, InImages, IsStopped}
-use Rattle.group_record.specs.Images.{images_of, part_of, images as all_images}
+use Rattle.group_record.specs.Images.{images_of, made_in_part, images as all_images}
 use Rattle.group_record.specs.Logs.{logs}
 use Rattle.group_record.specs.Run.{Group, Progress, run}
 use Rattle.friday_app.specs.declared.refusal.Answer.TheVariants as answered
 use Rattle.friday_app.specs.declared.refusal.Reason.TheVariants as reason
 use Rattle.friday_app.specs.declared.refusal.Refusal.{Refusal}
 use Rattle.friday_app.specs.declared.refusal.Refusal.TheVariants as refusal
-use Rattle.friday_app.specs.Call.{Makes, Tells}
+use Rattle.friday_app.specs.Call.{Makes, TellsOutcome}
 use Rattle.friday_app.specs.Expected.{group_outcome}
 use Rattle.friday_app.specs.Outcome.{Refuses, nothing_done, writes_of}
-use Rattle.friday_app.specs.Record.{by_room, recorded_work, run_outcome, summary_text, written_before}
+use Rattle.friday_app.specs.Record.{outcome_by_room, recorded_work, run_outcome, summary_text, written_before}
 use Rattle.friday_app.specs.Seen.{RefusesAs}
 use Rattle.friday_app.proofs.Made.{all_changes, same_changes}
 use Rattle.friday_app.proofs.Modules.{fails_within}
@@ -45,7 +45,7 @@ full_writes images group done item full =
     sym (append-nil (logs group done.steps)) ∙ ap (λ (files : List (List ℕ × List ℕ)). logs group done.steps ++ files) (sym (no_images images group done item full))
 
 -- whether or not a log is full, all logs are written, and behind them the images
-writes_by_room : (images : Bool) (name : List ℕ) (group : Group) (done : Progress) (full : Option ℕ) → done.full ≡ full → writes_of (by_room images name group done full) ≡ logs group done.steps ++ images_of images group done
+writes_by_room : (images : Bool) (name : List ℕ) (group : Group) (done : Progress) (full : Option ℕ) → done.full ≡ full → writes_of (outcome_by_room images name group done full) ≡ logs group done.steps ++ images_of images group done
 writes_by_room images name group done None room = refl
 writes_by_room images name group done (Some item) full = full_writes images group done item full
 
@@ -65,45 +65,45 @@ same_text : (images : Bool) (group : Group) (done : Progress) (summary : Summary
     → summary_text summary.lines.items summary.acted summary.idle ≡ (recorded_work images group done).text
 same_text images group done summary told =
     ap (λ (lines : List SummaryLine). summary_text lines summary.acted summary.idle) told.lines
-    ∙ ap (λ (acted : ℕ). summary_text (lines_from group done.steps 0 group.names) acted summary.idle) told.acted
-    ∙ ap (λ (idle : ℕ). summary_text (lines_from group done.steps 0 group.names) (length done.steps) idle) told.idle
+    ∙ ap (λ (acted : ℕ). summary_text (summary_lines group done.steps 0 group.names) acted summary.idle) told.acted
+    ∙ ap (λ (idle : ℕ). summary_text (summary_lines group done.steps 0 group.names) (length done.steps) idle) told.idle
 
-pub done_tells : (images : Bool) (name : List ℕ) (schedule : Schedule) (states : Result (List State) ℕ) (summary : Summary) (text : List ℕ) (before after : Option Store) → Answers schedule images states (Ok summary) before after
-    → text ≡ summary_text summary.lines.items summary.acted summary.idle → Tells (group_outcome images name schedule states) (Ok (answered.Done text))
+pub done_tells : (images : Bool) (name : List ℕ) (schedule : Schedule) (states : Result (List State) ℕ) (summary : Summary) (text : List ℕ) (before after : Option Store) → RecordAnswers schedule images states (Ok summary) before after
+    → text ≡ summary_text summary.lines.items summary.acted summary.idle → TellsOutcome (group_outcome images name schedule states) (Ok (answered.Done text))
 done_tells images name schedule states summary text before after (first, is, done) printed =
     let group = group_of schedule first in
     let progress = run_of schedule first in (
       recorded_work images group progress,
-      of_states images name schedule states first is ∙ ap (by_room images name group progress) done.room,
+      of_states images name schedule states first is ∙ ap (outcome_by_room images name group progress) done.room,
       printed ∙ same_text images group progress summary done.summary,
       refl,
     )
 
-pub done_makes : (images : Bool) (name : List ℕ) (schedule : Schedule) (states : Result (List State) ℕ) (summary : Summary) (before after : Option Store) → Answers schedule images states (Ok summary) before after
+pub done_makes : (images : Bool) (name : List ℕ) (schedule : Schedule) (states : Result (List State) ℕ) (summary : Summary) (before after : Option Store) → RecordAnswers schedule images states (Ok summary) before after
     → after ≡ with_files (writes_of (group_outcome images name schedule states)) before
 done_makes images name schedule states summary before after (first, is, done) =
     done.files ∙ ap (λ (files : List (List ℕ × List ℕ)). with_files files before) (writes_at images name schedule states first is)
 
 -- the same where there was no memory for the text
-pub done_changes : (images : Bool) (name : List ℕ) (schedule : Schedule) (states : Result (List State) ℕ) (summary : Summary) (before after : Option Store) → Answers schedule images states (Ok summary) before after
+pub done_changes : (images : Bool) (name : List ℕ) (schedule : Schedule) (states : Result (List State) ℕ) (summary : Summary) (before after : Option Store) → RecordAnswers schedule images states (Ok summary) before after
     → ChangesOnly before (writes_of (group_outcome images name schedule states)) after
 done_changes images name schedule states summary before after answers = all_changes _ before after (done_makes images name schedule states summary before after answers)
 
 -- ---- it was not
 
-full_tells : (images : Bool) (name : List ℕ) (schedule : Schedule) (states : Result (List State) ℕ) (item : ℕ) (file : List ℕ) (before after : Option Store) → Answers schedule images states (Err (errors.LogFull item)) before after → file ≡ name
+full_tells : (images : Bool) (name : List ℕ) (schedule : Schedule) (states : Result (List State) ℕ) (item : ℕ) (file : List ℕ) (before after : Option Store) → RecordAnswers schedule images states (Err (errors.LogFull item)) before after → file ≡ name
     → (done : _) × (group_outcome images name schedule states ≡ Err (Refuses file (reason.LogFull item) done)) × (done.text ≡ [])
 full_tells images name schedule states item file before after (first, is, full) named =
     let group = group_of schedule first in
     let progress = run_of schedule first in (
       written_before group progress,
-      of_states images name schedule states first is ∙ ap (by_room images name group progress) full.full
+      of_states images name schedule states first is ∙ ap (outcome_by_room images name group progress) full.full
           ∙ ap (λ (f : List ℕ). Err (Refuses f (reason.LogFull item) (written_before group progress))) (sym named),
       refl,
     )
 
-pub error_tells : (images : Bool) (name : List ℕ) (schedule : Schedule) (states : Result (List State) ℕ) (error : RecordError) (e : Refusal) (before after : Option Store) → Answers schedule images states (Err error) before after → RefusesAs name schedule error e
-    → Tells (group_outcome images name schedule states) (Err e)
+pub error_tells : (images : Bool) (name : List ℕ) (schedule : Schedule) (states : Result (List State) ℕ) (error : RecordError) (e : Refusal) (before after : Option Store) → RecordAnswers schedule images states (Err error) before after → RefusesAs name schedule error e
+    → TellsOutcome (group_outcome images name schedule states) (Err e)
 error_tells images name schedule states (errors.BadSegment p) (refusal.Refused file why) before after answers (named, is) =
     (nothing_done, rw (named, is) (ap (group_outcome images name schedule) answers.0), refl)
 error_tells images name schedule states (errors.BadSegment p) refusal.NoMemory before after answers named = tt
@@ -112,8 +112,8 @@ error_tells images name schedule states (errors.LogFull item) (refusal.Refused f
     rw is (full_tells images name schedule states item _ before after answers named)
 error_tells images name schedule states (errors.LogFull item) refusal.NoMemory before after answers named = tt
 error_tells images name schedule states (errors.LogFull item) other before after answers named = absurd named
-error_tells images name schedule states errors.WriteFault e before after answers is = subst (λ (r : Refusal). Tells (group_outcome images name schedule states) (Err r)) (sym is) tt
-error_tells images name schedule states errors.NoMemory e before after answers is = subst (λ (r : Refusal). Tells (group_outcome images name schedule states) (Err r)) (sym is) tt
+error_tells images name schedule states errors.WriteFault e before after answers is = subst (λ (r : Refusal). TellsOutcome (group_outcome images name schedule states) (Err r)) (sym is) tt
+error_tells images name schedule states errors.NoMemory e before after answers is = subst (λ (r : Refusal). TellsOutcome (group_outcome images name schedule states) (Err r)) (sym is) tt
 
 where_changes : KeepsFiles → (images : Bool) (name : List ℕ) (schedule : Schedule) (states : Result (List State) ℕ) (before after : Option Store) → StoppedWhere schedule images states before after
     → ChangesOnly before (writes_of (group_outcome images name schedule states)) after
@@ -122,13 +122,13 @@ where_changes keeps images name schedule (Ok first) before after stopped =
     subst (λ (files : List (List ℕ × List ℕ)). ChangesOnly before files after) (sym (group_writes images name schedule first))
     (stopped_changes keeps (group_of schedule first) (run_of schedule first).steps (images_of images (group_of schedule first) (run_of schedule first)) before after stopped)
 
-full_makes : (images : Bool) (name : List ℕ) (schedule : Schedule) (states : Result (List State) ℕ) (item : ℕ) (before after : Option Store) → Answers schedule images states (Err (errors.LogFull item)) before after
+full_makes : (images : Bool) (name : List ℕ) (schedule : Schedule) (states : Result (List State) ℕ) (item : ℕ) (before after : Option Store) → RecordAnswers schedule images states (Err (errors.LogFull item)) before after
     → after ≡ with_files (writes_of (group_outcome images name schedule states)) before
 full_makes images name schedule states item before after (first, is, full) =
     full.files ∙ ap (λ (files : List (List ℕ × List ℕ)). with_files files before)
     (full_writes images (group_of schedule first) (run_of schedule first) item full.full ∙ writes_at images name schedule states first is)
 
-pub error_makes : KeepsFiles → (images : Bool) (name : List ℕ) (schedule : Schedule) (states : Result (List State) ℕ) (error : RecordError) (e : Refusal) (before after : Option Store) → Answers schedule images states (Err error) before after → RefusesAs name schedule error e
+pub error_makes : KeepsFiles → (images : Bool) (name : List ℕ) (schedule : Schedule) (states : Result (List State) ℕ) (error : RecordError) (e : Refusal) (before after : Option Store) → RecordAnswers schedule images states (Err error) before after → RefusesAs name schedule error e
     → Makes (Err e) (writes_of (group_outcome images name schedule states)) before after
 error_makes keeps images name schedule states (errors.BadSegment p) (refusal.Refused file why) before after answers named =
     answers.1 ∙ ap (λ (files : List (List ℕ × List ℕ)). with_files files before) (sym (ap writes_of (ap (group_outcome images name schedule) answers.0)))
@@ -149,11 +149,11 @@ at_first : (images : Bool) (schedule : Schedule) (states : Result (List State) �
 at_first images schedule states first before after is stopped = subst (λ (s : Result (List State) ℕ). StoppedWhere schedule images s before after) (sym is) stopped
 
 -- all of these files are a part of them
-whole_part : (files : List (List ℕ × List ℕ)) → files ≡ part_of files (length files) 0
+whole_part : (files : List (List ℕ × List ℕ)) → files ≡ made_in_part files (length files) 0
 whole_part [] = refl
 whole_part (file ∷ files) = ap (λ (rest : List (List ℕ × List ℕ)). file ∷ rest) (whole_part files)
 
-pub answer_stops : (images : Bool) (schedule : Schedule) (states : Result (List State) ℕ) (result : Result Summary RecordError) (before after : Option Store) → Answers schedule images states result before after → StoppedWhere schedule images states before after
+pub answer_stops : (images : Bool) (schedule : Schedule) (states : Result (List State) ℕ) (result : Result Summary RecordError) (before after : Option Store) → RecordAnswers schedule images states result before after → StoppedWhere schedule images states before after
 answer_stops images schedule states (Ok summary) before after (first, is, done) =
     let files = images_of images (group_of schedule first) (run_of schedule first) in
     at_first images schedule states first before after is
@@ -164,9 +164,9 @@ answer_stops images schedule states (Err errors.WriteFault) before after stopped
 answer_stops images schedule states (Err errors.NoMemory) before after stopped = stopped
 
 -- a process that does not begin is one of the schedule's
-pub refuses_within : (images : Bool) (schedule : Schedule) (modules : List Module) (error : RecordError) (before after : Option Store) → Answers schedule images (begun schedule modules) (Err error) before after → length modules ≡ length schedule.processes
+pub refuses_within : (images : Bool) (schedule : Schedule) (modules : List Module) (error : RecordError) (before after : Option Store) → RecordAnswers schedule images (first_states schedule modules) (Err error) before after → length modules ≡ length schedule.processes
     → (p : ℕ) → error ≡ errors.BadSegment p → p < length schedule.processes
 refuses_within images schedule modules error before after answers many p is =
-    let refused = subst (λ (e : RecordError). Answers schedule images (begun schedule modules) (Err e) before after) is answers in
+    let refused = subst (λ (e : RecordError). RecordAnswers schedule images (first_states schedule modules) (Err e) before after) is answers in
     let within = fails_within (length schedule.processes) 0 p modules refused.0 in
     omega (arith, within, many)

@@ -14,11 +14,11 @@ use Rattle.friday_shell.specs.Points.{SessionState}
 use Rattle.friday_shell.specs.Session.{answers, ends, opening, session_text, whole_lines}
 use Rattle.friday_app.specs.declared.converse.Ended.{Ended}
 use Rattle.friday_app.specs.declared.converse.Ended.TheVariants as cause
-use Rattle.friday_app.specs.Conversation.{Asks, IsTaken}
+use Rattle.friday_app.specs.Conversation.{Asks, TakesOfInput}
 use Rattle.friday_app.specs.Debug.{early_lines, is_large, session_outcome}
 use Rattle.friday_app.specs.Limits.{most_input}
-use Rattle.friday_app.specs.Outcome.{text_of}
-use Rattle.friday_app.specs.Talk.{Breaks, Concludes, GoesOn, Holds, PrintsPart, Said, SaysSome, Spoke, Stands, Stops, StopsAt, StopsIn, after, ended_by}
+use Rattle.friday_app.specs.Outcome.{outcome_text}
+use Rattle.friday_app.specs.Talk.{Breaks, Concludes, GoesOn, PrintsPart, Said, SaysSome, SessionHolds, SessionStands, Spoke, Stops, StopsAtPiece, StopsIn, ended_by}
 use Rattle.friday_app.proofs.WholeLines.{few_lines-open, lines_of-open, session_more}
 use Rattle.friday_app.proofs.Talking.{append_twice, fits_short, overruns_more, part_more, quits_more, take_front}
 
@@ -33,13 +33,13 @@ stops_more start printed now taken more cause.NoMemory s = part_more start print
 
 pub goes_on_none : (now : Option (List ℕ)) (state : SessionState) (begun : List ℕ) (count : ℕ) → GoesOn [] now now state begun count state begun count
 unfolding GoesOn
-goes_on_none now state begun count = λ start printed taken s. subst (Stands start printed now state begun count) (sym (append-nil taken)) s
+goes_on_none now state begun count = λ start printed taken s. subst (SessionStands start printed now state begun count) (sym (append-nil taken)) s
 
 pub goes_on_more : (a b : List ℕ) (before mid now : Option (List ℕ)) (state : SessionState) (begun : List ℕ) (count : ℕ) (state1 : SessionState) (begun1 : List ℕ) (count1 : ℕ) (state2 : SessionState) (begun2 : List ℕ) (count2 : ℕ)
     → GoesOn a before mid state begun count state1 begun1 count1 → GoesOn b mid now state1 begun1 count1 state2 begun2 count2 → GoesOn (a ++ b) before now state begun count state2 begun2 count2
 unfolding GoesOn
 goes_on_more a b before mid now state begun count state1 begun1 count1 state2 begun2 count2 first second = λ start printed taken s.
-    subst (Stands start printed now state2 begun2 count2) (append_assoc taken a b) (second start printed (taken ++ a) (first start printed taken s))
+    subst (SessionStands start printed now state2 begun2 count2) (append_assoc taken a b) (second start printed (taken ++ a) (first start printed taken s))
 
 pub stops_later : (a b more : List ℕ) (before mid now : Option (List ℕ)) (state : SessionState) (begun : List ℕ) (count : ℕ) (state1 : SessionState) (begun1 : List ℕ) (count1 : ℕ) (why : Ended)
     → GoesOn a before mid state begun count state1 begun1 count1 → StopsIn b mid now state1 begun1 count1 why → StopsIn ((a ++ b) ++ more) before now state begun count why
@@ -66,16 +66,16 @@ rose_earlier before mid now later rose = omega (arith, rose)
 
 -- ---- pieces
 
-pub taken_more : (left mid after : Option (List ℕ)) (a b : List ℕ) → WhenTold left (λ input. IsTaken input mid a) → WhenTold mid (λ input. IsTaken input after b) → WhenTold left (λ input. IsTaken input after (a ++ b))
+pub taken_more : (left mid after : Option (List ℕ)) (a b : List ℕ) → WhenTold left (λ input. TakesOfInput input mid a) → WhenTold mid (λ input. TakesOfInput input after b) → WhenTold left (λ input. TakesOfInput input after (a ++ b))
 taken_more left mid after a b first second = λ input told.
     let f = first input told in
     let s = second f.rest f.left in
     record { rest = s.rest; left = s.left; whole = f.whole ∙ ap (λ (l : List ℕ). a ++ l) s.whole ∙ sym (append_assoc a b s.rest) }
 
-pub taken_none : (left : Option (List ℕ)) → WhenTold left (λ input. IsTaken input left [])
+pub taken_none : (left : Option (List ℕ)) → WhenTold left (λ input. TakesOfInput input left [])
 taken_none left = λ input told. record { rest = input; left = told; whole = refl }
 
-pub stops_at : (start : List Replaying) (printed now : Option (List ℕ)) (taken : List ℕ) (why : Ended) → Stops start printed now taken why → StopsAt start printed now taken why
+pub stops_at : (start : List Replaying) (printed now : Option (List ℕ)) (taken : List ℕ) (why : Ended) → Stops start printed now taken why → StopsAtPiece start printed now taken why
 stops_at start printed now taken cause.Done s = s
 stops_at start printed now taken cause.TooLarge s = s
 stops_at start printed now taken cause.ReadFault s = absurd s
@@ -85,7 +85,7 @@ stops_at start printed now taken cause.NoMemory s = s
 -- ---- a session that stopped at a piece
 
 -- what was said is said of the input that the source told
-pub said_of : (start : List Replaying) (printed now : Option (List ℕ)) (taken rest input : List ℕ) (why : Ended) → input ≡ taken ++ rest → StopsAt start printed now taken why → Said start printed now taken input why
+pub said_of : (start : List Replaying) (printed now : Option (List ℕ)) (taken rest input : List ℕ) (why : Ended) → input ≡ taken ++ rest → StopsAtPiece start printed now taken why → Said start printed now taken input why
 said_of start printed now taken rest input cause.Done e q = record {
   fits = ap (is_large start) e ∙ q.fits rest;
   text = q.text rest ∙ ap (λ (l : List ℕ). append_known printed (session_text start (lines_of l))) (sym e);
@@ -95,11 +95,11 @@ said_of start printed now taken rest input cause.TooLarge e o =
     (ap (is_large start) e ∙ o.large rest, o.text rest ∙ ap (λ (l : List ℕ). append_known printed (session_text start (early_lines l))) (sym e))
 said_of start printed now taken rest input cause.ReadFault e p = p
 said_of start printed now taken rest input cause.WriteFault e p =
-    let f = p rest in (f.0, f.1 ∙ ap (λ (l : List ℕ). append_known printed (take f.0 (text_of (session_outcome start l)))) (sym e))
+    let f = p rest in (f.0, f.1 ∙ ap (λ (l : List ℕ). append_known printed (take f.0 (outcome_text (session_outcome start l)))) (sym e))
 said_of start printed now taken rest input cause.NoMemory e p =
-    let f = p rest in (f.0, f.1 ∙ ap (λ (l : List ℕ). append_known printed (take f.0 (text_of (session_outcome start l)))) (sym e))
+    let f = p rest in (f.0, f.1 ∙ ap (λ (l : List ℕ). append_known printed (take f.0 (outcome_text (session_outcome start l)))) (sym e))
 
-large_said : (start : List Replaying) (printed now : Option (List ℕ)) (taken : List ℕ) (why : Ended) → StopsAt start printed now taken why → why ≡ cause.TooLarge → (earlier : List ℕ) × (now ≡ append_known printed earlier)
+large_said : (start : List Replaying) (printed now : Option (List ℕ)) (taken : List ℕ) (why : Ended) → StopsAtPiece start printed now taken why → why ≡ cause.TooLarge → (earlier : List ℕ) × (now ≡ append_known printed earlier)
 large_said start printed now taken cause.Done s is = absurd cc
 large_said start printed now taken cause.TooLarge s is = (session_text start (early_lines (taken ++ [])), s.text [])
 large_said start printed now taken cause.ReadFault s is = absurd cc
@@ -107,8 +107,8 @@ large_said start printed now taken cause.WriteFault s is = absurd cc
 large_said start printed now taken cause.NoMemory s is = absurd cc
 
 pub holds_broken : (start : List Replaying) (printed now : Option (List ℕ)) (earlier : List ℕ) (left mid after : Option (List ℕ)) (size : ℕ) (why : Ended)
-    → WhenTold left (λ input. IsTaken input mid earlier) → ends (opening start) (whole_lines earlier) ≡ false → size ≤ 4096 → length earlier + size ≤ most_input + 1
-    → Breaks start printed now earlier mid after size why → Holds start left after printed now why
+    → WhenTold left (λ input. TakesOfInput input mid earlier) → ends (opening start) (whole_lines earlier) ≡ false → size ≤ 4096 → length earlier + size ≤ most_input + 1
+    → Breaks start printed now earlier mid after size why → SessionHolds start left after printed now why
 holds_broken start printed now earlier left mid after size why read on short within b =
     let whole = taken_more left mid after earlier b.piece read b.read in
     record {
@@ -121,7 +121,7 @@ holds_broken start printed now earlier left mid after size why read on short wit
 
 -- ---- a session at the end of its input
 
-module _ (start : List Replaying) (printed mid now : Option (List ℕ)) (state : SessionState) (begun : List ℕ) (count : ℕ) (taken : List ℕ) (s : Stands start printed mid state begun count taken) where
+module _ (start : List Replaying) (printed mid now : Option (List ℕ)) (state : SessionState) (begun : List ℕ) (count : ℕ) (taken : List ℕ) (s : SessionStands start printed mid state begun count taken) where
   within : length taken ≤ most_input
   within = omega (arith, s.count_is, s.within)
 
@@ -135,7 +135,7 @@ module _ (start : List Replaying) (printed mid now : Option (List ℕ)) (state :
   text_is = ap (session_text start) lines ∙ session_more start (whole_lines taken) (take 1 (lines_of begun)) s.goes_on
       ∙ ap (λ (p : SessionState). session_text start (whole_lines taken) ++ answers p (take 1 (lines_of begun))) (sym s.state_is)
 
-  whole_is : text_of (session_outcome start taken) ≡ session_text start (lines_of taken)
+  whole_is : outcome_text (session_outcome start taken) ≡ session_text start (lines_of taken)
   whole_is = rw fits refl
 
   concludes : (input : List ℕ) → input ≡ taken → now ≡ append_known mid (answers state (take 1 (lines_of begun))) → Concludes start printed now taken input
@@ -155,7 +155,7 @@ module _ (start : List Replaying) (printed mid now : Option (List ℕ)) (state :
         p.1 ∙ ap (λ (k : Option (List ℕ)). append_known k (take p.0 told)) s.text
             ∙ append_twice printed said (take p.0 told)
             ∙ ap (append_known printed) (sym (take-append-add said told p.0) ∙ ap (take (length said + p.0)) (sym (whole_is ∙ text_is)))
-            ∙ ap (λ (l : List ℕ). append_known printed (take (length said + p.0) (text_of (session_outcome start l)))) (sym e),
+            ∙ ap (λ (l : List ℕ). append_known printed (take (length said + p.0) (outcome_text (session_outcome start l)))) (sym e),
       )
 
   said_all : (input : List ℕ) → input ≡ taken → (printed_all : now ≡ append_known mid (answers state (take 1 (lines_of begun)))) → Said start printed now taken input cause.Done
@@ -175,11 +175,11 @@ module _ (start : List Replaying) (printed mid now : Option (List ℕ)) (state :
   never_large cause.WriteFault spoke is = absurd cc
   never_large cause.NoMemory spoke is = absurd cc
 
-  module _ (left left_after : Option (List ℕ)) (read : WhenTold left (λ input. IsTaken input left_after taken)) (last : WhenTold left (λ input. input ≡ taken)) where
+  module _ (left left_after : Option (List ℕ)) (read : WhenTold left (λ input. TakesOfInput input left_after taken)) (last : WhenTold left (λ input. input ≡ taken)) where
     asks : Asks start taken
     asks = record { earlier = taken; piece = []; parts = sym (append-nil taken); short = omega arith; within = omega (arith, within); goes_on = s.goes_on }
 
-    pub holds_all : now ≡ append_known mid (answers state (take 1 (lines_of begun))) → Holds start left left_after printed now cause.Done
+    pub holds_all : now ≡ append_known mid (answers state (take 1 (lines_of begun))) → SessionHolds start left left_after printed now cause.Done
     holds_all spoke = record {
       taken = taken;
       asks = asks;
@@ -188,7 +188,7 @@ module _ (start : List Replaying) (printed mid now : Option (List ℕ)) (state :
       large = λ is. absurd cc;
     }
 
-    pub holds_error : (why : Ended) → Spoke state (take 1 (lines_of begun)) mid now (Err why) → Holds start left left_after printed now why
+    pub holds_error : (why : Ended) → Spoke state (take 1 (lines_of begun)) mid now (Err why) → SessionHolds start left left_after printed now why
     holds_error why spoke = record {
       taken = taken;
       asks = asks;

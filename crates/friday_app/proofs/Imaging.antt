@@ -9,10 +9,10 @@ use Rattle.fri_outside.specs.declared.files.WriteError.{WriteError}
 use Rattle.fri_outside.specs.declared.files.WriteError.TheVariants as writing
 use Rattle.call_log.specs.Head.{IsHead}
 use Rattle.fri_text.specs.Name.{is_name}
-use Rattle.group_record.specs.Images.{IsPart, image_files, part_of}
+use Rattle.group_record.specs.Images.{AreMadeInPart, image_files, made_in_part}
 use Rattle.proc_replay.specs.Replaying.{Replaying}
 use Rattle.group_state.specs.declared.image.Image.{Image}
-use Rattle.group_state.specs.Image.{image_of, memory_of, printed_of}
+use Rattle.group_state.specs.Image.{image_of, left_memory, left_print}
 use Rattle.friday_app.specs.Call.{write_refusal}
 use Rattle.friday_app.specs.Report.{images_in}
 use Rattle.friday_app.specs.Seen.{MakesAll}
@@ -20,7 +20,7 @@ use Rattle.friday_app.proofs.Stopped.{fronts_behind, fronts_of_more, part_fronts
 
 -- the two files of a process
 abbrev pub files_of : Replaying → List (List ℕ × List ℕ)
-files_of r = image_files r.head.name (memory_of r) (printed_of r)
+files_of r = image_files r.head.name (left_memory r) (left_print r)
 
 -- ---- the process of a node
 
@@ -57,7 +57,7 @@ own_files start node name memory printed image named leaves has prints =
       is = n.is;
       own = ap (λ (name : List ℕ). image_files name memory printed) n.named
           ∙ ap (λ (memory : List ℕ). image_files n.replay.head.name memory printed) (has ∙ ap (λ (i : Image). i.memory) n.leaves)
-          ∙ ap (λ (printed : List ℕ). image_files n.replay.head.name (memory_of n.replay) printed) (prints ∙ ap (λ (i : Image). i.printed) n.leaves);
+          ∙ ap (λ (printed : List ℕ). image_files n.replay.head.name (left_memory n.replay) printed) (prints ∙ ap (λ (i : Image). i.printed) n.leaves);
     }
 
 head_of_node : (start : List Replaying) (node : ℕ) (r : Replaying) → All (λ r. IsHead r.head) start → slice_get start node ≡ Some r → IsHead r.head
@@ -115,11 +115,11 @@ first_made keeps start node before mid so_far =
     (subst (AreFronts (first ++ [])) (sym (images_before start node)) (fronts_behind first [] rest (no_fronts rest))))
 
 part_of_own : KeepsFiles → (start : List Replaying) (node : ℕ) (r : Replaying) (before mid after : Option Store) → slice_get start node ≡ Some r → mid ≡ with_files (images_in (take node start)) before
-    → IsPart (files_of r) mid after → ChangesOnly before (images_in start) after
+    → AreMadeInPart (files_of r) mid after → ChangesOnly before (images_in start) after
 part_of_own keeps start node r before mid after is so_far (inl same) = first_made keeps start node before after (same ∙ so_far)
 part_of_own keeps start node r before mid after is so_far (inr (n, m, made)) =
     let first = images_in (take node start) in
-    let part = part_of (files_of r) n m in
+    let part = made_in_part (files_of r) n m in
     let rest = images_in (drop (suc node) start) in
     let all : after ≡ with_files (first ++ part) before = made ∙ ap (with_files part) so_far ∙ sym (with_more first part before) in
     subst (λ (t : Option Store). ChangesOnly before (images_in start) t) (sym all)
@@ -129,9 +129,9 @@ part_of_own keeps start node r before mid after is so_far (inr (n, m, made)) =
 
 -- and a part of the next one's
 pub part_made : KeepsFiles → (start : List Replaying) (node : ℕ) (files : List (List ℕ × List ℕ)) (before mid after : Option Store) → AreOwn start node files → mid ≡ with_files (images_in (take node start)) before
-    → IsPart files mid after → ChangesOnly before (images_in start) after
+    → AreMadeInPart files mid after → ChangesOnly before (images_in start) after
 part_made keeps start node files before mid after a so_far part =
-    part_of_own keeps start node a.replay before mid after a.is so_far (subst (λ (f : List (List ℕ × List ℕ)). IsPart f mid after) a.own part)
+    part_of_own keeps start node a.replay before mid after a.is so_far (subst (λ (f : List (List ℕ × List ℕ)). AreMadeInPart f mid after) a.own part)
 
 -- a failed write makes some of them
 pub failed_makes : (error : WriteError) (files : List (List ℕ × List ℕ)) (before after : Option Store) → ChangesOnly before files after → MakesAll (Err (write_refusal error)) files before after

@@ -11,9 +11,9 @@ use Rattle.friday_shell.specs.Points.{SessionState}
 use Rattle.friday_shell.specs.Session.{opening}
 use Rattle.friday_app.specs.declared.converse.Ended.{Ended}
 use Rattle.friday_app.specs.declared.converse.Ended.TheVariants as cause
-use Rattle.friday_app.specs.Conversation.{IsTaken}
+use Rattle.friday_app.specs.Conversation.{TakesOfInput}
 use Rattle.friday_app.specs.Limits.{most_input}
-use Rattle.friday_app.specs.Talk.{BreaksFrom, Fails, GoesOn, HearsFrom, Held, HoldsFrom, Opens, OpensPart, ReadsOn, SaysPart, Spoke, Stands, StopsAt, StopsIn, ended_by}
+use Rattle.friday_app.specs.Talk.{BreaksFrom, FailsAtOpening, GoesOn, HearsFrom, Held, HoldsFrom, Opens, OpensPart, ReadsOn, SaysPart, SessionStands, Spoke, StopsAtPiece, StopsIn, ended_by}
 use Rattle.friday_app.proofs.Hearing.{holds_all, holds_broken, holds_error, stops_at, taken_more, taken_none}
 use Rattle.friday_app.proofs.Talking.{append_none, part_of}
 
@@ -24,7 +24,7 @@ err_read why is = cc
 
 -- a piece that was read and taken
 pub hears : (before now : Option (List ℕ)) (state : SessionState) (begun : List ℕ) (count : ℕ) (new : SessionState) (new_begun : List ℕ) (new_count : ℕ) (left after : Option (List ℕ)) (piece : List ℕ) (more : Bool)
-    → WhenTold left (λ input. IsTaken input after piece) → GoesOn piece before now state begun count new new_begun new_count → (more ≡ false → (piece ≡ []) × WhenTold left (λ input. input ≡ []))
+    → WhenTold left (λ input. TakesOfInput input after piece) → GoesOn piece before now state begun count new new_begun new_count → (more ≡ false → (piece ≡ []) × WhenTold left (λ input. input ≡ []))
     → HearsFrom before now state begun count new new_begun new_count left after more
 unfolding GoesOn HearsFrom
 hears before now state begun count new new_begun new_count left after piece more read goes last = λ start printed taken s.
@@ -32,7 +32,7 @@ hears before now state begun count new new_begun new_count left after piece more
 
 -- a session that stopped in the piece
 pub breaks_in : (before now : Option (List ℕ)) (state : SessionState) (begun : List ℕ) (count : ℕ) (left after : Option (List ℕ)) (piece : List ℕ) (size : ℕ) (why : Ended)
-    → length piece ≤ size → WhenTold left (λ input. IsTaken input after piece) → StopsIn piece before now state begun count why → BreaksFrom before now state begun count left after size why
+    → length piece ≤ size → WhenTold left (λ input. TakesOfInput input after piece) → StopsIn piece before now state begun count why → BreaksFrom before now state begun count left after size why
 unfolding StopsIn BreaksFrom
 breaks_in before now state begun count left after piece size why short read stops = λ start printed taken s.
     record { piece = piece; short = short; read = read; stops = stops_at start printed now (taken ++ piece) why (stops.1 start printed taken s) }
@@ -48,16 +48,16 @@ breaks_read now state begun count left after size same = λ start printed taken 
     record {
       piece = [];
       short = omega arith;
-      read = subst (λ (l : Option (List ℕ)). WhenTold left (λ input. IsTaken input l [])) (sym same) (taken_none left);
-      stops = subst (λ (l : List ℕ). StopsAt start printed now l cause.ReadFault) (sym (append-nil taken)) (record { text = s.text; goes_on = s.goes_on; within = omega (arith, s.count_is, s.within) });
+      read = subst (λ (l : Option (List ℕ)). WhenTold left (λ input. TakesOfInput input l [])) (sym same) (taken_none left);
+      stops = subst (λ (l : List ℕ). StopsAtPiece start printed now l cause.ReadFault) (sym (append-nil taken)) (record { text = s.text; goes_on = s.goes_on; within = omega (arith, s.count_is, s.within) });
     }
 
 -- ---- piece after piece
 
 unfoldable pub ListensFrom : Option (List ℕ) → Option (List ℕ) → SessionState → List ℕ → ℕ → SessionState → List ℕ → ℕ → Option (List ℕ) → Option (List ℕ) → Type 0
 ListensFrom before now state begun count new new_begun new_count left after =
-    (start : List Replaying) (printed : Option (List ℕ)) → Stands start printed before state begun count []
-    → (taken : List ℕ) × (Stands start printed now new new_begun new_count taken × WhenTold left (λ input. IsTaken input after taken))
+    (start : List Replaying) (printed : Option (List ℕ)) → SessionStands start printed before state begun count []
+    → (taken : List ℕ) × (SessionStands start printed now new new_begun new_count taken × WhenTold left (λ input. TakesOfInput input after taken))
 
 pub listens_none : (now : Option (List ℕ)) (state : SessionState) (begun : List ℕ) (count : ℕ) (left : Option (List ℕ)) → ListensFrom now now state begun count state begun count left left
 unfolding ListensFrom
@@ -84,7 +84,7 @@ module _ (before mid : Option (List ℕ)) (state : SessionState) (begun : List �
 
   module _ (now : Option (List ℕ)) (state2 : SessionState) (begun2 : List ℕ) (count2 : ℕ) (after : Option (List ℕ)) (more : Bool) (none : more ≡ false)
       (heard : HearsFrom mid now state1 begun1 count1 state2 begun2 count2 left1 after more) (end : Option (List ℕ)) where
-    last_told : (taken piece : List ℕ) → WhenTold left (λ input. IsTaken input left1 taken) → (piece ≡ []) × WhenTold left1 (λ input. input ≡ []) → WhenTold left (λ input. input ≡ taken ++ piece)
+    last_told : (taken piece : List ℕ) → WhenTold left (λ input. TakesOfInput input left1 taken) → (piece ≡ []) × WhenTold left1 (λ input. input ≡ []) → WhenTold left (λ input. input ≡ taken ++ piece)
     last_told taken piece read last = λ input told.
         let f = read input told in
         f.whole ∙ ap (λ (l : List ℕ). taken ++ l) (last.1 f.rest f.left ∙ sym last.0)
@@ -133,7 +133,7 @@ opens_memory start printed = (part_opened start printed printed 0 (sym (append_n
 
 pub opens_read : (start : List Replaying) (printed now : Option (List ℕ)) (why : Ended) → OpensPart start printed now why → why ≡ cause.ReadFault → ⊥
 unfolding OpensPart
-opens_read start printed now why part is = subst Fails is part.1
+opens_read start printed now why part is = subst FailsAtOpening is part.1
 
 -- ---- the whole session
 
@@ -142,7 +142,7 @@ pub held : (start : List Replaying) (printed mid now : Option (List ℕ)) (state
 unfolding Opens HoldsFrom Held
 held start printed mid now state begun count left after why opened holds = holds start printed opened
 
-stops_unopened : (start : List Replaying) (printed now : Option (List ℕ)) (why : Ended) → SaysPart start printed now [] → Fails why → StopsAt start printed now [] why
+stops_unopened : (start : List Replaying) (printed now : Option (List ℕ)) (why : Ended) → SaysPart start printed now [] → FailsAtOpening why → StopsAtPiece start printed now [] why
 stops_unopened start printed now cause.Done part fails = absurd fails
 stops_unopened start printed now cause.TooLarge part fails = absurd fails
 stops_unopened start printed now cause.ReadFault part fails = absurd fails

@@ -11,10 +11,10 @@ use Rattle.friday_app.specs.declared.pairs.Loaded.{Loaded as LoadedFiles}
 use Rattle.friday_app.specs.declared.refusal.Refusal.{Refusal}
 use Rattle.friday_app.specs.Call.{StopsAs}
 use Rattle.friday_app.specs.Command.{Pair}
-use Rattle.friday_app.specs.Inputs.{head_or, log_of, module_of}
+use Rattle.friday_app.specs.Inputs.{log_in, log_or_bad_head, module_in}
 use Rattle.friday_app.specs.Outcome.{Stop, and_then, file_of}
-use Rattle.friday_app.specs.Pairs.{Loaded, all_loaded, clash, loaded, unless_clash}
-use Rattle.friday_app.specs.Seen.{AreApart, AreLoaded, IsLoaded, pair_of}
+use Rattle.friday_app.specs.Pairs.{Loaded, clash, loaded_pair, loaded_pairs, unless_clash}
+use Rattle.friday_app.specs.Seen.{AreLoaded, AreOneGroup, IsLoaded, pair_of}
 use Rattle.friday_app.proofs.Clashing.{apart_more}
 use Rattle.friday_app.proofs.Gathered.{stops_then}
 
@@ -24,14 +24,14 @@ use Rattle.friday_app.proofs.Gathered.{stops_then}
 abbrev pub read_as : Pair → Module → Head × List ℕ → Loaded
 read_as pair m log = record { module_name = pair.module_name; «module» = m; head = log.0; left = log.1 }
 
-head_found : (name bytes : List ℕ) (log : Head × List ℕ) → head_or name (head_at bytes) ≡ Ok log → head_at bytes ≡ Some log
+head_found : (name bytes : List ℕ) (log : Head × List ℕ) → log_or_bad_head name (head_at bytes) ≡ Ok log → head_at bytes ≡ Some log
 head_found name bytes log is = found (head_at bytes) is where
-  found : (o : Option (Head × List ℕ)) → head_or name o ≡ Ok log → o ≡ Some log
+  found : (o : Option (Head × List ℕ)) → log_or_bad_head name o ≡ Ok log → o ≡ Some log
   found None is = cc
   found (Some l) is = cc
 
 -- a pair with these bytes, this head and these parts of it holds that
-pub is_loaded : (x : LoadedFiles) (pair : Pair) (bytes : List ℕ) (log : Head × List ℕ) (head : LogHead) → x.module_file.now ≡ pair.module_name → bytes ≡ x.log.items → head_or pair.log_name (head_at bytes) ≡ Ok log
+pub is_loaded : (x : LoadedFiles) (pair : Pair) (bytes : List ℕ) (log : Head × List ℕ) (head : LogHead) → x.module_file.now ≡ pair.module_name → bytes ≡ x.log.items → log_or_bad_head pair.log_name (head_at bytes) ≡ Ok log
     → IsHead log.0 → head_of head ≡ log.0 → x.count ≡ head.count → x.process ≡ head.process → x.name ≡ head.name.now → IsLoaded x (read_as pair (shown x.«module») log)
 is_loaded x pair bytes log head named held found in_range is count process name = record {
   name = named;
@@ -44,24 +44,24 @@ is_loaded x pair bytes log head named held found in_range is count process name 
 }
 
 -- from the module on
-module_read : (store : Store) (ls : List Loaded) (pair : Pair) (m : Module) → module_of store pair.module_name ≡ Ok m
-    → loaded store ls pair ≡ and_then (log_of store pair.log_name) (λ log. unless_clash pair.log_name (read_as pair m log) (clash ls log.0))
+module_read : (store : Store) (ls : List Loaded) (pair : Pair) (m : Module) → module_in store pair.module_name ≡ Ok m
+    → loaded_pair store ls pair ≡ and_then (log_in store pair.log_name) (λ log. unless_clash pair.log_name (read_as pair m log) (clash ls log.0))
 module_read store ls pair m is =
-    ap (λ (r : Result Module Stop). and_then r (λ m. and_then (log_of store pair.log_name) (λ log. unless_clash pair.log_name (read_as pair m log) (clash ls log.0)))) is
+    ap (λ (r : Result Module Stop). and_then r (λ m. and_then (log_in store pair.log_name) (λ log. unless_clash pair.log_name (read_as pair m log) (clash ls log.0)))) is
 
-log_is : (store : Store) (name bytes : List ℕ) (log : Head × List ℕ) → file_of store name most_log ≡ Ok bytes → head_or name (head_at bytes) ≡ Ok log → log_of store name ≡ Ok log
-log_is store name bytes log read head = ap (λ (r : Result (List ℕ) Stop). and_then r (λ bytes. head_or name (head_at bytes))) read ∙ head
+log_is : (store : Store) (name bytes : List ℕ) (log : Head × List ℕ) → file_of store name most_log ≡ Ok bytes → log_or_bad_head name (head_at bytes) ≡ Ok log → log_in store name ≡ Ok log
+log_is store name bytes log read head = ap (λ (r : Result (List ℕ) Stop). and_then r (λ bytes. log_or_bad_head name (head_at bytes))) read ∙ head
 
 -- a pair whose files stand, and whose log does not clash
-pub pair_stands : (store : Store) (ls : List Loaded) (pair : Pair) (m : Module) (log : Head × List ℕ) → module_of store pair.module_name ≡ Ok m → log_of store pair.log_name ≡ Ok log → clash ls log.0 ≡ None
-    → loaded store ls pair ≡ Ok (read_as pair m log)
+pub pair_stands : (store : Store) (ls : List Loaded) (pair : Pair) (m : Module) (log : Head × List ℕ) → module_in store pair.module_name ≡ Ok m → log_in store pair.log_name ≡ Ok log → clash ls log.0 ≡ None
+    → loaded_pair store ls pair ≡ Ok (read_as pair m log)
 pair_stands store ls pair m log is stands none =
     module_read store ls pair m is
     ∙ ap (λ (r : Result (Head × List ℕ) Stop). and_then r (λ log. unless_clash pair.log_name (read_as pair m log) (clash ls log.0))) stands
     ∙ ap (unless_clash pair.log_name (read_as pair m log)) none
 
-pub pair_read : (store : Store) (ls : List Loaded) (pair : Pair) (m : Module) (bytes : List ℕ) (log : Head × List ℕ) → module_of store pair.module_name ≡ Ok m → file_of store pair.log_name most_log ≡ Ok bytes
-    → head_or pair.log_name (head_at bytes) ≡ Ok log → clash ls log.0 ≡ None → loaded store ls pair ≡ Ok (read_as pair m log)
+pub pair_read : (store : Store) (ls : List Loaded) (pair : Pair) (m : Module) (bytes : List ℕ) (log : Head × List ℕ) → module_in store pair.module_name ≡ Ok m → file_of store pair.log_name most_log ≡ Ok bytes
+    → log_or_bad_head pair.log_name (head_at bytes) ≡ Ok log → clash ls log.0 ≡ None → loaded_pair store ls pair ≡ Ok (read_as pair m log)
 pair_read store ls pair m bytes log is read head none = pair_stands store ls pair m log is (log_is store pair.log_name bytes log read head) none
 
 -- ---- pair after pair
@@ -76,14 +76,14 @@ loaded_more (y ∷ xs) [] x l all one = absurd all
 pub record SoFar (store : Store) (pairs left : List PairOfWords) (xs : List LoadedFiles) : Type 0 where
   pub held : List Loaded
   pub are : AreLoaded xs held
-  pub wanted : all_loaded store [] (map pair_of pairs) ≡ all_loaded store held (map pair_of left)
+  pub wanted : loaded_pairs store [] (map pair_of pairs) ≡ loaded_pairs store held (map pair_of left)
 
 -- the pairs before some others were read
 pub record AreRead (told : Option Store) (pairs left : List PairOfWords) (xs : List LoadedFiles) : Type 0 where
   pub so_far : WhenTold told (λ store. SoFar store pairs left xs)
   pub held : List Loaded
   pub are : AreLoaded xs held
-  pub apart : AreApart xs
+  pub apart : AreOneGroup xs
 
 pub none_read : (told : Option Store) (pairs : List PairOfWords) → AreRead told pairs pairs []
 none_read told pairs = record {
@@ -95,7 +95,7 @@ none_read told pairs = record {
 
 -- what reading a further pair gives
 abbrev pub Reads : Store → PairOfWords → List LoadedFiles → LoadedFiles → Type 0
-Reads store pair xs x = (ls : List Loaded) → AreLoaded xs ls → (is : Loaded) × ((loaded store ls (pair_of pair) ≡ Ok is) × IsLoaded x is)
+Reads store pair xs x = (ls : List Loaded) → AreLoaded xs ls → (is : Loaded) × ((loaded_pair store ls (pair_of pair) ≡ Ok is) × IsLoaded x is)
 
 abbrev pub FitsBehind : List LoadedFiles → LoadedFiles → Type 0
 FitsBehind xs x = (ls : List Loaded) → AreLoaded xs ls → (is : Loaded) × (IsLoaded x is × (clash ls is.head ≡ None))
@@ -106,7 +106,7 @@ so_far_more store pairs left pair xs x so reads =
     record {
       held = so.held ++ one.0 ∷ [];
       are = loaded_more xs so.held x one.0 so.are one.1.1;
-      wanted = so.wanted ∙ ap (λ (r : Result Loaded Stop). and_then r (λ l. all_loaded store (so.held ++ l ∷ []) (map pair_of left))) one.1.0;
+      wanted = so.wanted ∙ ap (λ (r : Result Loaded Stop). and_then r (λ l. loaded_pairs store (so.held ++ l ∷ []) (map pair_of left))) one.1.0;
     }
 
 pub one_read : (told : Option Store) (pairs before left : List PairOfWords) (pair : PairOfWords) (xs after : List LoadedFiles) (x : LoadedFiles) → AreRead told pairs before xs → before ≡ pair ∷ left
@@ -122,14 +122,14 @@ one_read told pairs before left pair xs after x read next reads fits pushed =
 
 -- a pair was refused
 pub reading_stops : (told : Option Store) (pairs before left : List PairOfWords) (pair : PairOfWords) (xs : List LoadedFiles) (e : Refusal) → AreRead told pairs before xs → before ≡ pair ∷ left
-    → WhenTold told (λ store. (ls : List Loaded) → AreLoaded xs ls → StopsAs (loaded store ls (pair_of pair)) e) → WhenTold told (λ store. StopsAs (all_loaded store [] (map pair_of pairs)) e)
+    → WhenTold told (λ store. (ls : List Loaded) → AreLoaded xs ls → StopsAs (loaded_pair store ls (pair_of pair)) e) → WhenTold told (λ store. StopsAs (loaded_pairs store [] (map pair_of pairs)) e)
 reading_stops told pairs before left pair xs e read next stops store is =
     let so = read.so_far store is in
-    subst (λ (r : Result (List Loaded) Stop). StopsAs r e) (sym (so.wanted ∙ ap (λ (ps : List PairOfWords). all_loaded store so.held (map pair_of ps)) next))
-    (stops_then (loaded store so.held (pair_of pair)) _ e (stops store is so.held so.are))
+    subst (λ (r : Result (List Loaded) Stop). StopsAs r e) (sym (so.wanted ∙ ap (λ (ps : List PairOfWords). loaded_pairs store so.held (map pair_of ps)) next))
+    (stops_then (loaded_pair store so.held (pair_of pair)) _ e (stops store is so.held so.are))
 
 pub all_read : (told : Option Store) (pairs left : List PairOfWords) (xs : List LoadedFiles) → AreRead told pairs left xs → left ≡ []
-    → WhenTold told (λ store. (ls : List Loaded) × ((all_loaded store [] (map pair_of pairs) ≡ Ok ls) × AreLoaded xs ls))
+    → WhenTold told (λ store. (ls : List Loaded) × ((loaded_pairs store [] (map pair_of pairs) ≡ Ok ls) × AreLoaded xs ls))
 all_read told pairs left xs read none store is =
     let so = read.so_far store is in
-    (so.held, (so.wanted ∙ ap (λ (ps : List PairOfWords). all_loaded store so.held (map pair_of ps)) none, so.are))
+    (so.held, (so.wanted ∙ ap (λ (ps : List PairOfWords). loaded_pairs store so.held (map pair_of ps)) none, so.are))

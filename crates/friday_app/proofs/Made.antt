@@ -16,8 +16,8 @@ use Rattle.friday_app.specs.Agreement.{KeepsMoment, KeepsRecording, LeavesMoment
 use Rattle.friday_app.specs.Command.{Command, Pair, Record, Replay}
 use Rattle.friday_app.specs.declared.refusal.Refusal.{Refusal}
 use Rattle.friday_app.specs.declared.refusal.Refusal.TheVariants as refusal
-use Rattle.friday_app.specs.Outcome.{Outcome, nothing_done, writes_of}
-use Rattle.friday_app.specs.Call.{DivergesOnlyIn, Makes, StopsAs, Tells}
+use Rattle.friday_app.specs.Outcome.{CommandOutcome, nothing_done, writes_of}
+use Rattle.friday_app.specs.Call.{DivergesOnlyIn, Makes, StopsAs, TellsOutcome}
 
 -- what did not change at all changed these files only
 pub same_changes : (before after : Option Store) (files : List (List ℕ × List ℕ)) → after ≡ before → ChangesOnly before files after
@@ -106,20 +106,20 @@ changes_others files before after changes = record {
   stays old new name out (inr (bytes, among, part)) = absurd (out (name_among (files old) (name, bytes) among))
 
 -- whatever it comes to, the names of the files that it was to make alone changed
-pub makes_others : (f : Store → Outcome) (before after : Option Store) (ended : Result Answer Refusal) → ((o : Outcome) → option_map f before ≡ Some o → Makes ended (writes_of o) before after)
+pub makes_others : (f : Store → CommandOutcome) (before after : Option Store) (ended : Result Answer Refusal) → ((o : CommandOutcome) → option_map f before ≡ Some o → Makes ended (writes_of o) before after)
     → OthersStay (λ store. map (λ file. file.0) (writes_of (f store))) before after
 makes_others f before after ended makes =
     changes_others (λ store. writes_of (f store)) before after (λ store is. makes_changes ended _ before after (makes (f store) (ap (option_map f) is)))
 
 -- a refusal that a command stops at tells its outcome, and no file was to be made
-pub stops_tell : (o : Outcome) (e : Refusal) → StopsAs o e → Tells o (Err e)
+pub stops_tell : (o : CommandOutcome) (e : Refusal) → StopsAs o e → TellsOutcome o (Err e)
 stops_tell o (refusal.Refused file why) is = (nothing_done, is, refl)
 stops_tell o (refusal.Absent file) is = is
 stops_tell o refusal.ReadFault is = tt
 stops_tell o refusal.WriteFault is = tt
 stops_tell o refusal.NoMemory is = tt
 
-pub stops_make : (o : Outcome) (e : Refusal) (before after : Option Store) → StopsAs o e → after ≡ before → Makes (Err e) (writes_of o) before after
+pub stops_make : (o : CommandOutcome) (e : Refusal) (before after : Option Store) → StopsAs o e → after ≡ before → Makes (Err e) (writes_of o) before after
 stops_make o (refusal.Refused file why) before after is same = same ∙ sym (ap (λ f. with_files f before) (ap writes_of is))
 stops_make o (refusal.Absent file) before after is same = same ∙ sym (ap (λ f. with_files f before) (ap writes_of is))
 stops_make o refusal.ReadFault before after is same = same_changes before after (writes_of o) same
@@ -127,7 +127,7 @@ stops_make o refusal.WriteFault before after is same = same_changes before after
 stops_make o refusal.NoMemory before after is same = same_changes before after (writes_of o) same
 
 -- the outcome of a command over a store that is told
-pub outcome_at : (f : Store → Outcome) (told : Option Store) (o : Outcome) → option_map f told ≡ Some o → (store : Store) × (told ≡ Some store) × (o ≡ f store)
+pub outcome_at : (f : Store → CommandOutcome) (told : Option Store) (o : CommandOutcome) → option_map f told ≡ Some o → (store : Store) × (told ≡ Some store) × (o ≡ f store)
 outcome_at f None o e = cc
 outcome_at f (Some store) o e = (store, refl, sym (same_Some _ _ e))
 

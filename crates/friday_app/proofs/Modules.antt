@@ -13,12 +13,12 @@ use Rattle.wasm_validate.specs.declared.invalid.Invalid.TheVariants.{HasFloat, B
 use Rattle.guest_process.specs.Start.{start}
 use Rattle.guest_process.specs.State.{State}
 use Rattle.schedule_text.specs.declared.process.ProcessLine.{ProcessLine}
-use Rattle.group_record.specs.Answer.{begun_from, begun_then}
+use Rattle.group_record.specs.Answer.{first_states_from, with_first_state}
 use Rattle.friday_app.specs.declared.refusal.Reason.{Reason}
 use Rattle.friday_app.specs.declared.refusal.Refusal.{Refusal}
 use Rattle.friday_app.specs.Call.{StopsAs}
 use Rattle.friday_app.specs.Expected.{modules_of}
-use Rattle.friday_app.specs.Inputs.{module_of, spelled_or, unless_refused, valid_or}
+use Rattle.friday_app.specs.Inputs.{module_in, module_unless_refused, spelled_module, valid_module}
 use Rattle.friday_app.specs.Fault.{fault_of, reason_of}
 use Rattle.friday_app.specs.Limits.{most_module}
 use Rattle.friday_app.specs.Outcome.{Stop, and_then, file_of}
@@ -60,14 +60,14 @@ no_fault_found : (m : Module) → fault_of m ≡ None → fault m ≡ None
 unfolding fault_of fault
 no_fault_found m none = no_reason (is_with_floats m) _ _ (is_over_limit m) (has_no_start m) none
 
-passed : (name : List ℕ) (m given : Module) (why : Option Reason) → unless_refused name m why ≡ Ok given → (why ≡ None) × (m ≡ given)
+passed : (name : List ℕ) (m given : Module) (why : Option Reason) → module_unless_refused name m why ≡ Ok given → (why ≡ None) × (m ≡ given)
 passed name m given None is = (refl, ap (value_or m) is)
 passed name m given (Some why) is = cc
 
-pub module_valid : ExactFault → (store : Store) (name : List ℕ) (m : Module) → module_of store name ≡ Ok m → IsValid m
+pub module_valid : ExactFault → (store : Store) (name : List ℕ) (m : Module) → module_in store name ≡ Ok m → IsValid m
 module_valid exact store name m is =
     let bytes = follows (file_of store name most_module) _ m is in
-    let spelled = follows (spelled_or name (module_of_bytes bytes.given)) (valid_or name) m bytes.comes in
+    let spelled = follows (spelled_module name (module_of_bytes bytes.given)) (valid_module name) m bytes.comes in
     let p = passed name spelled.given m (fault_of spelled.given) spelled.comes in
     subst IsValid p.1 ((exact.none spelled.given).0 (no_fault_found spelled.given p.0))
 
@@ -88,7 +88,7 @@ no_module k d below = absurd (omega (arith, below))
 pub modules_valid : ExactFault → (store : Store) (lines : List ProcessLine) (ms : List Module) → modules_of store lines ≡ Ok ms → AreModules lines ms
 modules_valid exact store [] ms is = subst (AreModules []) (ap (value_or []) is) (record { count = refl; valid = no_module })
 modules_valid exact store (line ∷ lines) ms is =
-    let first = follows (module_of store line.«module») _ ms is in
+    let first = follows (module_in store line.«module») _ ms is in
     let rest = follows (modules_of store lines) _ ms first.comes in
     let known = modules_valid exact store lines rest.given rest.is_given in
     subst (AreModules (line ∷ lines)) (ap (value_or []) rest.comes) (record {
@@ -102,16 +102,16 @@ abbrev number_or : {A : Type 0} → ℕ → Result A ℕ → ℕ
 number_or default (Ok value) = default
 number_or default (Err p) = p
 
-fails_with : (o : Option State) (q p : ℕ) (rest : Result (List State) ℕ) → begun_then o q rest ≡ Err p → (q ≡ p) ⊎ (rest ≡ Err p)
+fails_with : (o : Option State) (q p : ℕ) (rest : Result (List State) ℕ) → with_first_state o q rest ≡ Err p → (q ≡ p) ⊎ (rest ≡ Err p)
 fails_with None q p rest is = inl (ap (number_or q) is)
 fails_with (Some S) q p (Ok states) is = cc
 fails_with (Some S) q p (Err r) is = inr (ap (λ (n : ℕ). Err n) (ap (number_or r) is))
 
 -- the process that does not begin is one of these
-pub fails_within : (count q p : ℕ) (ms : List Module) → begun_from count q ms ≡ Err p → p < q + length ms
+pub fails_within : (count q p : ℕ) (ms : List Module) → first_states_from count q ms ≡ Err p → p < q + length ms
 fails_within count q p [] is = cc
-fails_within count q p (m ∷ ms) is = within (fails_within count (suc q) p ms) (fails_with (start m q count) q p (begun_from count (suc q) ms) is) where
-  within : (begun_from count (suc q) ms ≡ Err p → p < suc q + length ms) → (q ≡ p) ⊎ (begun_from count (suc q) ms ≡ Err p) → p < q + length (m ∷ ms)
+fails_within count q p (m ∷ ms) is = within (fails_within count (suc q) p ms) (fails_with (start m q count) q p (first_states_from count (suc q) ms) is) where
+  within : (first_states_from count (suc q) ms ≡ Err p → p < suc q + length ms) → (q ≡ p) ⊎ (first_states_from count (suc q) ms ≡ Err p) → p < q + length (m ∷ ms)
   within rest (inl same) = omega (arith, same)
   within rest (inr later) = omega (arith, rest later)
 
@@ -129,15 +129,15 @@ with_one ms m (Ok later) = ap (λ (all : List Module). Ok all) (sym (append_asso
 with_one ms m (Err stop) = refl
 
 -- one module more
-pub one_further : (store : Store) (ms : List Module) (line : ProcessLine) (lines : List ProcessLine) (m : Module) → module_of store line.«module» ≡ Ok m
+pub one_further : (store : Store) (ms : List Module) (line : ProcessLine) (lines : List ProcessLine) (m : Module) → module_in store line.«module» ≡ Ok m
     → prefixed ms (modules_of store (line ∷ lines)) ≡ prefixed (ms ++ m ∷ []) (modules_of store lines)
 one_further store ms line lines m is =
     ap (λ (r : Result Module Stop). prefixed ms (and_then r (λ m. and_then (modules_of store lines) (λ later. Ok (m ∷ later))))) is
     ∙ with_one ms m (modules_of store lines)
 
 -- a module at which there is a stop
-pub one_stops : (store : Store) (ms : List Module) (line : ProcessLine) (lines : List ProcessLine) (e : Refusal) → StopsAs (module_of store line.«module») e → StopsAs (prefixed ms (modules_of store (line ∷ lines))) e
-one_stops store ms line lines e stops = stops_then (modules_of store (line ∷ lines)) _ e (stops_then (module_of store line.«module») _ e stops)
+pub one_stops : (store : Store) (ms : List Module) (line : ProcessLine) (lines : List ProcessLine) (e : Refusal) → StopsAs (module_in store line.«module») e → StopsAs (prefixed ms (modules_of store (line ∷ lines))) e
+one_stops store ms line lines e stops = stops_then (modules_of store (line ∷ lines)) _ e (stops_then (module_in store line.«module») _ e stops)
 
 -- so many of the modules were taken
 pub record AreTaken (told : Option Store) (lines : List ProcessLine) (index : ℕ) (ms : List Module) : Type 0 where
@@ -148,7 +148,7 @@ pub none_taken : (told : Option Store) (lines : List ProcessLine) → AreTaken t
 none_taken told lines = record { count = refl; so_far = λ store is. none_before (modules_of store lines) }
 
 pub one_taken : (told : Option Store) (lines : List ProcessLine) (index : ℕ) (ms : List Module) (line : ProcessLine) (m : Module) → AreTaken told lines index ms → drop index lines ≡ line ∷ drop (index + 1) lines
-    → WhenTold told (λ store. module_of store line.«module» ≡ Ok m) → AreTaken told lines (index + 1) (ms ++ m ∷ [])
+    → WhenTold told (λ store. module_in store line.«module» ≡ Ok m) → AreTaken told lines (index + 1) (ms ++ m ∷ [])
 one_taken told lines index ms line m taken next found = record {
   count = length-append ms (m ∷ []) ∙ ap (λ (n : ℕ). n + 1) taken.count;
   so_far = λ store is.
@@ -157,7 +157,7 @@ one_taken told lines index ms line m taken next found = record {
 }
 
 pub taking_stops : (told : Option Store) (lines : List ProcessLine) (index : ℕ) (ms : List Module) (line : ProcessLine) (e : Refusal) → AreTaken told lines index ms → drop index lines ≡ line ∷ drop (index + 1) lines
-    → WhenTold told (λ store. StopsAs (module_of store line.«module») e) → WhenTold told (λ store. StopsAs (modules_of store lines) e)
+    → WhenTold told (λ store. StopsAs (module_in store line.«module») e) → WhenTold told (λ store. StopsAs (modules_of store lines) e)
 taking_stops told lines index ms line e taken next stops store is =
     subst (λ (r : Result (List Module) Stop). StopsAs r e) (sym (taken.so_far store is ∙ ap (λ (rest : List ProcessLine). prefixed ms (modules_of store rest)) next))
     (one_stops store ms line (drop (index + 1) lines) e (stops store is))

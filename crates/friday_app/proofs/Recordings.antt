@@ -9,7 +9,7 @@ use Rattle.guest_process.specs.State.{State}
 use Rattle.schedule_text.specs.Laws.{GivesSchedules}
 use Rattle.schedule_text.specs.Reading.{Refusal as ScheduleRefusal, BadLineAt, TooManyRuns, schedule_of}
 use Rattle.schedule_text.specs.Schedule.{IsWellFormed, Schedule}
-use Rattle.group_record.specs.Answer.{StoppedWhere, begun}
+use Rattle.group_record.specs.Answer.{StoppedWhere, first_states}
 use Rattle.group_record.specs.Files.{InHeads, IsStopped}
 use Rattle.group_record.specs.Images.{images_of}
 use Rattle.group_record.specs.Laws.{Agreement, Beginning, Delivery}
@@ -19,10 +19,10 @@ use Rattle.friday_app.specs.declared.refusal.Answer.{Answer}
 use Rattle.friday_app.specs.declared.refusal.Refusal.{Refusal}
 use Rattle.friday_app.specs.declared.refusal.Refusal.TheVariants as refusal
 use Rattle.friday_app.specs.Agreement.{IsRecordable, LeavesMoment, LeavesRecording, RecordingsAgree, group_in, run_in, steps_in}
-use Rattle.friday_app.specs.Call.{IsEnd, Makes}
-use Rattle.friday_app.specs.Expected.{group_outcome, modules_of, record_outcome, schedule_in, schedule_or}
+use Rattle.friday_app.specs.Call.{IsAnswerResult, Makes}
+use Rattle.friday_app.specs.Expected.{group_outcome, modules_of, record_outcome, schedule_in, schedule_or_refusal}
 use Rattle.friday_app.specs.Limits.{most_schedule}
-use Rattle.friday_app.specs.Outcome.{Outcome, file_of, writes_of}
+use Rattle.friday_app.specs.Outcome.{CommandOutcome, file_of, writes_of}
 use Rattle.friday_app.specs.Seen.{Gathers}
 use Rattle.friday_app.proofs.Gathered.{gathered}
 use Rattle.friday_app.proofs.Grouped.{group_writes}
@@ -31,8 +31,8 @@ use Rattle.friday_app.proofs.Stopped.{images_are_no_logs, logs_apart, logs_stand
 
 -- ---- a schedule that was read
 
-read_by : (name : List ℕ) (r : Result Schedule ScheduleRefusal) (schedule : Schedule) → schedule_or name r ≡ Ok schedule → r ≡ Ok schedule
-read_by name (Ok s) schedule is = ap (λ (s : Schedule). Ok s) (same_Ok (schedule_or name (Ok s)) s schedule refl is)
+read_by : (name : List ℕ) (r : Result Schedule ScheduleRefusal) (schedule : Schedule) → schedule_or_refusal name r ≡ Ok schedule → r ≡ Ok schedule
+read_by name (Ok s) schedule is = ap (λ (s : Schedule). Ok s) (same_Ok (schedule_or_refusal name (Ok s)) s schedule refl is)
 read_by name (Err (BadLineAt line)) schedule is = cc
 read_by name (Err TooManyRuns) schedule is = cc
 
@@ -77,19 +77,19 @@ moment_before agree told after images name same before is r = (InHeads 0 (λ p. 
 
 -- where the recording was stopped or came to its end
 pub moment_then : RecordingsAgree → (told middle after : Option Store) (images : Bool) (name : List ℕ) (schedule : Schedule) (modules : List Module) → WhenTold told (λ store. Gathers store name schedule modules)
-    → middle ≡ told → StoppedWhere schedule images (begun schedule modules) middle after → WhenTold told (λ before. LeavesMoment images name before after)
+    → middle ≡ told → StoppedWhere schedule images (first_states schedule modules) middle after → WhenTold told (λ before. LeavesMoment images name before after)
 moment_then agree told middle after images name schedule modules gathers same stopped before is r = (here, agree before name r) where
   one : IsOne schedule modules r
   one = one_recording schedule modules (gathers before is) r
 
   here : IsStopped (group_in r) (steps_in r) (images_of images (group_in r) (run_in r)) (Some before) after
   here = subst (λ (s : Result (List State) ℕ). StoppedWhere r.schedule images s (Some before) after) r.begins
-      (subst (λ (m : List Module). StoppedWhere r.schedule images (begun r.schedule m) (Some before) after) one.modules_same
-      (subst (λ (s : Schedule). StoppedWhere s images (begun s modules) (Some before) after) one.schedules
-      (subst (λ (t : Option Store). StoppedWhere schedule images (begun schedule modules) t after) (same ∙ is) stopped)))
+      (subst (λ (m : List Module). StoppedWhere r.schedule images (first_states r.schedule m) (Some before) after) one.modules_same
+      (subst (λ (s : Schedule). StoppedWhere s images (first_states s modules) (Some before) after) one.schedules
+      (subst (λ (t : Option Store). StoppedWhere schedule images (first_states schedule modules) t after) (same ∙ is) stopped)))
 
 -- at an answer the files of the outcome are made
-made_at_end : (result : Result Answer Refusal) (files : List (List ℕ × List ℕ)) (before after : Option Store) → IsEnd result → Makes result files before after → after ≡ with_files files before
+made_at_end : (result : Result Answer Refusal) (files : List (List ℕ × List ℕ)) (before after : Option Store) → IsAnswerResult result → Makes result files before after → after ≡ with_files files before
 made_at_end (Ok answer) files before after end makes = makes
 made_at_end (Err (refusal.Refused file why)) files before after end makes = makes
 made_at_end (Err (refusal.Absent file)) files before after end makes = makes
@@ -104,7 +104,7 @@ recording_writes {store} {name} images r =
     ∙ group_writes images name r.schedule r.first
 
 pub recording_left : KeepsFiles → GivesSchedules → RecordingsAgree → (told after : Option Store) (images : Bool) (name : List ℕ) (result : Result Answer Refusal)
-    → ((o : Outcome) → option_map (record_outcome images name) told ≡ Some o → Makes result (writes_of o) told after) → IsEnd result
+    → ((o : CommandOutcome) → option_map (record_outcome images name) told ≡ Some o → Makes result (writes_of o) told after) → IsAnswerResult result
     → WhenTold told (λ before. WhenTold after (LeavesRecording name before))
 recording_left keeps gives agree told after images name result makes end before is now here r =
     let made = made_at_end result _ told after end (makes (record_outcome images name before) (ap (option_map (record_outcome images name)) is)) in

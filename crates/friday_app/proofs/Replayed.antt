@@ -14,10 +14,10 @@ use Rattle.friday_app.specs.declared.refusal.Answer.TheVariants as answered
 use Rattle.friday_app.specs.declared.refusal.Refusal.{Refusal}
 use Rattle.friday_app.specs.declared.refusal.Refusal.TheVariants as refusal
 use Rattle.friday_app.specs.Command.{Pair}
-use Rattle.friday_app.specs.Call.{Makes, StopsAs, Tells}
+use Rattle.friday_app.specs.Call.{Makes, StopsAs, TellsOutcome}
 use Rattle.friday_app.specs.Expected.{replay_outcome}
-use Rattle.friday_app.specs.Outcome.{Outcome, Stop, and_then, writes_of}
-use Rattle.friday_app.specs.Pairs.{Loaded, WasOpened, all_loaded, all_placed, opened, replays_of}
+use Rattle.friday_app.specs.Outcome.{CommandOutcome, Stop, and_then, writes_of}
+use Rattle.friday_app.specs.Pairs.{Loaded, WasOpened, loaded_pairs, replays_of, replays_of_pairs, sort_replays}
 use Rattle.friday_app.specs.Report.{diverges, images_if, replay_work, report_text}
 use Rattle.friday_app.specs.Seen.{AreLoaded, MakesAll, Says}
 use Rattle.friday_app.proofs.Gathered.{stops_then}
@@ -27,45 +27,45 @@ use Rattle.friday_app.proofs.Made.{outcome_at}
 
 -- no group of replays was opened
 abbrev pub NoneOpened : List Pair → Option Store → Refusal → Type 0
-NoneOpened pairs told e = WhenTold told (λ store. StopsAs (opened store pairs) e)
+NoneOpened pairs told e = WhenTold told (λ store. StopsAs (replays_of_pairs store pairs) e)
 
 -- since some pair could not be read
-pub unread_stops : (pairs : List Pair) (told : Option Store) (e : Refusal) → WhenTold told (λ store. StopsAs (all_loaded store [] pairs) e) → NoneOpened pairs told e
-unread_stops pairs told e stops store is = stops_then (all_loaded store [] pairs) _ e (stops store is)
+pub unread_stops : (pairs : List Pair) (told : Option Store) (e : Refusal) → WhenTold told (λ store. StopsAs (loaded_pairs store [] pairs) e) → NoneOpened pairs told e
+unread_stops pairs told e stops store is = stops_then (loaded_pairs store [] pairs) _ e (stops store is)
 
-pub load_stops : (images : Bool) (pairs : List Pair) (told : Option Store) (e : Refusal) → WhenTold told (λ store. StopsAs (all_loaded store [] pairs) e) → WhenTold told (λ store. StopsAs (replay_outcome images pairs store) e)
-load_stops images pairs told e stops store is = stops_then (opened store pairs) _ e (unread_stops pairs told e stops store is)
+pub load_stops : (images : Bool) (pairs : List Pair) (told : Option Store) (e : Refusal) → WhenTold told (λ store. StopsAs (loaded_pairs store [] pairs) e) → WhenTold told (λ store. StopsAs (replay_outcome images pairs store) e)
+load_stops images pairs told e stops store is = stops_then (replays_of_pairs store pairs) _ e (unread_stops pairs told e stops store is)
 
 -- the pairs were read
 abbrev pub WereLoaded : List Pair → Option Store → List LoadedFiles → Type 0
-WereLoaded pairs told all = WhenTold told (λ store. (ls : List Loaded) × ((all_loaded store [] pairs ≡ Ok ls) × AreLoaded all ls))
+WereLoaded pairs told all = WhenTold told (λ store. (ls : List Loaded) × ((loaded_pairs store [] pairs ≡ Ok ls) × AreLoaded all ls))
 
 -- and a process did not begin
 pub unbegun_stops : (pairs : List Pair) (told : Option Store) (all shown : List LoadedFiles) (e : Refusal) → WereLoaded pairs told all → shown ≡ all → ((ls : List Loaded) → AreLoaded shown ls → StopsAs (replays_of ls) e)
     → NoneOpened pairs told e
 unbegun_stops pairs told all shown e loaded same stops store is =
     let l = loaded store is in
-    subst (λ (r : Result (List Loaded) Stop). StopsAs (and_then r (λ ls. and_then (replays_of ls) (λ rs. Ok (all_placed [] rs)))) e) (sym l.1.0)
+    subst (λ (r : Result (List Loaded) Stop). StopsAs (and_then r (λ ls. and_then (replays_of ls) (λ rs. Ok (sort_replays [] rs)))) e) (sym l.1.0)
     (stops_then (replays_of l.0) _ e (stops l.0 (subst (λ (all : List LoadedFiles). AreLoaded all l.0) (sym same) l.1.1)))
 
 pub begin_stops : (images : Bool) (pairs : List Pair) (told : Option Store) (all shown : List LoadedFiles) (e : Refusal) → WereLoaded pairs told all → shown ≡ all → ((ls : List Loaded) → AreLoaded shown ls → StopsAs (replays_of ls) e)
     → WhenTold told (λ store. StopsAs (replay_outcome images pairs store) e)
 begin_stops images pairs told all shown e loaded same stops store is =
-    stops_then (opened store pairs) _ e (unbegun_stops pairs told all shown e loaded same stops store is)
+    stops_then (replays_of_pairs store pairs) _ e (unbegun_stops pairs told all shown e loaded same stops store is)
 
 -- ---- the replays began
 
 pub begun_opens : (pairs : List Pair) (told : Option Store) (all shown : List LoadedFiles) (start : List Replaying) → WereLoaded pairs told all → shown ≡ all
-    → ((ls : List Loaded) → AreLoaded shown ls → (rs : List Replaying) × ((replays_of ls ≡ Ok rs) × (start ≡ all_placed [] rs))) → WasOpened pairs told start
+    → ((ls : List Loaded) → AreLoaded shown ls → (rs : List Replaying) × ((replays_of ls ≡ Ok rs) × (start ≡ sort_replays [] rs))) → WasOpened pairs told start
 begun_opens pairs told all shown start loaded same begun store is =
     let l = loaded store is in
     let b = begun l.0 (subst (λ (all : List LoadedFiles). AreLoaded all l.0) (sym same) l.1.1) in
-    ap (λ (r : Result (List Loaded) Stop). and_then r (λ ls. and_then (replays_of ls) (λ rs. Ok (all_placed [] rs)))) l.1.0
-    ∙ ap (λ (r : Result (List Replaying) Stop). and_then r (λ rs. Ok (all_placed [] rs))) b.1.0
+    ap (λ (r : Result (List Loaded) Stop). and_then r (λ ls. and_then (replays_of ls) (λ rs. Ok (sort_replays [] rs)))) l.1.0
+    ∙ ap (λ (r : Result (List Replaying) Stop). and_then r (λ rs. Ok (sort_replays [] rs))) b.1.0
     ∙ ap (λ (rs : List Replaying). Ok rs) (sym b.1.1)
 
 pub opened_works : (images : Bool) (pairs : List Pair) (told : Option Store) (start : List Replaying) → WasOpened pairs told start
-    → (o : Outcome) → option_map (replay_outcome images pairs) told ≡ Some o → o ≡ Ok (replay_work images start)
+    → (o : CommandOutcome) → option_map (replay_outcome images pairs) told ≡ Some o → o ≡ Ok (replay_work images start)
 opened_works images pairs told start opens o is =
     let h = outcome_at (replay_outcome images pairs) told o is in
     h.2 ∙ ap (λ (r : Result (List Replaying) Stop). and_then r (λ start. Ok (replay_work images start))) (opens h.0 h.1)
@@ -74,9 +74,9 @@ opened_works images pairs told start opens o is =
 
 -- the images were made, and whatever comes then
 pub replay_makes : (images : Bool) (pairs : List Pair) (told after : Option Store) (start : List Replaying) (result : Result Answer Refusal) → WasOpened pairs told start
-    → Makes result (images_if images start) told after → (o : Outcome) → option_map (replay_outcome images pairs) told ≡ Some o → Makes result (writes_of o) told after
+    → Makes result (images_if images start) told after → (o : CommandOutcome) → option_map (replay_outcome images pairs) told ≡ Some o → Makes result (writes_of o) told after
 replay_makes images pairs told after start result opens makes o here =
-    subst (λ (o : Outcome). Makes result (writes_of o) told after) (sym (opened_works images pairs told start opens o here)) makes
+    subst (λ (o : CommandOutcome). Makes result (writes_of o) told after) (sym (opened_works images pairs told start opens o here)) makes
 
 -- they were not all made
 pub some_made : (e : Refusal) (files : List (List ℕ × List ℕ)) (before after : Option Store) → MakesAll (Err e) files before after → Makes (Err e) files before after
@@ -88,15 +88,15 @@ some_made refusal.NoMemory files before after made = made
 
 -- ---- what is said
 
-says_of : (images : Bool) (start : List Replaying) (o : Outcome) (answer : Answer) → o ≡ Ok (replay_work images start)
-    → Says (replay_work images start).text (replay_work images start).diverged answer → Tells o (Ok answer)
+says_of : (images : Bool) (start : List Replaying) (o : CommandOutcome) (answer : Answer) → o ≡ Ok (replay_work images start)
+    → Says (replay_work images start).text (replay_work images start).diverged answer → TellsOutcome o (Ok answer)
 says_of images start o (answered.Done text) is says = (replay_work images start, is, says.0, says.1)
 says_of images start o (answered.Diverged text) is says = (replay_work images start, is, says.0, says.1)
 
 -- the report was printed
 pub report_tells : (images : Bool) (pairs : List Pair) (told : Option Store) (start : List Replaying) (report : Report) (answer : Answer) → WasOpened pairs told start → IsReport start report
     → Says (report_text report.lines.items (counts_in report)) (diverges report.lines.items) answer
-    → (o : Outcome) → option_map (replay_outcome images pairs) told ≡ Some o → Tells o (Ok answer)
+    → (o : CommandOutcome) → option_map (replay_outcome images pairs) told ≡ Some o → TellsOutcome o (Ok answer)
 report_tells images pairs told start report answer opens is says o here =
     says_of images start o answer (opened_works images pairs told start opens o here)
     (subst (λ (lines : List ReportLine). Says (report_text lines (tally (group_count start) (all_accepted start))) (diverges lines) answer) is.lines

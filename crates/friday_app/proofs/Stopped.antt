@@ -18,9 +18,9 @@ use Rattle.schedule_text.specs.declared.process.ProcessLine.{ProcessLine}
 use Rattle.group_world.specs.History.{Act, History}
 use Rattle.group_world.specs.History as world
 use Rattle.group_record.specs.Files.{IsStopped, InHeads, Between, InEntry, InImages, heads_cut}
-use Rattle.group_record.specs.Images.{images, images_from, images_of, mem_name, out_name, part_of}
+use Rattle.group_record.specs.Images.{images, images_from, images_of, made_in_part, mem_name, out_name}
 use Rattle.group_record.specs.Logs.{files_from, log_name, logs}
-use Rattle.group_record.specs.Run.{Group, Had, IsFront, Progress, Step, act_of, entries, head_of, history, log_of}
+use Rattle.group_record.specs.Run.{Group, Had, IsMoment, Progress, Step, act_of, entries, head_of_log, history, log_of}
 use Rattle.friday_app.specs.Agreement.{LeavesLogs}
 use Rattle.friday_app.proofs.Made.{all_changes}
 
@@ -51,7 +51,7 @@ step_grows : (group : Group) (step : Step) (steps : List Step) (p : ℕ) → IsG
 unfolding IsGrown
 step_grows group step steps p =
     let m = one_more (act_of step) (history steps) p in
-    (encodings m.0, ap (λ (es : List Entry). head_bytes (head_of group p) ++ encodings es) m.1 ∙ log_with (head_bytes (head_of group p)) (entries steps p) m.0)
+    (encodings m.0, ap (λ (es : List Entry). head_bytes (head_of_log group p) ++ encodings es) m.1 ∙ log_with (head_bytes (head_of_log group p)) (entries steps p) m.0)
 
 steps_grow : (group : Group) (later early : List Step) (p : ℕ) → IsGrown (log_of group (later ++ early) p) (log_of group early p)
 unfolding IsGrown
@@ -61,7 +61,7 @@ steps_grow group (step ∷ later) early p =
     let rest = steps_grow group later early p in
     (rest.0 ++ last.0, last.1 ∙ ap (λ (bytes : List ℕ). bytes ++ last.0) rest.1 ∙ append_assoc (log_of group early p) rest.0 last.0)
 
-log_grows : (group : Group) (early steps : List Step) → IsFront early steps → (p : ℕ) → IsGrown (log_of group steps p) (log_of group early p)
+log_grows : (group : Group) (early steps : List Step) → IsMoment early steps → (p : ℕ) → IsGrown (log_of group steps p) (log_of group early p)
 log_grows group early steps (later, is) p = subst (λ (s : List Step). IsGrown (log_of group s p) (log_of group early p)) (sym is) (steps_grow group later early p)
 
 same_number : (p : ℕ) → (p == p) ≡ true
@@ -70,8 +70,8 @@ same_number p = grind arith
 -- the entry of an event stands behind the log
 event_log : (group : Group) (early : List Step) (p : ℕ) (e : Event) → log_of group (Had p e ∷ early) p ≡ log_of group early p ++ encoding e.entry
 event_log group early p e =
-    ap (λ (b : Bool). head_bytes (head_of group p) ++ encodings (world.put_last_if b (entries early p) e.entry)) (same_number p)
-    ∙ log_with (head_bytes (head_of group p)) (entries early p) (e.entry ∷ [])
+    ap (λ (b : Bool). head_bytes (head_of_log group p) ++ encodings (world.put_last_if b (entries early p) e.entry)) (same_number p)
+    ∙ log_with (head_bytes (head_of_log group p)) (entries early p) (e.entry ∷ [])
     ∙ ap (λ (bytes : List ℕ). log_of group early p ++ bytes) (append-nil (encoding e.entry))
 
 -- behind a first part of that entry comes the rest of it, and then what follows
@@ -92,7 +92,7 @@ entry_grows group steps later early p n e is =
 head_grows : (group : Group) (steps : List Step) (cut : ℕ → ℕ) (p : ℕ) → IsGrown (log_of group steps p) (heads_cut group cut p)
 unfolding IsGrown
 head_grows group steps cut p =
-    let head = head_bytes (head_of group p) in (
+    let head = head_bytes (head_of_log group p) in (
       drop (cut p) head ++ encodings (entries steps p),
       ap (λ (bytes : List ℕ). bytes ++ encodings (entries steps p)) (sym (take-append-drop (cut p) head))
           ∙ append_assoc (take (cut p) head) (drop (cut p) head) (encodings (entries steps p)),
@@ -152,7 +152,7 @@ fronts_behind (file ∷ first) files whole fronts zero n bytes at = ([], at ∙ 
 fronts_behind (file ∷ first) files whole fronts (suc place) n bytes at = fronts_behind first files whole fronts place n bytes at
 
 -- a part of these files
-pub part_fronts : (files : List (List ℕ × List ℕ)) (n m : ℕ) → AreFronts (part_of files n m) files
+pub part_fronts : (files : List (List ℕ × List ℕ)) (n m : ℕ) → AreFronts (made_in_part files n m) files
 unfolding IsGrown
 part_fronts [] zero m place name bytes at = cc
 part_fronts [] (suc n) m place name bytes at = cc
@@ -185,7 +185,7 @@ stopped_changes keeps group steps images before after (InEntry early later p n e
       entry = subst (λ (k : ℕ). IsGrown (log_of group steps k) (log_of group early k ++ take n (encoding e.entry))) here (entry_grows group steps later early p n e at)
 stopped_changes keeps group steps images before after (InImages n m is) =
     subst (ChangesOnly before (logs group steps ++ images)) (sym is)
-    (keeps.left before _ _ (fronts_behind (logs group steps) (part_of images n m) images (part_fronts images n m)))
+    (keeps.left before _ _ (fronts_behind (logs group steps) (made_in_part images n m) images (part_fronts images n m)))
 
 -- ---- the whole run's logs
 

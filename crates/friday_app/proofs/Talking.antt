@@ -13,8 +13,8 @@ use Rattle.friday_shell.specs.Session.{answers, ends, opening, session_text, who
 use Rattle.friday_app.specs.declared.refusal.Reason.TheVariants as reason
 use Rattle.friday_app.specs.Debug.{early_lines, input_name, is_large, session_outcome, spoken}
 use Rattle.friday_app.specs.Limits.{most_input}
-use Rattle.friday_app.specs.Outcome.{Outcome, Refuses, refused_line, text_of}
-use Rattle.friday_app.specs.Talk.{PrintsPart, Overruns, Quits, SaysPart, Stands, after}
+use Rattle.friday_app.specs.Outcome.{CommandOutcome, Refuses, outcome_text, refused_line}
+use Rattle.friday_app.specs.Talk.{PrintsPart, Overruns, Quits, SaysPart, SessionStands, state_after_lines}
 use Rattle.friday_app.proofs.WholeLines.{Fronts, FrontsText, after-append, ends-append, has_feed-append, ends_fronts, few_lines-ended, lines_front, session_ended, session_front, session_more, whole_lines-ended, whole_lines-same, whole_lines_front, whole_part-append_none, whole_part-ended}
 
 -- ---- what a sink took
@@ -40,7 +40,7 @@ take_front n front whole f =
 abbrev pub is_large_at : ℕ → List Replaying → List ℕ → Bool
 is_large_at m start input = nat_lt m (length input) && not (ends (opening start) (whole_lines (take m input)))
 
-abbrev pub outcome_at : ℕ → List Replaying → List ℕ → Outcome
+abbrev pub outcome_at : ℕ → List Replaying → List ℕ → CommandOutcome
 outcome_at m start input =
     if is_large_at m start input then Err (Refuses input_name reason.TooLarge (spoken (session_text start (whole_lines (take m input)))))
     else Ok (spoken (session_text start (lines_of input)))
@@ -76,31 +76,31 @@ pub early_at : (m : ℕ) (got more : List ℕ) → length got ≡ m → whole_li
 early_at m got more at = ap whole_lines (ap (λ (k : ℕ). take k (got ++ more)) (sym at) ∙ take-append_seam got more)
 
 -- what is said to the whole lines within the limit is a front of all that is printed
-pub outcome_front : (m : ℕ) (start : List Replaying) (got rest : List ℕ) → length got ≤ m → FrontsText (session_text start (whole_lines got)) (text_of (outcome_at m start (got ++ rest)))
+pub outcome_front : (m : ℕ) (start : List Replaying) (got rest : List ℕ) → length got ≤ m → FrontsText (session_text start (whole_lines got)) (outcome_text (outcome_at m start (got ++ rest)))
 outcome_front m start got rest within =
     elim (cases_Bool (is_large_at m start (got ++ rest))) [
       | inl large ↦ (let f = session_front start (whole_lines got) (whole_lines (take m (got ++ rest))) (early_front m got rest within) in
           let refusal : List ℕ = refused_line input_name reason.TooLarge in (
             f.0 ++ refusal,
-            ap (λ (b : Bool). text_of (if b then Err (Refuses input_name reason.TooLarge (spoken (session_text start (whole_lines (take m (got ++ rest)))))) else Ok (spoken (session_text start (lines_of (got ++ rest)))))) large
+            ap (λ (b : Bool). outcome_text (if b then Err (Refuses input_name reason.TooLarge (spoken (session_text start (whole_lines (take m (got ++ rest)))))) else Ok (spoken (session_text start (lines_of (got ++ rest)))))) large
                 ∙ ap (λ (l : List ℕ). l ++ refusal) f.1 ∙ append_assoc (session_text start (whole_lines got)) f.0 refusal,
           ))
       | inr fits ↦ (let f = session_front start (whole_lines got) (lines_of (got ++ rest)) (lines_front got rest) in
-          (f.0, ap (λ (b : Bool). text_of (if b then Err (Refuses input_name reason.TooLarge (spoken (session_text start (whole_lines (take m (got ++ rest)))))) else Ok (spoken (session_text start (lines_of (got ++ rest)))))) fits ∙ f.1))
+          (f.0, ap (λ (b : Bool). outcome_text (if b then Err (Refuses input_name reason.TooLarge (spoken (session_text start (whole_lines (take m (got ++ rest)))))) else Ok (spoken (session_text start (lines_of (got ++ rest)))))) fits ∙ f.1))
     ]
 
 -- ---- a part of what is to be printed
 
 pub part_of : (start : List Replaying) (printed now : Option (List ℕ)) (got : List ℕ) (n : ℕ) → length got ≤ most_input → now ≡ append_known printed (take n (session_text start (whole_lines got))) → SaysPart start printed now got
 part_of start printed now got n within e = λ rest.
-    let f = take_front n (session_text start (whole_lines got)) (text_of (session_outcome start (got ++ rest))) (outcome_front most_input start got rest within) in
+    let f = take_front n (session_text start (whole_lines got)) (outcome_text (session_outcome start (got ++ rest))) (outcome_front most_input start got rest within) in
     (f.0, e ∙ ap (append_known printed) f.1)
 
 -- the same where more bytes were taken
 pub part_more : (start : List Replaying) (printed now : Option (List ℕ)) (got more : List ℕ) → SaysPart start printed now got → SaysPart start printed now (got ++ more)
 part_more start printed now got more part = λ rest.
     let p = part (more ++ rest) in
-    (p.0, p.1 ∙ ap (λ (l : List ℕ). append_known printed (take p.0 (text_of (session_outcome start l)))) (sym (append_assoc got more rest)))
+    (p.0, p.1 ∙ ap (λ (l : List ℕ). append_known printed (take p.0 (outcome_text (session_outcome start l)))) (sym (append_assoc got more rest)))
 
 pub quits_more : (start : List Replaying) (printed now : Option (List ℕ)) (got more : List ℕ) → Quits start printed now got → Quits start printed now (got ++ more)
 quits_more start printed now got more q = record {
@@ -117,9 +117,9 @@ overruns_more start printed now got more o = record {
 
 -- ---- a byte is taken
 
-module _ (start : List Replaying) (printed now : Option (List ℕ)) (state : SessionState) (begun : List ℕ) (count : ℕ) (taken : List ℕ) (s : Stands start printed now state begun count taken) (b : ℕ) where
+module _ (start : List Replaying) (printed now : Option (List ℕ)) (state : SessionState) (begun : List ℕ) (count : ℕ) (taken : List ℕ) (s : SessionStands start printed now state begun count taken) (b : ℕ) where
   -- a byte that ends no line
-  pub stands_other : is_line_feed b ≡ false → count < most_input → Stands start printed now state (begun ++ b ∷ []) (count + 1) (taken ++ b ∷ [])
+  pub stands_other : is_line_feed b ≡ false → count < most_input → SessionStands start printed now state (begun ++ b ∷ []) (count + 1) (taken ++ b ∷ [])
   stands_other other room =
       let none : list_any is_line_feed (b ∷ []) ≡ false = rw other refl in
       let part = whole_part-append_none taken (b ∷ []) none in
@@ -127,7 +127,7 @@ module _ (start : List Replaying) (printed now : Option (List ℕ)) (state : Ses
       record {
         whole = ap (λ (l : List ℕ). l ++ b ∷ []) s.whole ∙ append_assoc (whole_part taken) begun (b ∷ []) ∙ ap (λ (l : List ℕ). l ++ (begun ++ b ∷ [])) (sym part);
         open_line = has_feed-append begun (b ∷ []) ∙ (rw (s.open_line, other) refl);
-        state_is = s.state_is ∙ ap (after (opening start)) (sym lines);
+        state_is = s.state_is ∙ ap (state_after_lines (opening start)) (sym lines);
         goes_on = ap (ends (opening start)) lines ∙ s.goes_on;
         text = s.text ∙ ap (λ (l : List (List ℕ)). append_known printed (session_text start l)) (sym lines);
         count_is = rw length-append (ap (λ (n : ℕ). n + 1) s.count_is);
@@ -155,12 +155,12 @@ module _ (start : List Replaying) (printed now : Option (List ℕ)) (state : Ses
         ∙ append_twice printed (session_text start (whole_lines taken)) (answers state (take 1 (lines_of (begun ++ b ∷ []))))
         ∙ ap (append_known printed) (sym text_is)
 
-    pub stands_ended : (next : SessionState) → new ≡ append_known now (answers state (take 1 (lines_of (begun ++ b ∷ [])))) → ends state (take 1 (lines_of (begun ++ b ∷ []))) ≡ false → next ≡ after state (take 1 (lines_of (begun ++ b ∷ []))) → Stands start printed new next [] (count + 1) (taken ++ b ∷ [])
+    pub stands_ended : (next : SessionState) → new ≡ append_known now (answers state (take 1 (lines_of (begun ++ b ∷ [])))) → ends state (take 1 (lines_of (begun ++ b ∷ []))) ≡ false → next ≡ state_after_lines state (take 1 (lines_of (begun ++ b ∷ []))) → SessionStands start printed new next [] (count + 1) (taken ++ b ∷ [])
     stands_ended next e on there = record {
       whole = sym (append-nil _ ∙ whole_part-ended taken b feed);
       open_line = refl;
-      state_is = there ∙ ap (λ (p : SessionState). after p (take 1 (lines_of (begun ++ b ∷ [])))) s.state_is
-          ∙ sym (after-append (opening start) (whole_lines taken) (take 1 (lines_of (begun ++ b ∷ [])))) ∙ ap (after (opening start)) (sym lines);
+      state_is = there ∙ ap (λ (p : SessionState). state_after_lines p (take 1 (lines_of (begun ++ b ∷ [])))) s.state_is
+          ∙ sym (after-append (opening start) (whole_lines taken) (take 1 (lines_of (begun ++ b ∷ [])))) ∙ ap (state_after_lines (opening start)) (sym lines);
       goes_on = ends_is ∙ on;
       text = printed_is e;
       count_is = rw length-append (ap (λ (n : ℕ). n + 1) s.count_is);

@@ -9,7 +9,7 @@ use Rattle.proc_replay.specs.Replaying.{Replaying}
 use Rattle.friday_shell.specs.Answer.{answer}
 use Rattle.friday_shell.specs.Points.{SessionState}
 use Rattle.friday_shell.specs.Session.{answers, ends, opening, session_text, whole_lines, whole_part}
-use Rattle.friday_app.specs.Talk.{after}
+use Rattle.friday_app.specs.Talk.{state_after_lines}
 
 -- ---- the bytes up to the last line feed
 
@@ -193,7 +193,7 @@ whole_lines_front a b =
 
 -- ---- what a session answers
 
-pub after-append : (state : SessionState) (a b : List (List ℕ)) → after state (a ++ b) ≡ after (after state a) b
+pub after-append : (state : SessionState) (a b : List (List ℕ)) → state_after_lines state (a ++ b) ≡ state_after_lines (state_after_lines state a) b
 after-append state [] b = refl
 after-append state (line ∷ a) b = after-append (answer state line).state a b
 
@@ -213,11 +213,11 @@ said_ended : (quits x : Bool) (text front whole : List ℕ) → (quits || x) ≡
 said_ended true x text front whole ended same = refl
 said_ended false x text front whole ended same = ap (λ (l : List ℕ). text ++ l) (same ended)
 
-pub ends-append : (state : SessionState) (a b : List (List ℕ)) → ends state a ≡ false → ends state (a ++ b) ≡ ends (after state a) b
+pub ends-append : (state : SessionState) (a b : List (List ℕ)) → ends state a ≡ false → ends state (a ++ b) ≡ ends (state_after_lines state a) b
 ends-append state [] b on = refl
 ends-append state (line ∷ a) b on =
     let next = (answer state line).state in
-    or_on (answer state line).quits (ends next a) (ends next (a ++ b)) (ends (after next a) b) on (λ more. ends-append next a b more)
+    or_on (answer state line).quits (ends next a) (ends next (a ++ b)) (ends (state_after_lines next a) b) on (λ more. ends-append next a b more)
 
 pub ends-front : (state : SessionState) (a b : List (List ℕ)) → ends state a ≡ true → ends state (a ++ b) ≡ true
 ends-front state [] b ended = absurd cc
@@ -225,11 +225,11 @@ ends-front state (line ∷ a) b ended =
     let next = (answer state line).state in
     or_ended (answer state line).quits (ends next a) (ends next (a ++ b)) ended (λ more. ends-front next a b more)
 
-pub answers-append : (state : SessionState) (a b : List (List ℕ)) → ends state a ≡ false → answers state (a ++ b) ≡ answers state a ++ answers (after state a) b
+pub answers-append : (state : SessionState) (a b : List (List ℕ)) → ends state a ≡ false → answers state (a ++ b) ≡ answers state a ++ answers (state_after_lines state a) b
 answers-append state [] b on = refl
 answers-append state (line ∷ a) b on =
     let next = (answer state line).state in
-    said_on (answer state line).quits (ends next a) (answer state line).text (answers next a) (answers (after next a) b) (answers next (a ++ b)) on (λ more. answers-append next a b more)
+    said_on (answer state line).quits (ends next a) (answer state line).text (answers next a) (answers (state_after_lines next a) b) (answers next (a ++ b)) on (λ more. answers-append next a b more)
 
 pub answers-ended : (state : SessionState) (a b : List (List ℕ)) → ends state a ≡ true → answers state (a ++ b) ≡ answers state a
 answers-ended state [] b ended = absurd cc
@@ -244,7 +244,7 @@ answers_front : (state : SessionState) (a b : List (List ℕ)) → FrontsText (a
 answers_front state a b =
     elim (cases_Bool (ends state a)) [
       | inl ended ↦ ([], answers-ended state a b ended ∙ sym (append-nil (answers state a)))
-      | inr on ↦ (answers (after state a) b, answers-append state a b on)
+      | inr on ↦ (answers (state_after_lines state a) b, answers-append state a b on)
     ]
 
 -- the text of a front of the lines is a front of the text
@@ -253,10 +253,10 @@ session_front start front whole f =
     let g = answers_front (opening start) front f.0 in
     (g.0, ap (session_text start) f.1 ∙ ap (λ (l : List ℕ). codes "at 0\n" ++ l) g.1 ∙ sym (append_assoc (codes "at 0\n") (answers (opening start) front) g.0))
 
-pub session_more : (start : List Replaying) (a b : List (List ℕ)) → ends (opening start) a ≡ false → session_text start (a ++ b) ≡ session_text start a ++ answers (after (opening start) a) b
+pub session_more : (start : List Replaying) (a b : List (List ℕ)) → ends (opening start) a ≡ false → session_text start (a ++ b) ≡ session_text start a ++ answers (state_after_lines (opening start) a) b
 session_more start a b on =
     ap (λ (l : List ℕ). codes "at 0\n" ++ l) (answers-append (opening start) a b on)
-    ∙ sym (append_assoc (codes "at 0\n") (answers (opening start) a) (answers (after (opening start) a) b))
+    ∙ sym (append_assoc (codes "at 0\n") (answers (opening start) a) (answers (state_after_lines (opening start) a) b))
 
 pub session_ended : (start : List Replaying) (a whole : List (List ℕ)) → Fronts a whole → ends (opening start) a ≡ true → session_text start whole ≡ session_text start a
 session_ended start a whole f ended =

@@ -7,12 +7,12 @@ use Rattle.wasm_types.specs.Modules.{Module}
 use Rattle.guest_process.specs.Live.{Event}
 use Rattle.guest_process.specs.State.{State}
 use Rattle.schedule_text.specs.Schedule.{Schedule}
-use Rattle.group_record.specs.Answer.{begun, group_of}
+use Rattle.group_record.specs.Answer.{first_states, group_of}
 use Rattle.group_record.specs.Files.{IsStopped}
 use Rattle.group_record.specs.Images.{images_of}
-use Rattle.group_record.specs.Laws.{Takes}
+use Rattle.group_record.specs.Laws.{TakesDatagram}
 use Rattle.group_record.specs.Logs.{TellsEvents, log_name}
-use Rattle.group_record.specs.Run.{Group, Had, IsFront, Progress, Step, log_of, name_of, run, size}
+use Rattle.group_record.specs.Run.{Group, Had, IsMoment, Progress, Step, log_of, name_of, run, size}
 use Rattle.friday_app.specs.Command.{Command, Debug, Record, Replay}
 use Rattle.friday_app.specs.Expected.{modules_of, schedule_in}
 
@@ -23,7 +23,7 @@ pub record IsRecordable (store : Store) (schedule_name : List ℕ) : Type 0 wher
   pub modules : List Module
   pub found : modules_of store schedule.processes ≡ Ok modules
   pub first : List State
-  pub begins : begun schedule modules ≡ Ok first
+  pub begins : first_states schedule modules ≡ Ok first
 
 -- its group, and its run
 abbrev pub group_in : {store : Store} {schedule_name : List ℕ} → IsRecordable store schedule_name → Group
@@ -41,18 +41,19 @@ LeavesLogs group steps after = (p : ℕ) → p < size group → get after (log_n
 
 -- at each moment of the run the logs tell its events, and each datagram that was taken came first in the
 -- mailbox, and from outside or by a send that an item delivered
-pub record Agrees (group : Group) (steps : List Step) : Type 0 where
-  pub logs : (early : List Step) → IsFront early steps → (p : ℕ) → p < size group → TellsEvents group early p
-  pub datagrams : (later early : List Step) (p : ℕ) (e : Event) → steps ≡ later ++ (Had p e ∷ early) → IsTrue (is_taken e.entry) → Takes (size group) early p e
+pub record LogsAgree (group : Group) (steps : List Step) : Type 0 where
+  pub logs : (early : List Step) → IsMoment early steps → (p : ℕ) → p < size group → TellsEvents group early p
+  pub datagrams : (later early : List Step) (p : ℕ) (e : Event) → steps ≡ later ++ (Had p e ∷ early) → IsTrue (is_taken e.entry)
+      → TakesDatagram (size group) early p e
 
 -- so it is with each recording
 abbrev pub RecordingsAgree : Type 0
-RecordingsAgree = (store : Store) (schedule_name : List ℕ) (r : IsRecordable store schedule_name) → Agrees (group_in r) (steps_in r)
+RecordingsAgree = (store : Store) (schedule_name : List ℕ) (r : IsRecordable store schedule_name) → LogsAgree (group_in r) (steps_in r)
 
 -- where the files can be recorded, the logs that an answer leaves are those of the whole run, which agree with it
 abbrev pub LeavesRecording : List ℕ → Store → Store → Type 0
 LeavesRecording schedule_name before after =
-    (r : IsRecordable before schedule_name) → LeavesLogs (group_in r) (steps_in r) after × Agrees (group_in r) (steps_in r)
+    (r : IsRecordable before schedule_name) → LeavesLogs (group_in r) (steps_in r) after × LogsAgree (group_in r) (steps_in r)
 
 -- a command that records leaves its recording
 abbrev pub KeepsRecording : Option Command → Store → Store → Type 0
@@ -65,7 +66,8 @@ KeepsRecording (Some (Debug pairs)) before after = Unit {0}
 -- whole logs stand, and some of the images that were asked for
 abbrev pub LeavesMoment : Bool → List ℕ → Store → Option Store → Type 0
 LeavesMoment images schedule_name before after =
-    (r : IsRecordable before schedule_name) → IsStopped (group_in r) (steps_in r) (images_of images (group_in r) (run_in r)) (Some before) after × Agrees (group_in r) (steps_in r)
+    (r : IsRecordable before schedule_name)
+    → IsStopped (group_in r) (steps_in r) (images_of images (group_in r) (run_in r)) (Some before) after × LogsAgree (group_in r) (steps_in r)
 
 abbrev pub KeepsMoment : Option Command → Store → Option Store → Type 0
 KeepsMoment None before after = Unit {0}

@@ -13,30 +13,30 @@ use Rattle.friday_app.specs.declared.refusal.Reason.{Reason}
 use Rattle.friday_app.specs.declared.refusal.Reason.TheVariants as reason
 use Rattle.friday_app.specs.declared.refusal.Refusal.{Refusal}
 use Rattle.friday_app.specs.declared.refusal.Refusal.TheVariants as refusal
-use Rattle.friday_app.specs.Command.{Command, IsReplay}
-use Rattle.friday_app.specs.Outcome.{Outcome, Work, Stop, Refuses, Lacks, refuses, refused_line, absent_line}
+use Rattle.friday_app.specs.Command.{Command, IsReplayCommand}
+use Rattle.friday_app.specs.Outcome.{CommandOutcome, Work, Stop, Refuses, Lacks, refuses_at_once, refused_line, absent_line}
 
 -- statuses 0 to 4: the call came to its end, with no fault and no want of memory
-abbrev pub IsAnswer : Status → Type 0
-IsAnswer ends.ReadFault = ⊥
-IsAnswer ends.WriteFault = ⊥
-IsAnswer ends.NoMemory = ⊥
-IsAnswer answer = Unit {0}
+abbrev pub IsAnswerStatus : Status → Type 0
+IsAnswerStatus ends.ReadFault = ⊥
+IsAnswerStatus ends.WriteFault = ⊥
+IsAnswerStatus ends.NoMemory = ⊥
+IsAnswerStatus answer = Unit {0}
 
 -- after an answer the sink took the whole text, and else some of its front
 pub record Prints (answer : Status) (text : List ℕ) (before after : Option (List ℕ)) : Type 0 where
-  pub whole : IsAnswer answer → after ≡ append_known before text
+  pub whole : IsAnswerStatus answer → after ≡ append_known before text
   pub part : (n : ℕ) × (after ≡ append_known before (take n text))
 
 -- after an answer the files of the work are made; at any status they alone change, each to some of its front
-pub record Leaves (answer : Status) (files : List (List ℕ × List ℕ)) (before after : Option Store) : Type 0 where
-  pub whole : IsAnswer answer → after ≡ with_files files before
+pub record LeavesFiles (answer : Status) (files : List (List ℕ × List ℕ)) (before after : Option Store) : Type 0 where
+  pub whole : IsAnswerStatus answer → after ≡ with_files files before
   pub part : ChangesOnly before files after
 
 -- Usage comes exactly where the words name no command, but for a fault or want of memory in its place
 pub record IsExactUsage (command : Option Command) (answer : Status) : Type 0 where
   pub only : answer ≡ ends.Usage → command ≡ None
-  pub always : command ≡ None → IsAnswer answer → answer ≡ ends.Usage
+  pub always : command ≡ None → IsAnswerStatus answer → answer ≡ ends.Usage
 
 -- statuses 2, 4 and 5, after which no file has changed. After status 3 the files are those of the refusal
 abbrev pub IsIdle : Status → Type 0
@@ -62,24 +62,24 @@ PrintsLast files printed printed_after before after = (printed_after ≡ printed
 -- A COMMAND'S RESULT, before its text is written
 
 -- a command came to an answer: its work, or a refusal
-abbrev pub IsEnd : Result Answer Refusal → Type 0
-IsEnd (Ok answer) = Unit {0}
-IsEnd (Err (refusal.Refused file why)) = Unit {0}
-IsEnd (Err (refusal.Absent file)) = Unit {0}
-IsEnd (Err refusal.ReadFault) = ⊥
-IsEnd (Err refusal.WriteFault) = ⊥
-IsEnd (Err refusal.NoMemory) = ⊥
+abbrev pub IsAnswerResult : Result Answer Refusal → Type 0
+IsAnswerResult (Ok answer) = Unit {0}
+IsAnswerResult (Err (refusal.Refused file why)) = Unit {0}
+IsAnswerResult (Err (refusal.Absent file)) = Unit {0}
+IsAnswerResult (Err refusal.ReadFault) = ⊥
+IsAnswerResult (Err refusal.WriteFault) = ⊥
+IsAnswerResult (Err refusal.NoMemory) = ⊥
 
 -- a refusal tells the stop at which this comes to no value
 abbrev pub StopsAs : {A : Type 0} → Result A Stop → Refusal → Type 0
-StopsAs wanted (refusal.Refused file why) = wanted ≡ Err (refuses (string_bytes file) why)
+StopsAs wanted (refusal.Refused file why) = wanted ≡ Err (refuses_at_once (string_bytes file) why)
 StopsAs wanted (refusal.Absent file) = wanted ≡ Err (Lacks (string_bytes file))
 StopsAs wanted refusal.ReadFault = Unit {0}
 StopsAs wanted refusal.WriteFault = Unit {0}
 StopsAs wanted refusal.NoMemory = Unit {0}
 
 -- a refusal that came before anything was printed
-abbrev pub RefusesWith : Outcome → List ℕ → Reason → Type 0
+abbrev pub RefusesWith : CommandOutcome → List ℕ → Reason → Type 0
 RefusesWith outcome file why = (done : Work) × (outcome ≡ Err (Refuses file why done)) × (done.text ≡ [])
 
 -- what a failed write comes to
@@ -88,10 +88,10 @@ write_refusal writing.Failed = refusal.WriteFault
 write_refusal writing.NoMemory = refusal.NoMemory
 
 -- this refusal of this file, or want of memory
-abbrev pub Names : List ℕ → Reason → Refusal → Type 0
-Names name why (refusal.Refused file reason) = (string_bytes file ≡ name) × (reason ≡ why)
-Names name why refusal.NoMemory = Unit {0}
-Names name why other = ⊥
+abbrev pub RefusesFile : List ℕ → Reason → Refusal → Type 0
+RefusesFile name why (refusal.Refused file reason) = (string_bytes file ≡ name) × (reason ≡ why)
+RefusesFile name why refusal.NoMemory = Unit {0}
+RefusesFile name why other = ⊥
 
 -- that this file is absent, or want of memory
 abbrev pub NamesAbsent : List ℕ → Refusal → Type 0
@@ -100,14 +100,14 @@ NamesAbsent name refusal.NoMemory = Unit {0}
 NamesAbsent name other = ⊥
 
 -- a command's result tells this outcome
-abbrev pub Tells : Outcome → Result Answer Refusal → Type 0
-Tells outcome (Ok (answered.Done text)) = (work : Work) × (outcome ≡ Ok work) × (text ≡ work.text) × (work.diverged ≡ false)
-Tells outcome (Ok (answered.Diverged text)) = (work : Work) × (outcome ≡ Ok work) × (text ≡ work.text) × (work.diverged ≡ true)
-Tells outcome (Err (refusal.Refused file why)) = RefusesWith outcome (string_bytes file) why
-Tells outcome (Err (refusal.Absent file)) = outcome ≡ Err (Lacks (string_bytes file))
-Tells outcome (Err refusal.ReadFault) = Unit {0}
-Tells outcome (Err refusal.WriteFault) = Unit {0}
-Tells outcome (Err refusal.NoMemory) = Unit {0}
+abbrev pub TellsOutcome : CommandOutcome → Result Answer Refusal → Type 0
+TellsOutcome outcome (Ok (answered.Done text)) = (work : Work) × (outcome ≡ Ok work) × (text ≡ work.text) × (work.diverged ≡ false)
+TellsOutcome outcome (Ok (answered.Diverged text)) = (work : Work) × (outcome ≡ Ok work) × (text ≡ work.text) × (work.diverged ≡ true)
+TellsOutcome outcome (Err (refusal.Refused file why)) = RefusesWith outcome (string_bytes file) why
+TellsOutcome outcome (Err (refusal.Absent file)) = outcome ≡ Err (Lacks (string_bytes file))
+TellsOutcome outcome (Err refusal.ReadFault) = Unit {0}
+TellsOutcome outcome (Err refusal.WriteFault) = Unit {0}
+TellsOutcome outcome (Err refusal.NoMemory) = Unit {0}
 
 -- a refusal has its cause in the counts
 abbrev pub Raises : Counts → Counts → Refusal → Type 0
@@ -134,18 +134,18 @@ Makes (Err refusal.NoMemory) files before after = ChangesOnly before files after
 
 -- only the work of replay tells a divergence
 abbrev pub DivergesOnlyIn : Option Command → Result Answer Refusal → Type 0
-DivergesOnlyIn command (Ok (answered.Diverged text)) = IsReplay command
+DivergesOnlyIn command (Ok (answered.Diverged text)) = IsReplayCommand command
 DivergesOnlyIn command result = Unit {0}
 
 -- the status and the text that a command's result comes to, unless a fault or want of memory ended it
-abbrev pub answer_of : Result Answer Refusal → Option (Status × List ℕ)
-answer_of (Ok (answered.Done text)) = Some (ends.Done, text)
-answer_of (Ok (answered.Diverged text)) = Some (ends.Diverged, text)
-answer_of (Err (refusal.Refused file why)) = Some (ends.Refused, refused_line (string_bytes file) why)
-answer_of (Err (refusal.Absent file)) = Some (ends.Absent, absent_line (string_bytes file))
-answer_of (Err refusal.ReadFault) = None
-answer_of (Err refusal.WriteFault) = None
-answer_of (Err refusal.NoMemory) = None
+abbrev pub status_and_text : Result Answer Refusal → Option (Status × List ℕ)
+status_and_text (Ok (answered.Done text)) = Some (ends.Done, text)
+status_and_text (Ok (answered.Diverged text)) = Some (ends.Diverged, text)
+status_and_text (Err (refusal.Refused file why)) = Some (ends.Refused, refused_line (string_bytes file) why)
+status_and_text (Err (refusal.Absent file)) = Some (ends.Absent, absent_line (string_bytes file))
+status_and_text (Err refusal.ReadFault) = None
+status_and_text (Err refusal.WriteFault) = None
+status_and_text (Err refusal.NoMemory) = None
 
 -- the status of a fault, and of want of memory
 abbrev pub FaultStatus : Result Answer Refusal → Status → Type 0
@@ -155,10 +155,10 @@ FaultStatus (Err refusal.NoMemory) answer = answer ≡ ends.NoMemory
 FaultStatus result answer = Unit {0}
 
 -- what a command's result comes to, with its text written
-pub record Finishes (ended : Result Answer Refusal) (answer : Status) (before after : Option (List ℕ)) (faults_before faults_after : ℕ) : Type 0 where
-  pub status : IfSome (answer_of ended) (λ a. IsAnswer answer → answer ≡ a.0)
-  pub text : IfSome (answer_of ended) (λ a. Prints answer a.1 before after)
-  pub silent : IfNone (answer_of ended) (after ≡ before)
+pub record FinishesCall (ended : Result Answer Refusal) (answer : Status) (before after : Option (List ℕ)) (faults_before faults_after : ℕ) : Type 0 where
+  pub status : IfSome (status_and_text ended) (λ a. IsAnswerStatus answer → answer ≡ a.0)
+  pub text : IfSome (status_and_text ended) (λ a. Prints answer a.1 before after)
+  pub silent : IfNone (status_and_text ended) (after ≡ before)
   pub fault : FaultStatus ended answer
-  pub read_fault : IfSome (answer_of ended) (λ _. answer ≢ ends.ReadFault)
-  pub write_fault : IfSome (answer_of ended) (λ _. answer ≡ ends.WriteFault → Rose faults_before faults_after)
+  pub read_fault : IfSome (status_and_text ended) (λ _. answer ≢ ends.ReadFault)
+  pub write_fault : IfSome (status_and_text ended) (λ _. answer ≡ ends.WriteFault → Rose faults_before faults_after)

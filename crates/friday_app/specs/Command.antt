@@ -62,8 +62,8 @@ command_of (verb ∷ words) =
     then command_by verb (length (options_in words) == 1) (names_in words) else None
 
 -- the command that answers whether a log diverges
-abbrev pub IsReplay : Option Command → Type 0
-IsReplay (Some (Replay images pairs)) = Unit {0}
-IsReplay (Some (Record images schedule_name)) = ⊥
-IsReplay (Some (Debug pairs)) = ⊥
-IsReplay None = ⊥
+abbrev pub IsReplayCommand : Option Command → Type 0
+IsReplayCommand (Some (Replay images pairs)) = Unit {0}
+IsReplayCommand (Some (Record images schedule_name)) = ⊥
+IsReplayCommand (Some (Debug pairs)) = ⊥
+IsReplayCommand None = ⊥

@@ -7,17 +7,17 @@ use Rattle.friday_shell.specs.Session.{ends, opening, session_text, whole_lines}
 use Rattle.friday_app.specs.declared.refusal.Reason.TheVariants as reason
 use Rattle.friday_app.specs.declared.status.Status.{Status}
 use Rattle.friday_app.specs.declared.status.Status.TheVariants as status
-use Rattle.friday_app.specs.Call.{IsAnswer, Prints}
+use Rattle.friday_app.specs.Call.{IsAnswerStatus, Prints}
 use Rattle.friday_app.specs.Command.{Command, Debug, Pair, Record, Replay}
 use Rattle.friday_app.specs.Debug.{input_name, is_large, session_outcome}
 use Rattle.friday_app.specs.Limits.{most_input}
-use Rattle.friday_app.specs.Outcome.{refused_line, status_of, text_of}
+use Rattle.friday_app.specs.Outcome.{outcome_status, outcome_text, refused_line}
 use Rattle.friday_app.specs.Pairs.{WasOpened}
 
 -- ---- what was taken of an input
 
 -- of an input that told these bytes, these ones were taken, and the others are left
-pub record IsTaken (input : List ℕ) (after : Option (List ℕ)) (taken : List ℕ) : Type 0 where
+pub record TakesOfInput (input : List ℕ) (after : Option (List ℕ)) (taken : List ℕ) : Type 0 where
   pub rest : List ℕ
   pub left : after ≡ Some rest
   pub whole : input ≡ taken ++ rest
@@ -35,14 +35,14 @@ pub record Asks (start : List Replaying) (taken : List ℕ) : Type 0 where
 -- a session asked for no more than it needed, and was done at the end of the input, or at a whole line that ends it
 pub record HasRead (start : List Replaying) (input : List ℕ) (after : Option (List ℕ)) (answer : Status) : Type 0 where
   pub taken : List ℕ
-  pub is_taken : IsTaken input after taken
+  pub is_taken : TakesOfInput input after taken
   pub asks : Asks start taken
   pub at_end : answer ≡ status.Done → (input ≡ taken) ⊎ (ends (opening start) (whole_lines taken) ≡ true)
 
 -- all whole lines that were taken are answered, and none of them ends the session
 pub record HasAnswered (start : List Replaying) (input : List ℕ) (after printed printed_after : Option (List ℕ)) : Type 0 where
   pub taken : List ℕ
-  pub is_taken : IsTaken input after taken
+  pub is_taken : TakesOfInput input after taken
   pub text : printed_after ≡ append_known printed (session_text start (whole_lines taken))
   pub goes_on : ends (opening start) (whole_lines taken) ≡ false
 
@@ -62,8 +62,8 @@ IsNone answer = ⊥
 -- a session read an input, answered it, and ended with this status
 pub record Converses (start : List Replaying) (left after printed printed_after : Option (List ℕ))
     (faults faults_after out_faults out_faults_after : ℕ) (answer : Status) : Type 0 where
-  pub ended : WhenTold left (λ input. IsAnswer answer → answer ≡ status_of (session_outcome start input))
-  pub text : WhenTold left (λ input. Prints answer (text_of (session_outcome start input)) printed printed_after)
+  pub ended : WhenTold left (λ input. IsAnswerStatus answer → answer ≡ outcome_status (session_outcome start input))
+  pub text : WhenTold left (λ input. Prints answer (outcome_text (session_outcome start input)) printed printed_after)
   pub input : WhenTold left (λ input. HasRead start input after answer)
   pub answered : answer ≡ status.ReadFault → WhenTold left (λ input. HasAnswered start input after printed printed_after)
   pub other : IsNone answer → ⊥

@@ -7,8 +7,8 @@ use Rattle.friday_shell.specs.Session.{ends, opening, session_text, whole_lines}
 use Rattle.friday_app.specs.declared.refusal.Reason.TheVariants as reason
 use Rattle.friday_app.specs.Command.{Pair}
 use Rattle.friday_app.specs.Limits.{most_input}
-use Rattle.friday_app.specs.Outcome.{Outcome, Refuses, Stop, Work}
-use Rattle.friday_app.specs.Pairs.{opened}
+use Rattle.friday_app.specs.Outcome.{CommandOutcome, Refuses, Stop, Work}
+use Rattle.friday_app.specs.Pairs.{replays_of_pairs}
 
 -- what a refusal calls the input
 abbrev pub input_name : List ℕ
@@ -27,15 +27,15 @@ abbrev pub spoken : List ℕ → Work
 spoken text = record { text = text; writes = []; diverged = false }
 
 -- what a session over these replays comes to, where this is typed
-abbrev pub session_outcome : List Replaying → List ℕ → Outcome
+abbrev pub session_outcome : List Replaying → List ℕ → CommandOutcome
 session_outcome start input =
     if is_large start input then Err (Refuses input_name reason.TooLarge (spoken (session_text start (early_lines input))))
     else Ok (spoken (session_text start (lines_of input)))
 
 -- where the replays cannot begin the input does not matter, and need not be told
-abbrev pub opened_outcome : Result (List Replaying) Stop → Option (List ℕ) → Option Outcome
+abbrev pub opened_outcome : Result (List Replaying) Stop → Option (List ℕ) → Option CommandOutcome
 opened_outcome (Err stop) left = Some (Err stop)
 opened_outcome (Ok start) left = option_map (session_outcome start) left
 
-abbrev pub debug_outcome : List Pair → Option (List ℕ) → Store → Option Outcome
-debug_outcome pairs left store = opened_outcome (opened store pairs) left
+abbrev pub debug_outcome : List Pair → Option (List ℕ) → Store → Option CommandOutcome
+debug_outcome pairs left store = opened_outcome (replays_of_pairs store pairs) left

@@ -7,58 +7,59 @@ use Rattle.schedule_text.specs.declared.process.ProcessLine.{ProcessLine}
 use Rattle.schedule_text.specs.Reading.{Refusal, BadLineAt, TooManyRuns, schedule_of}
 use Rattle.schedule_text.specs.Schedule.{Schedule}
 use Rattle.guest_process.specs.State.{State}
-use Rattle.group_record.specs.Answer.{begun, group_of}
+use Rattle.group_record.specs.Answer.{first_states, group_of}
 use Rattle.group_record.specs.Run.{run}
 use Rattle.friday_app.specs.declared.refusal.Reason.TheVariants as reason
 use Rattle.friday_app.specs.Limits.{most_schedule}
 use Rattle.friday_app.specs.Command.{Command, Debug, Pair, Record, Replay}
 use Rattle.friday_app.specs.Debug.{debug_outcome}
-use Rattle.friday_app.specs.Inputs.{module_of}
-use Rattle.friday_app.specs.Pairs.{opened}
-use Rattle.friday_app.specs.Outcome.{Stop, NotACommand, Outcome, refuses, and_then, file_of, writes_of}
+use Rattle.friday_app.specs.Inputs.{module_in}
+use Rattle.friday_app.specs.Pairs.{replays_of_pairs}
+use Rattle.friday_app.specs.Outcome.{Stop, NotACommand, CommandOutcome, refuses_at_once, and_then, file_of, written_names}
 use Rattle.friday_app.specs.Record.{run_outcome}
 use Rattle.friday_app.specs.Report.{replay_work}
 
 -- THE COMMANDS, each with its refusals in their order
 
-abbrev pub replay_outcome : Bool → List Pair → Store → Outcome
-replay_outcome images pairs store = and_then (opened store pairs) (λ start. Ok (replay_work images start))
+abbrev pub replay_outcome : Bool → List Pair → Store → CommandOutcome
+replay_outcome images pairs store = and_then (replays_of_pairs store pairs) (λ start. Ok (replay_work images start))
 
 -- the schedule of a schedule file
-abbrev pub schedule_or : List ℕ → Result Schedule Refusal → Result Schedule Stop
-schedule_or name (Ok schedule) = Ok schedule
-schedule_or name (Err (BadLineAt line)) = Err (refuses name (reason.BadLine line))
-schedule_or name (Err TooManyRuns) = Err (refuses name reason.TooMany)
+abbrev pub schedule_or_refusal : List ℕ → Result Schedule Refusal → Result Schedule Stop
+schedule_or_refusal name (Ok schedule) = Ok schedule
+schedule_or_refusal name (Err (BadLineAt line)) = Err (refuses_at_once name (reason.BadLine line))
+schedule_or_refusal name (Err TooManyRuns) = Err (refuses_at_once name reason.TooMany)
 
 abbrev pub schedule_in : Store → List ℕ → Result Schedule Stop
-schedule_in store name = and_then (file_of store name most_schedule) (λ bytes. schedule_or name (schedule_of bytes))
+schedule_in store name = and_then (file_of store name most_schedule) (λ bytes. schedule_or_refusal name (schedule_of bytes))
 
 -- the modules of these processes, in their order
 abbrev pub modules_of : Store → List ProcessLine → Result (List Module) Stop
 modules_of store [] = Ok []
-modules_of store (line ∷ lines) = and_then (module_of store line.«module») (λ m. and_then (modules_of store lines) (λ ms. Ok (m ∷ ms)))
+modules_of store (line ∷ lines) = and_then (module_in store line.«module») (λ m. and_then (modules_of store lines) (λ ms. Ok (m ∷ ms)))
 
 -- the file of the module of process p
 abbrev pub module_name : Schedule → ℕ → List ℕ
 module_name schedule p = slice_index_or (map (λ line. line.«module») schedule.processes) p []
 
 -- the first states of all processes, or the refusal of the first module with which none begins
-abbrev pub states_or : Schedule → Result (List State) ℕ → Result (List State) Stop
-states_or schedule (Ok first) = Ok first
-states_or schedule (Err p) = Err (refuses (module_name schedule p) reason.BadSegment)
+abbrev pub states_or_bad_segment : Schedule → Result (List State) ℕ → Result (List State) Stop
+states_or_bad_segment schedule (Ok first) = Ok first
+states_or_bad_segment schedule (Err p) = Err (refuses_at_once (module_name schedule p) reason.BadSegment)
 
 -- what the recording of a group comes to, whose processes begin so
-abbrev pub group_outcome : Bool → List ℕ → Schedule → Result (List State) ℕ → Outcome
+abbrev pub group_outcome : Bool → List ℕ → Schedule → Result (List State) ℕ → CommandOutcome
 group_outcome images schedule_name schedule states =
-    and_then (states_or schedule states) (λ first. run_outcome images schedule_name (group_of schedule first) (run (group_of schedule first) schedule.items))
+    and_then (states_or_bad_segment schedule states) (λ first.
+    run_outcome images schedule_name (group_of schedule first) (run (group_of schedule first) schedule.items))
 
-abbrev pub record_outcome : Bool → List ℕ → Store → Outcome
+abbrev pub record_outcome : Bool → List ℕ → Store → CommandOutcome
 record_outcome images schedule_name store =
     and_then (schedule_in store schedule_name) (λ schedule.
-    and_then (modules_of store schedule.processes) (λ modules. group_outcome images schedule_name schedule (begun schedule modules)))
+    and_then (modules_of store schedule.processes) (λ modules. group_outcome images schedule_name schedule (first_states schedule modules)))
 
 -- the outcome, as far as the store and the input tell what it depends on
-abbrev pub expected : Option Command → Option Store → Option (List ℕ) → Option Outcome
+abbrev pub expected : Option Command → Option Store → Option (List ℕ) → Option CommandOutcome
 expected None told left = Some (Err NotACommand)
 expected (Some (Record images schedule_name)) told left = option_map (record_outcome images schedule_name) told
 expected (Some (Replay images pairs)) told left = option_map (replay_outcome images pairs) told
@@ -67,6 +68,6 @@ expected (Some (Debug pairs)) told left = option_and_then (debug_outcome pairs l
 -- the names that a command may write, given the files
 abbrev pub written_by : Option Command → Store → List (List ℕ)
 written_by None store = []
-written_by (Some (Record images schedule_name)) store = map (λ file. file.0) (writes_of (record_outcome images schedule_name store))
-written_by (Some (Replay images pairs)) store = map (λ file. file.0) (writes_of (replay_outcome images pairs store))
+written_by (Some (Record images schedule_name)) store = written_names (record_outcome images schedule_name store)
+written_by (Some (Replay images pairs)) store = written_names (replay_outcome images pairs store)
 written_by (Some (Debug pairs)) store = []

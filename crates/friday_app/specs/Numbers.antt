@@ -3,12 +3,12 @@ use Rattle.std.specs.Prelude.{ℕ}
 use Rattle.friday_app.specs.declared.status.Status.{Status}
 use Rattle.friday_app.specs.declared.status.Status.TheVariants as ends
 
-abbrev pub number_of : Status → ℕ
-number_of ends.Done = 0
-number_of ends.Diverged = 1
-number_of ends.Usage = 2
-number_of ends.Refused = 3
-number_of ends.Absent = 4
-number_of ends.ReadFault = 5
-number_of ends.WriteFault = 6
-number_of ends.NoMemory = 7
+abbrev pub status_number : Status → ℕ
+status_number ends.Done = 0
+status_number ends.Diverged = 1
+status_number ends.Usage = 2
+status_number ends.Refused = 3
+status_number ends.Absent = 4
+status_number ends.ReadFault = 5
+status_number ends.WriteFault = 6
+status_number ends.NoMemory = 7

@@ -1,5 +1,5 @@
 -- What a command comes to: the work that it does, or the stop at which it ends.
-use Rattle.std.specs.Prelude.{ℕ, List, [], ◌++◌, Bool, false, decimal, codes, Result, Ok, Err, if◌then◌else◌}
+use Rattle.std.specs.Prelude.{ℕ, List, [], ◌++◌, Bool, false, map, decimal, codes, Result, Ok, Err, if◌then◌else◌}
 use Rattle.fri_outside.specs.Outside.{Store, Found, Missing, Over, Held, found}
 use Rattle.friday_app.specs.declared.status.Status.{Status}
 use Rattle.friday_app.specs.declared.status.Status.TheVariants as status
@@ -23,11 +23,11 @@ pub data Stop : Type 0 where
   Lacks : (file : List ℕ) → Stop
 
 -- a refusal before all work
-abbrev pub refuses : List ℕ → Reason → Stop
-refuses file why = Refuses file why nothing_done
+abbrev pub refuses_at_once : List ℕ → Reason → Stop
+refuses_at_once file why = Refuses file why nothing_done
 
-abbrev pub Outcome : Type 0
-Outcome = Result Work Stop
+abbrev pub CommandOutcome : Type 0
+CommandOutcome = Result Work Stop
 
 -- what follows, unless there is a stop
 abbrev pub and_then : {A B : Type 0} → Result A Stop → (A → Result B Stop) → Result B Stop
@@ -35,13 +35,13 @@ and_then (Ok value) next = next value
 and_then (Err stop) next = Err stop
 
 -- the bytes of a file, where it is there and within its limit
-abbrev pub given : List ℕ → Found → Result (List ℕ) Stop
-given name Missing = Err (Lacks name)
-given name Over = Err (refuses name reason.TooLarge)
-given name (Held bytes) = Ok bytes
+abbrev pub bytes_or_stop : List ℕ → Found → Result (List ℕ) Stop
+bytes_or_stop name Missing = Err (Lacks name)
+bytes_or_stop name Over = Err (refuses_at_once name reason.TooLarge)
+bytes_or_stop name (Held bytes) = Ok bytes
 
 abbrev pub file_of : Store → List ℕ → ℕ → Result (List ℕ) Stop
-file_of store name limit = given name (found store name limit)
+file_of store name limit = bytes_or_stop name (found store name limit)
 
 -- why a file is refused, as it is printed
 abbrev pub reason_text : Reason → List ℕ
@@ -73,20 +73,24 @@ refused_line file why = refused_with file (reason_text why)
 abbrev pub absent_line : List ℕ → List ℕ
 absent_line file = codes "friday: absent " ++ (file ++ codes "\n")
 
-abbrev pub status_of : Outcome → Status
-status_of (Ok work) = if work.diverged then status.Diverged else status.Done
-status_of (Err NotACommand) = status.Usage
-status_of (Err (Refuses file why done)) = status.Refused
-status_of (Err (Lacks file)) = status.Absent
+abbrev pub outcome_status : CommandOutcome → Status
+outcome_status (Ok work) = if work.diverged then status.Diverged else status.Done
+outcome_status (Err NotACommand) = status.Usage
+outcome_status (Err (Refuses file why done)) = status.Refused
+outcome_status (Err (Lacks file)) = status.Absent
 
-abbrev pub text_of : Outcome → List ℕ
-text_of (Ok work) = work.text
-text_of (Err NotACommand) = usage_line
-text_of (Err (Refuses file why done)) = done.text ++ refused_line file why
-text_of (Err (Lacks file)) = absent_line file
+abbrev pub outcome_text : CommandOutcome → List ℕ
+outcome_text (Ok work) = work.text
+outcome_text (Err NotACommand) = usage_line
+outcome_text (Err (Refuses file why done)) = done.text ++ refused_line file why
+outcome_text (Err (Lacks file)) = absent_line file
 
-abbrev pub writes_of : Outcome → List (List ℕ × List ℕ)
+abbrev pub writes_of : CommandOutcome → List (List ℕ × List ℕ)
 writes_of (Ok work) = work.writes
 writes_of (Err NotACommand) = []
 writes_of (Err (Refuses file why done)) = done.writes
 writes_of (Err (Lacks file)) = []
+
+-- the names of the files that it makes
+abbrev pub written_names : CommandOutcome → List (List ℕ)
+written_names outcome = map (λ file. file.0) (writes_of outcome)

@@ -8,8 +8,8 @@ use Rattle.proc_replay.specs.Replaying.{Replaying}
 use Rattle.friday_app.specs.declared.refusal.Reason.{Reason}
 use Rattle.friday_app.specs.declared.refusal.Reason.TheVariants as reason
 use Rattle.friday_app.specs.Command.{Pair}
-use Rattle.friday_app.specs.Inputs.{begun_of, log_of, module_of}
-use Rattle.friday_app.specs.Outcome.{Stop, and_then, refuses}
+use Rattle.friday_app.specs.Inputs.{first_state_of, log_in, module_in}
+use Rattle.friday_app.specs.Outcome.{Stop, and_then, refuses_at_once}
 
 -- a pair that was read: the name of the module's file, the module, the log's head, and what is behind it
 pub record Loaded : Type 0 where
@@ -41,47 +41,47 @@ clash earlier head =
 
 abbrev pub unless_clash : List ℕ → Loaded → Option Reason → Result Loaded Stop
 unless_clash log_name l None = Ok l
-unless_clash log_name l (Some why) = Err (refuses log_name why)
+unless_clash log_name l (Some why) = Err (refuses_at_once log_name why)
 
 -- ---- the files, pair after pair
 
 -- the module's, then the log's, then the log against the pairs before it
-abbrev pub loaded : Store → List Loaded → Pair → Result Loaded Stop
-loaded store earlier pair =
-    and_then (module_of store pair.module_name) (λ m. and_then (log_of store pair.log_name) (λ log.
+abbrev pub loaded_pair : Store → List Loaded → Pair → Result Loaded Stop
+loaded_pair store earlier pair =
+    and_then (module_in store pair.module_name) (λ m. and_then (log_in store pair.log_name) (λ log.
     unless_clash pair.log_name (record { module_name = pair.module_name; «module» = m; head = log.0; left = log.1 }) (clash earlier log.0)))
 
-abbrev pub all_loaded : Store → List Loaded → List Pair → Result (List Loaded) Stop
-all_loaded store earlier [] = Ok earlier
-all_loaded store earlier (pair ∷ pairs) = and_then (loaded store earlier pair) (λ l. all_loaded store (earlier ++ l ∷ []) pairs)
+abbrev pub loaded_pairs : Store → List Loaded → List Pair → Result (List Loaded) Stop
+loaded_pairs store earlier [] = Ok earlier
+loaded_pairs store earlier (pair ∷ pairs) = and_then (loaded_pair store earlier pair) (λ l. loaded_pairs store (earlier ++ l ∷ []) pairs)
 
 -- ---- the replays
 
 -- the replay of a log from the first state of its process
-abbrev pub begun_replay : Loaded → Result Replaying Stop
-begun_replay l =
-    and_then (begun_of l.module_name l.«module» l.head.process l.head.count) (λ begun. Ok (record { head = l.head; state = begun; left = l.left }))
+abbrev pub replay_of_log : Loaded → Result Replaying Stop
+replay_of_log l =
+    and_then (first_state_of l.module_name l.«module» l.head.process l.head.count) (λ begun. Ok (record { head = l.head; state = begun; left = l.left }))
 
 -- the replays of all logs, unless a process does not begin
 abbrev pub replays_of : List Loaded → Result (List Replaying) Stop
 replays_of [] = Ok []
-replays_of (l ∷ ls) = and_then (begun_replay l) (λ r. and_then (replays_of ls) (λ rs. Ok (r ∷ rs)))
+replays_of (l ∷ ls) = and_then (replay_of_log l) (λ r. and_then (replays_of ls) (λ rs. Ok (r ∷ rs)))
 
 -- put in its place by the number of its process
-abbrev pub placed : Replaying → List Replaying → List Replaying
-placed r [] = r ∷ []
-placed r (s ∷ rs) = if nat_lt s.head.process r.head.process then s ∷ placed r rs else r ∷ s ∷ rs
+abbrev pub insert_replay : Replaying → List Replaying → List Replaying
+insert_replay r [] = r ∷ []
+insert_replay r (s ∷ rs) = if nat_lt s.head.process r.head.process then s ∷ insert_replay r rs else r ∷ s ∷ rs
 
 -- each in its place among these
-abbrev pub all_placed : List Replaying → List Replaying → List Replaying
-all_placed sorted [] = sorted
-all_placed sorted (r ∷ rs) = all_placed (placed r sorted) rs
+abbrev pub sort_replays : List Replaying → List Replaying → List Replaying
+sort_replays sorted [] = sorted
+sort_replays sorted (r ∷ rs) = sort_replays (insert_replay r sorted) rs
 
 -- the replays of the logs of some pairs, in order of their processes' numbers. No process begins before all
 -- files are read
-abbrev pub opened : Store → List Pair → Result (List Replaying) Stop
-opened store pairs = and_then (all_loaded store [] pairs) (λ ls. and_then (replays_of ls) (λ rs. Ok (all_placed [] rs)))
+abbrev pub replays_of_pairs : Store → List Pair → Result (List Replaying) Stop
+replays_of_pairs store pairs = and_then (loaded_pairs store [] pairs) (λ ls. and_then (replays_of ls) (λ rs. Ok (sort_replays [] rs)))
 
 -- they are these, as far as the store tells its files
 abbrev pub WasOpened : List Pair → Option Store → List Replaying → Type 0
-WasOpened pairs told start = WhenTold told (λ store. opened store pairs ≡ Ok start)
+WasOpened pairs told start = WhenTold told (λ store. replays_of_pairs store pairs ≡ Ok start)

@@ -3,13 +3,13 @@ use Rattle.std.specs.Prelude.{ℕ, List, [], ◌++◌, Bool, true, false, length
 use Rattle.std.specs.List.{flat_map}
 use Rattle.guest_process.specs.declared.end.End.{End}
 use Rattle.group_record.specs.declared.summary.SummaryLine.{SummaryLine}
-use Rattle.group_record.specs.Answer.{lines_from}
+use Rattle.group_record.specs.Answer.{summary_lines}
 use Rattle.group_record.specs.Images.{images_of}
 use Rattle.group_record.specs.Logs.{logs}
 use Rattle.group_record.specs.Run.{Group, Progress}
 use Rattle.friday_app.specs.declared.refusal.Reason.TheVariants as reason
 use Rattle.friday_shell.specs.Ends.{end_text}
-use Rattle.friday_app.specs.Outcome.{Outcome, Refuses, Work}
+use Rattle.friday_app.specs.Outcome.{CommandOutcome, Refuses, Work}
 
 -- how a process stands, and `killed` where it was killed
 abbrev pub state_text : Bool → End → List ℕ
@@ -29,7 +29,7 @@ summary_text lines acted idle = flat_map process_line lines ++ items_line acted 
 -- the work of a run that was recorded whole: the logs, and behind them the images that were asked for
 abbrev pub recorded_work : Bool → Group → Progress → Work
 recorded_work images group done = record {
-  text = summary_text (lines_from group done.steps 0 group.names) (length done.steps) done.idle;
+  text = summary_text (summary_lines group done.steps 0 group.names) (length done.steps) done.idle;
   writes = logs group done.steps ++ images_of images group done;
   diverged = false;
 }
@@ -38,10 +38,10 @@ recorded_work images group done = record {
 abbrev pub written_before : Group → Progress → Work
 written_before group done = record { text = []; writes = logs group done.steps; diverged = false }
 
-abbrev pub by_room : Bool → List ℕ → Group → Progress → Option ℕ → Outcome
-by_room images schedule_name group done None = Ok (recorded_work images group done)
-by_room images schedule_name group done (Some item) = Err (Refuses schedule_name (reason.LogFull item) (written_before group done))
+abbrev pub outcome_by_room : Bool → List ℕ → Group → Progress → Option ℕ → CommandOutcome
+outcome_by_room images schedule_name group done None = Ok (recorded_work images group done)
+outcome_by_room images schedule_name group done (Some item) = Err (Refuses schedule_name (reason.LogFull item) (written_before group done))
 
 -- what the run of a schedule comes to, whose file has this name
-abbrev pub run_outcome : Bool → List ℕ → Group → Progress → Outcome
-run_outcome images schedule_name group done = by_room images schedule_name group done done.full
+abbrev pub run_outcome : Bool → List ℕ → Group → Progress → CommandOutcome
+run_outcome images schedule_name group done = outcome_by_room images schedule_name group done done.full

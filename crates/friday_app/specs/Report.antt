@@ -9,9 +9,9 @@ use Rattle.group_state.specs.declared.report.ReportLine.{ReportLine}
 use Rattle.group_state.specs.declared.report.Verdict.{Verdict}
 use Rattle.group_state.specs.declared.report.Verdict.TheVariants as said
 use Rattle.group_state.specs.declared.tally.GroupCounts.{GroupCounts}
-use Rattle.group_state.specs.Image.{memory_of, printed_of}
+use Rattle.group_state.specs.Image.{left_memory, left_print}
 use Rattle.group_state.specs.Place.{group_count}
-use Rattle.group_state.specs.Report.{all_accepted, line_of}
+use Rattle.group_state.specs.Report.{all_accepted, report_line}
 use Rattle.group_state.specs.Tally.{tally}
 use Rattle.friday_shell.specs.Ends.{end_text}
 use Rattle.friday_app.specs.Outcome.{Work}
@@ -33,9 +33,10 @@ verdict_text (said.Left bytes) = decimal bytes ++ codes " bytes left over"
 verdict_text (said.Diverged at why) = codes "diverged at " ++ (decimal at ++ (codes ": " ++ divergence_text why))
 
 -- the line of a log
-abbrev pub line_text : ReportLine → List ℕ
-line_text line =
-    line.name ++ (codes ": " ++ (decimal line.events ++ (codes " events, " ++ (end_text line.end ++ (codes ", " ++ (verdict_text line.verdict ++ codes "\n"))))))
+abbrev pub report_line_text : ReportLine → List ℕ
+report_line_text line =
+    line.name ++ (codes ": " ++ (decimal line.events ++ (codes " events, "
+    ++ (end_text line.end ++ (codes ", " ++ (verdict_text line.verdict ++ codes "\n"))))))
 
 abbrev pub count_text : ℕ → List ℕ → List ℕ
 count_text number what = decimal number ++ what
@@ -48,7 +49,7 @@ group_text c =
 
 -- a line for each log, and the counts
 abbrev pub report_text : List ReportLine → GroupCounts → List ℕ
-report_text lines counts = flat_map line_text lines ++ group_text counts
+report_text lines counts = flat_map report_line_text lines ++ group_text counts
 
 abbrev pub is_divergence : Verdict → Bool
 is_divergence (said.Diverged at why) = true
@@ -61,7 +62,7 @@ diverges lines = list_any (λ line. is_divergence line.verdict) lines
 
 -- the files of what each process leaves
 abbrev pub images_in : List Replaying → List (List ℕ × List ℕ)
-images_in start = flat_map (λ r. image_files r.head.name (memory_of r) (printed_of r)) start
+images_in start = flat_map (λ r. image_files r.head.name (left_memory r) (left_print r)) start
 
 abbrev pub images_if : Bool → List Replaying → List (List ℕ × List ℕ)
 images_if images start = if images then images_in start else []
@@ -69,7 +70,7 @@ images_if images start = if images then images_in start else []
 -- the work of a replay of these logs: what is said of them all, behind the images that were asked for
 abbrev pub replay_work : Bool → List Replaying → Work
 replay_work images start = record {
-  text = report_text (map line_of start) (tally (group_count start) (all_accepted start));
+  text = report_text (map report_line start) (tally (group_count start) (all_accepted start));
   writes = images_if images start;
-  diverged = diverges (map line_of start);
+  diverged = diverges (map report_line start);
 }

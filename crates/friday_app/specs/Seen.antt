@@ -18,7 +18,7 @@ use Rattle.friday_app.specs.declared.refusal.Answer.TheVariants as answered
 use Rattle.friday_app.specs.declared.refusal.Reason.TheVariants as reason
 use Rattle.friday_app.specs.declared.refusal.Refusal.{Refusal}
 use Rattle.friday_app.specs.declared.refusal.Refusal.TheVariants as refusal
-use Rattle.friday_app.specs.Call.{Names}
+use Rattle.friday_app.specs.Call.{RefusesFile}
 use Rattle.friday_app.specs.Command.{Command, Debug, Pair, Record, Replay}
 use Rattle.call_log.specs.Head.{IsHead}
 use Rattle.call_log.specs.Log.{head_at}
@@ -69,8 +69,8 @@ pub record Gathers (store : Store) (schedule_name : List ℕ) (schedule : Schedu
 -- what a recording that was not done comes to: the refusal of a module or of the schedule, a fault, or want of
 -- memory, which may also come in the place of a refusal
 abbrev pub RefusesAs : List ℕ → Schedule → RecordError → Refusal → Type 0
-RefusesAs schedule_name schedule (errors.BadSegment p) e = Names (module_name schedule p) reason.BadSegment e
-RefusesAs schedule_name schedule (errors.LogFull item) e = Names schedule_name (reason.LogFull item) e
+RefusesAs schedule_name schedule (errors.BadSegment p) e = RefusesFile (module_name schedule p) reason.BadSegment e
+RefusesAs schedule_name schedule (errors.LogFull item) e = RefusesFile schedule_name (reason.LogFull item) e
 RefusesAs schedule_name schedule errors.WriteFault e = e ≡ refusal.WriteFault
 RefusesAs schedule_name schedule errors.NoMemory e = e ≡ refusal.NoMemory
 
@@ -87,6 +87,6 @@ pub record IsApart (l other : LoadedFiles) : Type 0 where
   pub process : l.process ≢ other.process
   pub name : l.name ≢ other.name
 
-abbrev pub AreApart : List LoadedFiles → Type 0
-AreApart [] = Unit {0}
-AreApart (l ∷ ls) = AllByRecursion (IsApart l) ls × AreApart ls
+abbrev pub AreOneGroup : List LoadedFiles → Type 0
+AreOneGroup [] = Unit {0}
+AreOneGroup (l ∷ ls) = AllByRecursion (IsApart l) ls × AreOneGroup ls

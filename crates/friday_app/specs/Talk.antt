@@ -12,10 +12,10 @@ use Rattle.friday_shell.specs.Points.{SessionState}
 use Rattle.friday_shell.specs.Session.{answers, ends, opening, session_text, whole_lines, whole_part}
 use Rattle.friday_app.specs.declared.converse.Ended.{Ended}
 use Rattle.friday_app.specs.declared.converse.Ended.TheVariants as cause
-use Rattle.friday_app.specs.Conversation.{Asks, IsTaken}
+use Rattle.friday_app.specs.Conversation.{Asks, TakesOfInput}
 use Rattle.friday_app.specs.Debug.{early_lines, is_large, session_outcome}
 use Rattle.friday_app.specs.Limits.{most_input}
-use Rattle.friday_app.specs.Outcome.{text_of}
+use Rattle.friday_app.specs.Outcome.{outcome_text}
 
 -- how a failed write ends a session
 abbrev pub ended_by : WriteError → Ended
@@ -23,17 +23,17 @@ ended_by writing.Failed = cause.WriteFault
 ended_by writing.NoMemory = cause.NoMemory
 
 -- a session that did not begin failed to print, or ran out of memory
-abbrev pub Fails : Ended → Type 0
-Fails cause.Done = ⊥
-Fails cause.TooLarge = ⊥
-Fails cause.ReadFault = ⊥
-Fails cause.WriteFault = Unit {0}
-Fails cause.NoMemory = Unit {0}
+abbrev pub FailsAtOpening : Ended → Type 0
+FailsAtOpening cause.Done = ⊥
+FailsAtOpening cause.TooLarge = ⊥
+FailsAtOpening cause.ReadFault = ⊥
+FailsAtOpening cause.WriteFault = Unit {0}
+FailsAtOpening cause.NoMemory = Unit {0}
 
 -- where a session stands after these lines
-abbrev pub after : SessionState → List (List ℕ) → SessionState
-after state [] = state
-after state (line ∷ lines) = after (answer state line).state lines
+abbrev pub state_after_lines : SessionState → List (List ℕ) → SessionState
+state_after_lines state [] = state
+state_after_lines state (line ∷ lines) = state_after_lines (answer state line).state lines
 
 -- some of the front of these lines' answers was printed
 abbrev pub PrintsPart : SessionState → List (List ℕ) → Option (List ℕ) → Option (List ℕ) → Type 0
@@ -42,7 +42,7 @@ PrintsPart state lines printed printed_after = (n : ℕ) × (printed_after ≡ a
 -- a session was told these lines: it goes on, or ends, or could not say all
 abbrev pub Spoke : SessionState → List (List ℕ) → Option (List ℕ) → Option (List ℕ) → Result SessionState Ended → Type 0
 Spoke state lines printed printed_after (Ok new) =
-    (printed_after ≡ append_known printed (answers state lines)) × ((ends state lines ≡ false) × (new ≡ after state lines))
+    (printed_after ≡ append_known printed (answers state lines)) × ((ends state lines ≡ false) × (new ≡ state_after_lines state lines))
 Spoke state lines printed printed_after (Err cause.Done) = (printed_after ≡ append_known printed (answers state lines)) × (ends state lines ≡ true)
 Spoke state lines printed printed_after (Err cause.TooLarge) = ⊥
 Spoke state lines printed printed_after (Err cause.ReadFault) = ⊥
@@ -50,10 +50,11 @@ Spoke state lines printed printed_after (Err cause.WriteFault) = PrintsPart stat
 Spoke state lines printed printed_after (Err cause.NoMemory) = PrintsPart state lines printed printed_after
 
 -- a session over these replays took these bytes, and answered each whole line of them; none of them ends it
-pub record Stands (start : List Replaying) (printed now : Option (List ℕ)) (state : SessionState) (begun : List ℕ) (count : ℕ) (taken : List ℕ) : Type 0 where
+pub record SessionStands (start : List Replaying) (printed now : Option (List ℕ)) (state : SessionState)
+    (begun : List ℕ) (count : ℕ) (taken : List ℕ) : Type 0 where
   pub whole : taken ≡ whole_part taken ++ begun
   pub open_line : list_any is_line_feed begun ≡ false
-  pub state_is : state ≡ after (opening start) (whole_lines taken)
+  pub state_is : state ≡ state_after_lines (opening start) (whole_lines taken)
   pub goes_on : ends (opening start) (whole_lines taken) ≡ false
   pub text : now ≡ append_known printed (session_text start (whole_lines taken))
   pub count_is : count ≡ length taken
@@ -61,7 +62,7 @@ pub record Stands (start : List Replaying) (printed now : Option (List ℕ)) (st
 
 -- some of the front of what is to be printed was printed, whatever comes behind the bytes that were taken
 abbrev pub SaysPart : List Replaying → Option (List ℕ) → Option (List ℕ) → List ℕ → Type 0
-SaysPart start printed now taken = (rest : List ℕ) → (n : ℕ) × (now ≡ append_known printed (take n (text_of (session_outcome start (taken ++ rest)))))
+SaysPart start printed now taken = (rest : List ℕ) → (n : ℕ) × (now ≡ append_known printed (take n (outcome_text (session_outcome start (taken ++ rest)))))
 
 -- a line ended the session, whatever comes behind it
 pub record Quits (start : List Replaying) (printed now : Option (List ℕ)) (taken : List ℕ) : Type 0 where
@@ -86,7 +87,7 @@ Stops start printed now taken cause.NoMemory = SaysPart start printed now taken
 unfoldable pub GoesOn : List ℕ → Option (List ℕ) → Option (List ℕ) → SessionState → List ℕ → ℕ → SessionState → List ℕ → ℕ → Type 0
 GoesOn bytes before now state begun count new new_begun new_count =
     (start : List Replaying) (printed : Option (List ℕ)) (taken : List ℕ)
-    → Stands start printed before state begun count taken → Stands start printed now new new_begun new_count (taken ++ bytes)
+    → SessionStands start printed before state begun count taken → SessionStands start printed now new new_begun new_count (taken ++ bytes)
 
 -- no read failed
 abbrev pub ReadsOn : Ended → Type 0
@@ -100,15 +101,16 @@ ReadsOn cause.NoMemory = Unit {0}
 unfoldable pub StopsIn : List ℕ → Option (List ℕ) → Option (List ℕ) → SessionState → List ℕ → ℕ → Ended → Type 0
 StopsIn bytes before now state begun count why =
     ReadsOn why × ((start : List Replaying) (printed : Option (List ℕ)) (taken : List ℕ)
-    → Stands start printed before state begun count taken → Stops start printed now (taken ++ bytes) why)
+    → SessionStands start printed before state begun count taken → Stops start printed now (taken ++ bytes) why)
 
 -- ---- a piece of the input
 
 -- a piece was read and taken, or there was none left
-pub record Hears (start : List Replaying) (printed now : Option (List ℕ)) (state : SessionState) (begun : List ℕ) (count : ℕ) (taken : List ℕ) (left left_after : Option (List ℕ)) (more : Bool) : Type 0 where
+pub record Hears (start : List Replaying) (printed now : Option (List ℕ)) (state : SessionState) (begun : List ℕ) (count : ℕ)
+    (taken : List ℕ) (left left_after : Option (List ℕ)) (more : Bool) : Type 0 where
   pub piece : List ℕ
-  pub stands : Stands start printed now state begun count (taken ++ piece)
-  pub read : WhenTold left (λ input. IsTaken input left_after piece)
+  pub stands : SessionStands start printed now state begun count (taken ++ piece)
+  pub read : WhenTold left (λ input. TakesOfInput input left_after piece)
   pub at_end : more ≡ false → (piece ≡ []) × WhenTold left (λ input. input ≡ [])
 
 -- all whole lines of these bytes are answered
@@ -118,31 +120,33 @@ pub record Pauses (start : List Replaying) (printed now : Option (List ℕ)) (ta
   pub within : length taken ≤ most_input
 
 -- why a session stopped at a piece
-abbrev pub StopsAt : List Replaying → Option (List ℕ) → Option (List ℕ) → List ℕ → Ended → Type 0
-StopsAt start printed now taken cause.Done = Quits start printed now taken
-StopsAt start printed now taken cause.TooLarge = Overruns start printed now taken
-StopsAt start printed now taken cause.ReadFault = Pauses start printed now taken
-StopsAt start printed now taken cause.WriteFault = SaysPart start printed now taken
-StopsAt start printed now taken cause.NoMemory = SaysPart start printed now taken
+abbrev pub StopsAtPiece : List Replaying → Option (List ℕ) → Option (List ℕ) → List ℕ → Ended → Type 0
+StopsAtPiece start printed now taken cause.Done = Quits start printed now taken
+StopsAtPiece start printed now taken cause.TooLarge = Overruns start printed now taken
+StopsAtPiece start printed now taken cause.ReadFault = Pauses start printed now taken
+StopsAtPiece start printed now taken cause.WriteFault = SaysPart start printed now taken
+StopsAtPiece start printed now taken cause.NoMemory = SaysPart start printed now taken
 
 -- no piece was read, or the session stopped in it
-pub record Breaks (start : List Replaying) (printed now : Option (List ℕ)) (taken : List ℕ) (left left_after : Option (List ℕ)) (size : ℕ) (why : Ended) : Type 0 where
+pub record Breaks (start : List Replaying) (printed now : Option (List ℕ)) (taken : List ℕ)
+    (left left_after : Option (List ℕ)) (size : ℕ) (why : Ended) : Type 0 where
   pub piece : List ℕ
   pub short : length piece ≤ size
-  pub read : WhenTold left (λ input. IsTaken input left_after piece)
-  pub stops : StopsAt start printed now (taken ++ piece) why
+  pub read : WhenTold left (λ input. TakesOfInput input left_after piece)
+  pub stops : StopsAtPiece start printed now (taken ++ piece) why
 
 -- from where a session stood on, it hears so
-unfoldable pub HearsFrom : Option (List ℕ) → Option (List ℕ) → SessionState → List ℕ → ℕ → SessionState → List ℕ → ℕ → Option (List ℕ) → Option (List ℕ) → Bool → Type 0
+unfoldable pub HearsFrom : Option (List ℕ) → Option (List ℕ) → SessionState → List ℕ → ℕ
+    → SessionState → List ℕ → ℕ → Option (List ℕ) → Option (List ℕ) → Bool → Type 0
 HearsFrom before now state begun count new new_begun new_count left left_after more =
     (start : List Replaying) (printed : Option (List ℕ)) (taken : List ℕ)
-    → Stands start printed before state begun count taken → Hears start printed now new new_begun new_count taken left left_after more
+    → SessionStands start printed before state begun count taken → Hears start printed now new new_begun new_count taken left left_after more
 
 -- from where a session stood on, it breaks so
 unfoldable pub BreaksFrom : Option (List ℕ) → Option (List ℕ) → SessionState → List ℕ → ℕ → Option (List ℕ) → Option (List ℕ) → ℕ → Ended → Type 0
 BreaksFrom before now state begun count left left_after size why =
     (start : List Replaying) (printed : Option (List ℕ)) (taken : List ℕ)
-    → Stands start printed before state begun count taken → Breaks start printed now taken left left_after size why
+    → SessionStands start printed before state begun count taken → Breaks start printed now taken left left_after size why
 
 -- ---- the whole session
 
@@ -159,7 +163,7 @@ pub record Concludes (start : List Replaying) (printed now : Option (List ℕ)) 
 
 -- some of the front of what was to be printed
 abbrev pub SaysSome : List Replaying → Option (List ℕ) → Option (List ℕ) → List ℕ → Type 0
-SaysSome start printed now input = (n : ℕ) × (now ≡ append_known printed (take n (text_of (session_outcome start input))))
+SaysSome start printed now input = (n : ℕ) × (now ≡ append_known printed (take n (outcome_text (session_outcome start input))))
 
 -- what was said of an input of which these bytes were taken
 abbrev pub Said : List Replaying → Option (List ℕ) → Option (List ℕ) → List ℕ → List ℕ → Ended → Type 0
@@ -171,10 +175,10 @@ Said start printed now taken input cause.WriteFault = SaysSome start printed now
 Said start printed now taken input cause.NoMemory = SaysSome start printed now input
 
 -- a session over these replays read some of an input, and is over
-pub record Holds (start : List Replaying) (left left_after printed now : Option (List ℕ)) (why : Ended) : Type 0 where
+pub record SessionHolds (start : List Replaying) (left left_after printed now : Option (List ℕ)) (why : Ended) : Type 0 where
   pub taken : List ℕ
   pub asks : Asks start taken
-  pub read : WhenTold left (λ input. IsTaken input left_after taken)
+  pub read : WhenTold left (λ input. TakesOfInput input left_after taken)
   pub said : WhenTold left (λ input. Said start printed now taken input why)
   pub large : why ≡ cause.TooLarge → (earlier : List ℕ) × (now ≡ append_known printed earlier)
 
@@ -182,16 +186,16 @@ pub record Holds (start : List Replaying) (left left_after printed now : Option 
 unfoldable pub HoldsFrom : Option (List ℕ) → Option (List ℕ) → SessionState → List ℕ → ℕ → Option (List ℕ) → Option (List ℕ) → Ended → Type 0
 HoldsFrom before now state begun count left left_after why =
     (start : List Replaying) (printed : Option (List ℕ))
-    → Stands start printed before state begun count [] → Holds start left left_after printed now why
+    → SessionStands start printed before state begun count [] → SessionHolds start left left_after printed now why
 
 -- a session is open, and no byte was taken
 unfoldable pub Opens : List Replaying → Option (List ℕ) → Option (List ℕ) → SessionState → List ℕ → ℕ → Type 0
-Opens start printed now state begun count = Stands start printed now state begun count []
+Opens start printed now state begun count = SessionStands start printed now state begun count []
 
 -- a session did not open
 unfoldable pub OpensPart : List Replaying → Option (List ℕ) → Option (List ℕ) → Ended → Type 0
-OpensPart start printed now why = SaysPart start printed now [] × Fails why
+OpensPart start printed now why = SaysPart start printed now [] × FailsAtOpening why
 
 -- a session was held
 unfoldable pub Held : List Replaying → Option (List ℕ) → Option (List ℕ) → Option (List ℕ) → Option (List ℕ) → Ended → Type 0
-Held start left left_after printed now why = Holds start left left_after printed now why
+Held start left left_after printed now why = SessionHolds start left left_after printed now why

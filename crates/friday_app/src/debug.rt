@@ -1,7 +1,7 @@
 // `debug MODULE LOG ..`: a session over the logs of a group, each by its module.
 ghost use Rattle.std.specs.Prelude.{◌≡◌, map};
 ghost use Rattle.friday_app.specs.Command.{Debug};
-ghost use Rattle.friday_app.specs.Run.{Run};
+ghost use Rattle.friday_app.specs.Run.{CommandRun, outside};
 ghost use Rattle.friday_app.specs.Seen.{pair_of};
 
 use crate::command::Pair;
@@ -20,9 +20,9 @@ pub fn debug<F: Files, S: Source, K: Sink>(
     input: &mut S,
     out: &mut K,
 ) -> Status
-    ensures { Run (Some (Debug (map pair_of pairs.now)))
-        (record { told = F.told files.old; counts = F.counts files.old; left = S.left input.old; input_faults = S.faults input.old; taken = K.taken out.old; out_faults = K.faults out.old })
-        (record { told = F.told files.new; counts = F.counts files.new; left = S.left input.new; input_faults = S.faults input.new; taken = K.taken out.new; out_faults = K.faults out.new })
+    ensures { CommandRun (Some (Debug (map pair_of pairs.now)))
+        (outside (F.told files.old) (F.counts files.old) (S.left input.old) (S.faults input.old) (K.taken out.old) (K.faults out.old))
+        (outside (F.told files.new) (F.counts files.new) (S.left input.new) (S.faults input.new) (K.taken out.new) (K.faults out.new))
         result }
 {
     let all = match load_all(alloc, pairs, files) {

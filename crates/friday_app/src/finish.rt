@@ -2,7 +2,7 @@
 ghost use Rattle.std.specs.Prelude.{◌≡◌, ◌≢◌, ◌⊎◌, ◌++◌, IfOk, OnOk};
 ghost use Rattle.fri_outside.specs.Outside.{Rose};
 ghost use Rattle.friday_app.specs.Outcome.{reason_text, refused_line, absent_line};
-ghost use Rattle.friday_app.specs.Call.{IsAnswer, Prints, Finishes};
+ghost use Rattle.friday_app.specs.Call.{IsAnswerStatus, Prints, FinishesCall};
 
 use crate::refusal::{Answer, Reason, Refusal};
 use crate::status::Status;
@@ -66,7 +66,7 @@ fn print_absent(alloc: Global, file: &str) -> Result<Text, AllocError>
 
 /// Writes a text, and gives the status that the call then has.
 pub fn say<K: Sink>(out: &mut K, text: &[u8], status: Status) -> Status
-    ensures status { IsAnswer result → result ≡ status }
+    ensures status { IsAnswerStatus result → result ≡ status }
     ensures text { Prints result text.now (K.taken out.old) (K.taken out.new) }
     ensures read_fault { result ≡ Status.ReadFault → status ≡ Status.ReadFault }
     ensures write_fault { result ≡ Status.WriteFault → Rose (K.faults out.old) (K.faults out.new) ⊎ (status ≡ Status.WriteFault) }
@@ -80,7 +80,7 @@ pub fn say<K: Sink>(out: &mut K, text: &[u8], status: Status) -> Status
 
 /// Writes the line that refuses a file.
 pub fn say_refused<K: Sink>(alloc: Global, file: &str, reason: Reason, out: &mut K) -> Status
-    ensures status { IsAnswer result → result ≡ Status.Refused }
+    ensures status { IsAnswerStatus result → result ≡ Status.Refused }
     ensures text { Prints result (refused_line file.now reason) (K.taken out.old) (K.taken out.new) }
     ensures read_fault { result ≢ Status.ReadFault }
     ensures write_fault { result ≡ Status.WriteFault → Rose (K.faults out.old) (K.faults out.new) }
@@ -92,7 +92,7 @@ pub fn say_refused<K: Sink>(alloc: Global, file: &str, reason: Reason, out: &mut
 }
 
 fn say_absent<K: Sink>(alloc: Global, file: &str, out: &mut K) -> Status
-    ensures status { IsAnswer result → result ≡ Status.Absent }
+    ensures status { IsAnswerStatus result → result ≡ Status.Absent }
     ensures text { Prints result (absent_line file.now) (K.taken out.old) (K.taken out.new) }
     ensures read_fault { result ≢ Status.ReadFault }
     ensures write_fault { result ≡ Status.WriteFault → Rose (K.faults out.old) (K.faults out.new) }
@@ -105,7 +105,7 @@ fn say_absent<K: Sink>(alloc: Global, file: &str, out: &mut K) -> Status
 
 /// Writes what a command's result comes to.
 pub fn finish<K: Sink>(alloc: Global, ended: Result<Answer, Refusal>, out: &mut K) -> Status
-    ensures { Finishes ended result (K.taken out.old) (K.taken out.new) (K.faults out.old) (K.faults out.new) }
+    ensures { FinishesCall ended result (K.taken out.old) (K.taken out.new) (K.faults out.old) (K.faults out.new) }
 {
     match ended {
         Ok(Answer::Done(text)) => say(out, text.bytes(), Status::Done),

@@ -10,7 +10,7 @@ ghost use Rattle.call_log.specs.Head.{IsHead};
 ghost use Rattle.call_log.specs.Log.{head_at};
 ghost use Rattle.guest_process.specs.EventCount.{IsFresh};
 ghost use Rattle.friday_app.specs.Expected.{modules_of, schedule_in};
-ghost use Rattle.friday_app.specs.Inputs.{begun_of, head_or, module_of, spelled_or, valid_or};
+ghost use Rattle.friday_app.specs.Inputs.{first_state_of, log_or_bad_head, module_in, spelled_module, valid_module};
 ghost use Rattle.friday_app.specs.Call.{StopsAs, Raises};
 
 use crate::refusal::{Reason, Refusal};
@@ -56,8 +56,8 @@ pub fn take_file<F: Files>(
 // The module that the bytes of a file spell.
 fn spelled(alloc: Global, name: &str, bytes: &[u8]) -> Result<Module, Refusal>
     ensures answer { MatchResult result
-        (λ m. spelled_or name.now (module_of_bytes bytes.now) ≡ Ok (shown m))
-        (StopsAs (spelled_or name.now (module_of_bytes bytes.now))) }
+        (λ m. spelled_module name.now (module_of_bytes bytes.now) ≡ Ok (shown m))
+        (StopsAs (spelled_module name.now (module_of_bytes bytes.now))) }
     ensures cause { (old new : Counts) → IfErr result (Raises old new) }
 {
     match decode(alloc, bytes) {
@@ -69,14 +69,14 @@ fn spelled(alloc: Global, name: &str, bytes: &[u8]) -> Result<Module, Refusal>
 
 // The module, where it is valid.
 #[tactic(auto, using(crate::proofs::Faults::no_fault, crate::proofs::Faults::has_float, crate::proofs::Faults::bad_import, crate::proofs::Faults::untyped, crate::proofs::Faults::over_limit, crate::proofs::Faults::no_start))]
-fn valid(alloc: Global, name: &str, checked: Module) -> Result<ValidModule, Refusal>
+fn valid(alloc: Global, name: &str, module: Module) -> Result<ValidModule, Refusal>
     ensures answer { MatchResult result
-        (λ v. valid_or name.now (shown checked) ≡ Ok (shown v))
-        (StopsAs (valid_or name.now (shown checked))) }
+        (λ v. valid_module name.now (shown «module») ≡ Ok (shown v))
+        (StopsAs (valid_module name.now (shown «module»))) }
     ensures cause { (old new : Counts) → IfErr result (Raises old new) }
 {
     exact_fault();
-    match validate(alloc, checked) {
+    match validate(alloc, module) {
         Ok(valid) => Ok(valid),
         Err(Invalid::HasFloat) => Err(Refusal::refuse(alloc, name, Reason::HasFloat)),
         Err(Invalid::BadImport) => Err(Refusal::refuse(alloc, name, Reason::BadImport)),
@@ -90,8 +90,8 @@ fn valid(alloc: Global, name: &str, checked: Module) -> Result<ValidModule, Refu
 // The valid module that the bytes of a file spell.
 fn read_module(alloc: Global, name: &str, bytes: &[u8]) -> Result<ValidModule, Refusal>
     ensures answer { MatchResult result
-        (λ v. and_then (spelled_or name.now (module_of_bytes bytes.now)) (valid_or name.now) ≡ Ok (shown v))
-        (StopsAs (and_then (spelled_or name.now (module_of_bytes bytes.now)) (valid_or name.now))) }
+        (λ v. and_then (spelled_module name.now (module_of_bytes bytes.now)) (valid_module name.now) ≡ Ok (shown v))
+        (StopsAs (and_then (spelled_module name.now (module_of_bytes bytes.now)) (valid_module name.now))) }
     ensures cause { (old new : Counts) → IfErr result (Raises old new) }
 {
     let spelled = spelled(alloc, name, bytes)?;
@@ -105,7 +105,7 @@ pub fn take_module<F: Files>(
     files: &mut F,
 ) -> Result<ValidModule, Refusal>
     ensures answer { WhenTold (F.told files.old) (λ store. MatchResult result
-        (λ m. module_of store name.now ≡ Ok (shown m)) (StopsAs (module_of store name.now))) }
+        (λ m. module_in store name.now ≡ Ok (shown m)) (StopsAs (module_in store name.now))) }
     ensures same { F.told files.new ≡ F.told files.old }
     ensures counts { NoneFell (F.counts files.old) (F.counts files.new) }
     ensures cause { IfErr result (Raises (F.counts files.old) (F.counts files.new)) }
@@ -122,7 +122,7 @@ fn take_module_of<F: Files>(
 ) -> Result<ValidModule, Refusal>
     requires { IsProcess line.now }
     ensures answer { WhenTold (F.told files.old) (λ store. MatchResult result
-        (λ m. module_of store line.now.«module» ≡ Ok (shown m)) (StopsAs (module_of store line.now.«module»))) }
+        (λ m. module_in store line.now.«module» ≡ Ok (shown m)) (StopsAs (module_in store line.now.«module»))) }
     ensures same { F.told files.new ≡ F.told files.old }
     ensures counts { NoneFell (F.counts files.old) (F.counts files.new) }
     ensures cause { IfErr result (Raises (F.counts files.old) (F.counts files.new)) }
@@ -156,20 +156,20 @@ pub fn take_modules<F: Files>(
 pub fn begin_process<'m>(
     alloc: Global,
     name: &str,
-    guest: &'m ValidModule,
+    module: &'m ValidModule,
     who: u32,
     count: u32,
 ) -> Result<Process<'m>, Refusal>
     requires who { who < count }
     requires count { count ≤ 16 }
     ensures answer { MatchResult result
-        (λ begun. begun_of name.now (shown guest.now) who count ≡ Ok begun)
-        (StopsAs (begun_of name.now (shown guest.now) who count)) }
+        (λ begun. first_state_of name.now (shown «module».now) who count ≡ Ok begun)
+        (StopsAs (first_state_of name.now (shown «module».now) who count)) }
     ensures fresh { IfOk result (IsFresh who count) }
     ensures cause { (old new : Counts) → IfErr result (Raises old new) }
 {
     counting();
-    match Process::start(alloc, guest, who, count) {
+    match Process::start(alloc, module, who, count) {
         Ok(process) => Ok(process),
         Err(StartError::BadSegment) => Err(Refusal::refuse(alloc, name, Reason::BadSegment)),
         Err(StartError::NoMemory) => Err(Refusal::NoMemory),
@@ -215,8 +215,8 @@ pub fn take_log<F: Files>(alloc: Global, name: &str, files: &mut F) -> Result<Ve
 pub fn begin_log<'b>(alloc: Global, name: &str, bytes: &'b [u8]) -> Result<LogView<'b>, Refusal>
     ensures head { IfOk result (λ log. IsHead log.head) }
     ensures answer { MatchResult result
-        (λ log. head_or name.now (head_at bytes.now) ≡ Ok (log.head, log.left))
-        (StopsAs (head_or name.now (head_at bytes.now))) }
+        (λ log. log_or_bad_head name.now (head_at bytes.now) ≡ Ok (log.head, log.left))
+        (StopsAs (log_or_bad_head name.now (head_at bytes.now))) }
     ensures cause { (old new : Counts) → IfErr result (Raises old new) }
 {
     match LogView::begin(bytes) {

@@ -5,9 +5,9 @@ ghost use Rattle.fri_outside.specs.Outside.{Counts, WhenTold, NoneFell};
 ghost use Rattle.call_log.specs.Head.{IsHead, head_of};
 ghost use Rattle.group_state.specs.Place.{AreParts};
 ghost use Rattle.friday_app.specs.Call.{StopsAs, Raises};
-ghost use Rattle.friday_app.specs.Pairs.{Loaded as LoadedOf, all_loaded, all_placed, begun_replay, clash, has_name, has_process, is_other_group, loaded, placed, replays_of};
+ghost use Rattle.friday_app.specs.Pairs.{Loaded as LoadedOf, clash, has_name, has_process, insert_replay, is_other_group, loaded_pair, loaded_pairs, replay_of_log, replays_of, sort_replays};
 ghost use Rattle.proc_replay.specs.Replaying.{Replaying};
-ghost use Rattle.friday_app.specs.Seen.{AreApart, AreLoaded, IsLoaded, pair_of};
+ghost use Rattle.friday_app.specs.Seen.{AreLoaded, AreOneGroup, IsLoaded, pair_of};
 
 use crate::command::Pair;
 use crate::inputs::{begin_log, begin_process, take_log, take_module};
@@ -80,8 +80,8 @@ fn load<'a, F: Files>(
     files: &mut F,
 ) -> Result<Loaded<'a>, Refusal>
     ensures answer { WhenTold (F.told files.old) (λ store. (ls : List LoadedOf) → AreLoaded earlier.now ls → MatchResult result
-        (λ l. (is : LoadedOf) × ((loaded store ls (pair_of pair.entry) ≡ Ok is) × IsLoaded l is))
-        (StopsAs (loaded store ls (pair_of pair.entry)))) }
+        (λ l. (is : LoadedOf) × ((loaded_pair store ls (pair_of pair.entry) ≡ Ok is) × IsLoaded l is))
+        (StopsAs (loaded_pair store ls (pair_of pair.entry)))) }
     ensures fits { IfOk result (λ l. (ls : List LoadedOf) → AreLoaded earlier.now ls
         → (is : LoadedOf) × (IsLoaded l is × (clash ls is.head ≡ None))) }
     ensures same { F.told files.new ≡ F.told files.old }
@@ -113,10 +113,10 @@ pub(crate) fn load_all<'a, F: Files>(
     files: &mut F,
 ) -> Result<Vec<Loaded<'a>>, Refusal>
     ensures answer { WhenTold (F.told files.old) (λ store. MatchResult result
-        (λ all. (ls : List LoadedOf) × ((all_loaded store [] (map pair_of pairs.now) ≡ Ok ls) × AreLoaded all.items ls))
-        (StopsAs (all_loaded store [] (map pair_of pairs.now)))) }
+        (λ all. (ls : List LoadedOf) × ((loaded_pairs store [] (map pair_of pairs.now) ≡ Ok ls) × AreLoaded all.items ls))
+        (StopsAs (loaded_pairs store [] (map pair_of pairs.now)))) }
     ensures loaded { IfOk result (λ all. (ls : List LoadedOf) × AreLoaded all.items ls) }
-    ensures apart { IfOk result (λ all. AreApart all.items) }
+    ensures apart { IfOk result (λ all. AreOneGroup all.items) }
     ensures same { F.told files.new ≡ F.told files.old }
     ensures counts { NoneFell (F.counts files.old) (F.counts files.new) }
     ensures cause { IfErr result (Raises (F.counts files.old) (F.counts files.new)) }
@@ -133,7 +133,7 @@ pub(crate) fn load_all<'a, F: Files>(
 fn begin_replay<'m>(alloc: Global, loaded: &'m Loaded<'_>) -> Result<Replayer<'m, 'm>, Refusal>
     requires { (is : LoadedOf) × IsLoaded loaded.now is }
     ensures answer { (is : LoadedOf) → IsLoaded loaded.now is → MatchResult result
-        (λ replay. begun_replay is ≡ Ok replay) (StopsAs (begun_replay is)) }
+        (λ replay. replay_of_log is ≡ Ok replay) (StopsAs (replay_of_log is)) }
     ensures fresh { IfOk result (λ replay. replay.state.events ≡ 0) }
     ensures cause { (old new : Counts) → IfErr result (Raises old new) }
 {
@@ -162,7 +162,7 @@ fn place_of(sorted: &[Replayer<'_, '_>], process: u32) -> usize
 
 // Puts a replay in its place by the number of its process.
 fn place<'m>(sorted: &mut Vec<Replayer<'m, 'm>>, replay: Replayer<'m, 'm>) -> Result<(), AllocError>
-    ensures { OnOk result (sorted.new.items ≡ placed replay.entry sorted.old.items) }
+    ensures { OnOk result (sorted.new.items ≡ insert_replay replay.entry sorted.old.items) }
 {
     let place = place_of(sorted, replay.head().process);
     sorted.insert(place, replay)?;
@@ -175,9 +175,9 @@ pub(crate) fn begin_all<'m>(
     all: &'m [Loaded<'_>],
 ) -> Result<Vec<Replayer<'m, 'm>>, Refusal>
     requires loaded { (ls : List LoadedOf) × AreLoaded all.now ls }
-    requires apart { AreApart all.now }
+    requires apart { AreOneGroup all.now }
     ensures answer { (ls : List LoadedOf) → AreLoaded all.now ls → MatchResult result
-        (λ replays. (rs : List Replaying) × ((replays_of ls ≡ Ok rs) × (replays.items ≡ all_placed [] rs)))
+        (λ replays. (rs : List Replaying) × ((replays_of ls ≡ Ok rs) × (replays.items ≡ sort_replays [] rs)))
         (StopsAs (replays_of ls)) }
     ensures parts { IfOk result (λ replays. AreParts replays.items) }
     ensures heads { IfOk result (λ replays. All (λ r. IsHead r.head) replays.items) }

@@ -4,11 +4,11 @@ ghost use Rattle.std.specs.Prelude.{◌≡◌, ◌<◌, Bool, ℕ, None, length,
 ghost use Rattle.fri_outside.specs.Outside.{WhenTold, NoneFell};
 ghost use Rattle.fri_outside.specs.Several.{OthersStay};
 ghost use Rattle.wasm_types.specs.Modules.{module_of as shown};
-ghost use Rattle.group_record.specs.Answer.{StoppedWhere, begun};
-ghost use Rattle.friday_app.specs.Outcome.{writes_of};
+ghost use Rattle.group_record.specs.Answer.{StoppedWhere, first_states};
+ghost use Rattle.friday_app.specs.Outcome.{writes_of, written_names};
 ghost use Rattle.friday_app.specs.Expected.{group_outcome, module_name, record_outcome};
 ghost use Rattle.friday_app.specs.Agreement.{LeavesMoment, LeavesRecording};
-ghost use Rattle.friday_app.specs.Call.{StopsAs, Tells, Makes, Keeps, DivergesOnlyIn, IsEnd, Names, Raises};
+ghost use Rattle.friday_app.specs.Call.{StopsAs, TellsOutcome, Makes, Keeps, DivergesOnlyIn, IsAnswerResult, RefusesFile, Raises};
 ghost use Rattle.friday_app.specs.Seen.{Gathers, RefusesAs};
 
 use crate::inputs::{take_modules, take_schedule};
@@ -24,7 +24,7 @@ use wasm_types::ValidModule;
 // Refuses the module of process p, with which it does not begin.
 fn refuse_module(alloc: Global, schedule: &Schedule, p: u32) -> Refusal
     requires { p < length schedule.now.processes }
-    ensures { Names (module_name schedule.now p) Reason.BadSegment result }
+    ensures { RefusesFile (module_name schedule.now p) Reason.BadSegment result }
 {
     let module = &schedule.processes()[p as usize].module;
     match String::from_utf8_lossy(alloc, module.as_slice()) {
@@ -83,10 +83,10 @@ fn record_group<F: Files>(
     files: &mut F,
 ) -> Result<Answer, Refusal>
     requires { length modules.now ≡ length schedule.now.processes }
-    ensures tells { Tells (group_outcome images schedule_file.now schedule.now (begun schedule.now (map shown modules.now))) result }
-    ensures makes { Makes result (writes_of (group_outcome images schedule_file.now schedule.now (begun schedule.now (map shown modules.now))))
+    ensures tells { TellsOutcome (group_outcome images schedule_file.now schedule.now (first_states schedule.now (map shown modules.now))) result }
+    ensures makes { Makes result (writes_of (group_outcome images schedule_file.now schedule.now (first_states schedule.now (map shown modules.now))))
         (F.told files.old) (F.told files.new) }
-    ensures stopped { StoppedWhere schedule.now images (begun schedule.now (map shown modules.now)) (F.told files.old) (F.told files.new) }
+    ensures stopped { StoppedWhere schedule.now images (first_states schedule.now (map shown modules.now)) (F.told files.old) (F.told files.new) }
     ensures keeps { Keeps result (F.told files.old) (F.told files.new) }
     ensures done { DivergesOnlyIn None result }
     ensures counts { NoneFell (F.counts files.old) (F.counts files.new) }
@@ -110,13 +110,13 @@ pub fn record<F: Files>(
     schedule_file: &str,
     files: &mut F,
 ) -> Result<Answer, Refusal>
-    ensures tells { WhenTold (option_map (record_outcome images schedule_file.now) (F.told files.old)) (λ outcome. Tells outcome result) }
+    ensures tells { WhenTold (option_map (record_outcome images schedule_file.now) (F.told files.old)) (λ outcome. TellsOutcome outcome result) }
     ensures makes { WhenTold (option_map (record_outcome images schedule_file.now) (F.told files.old)) (λ outcome.
         Makes result (writes_of outcome) (F.told files.old) (F.told files.new)) }
-    ensures others { OthersStay (λ store. map (λ file. file.0) (writes_of (record_outcome images schedule_file.now store))) (F.told files.old) (F.told files.new) }
+    ensures others { OthersStay (λ store. written_names (record_outcome images schedule_file.now store)) (F.told files.old) (F.told files.new) }
     ensures keeps { Keeps result (F.told files.old) (F.told files.new) }
     ensures done { DivergesOnlyIn None result }
-    ensures recorded { IsEnd result → WhenTold (F.told files.old) (λ before. WhenTold (F.told files.new) (LeavesRecording schedule_file.now before)) }
+    ensures recorded { IsAnswerResult result → WhenTold (F.told files.old) (λ before. WhenTold (F.told files.new) (LeavesRecording schedule_file.now before)) }
     ensures moment { WhenTold (F.told files.old) (λ before. LeavesMoment images schedule_file.now before (F.told files.new)) }
     ensures counts { NoneFell (F.counts files.old) (F.counts files.new) }
     ensures cause { IfErr result (Raises (F.counts files.old) (F.counts files.new)) }

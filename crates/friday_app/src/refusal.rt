@@ -49,11 +49,11 @@ pub enum Refusal {
 }
 
 impl Refusal {
-    ghost use Rattle.friday_app.specs.Call.{Names, NamesAbsent};
+    ghost use Rattle.friday_app.specs.Call.{NamesAbsent, RefusesFile};
 
     /// The refusal of a file, or want of memory for its name.
     pub fn refuse(alloc: Global, file: &str, reason: Reason) -> Refusal
-        ensures { Names file.now reason result }
+        ensures { RefusesFile file.now reason result }
     {
         match String::from_str(alloc, file) {
             Ok(file) => Refusal::Refused(file, reason),

@@ -3,10 +3,10 @@ ghost use Rattle.std.specs.Prelude.{◌≡◌, All, List, map, option_map, IfErr
 ghost use Rattle.fri_outside.specs.Outside.{WhenTold, NoneFell};
 ghost use Rattle.fri_outside.specs.Several.{ChangesOnly, OthersStay, with_files};
 ghost use Rattle.call_log.specs.Head.{IsHead};
-ghost use Rattle.friday_app.specs.Call.{DivergesOnlyIn, Keeps, Makes, Raises, Tells};
+ghost use Rattle.friday_app.specs.Call.{DivergesOnlyIn, Keeps, Makes, Raises, TellsOutcome};
 ghost use Rattle.friday_app.specs.Command.{Replay};
 ghost use Rattle.friday_app.specs.Expected.{replay_outcome};
-ghost use Rattle.friday_app.specs.Outcome.{writes_of};
+ghost use Rattle.friday_app.specs.Outcome.{writes_of, written_names};
 ghost use Rattle.friday_app.specs.Report.{images_if, images_in};
 ghost use Rattle.friday_app.specs.Seen.{MakesAll, pair_of};
 
@@ -76,10 +76,10 @@ pub fn replay<F: Files>(
     pairs: &[Pair<'_>],
     files: &mut F,
 ) -> Result<Answer, Refusal>
-    ensures tells { WhenTold (option_map (replay_outcome images (map pair_of pairs.now)) (F.told files.old)) (λ outcome. Tells outcome result) }
+    ensures tells { WhenTold (option_map (replay_outcome images (map pair_of pairs.now)) (F.told files.old)) (λ outcome. TellsOutcome outcome result) }
     ensures makes { WhenTold (option_map (replay_outcome images (map pair_of pairs.now)) (F.told files.old)) (λ outcome.
         Makes result (writes_of outcome) (F.told files.old) (F.told files.new)) }
-    ensures others { OthersStay (λ store. map (λ file. file.0) (writes_of (replay_outcome images (map pair_of pairs.now) store))) (F.told files.old) (F.told files.new) }
+    ensures others { OthersStay (λ store. written_names (replay_outcome images (map pair_of pairs.now) store)) (F.told files.old) (F.told files.new) }
     ensures keeps { Keeps result (F.told files.old) (F.told files.new) }
     ensures counts { NoneFell (F.counts files.old) (F.counts files.new) }
     ensures cause { IfErr result (Raises (F.counts files.old) (F.counts files.new)) }

@@ -1,7 +1,7 @@
 // The report of a replay.
 ghost use Rattle.std.specs.Prelude.{◌≡◌, ◌++◌, IfOk, OnOk};
 ghost use Rattle.group_state.specs.Report.{counts_in};
-ghost use Rattle.friday_app.specs.Report.{count_text, divergence_text, diverges, group_text, is_divergence, line_text, report_text, verdict_text};
+ghost use Rattle.friday_app.specs.Report.{count_text, divergence_text, diverges, group_text, is_divergence, report_line_text, report_text, verdict_text};
 ghost use Rattle.friday_app.specs.Seen.{Says};
 
 use crate::refusal::Answer;
@@ -47,7 +47,7 @@ fn push_verdict(text: &mut Text, verdict: Verdict) -> Result<(), AllocError>
 }
 
 fn push_line(text: &mut Text, line: &ReportLine) -> Result<(), AllocError>
-    ensures { OnOk result (text.new ≡ text.old ++ line_text line.now) }
+    ensures { OnOk result (text.new ≡ text.old ++ report_line_text line.now) }
 {
     text.push_bytes(line.name.as_slice())?;
     text.push_str(": ")?;

@@ -5,9 +5,9 @@ ghost use Rattle.fri_outside.specs.Several.{OthersStay};
 ghost use Rattle.friday_app.specs.Seen.{batch_of};
 ghost use Rattle.friday_app.specs.Outcome.{writes_of};
 ghost use Rattle.friday_app.specs.Expected.{expected, written_by};
-ghost use Rattle.friday_app.specs.Call.{Tells, Makes, Keeps, DivergesOnlyIn, IsEnd, Raises};
+ghost use Rattle.friday_app.specs.Call.{TellsOutcome, Makes, Keeps, DivergesOnlyIn, IsAnswerResult, Raises};
 ghost use Rattle.friday_app.specs.Agreement.{KeepsMoment, KeepsRecording};
-ghost use Rattle.friday_app.specs.Run.{Run};
+ghost use Rattle.friday_app.specs.Run.{CommandRun, outside};
 
 use crate::command::Batch;
 use crate::finish::finish;
@@ -21,13 +21,13 @@ use std::alloc::Global;
 // Does the work of a command that prints one text at its end, and reads no input.
 fn perform<F: Files>(alloc: Global, command: Batch<'_>, files: &mut F) -> Result<Answer, Refusal>
     ensures tells { (left : Option (List ℕ)) → WhenTold (expected (Some (batch_of command.entry)) (F.told files.old) left)
-        (λ outcome. Tells outcome result) }
+        (λ outcome. TellsOutcome outcome result) }
     ensures makes { (left : Option (List ℕ)) → WhenTold (expected (Some (batch_of command.entry)) (F.told files.old) left) (λ outcome.
         Makes result (writes_of outcome) (F.told files.old) (F.told files.new)) }
     ensures others { OthersStay (written_by (Some (batch_of command.entry))) (F.told files.old) (F.told files.new) }
     ensures keeps { Keeps result (F.told files.old) (F.told files.new) }
     ensures diverges { DivergesOnlyIn (Some (batch_of command.entry)) result }
-    ensures recorded { IsEnd result → WhenTold (F.told files.old) (λ before.
+    ensures recorded { IsAnswerResult result → WhenTold (F.told files.old) (λ before.
         WhenTold (F.told files.new) (KeepsRecording (Some (batch_of command.entry)) before)) }
     ensures moment { WhenTold (F.told files.old) (λ before. KeepsMoment (Some (batch_of command.entry)) before (F.told files.new)) }
     ensures counts { NoneFell (F.counts files.old) (F.counts files.new) }
@@ -46,9 +46,9 @@ pub fn settle<F: Files, K: Sink>(
     files: &mut F,
     out: &mut K,
 ) -> Status
-    ensures { (left : Option (List ℕ)) (faults : ℕ) → Run (Some (batch_of command.entry))
-        (record { told = F.told files.old; counts = F.counts files.old; left = left; input_faults = faults; taken = K.taken out.old; out_faults = K.faults out.old })
-        (record { told = F.told files.new; counts = F.counts files.new; left = left; input_faults = faults; taken = K.taken out.new; out_faults = K.faults out.new })
+    ensures { (left : Option (List ℕ)) (faults : ℕ) → CommandRun (Some (batch_of command.entry))
+        (outside (F.told files.old) (F.counts files.old) left faults (K.taken out.old) (K.faults out.old))
+        (outside (F.told files.new) (F.counts files.new) left faults (K.taken out.new) (K.faults out.new))
         result }
 {
     let ended = perform(alloc, command, files);

@@ -1,6 +1,6 @@
 // How a call ends.
 ghost use Rattle.std.specs.Prelude.{◌≡◌};
-ghost use Rattle.friday_app.specs.Numbers.{number_of};
+ghost use Rattle.friday_app.specs.Numbers.{status_number};
 
 /// How a call ends. The binary ends with the number of the variant, from 0.
 #[derive(Clone, Copy, Debug, PartialEq, Eq)]
@@ -18,7 +18,7 @@ pub enum Status {
 impl Status {
     /// The number with which a program ends.
     pub fn number(self) -> u8
-        ensures { result ≡ number_of self }
+        ensures { result ≡ status_number self }
     {
         match self {
             Status::Done => 0,

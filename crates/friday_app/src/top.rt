@@ -2,13 +2,13 @@
 ghost use Rattle.std.specs.Prelude.{◌≡◌, ◌≢◌, ◌⊎◌, codes, map, string_bytes};
 ghost use Rattle.fri_outside.specs.Outside.{WhenTold, Rose};
 ghost use Rattle.fri_outside.specs.Several.{with_files, OthersStay};
-ghost use Rattle.friday_app.specs.Command.{IsReplay, command_of};
-ghost use Rattle.friday_app.specs.Outcome.{status_of, text_of, writes_of};
+ghost use Rattle.friday_app.specs.Command.{IsReplayCommand, command_of};
+ghost use Rattle.friday_app.specs.Outcome.{outcome_status, outcome_text, writes_of};
 ghost use Rattle.friday_app.specs.Expected.{written_by};
 ghost use Rattle.friday_app.specs.Agreement.{KeepsMoment, KeepsRecording};
-ghost use Rattle.friday_app.specs.Valid.{IsValid};
-ghost use Rattle.friday_app.specs.Run.{Run, NoFault, Works, Expects};
-ghost use Rattle.friday_app.specs.Call.{IsAnswer, IsExactUsage, IsIdle, Prints, PrintsAbsent, PrintsLast, PrintsRefusal, Leaves};
+ghost use Rattle.friday_app.specs.Valid.{IsValidCall};
+ghost use Rattle.friday_app.specs.Run.{CommandRun, NoFault, Works, Expects, outside};
+ghost use Rattle.friday_app.specs.Call.{IsAnswerStatus, IsExactUsage, IsIdle, Prints, PrintsAbsent, PrintsLast, PrintsRefusal, LeavesFiles};
 ghost use Rattle.friday_app.specs.Conversation.{AnswersFirst, IsLargeInput, KeepsInput, Untouched};
 
 use crate::command::{Command, parse};
@@ -22,7 +22,7 @@ use std::alloc::{AllocError, Global};
 
 // Says that the words are no command.
 fn refuse_words<K: Sink>(out: &mut K) -> Status
-    ensures status { IsAnswer result → result ≡ Status.Usage }
+    ensures status { IsAnswerStatus result → result ≡ Status.Usage }
     ensures text { Prints result (codes "friday: these words are not a command\n") (K.taken out.old) (K.taken out.new) }
     ensures read_fault { result ≢ Status.ReadFault }
     ensures write_fault { result ≡ Status.WriteFault → Rose (K.faults out.old) (K.faults out.new) }
@@ -42,9 +42,9 @@ fn run<F: Files, S: Source, K: Sink>(
     input: &mut S,
     out: &mut K,
 ) -> Status
-    ensures { Run (command_of (map string_bytes words.now))
-        (record { told = F.told files.old; counts = F.counts files.old; left = S.left input.old; input_faults = S.faults input.old; taken = K.taken out.old; out_faults = K.faults out.old })
-        (record { told = F.told files.new; counts = F.counts files.new; left = S.left input.new; input_faults = S.faults input.new; taken = K.taken out.new; out_faults = K.faults out.new })
+    ensures { CommandRun (command_of (map string_bytes words.now))
+        (outside (F.told files.old) (F.counts files.old) (S.left input.old) (S.faults input.old) (K.taken out.old) (K.faults out.old))
+        (outside (F.told files.new) (F.counts files.new) (S.left input.new) (S.faults input.new) (K.taken out.new) (K.faults out.new))
         result }
 {
     recordings_agree();
@@ -70,13 +70,13 @@ pub fn friday<F: Files, S: Source, K: Sink>(
 ) -> Status
     // The answer
     ensures usage { IsExactUsage (command_of (map string_bytes words.now)) result }
-    ensures diverged { result ≡ Status.Diverged → IsReplay (command_of (map string_bytes words.now)) }
+    ensures diverged { result ≡ Status.Diverged → IsReplayCommand (command_of (map string_bytes words.now)) }
     ensures status { Expects (map string_bytes words.now) (F.told files.old) (S.left input.old) (λ outcome.
-        IsAnswer result → result ≡ status_of outcome) }
+        IsAnswerStatus result → result ≡ outcome_status outcome) }
     ensures text { Expects (map string_bytes words.now) (F.told files.old) (S.left input.old) (λ outcome.
-        Prints result (text_of outcome) (K.taken out.old) (K.taken out.new)) }
+        Prints result (outcome_text outcome) (K.taken out.old) (K.taken out.new)) }
     ensures files { Expects (map string_bytes words.now) (F.told files.old) (S.left input.old) (λ outcome.
-        Leaves result (writes_of outcome) (F.told files.old) (F.told files.new)) }
+        LeavesFiles result (writes_of outcome) (F.told files.old) (F.told files.new)) }
 
     // Nothing is printed before the files are made.
     ensures prints_last { Expects (map string_bytes words.now) (F.told files.old) (S.left input.old) (λ outcome.
@@ -91,7 +91,7 @@ pub fn friday<F: Files, S: Source, K: Sink>(
 
     // The logs that a recording leaves hold its events: replay accepts each, and makes the recorded states of them.
     // So it is where a log was full, too. Each datagram that was taken came from outside or is one that was sent.
-    ensures recorded { IsAnswer result → WhenTold (F.told files.old) (λ before.
+    ensures recorded { IsAnswerStatus result → WhenTold (F.told files.old) (λ before.
         WhenTold (F.told files.new) (KeepsRecording (command_of (map string_bytes words.now)) before)) }
 
     // Wherever a recording was stopped, its logs are those of a moment of its run, but that behind one of them a
@@ -100,16 +100,17 @@ pub fn friday<F: Files, S: Source, K: Sink>(
     ensures moment { WhenTold (F.told files.old) (λ before. KeepsMoment (command_of (map string_bytes words.now)) before (F.told files.new)) }
 
     // Valid words, files and input, and no fault: the work is done, unless memory runs out.
-    ensures complete { WhenTold (F.told files.old) (λ store. IsValid (command_of (map string_bytes words.now)) store (S.left input.old)
-        → NoFault (record { told = F.told files.old; counts = F.counts files.old; left = S.left input.old; input_faults = S.faults input.old; taken = K.taken out.old; out_faults = K.faults out.old })
-        (record { told = F.told files.new; counts = F.counts files.new; left = S.left input.new; input_faults = S.faults input.new; taken = K.taken out.new; out_faults = K.faults out.new })
+    ensures complete { WhenTold (F.told files.old) (λ store. IsValidCall (command_of (map string_bytes words.now)) store (S.left input.old)
+        → NoFault (outside (F.told files.old) (F.counts files.old) (S.left input.old) (S.faults input.old) (K.taken out.old) (K.faults out.old))
+        (outside (F.told files.new) (F.counts files.new) (S.left input.new) (S.faults input.new) (K.taken out.new) (K.faults out.new))
         → Works (command_of (map string_bytes words.now)) (F.told files.old) (S.left input.old) result) }
 
     // The causes, over any objects
     ensures absent { result ≡ Status.Absent → Rose (F.counts files.old).misses (F.counts files.new).misses }
     ensures absent_text { result ≡ Status.Absent → PrintsAbsent (K.taken out.old) (K.taken out.new) }
     ensures refused { result ≡ Status.Refused → PrintsRefusal (K.taken out.old) (K.taken out.new) (λ file.
-        Rose (F.counts files.old).misses (F.counts files.new).misses ⊎ IsLargeInput (command_of (map string_bytes words.now)) (F.told files.old) (S.left input.old) file) }
+        Rose (F.counts files.old).misses (F.counts files.new).misses
+        ⊎ IsLargeInput (command_of (map string_bytes words.now)) (F.told files.old) (S.left input.old) file) }
     ensures read_fault { result ≡ Status.ReadFault → Rose (F.counts files.old).reads (F.counts files.new).reads
         ⊎ Rose (S.faults input.old) (S.faults input.new) }
     ensures write_fault { result ≡ Status.WriteFault → Rose (F.counts files.old).writes (F.counts files.new).writes

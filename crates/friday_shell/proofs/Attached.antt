@@ -7,8 +7,8 @@ use Rattle.embed_cmds.specs.Tree.{Statements, body}
 use Rattle.embed_cmds.specs.Variables.{Variable, mention_all}
 use Rattle.friday_shell.specs.declared.points.Point.{Point as Held}
 use Rattle.friday_shell.specs.declared.refusal.Refusal.TheVariants as refusal
-use Rattle.friday_shell.specs.Answer.{Answered, attaches, attaches_at, most_variables, refuses, says}
-use Rattle.friday_shell.specs.Points.{Point, SessionState, place_of, with_program}
+use Rattle.friday_shell.specs.Answer.{LineAnswer, attaches, attaches_at, most_variables, refuses, says}
+use Rattle.friday_shell.specs.Points.{Point, SessionState, place_of_point, with_program}
 use Rattle.friday_shell.specs.Refusals.{refusal_line}
 use Rattle.friday_shell.specs.Seen.{Performs, point}
 
@@ -20,19 +20,19 @@ put_same (q ∷ ps) zero e p within here = ap (λ (r : Held). point (record { nu
 put_same (q ∷ ps) (suc k) e p within here = ap (λ (rest : List Point). point q ∷ rest) (put_same ps k e p (omega (arith, within)) here)
 
 -- no point has the number
-pub none_held : (state : SessionState) (n : ℕ) (program : Statements) (text : List ℕ) → None ≡ place_of state.points n → text ≡ refusal_line refusal.NoPoint
+pub none_held : (state : SessionState) (n : ℕ) (program : Statements) (text : List ℕ) → None ≡ place_of_point state.points n → text ≡ refusal_line refusal.NoPoint
     → Performs (attaches state n program) state text
 none_held state n program text none said = subst (λ (o : Option ℕ). Performs (attaches_at state program o) state text) none (record { text_is = said; state = refl })
 
 abbrev mentioned : SessionState → Statements → List Variable
 mentioned state program = mention_all state.variables (set_names program)
 
-abbrev attaches_if : SessionState → Statements → ℕ → Bool → Answered
+abbrev attaches_if : SessionState → Statements → ℕ → Bool → LineAnswer
 attaches_if state program place few =
     cond few (says (record state { points = with_program state.points place program; variables = mentioned state program }) []) (refuses state refusal.TooMany)
 
 -- there were too many variables then
-pub too_many : (state : SessionState) (n : ℕ) (program : Statements) (place : ℕ) (variables : List Variable) (done : Bool) (text : List ℕ) → Some place ≡ place_of state.points n
+pub too_many : (state : SessionState) (n : ℕ) (program : Statements) (place : ℕ) (variables : List Variable) (done : Bool) (text : List ℕ) → Some place ≡ place_of_point state.points n
     → (done ≡ nat_le (length (mentioned state program)) most_variables) × (variables ≡ cond done (mentioned state program) state.variables) → done ≡ false
     → text ≡ refusal_line refusal.TooMany → Performs (attaches state n program) (record state { variables = variables }) text
 too_many state n program place variables done text found mentions many said =
@@ -45,7 +45,7 @@ too_many state n program place variables done text found mentions many said =
 
 -- it is attached
 pub attached_there : (state : SessionState) (n : ℕ) (program : Statements) (place : ℕ) (points : List Point) (variables : List Variable) (done : Bool) (text : List ℕ)
-    → Some place ≡ place_of state.points n
+    → Some place ≡ place_of_point state.points n
     → (done ≡ nat_le (length (mentioned state program)) most_variables) × (variables ≡ cond done (mentioned state program) state.variables) → done ≡ true
     → points ≡ with_program state.points place program → text ≡ []
     → Performs (attaches state n program) (record { place = state.place; points = points; made = state.made; variables = variables }) text

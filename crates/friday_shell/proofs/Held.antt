@@ -5,7 +5,7 @@ use Rattle.std.proofs.lemmas.List.{length-map}
 use Rattle.std.proofs.lemmas.List.{drop_more}
 use Rattle.friday_shell.specs.Answer.{point_text}
 use Rattle.friday_shell.specs.declared.points.Point.{Point as Held}
-use Rattle.friday_shell.specs.Points.{Point, has_point, place_of, without_point}
+use Rattle.friday_shell.specs.Points.{Point, has_point, place_of_point, without_point}
 use Rattle.friday_shell.specs.Seen.{point}
 
 pub held_same : (ps : List Held) (n : ℕ) → list_any (λ (p : Held). nat_eq p.number n) ps ≡ has_point (map {A = Held} point ps) n
@@ -25,7 +25,7 @@ ahead_same : (ps : List Held) (n : ℕ) → prefix_len (λ (p : Held). not (nat_
 ahead_same [] n = refl
 ahead_same (p ∷ ps) n = ap (λ (k : ℕ). cond (not (nat_eq p.number n)) (1 + k) 0) (ahead_same ps n)
 
-pub places_same : (ps : List Held) (n : ℕ) → position (λ (p : Held). nat_eq p.number n) ps ≡ place_of (map {A = Held} point ps) n
+pub places_same : (ps : List Held) (n : ℕ) → position (λ (p : Held). nat_eq p.number n) ps ≡ place_of_point (map {A = Held} point ps) n
 places_same ps n =
     ap (λ (k : ℕ). cond (nat_lt k (length ps)) (Some k) None) (ahead_same ps n)
     ∙ ap (λ (l : ℕ). cond (nat_lt (position_or_len (λ (p : Point). nat_eq p.number n) (map {A = Held} point ps)) l) (Some (position_or_len (λ (p : Point). nat_eq p.number n) (map {A = Held} point ps))) None)

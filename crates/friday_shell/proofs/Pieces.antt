@@ -6,7 +6,7 @@ use Rattle.std.proofs.lemmas.Option.{same_Some}
 use Rattle.coop_threads.specs.Crew.{value_of}
 use Rattle.coop_threads.specs.declared.slot.Slot.{Slot}
 use Rattle.guest_process.specs.declared.waiting.Waiting.{Waiting}
-use Rattle.group_order.specs.Order.{Event}
+use Rattle.group_order.specs.Order.{NodeEvent}
 use Rattle.lib_calls.specs.declared.entry.Entry.{Entry}
 use Rattle.proc_replay.specs.Replaying.{Replaying}
 use Rattle.friday_shell.specs.Texts.{event_line, event_lines, standing_text, thread_lines}
@@ -51,7 +51,7 @@ event_at (x ∷ es) e k zero found before = absurd (omega (arith, before))
 event_at (x ∷ es) e zero (suc n) found before = ap (λ y. y ∷ take n es) (same_Some _ _ found)
 event_at (x ∷ es) e (suc k) (suc n) found before = event_at es e k n found (omega (arith, before))
 
-pub events_more : (start : List Replaying) (text next all : List ℕ) (es : List (Event Entry)) (k n at : ℕ) (e : Event Entry) → slice_get es k ≡ Some e
+pub events_more : (start : List Replaying) (text next all : List ℕ) (es : List (NodeEvent Entry)) (k n at : ℕ) (e : NodeEvent Entry) → slice_get es k ≡ Some e
     → k < n → at ≡ k + 1 → next ≡ text ++ event_line start at e
     → text ++ event_lines start (suc k) (drop k (take n es)) ≡ all → next ++ event_lines start (suc at) (drop at (take n es)) ≡ all
 events_more start text next all es k n at e found before one is whole =
@@ -60,7 +60,7 @@ events_more start text next all es k n at e found before one is whole =
     let rest = event_lines start (suc (suc k)) (drop (suc k) (take n es)) in
     let shape = event_at es e k n found before in
     let done : next ++ rest ≡ all =
-    piece text next (event_line start (suc k) e) rest all line (ap (λ (l : List (Event Entry)). text ++ event_lines start (suc k) l) (sym shape) ∙ whole) in
+    piece text next (event_line start (suc k) e) rest all line (ap (λ (l : List (NodeEvent Entry)). text ++ event_lines start (suc k) l) (sym shape) ∙ whole) in
     subst (λ p. next ++ event_lines start (suc p) (drop p (take n es)) ≡ all) (sym same) done
 
 -- ---- a name that is not there

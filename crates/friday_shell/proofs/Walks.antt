@@ -8,47 +8,47 @@ use Rattle.std.proofs.lemmas.List.Sums.{sum_by-append}
 use Rattle.std.proofs.lemmas.Option.{slice_get_within}
 use Rattle.fri_text.specs.Line.{is_line_feed}
 use Rattle.group_state.specs.declared.event.GroupEvent.{GroupEvent}
-use Rattle.group_state.specs.Moves.{Moves, event_of, last_of}
+use Rattle.group_state.specs.Moves.{Moves, event_of, last_event_of}
 use Rattle.group_state.specs.Place.{Place, events}
 use Rattle.group_state.specs.Seen.{nodes_at}
 use Rattle.proc_replay.specs.Replaying.{Replaying}
 use Rattle.embed_cmds.specs.Running.{Run}
 use Rattle.embed_cmds.specs.Variables.{Variable}
 use Rattle.friday_shell.specs.declared.points.Point.{Point as Held}
-use Rattle.friday_shell.specs.Firing.{is_due, line_of, place_at}
+use Rattle.friday_shell.specs.Firing.{is_due_at, firing_line, place_at}
 use Rattle.friday_shell.specs.Points.{Break, Point, Trigger, Watch}
 use Rattle.friday_shell.specs.Reading.{is_due_by, line_by, reading, readings, treat_by}
 use Rattle.friday_shell.specs.Seen.{Walks, point, trigger}
 use Rattle.friday_shell.specs.Texts.{position_line}
-use Rattle.friday_shell.specs.Walking.{Walk, does, ended, goes_on, lines_in, most_lines, quiet, treat, treat_all, walk_from, walk_over}
+use Rattle.friday_shell.specs.Walking.{Walk, fired, lines_in, most_lines, quiet, treat, treat_all, walk_ended, walk_from, walk_on, walk_over}
 
 -- ---- at one position
 
-due_is : (start : List Replaying) (k : ℕ) (t : Trigger) → is_due_by (reading start k t) (reading start (suc k) t) (last_of (place_at start (suc k))) t ≡ is_due start (suc k) t
+due_is : (start : List Replaying) (k : ℕ) (t : Trigger) → is_due_by (reading start k t) (reading start (suc k) t) (last_event_of (place_at start (suc k))) t ≡ is_due_at start (suc k) t
 due_is start k (Watch x) = refl
 due_is start k (Break of_node kind) = refl
 
-line_is : (start : List Replaying) (k n : ℕ) (t : Trigger) → line_by (reading start k t) (reading start (suc k) t) n t ≡ line_of start (suc k) n t
+line_is : (start : List Replaying) (k n : ℕ) (t : Trigger) → line_by (reading start k t) (reading start (suc k) t) n t ≡ firing_line start (suc k) n t
 line_is start k n (Watch x) = refl
 line_is start k n (Break of_node kind) = refl
 
 treat_is : (start : List Replaying) (k : ℕ) (r : Run) (p : Point)
-    → treat_by (reading start k p.trigger) (reading start (suc k) p.trigger) (last_of (place_at start (suc k))) (nodes_at (place_at start (suc k))) r p ≡ treat start (suc k) r p
+    → treat_by (reading start k p.trigger) (reading start (suc k) p.trigger) (last_event_of (place_at start (suc k))) (nodes_at (place_at start (suc k))) r p ≡ treat start (suc k) r p
 treat_is start k r p =
     let t = p.trigger in
     let nodes = nodes_at (place_at start (suc k)) in
-    ap (λ (b : Bool). cond b (does nodes r (line_by (reading start k t) (reading start (suc k) t) p.number t) p.program) r) (due_is start k t)
-    ∙ ap (λ (line : List ℕ). cond (is_due start (suc k) t) (does nodes r line p.program) r) (line_is start k p.number t)
+    ap (λ (b : Bool). cond b (fired nodes r (line_by (reading start k t) (reading start (suc k) t) p.number t) p.program) r) (due_is start k t)
+    ∙ ap (λ (line : List ℕ). cond (is_due_at start (suc k) t) (fired nodes r line p.program) r) (line_is start k p.number t)
 
 -- what one point does, by what was read
 pub treated : (start : List Replaying) (at : ℕ) (r new : Run) (p : Point) (before now : Option ℤ) → 0 < at
     → before ≡ reading start (at - 1) p.trigger → now ≡ reading start at p.trigger
-    → new ≡ treat_by before now (last_of (place_at start at)) (nodes_at (place_at start at)) r p
+    → new ≡ treat_by before now (last_event_of (place_at start at)) (nodes_at (place_at start at)) r p
     → new ≡ treat start at r p
 treated start zero r new p before now moved was is did = absurd (omega (arith, moved))
 treated start (suc k) r new p before now moved was is did =
     let e : suc k - 1 ≡ k = omega arith in
-    let event = last_of (place_at start (suc k)) in
+    let event = last_event_of (place_at start (suc k)) in
     let nodes = nodes_at (place_at start (suc k)) in
     did ∙ ap (λ (b : Option ℤ). treat_by b now event nodes r p) (was ∙ ap (λ (m : ℕ). reading start m p.trigger) e)
     ∙ ap (λ (b : Option ℤ). treat_by (reading start k p.trigger) b event nodes r p) is
@@ -103,42 +103,42 @@ stays old new (Some e) none moves = absurd cc
 
 -- what the walk over one position more is
 pub step : (start : List Replaying) (ps : List Point) (at end : ℕ) (variables : List Variable) (said : List ℕ) → at < end
-    → walk_over start ps at (end - at) variables said ≡ goes_on (walk_over start ps (suc at) (end - suc at)) (suc at) said (treat_all start (suc at) (quiet variables) ps)
+    → walk_over start ps at (end - at) variables said ≡ walk_on (walk_over start ps (suc at) (end - suc at)) (suc at) said (treat_all start (suc at) (quiet variables) ps)
 step start ps at end variables said before =
     let e : end - at ≡ suc (end - suc at) = omega arith in
     ap (λ (left : ℕ). walk_over start ps at left variables said) e
 
 -- ---- after all points of a position were treated
 
-pub stops_here : (rest : List Variable → List ℕ → Walk) (at : ℕ) (said : List ℕ) (r : Run) → r.stopped ≡ true → goes_on rest at said r ≡ ended at r.variables (said ++ r.text)
+pub stops_here : (rest : List Variable → List ℕ → Walk) (at : ℕ) (said : List ℕ) (r : Run) → r.stopped ≡ true → walk_on rest at said r ≡ walk_ended at r.variables (said ++ r.text)
 stops_here rest at said r stops =
-    ap (λ (b : Bool). cond b (ended at r.variables (said ++ r.text)) (cond (nat_le most_lines (lines_in (said ++ r.text))) (ended at r.variables ((said ++ r.text) ++ codes "paused\n")) (rest r.variables (said ++ r.text)))) stops
+    ap (λ (b : Bool). cond b (walk_ended at r.variables (said ++ r.text)) (cond (nat_le most_lines (lines_in (said ++ r.text))) (walk_ended at r.variables ((said ++ r.text) ++ codes "paused\n")) (rest r.variables (said ++ r.text)))) stops
 
 not_stopped : (rest : List Variable → List ℕ → Walk) (at : ℕ) (said : List ℕ) (r : Run) → r.stopped ≡ false
-    → goes_on rest at said r ≡ cond (nat_le most_lines (lines_in (said ++ r.text))) (ended at r.variables ((said ++ r.text) ++ codes "paused\n")) (rest r.variables (said ++ r.text))
+    → walk_on rest at said r ≡ cond (nat_le most_lines (lines_in (said ++ r.text))) (walk_ended at r.variables ((said ++ r.text) ++ codes "paused\n")) (rest r.variables (said ++ r.text))
 not_stopped rest at said r goes =
-    ap (λ (b : Bool). cond b (ended at r.variables (said ++ r.text)) (cond (nat_le most_lines (lines_in (said ++ r.text))) (ended at r.variables ((said ++ r.text) ++ codes "paused\n")) (rest r.variables (said ++ r.text)))) goes
+    ap (λ (b : Bool). cond b (walk_ended at r.variables (said ++ r.text)) (cond (nat_le most_lines (lines_in (said ++ r.text))) (walk_ended at r.variables ((said ++ r.text) ++ codes "paused\n")) (rest r.variables (said ++ r.text)))) goes
 
 pub pauses_here : (rest : List Variable → List ℕ → Walk) (at : ℕ) (said : List ℕ) (r : Run) → r.stopped ≡ false → most_lines ≤ lines_in (said ++ r.text)
-    → goes_on rest at said r ≡ ended at r.variables ((said ++ r.text) ++ codes "paused\n")
+    → walk_on rest at said r ≡ walk_ended at r.variables ((said ++ r.text) ++ codes "paused\n")
 pauses_here rest at said r goes many =
     not_stopped rest at said r goes
-    ∙ ap (λ (b : Bool). cond b (ended at r.variables ((said ++ r.text) ++ codes "paused\n")) (rest r.variables (said ++ r.text))) (le-leb most_lines (lines_in (said ++ r.text)) many)
+    ∙ ap (λ (b : Bool). cond b (walk_ended at r.variables ((said ++ r.text) ++ codes "paused\n")) (rest r.variables (said ++ r.text))) (le-leb most_lines (lines_in (said ++ r.text)) many)
 
 few_lines : (n : ℕ) → n < most_lines → nat_le most_lines n ≡ false
 few_lines n few = elim (leb_tells most_lines n) [ inl t ↦ absurd (omega (arith, t.1, few)) | inr f ↦ f.0 ]
 
 pub rests_here : (rest : List Variable → List ℕ → Walk) (at : ℕ) (said : List ℕ) (r : Run) → r.stopped ≡ false → lines_in (said ++ r.text) < most_lines
-    → goes_on rest at said r ≡ rest r.variables (said ++ r.text)
+    → walk_on rest at said r ≡ rest r.variables (said ++ r.text)
 rests_here rest at said r goes few =
     not_stopped rest at said r goes
-    ∙ ap (λ (b : Bool). cond b (ended at r.variables ((said ++ r.text) ++ codes "paused\n")) (rest r.variables (said ++ r.text))) (few_lines (lines_in (said ++ r.text)) few)
+    ∙ ap (λ (b : Bool). cond b (walk_ended at r.variables ((said ++ r.text) ++ codes "paused\n")) (rest r.variables (said ++ r.text))) (few_lines (lines_in (said ++ r.text)) few)
 
 pub lines_append : (a b : List ℕ) → lines_in (a ++ b) ≡ lines_in a + lines_in b
 lines_append a b = sum_by-append (λ (x : ℕ). cond (is_line_feed x) 1 0) a b
 
 -- a walk that ended came there
-pub arrives : (first : Place) (ps : List Point) (before after : List Variable) (at : ℕ) (said : List ℕ) → walk_from first ps before ≡ ended at after said
+pub arrives : (first : Place) (ps : List Point) (before after : List Variable) (at : ℕ) (said : List ℕ) → walk_from first ps before ≡ walk_ended at after said
     → (new there : Place) (variables : List Variable) (text : List ℕ) → new ≡ place_at first.start at → there ≡ new → variables ≡ after → text ≡ said ++ position_line new
     → Walks first ps before there variables text
 arrives first ps before after at said is new there variables text here same kept says = record {

@@ -16,26 +16,26 @@ use Rattle.embed_cmds.specs.Tree.{Statements}
 use Rattle.embed_cmds.specs.Variables.{Variable, is_mentioned, mention_all, with_value}
 use Rattle.friday_shell.specs.Firing.{place_at}
 use Rattle.friday_shell.specs.Lines.{At, Break, Command, Continue, Delete, Do, Events, Everywhere, Goto, ListPoints, ListVariables, Mem, Print, Quit, Scope, SetTo, Step, Threads, Watch, command_of, has_nested, names_none, watches_variable}
-use Rattle.friday_shell.specs.Points.{Point, SessionState, Trigger, has_point, place_of, with_point, with_program, without_point}
+use Rattle.friday_shell.specs.Points.{Point, SessionState, Trigger, has_point, place_of_point, with_point, with_program, without_point}
 use Rattle.friday_shell.specs.Points.{Break as OnCall, Watch as OnChange}
 use Rattle.friday_shell.specs.declared.refusal.Refusal.{Refusal}
 use Rattle.friday_shell.specs.declared.refusal.Refusal.TheVariants as refusal
 use Rattle.friday_shell.specs.Refusals.{refusal_line}
-use Rattle.friday_shell.specs.Texts.{last_lines, name_of, position_line, process_text}
+use Rattle.friday_shell.specs.Texts.{last_lines, name_of, position_line, process_lines}
 use Rattle.friday_shell.specs.Walking.{Walk, walk_from}
 
 -- the text, the session after it, and whether the session ends
-pub record Answered : Type 0 where
+pub record LineAnswer : Type 0 where
   pub text : List ℕ
   pub state : SessionState
   pub quits : Bool
 
 -- text, and the session as it was
-abbrev pub says : SessionState → List ℕ → Answered
+abbrev pub says : SessionState → List ℕ → LineAnswer
 says state text = record { text = text; state = state; quits = false }
 
 -- a refusal, which leaves the session as it was
-abbrev pub refuses : SessionState → Refusal → Answered
+abbrev pub refuses : SessionState → Refusal → LineAnswer
 refuses state why = says state (refusal_line why)
 
 -- the session at this position
@@ -43,7 +43,7 @@ abbrev pub moved_to : SessionState → ℕ → SessionState
 moved_to state k = record state { place = place_at state.place.start k }
 
 -- lines, and then the position to which the session goes
-abbrev pub arrives : SessionState → List ℕ → ℕ → Answered
+abbrev pub arrives : SessionState → List ℕ → ℕ → LineAnswer
 arrives state lines k = record { text = lines ++ position_line (place_at state.place.start k); state = moved_to state k; quits = false }
 
 -- ---- the answers of commands
@@ -62,7 +62,7 @@ memory_text place (Some n) addr len = piece_text (piece_at (nodes_at place) n ad
 
 abbrev pub text_of_state : List ℕ → Option State → List ℕ
 text_of_state name None = []
-text_of_state name (Some S) = process_text name S
+text_of_state name (Some S) = process_lines name S
 
 abbrev pub threads_of : Place → Option ℕ → List ℕ
 threads_of place None = []
@@ -73,13 +73,13 @@ abbrev pub most_points : ℕ
 most_points = 64
 
 -- a point more, with the line that made it, unless there are as many as there may be
-abbrev pub adds : SessionState → List ℕ → Trigger → Answered
+abbrev pub adds : SessionState → List ℕ → Trigger → LineAnswer
 adds state text trigger =
     if nat_lt (length state.points) most_points
     then record { text = codes "point " ++ (decimal (state.made + 1) ++ codes "\n"); state = with_point state text trigger; quits = false }
     else refuses state refusal.TooMany
 
-abbrev pub deletes : SessionState → ℕ → Answered
+abbrev pub deletes : SessionState → ℕ → LineAnswer
 deletes state n =
     if has_point state.points n
     then record { text = codes "deleted " ++ (decimal n ++ codes "\n"); state = record state { points = without_point state.points n }; quits = false }
@@ -89,7 +89,7 @@ abbrev pub point_text : Point → List ℕ
 point_text p = decimal p.number ++ (codes " " ++ (p.text ++ codes "\n"))
 
 -- a walk's lines, and then the position to which the session goes
-abbrev pub walks : SessionState → Walk → Answered
+abbrev pub walks : SessionState → Walk → LineAnswer
 walks state w = record {
   text = w.text ++ position_line (place_at state.place.start w.at);
   state = record state { place = place_at state.place.start w.at; variables = w.variables };
@@ -101,7 +101,7 @@ abbrev pub most_variables : ℕ
 most_variables = 256
 
 -- a variable gets a value, unless there were too many then
-abbrev pub sets : SessionState → List ℕ → Option ℤ → Answered
+abbrev pub sets : SessionState → List ℕ → Option ℤ → LineAnswer
 sets state name value =
     if is_mentioned state.variables name || nat_lt (length state.variables) most_variables
     then says (record state { variables = with_value state.variables name value }) []
@@ -109,81 +109,81 @@ sets state name value =
 
 -- A program is attached to the point at this place. Then all variables that it sets are mentioned, unless there were too many
 -- then.
-abbrev pub attaches_at : SessionState → Statements → Option ℕ → Answered
+abbrev pub attaches_at : SessionState → Statements → Option ℕ → LineAnswer
 attaches_at state body None = refuses state refusal.NoPoint
 attaches_at state body (Some place) =
     if nat_le (length (mention_all state.variables (set_names body))) most_variables
     then says (record state { points = with_program state.points place body; variables = mention_all state.variables (set_names body) }) []
     else refuses state refusal.TooMany
 
-abbrev pub attaches : SessionState → ℕ → Statements → Answered
-attaches state n body = attaches_at state body (place_of state.points n)
+abbrev pub attaches : SessionState → ℕ → Statements → LineAnswer
+attaches state n body = attaches_at state body (place_of_point state.points n)
 
 abbrev pub variable_text : Variable → List ℕ
 variable_text v = codes "$" ++ (v.0 ++ (codes " " ++ value_text v.1))
 
 -- of a breakpoint for a node that no process is, nothing is said either
-abbrev pub breaks_at : SessionState → List ℕ → Kind → Scope → Answered
+abbrev pub breaks_at : SessionState → List ℕ → Kind → Scope → LineAnswer
 breaks_at state text kind Everywhere = adds state text (OnCall None kind)
 breaks_at state text kind (At None) = says state []
 breaks_at state text kind (At (Some n)) = adds state text (OnCall (Some n) kind)
 
 -- what a command answers, whose line without outer blanks is this
-abbrev pub answer_of : SessionState → List ℕ → Command → Answered
-answer_of state line (Goto k) = if nat_le k (length (events state.place.start)) then arrives state [] k else refuses state refusal.NoPosition
-answer_of state line (Step n) = arrives state [] (min (state.place.at + n) (length (events state.place.start)))
-answer_of state line (Print x) = says state (value_text (value_in (nodes_at state.place) state.variables x))
-answer_of state line (Mem node addr len) = says state (memory_text state.place node addr len)
-answer_of state line (Threads node) = says state (threads_of state.place node)
-answer_of state line (Events n) = says state (last_lines state.place n)
-answer_of state line (Watch x) = adds state line (OnChange x)
-answer_of state line (Break scope kind) = breaks_at state line kind scope
-answer_of state line (Delete n) = deletes state n
-answer_of state line (Do n body) = attaches state n body
-answer_of state line ListPoints = says state (flat_map point_text state.points)
-answer_of state line (SetTo name x) = sets state name (value_in (nodes_at state.place) state.variables x)
-answer_of state line ListVariables = says state (flat_map variable_text state.variables)
-answer_of state line Continue = walks state (walk_from state.place state.points state.variables)
-answer_of state line Quit = record { text = []; state = state; quits = true }
+abbrev pub command_answer : SessionState → List ℕ → Command → LineAnswer
+command_answer state line (Goto k) = if nat_le k (length (events state.place.start)) then arrives state [] k else refuses state refusal.NoPosition
+command_answer state line (Step n) = arrives state [] (min (state.place.at + n) (length (events state.place.start)))
+command_answer state line (Print x) = says state (value_text (value_in (nodes_at state.place) state.variables x))
+command_answer state line (Mem node addr len) = says state (memory_text state.place node addr len)
+command_answer state line (Threads node) = says state (threads_of state.place node)
+command_answer state line (Events n) = says state (last_lines state.place n)
+command_answer state line (Watch x) = adds state line (OnChange x)
+command_answer state line (Break scope kind) = breaks_at state line kind scope
+command_answer state line (Delete n) = deletes state n
+command_answer state line (Do n body) = attaches state n body
+command_answer state line ListPoints = says state (flat_map point_text state.points)
+command_answer state line (SetTo name x) = sets state name (value_in (nodes_at state.place) state.variables x)
+command_answer state line ListVariables = says state (flat_map variable_text state.variables)
+command_answer state line Continue = walks state (walk_from state.place state.points state.variables)
+command_answer state line Quit = record { text = []; state = state; quits = true }
 
 -- ---- the answer of a line
 
 -- bytes without the blanks in front
-abbrev pub without_front : List ℕ → List ℕ
-without_front [] = []
-without_front (b ∷ bytes) = if is_blank b then without_front bytes else b ∷ bytes
+abbrev pub without_front_blanks : List ℕ → List ℕ
+without_front_blanks [] = []
+without_front_blanks (b ∷ bytes) = if is_blank b then without_front_blanks bytes else b ∷ bytes
 
 -- bytes without the blanks at their end
-abbrev pub without_end : List ℕ → List ℕ
-without_end [] = []
-without_end (b ∷ bytes) = if list_all is_blank (b ∷ bytes) then [] else b ∷ without_end bytes
+abbrev pub without_end_blanks : List ℕ → List ℕ
+without_end_blanks [] = []
+without_end_blanks (b ∷ bytes) = if list_all is_blank (b ∷ bytes) then [] else b ∷ without_end_blanks bytes
 
 -- a line without its outer blanks
 abbrev pub trimmed : List ℕ → List ℕ
-trimmed line = without_end (without_front line)
+trimmed line = without_end_blanks (without_front_blanks line)
 
 -- a command of the grammar, unless something is wrong with it
-abbrev pub judged : SessionState → List ℕ → Command → Answered
-judged state line command =
+abbrev pub command_answer_or_refusal : SessionState → List ℕ → Command → LineAnswer
+command_answer_or_refusal state line command =
     if has_nested command then refuses state refusal.Nested
     else if names_none command then refuses state refusal.NoNode
     else if watches_variable command then refuses state refusal.NamesVariable
-    else answer_of state line command
+    else command_answer state line command
 
-abbrev pub by_command : SessionState → List ℕ → Lexed → Result Command ℕ → Answered
+abbrev pub by_command : SessionState → List ℕ → Lexed → Result Command ℕ → LineAnswer
 by_command state line tokens (Err n) = refuses state (refusal.Syntax (column_at tokens n))
-by_command state line tokens (Ok command) = judged state (trimmed line) command
+by_command state line tokens (Ok command) = command_answer_or_refusal state (trimmed line) command
 
 -- the names of the processes
 abbrev pub names_of : List Replaying → List (List ℕ)
 names_of start = map (λ r. r.head.name) start
 
-abbrev pub by_tokens : SessionState → List ℕ → Lexed → Answered
+abbrev pub by_tokens : SessionState → List ℕ → Lexed → LineAnswer
 by_tokens state line tokens =
     if is_too_deep (texts tokens) then refuses state refusal.TooDeep
     else by_command state line tokens (command_of (names_of state.place.start) (texts tokens))
 
-abbrev pub by_cut : SessionState → List ℕ → Result (List Placed) ℕ → Answered
+abbrev pub by_cut : SessionState → List ℕ → Result (List Placed) ℕ → LineAnswer
 by_cut state line (Err column) = refuses state (refusal.Syntax column)
 by_cut state line (Ok tokens) = by_tokens state line (record { tokens = tokens; end = length line + 1 })
 
@@ -193,7 +193,7 @@ is_silent [] = true
 is_silent (b ∷ bytes) = if is_blank b then is_silent bytes else b == 35
 
 -- the answer of a line, in which the tests come in this order
-abbrev pub answer : SessionState → List ℕ → Answered
+abbrev pub answer : SessionState → List ℕ → LineAnswer
 answer state line =
     if nat_lt 4096 (length line) then refuses state refusal.TooLong
     else if is_silent line then says state []

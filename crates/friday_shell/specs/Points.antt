@@ -34,8 +34,8 @@ abbrev pub without_point : List Point → ℕ → List Point
 without_point points n = filter (λ p. not (p.number == n)) points
 
 -- where the point with this number stands among those that are held
-abbrev pub place_of : List Point → ℕ → Option ℕ
-place_of points n = position (λ p. p.number == n) points
+abbrev pub place_of_point : List Point → ℕ → Option ℕ
+place_of_point points n = position (λ p. p.number == n) points
 
 abbrev pub attached : Point → Statements → Point
 attached p body = record { number = p.number; text = p.text; trigger = p.trigger; program = Some body }

@@ -27,7 +27,7 @@ use Rattle.friday_shell.specs.Points.{Break as OnCall, Watch as OnChange}
 use Rattle.friday_shell.specs.declared.line.Line.{Line}
 use Rattle.friday_shell.specs.declared.line.Line.TheVariants as line
 use Rattle.friday_shell.specs.declared.refusal.Refusal.TheVariants as refusal
-use Rattle.friday_shell.specs.Answer.{Answered, answer, answer_of, by_cut, judged, names_of, refuses, says, trimmed}
+use Rattle.friday_shell.specs.Answer.{LineAnswer, answer, by_cut, command_answer, command_answer_or_refusal, names_of, refuses, says, trimmed}
 use Rattle.friday_shell.specs.Firing.{place_at}
 use Rattle.friday_shell.specs.Texts.{position_line}
 use Rattle.friday_shell.specs.Walking.{walk_from}
@@ -67,17 +67,17 @@ abbrev pub state_with : Place → Kept → SessionState
 state_with place kept = record { place = place; points = map {A = Held} point kept.points.items; made = kept.made; variables = kept.variables }
 
 -- where a session stands
-abbrev pub state_of : Stands → SessionState
-state_of s = state_with s.group s.kept
+abbrev pub session_state : Stands → SessionState
+session_state s = state_with s.group s.kept
 
 -- a command was done: this was its answer, and the session stands where the answer says
-pub record Performs (answered : Answered) (new : SessionState) (text : List ℕ) : Type 0 where
+pub record Performs (answered : LineAnswer) (new : SessionState) (text : List ℕ) : Type 0 where
   pub text_is : text ≡ answered.text
   pub state : new ≡ answered.state
 
 -- what points did so far at a position
-abbrev pub run_of : Turn → Run
-run_of t = record { variables = t.variables; text = t.text; stopped = t.stops }
+abbrev pub run_so_far : Turn → Run
+run_so_far t = record { variables = t.variables; text = t.text; stopped = t.stops }
 
 -- a walk from a place came to where it comes
 pub record Walks (old : Place) (points : List Point) (before : List Variable) (new : Place) (after : List Variable) (text : List ℕ) : Type 0 where
@@ -111,30 +111,30 @@ is_quit go.On = false
 is_quit go.Quit = true
 
 -- a session answered this
-pub record Answers (answered : Answered) (new : SessionState) (text : List ℕ) (goes : Go) : Type 0 where
+pub record IsLineAnswer (answered : LineAnswer) (new : SessionState) (text : List ℕ) (goes : Go) : Type 0 where
   pub text_is : text ≡ answered.text
   pub state : new ≡ answered.state
   pub quits : is_quit goes ≡ answered.quits
 
 -- what a line of this kind answers, which without outer blanks is this
-abbrev pub answer_to : SessionState → List ℕ → Line → Answered
+abbrev pub answer_to : SessionState → List ℕ → Line → LineAnswer
 answer_to state bytes line.Silent = says state []
 answer_to state bytes (line.Refused why) = refuses state why
-answer_to state bytes (line.Does c) = answer_of state bytes (command c)
+answer_to state bytes (line.Does c) = command_answer state bytes (command c)
 
 -- what a line is, over a group whose processes have these names
 abbrev pub IsLine : List (List ℕ) → List ℕ → Line → Type 0
 IsLine names bytes line = (state : SessionState) → names_of state.place.start ≡ names → answer state bytes ≡ answer_to state (trimmed bytes) line
 
 -- the tokens of a line answer this, over a group whose processes have these names
-abbrev pub TokensAnswer : List (List ℕ) → List ℕ → (SessionState → Answered) → Type 0
+abbrev pub TokensAnswer : List (List ℕ) → List ℕ → (SessionState → LineAnswer) → Type 0
 TokensAnswer names bytes says = (state : SessionState) → names_of state.place.start ≡ names → by_cut state bytes (cut bytes) ≡ says state
 
 -- the command that a line's tokens spell, or why they spell none; or want of memory
-abbrev pub Spells : List (List ℕ) → List ℕ → Result Spelled ExprError → Type 0
-Spells names bytes (Ok c) = TokensAnswer names bytes (λ state. judged state (trimmed bytes) (command c))
-Spells names bytes (Err (Syntax column)) = TokensAnswer names bytes (λ state. refuses state (refusal.Syntax column))
-Spells names bytes (Err TooDeep) = TokensAnswer names bytes (λ state. refuses state refusal.TooDeep)
-Spells names bytes (Err NoMemory) = Unit {0}
-Spells names bytes (Err Nested) = TokensAnswer names bytes (λ state. refuses state refusal.Nested)
-Spells names bytes (Err NoNode) = TokensAnswer names bytes (λ state. refuses state refusal.NoNode)
+abbrev pub SpellsCommand : List (List ℕ) → List ℕ → Result Spelled ExprError → Type 0
+SpellsCommand names bytes (Ok c) = TokensAnswer names bytes (λ state. command_answer_or_refusal state (trimmed bytes) (command c))
+SpellsCommand names bytes (Err (Syntax column)) = TokensAnswer names bytes (λ state. refuses state (refusal.Syntax column))
+SpellsCommand names bytes (Err TooDeep) = TokensAnswer names bytes (λ state. refuses state refusal.TooDeep)
+SpellsCommand names bytes (Err NoMemory) = Unit {0}
+SpellsCommand names bytes (Err Nested) = TokensAnswer names bytes (λ state. refuses state refusal.Nested)
+SpellsCommand names bytes (Err NoNode) = TokensAnswer names bytes (λ state. refuses state refusal.NoNode)

@@ -12,9 +12,9 @@ use Rattle.lib_calls.specs.declared.entry.Call.{Call}
 use Rattle.lib_calls.specs.declared.entry.Entry.{Entry}
 use Rattle.guest_process.specs.declared.waiting.Waiting.{Waiting}
 use Rattle.guest_process.specs.State.{State, is_running}
-use Rattle.group_order.specs.Order.{Event}
+use Rattle.group_order.specs.Order.{NodeEvent}
 use Rattle.proc_replay.specs.Replaying.{Replaying}
-use Rattle.group_state.specs.Moves.{last_of}
+use Rattle.group_state.specs.Moves.{last_event_of}
 use Rattle.group_state.specs.Place.{Place, events}
 use Rattle.friday_shell.specs.Ends.{end_text}
 
@@ -63,28 +63,28 @@ abbrev pub name_of : List Replaying → ℕ → List ℕ
 name_of start node = slice_index_or (map (λ r. r.head.name) start) node []
 
 -- the clock, the name of the process and the thread
-abbrev pub stamp_text : List Replaying → Event Entry → List ℕ
+abbrev pub stamp_text : List Replaying → NodeEvent Entry → List ℕ
 stamp_text start e = decimal e.entry.clock ++ (codes " " ++ (name_of start e.node ++ (codes " " ++ decimal e.entry.thread)))
 
 -- these and the call; then the reply and the signal
-abbrev pub event_text : List Replaying → Event Entry → List ℕ
+abbrev pub event_text : List Replaying → NodeEvent Entry → List ℕ
 event_text start e =
     stamp_text start e ++ (codes " " ++ (call_text e.entry.call ++ (reply_text e.entry ++ signal_text e.entry.signal)))
 
-abbrev pub with_event : List Replaying → Option (Event Entry) → List ℕ
-with_event start None = codes "\n"
-with_event start (Some e) = codes ": " ++ (event_text start e ++ codes "\n")
+abbrev pub event_ending : List Replaying → Option (NodeEvent Entry) → List ℕ
+event_ending start None = codes "\n"
+event_ending start (Some e) = codes ": " ++ (event_text start e ++ codes "\n")
 
 -- a position, and the event that led there
 abbrev pub position_line : Place → List ℕ
-position_line place = codes "at " ++ (decimal place.at ++ with_event place.start (last_of place))
+position_line place = codes "at " ++ (decimal place.at ++ event_ending place.start (last_event_of place))
 
 -- an event with its position
-abbrev pub event_line : List Replaying → ℕ → Event Entry → List ℕ
+abbrev pub event_line : List Replaying → ℕ → NodeEvent Entry → List ℕ
 event_line start k e = decimal k ++ (codes ": " ++ (event_text start e ++ codes "\n"))
 
 -- events, of which the first has this position
-abbrev pub event_lines : List Replaying → ℕ → List (Event Entry) → List ℕ
+abbrev pub event_lines : List Replaying → ℕ → List (NodeEvent Entry) → List ℕ
 event_lines start k [] = []
 event_lines start k (e ∷ es) = event_line start k e ++ event_lines start (suc k) es
 
@@ -108,5 +108,5 @@ abbrev pub threads_text : State → List ℕ
 threads_text S = if is_running S then thread_lines 0 S.crew.threads else []
 
 -- how a process stands, and where it runs each of its threads
-abbrev pub process_text : List ℕ → State → List ℕ
-process_text name S = name ++ (codes " " ++ (end_text S.end ++ (codes "\n" ++ threads_text S)))
+abbrev pub process_lines : List ℕ → State → List ℕ
+process_lines name S = name ++ (codes " " ++ (end_text S.end ++ (codes "\n" ++ threads_text S)))

@@ -8,7 +8,7 @@ use Rattle.watch_expr.specs.View.{Node}
 use Rattle.embed_cmds.specs.Running.{Run, after_all}
 use Rattle.embed_cmds.specs.Tree.{Statements}
 use Rattle.embed_cmds.specs.Variables.{Variable}
-use Rattle.friday_shell.specs.Firing.{is_due, line_of, place_at}
+use Rattle.friday_shell.specs.Firing.{is_due_at, firing_line, place_at}
 use Rattle.friday_shell.specs.Points.{Point}
 
 -- ---- at one position
@@ -17,18 +17,18 @@ abbrev pub with_stop : Run → Bool → Run
 with_stop r stopped = record { variables = r.variables; text = r.text; stopped = stopped }
 
 -- a program ran this way, where it was asked to stop before, or not
-abbrev pub joined : Bool → Run → Run
-joined asked r = with_stop r (asked || r.stopped)
+abbrev pub with_earlier_stop : Bool → Run → Run
+with_earlier_stop asked r = with_stop r (asked || r.stopped)
 
 -- Without a program a point says its line and asks to stop. With one it runs it, and asks to stop where the program did.
-abbrev pub does : List Node → Run → List ℕ → Option Statements → Run
-does nodes r line None = record { variables = r.variables; text = r.text ++ line; stopped = true }
-does nodes r line (Some body) = joined r.stopped (after_all nodes (with_stop r false) body)
+abbrev pub fired : List Node → Run → List ℕ → Option Statements → Run
+fired nodes r line None = record { variables = r.variables; text = r.text ++ line; stopped = true }
+fired nodes r line (Some body) = with_earlier_stop r.stopped (after_all nodes (with_stop r false) body)
 
 -- what a point does at position k, if it fires there
 abbrev pub treat : List Replaying → ℕ → Run → Point → Run
 treat start k r p =
-    if is_due start k p.trigger then does (nodes_at (place_at start k)) r (line_of start k p.number p.trigger) p.program else r
+    if is_due_at start k p.trigger then fired (nodes_at (place_at start k)) r (firing_line start k p.number p.trigger) p.program else r
 
 -- what points do at position k, one after the other
 abbrev pub treat_all : List Replaying → ℕ → Run → List Point → Run
@@ -43,8 +43,8 @@ pub record Walk : Type 0 where
   pub variables : List Variable
   pub text : List ℕ
 
-abbrev pub ended : ℕ → List Variable → List ℕ → Walk
-ended at variables text = record { at = at; variables = variables; text = text }
+abbrev pub walk_ended : ℕ → List Variable → List ℕ → Walk
+walk_ended at variables text = record { at = at; variables = variables; text = text }
 
 -- a walk that has said so many lines pauses
 abbrev pub most_lines : ℕ
@@ -55,10 +55,10 @@ lines_in text = count_by is_line_feed text
 
 -- After all points of a position were treated: where none asked to stop, and no more was said than may be, the rest of the
 -- walk follows.
-abbrev pub goes_on : (List Variable → List ℕ → Walk) → ℕ → List ℕ → Run → Walk
-goes_on rest at said r =
-    if r.stopped then ended at r.variables (said ++ r.text)
-    else if nat_le most_lines (lines_in (said ++ r.text)) then ended at r.variables ((said ++ r.text) ++ codes "paused\n")
+abbrev pub walk_on : (List Variable → List ℕ → Walk) → ℕ → List ℕ → Run → Walk
+walk_on rest at said r =
+    if r.stopped then walk_ended at r.variables (said ++ r.text)
+    else if nat_le most_lines (lines_in (said ++ r.text)) then walk_ended at r.variables ((said ++ r.text) ++ codes "paused\n")
     else rest r.variables (said ++ r.text)
 
 -- nothing said, and not asked to stop
@@ -67,9 +67,9 @@ quiet variables = record { variables = variables; text = []; stopped = false }
 
 -- the walk over so many positions behind this one, which has said this
 abbrev pub walk_over : List Replaying → List Point → ℕ → ℕ → List Variable → List ℕ → Walk
-walk_over start points at zero variables said = ended at variables (said ++ codes "end\n")
+walk_over start points at zero variables said = walk_ended at variables (said ++ codes "end\n")
 walk_over start points at (suc left) variables said =
-    goes_on (walk_over start points (suc at) left) (suc at) said (treat_all start (suc at) (quiet variables) points)
+    walk_on (walk_over start points (suc at) left) (suc at) said (treat_all start (suc at) (quiet variables) points)
 
 -- the walk from a position, which may go on to the last
 abbrev pub walk_from : Place → List Point → List Variable → Walk

@@ -1,9 +1,9 @@
 // What a command answers.
 ghost use Rattle.std.specs.Prelude.{◌≡◌, ◌+◌, IfOk, Ok, [], length, min};
-ghost use Rattle.friday_shell.specs.Answer.{answer_of};
+ghost use Rattle.friday_shell.specs.Answer.{command_answer};
 ghost use Rattle.friday_shell.specs.Firing.{place_at};
 ghost use Rattle.friday_shell.specs.Lines.{Continue, Events, Goto, Step};
-ghost use Rattle.friday_shell.specs.Seen.{Performs, command as command_meant, state_of};
+ghost use Rattle.friday_shell.specs.Seen.{Performs, command as command_meant, session_state};
 ghost use Rattle.friday_shell.specs.Texts.{last_lines, position_line};
 ghost use Rattle.group_state.specs.Place.{events};
 
@@ -26,7 +26,8 @@ pub(crate) fn perform<'m, 'a>(
     line: &[u8],
     command: Command,
 ) -> Result<(State<'m, 'a>, Text), AllocError>
-    ensures answer { IfOk result (λ done. Performs (answer_of (state_of state.entry) line.now (command_meant command)) (state_of done.0) done.1) }
+    ensures answer { IfOk result (λ done.
+        Performs (command_answer (session_state state.entry) line.now (command_meant command)) (session_state done.0) done.1) }
     ensures start { IfOk result (λ done. done.0.group.start ≡ state.entry.group.start) }
 {
     match command {
@@ -81,7 +82,7 @@ fn go_to<'m, 'a>(
     state: State<'m, 'a>,
     position: u64,
 ) -> Result<(State<'m, 'a>, Text), AllocError>
-    ensures answer { IfOk result (λ done. Performs (answer_of (state_of state.entry) [] (Goto position)) (state_of done.0) done.1) }
+    ensures answer { IfOk result (λ done. Performs (command_answer (session_state state.entry) [] (Goto position)) (session_state done.0) done.1) }
     ensures start { IfOk result (λ done. done.0.group.start ≡ state.entry.group.start) }
 {
     let State { group, kept } = state;
@@ -100,7 +101,7 @@ fn step<'m, 'a>(
     state: State<'m, 'a>,
     count: u64,
 ) -> Result<(State<'m, 'a>, Text), AllocError>
-    ensures answer { IfOk result (λ done. Performs (answer_of (state_of state.entry) [] (Step count)) (state_of done.0) done.1) }
+    ensures answer { IfOk result (λ done. Performs (command_answer (session_state state.entry) [] (Step count)) (session_state done.0) done.1) }
     ensures start { IfOk result (λ done. done.0.group.start ≡ state.entry.group.start) }
 {
     let State { group, kept } = state;
@@ -127,7 +128,7 @@ fn advance<'m, 'a>(group: Group<'m, 'a>, count: u64) -> Result<Group<'m, 'a>, Al
 
 // Goes on to where a point fires.
 fn go_on<'m, 'a>(alloc: Global, state: State<'m, 'a>) -> Result<(State<'m, 'a>, Text), AllocError>
-    ensures answer { IfOk result (λ done. Performs (answer_of (state_of state.entry) [] Continue) (state_of done.0) done.1) }
+    ensures answer { IfOk result (λ done. Performs (command_answer (session_state state.entry) [] Continue) (session_state done.0) done.1) }
     ensures start { IfOk result (λ done. done.0.group.start ≡ state.entry.group.start) }
 {
     let State { group, kept } = state;
@@ -155,7 +156,7 @@ fn show_events<'m, 'a>(
     state: State<'m, 'a>,
     count: u64,
 ) -> Result<(State<'m, 'a>, Text), AllocError>
-    ensures answer { IfOk result (λ done. Performs (answer_of (state_of state.entry) [] (Events count)) (state_of done.0) done.1) }
+    ensures answer { IfOk result (λ done. Performs (command_answer (session_state state.entry) [] (Events count)) (session_state done.0) done.1) }
     ensures start { IfOk result (λ done. done.0.group.start ≡ state.entry.group.start) }
 {
     let State { group, kept } = state;

@@ -1,7 +1,7 @@
 // What points read at a position, and what they say where they fire.
 ghost use Rattle.std.specs.Prelude.{◌≡◌, ◌++◌, Some, IfOk, OnOk, map};
-ghost use Rattle.group_state.specs.Moves.{event_of, last_of};
-ghost use Rattle.friday_shell.specs.Firing.{is_of, is_same};
+ghost use Rattle.group_state.specs.Moves.{event_of, last_event_of};
+ghost use Rattle.friday_shell.specs.Firing.{is_of, is_same_value};
 ghost use Rattle.friday_shell.specs.Reading.{is_due_by, line_by, reading, readings};
 ghost use Rattle.friday_shell.specs.Seen.{point as seen, trigger as seen_trigger};
 ghost use Rattle.friday_shell.specs.declared.points.Point.{Point as Held};
@@ -53,8 +53,8 @@ pub(crate) fn readings(
 }
 
 // Whether two values are the same, where `undef` is so to itself alone.
-fn is_same(before: Option<i64>, now: Option<i64>) -> bool
-    ensures { result ≡ is_same before now }
+fn is_same_value(before: Option<i64>, now: Option<i64>) -> bool
+    ensures { result ≡ is_same_value before now }
 {
     match (before, now) {
         (None, None) => true,
@@ -82,10 +82,10 @@ pub(crate) fn is_due(
     now: Option<i64>,
     group: &Group<'_, '_>,
 ) -> bool
-    ensures { result ≡ is_due_by before now (last_of group.now) (seen_trigger trigger.now) }
+    ensures { result ≡ is_due_by before now (last_event_of group.now) (seen_trigger trigger.now) }
 {
     match trigger {
-        Trigger::Watch(_) => !is_same(before, now),
+        Trigger::Watch(_) => !is_same_value(before, now),
         Trigger::Break(node, kind) => match group.last_event() {
             Some(event) => is_of(*node, *kind, &event),
             None => false,

@@ -1,11 +1,11 @@
 // What a line of a session is.
 ghost use Rattle.std.specs.Prelude.{◌≡◌, ◌<◌, ◌≤◌, ◌^◌, ℕ, IfOk, List, Ok, length, not, true};
 ghost use Rattle.std.specs.List.{find};
-ghost use Rattle.friday_shell.specs.Answer.{is_silent, judged, trimmed, without_end, without_front};
+ghost use Rattle.friday_shell.specs.Answer.{command_answer_or_refusal, is_silent, trimmed, without_end_blanks, without_front_blanks};
 ghost use Rattle.friday_shell.specs.Lines.{has_nested, names_none, scopes_none, watches_variable};
 ghost use Rattle.friday_shell.specs.Points.{SessionState};
 ghost use Rattle.friday_shell.specs.declared.line.Line.TheVariants.{Silent};
-ghost use Rattle.friday_shell.specs.Seen.{IsLine, Spells, answer_to, command, scope};
+ghost use Rattle.friday_shell.specs.Seen.{IsLine, SpellsCommand, answer_to, command, scope};
 ghost use Rattle.watch_expr.specs.Lexing.{is_blank};
 
 use crate::command::{Command, Scope};
@@ -53,7 +53,7 @@ pub(crate) fn read_line(alloc: Global, bytes: &[u8], names: &[Bytes]) -> Result<
 fn spelled(alloc: Global, bytes: &[u8], names: &[Bytes]) -> Result<Command, ExprError>
     requires few { length names.now < 2 ^ 32 }
     requires short { length bytes.now ≤ 4096 }
-    ensures { Spells names.now bytes.now result }
+    ensures { SpellsCommand names.now bytes.now result }
 {
     exact_cut();
     let tokens = lex(alloc, bytes)?;
@@ -133,7 +133,7 @@ fn watches_variable(spelled: &Command) -> bool
 
 // A command of the grammar, unless something is wrong with it.
 fn judge(spelled: Command) -> Line
-    ensures { (state : SessionState) (line : List ℕ) → judged state line (command spelled) ≡ answer_to state line result }
+    ensures { (state : SessionState) (line : List ℕ) → command_answer_or_refusal state line (command spelled) ≡ answer_to state line result }
 {
     if has_nested(&spelled) {
         Line::Refused(Refusal::Nested)
@@ -150,12 +150,12 @@ fn judge(spelled: Command) -> Line
 pub(crate) fn trimmed(line: &[u8]) -> &[u8]
     ensures { result.now ≡ trimmed line.now }
 {
-    without_end(without_front(line))
+    without_end_blanks(without_front_blanks(line))
 }
 
 // Bytes without the blanks in front.
-fn without_front(bytes: &[u8]) -> &[u8]
-    ensures { result.now ≡ without_front bytes.now }
+fn without_front_blanks(bytes: &[u8]) -> &[u8]
+    ensures { result.now ≡ without_front_blanks bytes.now }
 {
     match bytes.iter().position(|b| !is_blank(*b)) {
         Some(first) => &bytes[first..],
@@ -164,8 +164,8 @@ fn without_front(bytes: &[u8]) -> &[u8]
 }
 
 // Bytes without the blanks at their end.
-fn without_end(bytes: &[u8]) -> &[u8]
-    ensures { result.now ≡ without_end bytes.now }
+fn without_end_blanks(bytes: &[u8]) -> &[u8]
+    ensures { result.now ≡ without_end_blanks bytes.now }
 {
     match bytes.iter().rposition(|b| !is_blank(*b)) {
         Some(last) => &bytes[..=last],

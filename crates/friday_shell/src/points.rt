@@ -4,7 +4,7 @@ ghost use Rattle.std.specs.List.{flat_map};
 ghost use Rattle.friday_shell.specs.Answer.{adds, attaches, breaks_at, deletes, point_text};
 ghost use Rattle.friday_shell.specs.Points.{has_point, with_program, without_point};
 ghost use Rattle.embed_cmds.specs.Tree.{body};
-ghost use Rattle.friday_shell.specs.Seen.{Performs, point as point_meant, scope as scope_meant, state_of, trigger as trigger_meant};
+ghost use Rattle.friday_shell.specs.Seen.{Performs, point as point_meant, scope as scope_meant, session_state, trigger as trigger_meant};
 
 use crate::command::Scope;
 use crate::refusal::{Refusal, refused};
@@ -44,7 +44,7 @@ pub(crate) fn add<'m, 'a>(
     line: &[u8],
     trigger: Trigger,
 ) -> Result<(State<'m, 'a>, Text), AllocError>
-    ensures answer { IfOk result (λ done. Performs (adds (state_of state.entry) line.now (trigger_meant trigger)) (state_of done.0) done.1) }
+    ensures answer { IfOk result (λ done. Performs (adds (session_state state.entry) line.now (trigger_meant trigger)) (session_state done.0) done.1) }
     ensures group { IfOk result (λ done. done.0.group ≡ state.entry.group) }
 {
     if state.kept.points.len() >= MOST_POINTS {
@@ -71,7 +71,7 @@ pub(crate) fn add_breakpoint<'m, 'a>(
     scope: Scope,
     kind: Kind,
 ) -> Result<(State<'m, 'a>, Text), AllocError>
-    ensures answer { IfOk result (λ done. Performs (breaks_at (state_of state.entry) line.now kind (scope_meant scope)) (state_of done.0) done.1) }
+    ensures answer { IfOk result (λ done. Performs (breaks_at (session_state state.entry) line.now kind (scope_meant scope)) (session_state done.0) done.1) }
     ensures group { IfOk result (λ done. done.0.group ≡ state.entry.group) }
 {
     match scope {
@@ -87,7 +87,7 @@ pub(crate) fn delete<'m, 'a>(
     state: State<'m, 'a>,
     number: u64,
 ) -> Result<(State<'m, 'a>, Text), AllocError>
-    ensures answer { IfOk result (λ done. Performs (deletes (state_of state.entry) number) (state_of done.0) done.1) }
+    ensures answer { IfOk result (λ done. Performs (deletes (session_state state.entry) number) (session_state done.0) done.1) }
     ensures group { IfOk result (λ done. done.0.group ≡ state.entry.group) }
 {
     if !is_held(&state.kept.points, number) {
@@ -108,10 +108,10 @@ pub(crate) fn attach<'m, 'a>(
     number: u64,
     program: Program,
 ) -> Result<(State<'m, 'a>, Text), AllocError>
-    ensures answer { IfOk result (λ done. Performs (attaches (state_of state.entry) number (body program)) (state_of done.0) done.1) }
+    ensures answer { IfOk result (λ done. Performs (attaches (session_state state.entry) number (body program)) (session_state done.0) done.1) }
     ensures group { IfOk result (λ done. done.0.group ≡ state.entry.group) }
 {
-    let Some(place) = place_of(&state.kept.points, number) else {
+    let Some(place) = place_of_point(&state.kept.points, number) else {
         let text = refused(alloc, Refusal::NoPoint)?;
         return Ok((state, text));
     };
@@ -163,7 +163,7 @@ fn is_held(points: &[Point], number: u64) -> bool
 }
 
 // Where the point with this number stands.
-fn place_of(points: &[Point], number: u64) -> Option<usize>
+fn place_of_point(points: &[Point], number: u64) -> Option<usize>
     ensures place { result ≡ position (λ p. p.number == number) points.now }
     ensures within { IfSome result (λ place. place < length points.now) }
 {

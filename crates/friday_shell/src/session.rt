@@ -1,9 +1,9 @@
 // A session of the debugger.
 ghost use Rattle.std.specs.Prelude.{◌≡◌, ℕ, ◌≤◌, IfOk, List, codes, length, true};
 ghost use Rattle.std.specs.Result.{IsOk};
-ghost use Rattle.friday_shell.specs.Answer.{answer, answer_of, is_silent, names_of};
+ghost use Rattle.friday_shell.specs.Answer.{answer, command_answer, is_silent, names_of};
 ghost use Rattle.friday_shell.specs.Points.{SessionState};
-ghost use Rattle.friday_shell.specs.Seen.{Answers, command, is_quit};
+ghost use Rattle.friday_shell.specs.Seen.{IsLineAnswer, command, is_quit};
 ghost use Rattle.friday_shell.specs.Session.{opening};
 
 use crate::answer::perform;
@@ -46,9 +46,9 @@ impl<'m, 'a> Model for Session<'m, 'a> {
     ghost coded = { Prim.hlevel (codes, trees_code, crew_code, tree_code, statements_code) };
 
     ghost use Rattle.friday_shell.specs.Answer.{names_of};
-    ghost use Rattle.friday_shell.specs.Seen.{state_of};
+    ghost use Rattle.friday_shell.specs.Seen.{session_state};
 
-    ghost view = { λ s. state_of s.state };
+    ghost view = { λ s. session_state s.state };
 
     ghost invariant = { λ s. s.names.items ≡ names_of s.state.group.start };
 }
@@ -77,7 +77,7 @@ impl<'m, 'a> Session<'m, 'a> {
     /// The answer of a line, without its line feed, and whether the session goes on. A line that is refused leaves the
     /// session as it was. A silent line takes no memory.
     pub fn line(self, alloc: Global, line: &[u8]) -> Result<(Session<'m, 'a>, Text, Go), AllocError>
-        ensures answer { IfOk result (λ said. Answers (answer self.entry line.now) said.0 said.1 said.2) }
+        ensures answer { IfOk result (λ said. IsLineAnswer (answer self.entry line.now) said.0 said.1 said.2) }
         ensures silent { length line.now ≤ 4096 → is_silent line.now ≡ true → IsOk result }
     {
         let Session { state, names } = self;
@@ -106,7 +106,7 @@ impl<'m, 'a> Session<'m, 'a> {
 
 // Whether a session goes on after a command.
 fn go_after(spelled: &Command) -> Go
-    ensures { (state : SessionState) (line : List ℕ) → is_quit result ≡ (answer_of state line (command spelled.now)).quits }
+    ensures { (state : SessionState) (line : List ℕ) → is_quit result ≡ (command_answer state line (command spelled.now)).quits }
 {
     match spelled {
         Command::Quit => Go::Quit,

@@ -1,10 +1,10 @@
 // What points do at a position.
 ghost use Rattle.std.specs.Prelude.{◌≡◌, ◌<◌, ◌-◌, IfOk, OnOk, map};
 ghost use Rattle.friday_shell.specs.Reading.{readings, treat_by};
-ghost use Rattle.friday_shell.specs.Seen.{point as seen, run_of};
+ghost use Rattle.friday_shell.specs.Seen.{point as seen, run_so_far};
 ghost use Rattle.friday_shell.specs.Walking.{quiet, treat_all};
 ghost use Rattle.friday_shell.specs.declared.points.Point.{Point as Held};
-ghost use Rattle.group_state.specs.Moves.{last_of};
+ghost use Rattle.group_state.specs.Moves.{last_event_of};
 ghost use Rattle.group_state.specs.Seen.{nodes_at};
 
 use crate::firing::{is_due, push_line};
@@ -36,7 +36,7 @@ pub(crate) fn treat_all(
     requires moved { 0 < group.now.at }
     requires before { before.now ≡ readings group.now.start (group.now.at - 1) (map {A = Held} seen points.now) }
     requires now { now.now ≡ readings group.now.start group.now.at (map {A = Held} seen points.now) }
-    ensures { IfOk result (λ turn. run_of turn ≡ treat_all group.now.start group.now.at (quiet variables) (map {A = Held} seen points.now)) }
+    ensures { IfOk result (λ turn. run_so_far turn ≡ treat_all group.now.start group.now.at (quiet variables) (map {A = Held} seen points.now)) }
 {
     let mut turn = Turn {
         variables,
@@ -58,7 +58,7 @@ fn treat(
     group: &Group<'_, '_>,
     turn: &mut Turn,
 ) -> Result<(), AllocError>
-    ensures { OnOk result (run_of turn.new ≡ treat_by before now (last_of group.now) (nodes_at group.now) (run_of turn.old) (seen point.now)) }
+    ensures { OnOk result (run_so_far turn.new ≡ treat_by before now (last_event_of group.now) (nodes_at group.now) (run_so_far turn.old) (seen point.now)) }
 {
     if !is_due(&point.trigger, before, now, group) {
         return Ok(());

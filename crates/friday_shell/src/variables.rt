@@ -1,10 +1,9 @@
 // The variables of a session.
-ghost use Rattle.std.specs.Prelude.{◌≡◌, ◌++◌, IfOk, OnOk};
+ghost use Rattle.std.specs.Prelude.{◌≡◌, ◌++◌, [], IfOk, OnOk};
 ghost use Rattle.std.specs.List.{flat_map};
-ghost use Rattle.embed_cmds.specs.Running.{value_in};
-ghost use Rattle.friday_shell.specs.Answer.{sets, variable_text};
-ghost use Rattle.friday_shell.specs.Seen.{Performs, state_of};
-ghost use Rattle.group_state.specs.Seen.{nodes_at};
+ghost use Rattle.friday_shell.specs.Answer.{command_answer, variable_text};
+ghost use Rattle.friday_shell.specs.Lines.{SetTo};
+ghost use Rattle.friday_shell.specs.Seen.{Performs, session_state};
 ghost use Rattle.watch_expr.specs.Tree.{tree};
 
 use crate::refusal::{Refusal, refused};
@@ -25,7 +24,8 @@ pub(crate) fn set<'m, 'a>(
     name: &Bytes,
     expression: &Expr,
 ) -> Result<(State<'m, 'a>, Text), AllocError>
-    ensures answer { IfOk result (λ done. Performs (sets (state_of state.entry) name.now (value_in (nodes_at state.entry.group) state.entry.kept.variables (tree expression.now))) (state_of done.0) done.1) }
+    ensures answer { IfOk result (λ done.
+        Performs (command_answer (session_state state.entry) [] (SetTo name.now (tree expression.now))) (session_state done.0) done.1) }
     ensures group { IfOk result (λ done. done.0.group ≡ state.entry.group) }
 {
     let variables = &state.kept.variables;

@@ -4,10 +4,10 @@ use Rattle.std.proofs.lemmas.Bool.{cases_lt}
 use Rattle.std.proofs.lemmas.Option.{same_Some}
 use Rattle.std.proofs.lemmas.List.{get_or_past}
 use Rattle.group_order.specs.declared.merge.Head.{Head}
-use Rattle.group_order.specs.Heads.{AreNone, IsFirst, IsNext, clock_at}
+use Rattle.group_order.specs.Heads.{AreNone, IsFirstNode, IsNext, clock_of_node}
 
 -- one head more in front, which has no clock
-behind_none : (heads : List (Option ℕ)) (node : ℕ) → IsFirst heads node → IsFirst (None ∷ heads) (suc node)
+behind_none : (heads : List (Option ℕ)) (node : ℕ) → IsFirstNode heads node → IsFirstNode (None ∷ heads) (suc node)
 behind_none heads node first = record {
   clock = first.clock;
   has = first.has;
@@ -15,16 +15,16 @@ behind_none heads node first = record {
   tie = λ other e. tie other e;
 }
   where
-    least : (other at : ℕ) → clock_at (None ∷ heads) other ≡ Some at → first.clock ≤ at
+    least : (other at : ℕ) → clock_of_node (None ∷ heads) other ≡ Some at → first.clock ≤ at
     least zero at e = absurd (cc)
     least (suc other) at e = first.least other at e
 
-    tie : (other : ℕ) → clock_at (None ∷ heads) other ≡ Some first.clock → suc node ≤ other
+    tie : (other : ℕ) → clock_of_node (None ∷ heads) other ≡ Some first.clock → suc node ≤ other
     tie zero e = absurd (cc)
     tie (suc other) e = let t = first.tie other e in omega (arith, t)
 
 -- one whose clock is greater
-behind_greater : (c : ℕ) (heads : List (Option ℕ)) (node : ℕ) (first : IsFirst heads node) → first.clock < c → IsFirst (Some c ∷ heads) (suc node)
+behind_greater : (c : ℕ) (heads : List (Option ℕ)) (node : ℕ) (first : IsFirstNode heads node) → first.clock < c → IsFirstNode (Some c ∷ heads) (suc node)
 behind_greater c heads node first greater = record {
   clock = first.clock;
   has = first.has;
@@ -32,16 +32,16 @@ behind_greater c heads node first greater = record {
   tie = λ other e. tie other e;
 }
   where
-    least : (other at : ℕ) → clock_at (Some c ∷ heads) other ≡ Some at → first.clock ≤ at
+    least : (other at : ℕ) → clock_of_node (Some c ∷ heads) other ≡ Some at → first.clock ≤ at
     least zero at e = let same : c ≡ at = same_Some c at e in omega (arith, same, greater)
     least (suc other) at e = first.least other at e
 
-    tie : (other : ℕ) → clock_at (Some c ∷ heads) other ≡ Some first.clock → suc node ≤ other
+    tie : (other : ℕ) → clock_of_node (Some c ∷ heads) other ≡ Some first.clock → suc node ≤ other
     tie zero e = let same : c ≡ first.clock = same_Some c first.clock e in absurd (omega (arith, same, greater))
     tie (suc other) e = let t = first.tie other e in omega (arith, t)
 
 -- one that comes before them
-in_front : (c : ℕ) (heads : List (Option ℕ)) → ((other at : ℕ) → clock_at heads other ≡ Some at → c ≤ at) → IsFirst (Some c ∷ heads) zero
+in_front : (c : ℕ) (heads : List (Option ℕ)) → ((other at : ℕ) → clock_of_node heads other ≡ Some at → c ≤ at) → IsFirstNode (Some c ∷ heads) zero
 in_front c heads above = record {
   clock = c;
   has = refl;
@@ -49,7 +49,7 @@ in_front c heads above = record {
   tie = λ other e. omega arith;
 }
   where
-    least : (other at : ℕ) → clock_at (Some c ∷ heads) other ≡ Some at → c ≤ at
+    least : (other at : ℕ) → clock_of_node (Some c ∷ heads) other ≡ Some at → c ≤ at
     least zero at e = let same : c ≡ at = same_Some c at e in omega (arith, same)
     least (suc other) at e = above other at e
 
@@ -58,7 +58,7 @@ none_more heads none zero = refl
 none_more heads none (suc node) = none node
 
 -- there is a first, or no head has a clock
-pub first_of : (heads : List (Option ℕ)) → ((node : ℕ) × IsFirst heads node) ⊎ AreNone heads
+pub first_of : (heads : List (Option ℕ)) → ((node : ℕ) × IsFirstNode heads node) ⊎ AreNone heads
 first_of [] = inr (λ node. refl)
 first_of (None ∷ heads) = elim (first_of heads) [
   | inl (node, first) ↦ inl (suc node, behind_none heads node first)
@@ -76,12 +76,12 @@ first_of (Some c ∷ heads) = elim (first_of heads) [
 
 pub record Leading (heads : List (Option ℕ)) (n : ℕ) (head : Head) : Type 0 where
   pub before : head.node < n
-  pub has : clock_at heads head.node ≡ Some head.clock
-  pub least : (k at : ℕ) → k < n → clock_at heads k ≡ Some at → head.clock ≤ at
-  pub tie : (k : ℕ) → k < n → clock_at heads k ≡ Some head.clock → head.node ≤ k
+  pub has : clock_of_node heads head.node ≡ Some head.clock
+  pub least : (k at : ℕ) → k < n → clock_of_node heads k ≡ Some at → head.clock ≤ at
+  pub tie : (k : ℕ) → k < n → clock_of_node heads k ≡ Some head.clock → head.node ≤ k
 
 abbrev pub IsFirstOf : List (Option ℕ) → ℕ → Option Head → Type 0
-IsFirstOf heads n None = (k : ℕ) → k < n → clock_at heads k ≡ None
+IsFirstOf heads n None = (k : ℕ) → k < n → clock_of_node heads k ≡ None
 IsFirstOf heads n (Some head) = Leading heads n head
 
 -- the first of all
@@ -95,10 +95,10 @@ whole heads n (Some head) all is = record {
   has = is.has;
   least = λ k at e. elim (cases_lt k n) [
     | inl less ↦ is.least k at less e
-    | inr not ↦ let past : clock_at heads k ≡ None = get_or_past heads k None (omega (arith, all, not)) in absurd (cc)
+    | inr not ↦ let past : clock_of_node heads k ≡ None = get_or_past heads k None (omega (arith, all, not)) in absurd (cc)
   ];
   tie = λ k e. elim (cases_lt k n) [
     | inl less ↦ is.tie k less e
-    | inr not ↦ let past : clock_at heads k ≡ None = get_or_past heads k None (omega (arith, all, not)) in absurd (cc)
+    | inr not ↦ let past : clock_of_node heads k ≡ None = get_or_past heads k None (omega (arith, all, not)) in absurd (cc)
   ];
 }

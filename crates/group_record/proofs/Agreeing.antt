@@ -20,7 +20,7 @@ use Rattle.guest_process.specs.Answers.{need}
 use Rattle.guest_process.specs.EventCount as count
 use Rattle.guest_process.specs.Fits.{StateFits, WaitingFits, live_has}
 use Rattle.guest_process.specs.Legal.{reason}
-use Rattle.guest_process.specs.Live.{Answered, Env, Event, answered, event, from_world, live, live_at}
+use Rattle.guest_process.specs.Live.{Answered, Env, Event, answered_now, event, event_of_waiting, from_world, live}
 use Rattle.guest_process.specs.Next.{next}
 use Rattle.guest_process.specs.OneEvent.{IsKept, IsStarted, OneEvent, Rises, RisesTo}
 use Rattle.guest_process.specs.OneEvent.{Agrees as IsTold}
@@ -28,7 +28,7 @@ use Rattle.guest_process.specs.Replay.{accepted, reach, reach_then, replayed}
 use Rattle.guest_process.specs.State.{State, thread_at}
 use Rattle.group_world.specs.History.{Act, put_last_if, time}
 use Rattle.group_world.specs.History as world
-use Rattle.group_record.specs.Run.{Group, Step, Had, Did, around, entries, has_room, head_of, history, log_of, size, state_after, states}
+use Rattle.group_record.specs.Run.{Group, Step, Had, Did, world_around, entries, log_has_room, head_of_log, history, log_of, size, process_after, process_states}
 use Rattle.group_record.specs.Laws.{Agreement, IsBegun}
 use Rattle.group_record.specs.Logs.{TellsEvents}
 use Rattle.group_record.proofs.Running.{IsDone, IsHad, IsRun, is_run}
@@ -74,9 +74,9 @@ many_bytes : (es : List Entry) → length es ≤ length (encodings es)
 many_bytes [] = omega arith
 many_bytes (e ∷ es) = omega (arith, many_bytes es, some_bytes e, length-append (encoding e) (encodings es))
 
-room_for : (group : Group) (steps : List Step) (p : ℕ) (e : Entry) → has_room group steps p e ≡ true → length (entries steps p) + 1 ≤ most_log
+room_for : (group : Group) (steps : List Step) (p : ℕ) (e : Entry) → log_has_room group steps p e ≡ true → length (entries steps p) + 1 ≤ most_log
 room_for group steps p e room =
-    let head = head_bytes (head_of group p) in
+    let head = head_bytes (head_of_log group p) in
     let es = entries steps p in
     omega (arith, leb-true _ _ room, length-append (log_of group steps p) (encoding e), length-append head (encodings es), many_bytes es, some_bytes e)
 
@@ -87,7 +87,7 @@ pub record ComesIn (S : State) (env : Env) (thread : ℕ) (e : Event) : Type 0 w
   pub waiting : Waiting
   pub there : thread_at S thread ≡ Some waiting
   pub given : Answered
-  pub answer : answered (need waiting.kind S thread waiting.call) (from_world waiting.kind S waiting.call env) ≡ Some given
+  pub answer : answered_now (need waiting.kind S thread waiting.call) (from_world waiting.kind S waiting.call env) ≡ Some given
   pub is : e ≡ event S thread env waiting given
 
 by_test : {A : Type 0} (test : Bool) (o : Option A) (x : A) → cond test o None ≡ Some x → o ≡ Some x
@@ -95,12 +95,12 @@ by_test true o x is = is
 by_test false o x is = cc
 
 pub comes_in : (S : State) (env : Env) (thread : ℕ) (e : Event) → live S thread env ≡ Some e → ComesIn S env thread e
-comes_in S env thread e comes = by_thread (thread_at S thread) refl (by_test _ (live_at S thread env (thread_at S thread)) e comes) where
-  mapped : (w : Waiting) → thread_at S thread ≡ Some w → (o : Option Answered) → answered (need w.kind S thread w.call) (from_world w.kind S w.call env) ≡ o → option_map (event S thread env w) o ≡ Some e → ComesIn S env thread e
+comes_in S env thread e comes = by_thread (thread_at S thread) refl (by_test _ (event_of_waiting S thread env (thread_at S thread)) e comes) where
+  mapped : (w : Waiting) → thread_at S thread ≡ Some w → (o : Option Answered) → answered_now (need w.kind S thread w.call) (from_world w.kind S w.call env) ≡ o → option_map (event S thread env w) o ≡ Some e → ComesIn S env thread e
   mapped w there None answer is = cc
   mapped w there (Some given) answer is = record { waiting = w; there = there; given = given; answer = answer; is = sym (same_Some _ _ is) }
 
-  by_thread : (o : Option Waiting) → thread_at S thread ≡ o → live_at S thread env o ≡ Some e → ComesIn S env thread e
+  by_thread : (o : Option Waiting) → thread_at S thread ≡ o → event_of_waiting S thread env o ≡ Some e → ComesIn S env thread e
   by_thread None there is = cc
   by_thread (Some w) there is = mapped w there _ refl is
 
@@ -128,7 +128,7 @@ pub record Keeps (group : Group) (p : ℕ) (es : List Entry) (after : List State
   pub same : replays first es ≡ after
 
 abbrev pub KeepsAfter : Group → List Step → ℕ → Type 0
-KeepsAfter group steps p = Keeps group p (entries steps p) (states steps p) (state_after group steps p)
+KeepsAfter group steps p = Keeps group p (entries steps p) (process_states steps p) (process_after group steps p)
 
 -- what is known of processes
 pub record Laws : Type 0 where
@@ -136,7 +136,7 @@ pub record Laws : Type 0 where
   pub started : IsStarted
   pub kept : IsKept
   pub rises : Rises
-  pub fresh : count.IsBegun
+  pub fresh : count.BeginsFresh
 
 -- an event of the process that its entry tells
 record IsNext (S : State) (e : Event) (many : ℕ) : Type 0 where
@@ -216,12 +216,12 @@ begin_keeps laws group begun p within =
     }
 
 -- the state in which an event came
-pub came_in : (group : Group) (early : List Step) (p : ℕ) (e : Event) (k : KeepsAfter group early p) (had : IsHad group early p e) → live k.last had.thread (around (size group) early p) ≡ Some e
-came_in group early p e k had = sym (ap (λ (o : Option State). option_and_then (λ S. live S had.thread (around (size group) early p)) o) k.stands) ∙ had.comes
+pub came_in : (group : Group) (early : List Step) (p : ℕ) (e : Event) (k : KeepsAfter group early p) (had : IsHad group early p e) → live k.last had.thread (world_around (size group) early p) ≡ Some e
+came_in group early p e k had = sym (ap (λ (o : Option State). option_and_then (λ S. live S had.thread (world_around (size group) early p)) o) k.stands) ∙ had.comes
 
 is_next : (laws : Laws) (group : Group) (early : List Step) (p : ℕ) (e : Event) → IsRun group early → (k : KeepsAfter group early p) → IsHad group early p e → IsNext k.last e (length (entries early p))
 is_next laws group early p e run k had =
-    let env = around (size group) early p in
+    let env = world_around (size group) early p in
     let comes : live k.last had.thread env ≡ Some e = came_in group early p e k had in
     let few : k.last.events < 2 ^ 61 = omega (arith, k.events, k.few) in
     let told : IsTold k.last e = laws.one k.last had.thread env k.fits few (record { time = time_fits group early run p }) e comes in
@@ -244,7 +244,7 @@ pub keeps : (laws : Laws) (group : Group) → IsBegun group → (steps : List St
 keeps laws group begun [] run p within = begin_keeps laws group begun p within
 keeps laws group begun (Had q e ∷ early) run p within =
     let k : KeepsAfter group early p = keeps laws group begun early run.1 p within in
-    one_event laws group p (entries early p) (states early p) (state_after group early p) e (q == p) k
+    one_event laws group p (entries early p) (process_states early p) (process_after group early p) e (q == p) k
     (λ is. is_next laws group early p e run.1 k (subst (λ (r : ℕ). IsHad group early r e) (eqb-true q p is) run.0))
 keeps laws group begun (Did act ∷ early) run p within = act_keeps group early act p run.0 (keeps laws group begun early run.1 p within)
 
@@ -259,7 +259,7 @@ log_tells logs group begun steps p within k =
       first = k.first;
       begun = k.begun;
       left = encodings es;
-      head = (logs.heads (log_of group steps p) (head_of group p) (encodings es)).1 (record { some = begun.some; few = begun.few; within = within; named = named }, refl);
+      head = (logs.heads (log_of group steps p) (head_of_log group p) (encodings es)).1 (record { some = begun.some; few = begun.few; within = within; named = named }, refl);
       entries = held.0;
       whole = held.1;
       accepted = k.all;

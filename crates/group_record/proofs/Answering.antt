@@ -12,10 +12,10 @@ use Rattle.group_record.specs.declared.error.RecordError.{RecordError}
 use Rattle.group_record.specs.declared.error.RecordError.TheVariants as errors
 use Rattle.group_record.specs.declared.recorder.Recorder.{Recorder}
 use Rattle.group_record.specs.declared.summary.Summary.{Summary}
-use Rattle.group_record.specs.Answer.{Answers, StoppedWhere, group_of}
-use Rattle.group_record.specs.Begun.{Begins, StopsAtHead}
+use Rattle.group_record.specs.Answer.{RecordAnswers, StoppedWhere, group_of}
+use Rattle.group_record.specs.Begun.{GroupBegins, StopsAtHead}
 use Rattle.group_record.specs.Files.{Between, IsStopped}
-use Rattle.group_record.specs.Images.{IsPart, images_of}
+use Rattle.group_record.specs.Images.{AreMadeInPart, images_of}
 use Rattle.group_record.specs.Logs.{logs}
 use Rattle.group_record.specs.Recorded.{Does, FilesOf, KeepsUp, MakesFiles, MakesImages, Sums, UnderWay}
 use Rattle.group_record.specs.Run.{Group, Progress, after_items, nothing_yet, run}
@@ -37,25 +37,25 @@ stops_where asked schedule (Ok first) before after h =
     stops_in asked schedule first before after (stopped_on (group_of schedule first) [] steps before after (steps, sym (append-nil steps)) h)
 
 -- the group did not begin
-pub begin_fails : (asked : Bool) (schedule : Schedule) (begun : Result (List State) ℕ) (error : RecordError) (before after : Option Store) → Begins schedule begun (Err error) before after → Answers schedule asked begun (Err error) before after
+pub begin_fails : (asked : Bool) (schedule : Schedule) (begun : Result (List State) ℕ) (error : RecordError) (before after : Option Store) → GroupBegins schedule begun (Err error) before after → RecordAnswers schedule asked begun (Err error) before after
 begin_fails asked schedule begun (errors.BadSegment p) before after h = h
 begin_fails asked schedule begun (errors.LogFull item) before after h = absurd h
 begin_fails asked schedule begun errors.WriteFault before after h = stops_where asked schedule begun before after h
 begin_fails asked schedule begun errors.NoMemory before after h = stops_where asked schedule begun before after h
 
 -- it has begun
-pub under_way : (schedule : Schedule) (begun : Result (List State) ℕ) (recorder : Recorder) (before now : Option Store) → Begins schedule begun (Ok recorder) before now → UnderWay recorder now
+pub under_way : (schedule : Schedule) (begun : Result (List State) ℕ) (recorder : Recorder) (before now : Option Store) → GroupBegins schedule begun (Ok recorder) before now → UnderWay recorder now
 under_way schedule begun recorder before now b = record { group = group_of schedule b.0; done = nothing_yet; before = before; keeps = b.2; files = b.3 }
 
-pub items_fit : (schedule : Schedule) (begun : Result (List State) ℕ) (recorder : Recorder) (before now : Option Store) → IsSchedule schedule → Begins schedule begun (Ok recorder) before now
+pub items_fit : (schedule : Schedule) (begun : Result (List State) ℕ) (recorder : Recorder) (before now : Option Store) → IsSchedule schedule → GroupBegins schedule begun (Ok recorder) before now
     → All (IsInRange (length recorder.members.items)) schedule.items
 items_fit schedule begun recorder before now fits b =
     let count : length recorder.members.items ≡ length schedule.processes = b.2.count ∙ length-map schedule.processes (λ (line : ProcessLine). line.name) in
     subst (λ n. All (IsInRange n) schedule.items) (sym count) fits.formed.items
 
 -- it was not done to its end
-pub run_fails : (asked : Bool) (schedule : Schedule) (begun : Result (List State) ℕ) (recorder : Recorder) (error : RecordError) (before now after : Option Store) → Begins schedule begun (Ok recorder) before now
-    → Does (λ group. after_items group 1 schedule.items) recorder (Err error) now after → Answers schedule asked begun (Err error) before after
+pub run_fails : (asked : Bool) (schedule : Schedule) (begun : Result (List State) ℕ) (recorder : Recorder) (error : RecordError) (before now after : Option Store) → GroupBegins schedule begun (Ok recorder) before now
+    → Does (λ group. after_items group 1 schedule.items) recorder (Err error) now after → RecordAnswers schedule asked begun (Err error) before after
 run_fails asked schedule begun recorder (errors.BadSegment p) before now after b does = absurd (does (group_of schedule b.0) nothing_yet before b.2 b.3)
 run_fails asked schedule begun recorder (errors.LogFull item) before now after b does =
     let h = does (group_of schedule b.0) nothing_yet before b.2 b.3 in
@@ -66,15 +66,15 @@ run_fails asked schedule begun recorder errors.NoMemory before now after b does 
     subst (λ x. StoppedWhere schedule asked x before after) (sym b.1) (stops_in asked schedule b.0 before after (does (group_of schedule b.0) nothing_yet before b.2 b.3))
 
 -- all was done, and there was no memory to say so
-pub saying_fails : (asked : Bool) (schedule : Schedule) (begun : Result (List State) ℕ) (recorder last : Recorder) (before now after : Option Store) → Begins schedule begun (Ok recorder) before now
+pub saying_fails : (asked : Bool) (schedule : Schedule) (begun : Result (List State) ℕ) (recorder last : Recorder) (before now after : Option Store) → GroupBegins schedule begun (Ok recorder) before now
     → Does (λ group. after_items group 1 schedule.items) recorder (Ok last) now after → StoppedWhere schedule asked begun before after
 saying_fails asked schedule begun recorder last before now after b does =
     let h = does (group_of schedule b.0) nothing_yet before b.2 b.3 in
     subst (λ x. StoppedWhere schedule asked x before after) (sym b.1) (Between (run (group_of schedule b.0) schedule.items).steps ([], refl) h.1)
 
 -- the images were not all made
-pub images_fail : (asked : Bool) (schedule : Schedule) (begun : Result (List State) ℕ) (recorder last : Recorder) (error : RecordError) (before now middle after : Option Store) → Begins schedule begun (Ok recorder) before now
-    → Does (λ group. after_items group 1 schedule.items) recorder (Ok last) now middle → MakesImages asked schedule.processes last (Err error) middle after → Answers schedule asked begun (Err error) before after
+pub images_fail : (asked : Bool) (schedule : Schedule) (begun : Result (List State) ℕ) (recorder last : Recorder) (error : RecordError) (before now middle after : Option Store) → GroupBegins schedule begun (Ok recorder) before now
+    → Does (λ group. after_items group 1 schedule.items) recorder (Ok last) now middle → MakesImages asked schedule.processes last (Err error) middle after → RecordAnswers schedule asked begun (Err error) before after
 images_fail asked schedule begun recorder last error before now middle after b does makes = by_error error (makes group done h.0 refl)
   where
     group : Group
@@ -86,19 +86,19 @@ images_fail asked schedule begun recorder last error before now middle after b d
     h : KeepsUp group done last × FilesOf group done before middle
     h = does group nothing_yet before b.2 b.3
 
-    stopped : IsPart (images_of asked group done) middle after → StoppedWhere schedule asked begun before after
+    stopped : AreMadeInPart (images_of asked group done) middle after → StoppedWhere schedule asked begun before after
     stopped part = subst (λ x. StoppedWhere schedule asked x before after) (sym b.1) (stopped_in group done.steps (images_of asked group done) before middle after h.1 part)
 
-    by_error : (error : RecordError) → MakesFiles (images_of asked group done) (Err error) middle after → Answers schedule asked begun (Err error) before after
+    by_error : (error : RecordError) → MakesFiles (images_of asked group done) (Err error) middle after → RecordAnswers schedule asked begun (Err error) before after
     by_error (errors.BadSegment p) made = absurd made
     by_error (errors.LogFull item) made = absurd made
     by_error errors.WriteFault made = stopped made
     by_error errors.NoMemory made = stopped made
 
 -- all was done and said
-pub run_done : (asked : Bool) (schedule : Schedule) (begun : Result (List State) ℕ) (recorder last : Recorder) (said : Summary) (before now middle after : Option Store) → Begins schedule begun (Ok recorder) before now
+pub run_done : (asked : Bool) (schedule : Schedule) (begun : Result (List State) ℕ) (recorder last : Recorder) (said : Summary) (before now middle after : Option Store) → GroupBegins schedule begun (Ok recorder) before now
     → Does (λ group. after_items group 1 schedule.items) recorder (Ok last) now middle → Sums schedule.processes last said → MakesImages asked schedule.processes last (Ok tt) middle after
-    → Answers schedule asked begun (Ok said) before after
+    → RecordAnswers schedule asked begun (Ok said) before after
 run_done asked schedule begun recorder last said before now middle after b does sums makes =
     let group = group_of schedule b.0 in
     let done = run group schedule.items in
@@ -114,7 +114,7 @@ run_done asked schedule begun recorder last said before now middle after b does 
 
 -- ---- what is said of it
 
-pub last_keeps : (schedule : Schedule) (begun : Result (List State) ℕ) (recorder last : Recorder) (before now after : Option Store) → (b : Begins schedule begun (Ok recorder) before now)
+pub last_keeps : (schedule : Schedule) (begun : Result (List State) ℕ) (recorder last : Recorder) (before now after : Option Store) → (b : GroupBegins schedule begun (Ok recorder) before now)
     → Does (λ group. after_items group 1 schedule.items) recorder (Ok last) now after → KeepsUp (group_of schedule b.0) (run (group_of schedule b.0) schedule.items) last
 last_keeps schedule begun recorder last before now after b does = (does (group_of schedule b.0) nothing_yet before b.2 b.3).0
 

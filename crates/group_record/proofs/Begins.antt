@@ -20,10 +20,10 @@ use Rattle.group_record.specs.declared.error.RecordError.TheVariants as errors
 use Rattle.group_record.specs.declared.member.Member.{Member}
 use Rattle.group_record.specs.declared.recorder.Recorder.{Recorder}
 use Rattle.group_record.specs.Answer.{group_of, names_of}
-use Rattle.group_record.specs.Begun.{AreStarted, Begins, BeginsAll, HaveHeads, IsNewRecorder, MakeAll, StopsAtHead, heads}
+use Rattle.group_record.specs.Begun.{AreStarted, BeginsAll, GroupBegins, HaveHeads, IsNewRecorder, MakeAll, StopsAtHead, heads}
 use Rattle.group_record.specs.Files.{InHeads}
 use Rattle.group_record.specs.Recorded.{FilesOf, IsMember, KeepsUp, kept_for}
-use Rattle.group_record.specs.Run.{head_of, name_of, nothing_yet}
+use Rattle.group_record.specs.Run.{head_of_log, name_of, nothing_yet}
 use Rattle.group_record.proofs.Heads.{heads_are_logs}
 use Rattle.group_record.proofs.Printing.{none_printed}
 use Rattle.group_record.proofs.Recording.{some_there}
@@ -36,7 +36,7 @@ nothing_made schedule (Err p) told = refl
 
 -- not all processes began
 pub members_fail : {T : Type 0} (items : T → List Member) (names : List (List ℕ)) (schedule : Schedule) (begun : Result (List State) ℕ) (error : RecordError) (told : Option Store) → BeginsAll items names begun (Err error)
-    → Begins schedule begun (Err error) told told
+    → GroupBegins schedule begun (Err error) told told
 members_fail items names schedule begun (errors.BadSegment p) told h = (h, refl)
 members_fail items names schedule begun (errors.LogFull item) told h = h
 members_fail items names schedule begun errors.WriteFault told h = absurd h
@@ -44,7 +44,7 @@ members_fail items names schedule begun errors.NoMemory told h = nothing_made sc
 
 -- not all logs were made
 pub logs_fail : (schedule : Schedule) (begun : Result (List State) ℕ) (first : List State) (bytes : ℕ → List ℕ) (error : RecordError) (before after : Option Store) → begun ≡ Ok first
-    → MakeAll (group_of schedule first) bytes (Err error) before after → Begins schedule begun (Err error) before after
+    → MakeAll (group_of schedule first) bytes (Err error) before after → GroupBegins schedule begun (Err error) before after
 logs_fail schedule begun first bytes (errors.BadSegment p) before after is h = absurd h
 logs_fail schedule begun first bytes (errors.LogFull item) before after is h = h
 logs_fail schedule begun first bytes errors.WriteFault before after is h = subst (λ b. StopsAtHead schedule b before after) (sym is) h
@@ -108,7 +108,7 @@ begun_member schedule first members p m fits started at =
     let group = group_of schedule first in
     let inside : p < length schedule.processes = omega (arith, slice_get_within members p m at, started.count, length-map schedule.processes (λ (line : ProcessLine). line.name)) in
     let short : length (name_of group p) ≤ 32 = names_short schedule.processes p fits.formed.lines inside in
-    let whole : m.size ≡ length (head_bytes (head_of group p)) = e.2.size ∙ ap length e.2.head in
+    let whole : m.size ≡ length (head_bytes (head_of_log group p)) = e.2.size ∙ ap length e.2.head in
     record {
       state = e.0;
       process = e.2.process;
@@ -116,8 +116,8 @@ begun_member schedule first members p m fits started at =
       events = e.2.events;
       count = e.2.group;
       log = e.2.log;
-      size = whole ∙ ap length (sym (append-nil (head_bytes (head_of group p))));
-      room = omega (arith, whole, head_size (head_of group p), short);
+      size = whole ∙ ap length (sym (append-nil (head_bytes (head_of_log group p))));
+      room = omega (arith, whole, head_size (head_of_log group p), short);
       logged = λ i d within. absurd (omega (arith, within));
     }
 

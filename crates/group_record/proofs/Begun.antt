@@ -12,7 +12,7 @@ use Rattle.wasm_types.specs.Valid.{IsValid}
 use Rattle.guest_process.specs.Start.{start}
 use Rattle.guest_process.specs.State.{State}
 use Rattle.group_record.specs.Run.{size}
-use Rattle.group_record.specs.Answer.{begun_from, begun_then, group_of}
+use Rattle.group_record.specs.Answer.{first_states_from, group_of, with_first_state}
 use Rattle.group_record.specs.Laws.{Beginning, IsBegun}
 
 -- the module of which a process began
@@ -37,13 +37,13 @@ more_begun count p m ms S states starts rest = record { many = ap suc rest.many;
       let from = rest.each place T at in
       record { «module» = from.«module»; found = from.found; starts = ap (λ (n : ℕ). start from.«module» n count) (omega arith) ∙ from.starts }
 
-each_begun : (count p : ℕ) (ms : List Module) (first : List State) → begun_from count p ms ≡ Ok first → Begun count p ms first
+each_begun : (count p : ℕ) (ms : List Module) (first : List State) → first_states_from count p ms ≡ Ok first → Begun count p ms first
 each_begun count p [] first is =
     let same : [] ≡ first = cc in
     subst (λ (states : List State). Begun count p [] states) same (none_begun count p)
-each_begun count p (m ∷ ms) first is = by_start (start m p count) refl (begun_from count (suc p) ms) refl (λ states rest_is. each_begun count (suc p) ms states rest_is) is where
-  by_start : (o : Option State) → start m p count ≡ o → (rest : Result (List State) ℕ) → begun_from count (suc p) ms ≡ rest
-      → ((states : List State) → begun_from count (suc p) ms ≡ Ok states → Begun count (suc p) ms states) → begun_then o p rest ≡ Ok first → Begun count p (m ∷ ms) first
+each_begun count p (m ∷ ms) first is = by_start (start m p count) refl (first_states_from count (suc p) ms) refl (λ states rest_is. each_begun count (suc p) ms states rest_is) is where
+  by_start : (o : Option State) → start m p count ≡ o → (rest : Result (List State) ℕ) → first_states_from count (suc p) ms ≡ rest
+      → ((states : List State) → first_states_from count (suc p) ms ≡ Ok states → Begun count (suc p) ms states) → with_first_state o p rest ≡ Ok first → Begun count p (m ∷ ms) first
   by_start None starts rest rest_is more comes = cc
   by_start (Some S) starts (Err q) rest_is more comes = cc
   by_start (Some S) starts (Ok states) rest_is more comes =

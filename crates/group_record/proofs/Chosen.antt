@@ -9,10 +9,10 @@ use Rattle.lamport_tag.specs.Tag.{next_clock_of}
 use Rattle.lib_calls.specs.Answer.{Answer}
 use Rattle.lib_calls.specs.declared.entry.Call.{Call}
 use Rattle.guest_process.specs.declared.waiting.Waiting.{Waiting}
-use Rattle.guest_process.specs.Answers.{Need, Fixed, Blocked, World, after_need, effects, is_due, need, written}
+use Rattle.guest_process.specs.Answers.{Need, Fixed, Blocked, World, after_need, effects, is_due, need, with_answer}
 use Rattle.guest_process.specs.GoesOn.{handler}
 use Rattle.guest_process.specs.Kinds.{ends_process}
-use Rattle.guest_process.specs.Live.{Answered, Env, answered, chosen, event, event_by, first_taken, from_world, live, live_at, lowest, or_empty}
+use Rattle.guest_process.specs.Live.{Answered, Env, answered_now, chosen_signal, event, event_by, event_of_waiting, first_taken, from_world, live, lowest, or_empty}
 use Rattle.guest_process.specs.Seen.{answered_at}
 use Rattle.guest_process.specs.State.{State, is_running, thread_at}
 use Rattle.group_record.specs.Around.{signal_with}
@@ -41,21 +41,21 @@ world_handlers TryRecv S c env x h = sym (ap (λ (x : Answered). x.after.handler
 world_handlers _ S c env x h = cc
 
 need_handlers : (n : Need) (world : Option Answered) (W : State) (x : Answered) → ((x : Answered) → world ≡ Some x → x.after.handlers ≡ W.handlers)
-    → answered n world ≡ Some x → x.after.handlers ≡ (after_need n W).handlers
+    → answered_now n world ≡ Some x → x.after.handlers ≡ (after_need n W).handlers
 need_handlers (Fixed reply S) world W x given h = sym (ap (λ (x : Answered). x.after.handlers) (same_Some _ _ h))
 need_handlers Blocked world W x given h = cc
 need_handlers World world W x given h = given x h
 
 -- so process and call determine them
-pub handlers_after : (k : Kind) (S : State) (t : ℕ) (c : Call) (env : Env) (x : Answered) (a : Answer) → answered (need k S t c) (from_world k S c env) ≡ Some x
+pub handlers_after : (k : Kind) (S : State) (t : ℕ) (c : Call) (env : Env) (x : Answered) (a : Answer) → answered_now (need k S t c) (from_world k S c env) ≡ Some x
     → x.after.handlers ≡ (effects k S t c a).handlers
-handlers_after k S t c env x a h = need_handlers (need k S t c) (from_world k S c env) (written S c a) x (λ x given. world_handlers k S c env x given) h
+handlers_after k S t c env x a h = need_handlers (need k S t c) (from_world k S c env) (with_answer S c a) x (λ x given. world_handlers k S c env x given) h
 
 -- and the signal that is delivered
 pub chosen_is : (S : State) (t : ℕ) (a : Answer) (w : Waiting) (c : Call) (pending : ℕ → Bool) (handlers : List (Option ℕ)) → thread_at S t ≡ Some w
-    → kind_numbered c.kind ≡ Some w.kind → handlers ≡ (effects w.kind S t w.call a).handlers → chosen w.kind handlers pending ≡ signal_with S t a (kind_numbered c.kind) pending
+    → kind_numbered c.kind ≡ Some w.kind → handlers ≡ (effects w.kind S t w.call a).handlers → chosen_signal w.kind handlers pending ≡ signal_with S t a (kind_numbered c.kind) pending
 chosen_is S t a w c pending handlers there kind are =
-    ap (λ (hs : List (Option ℕ)). chosen w.kind hs pending) (are ∙ sym (ap (λ (o : Option Waiting). (answered_at S t a o).handlers) there))
+    ap (λ (hs : List (Option ℕ)). chosen_signal w.kind hs pending) (are ∙ sym (ap (λ (o : Option Waiting). (answered_at S t a o).handlers) there))
     ∙ sym (ap (λ (o : Option Kind). signal_with S t a o pending) kind)
 
 -- ---- the lowest
@@ -87,7 +87,7 @@ lowest_same p q (suc n) s first last same =
 abbrev pub with_signals : Env → (ℕ → Bool) → Env
 with_signals env pending = record env { pending = pending }
 
-chosen_same : (k : Kind) (handlers : List (Option ℕ)) (p q : ℕ → Bool) → ((r : ℕ) → 1 ≤ r → r ≤ 31 → p r ≡ q r) → chosen k handlers p ≡ chosen k handlers q
+chosen_same : (k : Kind) (handlers : List (Option ℕ)) (p q : ℕ → Bool) → ((r : ℕ) → 1 ≤ r → r ≤ 31 → p r ≡ q r) → chosen_signal k handlers p ≡ chosen_signal k handlers q
 chosen_same k handlers p q same =
     ap (λ n. cond (ends_process k) 0 n)
     (lowest_same (λ s. p s && is_some (handler handlers s)) (λ s. q s && is_some (handler handlers s)) 31 1 (omega arith) (omega arith)
@@ -108,11 +108,11 @@ mapped_same S t env pending w (Some x) same =
     ap (λ signal. Some (event_by S t w x signal (next_clock_of S.clock x.answer.tag))) (chosen_same w.kind x.after.handlers pending env.pending same)
 
 live_at_same : (S : State) (t : ℕ) (env : Env) (pending : ℕ → Bool) (o : Option Waiting) → ((r : ℕ) → 1 ≤ r → r ≤ 31 → pending r ≡ env.pending r)
-    → live_at S t (with_signals env pending) o ≡ live_at S t env o
+    → event_of_waiting S t (with_signals env pending) o ≡ event_of_waiting S t env o
 live_at_same S t env pending None same = refl
 live_at_same S t env pending (Some w) same =
-    ap (λ world. option_map (event S t (with_signals env pending) w) (answered (need w.kind S t w.call) world)) (from_world_same w.kind S w.call env pending)
-    ∙ mapped_same S t env pending w (answered (need w.kind S t w.call) (from_world w.kind S w.call env)) same
+    ap (λ world. option_map (event S t (with_signals env pending) w) (answered_now (need w.kind S t w.call) world)) (from_world_same w.kind S w.call env pending)
+    ∙ mapped_same S t env pending w (answered_now (need w.kind S t w.call) (from_world w.kind S w.call env)) same
 
 -- a world in which the same signals are pending lets the process have the same event
 pub live_same : (S : State) (t : ℕ) (env : Env) (pending : ℕ → Bool) → ((r : ℕ) → 1 ≤ r → r ≤ 31 → pending r ≡ env.pending r)

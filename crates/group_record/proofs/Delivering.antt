@@ -14,12 +14,12 @@ use Rattle.lib_calls.specs.declared.entry.Call.{Call}
 use Rattle.lib_calls.specs.declared.entry.Entry.{Entry}
 use Rattle.guest_process.specs.Answers.{Need, need, replies}
 use Rattle.guest_process.specs.Answers as needs
-use Rattle.guest_process.specs.Live.{Answered, Env, Event, answered, cut, first_taken, from_world, live, or_empty}
+use Rattle.guest_process.specs.Live.{Answered, Env, Event, answered_now, cut_datagram, first_taken, from_world, live, or_empty}
 use Rattle.guest_process.specs.State.{State}
-use Rattle.group_world.specs.History.{Deliver, History, mailbox, taken}
+use Rattle.group_world.specs.History.{Deliver, History, mailbox, taken_count}
 use Rattle.group_world.specs.Laws.{Giver, HasOrigin, InTurn, NamesSend}
-use Rattle.group_record.specs.Run.{Group, Step, Had, around, history, size}
-use Rattle.group_record.specs.Laws.{Delivery, IsSend, Takes}
+use Rattle.group_record.specs.Run.{Group, Step, Had, world_around, history, size}
+use Rattle.group_record.specs.Laws.{Delivery, IsSend, TakesDatagram}
 use Rattle.group_record.proofs.Running.{IsRun, is_run}
 use Rattle.group_record.proofs.Agreeing.{ComesIn, KeepsAfter, Laws, came_in, comes_in, is_of_kind, keeps}
 use Rattle.group_record.proofs.Sending.{events_fit, is_send, is_told}
@@ -29,7 +29,7 @@ record Took (S : State) (c : Call) (box : List (List ℕ)) (a : Answer) : Type 0
   bytes : List ℕ
   later : List (List ℕ)
   first : box ≡ bytes ∷ later
-  answer : a ≡ cut c.a1 (read_datagram S.count bytes)
+  answer : a ≡ cut_datagram c.a1 (read_datagram S.count bytes)
 
 answer_is : (a b : Answered) → Some a ≡ Some b → b.answer ≡ a.answer
 answer_is a b is = ap (λ (x : Answered). x.answer) (sym (same_Some a b is))
@@ -51,12 +51,12 @@ taken_or_empty S c [] given reply is told not_empty = absurd (other reply minus_
 taken_or_empty S c (bytes ∷ later) given reply is told not_empty = record { bytes = bytes; later = later; first = refl; answer = answer_is _ given is }
 
 -- bad arguments are answered -1
-if_good : {P : Type 0} (good : Bool) (S : State) (world : Option Answered) (given : Answered) (reply : ℕ) → answered (cond good needs.World (needs.Fixed minus_one S)) world ≡ Some given
+if_good : {P : Type 0} (good : Bool) (S : State) (world : Option Answered) (given : Answered) (reply : ℕ) → answered_now (cond good needs.World (needs.Fixed minus_one S)) world ≡ Some given
     → reply ≡ given.answer.reply → not (reply == minus_one) ≡ true → (world ≡ Some given → P) → P
 if_good true S world given reply is told not_bad then = then is
 if_good false S world given reply is told not_bad then = absurd (other reply minus_one not_bad (reply_is _ given reply is told))
 
-took : (k : Kind) (S : State) (t : ℕ) (c : Call) (env : Env) (given : Answered) (e : Entry) → answered (need k S t c) (from_world k S c env) ≡ Some given → e.reply ≡ given.answer.reply
+took : (k : Kind) (S : State) (t : ℕ) (c : Call) (env : Env) (given : Answered) (e : Entry) → answered_now (need k S t c) (from_world k S c env) ≡ Some given → e.reply ≡ given.answer.reply
     → takes_as (Some k) e ≡ true → Took S c env.mailbox given.answer
 took Recv S t c env given e is told takes =
     if_good (is_good c S.store.memory) S (first_taken S c env.mailbox) given e.reply is told takes (taken_first S c env.mailbox given)
@@ -80,24 +80,24 @@ pub record WorldLaws : Type 0 where
   pub named : NamesSend
 
 -- the datagram that comes first is that which was given next after those that were taken
-turn_of : InTurn → (count : ℕ) (h : History) (p : ℕ) (bytes : List ℕ) (later : List (List ℕ)) → mailbox count h p ≡ bytes ∷ later → Giver count h p (taken h p) bytes
+turn_of : InTurn → (count : ℕ) (h : History) (p : ℕ) (bytes : List ℕ) (later : List (List ℕ)) → mailbox count h p ≡ bytes ∷ later → Giver count h p (taken_count h p) bytes
 turn_of turn count h p bytes later first =
-    turn.giver count h p (taken h p) bytes (sym (turn.front count h p) ∙ ap (λ (box : List (List ℕ)). slice_get box 0) first)
+    turn.giver count h p (taken_count h p) bytes (sym (turn.front count h p) ∙ ap (λ (box : List (List ℕ)). slice_get box 0) first)
 
 event_takes : WorldLaws → (group : Group) (early : List Step) (p : ℕ) (e : Event) → size group ≤ 16 → IsRun group early → (k : KeepsAfter group early p) (thread : ℕ)
-    → live k.last thread (around (size group) early p) ≡ Some e → IsTrue (is_taken e.entry) → Takes (size group) early p e
+    → live k.last thread (world_around (size group) early p) ≡ Some e → IsTrue (is_taken e.entry) → TakesDatagram (size group) early p e
 event_takes laws group early p e few run k thread comes takes =
-    let env = around (size group) early p in
+    let env = world_around (size group) early p in
     let in_it : ComesIn k.last env thread e = comes_in k.last env thread e comes in
     let w = in_it.waiting in
     let reply : e.entry.reply ≡ in_it.given.answer.reply = ap (λ (e : Event). e.entry.reply) in_it.is in
     let t = took w.kind k.last thread w.call env in_it.given e.entry in_it.answer reply (takes_kind e.entry w.kind (is_of_kind k.last env thread e k.fits in_it) takes) in
-    let answer : in_it.given.answer ≡ cut e.entry.call.a1 (read_datagram (size group) t.bytes) =
-    t.answer ∙ ap (λ (n : ℕ). cut w.call.a1 (read_datagram n t.bytes)) k.group_size ∙ ap (λ (n : ℕ). cut n (read_datagram (size group) t.bytes)) (sym (ap (λ (e : Event). e.entry.call.a1) in_it.is)) in
+    let answer : in_it.given.answer ≡ cut_datagram e.entry.call.a1 (read_datagram (size group) t.bytes) =
+    t.answer ∙ ap (λ (n : ℕ). cut_datagram w.call.a1 (read_datagram n t.bytes)) k.group_size ∙ ap (λ (n : ℕ). cut_datagram n (read_datagram (size group) t.bytes)) (sym (ap (λ (e : Event). e.entry.call.a1) in_it.is)) in
     let tag : e.entry.tag ≡ (read_datagram (size group) t.bytes).0 = ap (λ (e : Event). e.entry.tag) in_it.is ∙ ap (λ (a : Answer). a.tag) answer in
     let payload : e.entry.incoming ≡ take e.entry.call.a1 (read_datagram (size group) t.bytes).1 = ap (λ (e : Event). e.entry.incoming) in_it.is ∙ ap (λ (a : Answer). a.incoming) answer in
     let giver = turn_of laws.turn (size group) (history early) p t.bytes t.later t.first in
-    let sent : (q n : ℕ) → giver.act ≡ Deliver q n → IsSend (size group) giver.earlier q n p e.entry = is_send laws.named (size group) (history early) p (taken (history early) p) t.bytes e.entry (omega (arith, few)) (events_fit group early run) giver tag payload in
+    let sent : (q n : ℕ) → giver.act ≡ Deliver q n → IsSend (size group) giver.earlier q n p e.entry = is_send laws.named (size group) (history early) p (taken_count (history early) p) t.bytes e.entry (omega (arith, few)) (events_fit group early run) giver tag payload in
     record {
       bytes = t.bytes;
       later = t.later;
@@ -107,7 +107,7 @@ event_takes laws group early p e few run k thread comes takes =
       origin = laws.origin (size group) (history early) p t.bytes (contains_first _ t.later t.bytes t.first);
       giver = giver;
       sent = sent;
-      told = λ q n is. is_told (size group) (history early) p (taken (history early) p) t.bytes e.entry giver q n (sent q n is);
+      told = λ q n is. is_told (size group) (history early) p (taken_count (history early) p) t.bytes e.entry giver q n (sent q n is);
     }
 
 pub delivers : WorldLaws → Laws → Delivery

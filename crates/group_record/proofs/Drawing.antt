@@ -17,11 +17,11 @@ use Rattle.lib_calls.specs.declared.entry.Entry.{Entry}
 use Rattle.guest_process.specs.Answers.{need}
 use Rattle.guest_process.specs.Answers as needs
 use Rattle.guest_process.specs.Live as live
-use Rattle.guest_process.specs.Live.{Answered, Env, Event, answered, cut, first_taken, from_world, or_empty}
+use Rattle.guest_process.specs.Live.{Answered, Env, Event, answered_now, cut_datagram, first_taken, from_world, or_empty}
 use Rattle.guest_process.specs.State.{State}
 use Rattle.group_world.specs.History.{pool}
-use Rattle.group_record.specs.Run.{Group, Step, Had, around, size, state_after}
-use Rattle.group_record.specs.Laws.{DrawsIf, TakesDrawn, TakesWaiting, receives}
+use Rattle.group_record.specs.Run.{Group, Step, Had, world_around, size, process_after}
+use Rattle.group_record.specs.Laws.{DrawsIf, TakesDrawn, TakesWaiting, takes_datagrams}
 use Rattle.group_record.proofs.Running.{IsHad, IsRun, is_run}
 use Rattle.group_record.proofs.Agreeing.{ComesIn, KeepsAfter, Laws, came_in, comes_in, is_of_kind, keeps}
 
@@ -35,7 +35,7 @@ range_few : (S : State) (addr len : ℕ) → is_range S.store.memory addr len �
 unfolding is_range
 range_few S addr len good = leb-true _ _ (and_parts _ _ good).0
 
-received_few : (k : Kind) (c : Call) (S : State) → receives (Some k) ≡ true → has_good k c S.store.memory ≡ true → c.a1 ≤ 60000
+received_few : (k : Kind) (c : Call) (S : State) → takes_datagrams (Some k) ≡ true → has_good k c S.store.memory ≡ true → c.a1 ≤ 60000
 received_few Recv c S is good = range_few S c.a0 c.a1 (and_parts _ _ good).0
 received_few TryRecv c S is good = range_few S c.a0 c.a1 (and_parts _ _ good).0
 received_few _ c S is good = cc
@@ -46,11 +46,11 @@ counts reply n few many = ap not (ne_eqb reply n (λ is. omega (arith, is, few, 
 
 -- ---- a datagram that waits
 
-by_world : (good : Bool) (S : State) (world : Option Answered) (given : Answered) → good ≡ true → answered (cond good needs.World (needs.Fixed minus_one S)) world ≡ Some given → world ≡ Some given
+by_world : (good : Bool) (S : State) (world : Option Answered) (given : Answered) → good ≡ true → answered_now (cond good needs.World (needs.Fixed minus_one S)) world ≡ Some given → world ≡ Some given
 by_world true S world given good is = is
 by_world false S world given good is = cc
 
-cut_reply : (S : State) (c : Call) (bytes : List ℕ) (a : Answer) → cut c.a1 (read_datagram S.count bytes) ≡ a → c.a1 ≤ 60000 → a.reply ≤ 60000
+cut_reply : (S : State) (c : Call) (bytes : List ℕ) (a : Answer) → cut_datagram c.a1 (read_datagram S.count bytes) ≡ a → c.a1 ≤ 60000 → a.reply ≤ 60000
 cut_reply S c bytes a is few =
     omega (arith, ap (λ (a : Answer). a.reply) is, length-take c.a1 (read_datagram S.count bytes).1, few)
 
@@ -66,7 +66,7 @@ found_reply S c [] others bytes given waits few is = cc
 found_reply S c (first ∷ rest) others bytes given waits few is = cut_reply S c first given.answer (answer_is _ given is) few
 
 takes_kind : (k : Kind) (S : State) (t : ℕ) (c : Call) (env : Env) (given : Answered) (e : Entry) (bytes : List ℕ) (others : List (List ℕ))
-    → answered (need k S t c) (from_world k S c env) ≡ Some given → e.reply ≡ given.answer.reply → receives (Some k) ≡ true → is_good c S.store.memory ≡ true → c.a1 ≤ 60000
+    → answered_now (need k S t c) (from_world k S c env) ≡ Some given → e.reply ≡ given.answer.reply → takes_datagrams (Some k) ≡ true → is_good c S.store.memory ≡ true → c.a1 ≤ 60000
     → env.mailbox ≡ bytes ∷ others → takes_as (Some k) e ≡ true
 takes_kind Recv S t c env given e bytes others is told receive good few waits =
     let here : first_taken S c env.mailbox ≡ Some given = by_world (is_good c S.store.memory) S (first_taken S c env.mailbox) given good is in
@@ -86,7 +86,7 @@ is_taken_by e k of_kind takes = ap (λ (o : Option Kind). takes_as o e) of_kind 
 
 record Came (group : Group) (early : List Step) (p : ℕ) (e : Event) (S : State) : Type 0 where
   thread : ℕ
-  in_it : ComesIn S (around (size group) early p) thread e
+  in_it : ComesIn S (world_around (size group) early p) thread e
   of_kind : kind_numbered e.entry.call.kind ≡ Some in_it.waiting.kind
   call : e.entry.call ≡ in_it.waiting.call
   reply : e.entry.reply ≡ in_it.given.answer.reply
@@ -94,7 +94,7 @@ record Came (group : Group) (early : List Step) (p : ℕ) (e : Event) (S : State
 
 came_by : (group : Group) (early : List Step) (p : ℕ) (e : Event) (k : KeepsAfter group early p) → IsHad group early p e → Came group early p e k.last
 came_by group early p e k had =
-    let env = around (size group) early p in
+    let env = world_around (size group) early p in
     let in_it : ComesIn k.last env had.thread e = comes_in k.last env had.thread e (came_in group early p e k had) in
     record {
       thread = had.thread;
@@ -105,7 +105,7 @@ came_by group early p e k had =
       incoming = ap (λ (e : Event). e.entry.incoming) in_it.is;
     }
 
-came : (laws : Laws) (group : Group) (early : List Step) (p : ℕ) (e : Event) (S : State) → IsRun group (Had p e ∷ early) → KeepsAfter group early p → state_after group early p ≡ Some S → Came group early p e S
+came : (laws : Laws) (group : Group) (early : List Step) (p : ℕ) (e : Event) (S : State) → IsRun group (Had p e ∷ early) → KeepsAfter group early p → process_after group early p ≡ Some S → Came group early p e S
 came laws group early p e S run k stands =
     subst (λ (S : State). Came group early p e S) (same_Some k.last S (sym k.stands ∙ stands)) (came_by group early p e k run.0)
 
@@ -114,12 +114,12 @@ takes_waiting laws group items begun fits later early p e is S stands receive go
     let run : IsRun group (Had p e ∷ early) = is_run group items fits (Had p e ∷ early) (later, is) in
     let c : Came group early p e S = came laws group early p e S run (keeps laws group begun early run.1 p run.0.within) stands in
     let w = c.in_it.waiting in
-    let receives_it : receives (Some w.kind) ≡ true = sym (ap receives c.of_kind) ∙ receive in
+    let receives_it : takes_datagrams (Some w.kind) ≡ true = sym (ap takes_datagrams c.of_kind) ∙ receive in
     let good_it : is_good w.call S.store.memory ≡ true = sym (ap (λ (call : Call). is_good call S.store.memory) c.call) ∙ good in
     let kind_it : kind_numbered w.call.kind ≡ Some w.kind = sym (ap (λ (call : Call). kind_numbered call.kind) c.call) ∙ c.of_kind in
     let few = received_few w.kind w.call S receives_it (good_of_kind w.call S w.kind kind_it good_it) in
     is_taken_by e.entry w.kind c.of_kind
-    (takes_kind w.kind S c.thread w.call (around (size group) early p) c.in_it.given e.entry bytes others c.in_it.answer c.reply receives_it good_it few waits)
+    (takes_kind w.kind S c.thread w.call (world_around (size group) early p) c.in_it.given e.entry bytes others c.in_it.answer c.reply receives_it good_it few waits)
 
 -- ---- random bytes
 
@@ -131,15 +131,15 @@ record Drew (c : Call) (pool : List ℕ) (a : Answer) : Type 0 where
 
 drew : (S : State) (c : Call) (env : Env) (given : Answered) → from_world Random S c env ≡ Some given → Drew c env.pool given.answer
 drew S c env given is =
-    let parts = cond_some (leb c.a1 (length env.pool)) (live.fills S c (live.drawn c (take c.a1 env.pool))) given is in
-    let answer : (live.fills S c (live.drawn c (take c.a1 env.pool))).answer ≡ given.answer = ap (λ (x : Answered). x.answer) parts.1 in
+    let parts = cond_some (leb c.a1 (length env.pool)) (live.fills S c (live.random_answer c (take c.a1 env.pool))) given is in
+    let answer : (live.fills S c (live.random_answer c (take c.a1 env.pool))).answer ≡ given.answer = ap (λ (x : Answered). x.answer) parts.1 in
     record {
       enough = leb-true c.a1 (length env.pool) parts.0;
       reply = sym (ap (λ (a : Answer). a.reply) answer);
       incoming = sym (ap (λ (a : Answer). a.incoming) answer);
     }
 
-bad_reply : (good : Bool) (S : State) (world : Option Answered) (given : Answered) → good ≡ false → answered (cond good needs.World (needs.Fixed minus_one S)) world ≡ Some given → given.answer.reply ≡ minus_one
+bad_reply : (good : Bool) (S : State) (world : Option Answered) (given : Answered) → good ≡ false → answered_now (cond good needs.World (needs.Fixed minus_one S)) world ≡ Some given → given.answer.reply ≡ minus_one
 bad_reply true S world given bad is = cc
 bad_reply false S world given bad is = sym (ap (λ (a : Answer). a.reply) (answer_is _ given is))
 
@@ -161,26 +161,26 @@ asks_few c S of_kind good = range_few S c.a0 c.a1 (good_of_kind c S Random of_ki
 -- the answer to a call of random at which the process stood
 record Answers (S : State) (early : List Step) (count p : ℕ) (e : Event) : Type 0 where
   given : Answered
-  answer : answered (need Random S 0 e.entry.call) (from_world Random S e.entry.call (around count early p)) ≡ Some given
+  answer : answered_now (need Random S 0 e.entry.call) (from_world Random S e.entry.call (world_around count early p)) ≡ Some given
   reply : e.entry.reply ≡ given.answer.reply
   incoming : e.entry.incoming ≡ given.answer.incoming
 
 answers_random : (group : Group) (early : List Step) (p : ℕ) (e : Event) (S : State) → Came group early p e S → kind_numbered e.entry.call.kind ≡ Some Random → Answers S early (size group) p e
 answers_random group early p e S c of_kind =
-    let env = around (size group) early p in
+    let env = world_around (size group) early p in
     let kind : c.in_it.waiting.kind ≡ Random = same_Some c.in_it.waiting.kind Random (sym c.of_kind ∙ of_kind) in
-    let at_kind : answered (need Random S c.thread c.in_it.waiting.call) (from_world Random S c.in_it.waiting.call env) ≡ Some c.in_it.given =
-    subst (λ (k : Kind). answered (need k S c.thread c.in_it.waiting.call) (from_world k S c.in_it.waiting.call env) ≡ Some c.in_it.given) kind c.in_it.answer in
+    let at_kind : answered_now (need Random S c.thread c.in_it.waiting.call) (from_world Random S c.in_it.waiting.call env) ≡ Some c.in_it.given =
+    subst (λ (k : Kind). answered_now (need k S c.thread c.in_it.waiting.call) (from_world k S c.in_it.waiting.call env) ≡ Some c.in_it.given) kind c.in_it.answer in
     record {
       given = c.in_it.given;
-      answer = subst (λ (call : Call). answered (need Random S 0 call) (from_world Random S call env) ≡ Some c.in_it.given) (sym c.call) at_kind;
+      answer = subst (λ (call : Call). answered_now (need Random S 0 call) (from_world Random S call env) ≡ Some c.in_it.given) (sym c.call) at_kind;
       reply = c.reply;
       incoming = c.incoming;
     }
 
 draws_if : (S : State) (early : List Step) (count p : ℕ) (e : Event) (good : Bool) → is_good e.entry.call S.store.memory ≡ good → kind_numbered e.entry.call.kind ≡ Some Random → Answers S early count p e → DrawsIf good early p e
 draws_if S early count p e true good of_kind a =
-    let env = around count early p in
+    let env = world_around count early p in
     let d : Drew e.entry.call env.pool a.given.answer = drew S e.entry.call env a.given (by_world (is_good e.entry.call S.store.memory) S (from_world Random S e.entry.call env) a.given good a.answer) in
     let few = asks_few e.entry.call S of_kind good in
     record {
@@ -189,7 +189,7 @@ draws_if S early count p e true good of_kind a =
       count = drawn_all e.entry env.pool of_kind (a.reply ∙ d.reply) few d.enough (a.incoming ∙ d.incoming);
     }
 draws_if S early count p e false bad of_kind a =
-    drawn_none e.entry of_kind (a.reply ∙ bad_reply (is_good e.entry.call S.store.memory) S (from_world Random S e.entry.call (around count early p)) a.given bad a.answer)
+    drawn_none e.entry of_kind (a.reply ∙ bad_reply (is_good e.entry.call S.store.memory) S (from_world Random S e.entry.call (world_around count early p)) a.given bad a.answer)
 
 pub draws : Laws → TakesDrawn
 draws laws group items begun fits later early p e is S stands of_kind =

@@ -11,18 +11,18 @@ use Rattle.group_world.specs.History as world
 use Rattle.group_record.specs.declared.error.RecordError.{RecordError}
 use Rattle.group_record.specs.declared.error.RecordError.TheVariants as errors
 use Rattle.group_record.specs.Files.{IsStopped, InHeads, Between, InEntry, InImages}
-use Rattle.group_record.specs.Images.{IsPart, part_of}
+use Rattle.group_record.specs.Images.{AreMadeInPart, made_in_part}
 use Rattle.group_record.specs.Logs.{logs}
 use Rattle.group_record.specs.Recorded.{Comes, FilesOf}
-use Rattle.group_record.specs.Run.{Group, Progress, Step, Had, Did, IsFront, after_item, after_items, attempt, attempts, does, event_of, had, has_room, unless_full}
+use Rattle.group_record.specs.Run.{Group, Progress, Step, Had, Did, IsMoment, after_item, after_items, attempt, attempts, done_by_item, event_of_try, had, log_has_room, unless_full}
 use Rattle.group_record.proofs.Imaging.{behind_none, files_behind}
 
 -- the steps of one progress stand in front of the other's; and where a log is full, it is all there is
 pub record LeadsTo (early late : Progress) : Type 0 where
-  pub front : IsFront early.steps late.steps
+  pub front : IsMoment early.steps late.steps
   pub full : (number : ℕ) → early.full ≡ Some number → late ≡ early
 
-pub front_on : (early middle late : List Step) → IsFront early middle → IsFront middle late → IsFront early late
+pub front_on : (early middle late : List Step) → IsMoment early middle → IsMoment middle late → IsMoment early late
 front_on early middle late first then =
     (then.0 ++ first.0, then.1 ∙ ap (λ xs. then.0 ++ xs) first.1 ∙ sym (append_assoc then.0 first.0 early))
 
@@ -37,24 +37,24 @@ leads_on early middle late first then = record {
       then.full number (ap (λ (d : Progress). d.full) same ∙ is) ∙ same;
 }
 
-unless_leads : (done next : Progress) → IsFront done.steps next.steps → LeadsTo done (unless_full done next)
+unless_leads : (done next : Progress) → IsMoment done.steps next.steps → LeadsTo done (unless_full done next)
 unless_leads done next front = by_full done.full refl
   where
     by_full : (full : Option ℕ) → done.full ≡ full → LeadsTo done (cond (is_some full) done next)
     by_full (Some number) is = leads_same done
     by_full None is = record { front = front; full = λ number h. cc }
 
-had_front : (group : Group) (number p : ℕ) (found : Option Event) (done : Progress) → IsFront done.steps (had group number p found done).steps
+had_front : (group : Group) (number p : ℕ) (found : Option Event) (done : Progress) → IsMoment done.steps (had group number p found done).steps
 had_front group number p None done = ([], refl)
-had_front group number p (Some e) done = by_room (has_room group done.steps p e.entry)
+had_front group number p (Some e) done = by_room (log_has_room group done.steps p e.entry)
   where
-    by_room : (room : Bool) → IsFront done.steps (cond room (record done { steps = Had p e ∷ done.steps }) (record done { full = Some number })).steps
+    by_room : (room : Bool) → IsMoment done.steps (cond room (record done { steps = Had p e ∷ done.steps }) (record done { full = Some number })).steps
     by_room true = (Had p e ∷ [], refl)
     by_room false = ([], refl)
 
 pub attempt_leads : (group : Group) (number p thread : ℕ) (done : Progress) → LeadsTo done (attempt group number p thread done)
 attempt_leads group number p thread done =
-    unless_leads done (had group number p (event_of group done.steps p thread) done) (had_front group number p (event_of group done.steps p thread) done)
+    unless_leads done (had group number p (event_of_try group done.steps p thread) done) (had_front group number p (event_of_try group done.steps p thread) done)
 
 pub attempts_lead : (group : Group) (number p thread n : ℕ) (done : Progress) → LeadsTo done (attempts group number p thread n done)
 unfolding attempts
@@ -63,11 +63,11 @@ attempts_lead group number p thread (suc n) done =
     leads_on done (attempt group number p thread done) (attempts group number p thread n (attempt group number p thread done))
     (attempt_leads group number p thread done) (attempts_lead group number p thread n (attempt group number p thread done))
 
-acted_front : (acts : Bool) (step : Step) (done : Progress) → IsFront done.steps (cond acts (record done { steps = step ∷ done.steps }) (record done { idle = suc done.idle })).steps
+acted_front : (acts : Bool) (step : Step) (done : Progress) → IsMoment done.steps (cond acts (record done { steps = step ∷ done.steps }) (record done { idle = suc done.idle })).steps
 acted_front true step done = (step ∷ [], refl)
 acted_front false step done = ([], refl)
 
-does_front : (group : Group) (number : ℕ) (i : Item) (done : Progress) → IsFront done.steps (does group number i done).steps
+does_front : (group : Group) (number : ℕ) (i : Item) (done : Progress) → IsMoment done.steps (done_by_item group number i done).steps
 does_front group number (item.Run p thread times) done = (attempts_lead group number p thread times done).front
 does_front group number (item.Deliver p n) done = acted_front _ _ done
 does_front group number (item.Inject p bytes) done = (Did (world.Inject p bytes) ∷ [], refl)
@@ -77,7 +77,7 @@ does_front group number (item.Signal p s) done = (Did (world.Signal p s) ∷ [],
 does_front group number (item.Kill p) done = acted_front _ _ done
 
 pub item_leads : (group : Group) (number : ℕ) (i : Item) (done : Progress) → LeadsTo done (after_item group number i done)
-item_leads group number i done = unless_leads done (does group number i done) (does_front group number i done)
+item_leads group number i done = unless_leads done (done_by_item group number i done) (does_front group number i done)
 
 pub items_lead : (group : Group) (number : ℕ) (items : List Item) (done : Progress) → LeadsTo done (after_items group number items done)
 items_lead group number [] done = leads_same done
@@ -87,7 +87,7 @@ items_lead group number (i ∷ items) done =
 
 -- ---- where it was stopped
 
-pub stopped_on : (group : Group) (early late : List Step) (before after : Option Store) → IsFront early late → IsStopped group early [] before after → IsStopped group late [] before after
+pub stopped_on : (group : Group) (early late : List Step) (before after : Option Store) → IsMoment early late → IsStopped group early [] before after → IsStopped group late [] before after
 stopped_on group early late before after on (InHeads many cut is) = InHeads many cut is
 stopped_on group early late before after on (Between steps front is) = Between steps (front_on steps early late front on) is
 stopped_on group early late before after on (InEntry steps later p n e split is) =
@@ -102,11 +102,11 @@ stopped_before group steps images before after (InEntry early later p n e split 
 stopped_before group steps images before after (InImages n m is) = Between steps ([], refl) (is ∙ ap (λ fs. with_files fs before) (behind_none (logs group steps) n m))
 
 -- or where one was not made
-pub stopped_in : (group : Group) (steps : List Step) (images : List (List ℕ × List ℕ)) (before now after : Option Store) → now ≡ with_files (logs group steps) before → IsPart images now after
+pub stopped_in : (group : Group) (steps : List Step) (images : List (List ℕ × List ℕ)) (before now after : Option Store) → now ≡ with_files (logs group steps) before → AreMadeInPart images now after
     → IsStopped group steps images before after
 stopped_in group steps images before now after written (inl same) = Between steps ([], refl) (same ∙ written)
 stopped_in group steps images before now after written (inr (n, m, is)) =
-    InImages n m (is ∙ ap (with_files (part_of images n m)) written ∙ sym (files_behind (logs group steps) (part_of images n m) before))
+    InImages n m (is ∙ ap (with_files (made_in_part images n m)) written ∙ sym (files_behind (logs group steps) (made_in_part images n m) before))
 
 -- what is answered at one moment is answered of the whole
 pub comes_on : (group : Group) (early late : Progress) (error : RecordError) (before after : Option Store) → LeadsTo early late

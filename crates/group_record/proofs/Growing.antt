@@ -14,7 +14,7 @@ use Rattle.call_log.specs.Entry.{body, encoding, encodings}
 use Rattle.call_log.specs.Head.{head_bytes}
 use Rattle.guest_process.specs.Live.{Event}
 use Rattle.group_world.specs.History.{put_last_if}
-use Rattle.group_record.specs.Run.{Group, Step, Had, entries, head_of, log_of, name_of, size}
+use Rattle.group_record.specs.Run.{Group, Step, Had, entries, head_of_log, log_of, name_of, size}
 use Rattle.group_record.specs.Logs.{files_from, files_of, log_name, logs}
 
 -- the bytes at each place, with a piece behind those at this one
@@ -112,7 +112,7 @@ pub logs_grown : (group : Group) (steps : List Step) (p : ℕ) (e : Event) → g
 logs_grown group steps p e =
     grown_files group (log_of group steps) p (encoding e.entry)
     ∙ files_same 0 group.names (grown_at p (encoding e.entry) (log_of group steps)) (log_of group (Had p e ∷ steps))
-    (λ r above below. log_last (eqb p r) (head_bytes (head_of group r)) (entries steps r) e.entry)
+    (λ r above below. log_last (eqb p r) (head_bytes (head_of_log group r)) (entries steps r) e.entry)
 
 -- a log has no more entries than bytes
 body_there : (e : Entry) → 1 ≤ length (encoding e)
@@ -126,6 +126,6 @@ entries_few (e ∷ es) = omega (arith, entries_few es, body_there e, length-appe
 -- how long a log is with an entry more
 pub log_longer : (group : Group) (steps : List Step) (p : ℕ) (e : Event) → length (log_of group (Had p e ∷ steps) p) ≡ length (log_of group steps p) + length (encoding e.entry)
 log_longer group steps p e =
-    ap length (sym (log_last (eqb p p) (head_bytes (head_of group p)) (entries steps p) e.entry)
+    ap length (sym (log_last (eqb p p) (head_bytes (head_of_log group p)) (entries steps p) e.entry)
     ∙ grown_here p p (encoding e.entry) (log_of group steps) refl)
     ∙ length-append (log_of group steps p) (encoding e.entry)

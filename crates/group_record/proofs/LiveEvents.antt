@@ -18,12 +18,12 @@ use Rattle.guest_process.specs.declared.need.Need.{Need as PlainNeed}
 use Rattle.guest_process.specs.declared.waiting.Waiting.{Waiting}
 use Rattle.guest_process.specs.Answers.{Need, Fixed, Blocked, World, is_due, need, replies}
 use Rattle.guest_process.specs.Fits.{EnvFits, StateFits, WaitingFits, live_has}
-use Rattle.guest_process.specs.Live.{Answered, Env, Event, answered, chosen, event, first_taken, from_world, live, live_at, or_empty}
+use Rattle.guest_process.specs.Live.{Answered, Env, Event, answered_now, chosen_signal, event, event_of_waiting, first_taken, from_world, live, or_empty}
 use Rattle.guest_process.specs.OneEvent.{IsKept, OneEvent, Rises}
 use Rattle.guest_process.specs.Seen.{able, plain}
 use Rattle.guest_process.specs.State.{State, is_running, thread_at}
 use Rattle.group_record.specs.Around.{answer_by, drawn_of, signal_with, taken_of, world_answer}
-use Rattle.group_record.specs.Recorded.{Tells}
+use Rattle.group_record.specs.Recorded.{IsLiveEntry}
 use Rattle.group_record.proofs.Chosen.{chosen_is, handlers_after}
 
 -- ---- the answer
@@ -48,19 +48,19 @@ empty_same S c [] = refl
 empty_same S c (datagram ∷ waiting) = refl
 
 asked_same : (S : State) (c : Call) (env : Env) (good : Bool) (found : Option Answered) → option_map answer_in found ≡ world_answer (kind_numbered c.kind) c S.count env
-    → option_map answer_in (answered (cond good World (Fixed minus_one S)) found) ≡ answer_by (plain (cond good World (Fixed minus_one S))) c S.count env
+    → option_map answer_in (answered_now (cond good World (Fixed minus_one S)) found) ≡ answer_by (plain (cond good World (Fixed minus_one S))) c S.count env
 asked_same S c env true found h = h
 asked_same S c env false found h = refl
 
 -- where the world gives nothing
-own_same : (n : Need) (c : Call) (count : ℕ) (env : Env) → world_answer (kind_numbered c.kind) c count env ≡ None → option_map answer_in (answered n None) ≡ answer_by (plain n) c count env
+own_same : (n : Need) (c : Call) (count : ℕ) (env : Env) → world_answer (kind_numbered c.kind) c count env ≡ None → option_map answer_in (answered_now n None) ≡ answer_by (plain n) c count env
 own_same (Fixed reply S) c count env none = refl
 own_same Blocked c count env none = refl
 own_same World c count env none = sym none
 
 -- what is answered is what the process and the world give
 answer_same : (k : Kind) (S : State) (t : ℕ) (c : Call) (env : Env) → kind_numbered c.kind ≡ Some k
-    → option_map answer_in (answered (need k S t c) (from_world k S c env)) ≡ answer_by (plain (need k S t c)) c S.count env
+    → option_map answer_in (answered_now (need k S t c) (from_world k S c env)) ≡ answer_by (plain (need k S t c)) c S.count env
 answer_same Begin S t c env is = refl
 answer_same Exit S t c env is = refl
 answer_same Note S t c env is = refl
@@ -192,10 +192,10 @@ tested f none true o w is = ap f is
 tested f none false o w is = sym none ∙ ap f is
 
 -- a process that was not killed has the event of the thread that stands there
-pub lives_at : (S : State) (t : ℕ) (env : Env) (w : Option Waiting) → env.killed ≡ false → able S t ≡ w → live S t env ≡ live_at S t env w
+pub lives_at : (S : State) (t : ℕ) (env : Env) (w : Option Waiting) → env.killed ≡ false → able S t ≡ w → live S t env ≡ event_of_waiting S t env w
 lives_at S t env w spared is =
-    ap (λ killed. cond (not killed && is_running S) (live_at S t env (thread_at S t)) None) spared
-    ∙ tested (live_at S t env) refl (is_running S) (thread_at S t) w is
+    ap (λ killed. cond (not killed && is_running S) (event_of_waiting S t env (thread_at S t)) None) spared
+    ∙ tested (event_of_waiting S t env) refl (is_running S) (thread_at S t) w is
 
 -- ---- the event
 
@@ -210,9 +210,9 @@ pub record IsTried (S : State) (t : ℕ) (env : Env) (c : Call) (asked : PlainNe
   pub spared : env.killed ≡ false
 
 found_at : (S : State) (t : ℕ) (env : Env) (c : Call) (asked : PlainNeed) (found : Option Answer) → (at : StandsThere S t c asked) → answer_by asked c S.count env ≡ found
-    → option_map answer_in (answered (need at.waiting.kind S t at.waiting.call) (from_world at.waiting.kind S at.waiting.call env)) ≡ found
+    → option_map answer_in (answered_now (need at.waiting.kind S t at.waiting.call) (from_world at.waiting.kind S at.waiting.call env)) ≡ found
 found_at S t env c asked found at is =
-    subst (λ (call : Call). option_map answer_in (answered (need at.waiting.kind S t call) (from_world at.waiting.kind S call env)) ≡ found) (sym at.call)
+    subst (λ (call : Call). option_map answer_in (answered_now (need at.waiting.kind S t call) (from_world at.waiting.kind S call env)) ≡ found) (sym at.call)
     (answer_same at.waiting.kind S t c env at.kind ∙ ap (λ n. answer_by n c S.count env) (sym at.need) ∙ is)
 
 none_in : (o : Option Answered) → option_map answer_in o ≡ None → o ≡ None
@@ -231,9 +231,9 @@ pub one_here : (S : State) (t : ℕ) (env : Env) (c : Call) (asked : PlainNeed) 
 one_here S t env c asked a h is =
     let at = stands_there S t c asked h.stands in
     let w = at.waiting in
-    let x = one_more answer_in (answered (need w.kind S t w.call) (from_world w.kind S w.call env)) a (sym (found_at S t env c asked (Some a) at is)) in
+    let x = one_more answer_in (answered_now (need w.kind S t w.call) (from_world w.kind S w.call env)) a (sym (found_at S t env c asked (Some a) at is)) in
     let signal = signal_with S t a (kind_numbered c.kind) env.pending in
-    let delivers : chosen w.kind x.0.after.handlers env.pending ≡ signal =
+    let delivers : chosen_signal w.kind x.0.after.handlers env.pending ≡ signal =
     chosen_is S t a w c env.pending x.0.after.handlers (able_is S t w at.able) at.kind (handlers_after w.kind S t w.call env x.0 a x.1) in (
       event S t env w x.0,
       lives_at S t env (Some w) h.spared at.able ∙ ap (option_map (event S t env w)) x.1,
@@ -262,7 +262,7 @@ pub record IsFit (S : State) (env : Env) : Type 0 where
 
 -- the entry that was made is that of the event
 pub entry_tells : OneEvent → Rises → (S : State) (t : ℕ) (env : Env) (c : Call) (asked : PlainNeed) (a : Answer) (entry : Entry) → IsFit S env → IsTried S t env c asked
-    → answer_by asked c S.count env ≡ Some a → entry ≡ entry_with (next_clock_of S.clock a.tag) (signal_with S t a (kind_numbered c.kind) env.pending) t c a (outgoing_of c S.store.memory) → Tells S t env entry
+    → answer_by asked c S.count env ≡ Some a → entry ≡ entry_with (next_clock_of S.clock a.tag) (signal_with S t a (kind_numbered c.kind) env.pending) t c a (outgoing_of c S.store.memory) → IsLiveEntry S t env entry
 entry_tells one_event rises S t env c asked a entry fit h is made =
     let e = one_here S t env c asked a h is in
     let at = stands_there S t c asked h.stands in

@@ -21,7 +21,7 @@ use Rattle.guest_process.specs.State.{State}
 use Rattle.group_world.specs.History.{Act, History, put_last_if}
 use Rattle.group_world.specs.History as world
 use Rattle.group_world.specs.Laws.{CanFollow, CanTake, Counting, sent_as}
-use Rattle.group_world.specs.World.{World, after, has_pending, place_of, world_after}
+use Rattle.group_world.specs.World.{World, has_pending, surroundings_of, with_act, world_after}
 use Rattle.lossy_net.specs.Network.{Sent, nth_of, sent_by, with_delivered}
 use Rattle.schedule_text.specs.Schedule.{IsInRange}
 use Rattle.schedule_text.specs.declared.item.Item.{Item}
@@ -31,12 +31,12 @@ use Rattle.group_record.specs.declared.error.RecordError.{RecordError}
 use Rattle.group_record.specs.declared.error.RecordError.TheVariants as errors
 use Rattle.group_record.specs.declared.member.Member.{Member}
 use Rattle.group_record.specs.declared.recorder.Recorder.{Recorder}
-use Rattle.group_record.specs.Run.{Group, Progress, Step, Had, Did, acted, acted_if, after_item, around, attempt, can_be_killed, does, entries, event_of, filled, had, has_sent, head_of, history, idled, log_of, runs, size, state_after, unless_full}
+use Rattle.group_record.specs.Run.{Group, Progress, Step, Had, Did, with_step, with_step_if, after_item, world_around, attempt, can_be_killed, done_by_item, entries, event_of_try, with_full_log, had, has_sent, head_of_log, history, idled, log_of, is_running_process, size, process_after, unless_full}
 use Rattle.group_record.specs.Logs.{logs}
 use Rattle.group_record.specs.Files.{IsStopped, Between, InEntry}
 use Rattle.group_record.specs.Around.{env_of}
-use Rattle.group_record.specs.Members.{CanKeep, HasRoom, IsCut, Writes, kept}
-use Rattle.group_record.specs.Recorded.{Comes, FilesOf, IsMember, Kept, KeepsUp, Tells, acted_on, acts, after_act, is_spared}
+use Rattle.group_record.specs.Members.{CanKeep, IsCut, LogHasRoom, Writes, kept}
+use Rattle.group_record.specs.Recorded.{Comes, FilesOf, IsMember, Kept, KeepsUp, IsLiveEntry, acted_on, acts, after_act, is_spared}
 use Rattle.group_record.proofs.Chosen.{live_same, with_signals}
 use Rattle.group_record.proofs.Going.{LeadsTo, attempt_leads}
 use Rattle.group_record.proofs.Growing.{entries_few, log_longer, logs_grown, piece_written}
@@ -46,31 +46,31 @@ use Rattle.group_record.proofs.Small.{length_set, set_each}
 -- ---- what is kept is what is counted
 
 pub env_same : Counting → (group : Group) (done : Progress) (r : Recorder) (p : ℕ) → KeepsUp group done r → p < size group
-    → env_of r.world p ≡ with_signals (around (size group) done.steps p) (has_pending r.world p)
+    → env_of r.world p ≡ with_signals (world_around (size group) done.steps p) (has_pending r.world p)
 env_same counting group done r p keeps within =
     let counted = counting.counted (size group) (history done.steps) keeps.can_be p within in
     ap (λ w. with_signals (env_of w p) (has_pending r.world p)) keeps.world ∙ rw (counted.mailbox, counted.pool, counted.time, counted.killed) refl
 
 -- so are the signals, and nothing else of what is pending makes a difference
 live_now : Counting → (group : Group) (done : Progress) (r : Recorder) (p thread : ℕ) (S : State) → KeepsUp group done r → p < size group
-    → live S thread (env_of r.world p) ≡ live S thread (around (size group) done.steps p)
+    → live S thread (env_of r.world p) ≡ live S thread (world_around (size group) done.steps p)
 live_now counting group done r p thread S keeps within =
     let counted = counting.counted (size group) (history done.steps) keeps.can_be p within in
     ap (live S thread) (env_same counting group done r p keeps within)
-    ∙ live_same S thread (around (size group) done.steps p) (has_pending r.world p) (λ s first last. ap (λ w. has_pending w p s) keeps.world ∙ counted.pending s first last)
+    ∙ live_same S thread (world_around (size group) done.steps p) (has_pending r.world p) (λ s first last. ap (λ w. has_pending w p s) keeps.world ∙ counted.pending s first last)
 
 -- nothing is full yet
 pub unless_none : (done next : Progress) → done.full ≡ None → unless_full done next ≡ next
 unless_none done next none = ap (λ o. cond (is_some o) done next) none
 
 -- what a try comes to
-pub attempt_is : Counting → (group : Group) (done : Progress) (r : Recorder) (number p thread : ℕ) (S : State) → KeepsUp group done r → p < size group → state_after group done.steps p ≡ Some S
+pub attempt_is : Counting → (group : Group) (done : Progress) (r : Recorder) (number p thread : ℕ) (S : State) → KeepsUp group done r → p < size group → process_after group done.steps p ≡ Some S
     → attempt group number p thread done ≡ had group number p (live S thread (env_of r.world p)) done
 attempt_is counting group done r number p thread S keeps within here =
-    let found : event_of group done.steps p thread ≡ live S thread (env_of r.world p) =
-    ap (λ o. option_and_then (λ S. live S thread (around (size group) done.steps p)) o) here
+    let found : event_of_try group done.steps p thread ≡ live S thread (env_of r.world p) =
+    ap (λ o. option_and_then (λ S. live S thread (world_around (size group) done.steps p)) o) here
     ∙ sym (live_now counting group done r p thread S keeps within) in
-    unless_none done (had group number p (event_of group done.steps p thread) done) keeps.room
+    unless_none done (had group number p (event_of_try group done.steps p thread) done) keeps.room
     ∙ ap (λ o. had group number p o done) found
 
 -- ---- a try that is idle, or an item that is
@@ -114,14 +114,14 @@ did_member group (world.Signal q s) steps p m item k = record { state = k.state;
 did_member group (world.Kill q) steps p m item k = record { state = k.state; process = k.process; after = k.after; events = k.events; count = k.count; log = k.log; size = k.size; room = k.room; logged = k.logged }
 
 pub did_keeps : (group : Group) (done : Progress) (old new : Recorder) (act : Act) → KeepsUp group done old → IsItem act → CanFollow (size group) (history done.steps) act
-    → new ≡ record old { world = after old.world act; acted = old.acted + 1 } → KeepsUp group (acted (Did act) done) new
-did_keeps group done old new act k item can is = subst (λ (r : Recorder). KeepsUp group (acted (Did act) done) r) (sym is) (record {
+    → new ≡ record old { world = with_act old.world act; acted = old.acted + 1 } → KeepsUp group (with_step (Did act) done) new
+did_keeps group done old new act k item can is = subst (λ (r : Recorder). KeepsUp group (with_step (Did act) done) r) (sym is) (record {
   room = k.room;
   apart = k.apart;
   count = k.count;
   members = λ p m at. did_member group act done.steps p m item (k.members p m at);
   can_be = (can, k.can_be);
-  world = ap (λ w. after w act) k.world;
+  world = ap (λ w. with_act w act) k.world;
   prints = λ p bytes at. k.prints p bytes at ∙ ap prints (sym (did_entries act done.steps p item));
   acted = add-one old.acted ∙ ap suc k.acted;
   idle = k.idle;
@@ -136,16 +136,16 @@ other_member group steps p q e m apart k =
     record {
       state = k.state;
       process = k.process;
-      after = ap (λ b. cond b (Some e.state) (state_after group steps q)) other ∙ k.after;
+      after = ap (λ b. cond b (Some e.state) (process_after group steps q)) other ∙ k.after;
       events = k.events ∙ ap length (sym same);
       count = k.count;
       log = k.log;
-      size = k.size ∙ ap (λ es. length (head_bytes (head_of group q) ++ encodings es)) (sym same);
+      size = k.size ∙ ap (λ es. length (head_bytes (head_of_log group q) ++ encodings es)) (sym same);
       room = k.room;
       logged = subst (λ es. All IsShaped es) (sym same) k.logged;
     }
 
-own_member : (group : Group) (steps : List Step) (p thread : ℕ) (env : Env) (m : Member) (entry : Entry) → (k : IsMember group steps p m) → (t : Tells k.state thread env entry) → HasRoom m (encoding entry)
+own_member : (group : Group) (steps : List Step) (p thread : ℕ) (env : Env) (m : Member) (entry : Entry) → (k : IsMember group steps p m) → (t : IsLiveEntry k.state thread env entry) → LogHasRoom m (encoding entry)
     → IsMember group (Had p t.event ∷ steps) p (kept m entry)
 own_member group steps p thread env m entry k t room =
     let here : eqb p p ≡ true = eq-eqb p p refl in
@@ -153,7 +153,7 @@ own_member group steps p thread env m entry k t room =
     record {
       state = t.event.state;
       process = ap (option_map (λ S. next S entry)) k.process ∙ ap (λ e. Some (next k.state e)) t.same ∙ ap Some t.told.same;
-      after = ap (λ b. cond b (Some t.event.state) (state_after group steps p)) here;
+      after = ap (λ b. cond b (Some t.event.state) (process_after group steps p)) here;
       events = t.events ∙ ap (λ n. n + 1) k.events ∙ sym (ap length more ∙ length-append (entries steps p) (t.event.entry ∷ []));
       count = t.count ∙ k.count;
       log = k.log;
@@ -163,8 +163,8 @@ own_member group steps p thread env m entry k t room =
     }
 
 pub event_keeps : Counting → (group : Group) (done : Progress) (old new : Recorder) (p thread : ℕ) (m : Member) (entry : Entry) → (keeps : KeepsUp group done old) → p < size group
-    → (k : IsMember group done.steps p m) → (t : Tells k.state thread (env_of old.world p) entry) → HasRoom m (encoding entry) → Kept old p m entry new
-    → KeepsUp group (acted (Had p t.event) done) new
+    → (k : IsMember group done.steps p m) → (t : IsLiveEntry k.state thread (env_of old.world p) entry) → LogHasRoom m (encoding entry) → Kept old p m entry new
+    → KeepsUp group (with_step (Had p t.event) done) new
 event_keeps counting group done old new p thread m entry keeps within k t room made =
     let env = env_same counting group done old p keeps within in
     record {
@@ -185,7 +185,7 @@ event_keeps counting group done old new p thread m entry keeps within k t room m
         ),
         keeps.can_be,
       );
-      world = made.world ∙ ap (λ w. after w (world.Event p entry)) keeps.world ∙ ap (λ e. after (world_after (size group) (history done.steps)) (world.Event p e)) t.same;
+      world = made.world ∙ ap (λ w. with_act w (world.Event p entry)) keeps.world ∙ ap (λ e. with_act (world_after (size group) (history done.steps)) (world.Event p e)) t.same;
       prints = λ q bytes at.
           event_printed old.prints done.steps p t.event entry keeps.prints t.same q bytes (sym (ap (λ kept. slice_get kept q) made.prints) ∙ at);
       acted = made.acted ∙ add-one old.acted ∙ ap suc keeps.acted;
@@ -213,17 +213,17 @@ log_size group steps p m entry e k same =
     ap (λ n. n + length (encoding entry)) k.size ∙ ap (λ e. length (log_of group steps p) + length (encoding e)) same ∙ sym (length-append (log_of group steps p) (encoding e.entry))
 
 has_event : Counting → (group : Group) (done : Progress) (old : Recorder) (number p thread : ℕ) (m : Member) (entry : Entry) → KeepsUp group done old → p < size group
-    → (k : IsMember group done.steps p m) → (t : Tells k.state thread (env_of old.world p) entry) → HasRoom m (encoding entry) → attempt group number p thread done ≡ acted (Had p t.event) done
+    → (k : IsMember group done.steps p m) → (t : IsLiveEntry k.state thread (env_of old.world p) entry) → LogHasRoom m (encoding entry) → attempt group number p thread done ≡ with_step (Had p t.event) done
 has_event counting group done old number p thread m entry keeps within k t room =
     attempt_is counting group done old number p thread k.state keeps within k.after ∙ ap (λ o. had group number p o done) t.lives
-    ∙ ap (λ b. cond b (acted (Had p t.event) done) (filled number done))
+    ∙ ap (λ b. cond b (with_step (Had p t.event) done) (with_full_log number done))
     (room_test (length (log_of group done.steps p ++ encoding t.event.entry)) most_log (subst (λ n. n ≤ most_log) (log_size group done.steps p m entry t.event k t.same) room))
 
 no_room : Counting → (group : Group) (done : Progress) (old : Recorder) (number p thread : ℕ) (m : Member) (entry : Entry) → KeepsUp group done old → p < size group
-    → (k : IsMember group done.steps p m) → (t : Tells k.state thread (env_of old.world p) entry) → most_log < m.size + length (encoding entry) → attempt group number p thread done ≡ filled number done
+    → (k : IsMember group done.steps p m) → (t : IsLiveEntry k.state thread (env_of old.world p) entry) → most_log < m.size + length (encoding entry) → attempt group number p thread done ≡ with_full_log number done
 no_room counting group done old number p thread m entry keeps within k t over =
     attempt_is counting group done old number p thread k.state keeps within k.after ∙ ap (λ o. had group number p o done) t.lives
-    ∙ ap (λ b. cond b (acted (Had p t.event) done) (filled number done))
+    ∙ ap (λ b. cond b (with_step (Had p t.event) done) (with_full_log number done))
     (full_test (length (log_of group done.steps p ++ encoding t.event.entry)) most_log (subst (λ n. most_log < n) (log_size group done.steps p m entry t.event k t.same) over))
 
 -- the files with the entry more
@@ -249,7 +249,7 @@ fault_stops files_keep group done before now after old p m entry e keeps files w
 
 -- what comes of a try that has an event
 pub try_event : Counting → KeepsFiles → (group : Group) (done : Progress) (before now after : Option Store) (old : Recorder) (result : Result Recorder RecordError) (number p thread : ℕ) (m : Member) (entry : Entry)
-    → KeepsUp group done old → FilesOf group done before now → p < size group → (k : IsMember group done.steps p m) → Tells k.state thread (env_of old.world p) entry
+    → KeepsUp group done old → FilesOf group done before now → p < size group → (k : IsMember group done.steps p m) → IsLiveEntry k.state thread (env_of old.world p) entry
     → Writes m number (encoding entry) result now after → IfOk result (Kept old p m entry) → Comes group (attempt group number p thread done) result before after
 try_event counting files_keep group done before now after old (Ok new) number p thread m entry keeps files within k t writes made =
     subst (λ d. Comes group d (Ok new) before after) (sym (has_event counting group done old number p thread m entry keeps within k t writes.0)) (
@@ -274,11 +274,11 @@ try_event counting files_keep group done before now after old (Err errors.NoMemo
 pub few_events : (group : Group) (steps : List Step) (p : ℕ) (m : Member) → (k : IsMember group steps p m) → k.state.events < 2 ^ 61
 few_events group steps p m k =
     let few : length (entries steps p) ≤ length (encodings (entries steps p)) = entries_few (entries steps p) in
-    let whole : length (log_of group steps p) ≡ length (head_bytes (head_of group p)) + length (encodings (entries steps p)) = length-append (head_bytes (head_of group p)) (encodings (entries steps p)) in
+    let whole : length (log_of group steps p) ≡ length (head_bytes (head_of_log group p)) + length (encodings (entries steps p)) = length-append (head_bytes (head_of_log group p)) (encodings (entries steps p)) in
     omega (arith, few, whole, k.events, k.size, k.room)
 
 -- the member at a place, which can keep an entry that tells an event
-pub can_keep : (group : Group) (steps : List Step) (p thread : ℕ) (env : Env) (m : Member) (entry : Entry) → (k : IsMember group steps p m) → Tells k.state thread env entry → CanKeep m entry
+pub can_keep : (group : Group) (steps : List Step) (p thread : ℕ) (env : Env) (m : Member) (entry : Entry) → (k : IsMember group steps p m) → IsLiveEntry k.state thread env entry → CanKeep m entry
 can_keep group steps p thread env m entry k t = record {
   state = k.state;
   process = k.process;
@@ -293,7 +293,7 @@ world_size counting group done r keeps = ap (λ w. length w.net) keeps.world ∙
 -- ---- items
 
 pub acts_so : Counting → (group : Group) (done : Progress) (old new : Recorder) (act : Act) (p : ℕ) → KeepsUp group done old → p < length old.world.net → IsItem act
-    → (p < size group → CanFollow (size group) (history done.steps) act) → new ≡ record old { world = after old.world act; acted = old.acted + 1 } → KeepsUp group (acted (Did act) done) new
+    → (p < size group → CanFollow (size group) (history done.steps) act) → new ≡ record old { world = with_act old.world act; acted = old.acted + 1 } → KeepsUp group (with_step (Did act) done) new
 acts_so counting group done old new act p keeps within item can is =
     did_keeps group done old new act keeps item (can (subst (λ n. p < n) (world_size counting group done old keeps) within)) is
 
@@ -312,7 +312,7 @@ sent_same counting group done r p n keeps within =
     ap (λ w. is_some (nth_of (sent_by w.net p) n)) keeps.world ∙ ap (λ sent. is_some (nth_of sent n)) counted.sent
     ∙ nth_mapped p (world.sends (size group) (history done.steps) p) n
 
-pub none_delivered : (w : World) (p n : ℕ) → is_some (nth_of (sent_by w.net p) n) ≡ false → after w (world.Deliver p n) ≡ w
+pub none_delivered : (w : World) (p n : ℕ) → is_some (nth_of (sent_by w.net p) n) ≡ false → with_act w (world.Deliver p n) ≡ w
 none_delivered w p n none = by_found (nth_of (sent_by w.net p) n) none
   where
     by_found : (found : Option Sent) → is_some found ≡ false → record w { net = with_delivered w.net found } ≡ w
@@ -320,15 +320,15 @@ none_delivered w p n none = by_found (nth_of (sent_by w.net p) n) none
     by_found (Some datagram) h = cc
 
 pub delivers : Counting → (group : Group) (done : Progress) (old new : Recorder) (p n : ℕ) → KeepsUp group done old → p < length old.world.net → is_some (nth_of (sent_by old.world.net p) n) ≡ true
-    → new ≡ record old { world = after old.world (world.Deliver p n); acted = old.acted + 1 } → KeepsUp group (does group 0 (item.Deliver p n) done) new
+    → new ≡ record old { world = with_act old.world (world.Deliver p n); acted = old.acted + 1 } → KeepsUp group (done_by_item group 0 (item.Deliver p n) done) new
 delivers counting group done old new p n keeps within found is =
-    subst (λ b. KeepsUp group (acted_if b (Did (world.Deliver p n)) done) new) (sym found ∙ sent_same counting group done old p n keeps within)
+    subst (λ b. KeepsUp group (with_step_if b (Did (world.Deliver p n)) done) new) (sym found ∙ sent_same counting group done old p n keeps within)
     (acts_so counting group done old new (world.Deliver p n) p keeps within tt (λ inside. inside) is)
 
 pub delivers_none : Counting → (group : Group) (done : Progress) (old new : Recorder) (p n : ℕ) → KeepsUp group done old → p < length old.world.net → is_some (nth_of (sent_by old.world.net p) n) ≡ false
-    → new ≡ record old { world = after old.world (world.Deliver p n); idle = old.idle + 1 } → KeepsUp group (does group 0 (item.Deliver p n) done) new
+    → new ≡ record old { world = with_act old.world (world.Deliver p n); idle = old.idle + 1 } → KeepsUp group (done_by_item group 0 (item.Deliver p n) done) new
 delivers_none counting group done old new p n keeps within none is =
-    subst (λ b. KeepsUp group (acted_if b (Did (world.Deliver p n)) done) new) (sym none ∙ sent_same counting group done old p n keeps within)
+    subst (λ b. KeepsUp group (with_step_if b (Did (world.Deliver p n)) done) new) (sym none ∙ sent_same counting group done old p n keeps within)
     (idle_keeps group done old new keeps (is ∙ ap (λ (w : World). record old { world = w; idle = old.idle + 1 }) (none_delivered old.world p n none)))
 
 -- there is a member at a place
@@ -342,21 +342,21 @@ kill_same : Counting → (group : Group) (done : Progress) (r : Recorder) (p : �
 kill_same counting group done r p keeps within =
     let m = some_there r.members.items p (omega (arith, within, keeps.count)) in
     let k = keeps.members p m.0 m.1 in
-    let process : option_and_then (λ (m : Member). m.process) (slice_get r.members.items p) ≡ state_after group done.steps p = ap (option_and_then (λ (m : Member). m.process)) m.1 ∙ k.process ∙ sym k.after in
-    ap (λ o. runs o && not (place_of r.world p).killed) process
-    ∙ ap (λ (env : Env). runs (state_after group done.steps p) && not env.killed) (env_same counting group done r p keeps within)
+    let process : option_and_then (λ (m : Member). m.process) (slice_get r.members.items p) ≡ process_after group done.steps p = ap (option_and_then (λ (m : Member). m.process)) m.1 ∙ k.process ∙ sym k.after in
+    ap (λ o. is_running_process o && not (surroundings_of r.world p).killed) process
+    ∙ ap (λ (env : Env). is_running_process (process_after group done.steps p) && not env.killed) (env_same counting group done r p keeps within)
 
 kills : Counting → (group : Group) (done : Progress) (old new : Recorder) (p : ℕ) (spared : Bool) → KeepsUp group done old → p < size group → is_spared old.members.items old.world p ≡ spared
-    → new ≡ acted_on spared (cond spared (after old.world (world.Kill p)) old.world) old → KeepsUp group (acted_if (can_be_killed group done.steps p) (Did (world.Kill p)) done) new
+    → new ≡ acted_on spared (cond spared (with_act old.world (world.Kill p)) old.world) old → KeepsUp group (with_step_if (can_be_killed group done.steps p) (Did (world.Kill p)) done) new
 kills counting group done old new p true keeps within can is =
-    subst (λ b. KeepsUp group (acted_if b (Did (world.Kill p)) done) new) (sym can ∙ kill_same counting group done old p keeps within)
+    subst (λ b. KeepsUp group (with_step_if b (Did (world.Kill p)) done) new) (sym can ∙ kill_same counting group done old p keeps within)
     (did_keeps group done old new (world.Kill p) keeps tt within is)
 kills counting group done old new p false keeps within can is =
-    subst (λ b. KeepsUp group (acted_if b (Did (world.Kill p)) done) new) (sym can ∙ kill_same counting group done old p keeps within)
+    subst (λ b. KeepsUp group (with_step_if b (Did (world.Kill p)) done) new) (sym can ∙ kill_same counting group done old p keeps within)
     (idle_keeps group done old new keeps is)
 
 delivery_is : Counting → (group : Group) (done : Progress) (old new : Recorder) (p n : ℕ) (found : Bool) → KeepsUp group done old → p < length old.world.net → is_some (nth_of (sent_by old.world.net p) n) ≡ found
-    → new ≡ acted_on found (after old.world (world.Deliver p n)) old → KeepsUp group (does group 0 (item.Deliver p n) done) new
+    → new ≡ acted_on found (with_act old.world (world.Deliver p n)) old → KeepsUp group (done_by_item group 0 (item.Deliver p n) done) new
 delivery_is counting group done old new p n true keeps within found is = delivers counting group done old new p n keeps within found is
 delivery_is counting group done old new p n false keeps within found is = delivers_none counting group done old new p n keeps within found is
 
@@ -379,7 +379,7 @@ around_too counting group done r p keeps within = omega (arith, within, keeps.co
 
 -- what comes of such an item
 pub item_keeps : Counting → (group : Group) (done : Progress) (old new : Recorder) (number : ℕ) (i : Item) → KeepsUp group done old → IsInRange (length old.members.items) i → IsOther i
-    → new ≡ acted_on (acts old.members.items old.world i) (after_act old.members.items old.world i) old → KeepsUp group (does group number i done) new
+    → new ≡ acted_on (acts old.members.items old.world i) (after_act old.members.items old.world i) old → KeepsUp group (done_by_item group number i done) new
 item_keeps counting group done old new number (item.Run p thread times) keeps fits other is = absurd other
 item_keeps counting group done old new number (item.Deliver p n) keeps fits other is =
     delivery_is counting group done old new p n (is_some (nth_of (sent_by old.world.net p) n)) keeps (around_too counting group done old p keeps fits.0) refl is
@@ -398,11 +398,11 @@ item_keeps counting group done old new number (item.Kill p) keeps fits other is 
 logs_stay : (group : Group) (done next : Progress) (before now : Option Store) → logs group next.steps ≡ logs group done.steps → FilesOf group done before now → FilesOf group next before now
 logs_stay group done next before now same files = files ∙ ap (λ fs. with_files fs before) (sym same)
 
-same_logs : (group : Group) (done : Progress) (acts : Bool) (act : Act) → logs group (Did act ∷ done.steps) ≡ logs group done.steps → logs group (acted_if acts (Did act) done).steps ≡ logs group done.steps
+same_logs : (group : Group) (done : Progress) (acts : Bool) (act : Act) → logs group (Did act ∷ done.steps) ≡ logs group done.steps → logs group (with_step_if acts (Did act) done).steps ≡ logs group done.steps
 same_logs group done true act same = same
 same_logs group done false act same = refl
 
-acted_logs : (group : Group) (done : Progress) (acts : Bool) (act : Act) → IsItem act → logs group (acted_if acts (Did act) done).steps ≡ logs group done.steps
+acted_logs : (group : Group) (done : Progress) (acts : Bool) (act : Act) → IsItem act → logs group (with_step_if acts (Did act) done).steps ≡ logs group done.steps
 acted_logs group done acts (world.Event p e) item = absurd item
 acted_logs group done true (world.Deliver p n) item = refl
 acted_logs group done false (world.Deliver p n) item = refl
@@ -413,7 +413,7 @@ acted_logs group done acts (world.Signal p s) item = same_logs group done acts (
 acted_logs group done true (world.Kill p) item = refl
 acted_logs group done false (world.Kill p) item = refl
 
-does_logs : (group : Group) (number : ℕ) (i : Item) (done : Progress) → IsOther i → logs group (does group number i done).steps ≡ logs group done.steps
+does_logs : (group : Group) (number : ℕ) (i : Item) (done : Progress) → IsOther i → logs group (done_by_item group number i done).steps ≡ logs group done.steps
 does_logs group number (item.Run p thread times) done other = absurd other
 does_logs group number (item.Deliver p n) done other = acted_logs group done (has_sent (size group) done.steps p n) (world.Deliver p n) tt
 does_logs group number (item.Inject p bytes) done other = refl
@@ -426,9 +426,9 @@ pub item_comes : Counting → (group : Group) (done : Progress) (before now : Op
     → IsInRange (length old.members.items) i → IsOther i → new ≡ acted_on (acts old.members.items old.world i) (after_act old.members.items old.world i) old
     → Comes group (after_item group number i done) (Ok new) before now
 item_comes counting group done before now old new number i keeps files fits other is =
-    subst (λ d. Comes group d (Ok new) before now) (sym (unless_none done (does group number i done) keeps.room)) (
+    subst (λ d. Comes group d (Ok new) before now) (sym (unless_none done (done_by_item group number i done) keeps.room)) (
       item_keeps counting group done old new number i keeps fits other is,
-      logs_stay group done (does group number i done) before now (does_logs group number i done other) files,
+      logs_stay group done (done_by_item group number i done) before now (does_logs group number i done other) files,
     )
 
 -- of as many processes as before it is kept what they print
@@ -451,10 +451,10 @@ stops_of m other number e same error before after is told h =
     (subst (λ (e : Entry). Writes {T = Recorder} m number (encoding e) (Err error) before after) told (writes_err m number (encoding e) error before after h))
 
 pub written_of : (m other : Member) (e same : Entry) (before after : Option Store) → m ≡ other → e ≡ same
-    → HasRoom m (encoding e) × (after ≡ with_piece (string_bytes m.log) (encoding e) before) → HasRoom other (encoding same) × (after ≡ with_piece (string_bytes other.log) (encoding same) before)
+    → LogHasRoom m (encoding e) × (after ≡ with_piece (string_bytes m.log) (encoding e) before) → LogHasRoom other (encoding same) × (after ≡ with_piece (string_bytes other.log) (encoding same) before)
 written_of m other e same before after is told h =
-    subst (λ (m : Member). HasRoom m (encoding same) × (after ≡ with_piece (string_bytes m.log) (encoding same) before)) is
-    (subst (λ (e : Entry). HasRoom m (encoding e) × (after ≡ with_piece (string_bytes m.log) (encoding e) before)) told h)
+    subst (λ (m : Member). LogHasRoom m (encoding same) × (after ≡ with_piece (string_bytes m.log) (encoding same) before)) is
+    (subst (λ (e : Entry). LogHasRoom m (encoding e) × (after ≡ with_piece (string_bytes m.log) (encoding e) before)) told h)
 
 pub kept_at : (result : Result Recorder RecordError) (old : Recorder) (p : ℕ) (m : Member) (entry : Entry) → slice_get old.members.items p ≡ Some m
     → IfOk result (λ r. (m : Member) → slice_get old.members.items p ≡ Some m → Kept old p m entry r) → IfOk result (Kept old p m entry)
@@ -476,8 +476,8 @@ few_had group done r p m keeps at S is =
     subst (λ (S : State). S.events < 2 ^ 61) (same_Some _ _ (sym k.process ∙ is)) (few_events group done.steps p m k)
 
 pub tells_of : (group : Group) (done : Progress) (r : Recorder) (p thread : ℕ) (m : Member) (env : Env) (entry : Entry) → (keeps : KeepsUp group done r) → (at : slice_get r.members.items p ≡ Some m) → (S : State) → m.process ≡ Some S
-    → Tells S thread env entry → Tells (keeps.members p m at).state thread env entry
-tells_of group done r p thread m env entry keeps at S is t = subst (λ (S : State). Tells S thread env entry) (same_Some _ _ (sym is ∙ (keeps.members p m at).process)) t
+    → IsLiveEntry S thread env entry → IsLiveEntry (keeps.members p m at).state thread env entry
+tells_of group done r p thread m env entry keeps at S is t = subst (λ (S : State). IsLiveEntry S thread env entry) (same_Some _ _ (sym is ∙ (keeps.members p m at).process)) t
 
 pub lives_of : (group : Group) (done : Progress) (r : Recorder) (p thread : ℕ) (m : Member) (env : Env) → (keeps : KeepsUp group done r) → (at : slice_get r.members.items p ≡ Some m) → (S : State) → m.process ≡ Some S
     → live S thread env ≡ None → live (keeps.members p m at).state thread env ≡ None

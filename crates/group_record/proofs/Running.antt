@@ -9,7 +9,7 @@ use Rattle.schedule_text.specs.Schedule.{IsInRange}
 use Rattle.guest_process.specs.Live.{Event}
 use Rattle.group_world.specs.History.{Act}
 use Rattle.group_world.specs.History as world
-use Rattle.group_record.specs.Run.{Group, Progress, Step, Had, Did, IsFront, after_item, after_items, attempt, attempts, can_be_killed, does, event_of, had, has_room, has_sent, nothing_yet, run, size}
+use Rattle.group_record.specs.Run.{Group, Progress, Step, Had, Did, IsMoment, after_item, after_items, attempt, attempts, can_be_killed, done_by_item, event_of_try, had, log_has_room, has_sent, nothing_yet, run, size}
 
 -- what an item does bears a time of 64 bits, and no event
 abbrev pub IsDone : Act → Type 0
@@ -21,8 +21,8 @@ IsDone _ = Unit {0}
 pub record IsHad (group : Group) (early : List Step) (p : ℕ) (e : Event) : Type 0 where
   pub within : p < size group
   pub thread : ℕ
-  pub comes : event_of group early p thread ≡ Some e
-  pub room : has_room group early p e.entry ≡ true
+  pub comes : event_of_try group early p thread ≡ Some e
+  pub room : log_has_room group early p e.entry ≡ true
 
 -- each step is one that can follow those before it
 abbrev pub IsRun : Group → List Step → Type 0
@@ -49,17 +49,17 @@ either : {A : Type 0} (P : A → Type 0) (test : Bool) (a b : A) → P a → P b
 either P true a b first second = first
 either P false a b first second = second
 
-had_runs : (group : Group) (number p thread : ℕ) (done : Progress) (o : Option Event) → p < size group → Runs group done → event_of group done.steps p thread ≡ o → Runs group (had group number p o done)
+had_runs : (group : Group) (number p thread : ℕ) (done : Progress) (o : Option Event) → p < size group → Runs group done → event_of_try group done.steps p thread ≡ o → Runs group (had group number p o done)
 had_runs group number p thread done None within so_far comes = record { steps = so_far.steps }
-had_runs group number p thread done (Some e) within so_far comes = by_room (has_room group done.steps p e.entry) refl where
-  by_room : (test : Bool) → has_room group done.steps p e.entry ≡ test → Runs group (cond test (record done { steps = Had p e ∷ done.steps }) (record done { full = Some number }))
+had_runs group number p thread done (Some e) within so_far comes = by_room (log_has_room group done.steps p e.entry) refl where
+  by_room : (test : Bool) → log_has_room group done.steps p e.entry ≡ test → Runs group (cond test (record done { steps = Had p e ∷ done.steps }) (record done { full = Some number }))
   by_room true room = record { steps = (record { within = within; thread = thread; comes = comes; room = room }, so_far.steps) }
   by_room false room = record { steps = so_far.steps }
 
 attempt_runs : (group : Group) (number p thread : ℕ) (done : Progress) → p < size group → Runs group done → Runs group (attempt group number p thread done)
 attempt_runs group number p thread done within so_far =
-    either (Runs group) (is_some done.full) done (had group number p (event_of group done.steps p thread) done) so_far
-    (had_runs group number p thread done (event_of group done.steps p thread) within so_far refl)
+    either (Runs group) (is_some done.full) done (had group number p (event_of_try group done.steps p thread) done) so_far
+    (had_runs group number p thread done (event_of_try group done.steps p thread) within so_far refl)
 
 attempts_run : (group : Group) (number p thread n : ℕ) (done : Progress) → p < size group → Runs group done → Runs group (attempts group number p thread n done)
 unfolding attempts
@@ -80,7 +80,7 @@ bits_fit : (value : ℤ) → FitsSigned w64 value → cast_unsigned w64 value < 
 bits_fit (pos n) fits = omega (arith, fits.sfits)
 bits_fit (negsuc n) fits = omega arith
 
-does_runs : (group : Group) (number : ℕ) (i : Item) (done : Progress) → IsInRange (size group) i → Runs group done → Runs group (does group number i done)
+does_runs : (group : Group) (number : ℕ) (i : Item) (done : Progress) → IsInRange (size group) i → Runs group done → Runs group (done_by_item group number i done)
 does_runs group number (item.Run p thread times) done fits so_far = attempts_run group number p thread times done fits.0 so_far
 does_runs group number (item.Deliver p n) done fits so_far =
     either (Runs group) (has_sent (size group) done.steps p n) _ _ (act_runs group (world.Deliver p n) done tt so_far) (idle_runs group done so_far)
@@ -93,7 +93,7 @@ does_runs group number (item.Kill p) done fits so_far =
 
 item_runs : (group : Group) (number : ℕ) (i : Item) (done : Progress) → IsInRange (size group) i → Runs group done → Runs group (after_item group number i done)
 item_runs group number i done fits so_far =
-    either (Runs group) (is_some done.full) done (does group number i done) so_far (does_runs group number i done fits so_far)
+    either (Runs group) (is_some done.full) done (done_by_item group number i done) so_far (does_runs group number i done fits so_far)
 
 items_run : (group : Group) (number : ℕ) (items : List Item) (done : Progress) → All (IsInRange (size group)) items → Runs group done → Runs group (after_items group number items done)
 items_run group number [] done fits so_far = so_far
@@ -102,6 +102,6 @@ items_run group number (i ∷ items) done fits so_far =
     (item_runs group number i done (All-head (IsInRange (size group)) i items fits) so_far)
 
 -- the steps of a run, and those at each of its moments
-pub is_run : (group : Group) (items : List Item) → All (IsInRange (size group)) items → (early : List Step) → IsFront early (run group items).steps → IsRun group early
+pub is_run : (group : Group) (items : List Item) → All (IsInRange (size group)) items → (early : List Step) → IsMoment early (run group items).steps → IsRun group early
 is_run group items fits early front =
     front_runs group front.0 early (run group items).steps front.1 (items_run group 1 items nothing_yet fits (record { steps = tt })).steps

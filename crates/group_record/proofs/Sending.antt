@@ -12,7 +12,7 @@ use Rattle.guest_process.specs.State.{State}
 use Rattle.group_world.specs.History.{Act, History, addressed, datagram, nth, put_last_if, sends}
 use Rattle.group_world.specs.History as world
 use Rattle.group_world.specs.Laws.{Giver, NamesSend, gives}
-use Rattle.group_record.specs.Run.{Group, Step, Had, Did, around, history, size, state_after}
+use Rattle.group_record.specs.Run.{Group, Step, Had, Did, world_around, history, size, process_after}
 use Rattle.group_record.specs.Laws.{IsSend}
 use Rattle.group_record.proofs.Running.{IsDone, IsRun}
 use Rattle.group_record.proofs.Agreeing.{ComesIn, comes_in}
@@ -41,7 +41,7 @@ no_event count _ done = tt
 pub events_fit : (group : Group) (steps : List Step) → IsRun group steps → EventsFit (size group) (history steps)
 events_fit group [] run = tt
 events_fit group (Had p e ∷ early) run =
-    let clock : 1 ≤ e.entry.clock = has_clock (around (size group) early p) run.0.thread e (state_after group early p) run.0.comes in
+    let clock : 1 ≤ e.entry.clock = has_clock (world_around (size group) early p) run.0.thread e (process_after group early p) run.0.comes in
     ((run.0.within, clock), events_fit group early run.1)
 events_fit group (Did act ∷ early) run = (no_event (size group) act run.0, events_fit group early run.1)
 

@@ -8,18 +8,18 @@ use Rattle.wasm_types.specs.Modules.{Module}
 use Rattle.guest_process.specs.Start.{start}
 use Rattle.guest_process.specs.State.{State}
 use Rattle.group_record.specs.declared.member.Member.{Member}
-use Rattle.group_record.specs.Answer.{begun_from, begun_then}
+use Rattle.group_record.specs.Answer.{first_states_from, with_first_state}
 use Rattle.group_record.specs.declared.error.RecordError.{RecordError}
 use Rattle.group_record.specs.declared.error.RecordError.TheVariants as errors
 use Rattle.group_record.specs.Begun.{AreStarted, BeginsAll}
-use Rattle.group_record.specs.Members.{IsStarted, Starts}
+use Rattle.group_record.specs.Members.{IsFreshMember, Starts}
 
 -- these states and then what comes behind them
 abbrev pub ahead : List State → Result (List State) ℕ → Result (List State) ℕ
 ahead first (Ok states) = Ok (first ++ states)
 ahead first (Err p) = Err p
 
-ahead_one : (first : List State) (S : State) (p : ℕ) (rest : Result (List State) ℕ) → ahead first (begun_then (Some S) p rest) ≡ ahead (first ++ S ∷ []) rest
+ahead_one : (first : List State) (S : State) (p : ℕ) (rest : Result (List State) ℕ) → ahead first (with_first_state (Some S) p rest) ≡ ahead (first ++ S ∷ []) rest
 ahead_one first S p (Ok states) = ap Ok (sym (append_assoc first (S ∷ []) states))
 ahead_one first S p (Err q) = refl
 
@@ -32,16 +32,16 @@ pub record HaveStarted (names : List (List ℕ)) (modules : List Module) (p : �
   pub first : List State
   pub many : length members ≡ p
   pub states : length first ≡ p
-  pub rest : begun_from (length names) 0 modules ≡ ahead first (begun_from (length names) p (drop p modules))
+  pub rest : first_states_from (length names) 0 modules ≡ ahead first (first_states_from (length names) p (drop p modules))
   pub each : (q : ℕ) (m : Member) → slice_get members q ≡ Some m
-      → (state : State) × (slice_get first q ≡ Some state) × IsStarted state (slice_index_or names q []) q (length names) m
+      → (state : State) × (slice_get first q ≡ Some state) × IsFreshMember state (slice_index_or names q []) q (length names) m
 
 pub none_started : (names : List (List ℕ)) (modules : List Module) → HaveStarted names modules 0 []
 none_started names modules = record {
   first = [];
   many = refl;
   states = refl;
-  rest = sym (ahead_none (begun_from (length names) 0 modules));
+  rest = sym (ahead_none (first_states_from (length names) 0 modules));
   each = λ q m at. cc;
 }
 
@@ -57,40 +57,40 @@ pushed P (x ∷ members) (T ∷ first) m S same old own (suc q) n at =
     pushed (λ q. P (suc q)) members first m S (omega (arith, same)) (λ q n at. old (suc q) n at) own q n at
 
 next_begun : (count p : ℕ) (modules : List Module) (d : Module) → p < length modules
-    → begun_from count p (drop p modules) ≡ begun_then (start (slice_index_or modules p d) p count) p (begun_from count (p + 1) (drop (p + 1) modules))
+    → first_states_from count p (drop p modules) ≡ with_first_state (start (slice_index_or modules p d) p count) p (first_states_from count (p + 1) (drop (p + 1) modules))
 next_begun count p modules d inside =
-    ap (begun_from count p) (drop-cons modules p d inside)
-    ∙ ap (λ n. begun_then (start (slice_index_or modules p d) p count) p (begun_from count n (drop n modules))) (sym (add-one p))
+    ap (first_states_from count p) (drop-cons modules p d inside)
+    ∙ ap (λ n. with_first_state (start (slice_index_or modules p d) p count) p (first_states_from count n (drop n modules))) (sym (add-one p))
 
 -- one more has begun
 pub one_started : (names : List (List ℕ)) (modules : List Module) (p : ℕ) (members : List Member) (m : Member) (here : Module) (name : List ℕ) (S : State) → HaveStarted names modules p members → p < length modules
-    → here ≡ slice_index_or modules p here → name ≡ slice_index_or names p [] → start here p (length names) ≡ Some S → IsStarted S name p (length names) m → HaveStarted names modules (p + 1) (members ++ m ∷ [])
+    → here ≡ slice_index_or modules p here → name ≡ slice_index_or names p [] → start here p (length names) ≡ Some S → IsFreshMember S name p (length names) m → HaveStarted names modules (p + 1) (members ++ m ∷ [])
 one_started names modules p members m here name S h inside at named begins is = record {
   first = h.first ++ S ∷ [];
   many = length-append members (m ∷ []) ∙ ap (λ n. n + 1) h.many;
   states = length-append h.first (S ∷ []) ∙ ap (λ n. n + 1) h.states;
   rest = h.rest ∙ ap (ahead h.first)
       (next_begun (length names) p modules here inside
-      ∙ ap (λ o. begun_then o p (begun_from (length names) (p + 1) (drop (p + 1) modules))) (ap (λ x. start x p (length names)) (sym at) ∙ begins))
-      ∙ ahead_one h.first S p (begun_from (length names) (p + 1) (drop (p + 1) modules));
-  each = pushed (λ q n T. IsStarted T (slice_index_or names q []) q (length names) n) members h.first m S (h.many ∙ sym h.states) h.each
-      (subst (λ n. IsStarted S (slice_index_or names n []) n (length names) m) (sym h.many) (subst (λ name. IsStarted S name p (length names) m) named is));
+      ∙ ap (λ o. with_first_state o p (first_states_from (length names) (p + 1) (drop (p + 1) modules))) (ap (λ x. start x p (length names)) (sym at) ∙ begins))
+      ∙ ahead_one h.first S p (first_states_from (length names) (p + 1) (drop (p + 1) modules));
+  each = pushed (λ q n T. IsFreshMember T (slice_index_or names q []) q (length names) n) members h.first m S (h.many ∙ sym h.states) h.each
+      (subst (λ n. IsFreshMember S (slice_index_or names n []) n (length names) m) (sym h.many) (subst (λ name. IsFreshMember S name p (length names) m) named is));
 }
 
 -- one has not
 pub one_bad : (names : List (List ℕ)) (modules : List Module) (p : ℕ) (members : List Member) (here : Module) → HaveStarted names modules p members → p < length modules
-    → here ≡ slice_index_or modules p here → start here p (length names) ≡ None → begun_from (length names) 0 modules ≡ Err p
+    → here ≡ slice_index_or modules p here → start here p (length names) ≡ None → first_states_from (length names) 0 modules ≡ Err p
 one_bad names modules p members here h inside at bad =
     h.rest ∙ ap (ahead h.first)
     (next_begun (length names) p modules here inside
-    ∙ ap (λ o. begun_then o p (begun_from (length names) (p + 1) (drop (p + 1) modules))) (ap (λ x. start x p (length names)) (sym at) ∙ bad))
+    ∙ ap (λ o. with_first_state o p (first_states_from (length names) (p + 1) (drop (p + 1) modules))) (ap (λ x. start x p (length names)) (sym at) ∙ bad))
 
 -- all have begun
 pub all_started : (names : List (List ℕ)) (modules : List Module) (p : ℕ) (members : List Member) → HaveStarted names modules p members → length modules ≤ p → length names ≡ p
-    → (first : List State) × (begun_from (length names) 0 modules ≡ Ok first) × AreStarted names first members
+    → (first : List State) × (first_states_from (length names) 0 modules ≡ Ok first) × AreStarted names first members
 all_started names modules p members h past all = (
   h.first,
-  h.rest ∙ ap (λ ms. ahead h.first (begun_from (length names) p ms)) (drop_all p modules past) ∙ ap Ok (append-nil h.first),
+  h.rest ∙ ap (λ ms. ahead h.first (first_states_from (length names) p ms)) (drop_all p modules past) ∙ ap Ok (append-nil h.first),
   record { count = h.many ∙ sym all; states = h.states ∙ sym all; each = h.each },
 )
 
@@ -103,18 +103,18 @@ next_started names modules p count members m here name all h inside at named sta
     one_started names modules p members m here name s.0 h inside at named s.1 s.2
 
 pub member_fails : {T : Type 0} (items : T → List Member) (names : List (List ℕ)) (modules : List Module) (p count : ℕ) (members : List Member) (here : Module) (name : List ℕ) (error : RecordError) → count ≡ length names → HaveStarted names modules p members → p < length modules
-    → here ≡ slice_index_or modules p here → Starts (start here p count) name p count (Err error) → BeginsAll items names (begun_from count 0 modules) (Err error)
+    → here ≡ slice_index_or modules p here → Starts (start here p count) name p count (Err error) → BeginsAll items names (first_states_from count 0 modules) (Err error)
 member_fails items names modules p count members here name (errors.BadSegment q) all h inside at starts =
-    subst (λ n. begun_from n 0 modules ≡ Err q) (sym all) (one_bad names modules p members here h inside at (subst (λ n. start here p n ≡ None) all starts.1) ∙ ap Err (sym starts.0))
+    subst (λ n. first_states_from n 0 modules ≡ Err q) (sym all) (one_bad names modules p members here h inside at (subst (λ n. start here p n ≡ None) all starts.1) ∙ ap Err (sym starts.0))
 member_fails items names modules p count members here name (errors.LogFull q) all h inside at starts = starts
 member_fails items names modules p count members here name errors.WriteFault all h inside at starts = starts
 member_fails items names modules p count members here name errors.NoMemory all h inside at starts = tt
 
 pub all_begun : (names : List (List ℕ)) (modules : List Module) (p count : ℕ) (members : List Member) → count ≡ length names → HaveStarted names modules p members → length modules ≤ p → length names ≡ p
-    → (first : List State) × (begun_from count 0 modules ≡ Ok first) × AreStarted names first members
+    → (first : List State) × (first_states_from count 0 modules ≡ Ok first) × AreStarted names first members
 all_begun names modules p count members same h past all =
     let x = all_started names modules p members h past all in
-    (x.0, ap (λ n. begun_from n 0 modules) same ∙ x.1, x.2)
+    (x.0, ap (λ n. first_states_from n 0 modules) same ∙ x.1, x.2)
 
 -- the names of lines
 pub name_at : (lines : List ProcessLine) (i : ℕ) (line : ProcessLine) (d : List ℕ) → slice_get lines i ≡ Some line → slice_index_or (map (λ line. line.name) lines) i d ≡ line.name

@@ -15,57 +15,57 @@ use Rattle.group_record.specs.declared.summary.Summary.{Summary}
 use Rattle.group_record.specs.declared.summary.SummaryLine.{SummaryLine}
 use Rattle.group_record.specs.declared.error.RecordError.{RecordError}
 use Rattle.group_record.specs.declared.error.RecordError.TheVariants as errors
-use Rattle.group_record.specs.Run.{Group, Progress, Step, entries, history, run, state_after}
+use Rattle.group_record.specs.Run.{Group, Progress, Step, entries, history, process_after, run}
 use Rattle.group_record.specs.Logs.{logs}
 use Rattle.group_record.specs.Images.{images_of}
 use Rattle.group_record.specs.Files.{IsStopped}
 
 -- ---- how a group begins
 
-abbrev pub begun_then : Option State → ℕ → Result (List State) ℕ → Result (List State) ℕ
-begun_then None p rest = Err p
-begun_then (Some S) p (Ok states) = Ok (S ∷ states)
-begun_then (Some S) p (Err q) = Err q
+abbrev pub with_first_state : Option State → ℕ → Result (List State) ℕ → Result (List State) ℕ
+with_first_state None p rest = Err p
+with_first_state (Some S) p (Ok states) = Ok (S ∷ states)
+with_first_state (Some S) p (Err q) = Err q
 
 -- the first states of the processes from p on, or the first process one of whose segments ends past its
 -- table or memory
-abbrev pub begun_from : ℕ → ℕ → List Module → Result (List State) ℕ
-begun_from count p [] = Ok []
-begun_from count p (m ∷ ms) = begun_then (start m p count) p (begun_from count (suc p) ms)
+abbrev pub first_states_from : ℕ → ℕ → List Module → Result (List State) ℕ
+first_states_from count p [] = Ok []
+first_states_from count p (m ∷ ms) = with_first_state (start m p count) p (first_states_from count (suc p) ms)
 
 -- the names of a schedule's processes
 abbrev pub names_of : Schedule → List (List ℕ)
 names_of schedule = map (λ line. line.name) schedule.processes
 
 -- the group of a schedule and its processes' modules
-abbrev pub begun : Schedule → List Module → Result (List State) ℕ
-begun schedule modules = begun_from (length schedule.processes) 0 modules
+abbrev pub first_states : Schedule → List Module → Result (List State) ℕ
+first_states schedule modules = first_states_from (length schedule.processes) 0 modules
 
 abbrev pub group_of : Schedule → List State → Group
 group_of schedule first = record { names = names_of schedule; first = first }
 
 -- ---- what is said of it
 
-abbrev pub end_of : Option State → End
-end_of None = Running
-end_of (Some S) = S.end
+abbrev pub end_after : Option State → End
+end_after None = Running
+end_after (Some S) = S.end
 
 -- how a process stands after some steps
-abbrev pub line_of : Group → List Step → ℕ → List ℕ → SummaryLine
-line_of group steps p name = record {
+abbrev pub summary_line : Group → List Step → ℕ → List ℕ → SummaryLine
+summary_line group steps p name = record {
   name = name;
   events = length (entries steps p);
-  end = end_of (state_after group steps p);
+  end = end_after (process_after group steps p);
   killed = is_killed (history steps) p;
 }
 
-abbrev pub lines_from : Group → List Step → ℕ → List (List ℕ) → List SummaryLine
-lines_from group steps p [] = []
-lines_from group steps p (name ∷ names) = line_of group steps p name ∷ lines_from group steps (suc p) names
+abbrev pub summary_lines : Group → List Step → ℕ → List (List ℕ) → List SummaryLine
+summary_lines group steps p [] = []
+summary_lines group steps p (name ∷ names) = summary_line group steps p name ∷ summary_lines group steps (suc p) names
 
 -- a line for each process, and the counts of what acted and of what was idle
 pub record IsSummary (group : Group) (done : Progress) (summary : Summary) : Type 0 where
-  pub lines : summary.lines.items ≡ lines_from group done.steps 0 group.names
+  pub lines : summary.lines.items ≡ summary_lines group done.steps 0 group.names
   pub acted : summary.acted ≡ length done.steps
   pub idle : summary.idle ≡ done.idle
 
@@ -92,14 +92,14 @@ StoppedWhere schedule asked (Err p) before after = after ≡ before
 StoppedWhere schedule asked (Ok first) before after = StoppedIn asked (group_of schedule first) (run (group_of schedule first) schedule.items) before after
 
 -- what a recording answers, with images or without, and how it leaves the files
-abbrev pub Answers : Schedule → Bool → Result (List State) ℕ → Result Summary RecordError → Option Store → Option Store → Type 0
-Answers schedule asked begun (Ok summary) before after =
+abbrev pub RecordAnswers : Schedule → Bool → Result (List State) ℕ → Result Summary RecordError → Option Store → Option Store → Type 0
+RecordAnswers schedule asked begun (Ok summary) before after =
     (first : List State) × (begun ≡ Ok first) × IsDone asked (group_of schedule first) (run (group_of schedule first) schedule.items) summary before after
-Answers schedule asked begun (Err (errors.BadSegment p)) before after = (begun ≡ Err p) × (after ≡ before)
-Answers schedule asked begun (Err (errors.LogFull item)) before after =
+RecordAnswers schedule asked begun (Err (errors.BadSegment p)) before after = (begun ≡ Err p) × (after ≡ before)
+RecordAnswers schedule asked begun (Err (errors.LogFull item)) before after =
     (first : List State) × (begun ≡ Ok first) × IsFull (group_of schedule first) (run (group_of schedule first) schedule.items) item before after
-Answers schedule asked begun (Err errors.WriteFault) before after = StoppedWhere schedule asked begun before after
-Answers schedule asked begun (Err errors.NoMemory) before after = StoppedWhere schedule asked begun before after
+RecordAnswers schedule asked begun (Err errors.WriteFault) before after = StoppedWhere schedule asked begun before after
+RecordAnswers schedule asked begun (Err errors.NoMemory) before after = StoppedWhere schedule asked begun before after
 
 -- only a failed write comes of the files, and raises their count
 abbrev pub HasWriteCause : {T : Type 0} → Counts → Counts → Result T RecordError → Type 0

@@ -16,19 +16,19 @@ use Rattle.guest_process.specs.declared.need.Need.TheVariants as needs
 use Rattle.guest_process.specs.Answers.{is_due, replies}
 use Rattle.guest_process.specs.GoesOn.{handler}
 use Rattle.guest_process.specs.Kinds.{ends_process}
-use Rattle.guest_process.specs.Live.{Env, cut, lowest}
+use Rattle.guest_process.specs.Live.{Env, cut_datagram, lowest}
 use Rattle.guest_process.specs.Seen.{answered_at}
 use Rattle.guest_process.specs.State.{State, thread_at}
-use Rattle.group_world.specs.World.{World, has_pending, place_of}
+use Rattle.group_world.specs.World.{World, has_pending, surroundings_of}
 
 -- the world around process p, as it is kept
 abbrev pub env_of : World → ℕ → Env
 env_of w p = record {
   mailbox = mailbox_of w.net p;
-  pool = (place_of w p).pool;
-  time = (place_of w p).time;
+  pool = (surroundings_of w p).pool;
+  time = (surroundings_of w p).time;
   pending = has_pending w p;
-  killed = (place_of w p).killed;
+  killed = (surroundings_of w p).killed;
 }
 
 -- a first datagram as it was found
@@ -45,7 +45,7 @@ drawn_of count pool = if nat_le count (length pool) then Some (record { reply = 
 
 -- the first datagram of a mailbox, cut to so many bytes
 abbrev pub taken_of : ℕ → ℕ → List (List ℕ) → Option Answer
-taken_of count cap mailbox = option_map (cut cap) (option_map (read_datagram count) (slice_get mailbox 0))
+taken_of count cap mailbox = option_map (cut_datagram cap) (option_map (read_datagram count) (slice_get mailbox 0))
 
 -- the answer of the world to a call of this kind in a group of `count`, where it is given now
 abbrev pub world_answer : Option Kind → Call → ℕ → Env → Option Answer
@@ -65,8 +65,8 @@ answer_by needs.World c count env = world_answer (kind_numbered c.kind) c count 
 -- ---- the signal that is delivered
 
 -- a call of this kind ends the process
-abbrev pub ends : Option Kind → Bool
-ends kind = option_map_or ends_process kind false
+abbrev pub kind_ends_process : Option Kind → Bool
+kind_ends_process kind = option_map_or ends_process kind false
 
 -- a signal is pending and has a handler once thread t's call has this answer
 abbrev pub is_ready : State → ℕ → Answer → (ℕ → Bool) → ℕ → Bool
@@ -74,4 +74,4 @@ is_ready S t a pending s = pending s && is_some (handler (answered_at S t a (thr
 
 -- the signal that is delivered with this answer: the lowest that is ready, or 0; none where the process ends
 abbrev pub signal_with : State → ℕ → Answer → Option Kind → (ℕ → Bool) → ℕ
-signal_with S t a kind pending = if ends kind then 0 else lowest (is_ready S t a pending) 31 1
+signal_with S t a kind pending = if kind_ends_process kind then 0 else lowest (is_ready S t a pending) 31 1

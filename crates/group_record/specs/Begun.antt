@@ -11,10 +11,10 @@ use Rattle.group_record.specs.declared.error.RecordError.{RecordError}
 use Rattle.group_record.specs.declared.error.RecordError.TheVariants as errors
 use Rattle.group_record.specs.declared.member.Member.{Member}
 use Rattle.group_record.specs.declared.recorder.Recorder.{Recorder}
-use Rattle.group_record.specs.Run.{Group, head_of, name_of, nothing_yet, size}
+use Rattle.group_record.specs.Run.{Group, head_of_log, name_of, nothing_yet, size}
 use Rattle.group_record.specs.Logs.{files_of, log_name}
 use Rattle.group_record.specs.Files.{IsStopped}
-use Rattle.group_record.specs.Members.{IsStarted}
+use Rattle.group_record.specs.Members.{IsFreshMember}
 use Rattle.group_record.specs.Recorded.{FilesOf, KeepsUp, kept_for}
 use Rattle.group_record.specs.Answer.{group_of}
 
@@ -25,7 +25,7 @@ pub record AreStarted (names : List (List ℕ)) (first : List State) (members : 
   pub count : length members ≡ length names
   pub states : length first ≡ length names
   pub each : (p : ℕ) (m : Member) → slice_get members p ≡ Some m
-      → (state : State) × (slice_get first p ≡ Some state) × IsStarted state (slice_index_or names p []) p (length names) m
+      → (state : State) × (slice_get first p ≡ Some state) × IsFreshMember state (slice_index_or names p []) p (length names) m
 
 -- all processes began, or why not
 abbrev pub BeginsAll : {T : Type 0} → (T → List Member) → List (List ℕ) → Result (List State) ℕ → Result T RecordError → Type 0
@@ -50,7 +50,7 @@ pub record HaveHeads (group : Group) (members : List Member) : Type 0 where
   pub count : length members ≡ size group
   pub apart : AllPairs (λ name other. name ≢ other) group.names
   pub logs : (p : ℕ) (m : Member) → slice_get members p ≡ Some m → string_bytes m.log ≡ log_name (name_of group p)
-  pub heads : (p : ℕ) (m : Member) → slice_get members p ≡ Some m → m.head.items ≡ head_bytes (head_of group p)
+  pub heads : (p : ℕ) (m : Member) → slice_get members p ≡ Some m → m.head.items ≡ head_bytes (head_of_log group p)
 
 -- the files were to have these bytes, or why they don't
 abbrev pub MakeAll : Group → (ℕ → List ℕ) → Result ⊤ RecordError → Option Store → Option Store → Type 0
@@ -64,7 +64,7 @@ abbrev pub no_bytes : ℕ → List ℕ
 no_bytes p = []
 
 abbrev pub heads : Group → ℕ → List ℕ
-heads group p = head_bytes (head_of group p)
+heads group p = head_bytes (head_of_log group p)
 
 -- files with no bytes were to be made
 abbrev pub CreatesLogs : List Member → Result ⊤ RecordError → Option Store → Option Store → Type 0
@@ -73,7 +73,8 @@ CreatesLogs members result before after = (group : Group) → HaveHeads group me
 -- where they are there, the heads were to be written
 abbrev pub WritesHeads : List Member → Result ⊤ RecordError → Option Store → Option Store → Type 0
 WritesHeads members result old new =
-    (group : Group) (before : Option Store) → HaveHeads group members → old ≡ with_files (files_of group no_bytes) before → MakeAll group (heads group) result before new
+    (group : Group) (before : Option Store) → HaveHeads group members → old ≡ with_files (files_of group no_bytes) before
+    → MakeAll group (heads group) result before new
 
 -- both were to be done
 abbrev pub BeginsLogs : List Member → Result ⊤ RecordError → Option Store → Option Store → Type 0
@@ -87,10 +88,10 @@ StopsAtHead schedule (Err p) before after = after ≡ before
 StopsAtHead schedule (Ok first) before after = IsStopped (group_of schedule first) [] [] before after
 
 -- the group has begun, or why it has not
-abbrev pub Begins : Schedule → Result (List State) ℕ → Result Recorder RecordError → Option Store → Option Store → Type 0
-Begins schedule begun (Ok recorder) before after = (first : List State) × (begun ≡ Ok first)
+abbrev pub GroupBegins : Schedule → Result (List State) ℕ → Result Recorder RecordError → Option Store → Option Store → Type 0
+GroupBegins schedule begun (Ok recorder) before after = (first : List State) × (begun ≡ Ok first)
     × KeepsUp (group_of schedule first) nothing_yet recorder × FilesOf (group_of schedule first) nothing_yet before after
-Begins schedule begun (Err (errors.BadSegment p)) before after = (begun ≡ Err p) × (after ≡ before)
-Begins schedule begun (Err (errors.LogFull item)) before after = ⊥
-Begins schedule begun (Err errors.WriteFault) before after = StopsAtHead schedule begun before after
-Begins schedule begun (Err errors.NoMemory) before after = StopsAtHead schedule begun before after
+GroupBegins schedule begun (Err (errors.BadSegment p)) before after = (begun ≡ Err p) × (after ≡ before)
+GroupBegins schedule begun (Err (errors.LogFull item)) before after = ⊥
+GroupBegins schedule begun (Err errors.WriteFault) before after = StopsAtHead schedule begun before after
+GroupBegins schedule begun (Err errors.NoMemory) before after = StopsAtHead schedule begun before after

@@ -5,21 +5,22 @@ use Rattle.fri_outside.specs.Several.{grown, with_files}
 use Rattle.call_log.specs.Entry.{encoding}
 use Rattle.call_log.specs.Head.{head_bytes}
 use Rattle.guest_process.specs.Live.{Event}
-use Rattle.group_record.specs.Run.{Group, Step, Had, IsFront, head_of}
+use Rattle.group_record.specs.Run.{Group, Step, Had, IsMoment, head_of_log}
 use Rattle.group_record.specs.Logs.{files_of, logs}
-use Rattle.group_record.specs.Images.{part_of}
+use Rattle.group_record.specs.Images.{made_in_part}
 
 -- a first part of each head
 abbrev pub heads_cut : Group → (ℕ → ℕ) → ℕ → List ℕ
-heads_cut group cut p = take (cut p) (head_bytes (head_of group p))
+heads_cut group cut p = take (cut p) (head_bytes (head_of_log group p))
 
 -- Of a run with these steps, which leaves these images, the files are made up to a moment: the first of the
 -- logs are there, each with a first part of its head; or all logs are those of the steps up to that moment,
 -- and behind the log of the process of the next event there may be a first part of that event's entry; or the
 -- logs are those of all steps, and the first of the images are there, and of the next one a first part
 pub data IsStopped (group : Group) (steps : List Step) (images : List (List ℕ × List ℕ)) (before after : Option Store) : Type 0 where
-  InHeads : (many : ℕ) → (cut : ℕ → ℕ) → after ≡ with_files (take many (files_of group (heads_cut group cut))) before → IsStopped group steps images before after
-  Between : (early : List Step) → IsFront early steps → after ≡ with_files (logs group early) before → IsStopped group steps images before after
+  InHeads : (many : ℕ) → (cut : ℕ → ℕ) → after ≡ with_files (take many (files_of group (heads_cut group cut))) before
+      → IsStopped group steps images before after
+  Between : (early : List Step) → IsMoment early steps → after ≡ with_files (logs group early) before → IsStopped group steps images before after
   InEntry : (early later : List Step) → (p n : ℕ) → (e : Event) → steps ≡ later ++ (Had p e ∷ early)
       → after ≡ with_files (grown (logs group early) p (take n (encoding e.entry))) before → IsStopped group steps images before after
-  InImages : (n m : ℕ) → after ≡ with_files (logs group steps ++ part_of images n m) before → IsStopped group steps images before after
+  InImages : (n m : ℕ) → after ≡ with_files (logs group steps ++ made_in_part images n m) before → IsStopped group steps images before after

@@ -4,7 +4,7 @@ use Rattle.fri_outside.specs.Outside.{Store}
 use Rattle.fri_outside.specs.Several.{with_files}
 use Rattle.lib_calls.specs.Traffic.{prints}
 use Rattle.guest_process.specs.State.{State}
-use Rattle.group_record.specs.Run.{Group, Progress, Step, entries, state_after}
+use Rattle.group_record.specs.Run.{Group, Progress, Step, entries, process_after}
 
 -- ---- one process
 
@@ -30,7 +30,7 @@ memory_in (Some S) = S.store.memory.bytes
 abbrev pub images_from : Group → List Step → ℕ → List (List ℕ) → List (List ℕ × List ℕ)
 images_from group steps p [] = []
 images_from group steps p (name ∷ names) =
-    image_files name (memory_in (state_after group steps p)) (prints (entries steps p)) ++ images_from group steps (suc p) names
+    image_files name (memory_in (process_after group steps p)) (prints (entries steps p)) ++ images_from group steps (suc p) names
 
 abbrev pub images : Group → List Step → List (List ℕ × List ℕ)
 images group steps = images_from group steps 0 group.names
@@ -42,9 +42,9 @@ images_of asked group done = if asked && is_none done.full then images group don
 -- ---- files that were not all written
 
 -- the first n of these files, and the next one with its first m bytes
-abbrev pub part_of : List (List ℕ × List ℕ) → ℕ → ℕ → List (List ℕ × List ℕ)
-part_of files n m = take n files ++ map (λ file. (file.0, take m file.1)) (take 1 (drop n files))
+abbrev pub made_in_part : List (List ℕ × List ℕ) → ℕ → ℕ → List (List ℕ × List ℕ)
+made_in_part files n m = take n files ++ map (λ file. (file.0, take m file.1)) (take 1 (drop n files))
 
 -- none of these files was begun, or such a part of them was made
-abbrev pub IsPart : List (List ℕ × List ℕ) → Option Store → Option Store → Type 0
-IsPart files before after = (after ≡ before) ⊎ ((n m : ℕ) × (after ≡ with_files (part_of files n m) before))
+abbrev pub AreMadeInPart : List (List ℕ × List ℕ) → Option Store → Option Store → Type 0
+AreMadeInPart files before after = (after ≡ before) ⊎ ((n m : ℕ) × (after ≡ with_files (made_in_part files n m) before))

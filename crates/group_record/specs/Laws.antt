@@ -16,11 +16,11 @@ use Rattle.wasm_types.specs.Valid.{IsValid}
 use Rattle.guest_process.specs.Live.{Event}
 use Rattle.guest_process.specs.Start.{start}
 use Rattle.guest_process.specs.State.{State}
-use Rattle.group_world.specs.History.{Deliver, History, mailbox, nth, pool, sends, taken}
+use Rattle.group_world.specs.History.{Deliver, History, mailbox, nth, pool, sends, taken_count}
 use Rattle.group_world.specs.Laws.{Giver, Origin}
-use Rattle.group_record.specs.Run.{Group, Had, IsFront, Step, entries, history, run, size, state_after}
+use Rattle.group_record.specs.Run.{Group, Had, IsMoment, Step, entries, history, process_after, run, size}
 use Rattle.group_record.specs.Logs.{TellsEvents}
-use Rattle.group_record.specs.Answer.{begun, group_of}
+use Rattle.group_record.specs.Answer.{first_states, group_of}
 
 -- a group of 1 to 16 named processes of valid modules, before its first event
 pub record IsBegun (group : Group) : Type 0 where
@@ -34,16 +34,16 @@ pub record IsBegun (group : Group) : Type 0 where
 -- schedule's items are in range for it
 abbrev pub Beginning : Type 0
 Beginning = (schedule : Schedule) (modules : List Module) (first : List State) → IsWellFormed schedule
-    → length modules ≡ length schedule.processes → All IsValid modules → begun schedule modules ≡ Ok first
+    → length modules ≡ length schedule.processes → All IsValid modules → first_states schedule modules ≡ Ok first
     → IsBegun (group_of schedule first) × All (IsInRange (size (group_of schedule first))) schedule.items
 
 -- at each moment of a run each log tells the events of its process
 abbrev pub Agreement : Type 0
 Agreement = (group : Group) (items : List Item) → IsBegun group → All (IsInRange (size group)) items
-    → (steps : List Step) → IsFront steps (run group items).steps → (p : ℕ) → p < size group → TellsEvents group steps p
+    → (steps : List Step) → IsMoment steps (run group items).steps → (p : ℕ) → p < size group → TellsEvents group steps p
 
 -- the entry names this send of process q, and a first part of what the send sent out came in
-pub record Names (e : Entry) (q : ℕ) (sent : Entry) : Type 0 where
+pub record TellsSend (e : Entry) (q : ℕ) (sent : Entry) : Type 0 where
   pub tag : e.tag ≡ Some (record { sender = q; clock = sent.clock })
   pub payload : e.incoming ≡ take e.call.a1 sent.outgoing
 
@@ -53,19 +53,19 @@ pub record IsSend (count : ℕ) (h : History) (q n p : ℕ) (e : Entry) : Type 0
   pub sent : Entry
   pub is : nth (sends count h q) n ≡ Some sent
   pub to : sent.call.a0 ≡ p
-  pub named : sent.clock ≤ 2 ^ 62 → Names e q sent
+  pub named : sent.clock ≤ 2 ^ 62 → TellsSend e q sent
 
 -- the datagram that an event took: it came first in the mailbox, and the event tells its tag and a first
 -- part of its payload; it came from outside or was sent; an act gave it in its turn; and where that act
 -- delivers it, it had been sent before, and the sender's log told it by then
-pub record Takes (count : ℕ) (early : List Step) (p : ℕ) (e : Event) : Type 0 where
+pub record TakesDatagram (count : ℕ) (early : List Step) (p : ℕ) (e : Event) : Type 0 where
   pub bytes : List ℕ
   pub later : List (List ℕ)
   pub first : mailbox count (history early) p ≡ bytes ∷ later
   pub tag : e.entry.tag ≡ (read_datagram count bytes).0
   pub payload : e.entry.incoming ≡ take e.entry.call.a1 (read_datagram count bytes).1
   pub origin : Origin count (history early) p bytes
-  pub giver : Giver count (history early) p (taken (history early) p) bytes
+  pub giver : Giver count (history early) p (taken_count (history early) p) bytes
   pub sent : (q n : ℕ) → giver.act ≡ Deliver q n → IsSend count giver.earlier q n p e.entry
   pub told : (q n : ℕ) (is : giver.act ≡ Deliver q n) → Contains (entries early q) (sent q n is).sent
 
@@ -73,22 +73,22 @@ pub record Takes (count : ℕ) (early : List Step) (p : ℕ) (e : Event) : Type 
 abbrev pub Delivery : Type 0
 Delivery = (group : Group) (items : List Item) → IsBegun group → All (IsInRange (size group)) items
     → (later early : List Step) (p : ℕ) (e : Event) → (run group items).steps ≡ later ++ (Had p e ∷ early) → IsTrue (is_taken e.entry)
-    → Takes (size group) early p e
+    → TakesDatagram (size group) early p e
 
 -- ---- what is there is taken
 
-abbrev pub receives : Option Kind → Bool
-receives (Some Recv) = true
-receives (Some TryRecv) = true
-receives _ = false
+abbrev pub takes_datagrams : Option Kind → Bool
+takes_datagrams (Some Recv) = true
+takes_datagrams (Some TryRecv) = true
+takes_datagrams _ = false
 
 -- an event of recv or try_recv takes a datagram where one waits, unless its arguments were bad in the state
 -- in which it came
 abbrev pub TakesWaiting : Type 0
 TakesWaiting = (group : Group) (items : List Item) → IsBegun group → All (IsInRange (size group)) items
     → (later early : List Step) (p : ℕ) (e : Event) → (run group items).steps ≡ later ++ (Had p e ∷ early)
-    → (S : State) → state_after group early p ≡ Some S
-    → IsTrue (receives (kind_numbered e.entry.call.kind)) → IsTrue (is_good e.entry.call S.store.memory)
+    → (S : State) → process_after group early p ≡ Some S
+    → IsTrue (takes_datagrams (kind_numbered e.entry.call.kind)) → IsTrue (is_good e.entry.call S.store.memory)
     → (bytes : List ℕ) (others : List (List ℕ)) → mailbox (size group) (history early) p ≡ bytes ∷ others → IsTrue (is_taken e.entry)
 
 -- an event of random takes as many of the first bytes of the pool as it asks for
@@ -105,5 +105,5 @@ DrawsIf false early p e = drawn e.entry ≡ 0
 abbrev pub TakesDrawn : Type 0
 TakesDrawn = (group : Group) (items : List Item) → IsBegun group → All (IsInRange (size group)) items
     → (later early : List Step) (p : ℕ) (e : Event) → (run group items).steps ≡ later ++ (Had p e ∷ early)
-    → (S : State) → state_after group early p ≡ Some S → kind_numbered e.entry.call.kind ≡ Some Random
+    → (S : State) → process_after group early p ≡ Some S → kind_numbered e.entry.call.kind ≡ Some Random
     → DrawsIf (is_good e.entry.call S.store.memory) early p e

@@ -4,7 +4,7 @@ use Rattle.lib_calls.specs.declared.entry.Entry.{Entry}
 use Rattle.call_log.specs.Log.{entries_of, head_at, rest_of}
 use Rattle.guest_process.specs.Replay.{accepted, replayed}
 use Rattle.guest_process.specs.State.{State}
-use Rattle.group_record.specs.Run.{Group, Step, entries, head_of, log_of, states}
+use Rattle.group_record.specs.Run.{Group, Step, entries, head_of_log, log_of, process_states}
 
 -- the file of a process's log
 abbrev pub log_name : List ℕ → List ℕ
@@ -25,11 +25,11 @@ logs group steps = files_of group (log_of group steps)
 
 -- the bytes are a log of process p whose entries are these events', each is accepted where it comes, and
 -- after each n of them the replay is in the recorded state
-pub record IsRecorded (group : Group) (p : ℕ) (bytes : List ℕ) (es : List Entry) (after : List State) : Type 0 where
+pub record IsLogOfRun (group : Group) (p : ℕ) (bytes : List ℕ) (es : List Entry) (after : List State) : Type 0 where
   pub first : State
   pub begun : slice_get group.first p ≡ Some first
   pub left : List ℕ
-  pub head : head_at bytes ≡ Some (head_of group p, left)
+  pub head : head_at bytes ≡ Some (head_of_log group p, left)
   pub entries : entries_of left ≡ es
   pub whole : rest_of left ≡ []
   pub accepted : accepted first es ≡ length es
@@ -37,4 +37,4 @@ pub record IsRecorded (group : Group) (p : ℕ) (bytes : List ℕ) (es : List En
 
 -- the log of process p after some steps tells its events
 abbrev pub TellsEvents : Group → List Step → ℕ → Type 0
-TellsEvents group steps p = IsRecorded group p (log_of group steps p) (entries steps p) (states steps p)
+TellsEvents group steps p = IsLogOfRun group p (log_of group steps p) (entries steps p) (process_states steps p)

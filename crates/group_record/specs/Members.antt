@@ -14,7 +14,7 @@ use Rattle.group_record.specs.declared.member.Member.{Member}
 use Rattle.group_record.specs.Logs.{log_name}
 
 -- a member that has begun in this state as process p of a group of `count` and has had no event
-pub record IsStarted (state : State) (name : List ℕ) (p count : ℕ) (m : Member) : Type 0 where
+pub record IsFreshMember (state : State) (name : List ℕ) (p count : ℕ) (m : Member) : Type 0 where
   pub process : m.process ≡ Some state
   pub events : state.events ≡ 0
   pub group : state.count ≡ count
@@ -24,7 +24,7 @@ pub record IsStarted (state : State) (name : List ℕ) (p count : ℕ) (m : Memb
 
 -- a member began, or a segment of its module ends past the module's table or memory
 abbrev pub Starts : Option State → List ℕ → ℕ → ℕ → Result Member RecordError → Type 0
-Starts first name p count (Ok m) = (state : State) × (first ≡ Some state) × IsStarted state name p count m
+Starts first name p count (Ok m) = (state : State) × (first ≡ Some state) × IsFreshMember state name p count m
 Starts first name p count (Err (errors.BadSegment q)) = (q ≡ p) × (first ≡ None)
 Starts first name p count (Err (errors.LogFull item)) = ⊥
 Starts first name p count (Err errors.WriteFault) = ⊥
@@ -47,13 +47,13 @@ abbrev pub IsCut : List ℕ → List ℕ → Option Store → Option Store → T
 IsCut name bytes before after = (after ≡ before) ⊎ ((n : ℕ) × (after ≡ with_piece name (take n bytes) before))
 
 -- the log has room for these bytes
-abbrev pub HasRoom : Member → List ℕ → Type 0
-HasRoom m bytes = m.size + length bytes ≤ most_log
+abbrev pub LogHasRoom : Member → List ℕ → Type 0
+LogHasRoom m bytes = m.size + length bytes ≤ most_log
 
 -- these bytes were written behind the log, in the item with this number, or why they were not
 abbrev pub Writes : {T : Type 0} → Member → ℕ → List ℕ → Result T RecordError → Option Store → Option Store → Type 0
-Writes m number bytes (Ok _) before after = HasRoom m bytes × (after ≡ with_piece (string_bytes m.log) bytes before)
+Writes m number bytes (Ok _) before after = LogHasRoom m bytes × (after ≡ with_piece (string_bytes m.log) bytes before)
 Writes m number bytes (Err (errors.BadSegment p)) before after = ⊥
 Writes m number bytes (Err (errors.LogFull item)) before after = (item ≡ number) × (most_log < m.size + length bytes) × (after ≡ before)
-Writes m number bytes (Err errors.WriteFault) before after = HasRoom m bytes × IsCut (string_bytes m.log) bytes before after
-Writes m number bytes (Err errors.NoMemory) before after = (after ≡ before) ⊎ (HasRoom m bytes × (after ≡ with_piece (string_bytes m.log) bytes before))
+Writes m number bytes (Err errors.WriteFault) before after = LogHasRoom m bytes × IsCut (string_bytes m.log) bytes before after
+Writes m number bytes (Err errors.NoMemory) before after = (after ≡ before) ⊎ (LogHasRoom m bytes × (after ≡ with_piece (string_bytes m.log) bytes before))

@@ -12,7 +12,7 @@ use Rattle.guest_process.specs.Live.{Env, Event, live}
 use Rattle.guest_process.specs.OneEvent.{Agrees as IsTold}
 use Rattle.guest_process.specs.State.{State}
 use Rattle.group_world.specs.Laws.{CanBe}
-use Rattle.group_world.specs.World.{World, after, after_event, place_of, world_after}
+use Rattle.group_world.specs.World.{World, after_event, surroundings_of, with_act, world_after}
 use Rattle.group_world.specs.History.{Deliver, Inject, Clock, Random, Signal, Kill}
 use Rattle.lossy_net.specs.Network.{nth_of, sent_by}
 use Rattle.schedule_text.specs.declared.item.Item.{Item}
@@ -24,10 +24,10 @@ use Rattle.group_record.specs.declared.member.Member.{Member}
 use Rattle.group_record.specs.declared.recorder.Recorder.{Recorder}
 use Rattle.group_record.specs.declared.summary.Summary.{Summary}
 use Rattle.group_record.specs.declared.summary.SummaryLine.{SummaryLine}
-use Rattle.group_record.specs.Run.{Group, Progress, Step, entries, history, log_of, name_of, runs, size, state_after}
+use Rattle.group_record.specs.Run.{Group, Progress, Step, entries, history, is_running_process, log_of, name_of, process_after, size}
 use Rattle.group_record.specs.Logs.{log_name, logs}
 use Rattle.group_record.specs.Files.{IsStopped}
-use Rattle.group_record.specs.Images.{IsPart, images_of}
+use Rattle.group_record.specs.Images.{AreMadeInPart, images_of}
 use Rattle.group_record.specs.Members.{kept}
 use Rattle.group_record.specs.Answer.{IsSummary}
 
@@ -49,7 +49,7 @@ HasCountsFor n r = counted r + n < 2 ^ 64
 -- ---- one event
 
 -- the entry is that of the event of this try, which it tells, and the event takes what is there
-pub record Tells (S : State) (thread : ℕ) (env : Env) (entry : Entry) : Type 0 where
+pub record IsLiveEntry (S : State) (thread : ℕ) (env : Env) (entry : Entry) : Type 0 where
   pub event : Event
   pub lives : live S thread env ≡ Some event
   pub same : entry ≡ event.entry
@@ -63,7 +63,7 @@ pub record Tells (S : State) (thread : ℕ) (env : Env) (entry : Entry) : Type 0
 -- an entry that was made is that of the event, and none was made where there is no event
 abbrev pub IsEntryOf : State → ℕ → Env → Option Entry → Type 0
 IsEntryOf S thread env None = live S thread env ≡ None
-IsEntryOf S thread env (Some entry) = Tells S thread env entry
+IsEntryOf S thread env (Some entry) = IsLiveEntry S thread env entry
 
 -- what is kept of the prints, where process p printed this more
 abbrev pub with_print : List (List ℕ) → ℕ → List ℕ → List (List ℕ)
@@ -81,7 +81,7 @@ pub record Kept (old : Recorder) (p : ℕ) (m : Member) (e : Entry) (new : Recor
 
 -- process p runs and was not killed
 abbrev pub is_spared : List Member → World → ℕ → Bool
-is_spared members w p = runs (option_and_then (λ m. m.process) (slice_get members p)) && not (place_of w p).killed
+is_spared members w p = is_running_process (option_and_then (λ m. m.process) (slice_get members p)) && not (surroundings_of w p).killed
 
 -- whether an item that is not `run` acts
 abbrev pub acts : List Member → World → Item → Bool
@@ -96,12 +96,12 @@ acts members w (item.Kill p) = is_spared members w p
 -- the world after it
 abbrev pub after_act : List Member → World → Item → World
 after_act members w (item.Run p thread times) = w
-after_act members w (item.Deliver p n) = after w (Deliver p n)
-after_act members w (item.Inject p bytes) = after w (Inject p bytes)
-after_act members w (item.Clock p value) = after w (Clock p (cast_unsigned w64 value))
-after_act members w (item.Random p bytes) = after w (Random p bytes)
-after_act members w (item.Signal p s) = after w (Signal p s)
-after_act members w (item.Kill p) = if is_spared members w p then after w (Kill p) else w
+after_act members w (item.Deliver p n) = with_act w (Deliver p n)
+after_act members w (item.Inject p bytes) = with_act w (Inject p bytes)
+after_act members w (item.Clock p value) = with_act w (Clock p (cast_unsigned w64 value))
+after_act members w (item.Random p bytes) = with_act w (Random p bytes)
+after_act members w (item.Signal p s) = with_act w (Signal p s)
+after_act members w (item.Kill p) = if is_spared members w p then with_act w (Kill p) else w
 
 -- a recorder after an item that acted, or was idle, with this world
 abbrev pub acted_on : Bool → World → Recorder → Recorder
@@ -114,7 +114,7 @@ acted_on false w r = record r { world = w; idle = r.idle + 1 }
 pub record IsMember (group : Group) (steps : List Step) (p : ℕ) (m : Member) : Type 0 where
   pub state : State
   pub process : m.process ≡ Some state
-  pub after : state_after group steps p ≡ Some state
+  pub after : process_after group steps p ≡ Some state
   pub events : state.events ≡ length (entries steps p)
   pub count : state.count ≡ size group
   pub log : string_bytes m.log ≡ log_name (name_of group p)
@@ -157,7 +157,8 @@ Comes group next (Err errors.NoMemory) before after = IsStopped group next.steps
 -- wherever the recorder stood, it is to come as far as what comes next there
 abbrev pub Does : (Group → Progress → Progress) → Recorder → Result Recorder RecordError → Option Store → Option Store → Type 0
 Does next recorder result old new =
-    (group : Group) (done : Progress) (before : Option Store) → KeepsUp group done recorder → FilesOf group done before old → Comes group (next group done) result before new
+    (group : Group) (done : Progress) (before : Option Store) → KeepsUp group done recorder → FilesOf group done before old
+    → Comes group (next group done) result before new
 
 -- for how many of so many processes it keeps what they print: for all where images are asked for, else for none
 abbrev pub kept_for : Bool → ℕ → ℕ
@@ -170,8 +171,8 @@ abbrev pub MakesFiles : List (List ℕ × List ℕ) → Result ⊤ RecordError �
 MakesFiles files (Ok _) before after = after ≡ with_files files before
 MakesFiles files (Err (errors.BadSegment p)) before after = ⊥
 MakesFiles files (Err (errors.LogFull item)) before after = ⊥
-MakesFiles files (Err errors.WriteFault) before after = IsPart files before after
-MakesFiles files (Err errors.NoMemory) before after = IsPart files before after
+MakesFiles files (Err errors.WriteFault) before after = AreMadeInPart files before after
+MakesFiles files (Err errors.NoMemory) before after = AreMadeInPart files before after
 
 -- the images of the group up to where the recorder stands were to be made, if they were asked for
 abbrev pub MakesImages : Bool → List ProcessLine → Recorder → Result ⊤ RecordError → Option Store → Option Store → Type 0
@@ -182,8 +183,8 @@ MakesImages asked lines recorder result before after =
 -- ---- what is said of it
 
 -- the line of a process in this state
-abbrev pub line_at : List ℕ → Bool → State → SummaryLine
-line_at name killed S = record { name = name; events = S.events; end = S.end; killed = killed }
+abbrev pub summary_line_of : List ℕ → Bool → State → SummaryLine
+summary_line_of name killed S = record { name = name; events = S.events; end = S.end; killed = killed }
 
 -- it is what is to be said of the run up to where the recorder stands
 abbrev pub Sums : List ProcessLine → Recorder → Summary → Type 0

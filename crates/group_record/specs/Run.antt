@@ -43,20 +43,20 @@ abbrev pub entries : List Step → ℕ → List Entry
 entries steps p = world.entries (history steps) p
 
 -- the states after them
-abbrev pub states : List Step → ℕ → List State
-states [] p = []
-states (Had q e ∷ steps) p = put_last_if (q == p) (states steps p) e.state
-states (Did act ∷ steps) p = states steps p
+abbrev pub process_states : List Step → ℕ → List State
+process_states [] p = []
+process_states (Had q e ∷ steps) p = put_last_if (q == p) (process_states steps p) e.state
+process_states (Did act ∷ steps) p = process_states steps p
 
 -- the state of a process after some steps
-abbrev pub state_after : Group → List Step → ℕ → Option State
-state_after group [] p = slice_get group.first p
-state_after group (Had q e ∷ steps) p = if q == p then Some e.state else state_after group steps p
-state_after group (Did act ∷ steps) p = state_after group steps p
+abbrev pub process_after : Group → List Step → ℕ → Option State
+process_after group [] p = slice_get group.first p
+process_after group (Had q e ∷ steps) p = if q == p then Some e.state else process_after group steps p
+process_after group (Did act ∷ steps) p = process_after group steps p
 
 -- the world around a process after some steps, by counting
-abbrev pub around : ℕ → List Step → ℕ → Env
-around count steps p = record {
+abbrev pub world_around : ℕ → List Step → ℕ → Env
+world_around count steps p = record {
   mailbox = mailbox count (history steps) p;
   pool = pool (history steps) p;
   time = time (history steps) p;
@@ -69,16 +69,16 @@ around count steps p = record {
 abbrev pub name_of : Group → ℕ → List ℕ
 name_of group p = slice_index_or group.names p []
 
-abbrev pub head_of : Group → ℕ → Head
-head_of group p = record { count = size group; process = p; name = name_of group p }
+abbrev pub head_of_log : Group → ℕ → Head
+head_of_log group p = record { count = size group; process = p; name = name_of group p }
 
 -- the log of a process: its head, and its events' entries
 abbrev pub log_of : Group → List Step → ℕ → List ℕ
-log_of group steps p = head_bytes (head_of group p) ++ encodings (entries steps p)
+log_of group steps p = head_bytes (head_of_log group p) ++ encodings (entries steps p)
 
 -- the log stays within the limit with this entry
-abbrev pub has_room : Group → List Step → ℕ → Entry → Bool
-has_room group steps p e = nat_le (length (log_of group steps p ++ encoding e)) most_log
+abbrev pub log_has_room : Group → List Step → ℕ → Entry → Bool
+log_has_room group steps p e = nat_le (length (log_of group steps p ++ encoding e)) most_log
 
 -- ---- the run
 
@@ -92,33 +92,33 @@ pub record Progress : Type 0 where
 abbrev pub nothing_yet : Progress
 nothing_yet = record { steps = []; idle = 0; full = None }
 
-abbrev pub acted : Step → Progress → Progress
-acted step done = record done { steps = step ∷ done.steps }
+abbrev pub with_step : Step → Progress → Progress
+with_step step done = record done { steps = step ∷ done.steps }
 
 abbrev pub idled : Progress → Progress
 idled done = record done { idle = suc done.idle }
 
-abbrev pub acted_if : Bool → Step → Progress → Progress
-acted_if acts step done = if acts then acted step done else idled done
+abbrev pub with_step_if : Bool → Step → Progress → Progress
+with_step_if acts step done = if acts then with_step step done else idled done
 
-abbrev pub filled : ℕ → Progress → Progress
-filled number done = record done { full = Some number }
+abbrev pub with_full_log : ℕ → Progress → Progress
+with_full_log number done = record done { full = Some number }
 
 -- what follows, unless a log is full
 abbrev pub unless_full : Progress → Progress → Progress
 unless_full done next = if is_some done.full then done else next
 
 -- the event that a try of a thread of a process comes to, where it isn't idle
-abbrev pub event_of : Group → List Step → ℕ → ℕ → Option Event
-event_of group steps p thread = option_and_then (λ S. live S thread (around (size group) steps p)) (state_after group steps p)
+abbrev pub event_of_try : Group → List Step → ℕ → ℕ → Option Event
+event_of_try group steps p thread = option_and_then (λ S. live S thread (world_around (size group) steps p)) (process_after group steps p)
 
 abbrev pub had : Group → ℕ → ℕ → Option Event → Progress → Progress
 had group number p None done = idled done
-had group number p (Some e) done = if has_room group done.steps p e.entry then acted (Had p e) done else filled number done
+had group number p (Some e) done = if log_has_room group done.steps p e.entry then with_step (Had p e) done else with_full_log number done
 
 -- one try, in the item with this number
 abbrev pub attempt : Group → ℕ → ℕ → ℕ → Progress → Progress
-attempt group number p thread done = unless_full done (had group number p (event_of group done.steps p thread) done)
+attempt group number p thread done = unless_full done (had group number p (event_of_try group done.steps p thread) done)
 
 -- so many tries, each by itself
 unfoldable pub attempts : Group → ℕ → ℕ → ℕ → ℕ → Progress → Progress
@@ -129,26 +129,26 @@ attempts group number p thread (suc n) done = attempts group number p thread n (
 abbrev pub has_sent : ℕ → List Step → ℕ → ℕ → Bool
 has_sent count steps p n = is_some (nth (sends count (history steps) p) n)
 
-abbrev pub runs : Option State → Bool
-runs None = false
-runs (Some S) = is_running S
+abbrev pub is_running_process : Option State → Bool
+is_running_process None = false
+is_running_process (Some S) = is_running S
 
 -- a process runs and was not killed
 abbrev pub can_be_killed : Group → List Step → ℕ → Bool
-can_be_killed group steps p = runs (state_after group steps p) && not (is_killed (history steps) p)
+can_be_killed group steps p = is_running_process (process_after group steps p) && not (is_killed (history steps) p)
 
-abbrev pub does : Group → ℕ → Item → Progress → Progress
-does group number (item.Run p thread times) done = attempts group number p thread times done
-does group number (item.Deliver p n) done = acted_if (has_sent (size group) done.steps p n) (Did (world.Deliver p n)) done
-does group number (item.Inject p bytes) done = acted (Did (world.Inject p bytes)) done
-does group number (item.Clock p value) done = acted (Did (world.Clock p (cast_unsigned w64 value))) done
-does group number (item.Random p bytes) done = acted (Did (world.Random p bytes)) done
-does group number (item.Signal p s) done = acted (Did (world.Signal p s)) done
-does group number (item.Kill p) done = acted_if (can_be_killed group done.steps p) (Did (world.Kill p)) done
+abbrev pub done_by_item : Group → ℕ → Item → Progress → Progress
+done_by_item group number (item.Run p thread times) done = attempts group number p thread times done
+done_by_item group number (item.Deliver p n) done = with_step_if (has_sent (size group) done.steps p n) (Did (world.Deliver p n)) done
+done_by_item group number (item.Inject p bytes) done = with_step (Did (world.Inject p bytes)) done
+done_by_item group number (item.Clock p value) done = with_step (Did (world.Clock p (cast_unsigned w64 value))) done
+done_by_item group number (item.Random p bytes) done = with_step (Did (world.Random p bytes)) done
+done_by_item group number (item.Signal p s) done = with_step (Did (world.Signal p s)) done
+done_by_item group number (item.Kill p) done = with_step_if (can_be_killed group done.steps p) (Did (world.Kill p)) done
 
 -- an item with its number, from 1
 abbrev pub after_item : Group → ℕ → Item → Progress → Progress
-after_item group number i done = unless_full done (does group number i done)
+after_item group number i done = unless_full done (done_by_item group number i done)
 
 abbrev pub after_items : Group → ℕ → List Item → Progress → Progress
 after_items group number [] done = done
@@ -159,5 +159,5 @@ abbrev pub run : Group → List Item → Progress
 run group items = after_items group 1 items nothing_yet
 
 -- some steps that were all at some moment of the run
-abbrev pub IsFront : List Step → List Step → Type 0
-IsFront early steps = (later : List Step) × (steps ≡ later ++ early)
+abbrev pub IsMoment : List Step → List Step → Type 0
+IsMoment early steps = (later : List Step) × (steps ≡ later ++ early)

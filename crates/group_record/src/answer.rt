@@ -2,8 +2,8 @@
 ghost use Rattle.std.specs.Prelude.{◌≡◌, ◌<◌, IfOk, option_map, IfSome, OnSome, nat_lt, nat_le, take, length, if◌then◌else◌, Some, None};
 ghost use Rattle.call_table.specs.Table.{kind_numbered};
 ghost use Rattle.guest_process.specs.Answers.{replies};
-ghost use Rattle.guest_process.specs.Live.{cut};
-ghost use Rattle.group_world.specs.World.{place_of, size};
+ghost use Rattle.guest_process.specs.Live.{cut_datagram};
+ghost use Rattle.group_world.specs.World.{size, surroundings_of};
 ghost use Rattle.group_record.specs.Around.{answer_by, drawn_of, env_of, seen, waking_at, world_answer};
 
 use fri_bytes::Bytes;
@@ -111,7 +111,7 @@ fn drawn(alloc: Global, count: u64, pool: &[u8]) -> Result<Option<Answer>, Alloc
 
 // The first datagram that waits, cut to so many bytes.
 fn taken(alloc: Global, cap: u64, front: Option<Front<'_>>) -> Result<Option<Answer>, AllocError>
-    ensures { IfOk result (λ found. found ≡ option_map (cut cap) (option_map seen front.entry)) }
+    ensures { IfOk result (λ found. found ≡ option_map (cut_datagram cap) (option_map seen front.entry)) }
 {
     let Some(front) = front else {
         return Ok(None);

@@ -4,8 +4,8 @@ ghost use Rattle.fri_outside.specs.Outside.{NoneFell};
 ghost use Rattle.schedule_text.specs.Schedule.{IsProcess};
 ghost use Rattle.wasm_types.specs.Modules.{module_of};
 ghost use Rattle.group_world.specs.World.{new_world};
-ghost use Rattle.group_record.specs.Answer.{HasWriteCause, begun, begun_from};
-ghost use Rattle.group_record.specs.Begun.{Begins, BeginsAll, IsNewRecorder};
+ghost use Rattle.group_record.specs.Answer.{HasWriteCause, first_states, first_states_from};
+ghost use Rattle.group_record.specs.Begun.{BeginsAll, GroupBegins, IsNewRecorder};
 ghost use Rattle.group_record.specs.Recorded.{kept_for};
 
 use crate::error::RecordError;
@@ -28,7 +28,7 @@ pub(crate) fn begin<'m, F: Files>(
     files: &mut F,
 ) -> Result<Recorder<'m>, RecordError>
     requires { length modules.now ≡ length schedule.now.processes }
-    ensures begins { Begins schedule.now (begun schedule.now (map module_of modules.now)) result (F.told files.old) (F.told files.new) }
+    ensures begins { GroupBegins schedule.now (first_states schedule.now (map module_of modules.now)) result (F.told files.old) (F.told files.new) }
     ensures prints { IfOk result (λ r. length r.prints ≡ kept_for images (length schedule.now.processes)) }
     ensures counts { NoneFell (F.counts files.old) (F.counts files.new) }
     ensures cause { HasWriteCause (F.counts files.old) (F.counts files.new) result }
@@ -49,7 +49,7 @@ fn begin_members<'m>(
     requires few { length lines.now ≤ 16 }
     requires lines { All IsProcess lines.now }
     ensures { BeginsAll (λ members. members.items) (map (λ line. line.name) lines.now)
-        (begun_from (length lines.now) 0 (map module_of modules.now)) result }
+        (first_states_from (length lines.now) 0 (map module_of modules.now)) result }
 {
     let count = lines.len() as u32;
     let mut members = Vec::new(alloc);

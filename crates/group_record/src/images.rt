@@ -5,7 +5,7 @@ ghost use Rattle.fri_outside.specs.Several.{with_files};
 ghost use Rattle.fri_text.specs.Name.{is_name};
 ghost use Rattle.schedule_text.specs.Schedule.{IsProcess};
 ghost use Rattle.group_record.specs.Answer.{HasWriteCause};
-ghost use Rattle.group_record.specs.Images.{IsPart, image_files};
+ghost use Rattle.group_record.specs.Images.{AreMadeInPart, image_files};
 ghost use Rattle.group_record.specs.Recorded.{MakesImages, kept_for};
 
 use crate::error::RecordError;
@@ -25,7 +25,7 @@ pub fn write_image<F: Files>(
 ) -> Result<(), WriteError>
     requires { IsTrue (is_name name.now) }
     ensures ok { OnOk result (F.told files.new ≡ with_files (image_files name.now memory.now printed.now) (F.told files.old)) }
-    ensures err { OnErr result (IsPart (image_files name.now memory.now printed.now) (F.told files.old) (F.told files.new)) }
+    ensures err { OnErr result (AreMadeInPart (image_files name.now memory.now printed.now) (F.told files.old) (F.told files.new)) }
     ensures counts { NoneFell (F.counts files.old) (F.counts files.new) }
     ensures cause { WriteRaises (F.counts files.old) (F.counts files.new) result }
 {
@@ -43,7 +43,7 @@ fn write_file<F: Files>(
 ) -> Result<(), WriteError>
     requires { IsTrue (is_name name.now) }
     ensures ok { OnOk result (F.told files.new ≡ with_file (name.now ++ ending.now) bytes.now (F.told files.old)) }
-    ensures err { OnErr result (IsPart ((name.now ++ ending.now, bytes.now) ∷ []) (F.told files.old) (F.told files.new)) }
+    ensures err { OnErr result (AreMadeInPart ((name.now ++ ending.now, bytes.now) ∷ []) (F.told files.old) (F.told files.new)) }
     ensures counts { NoneFell (F.counts files.old) (F.counts files.new) }
     ensures cause { WriteRaises (F.counts files.old) (F.counts files.new) result }
 {

@@ -2,8 +2,8 @@
 ghost use Rattle.std.specs.Prelude.{◌≡◌, ◌<◌, ◌&&◌, not, IfOk, OnOk, length, if◌then◌else◌};
 ghost use Rattle.schedule_text.specs.Schedule.{IsInRange};
 ghost use Rattle.group_world.specs.History.{Kill};
-ghost use Rattle.group_world.specs.World.{after, place_of, size};
-ghost use Rattle.group_record.specs.Run.{runs as runs_of};
+ghost use Rattle.group_world.specs.World.{size, surroundings_of, with_act};
+ghost use Rattle.group_record.specs.Run.{is_running_process};
 ghost use Rattle.group_record.specs.Recorded.{acts, after_act, is_spared};
 
 use crate::member::Member;
@@ -51,7 +51,7 @@ fn kill(p: u32, members: &[Member<'_>], world: &mut World) -> bool
     requires around { p < size world.old }
     requires process { p < length members.now }
     ensures acts { result ≡ is_spared members.now world.old p }
-    ensures world { world.new ≡ (if is_spared members.now world.old p then after world.old (Kill p) else world.old) }
+    ensures world { world.new ≡ (if is_spared members.now world.old p then with_act world.old (Kill p) else world.old) }
 {
     if runs(&members[p as usize]) && !world.is_killed(p) {
         world.kill(p);
@@ -63,7 +63,7 @@ fn kill(p: u32, members: &[Member<'_>], world: &mut World) -> bool
 
 // Whether the process of a member runs.
 fn runs(member: &Member<'_>) -> bool
-    ensures { result ≡ runs_of member.now.process }
+    ensures { result ≡ is_running_process member.now.process }
 {
     match &member.process {
         Some(process) => process.end() == End::Running,

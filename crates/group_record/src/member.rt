@@ -42,19 +42,19 @@ impl<'m> Member<'m> {
     pub(crate) fn start(
         alloc: Global,
         line: &ProcessLine,
-        program: &'m ValidModule,
+        module: &'m ValidModule,
         p: u32,
         count: u32,
     ) -> Result<Member<'m>, RecordError>
         requires process { p < count }
         requires count { count ≤ 16 }
         requires line { IsProcess line.now }
-        ensures { Starts (start_of (module_of program.now) p count) line.now.name p count result }
+        ensures { Starts (start_of (module_of «module».now) p count) line.now.name p count result }
     {
         counting();
         let log = log_file(alloc, line.name.as_slice())?;
         let head = log_head(alloc, line.name.as_slice(), p, count)?;
-        match Process::start(alloc, program, p, count) {
+        match Process::start(alloc, module, p, count) {
             Ok(process) => Ok(Member {
                 log,
                 size: head.len(),

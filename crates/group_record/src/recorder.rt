@@ -6,7 +6,7 @@ ghost use Rattle.lib_calls.specs.Entry.{IsShaped};
 ghost use Rattle.lib_calls.specs.Traffic.{drawn as drawn_of, is_taken as is_taken_of};
 ghost use Rattle.lossy_net.specs.Network.{mailbox_of};
 ghost use Rattle.schedule_text.specs.Schedule.{IsInRange};
-ghost use Rattle.group_world.specs.World.{place_of, size};
+ghost use Rattle.group_world.specs.World.{size, surroundings_of};
 ghost use Rattle.group_record.specs.declared.member.Member.{Member as MemberOf};
 ghost use Rattle.group_record.specs.Run.{after_item, after_items, attempt, attempts};
 ghost use Rattle.group_record.specs.Recorded.{Does, HasCountsFor, Kept, UnderWay, acted_on, acts, after_act, counted, counted_of};
@@ -166,7 +166,7 @@ impl<'m> Recorder<'m> {
         requires shape { IsShaped entry.now }
         requires event { (m : MemberOf) → slice_get self.members.items p ≡ Some m → CanKeep m entry.now }
         requires datagram { IsTrue (is_taken_of entry.now) → 1 ≤ length (mailbox_of self.world.net p) }
-        requires drawn { drawn_of entry.now ≤ length (place_of self.world p).pool }
+        requires drawn { drawn_of entry.now ≤ length (surroundings_of self.world p).pool }
         requires few { HasCountsFor 1 self }
         ensures writes { (m : MemberOf) → slice_get self.entry.members.items p ≡ Some m →
             Writes m number (encoding entry.now) result (F.told files.old) (F.told files.new) }

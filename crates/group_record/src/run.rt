@@ -2,7 +2,7 @@
 ghost use Rattle.std.specs.Prelude.{◌≡◌, length, map};
 ghost use Rattle.fri_outside.specs.Outside.{NoneFell};
 ghost use Rattle.wasm_types.specs.Modules.{module_of};
-ghost use Rattle.group_record.specs.Answer.{Answers, HasWriteCause, begun};
+ghost use Rattle.group_record.specs.Answer.{HasWriteCause, RecordAnswers, first_states};
 
 use crate::begin::begin;
 use crate::error::RecordError;
@@ -18,7 +18,7 @@ use wasm_types::ValidModule;
 /// begin; then the logs are made and their heads written, each in order of the processes; then each
 /// event's entry is appended to its log before the next event is tried. With `images`, the two files of each
 /// process's image are made after the whole run, in the same order. After a call on the files that failed none
-/// is made. `Answers` says how the files stand at each answer.
+/// is made. `RecordAnswers` says how the files stand at each answer.
 pub fn run_record<F: Files>(
     alloc: Global,
     schedule: &Schedule,
@@ -27,7 +27,7 @@ pub fn run_record<F: Files>(
     images: bool,
 ) -> Result<Summary, RecordError>
     requires { length modules.now ≡ length schedule.now.processes }
-    ensures answers { Answers schedule.now images (begun schedule.now (map module_of modules.now)) result (F.told files.old) (F.told files.new) }
+    ensures answers { RecordAnswers schedule.now images (first_states schedule.now (map module_of modules.now)) result (F.told files.old) (F.told files.new) }
     ensures counts { NoneFell (F.counts files.old) (F.counts files.new) }
     ensures cause { HasWriteCause (F.counts files.old) (F.counts files.new) result }
 {

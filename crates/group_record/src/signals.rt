@@ -4,38 +4,44 @@ ghost use Rattle.call_table.specs.Table.{kind_numbered};
 ghost use Rattle.lib_calls.specs.Answer.{Answer};
 ghost use Rattle.guest_process.specs.Live.{lowest};
 ghost use Rattle.group_world.specs.World.{has_pending, size};
-ghost use Rattle.group_record.specs.Around.{ends, is_ready as is_ready_of, signal_with};
+ghost use Rattle.group_record.specs.Around.{is_ready as is_ready_of, kind_ends_process, signal_with};
 
 use group_world::World;
 use guest_process::Process;
 use lib_calls::{Call, Kind};
 
-/// The signal that is delivered with the answer to a call of thread t of process p, whatever the answer
+/// The signal that is delivered with the answer to a call of the thread of process p, whatever the answer
 /// is: the lowest that is pending and then has a handler, or 0. None is where the call ends the process.
-pub(crate) fn signal_after(process: &Process<'_>, t: u16, call: &Call, world: &World, p: u32) -> u8
+pub(crate) fn signal_after(
+    process: &Process<'_>,
+    thread: u16,
+    call: &Call,
+    world: &World,
+    p: u32,
+) -> u8
     requires { p < size world.now }
-    ensures { (a : Answer) → result ≡ signal_with process.now t a (kind_numbered call.now.kind) (has_pending world.now p) }
+    ensures { (a : Answer) → result ≡ signal_with process.now thread a (kind_numbered call.now.kind) (has_pending world.now p) }
 {
     if ends_process(call) {
         return 0;
     }
-    lowest_ready(process, t, world, p)
+    lowest_ready(process, thread, world, p)
 }
 
 // Whether the call ends the process.
 fn ends_process(call: &Call) -> bool
-    ensures { result ≡ ends (kind_numbered call.now.kind) }
+    ensures { result ≡ kind_ends_process (kind_numbered call.now.kind) }
 {
     matches!(Kind::from_number(call.kind), Some(Kind::Exit))
 }
 
 // The lowest signal that is pending and has a handler after the answer, or 0.
-fn lowest_ready(process: &Process<'_>, t: u16, world: &World, p: u32) -> u8
+fn lowest_ready(process: &Process<'_>, thread: u16, world: &World, p: u32) -> u8
     requires { p < size world.now }
-    ensures { (a : Answer) → result ≡ lowest (is_ready_of process.now t a (has_pending world.now p)) 31 1 }
+    ensures { (a : Answer) → result ≡ lowest (is_ready_of process.now thread a (has_pending world.now p)) 31 1 }
 {
     for s in 1..32 {
-        if is_ready(process, t, world, p, s) {
+        if is_ready(process, thread, world, p, s) {
             return s;
         }
     }
@@ -43,11 +49,11 @@ fn lowest_ready(process: &Process<'_>, t: u16, world: &World, p: u32) -> u8
 }
 
 // Whether the signal is pending and has a handler after the answer.
-fn is_ready(process: &Process<'_>, t: u16, world: &World, p: u32, s: u8) -> bool
+fn is_ready(process: &Process<'_>, thread: u16, world: &World, p: u32, s: u8) -> bool
     requires process { p < size world.now }
     requires first { 1 ≤ s }
     requires last { s ≤ 31 }
-    ensures { (a : Answer) → result ≡ is_ready_of process.now t a (has_pending world.now p) s }
+    ensures { (a : Answer) → result ≡ is_ready_of process.now thread a (has_pending world.now p) s }
 {
-    world.is_pending(p, s) && process.handles_after(t, s)
+    world.is_pending(p, s) && process.handles_after(thread, s)
 }

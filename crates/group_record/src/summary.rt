@@ -1,8 +1,8 @@
 // What is said of a recording.
 ghost use Rattle.std.specs.Prelude.{◌≡◌, ◌≤◌, IfOk, All, length, is_some, option_map, IsTrue, Some};
-ghost use Rattle.group_world.specs.World.{place_of, size};
+ghost use Rattle.group_world.specs.World.{size, surroundings_of};
 ghost use Rattle.group_record.specs.Answer.{IsSummary};
-ghost use Rattle.group_record.specs.Recorded.{Sums, line_at};
+ghost use Rattle.group_record.specs.Recorded.{Sums, summary_line_of};
 
 use crate::member::Member;
 use crate::recorder::Recorder;
@@ -64,7 +64,7 @@ fn line(
     killed: bool,
 ) -> Result<SummaryLine, AllocError>
     requires { IsTrue (is_some member.now.process) }
-    ensures { IfOk result (λ line. Some line ≡ option_map (line_at name.now killed) member.now.process) }
+    ensures { IfOk result (λ line. Some line ≡ option_map (summary_line_of name.now killed) member.now.process) }
 {
     let Some(process) = &member.process else {
         unreachable!();

@@ -2,10 +2,10 @@
 use Rattle.std.proofs.Common.{◌≡◌, ◌⊎◌, inl, inr, ℕ, zero, suc, ◌+◌, ◌*◌, ◌≤◌, List, [], ◌∷◌, length, drop, None, refl, sym, ap, ◌∙◌, arith}
 use Rattle.lib_calls.specs.declared.entry.Entry.{Entry}
 use Rattle.guest_process.specs.Replay.{Verdict, Diverged, left_over}
-use Rattle.group_order.specs.Order.{head_of}
+use Rattle.group_order.specs.Order.{first_clock}
 use Rattle.proc_replay.specs.Course.{AreTurns, Tells, ahead, turns}
 use Rattle.proc_replay.specs.Replaying.{Replaying, Move, Makes, Ends, Diverges, after, turn}
-use Rattle.group_state.specs.Place.{clock_in, clock_of, head}
+use Rattle.group_state.specs.Place.{clock_in, entry_clock, head}
 
 -- the turn makes the first event that is ahead
 record Made (r : Replaying) : Type 0 where
@@ -49,10 +49,10 @@ module _ (course : AreTurns) where
     | inr s ↦ ap (λ (q : Replaying). drop n (ahead q)) s.stays ∙ ap (drop n) s.none ∙ drop_none n ∙ sym (drop_none (suc n)) ∙ sym (ap (drop (suc n)) s.none)
   ]
 
-  pub head_ahead : (r : Replaying) → head r ≡ head_of clock_of (ahead r)
+  pub head_ahead : (r : Replaying) → head r ≡ first_clock entry_clock (ahead r)
   head_ahead r = elim (turn_cases r) [
-    | inl m ↦ ap clock_in m.makes ∙ sym (ap (head_of clock_of) m.first)
-    | inr s ↦ s.headless ∙ sym (ap (head_of clock_of) s.none)
+    | inl m ↦ ap clock_in m.makes ∙ sym (ap (first_clock entry_clock) m.first)
+    | inr s ↦ s.headless ∙ sym (ap (first_clock entry_clock) s.none)
   ]
 
   -- each event takes bytes of the log

@@ -13,8 +13,8 @@ use Rattle.proc_replay.specs.Replaying.{Replaying, turn}
 use Rattle.group_state.specs.declared.image.Image.{Image}
 use Rattle.group_state.specs.declared.report.ReportLine.{ReportLine}
 use Rattle.group_state.specs.declared.report.Verdict.{Verdict as Said}
-use Rattle.group_state.specs.Image.{image_of, memory_of, printed_of}
-use Rattle.group_state.specs.Report.{EndsAt, line_of, said_of}
+use Rattle.group_state.specs.Image.{image_of, left_memory, left_print}
+use Rattle.group_state.specs.Report.{EndsAt, report_line, said_of}
 
 -- the replay of these entries from a first state comes to the state T and this verdict
 pub record Comes (S T : State) (es : List Entry) (rest : List ℕ) (v : Verdict) : Type 0 where
@@ -42,7 +42,7 @@ same_line n m a b c d e f p q r s = rw (p, q, r, s) refl
 
 pub line_so : AreTurns → (first last : Replaying) (v : Verdict) (name : List ℕ) (count : ℕ) (end : End) (said : Said) → first.state.events ≡ 0 → EndsAt first last
     → Tells (turn last) last.left v → name ≡ last.head.name → count ≡ last.state.events → end ≡ last.state.end → said ≡ said_of v
-    → ◌≡◌ {A = ReportLine} (record { name = name; events = count; end = end; verdict = said }) (line_of first)
+    → ◌≡◌ {A = ReportLine} (record { name = name; events = count; end = end; verdict = said }) (report_line first)
 line_so turns first last v name count end said fresh ends tells is_name is_count is_end is_said =
     let c = comes turns first last v fresh ends tells in
     same_line name first.head.name count _ end _ said _
@@ -57,7 +57,7 @@ image_so : AreTurns → (first last : Replaying) (memory printed : List ℕ) →
     → ◌≡◌ {A = Image} (record { memory = memory; printed = printed }) (image_of first)
 image_so turns first last memory printed fresh ends is_memory is_printed =
     let c = comes turns first last ends.verdict fresh ends ends.tells in
-    same_image memory (memory_of first) printed (printed_of first) (is_memory ∙ ap (λ (S : State). S.store.memory.bytes) c.last) is_printed
+    same_image memory (left_memory first) printed (left_print first) (is_memory ∙ ap (λ (S : State). S.store.memory.bytes) c.last) is_printed
   where
     same_image : (a b c d : List ℕ) → a ≡ b → c ≡ d → ◌≡◌ {A = Image} (record { memory = a; printed = c }) (record { memory = b; printed = d })
     same_image a b c d p q = rw (p, q) refl

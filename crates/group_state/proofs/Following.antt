@@ -9,12 +9,12 @@ use Rattle.lib_calls.specs.declared.entry.Entry.{Entry}
 use Rattle.guest_process.specs.Fits.{StateFits}
 use Rattle.guest_process.specs.OneEvent.{IsKept, Rises as AreRising}
 use Rattle.guest_process.specs.State.{State}
-use Rattle.group_order.specs.Heads.{AreNone, IsFirst}
-use Rattle.group_order.specs.Order.{AreMerged, Event, IsMerged, Rises, event, events_from, list_of, of_node, order}
+use Rattle.group_order.specs.Heads.{AreNone, IsFirstNode}
+use Rattle.group_order.specs.Order.{AreMerged, ClocksRise, IsMerged, NodeEvent, events_from, list_of, node_event, of_node, order}
 use Rattle.proc_replay.specs.Course.{AreReplays, AreTurns, ahead}
 use Rattle.proc_replay.specs.Replaying.{Makes, Replaying, after, turn}
 use Rattle.group_state.specs.At.{parts_from}
-use Rattle.group_state.specs.Place.{Fits, clock_of, count_of, events, head, states}
+use Rattle.group_state.specs.Place.{PartsFit, entry_clock, events, head, node_event_count, states}
 use Rattle.group_state.proofs.Coming.{ahead_room, made_first}
 use Rattle.group_state.proofs.Nodes.{among_own, count_take, length_sort, of_node-drop, sorted_drop}
 use Rattle.group_state.proofs.Rising.{IsAboveTag, ahead_rises, ahead_tags}
@@ -47,20 +47,20 @@ pub record Goes (start : List Replaying) (at node : ℕ) : Type 0 where
   pub part : Replaying
   pub here : slice_get (parts_from 0 start (take at (events start))) node ≡ Some part
   pub makes : turn part ≡ Makes entry
-  pub next : slice_get (events start) at ≡ Some (event node entry)
+  pub next : slice_get (events start) at ≡ Some (node_event node entry)
   pub more : set (parts_from 0 start (take at (events start))) node (after part) ≡ parts_from 0 start (take (at + 1) (events start))
   pub within : at < length (events start)
 
 module _ (merging : AreMerged Entry) (rising : AreRising) (kept : IsKept) where
-  all_rise : (rs : List Replaying) → AllByRecursion (λ (r : Replaying). StateFits r.state) rs → AllByRecursion (Rises clock_of) (map ahead rs)
+  all_rise : (rs : List Replaying) → AllByRecursion (λ (r : Replaying). StateFits r.state) rs → AllByRecursion (ClocksRise entry_clock) (map ahead rs)
   all_rise [] fits = tt
   all_rise (r ∷ rs) fits = (ahead_rises rising kept r fits.0, all_rise rs fits.1)
 
-  start_rises : (start : List Replaying) → Fits start → AllByRecursion (Rises clock_of) (map ahead start)
+  start_rises : (start : List Replaying) → PartsFit start → AllByRecursion (ClocksRise entry_clock) (map ahead start)
   start_rises start fits = all_rise start (recursion_from_All (λ (r : Replaying). StateFits r.state) start fits)
 
-  pub start_merged : (start : List Replaying) → Fits start → IsMerged clock_of (map ahead start)
-  start_merged start fits = merging clock_of (map ahead start) (start_rises start fits)
+  pub start_merged : (start : List Replaying) → PartsFit start → IsMerged entry_clock (map ahead start)
+  start_merged start fits = merging entry_clock (map ahead start) (start_rises start fits)
 
   all_tagged : (rs : List Replaying) (node : ℕ) → AllByRecursion (λ (r : Replaying). StateFits r.state) rs → AllByRecursion IsAboveTag (list_of (map ahead rs) node)
   all_tagged [] node fits = tt
@@ -68,38 +68,38 @@ module _ (merging : AreMerged Entry) (rising : AreRising) (kept : IsKept) where
   all_tagged (r ∷ rs) (suc node) fits = all_tagged rs node fits.1
 
   -- the clock of an event is above that of the tag that it took
-  pub tag_below : (start : List Replaying) → Fits start → (j : ℕ) (x : Event Entry) → slice_get (events start) j ≡ Some x → IsAboveTag x.entry
+  pub tag_below : (start : List Replaying) → PartsFit start → (j : ℕ) (x : NodeEvent Entry) → slice_get (events start) j ≡ Some x → IsAboveTag x.entry
   tag_below start fits j x is =
       among_own IsAboveTag (events start) j x is
       (subst (AllByRecursion IsAboveTag) (sym ((start_merged start fits).is.own x.node))
       (all_tagged start x.node (recursion_from_All (λ (r : Replaying). StateFits r.state) start fits)))
 
-  module _ (course : AreTurns) (start : List Replaying) (fits : Fits start) (at : ℕ) where
-    abbrev so_far : List (Event Entry)
+  module _ (course : AreTurns) (start : List Replaying) (fits : PartsFit start) (at : ℕ) where
+    abbrev so_far : List (NodeEvent Entry)
     so_far = take at (events start)
 
     abbrev parts_at : List Replaying
     parts_at = parts_from 0 start so_far
 
-    parts_merged : IsMerged clock_of (map ahead parts_at)
-    parts_merged = merging clock_of (map ahead parts_at) (parts_rise course 0 start so_far (start_rises start fits))
+    parts_merged : IsMerged entry_clock (map ahead parts_at)
+    parts_merged = merging entry_clock (map ahead parts_at) (parts_rise course 0 start so_far (start_rises start fits))
 
     own_left : (node : ℕ) → of_node node (drop at (events start)) ≡ list_of (map ahead parts_at) node
     own_left node =
         let same : 0 + node ≡ node = omega arith in
         of_node-drop node at (events start)
-        ∙ ap (drop (count_of node so_far)) ((start_merged start fits).is.own node)
-        ∙ ap (λ n. drop (count_of n so_far) (list_of (map ahead start) node)) (sym same)
+        ∙ ap (drop (node_event_count node so_far)) ((start_merged start fits).is.own node)
+        ∙ ap (λ n. drop (node_event_count n so_far) (list_of (map ahead start) node)) (sym same)
         ∙ sym (parts_ahead course 0 start so_far node)
 
-    left_order : drop at (events start) ≡ order clock_of (map ahead parts_at)
+    left_order : drop at (events start) ≡ order entry_clock (map ahead parts_at)
     left_order = parts_merged.only (drop at (events start)) (record { sorted = sorted_drop at (events start) (start_merged start fits).is.sorted; own = own_left })
 
-    pub goes : (node : ℕ) → IsFirst (map head parts_at) node → Goes start at node
+    pub goes : (node : ℕ) → IsFirstNode (map head parts_at) node → Goes start at node
     goes node first =
-        let b = parts_merged.begins node (subst (λ heads. IsFirst heads node) (sym (heads_ahead course parts_at)) first) in
+        let b = parts_merged.begins node (subst (λ heads. IsFirstNode heads node) (sym (heads_ahead course parts_at)) first) in
         let f = found parts_at node b.entry b.rest b.list in
-        let x = event node b.entry in
+        let x = node_event node b.entry in
         let at_front = front (events start) at x _ (left_order ∙ b.order) in
         record {
           entry = b.entry;
@@ -118,7 +118,7 @@ module _ (merging : AreMerged Entry) (rising : AreRising) (kept : IsKept) where
     states_at replays fresh =
         parts_states replays 0 start so_far (recursion_from_All (λ (r : Replaying). r.state.events ≡ 0) start fresh)
         (λ k. let same : k ≡ 0 + k = omega arith in
-        subst (λ n. count_of n so_far ≤ length (list_of (map ahead start) k)) same
+        subst (λ n. node_event_count n so_far ≤ length (list_of (map ahead start) k)) same
         (omega (arith, count_take k at (events start), ap length ((start_merged start fits).is.own k))))
 
 -- ---- how many events there can be
@@ -127,7 +127,7 @@ module _ (course : AreTurns) where
   few_from : (most i : ℕ) (rs : List Replaying) → AllByRecursion (λ (r : Replaying). length r.left ≤ most) rs → 24 * length (events_from i (map ahead rs)) ≤ length rs * most
   few_from most i [] small = omega arith
   few_from most i (r ∷ rs) small =
-      omega (arith, small.0, ahead_room course r, few_from most (suc i) rs small.1, length-append (map (event i) (ahead r)) (events_from (suc i) (map ahead rs)), length-map (ahead r) (event i))
+      omega (arith, small.0, ahead_room course r, few_from most (suc i) rs small.1, length-append (map (node_event i) (ahead r)) (events_from (suc i) (map ahead rs)), length-map (ahead r) (node_event i))
 
   -- logs of at most so many bytes have fewer events
   pub few_events : (most : ℕ) (rs : List Replaying) → All (λ (r : Replaying). length r.left < most) rs → length rs ≤ 16 → 0 < most → length (events rs) < most

@@ -8,8 +8,8 @@ use Rattle.lib_calls.specs.Entry.{entry_of}
 use Rattle.lib_calls.specs.declared.entry.Entry.{Entry}
 use Rattle.lib_calls.specs.declared.entry.EntryView.{EntryView}
 use Rattle.guest_process.specs.OneEvent.{IsKept, Rises as AreRising}
-use Rattle.group_order.specs.Heads.{IsFirst}
-use Rattle.group_order.specs.Order.{AreMerged, Event, event}
+use Rattle.group_order.specs.Heads.{IsFirstNode}
+use Rattle.group_order.specs.Order.{AreMerged, NodeEvent, node_event}
 use Rattle.proc_replay.specs.Course.{AreTurns}
 use Rattle.proc_replay.specs.Replaying.{Makes, Replaying, after, turn}
 use Rattle.proc_replay.specs.Seen.{move_of}
@@ -17,7 +17,7 @@ use Rattle.proc_replay.specs.declared.turn.Turn.{Turn}
 use Rattle.proc_replay.specs.declared.turn.Turn.TheVariants as code
 use Rattle.group_state.specs.At.{parts_from}
 use Rattle.group_state.specs.Moves.{Turns, event_before}
-use Rattle.group_state.specs.Place.{Fits, events, head}
+use Rattle.group_state.specs.Place.{PartsFit, events, head}
 use Rattle.group_state.proofs.Following.{goes}
 use Rattle.group_state.proofs.Swaps.{put_back}
 
@@ -38,16 +38,16 @@ turned old node last taken part removed pushed new t within last_is taken_is rem
 pub record Forwarded (start new : List Replaying) (heads : List (Option ℕ)) (at node : ℕ) (t : Turn) : Type 0 where
   pub entry : Entry
   pub told : move_of t ≡ Makes entry
-  pub next : slice_get (events start) at ≡ Some (event node entry)
+  pub next : slice_get (events start) at ≡ Some (node_event node entry)
   pub stand : new ≡ parts_from 0 start (take (at + 1) (events start))
   pub fits : node < length new
   pub within : at < length (events start)
   pub merged : (x : Replaying) → x ≡ get_or new node x → set heads node (head x) ≡ map head new
 
 pub forwarded : AreMerged Entry → AreRising → IsKept → AreTurns → (start parts new : List Replaying) (heads : List (Option ℕ)) (at node : ℕ) (t : Turn)
-    → Fits start → parts ≡ parts_from 0 start (take at (events start)) → heads ≡ map head parts → IsFirst heads node → Turns parts node new t → Forwarded start new heads at node t
+    → PartsFit start → parts ≡ parts_from 0 start (take at (events start)) → heads ≡ map head parts → IsFirstNode heads node → Turns parts node new t → Forwarded start new heads at node t
 forwarded merging rising kept course start parts new heads at node t fits stand are first turns =
-    let g = goes merging rising kept course start fits at node (subst (λ h. IsFirst h node) (are ∙ ap (map head) stand) first) in
+    let g = goes merging rising kept course start fits at node (subst (λ h. IsFirstNode h node) (are ∙ ap (map head) stand) first) in
     let here : slice_get parts node ≡ Some g.part = ap (λ ps. slice_get ps node) stand ∙ g.here in
     let within : node < length parts = slice_get_within parts node g.part here in
     let new_is : new ≡ set parts node (after g.part) = turns.moves g.part here in
@@ -67,16 +67,16 @@ same_entry : (e f : Entry) → Makes e ≡ Makes f → e ≡ f
 same_entry e f same = cc
 
 pub given : (start new : List Replaying) (heads : List (Option ℕ)) (at node : ℕ) (t : Turn) (v : EntryView) → Forwarded start new heads at node t → t ≡ code.Event v
-    → Some (event node (entry_of v)) ≡ slice_get (events start) at
+    → Some (node_event node (entry_of v)) ≡ slice_get (events start) at
 given start new heads at node t v f is =
-    ap (λ e. Some (event node e)) (same_entry (entry_of v) f.entry (ap move_of (sym is) ∙ f.told)) ∙ sym f.next
+    ap (λ e. Some (node_event node e)) (same_entry (entry_of v) f.entry (ap move_of (sym is) ∙ f.told)) ∙ sym f.next
 
 pub is_event : (t : Turn) (e : Entry) → move_of t ≡ Makes e → ((v : EntryView) → t ≡ code.Event v → ⊥) → ⊥
 is_event (code.Event v) e is not = not v refl
 is_event code.LogEnd e is not = cc
 is_event (code.Diverged at why) e is not = cc
 
-pub last_after : (es : List (Event Entry)) (at : ℕ) → event_before es (at + 1) ≡ slice_get es at
+pub last_after : (es : List (NodeEvent Entry)) (at : ℕ) → event_before es (at + 1) ≡ slice_get es at
 last_after es at = ap (event_before es) (add-one at)
 
 -- ---- the heads at the beginning

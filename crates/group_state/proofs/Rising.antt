@@ -11,10 +11,10 @@ use Rattle.guest_process.specs.Next.{next}
 use Rattle.guest_process.specs.OneEvent.{IsKept, Rises as AreRising}
 use Rattle.guest_process.specs.Replay.{accepted, reach, reach_then}
 use Rattle.guest_process.specs.State.{State}
-use Rattle.group_order.specs.Order.{Rises}
+use Rattle.group_order.specs.Order.{ClocksRise}
 use Rattle.proc_replay.specs.Course.{ahead}
 use Rattle.proc_replay.specs.Replaying.{Replaying}
-use Rattle.group_state.specs.Place.{clock_of}
+use Rattle.group_state.specs.Place.{entry_clock}
 
 all_so : {X : Type 0} (P Q : X → Type 0) (xs : List X) → ((x : X) → P x → Q x) → AllByRecursion P xs → AllByRecursion Q xs
 all_so P Q [] so all = tt
@@ -27,7 +27,7 @@ IsAboveTag e = tag_clock e.tag < e.clock
 pub record Climbs (floor : ℕ) (es : List Entry) : Type 0 where
   pub above : AllByRecursion (λ e. floor < e.clock) es
   pub tags : AllByRecursion IsAboveTag es
-  pub rises : Rises clock_of es
+  pub rises : ClocksRise entry_clock es
 
 module _ (rising : AreRising) (kept : IsKept) where
   climbs_by : (S : State) (e : Entry) (es : List Entry) → StateFits S → (StateFits (next S e) → Climbs (next S e).clock (take (accepted (next S e) es) es))
@@ -46,13 +46,13 @@ module _ (rising : AreRising) (kept : IsKept) where
   climbs [] S fits = record { above = tt; tags = tt; rises = tt }
   climbs (e ∷ es) S fits = climbs_by S e es fits (climbs es (next S e)) (reason S e) refl
 
-  pub ahead_rises : (r : Replaying) → StateFits r.state → Rises clock_of (ahead r)
+  pub ahead_rises : (r : Replaying) → StateFits r.state → ClocksRise entry_clock (ahead r)
   ahead_rises r fits = (climbs (entries_of r.left) r.state fits).rises
 
   pub ahead_tags : (r : Replaying) → StateFits r.state → AllByRecursion IsAboveTag (ahead r)
   ahead_tags r fits = (climbs (entries_of r.left) r.state fits).tags
 
-pub rises_drop : (n : ℕ) (es : List Entry) → Rises clock_of es → Rises clock_of (drop n es)
+pub rises_drop : (n : ℕ) (es : List Entry) → ClocksRise entry_clock es → ClocksRise entry_clock (drop n es)
 rises_drop zero es rises = rises
 rises_drop (suc n) [] rises = tt
 rises_drop (suc n) (e ∷ es) rises = rises_drop n es rises.1

@@ -12,8 +12,8 @@ use Rattle.lib_calls.specs.declared.entry.Entry.{Entry}
 use Rattle.group_order.specs.Sends.{Sends, by_sender, receiver-insert}
 use Rattle.group_state.specs.declared.tally.GroupCounts.{GroupCounts}
 use Rattle.group_state.specs.declared.tally.Receipt.{Receipt}
-use Rattle.group_state.specs.Tally.{Accepted, count_of, is_send_of, is_unmatched, is_unmatched_by, receives, sends, takes_untagged, tally}
-use Rattle.group_state.specs.Tallying.{AreNew, IsNew, Tallying, counts_of, is_to, nothing_of, receipt_by, send_by, unmatched_in, with_event, with_events, with_send}
+use Rattle.group_state.specs.Tally.{Accepted, accepted_count, is_receipt, is_send, is_send_of, is_unmatched, is_unmatched_by, takes_untagged, tally}
+use Rattle.group_state.specs.Tallying.{AreNew, IsNew, Tallying, counts_of, is_to, nothing_of, receipt_by, send_by, unmatched_in, with_accepted, with_all_accepted, with_send}
 
 below : (k : Option Kind) (count : ℕ) (e : Entry) → sends_as k count e ≡ true → e.call.a0 < count
 below (Some Send) count e sent = grind (arith, nat_tests)
@@ -34,7 +34,7 @@ receipt_of true (Some tag) process = record { process = process; tag = tag } ∷
 
 pub record Adds (t new : Tallying) (a : Accepted) : Type 0 where
   pub count : new.count ≡ t.count
-  pub sends : new.sends ≡ t.sends + cond (sends t.count a) 1 0
+  pub sends : new.sends ≡ t.sends + cond (is_send t.count a) 1 0
   pub untagged : new.untagged ≡ t.untagged + cond (takes_untagged a) 1 0
   pub sent : new.sent ≡ (with_send t a).sent
   pub taken : new.taken ≡ t.taken ++ receipt_of (is_taken a.entry) a.entry.tag a.process
@@ -76,9 +76,9 @@ taken_one true true None p t a = sym (append-nil t.taken)
 taken_one false true (Some tag) p t a = refl
 taken_one true true (Some tag) p t a = refl
 
-pub adds : (t : Tallying) (a : Accepted) → Adds t (with_event t a) a
+pub adds : (t : Tallying) (a : Accepted) → Adds t (with_accepted t a) a
 adds t a =
-    let b = sends t.count a in
+    let b = is_send t.count a in
     let c = is_taken a.entry in
     record {
       count = count_one b c a.entry.tag a.process t a;
@@ -92,9 +92,9 @@ at_most_one : (b : Bool) → cond b 1 0 ≤ 1
 at_most_one true = omega arith
 at_most_one false = omega arith
 
-pub few_more : (t : Tallying) (a : Accepted) → ((with_event t a).sends ≤ t.sends + 1) × ((with_event t a).untagged ≤ t.untagged + 1)
+pub few_more : (t : Tallying) (a : Accepted) → ((with_accepted t a).sends ≤ t.sends + 1) × ((with_accepted t a).untagged ≤ t.untagged + 1)
 few_more t a = (
-  omega (arith, (adds t a).sends, at_most_one (sends t.count a)),
+  omega (arith, (adds t a).sends, at_most_one (is_send t.count a)),
   omega (arith, (adds t a).untagged, at_most_one (takes_untagged a)),
 )
 
@@ -104,43 +104,43 @@ length_one : {X : Type 0} (b : Bool) (x : X) (xs : List X) → length (cond b (x
 length_one true x xs = omega arith
 length_one false x xs = omega arith
 
-all_count : (events : List Accepted) (t : Tallying) → (with_events t events).count ≡ t.count
+all_count : (events : List Accepted) (t : Tallying) → (with_all_accepted t events).count ≡ t.count
 all_count [] t = refl
-all_count (a ∷ events) t = all_count events (with_event t a) ∙ (adds t a).count
+all_count (a ∷ events) t = all_count events (with_accepted t a) ∙ (adds t a).count
 
-all_sends : (events : List Accepted) (t : Tallying) → (with_events t events).sends ≡ t.sends + count_of (sends t.count) events
+all_sends : (events : List Accepted) (t : Tallying) → (with_all_accepted t events).sends ≡ t.sends + accepted_count (is_send t.count) events
 all_sends [] t = omega arith
 all_sends (a ∷ events) t =
-    let more = all_sends events (with_event t a) in
-    let same : count_of (sends (with_event t a).count) events ≡ count_of (sends t.count) events = ap (λ n. count_of (sends n) events) (adds t a).count in
-    omega (arith, more, same, (adds t a).sends, length_one (sends t.count a) a (filter (sends t.count) events))
+    let more = all_sends events (with_accepted t a) in
+    let same : accepted_count (is_send (with_accepted t a).count) events ≡ accepted_count (is_send t.count) events = ap (λ n. accepted_count (is_send n) events) (adds t a).count in
+    omega (arith, more, same, (adds t a).sends, length_one (is_send t.count a) a (filter (is_send t.count) events))
 
-all_untagged : (events : List Accepted) (t : Tallying) → (with_events t events).untagged ≡ t.untagged + count_of takes_untagged events
+all_untagged : (events : List Accepted) (t : Tallying) → (with_all_accepted t events).untagged ≡ t.untagged + accepted_count takes_untagged events
 all_untagged [] t = omega arith
 all_untagged (a ∷ events) t =
-    let more = all_untagged events (with_event t a) in
+    let more = all_untagged events (with_accepted t a) in
     omega (arith, more, (adds t a).untagged, length_one (takes_untagged a) a (filter takes_untagged events))
 
 abbrev receipts : List Accepted → List Receipt
 receipts [] = []
 receipts (a ∷ events) = receipt_of (is_taken a.entry) a.entry.tag a.process ++ receipts events
 
-all_taken : (events : List Accepted) (t : Tallying) → (with_events t events).taken ≡ t.taken ++ receipts events
+all_taken : (events : List Accepted) (t : Tallying) → (with_all_accepted t events).taken ≡ t.taken ++ receipts events
 all_taken [] t = sym (append-nil t.taken)
 all_taken (a ∷ events) t =
     let one = receipt_of (is_taken a.entry) a.entry.tag a.process in
-    all_taken events (with_event t a) ∙ ap (λ l. l ++ receipts events) (adds t a).taken ∙ append_assoc t.taken one (receipts events)
+    all_taken events (with_accepted t a) ∙ ap (λ l. l ++ receipts events) (adds t a).taken ∙ append_assoc t.taken one (receipts events)
 
 length_receipt : (c : Bool) (tag : Option Tag) (p : ℕ) → length (receipt_of c tag p) ≡ cond (c && is_some tag) 1 0
 length_receipt false tag p = refl
 length_receipt true None p = refl
 length_receipt true (Some tag) p = refl
 
-length_receipts : (events : List Accepted) → length (receipts events) ≡ count_of receives events
+length_receipts : (events : List Accepted) → length (receipts events) ≡ accepted_count is_receipt events
 length_receipts [] = refl
 length_receipts (a ∷ events) =
     let one = receipt_of (is_taken a.entry) a.entry.tag a.process in
-    omega (arith, length_append_is one (receipts events), length_receipt (is_taken a.entry) a.entry.tag a.process, length_receipts events, length_one (receives a) a (filter receives events))
+    omega (arith, length_append_is one (receipts events), length_receipt (is_taken a.entry) a.entry.tag a.process, length_receipts events, length_one (is_receipt a) a (filter is_receipt events))
   where
     length_append_is : (xs ys : List Receipt) → length (xs ++ ys) ≡ length xs + length ys
     length_append_is xs ys = length-append xs ys
@@ -191,16 +191,16 @@ matched_by t a p tag false new =
     ∙ ap (λ (b : Bool). is_to p (map.get t.sent (tag.sender, tag.clock)) || b) (sym (and_false ((a.process == tag.sender) && (a.entry.clock == tag.clock)) (a.entry.call.a0 == p)))
 
 matched_one : (t : Tallying) (a : Accepted) (p : ℕ) (tag : Tag) → IsNew t a
-    → is_to p (map.get (with_event t a).sent (tag.sender, tag.clock)) ≡ (is_to p (map.get t.sent (tag.sender, tag.clock)) || is_send_of t.count p tag a)
-matched_one t a p tag new = ap (λ (s : Sends). is_to p (map.get s (tag.sender, tag.clock))) (adds t a).sent ∙ matched_by t a p tag (sends t.count a) new
+    → is_to p (map.get (with_accepted t a).sent (tag.sender, tag.clock)) ≡ (is_to p (map.get t.sent (tag.sender, tag.clock)) || is_send_of t.count p tag a)
+matched_one t a p tag new = ap (λ (s : Sends). is_to p (map.get s (tag.sender, tag.clock))) (adds t a).sent ∙ matched_by t a p tag (is_send t.count a) new
 
 -- the send that a tag names is among those that were counted before and these
 matched : (events : List Accepted) (t : Tallying) (p : ℕ) (tag : Tag) → AreNew t events
-    → is_to p (map.get (with_events t events).sent (tag.sender, tag.clock)) ≡ (is_to p (map.get t.sent (tag.sender, tag.clock)) || list_any (is_send_of t.count p tag) events)
+    → is_to p (map.get (with_all_accepted t events).sent (tag.sender, tag.clock)) ≡ (is_to p (map.get t.sent (tag.sender, tag.clock)) || list_any (is_send_of t.count p tag) events)
 matched [] t p tag new = or_false (is_to p (map.get t.sent (tag.sender, tag.clock)))
 matched (a ∷ events) t p tag new =
-    matched events (with_event t a) p tag new.1
-    ∙ ap (λ (n : ℕ). is_to p (map.get (with_event t a).sent (tag.sender, tag.clock)) || list_any (is_send_of n p tag) events) (adds t a).count
+    matched events (with_accepted t a) p tag new.1
+    ∙ ap (λ (n : ℕ). is_to p (map.get (with_accepted t a).sent (tag.sender, tag.clock)) || list_any (is_send_of n p tag) events) (adds t a).count
     ∙ ap (λ (b : Bool). b || list_any (is_send_of t.count p tag) events) (matched_one t a p tag new.0)
     ∙ or_assoc (is_to p (map.get t.sent (tag.sender, tag.clock))) (is_send_of t.count p tag a) (list_any (is_send_of t.count p tag) events)
 
@@ -214,7 +214,7 @@ both_one b c x y xs ys same rest =
 
 unmatched_one : (count : ℕ) (all : List Accepted) (sent : Sends) (c : Bool) (tag : Option Tag) (a : Accepted) (rs : List Receipt) (rest : List Accepted)
     → ((p : ℕ) (tag : Tag) → is_to p (map.get sent (tag.sender, tag.clock)) ≡ list_any (is_send_of count p tag) all)
-    → unmatched_in sent rs ≡ count_of (is_unmatched count all) rest
+    → unmatched_in sent rs ≡ accepted_count (is_unmatched count all) rest
     → unmatched_in sent (receipt_of c tag a.process ++ rs)
     ≡ length (cond ((c && is_some tag) && is_unmatched_by count all a.process tag) (a ∷ filter (is_unmatched count all) rest) (filter (is_unmatched count all) rest))
 unmatched_one count all sent false tag a rs rest known more = more
@@ -224,7 +224,7 @@ unmatched_one count all sent true (Some tag) a rs rest known more =
 
 unmatched_all : (count : ℕ) (all : List Accepted) (sent : Sends) (events : List Accepted)
     → ((p : ℕ) (tag : Tag) → is_to p (map.get sent (tag.sender, tag.clock)) ≡ list_any (is_send_of count p tag) all)
-    → unmatched_in sent (receipts events) ≡ count_of (is_unmatched count all) events
+    → unmatched_in sent (receipts events) ≡ accepted_count (is_unmatched count all) events
 unmatched_all count all sent [] known = refl
 unmatched_all count all sent (a ∷ events) known = unmatched_one count all sent (is_taken a.entry) a.entry.tag a (receipts events) events known (unmatched_all count all sent events known)
 
@@ -234,9 +234,9 @@ same_counts : (a b c d e f g h : ℕ) → a ≡ e → b ≡ f → c ≡ g → d 
 same_counts a b c d e f g h p q r s = rw (p, q, r, s) refl
 
 -- events that were new where they came
-pub counted : (count : ℕ) (events : List Accepted) → AreNew (nothing_of count) events → counts_of (with_events (nothing_of count) events) ≡ tally count events
+pub counted : (count : ℕ) (events : List Accepted) → AreNew (nothing_of count) events → counts_of (with_all_accepted (nothing_of count) events) ≡ tally count events
 counted count events new =
-    let t = with_events (nothing_of count) events in
+    let t = with_all_accepted (nothing_of count) events in
     let known : (p : ℕ) (tag : Tag) → is_to p (map.get t.sent (tag.sender, tag.clock)) ≡ list_any (is_send_of count p tag) events =
     λ p tag. matched events (nothing_of count) p tag new ∙ ap (λ (o : Option ℕ). is_to p o || list_any (is_send_of count p tag) events) (map.get-empty by_sender (tag.sender, tag.clock)) in
     let taken : t.taken ≡ receipts events = all_taken events (nothing_of count) in

@@ -11,7 +11,7 @@ use Rattle.proc_replay.specs.Course.{AreTurns, Tells, ahead, outcome}
 use Rattle.proc_replay.specs.Replaying.{Makes, Replaying, after, after_at, moved, turn}
 use Rattle.group_state.specs.Report.{EndsAt, accepted_in}
 use Rattle.group_state.specs.Tally.{Accepted, of_process}
-use Rattle.group_state.specs.Tallying.{AreNew, HasRoom, HasRoomFor, IsNew, Tallying, with_event, with_events}
+use Rattle.group_state.specs.Tallying.{AreNew, HasTallyRoom, HasTallyRoomFor, IsNew, Tallying, with_accepted, with_all_accepted}
 
 -- ---- a turn keeps the head of the log
 
@@ -49,11 +49,11 @@ event p e = record { process = p; entry = e }
 pub record Tallies (p : ℕ) (t0 t : Tallying) (first r : Replaying) : Type 0 where
   pub follows : Follows first r
   pub process : p ≡ r.head.process
-  pub tallied : with_events t (accepted_in r) ≡ with_events t0 (accepted_in first)
+  pub tallied : with_all_accepted t (accepted_in r) ≡ with_all_accepted t0 (accepted_in first)
   pub new : AreNew t (accepted_in r)
-  pub room : HasRoomFor t (accepted_in r)
+  pub room : HasTallyRoomFor t (accepted_in r)
 
-pub tallies_first : (p : ℕ) (t : Tallying) (first : Replaying) → p ≡ first.head.process → AreNew t (accepted_in first) → HasRoomFor t (accepted_in first) → Tallies p t t first first
+pub tallies_first : (p : ℕ) (t : Tallying) (first : Replaying) → p ≡ first.head.process → AreNew t (accepted_in first) → HasTallyRoomFor t (accepted_in first) → Tallies p t t first first
 tallies_first p t first process new room = record { follows = follows_first first; process = process; tallied = refl; new = new; room = room }
 
 -- the events that are ahead, where one is made
@@ -68,28 +68,28 @@ next_new turns p t0 t first r e k makes =
     let were : AreNew t (event p e ∷ accepted_in (after r)) = subst (AreNew t) (accepted_more turns p r e k.process makes) k.new in
     were.0
 
-pub next_room : AreTurns → (p : ℕ) (t0 t : Tallying) (first r : Replaying) (e : Entry) → Tallies p t0 t first r → turn r ≡ Makes e → HasRoom t
+pub next_room : AreTurns → (p : ℕ) (t0 t : Tallying) (first r : Replaying) (e : Entry) → Tallies p t0 t first r → turn r ≡ Makes e → HasTallyRoom t
 next_room turns p t0 t first r e k makes =
-    let was : HasRoomFor t (event p e ∷ accepted_in (after r)) = subst (HasRoomFor t) (accepted_more turns p r e k.process makes) k.room in
+    let was : HasTallyRoomFor t (event p e ∷ accepted_in (after r)) = subst (HasTallyRoomFor t) (accepted_more turns p r e k.process makes) k.room in
     was.0
 
 pub tallies_more : AreTurns → (p : ℕ) (t0 t new : Tallying) (first r more : Replaying) (e : Entry) → Tallies p t0 t first r → turn r ≡ Makes e
-    → more ≡ after r → new ≡ with_event t (event p e) → Tallies p t0 new first more
+    → more ≡ after r → new ≡ with_accepted t (event p e) → Tallies p t0 new first more
 tallies_more turns p t0 t new first r more e k makes moves is =
     let front = accepted_more turns p r e k.process makes in
     let were : AreNew t (event p e ∷ accepted_in (after r)) = subst (AreNew t) front k.new in
-    let was : HasRoomFor t (event p e ∷ accepted_in (after r)) = subst (HasRoomFor t) front k.room in
+    let was : HasTallyRoomFor t (event p e ∷ accepted_in (after r)) = subst (HasTallyRoomFor t) front k.room in
     subst (λ (m : Replaying). Tallies p t0 new first m) (sym moves) (subst (λ (n : Tallying). Tallies p t0 n first (after r)) (sym is) (record {
       follows = follows_more turns first r (after r) k.follows refl;
       process = k.process ∙ ap (λ (h : Head). h.process) (sym (after_head r (entry_at r.left)));
-      tallied = ap (with_events t) (sym front) ∙ k.tallied;
+      tallied = ap (with_all_accepted t) (sym front) ∙ k.tallied;
       new = were.1;
       room = was.1;
     }))
 
-pub tallies_all : AreTurns → (p : ℕ) (t0 t : Tallying) (first r : Replaying) (v : Verdict) → Tallies p t0 t first r → Tells (turn r) r.left v → t ≡ with_events t0 (accepted_in first)
+pub tallies_all : AreTurns → (p : ℕ) (t0 t : Tallying) (first r : Replaying) (v : Verdict) → Tallies p t0 t first r → Tells (turn r) r.left v → t ≡ with_all_accepted t0 (accepted_in first)
 tallies_all turns p t0 t first r v k tells =
-    ap (λ (es : List Entry). with_events t (of_process r.head.process es)) (sym ((turns r).none v tells)) ∙ k.tallied
+    ap (λ (es : List Entry). with_all_accepted t (of_process r.head.process es)) (sym ((turns r).none v tells)) ∙ k.tallied
 
 -- ---- what the events print
 

@@ -8,12 +8,12 @@ use Rattle.proc_replay.specs.Replaying.{Replaying}
 use Rattle.group_state.specs.declared.image.Image.{Image}
 
 -- the bytes of the memory after all accepted events of a log
-abbrev pub memory_of : Replaying → List ℕ
-memory_of r = (last_state r.state (entries_of r.left)).store.memory.bytes
+abbrev pub left_memory : Replaying → List ℕ
+left_memory r = (last_state r.state (entries_of r.left)).store.memory.bytes
 
 -- what they printed
-abbrev pub printed_of : Replaying → List ℕ
-printed_of r = prints (ahead r)
+abbrev pub left_print : Replaying → List ℕ
+left_print r = prints (ahead r)
 
 abbrev pub image_of : Replaying → Image
-image_of r = record { memory = memory_of r; printed = printed_of r }
+image_of r = record { memory = left_memory r; printed = left_print r }

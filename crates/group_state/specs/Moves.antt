@@ -3,13 +3,13 @@ use Rattle.std.specs.Prelude.{◌≡◌, ℕ, zero, suc, ◌+◌, ◌≤◌, ◌
 use Rattle.lib_calls.specs.Entry.{entry_of}
 use Rattle.lib_calls.specs.declared.entry.Entry.{Entry}
 use Rattle.proc_replay.specs.declared.turn.Turn.{Turn}
-use Rattle.group_order.specs.Order.{Event}
+use Rattle.group_order.specs.Order.{NodeEvent}
 use Rattle.proc_replay.specs.Replaying.{Replaying, after, turn}
 use Rattle.proc_replay.specs.Seen.{move_of}
 use Rattle.group_state.specs.declared.event.GroupEvent.{GroupEvent}
 use Rattle.group_state.specs.Place.{Place, events}
 
-abbrev pub event_of : GroupEvent → Event Entry
+abbrev pub event_of : GroupEvent → NodeEvent Entry
 event_of e = record { node = e.node; entry = entry_of e.entry }
 
 -- the position after an event, where there was one
@@ -29,13 +29,13 @@ pub record IsThere (old : Place) (k : ℕ) (new : Place) (there : Bool) : Type 0
   pub at : IsTrue there → new.at ≡ k
   pub stays : IsFalse there → new.at ≡ old.at
 
-abbrev pub event_before : List (Event Entry) → ℕ → Option (Event Entry)
+abbrev pub event_before : List (NodeEvent Entry) → ℕ → Option (NodeEvent Entry)
 event_before es zero = None
 event_before es (suc n) = slice_get es n
 
 -- the event that was made last
-abbrev pub last_of : Place → Option (Event Entry)
-last_of place = event_before (events place.start) place.at
+abbrev pub last_event_of : Place → Option (NodeEvent Entry)
+last_event_of place = event_before (events place.start) place.at
 
 -- a node had this turn, and the other nodes are as they were
 pub record Turns (old : List Replaying) (node : ℕ) (new : List Replaying) (given : Turn) : Type 0 where

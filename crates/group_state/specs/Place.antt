@@ -6,7 +6,7 @@ use Rattle.call_log.specs.Log.{entries_of}
 use Rattle.guest_process.specs.Fits.{StateFits}
 use Rattle.guest_process.specs.Replay.{state_after}
 use Rattle.guest_process.specs.State.{State}
-use Rattle.group_order.specs.Order.{Event, of_node, order}
+use Rattle.group_order.specs.Order.{NodeEvent, of_node, order}
 use Rattle.proc_replay.specs.Course.{ahead}
 use Rattle.proc_replay.specs.Replaying.{Diverges, Ends, Makes, Move, Replaying, turn}
 
@@ -35,30 +35,30 @@ pub record AreParts (parts : List Replaying) : Type 0 where
   pub ascends : Ascends parts
 
 -- each process is in the ranges of its program
-abbrev pub Fits : List Replaying → Type 0
-Fits parts = All (λ r. StateFits r.state) parts
+abbrev pub PartsFit : List Replaying → Type 0
+PartsFit parts = All (λ r. StateFits r.state) parts
 
 -- ---- the order of events, and the state after the first of them
 
-abbrev pub clock_of : Entry → ℕ
-clock_of e = e.clock
+abbrev pub entry_clock : Entry → ℕ
+entry_clock e = e.clock
 
 -- the accepted events of all logs, by clock and then by node
-abbrev pub events : List Replaying → List (Event Entry)
-events start = order clock_of (map ahead start)
+abbrev pub events : List Replaying → List (NodeEvent Entry)
+events start = order entry_clock (map ahead start)
 
 -- how many of these events are a node's
-abbrev pub count_of : ℕ → List (Event Entry) → ℕ
-count_of node es = length (of_node node es)
+abbrev pub node_event_count : ℕ → List (NodeEvent Entry) → ℕ
+node_event_count node es = length (of_node node es)
 
 -- the process of a log after so many of its entries
 abbrev pub after_entries : Replaying → ℕ → State
 after_entries r n = state_after r.state (entries_of r.left) n
 
 -- each node from this one on, after as many of its entries as it has events among these
-abbrev pub states_from : ℕ → List Replaying → List (Event Entry) → List State
+abbrev pub states_from : ℕ → List Replaying → List (NodeEvent Entry) → List State
 states_from node [] es = []
-states_from node (r ∷ rs) es = after_entries r (count_of node es) ∷ states_from (suc node) rs es
+states_from node (r ∷ rs) es = after_entries r (node_event_count node es) ∷ states_from (suc node) rs es
 
 -- the state of each node after the first k events of the group
 abbrev pub states : List Replaying → ℕ → List State

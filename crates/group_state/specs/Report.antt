@@ -19,8 +19,8 @@ said_of (Left bytes) = said.Left bytes
 said_of (Diverged at why) = said.Diverged at why
 
 -- a log to its first entry that is not legal: no other log has a part in it
-abbrev pub line_of : Replaying → ReportLine
-line_of r =
+abbrev pub report_line : Replaying → ReportLine
+report_line r =
     let es = entries_of r.left in
     record {
       name = r.head.name;
@@ -41,7 +41,7 @@ counts_in report = record { sends = report.sends; receives = report.receives; un
 
 -- a line for each log, and the counts of all accepted events
 pub record IsReport (start : List Replaying) (report : Report) : Type 0 where
-  pub lines : report.lines.items ≡ map line_of start
+  pub lines : report.lines.items ≡ map report_line start
   pub counts : counts_in report ≡ tally (group_count start) (all_accepted start)
 
 -- a replay stands at the end of its log, and comes to the same

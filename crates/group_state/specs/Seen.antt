@@ -8,13 +8,13 @@ use Rattle.watch_expr.specs.View.{Node}
 use Rattle.group_state.specs.Place.{Place, states}
 
 -- the value of a global, signed
-abbrev pub signed : Value → ℤ
-signed (I32 x) = cast_signed w32 x
-signed (I64 x) = cast_signed w64 x
+abbrev pub signed_global : Value → ℤ
+signed_global (I32 x) = cast_signed w32 x
+signed_global (I64 x) = cast_signed w64 x
 
-abbrev pub node_of : State → Node
-node_of S = record { memory = S.store.memory; globals = map signed S.store.globals; clock = pos S.clock; events = pos S.events }
+abbrev pub seen_node : State → Node
+seen_node S = record { memory = S.store.memory; globals = map signed_global S.store.globals; clock = pos S.clock; events = pos S.events }
 
 -- the nodes at the position
 abbrev pub nodes_at : Place → List Node
-nodes_at place = map node_of (states place.start place.at)
+nodes_at place = map seen_node (states place.start place.at)

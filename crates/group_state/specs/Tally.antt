@@ -11,16 +11,16 @@ pub record Accepted : Type 0 where
   pub process : ℕ
   pub entry : Entry
 
-abbrev pub count_of : (Accepted → Bool) → List Accepted → ℕ
-count_of test events = length (filter test events)
+abbrev pub accepted_count : (Accepted → Bool) → List Accepted → ℕ
+accepted_count test events = length (filter test events)
 
 -- the event sends a datagram into its group of `count`
-abbrev pub sends : ℕ → Accepted → Bool
-sends count a = is_sent count a.entry
+abbrev pub is_send : ℕ → Accepted → Bool
+is_send count a = is_sent count a.entry
 
 -- it takes a datagram with a tag
-abbrev pub receives : Accepted → Bool
-receives a = is_taken a.entry && is_some a.entry.tag
+abbrev pub is_receipt : Accepted → Bool
+is_receipt a = is_taken a.entry && is_some a.entry.tag
 
 -- it takes one without
 abbrev pub takes_untagged : Accepted → Bool
@@ -28,7 +28,7 @@ takes_untagged a = is_taken a.entry && not (is_some a.entry.tag)
 
 -- the event is the send to process p that the tag names
 abbrev pub is_send_of : ℕ → ℕ → Tag → Accepted → Bool
-is_send_of count p tag a = ((a.process == tag.sender) && (a.entry.clock == tag.clock)) && (sends count a && (a.entry.call.a0 == p))
+is_send_of count p tag a = ((a.process == tag.sender) && (a.entry.clock == tag.clock)) && (is_send count a && (a.entry.call.a0 == p))
 
 abbrev pub is_unmatched_by : ℕ → List Accepted → ℕ → Option Tag → Bool
 is_unmatched_by count events p None = false
@@ -36,15 +36,15 @@ is_unmatched_by count events p (Some tag) = not (list_any (is_send_of count p ta
 
 -- it takes a datagram with a tag that names none of the sends to its process among these events
 abbrev pub is_unmatched : ℕ → List Accepted → Accepted → Bool
-is_unmatched count events a = receives a && is_unmatched_by count events a.process a.entry.tag
+is_unmatched count events a = is_receipt a && is_unmatched_by count events a.process a.entry.tag
 
 -- the counts over the accepted events of the logs of a group of `count`
 abbrev pub tally : ℕ → List Accepted → GroupCounts
 tally count events = record {
-  sends = count_of (sends count) events;
-  receives = count_of receives events;
-  unmatched = count_of (is_unmatched count events) events;
-  untagged = count_of takes_untagged events;
+  sends = accepted_count (is_send count) events;
+  receives = accepted_count is_receipt events;
+  unmatched = accepted_count (is_unmatched count events) events;
+  untagged = accepted_count takes_untagged events;
 }
 
 -- the events of one log's process

@@ -7,7 +7,7 @@ use Rattle.lib_calls.specs.Traffic.{is_taken}
 use Rattle.group_order.specs.Sends.{Sends}
 use Rattle.group_state.specs.declared.tally.GroupCounts.{GroupCounts}
 use Rattle.group_state.specs.declared.tally.Receipt.{Receipt}
-use Rattle.group_state.specs.Tally.{Accepted, sends}
+use Rattle.group_state.specs.Tally.{Accepted, is_send}
 
 -- of the events so far in a group of `count`: how many sent, how many took a datagram without a tag, the
 -- sends, and who took a datagram with which tag
@@ -43,7 +43,7 @@ send_by false t a = t
 send_by true t a = record t { sends = t.sends + 1; sent = map.insert t.sent (a.process, a.entry.clock) a.entry.call.a0 }
 
 abbrev pub with_send : Tallying → Accepted → Tallying
-with_send t a = send_by (sends t.count a) t a
+with_send t a = send_by (is_send t.count a) t a
 
 -- with the datagram that it took, where it took one
 abbrev pub receipt_by : Bool → Option Tag → ℕ → Tallying → Tallying
@@ -55,13 +55,13 @@ abbrev pub with_receipt : Tallying → Accepted → Tallying
 with_receipt t a = receipt_by (is_taken a.entry) a.entry.tag a.process t
 
 -- with one event more
-abbrev pub with_event : Tallying → Accepted → Tallying
-with_event t a = with_receipt (with_send t a) a
+abbrev pub with_accepted : Tallying → Accepted → Tallying
+with_accepted t a = with_receipt (with_send t a) a
 
 -- with these events more
-abbrev pub with_events : Tallying → List Accepted → Tallying
-with_events t [] = t
-with_events t (a ∷ events) = with_events (with_event t a) events
+abbrev pub with_all_accepted : Tallying → List Accepted → Tallying
+with_all_accepted t [] = t
+with_all_accepted t (a ∷ events) = with_all_accepted (with_accepted t a) events
 
 -- no send of its process at its clock was counted
 abbrev pub IsNew : Tallying → Accepted → Type 0
@@ -70,17 +70,17 @@ IsNew t a = map.get t.sent (a.process, a.entry.clock) ≡ None
 -- each of these events is new where it comes
 abbrev pub AreNew : Tallying → List Accepted → Type 0
 AreNew t [] = Unit {0}
-AreNew t (a ∷ events) = IsNew t a × AreNew (with_event t a) events
+AreNew t (a ∷ events) = IsNew t a × AreNew (with_accepted t a) events
 
 -- one event more can be counted
-pub record HasRoom (t : Tallying) : Type 0 where
+pub record HasTallyRoom (t : Tallying) : Type 0 where
   pub sends : t.sends + 1 < 2 ^ 64
   pub untagged : t.untagged + 1 < 2 ^ 64
 
 -- each of these events can be counted where it comes
-abbrev pub HasRoomFor : Tallying → List Accepted → Type 0
-HasRoomFor t [] = Unit {0}
-HasRoomFor t (a ∷ events) = HasRoom t × HasRoomFor (with_event t a) events
+abbrev pub HasTallyRoomFor : Tallying → List Accepted → Type 0
+HasTallyRoomFor t [] = Unit {0}
+HasTallyRoomFor t (a ∷ events) = HasTallyRoom t × HasTallyRoomFor (with_accepted t a) events
 
 -- the send that the tag names is for this process
 abbrev pub is_to : ℕ → Option ℕ → Bool

@@ -1,7 +1,7 @@
 // A group at a position.
 ghost use Rattle.std.specs.Prelude.{◌≡◌, ◌≤◌, ◌-◌, ℕ, Some, None, IfOk, IsTrue, IsFalse, ◌↔◌, length, map, option_map, slice_get};
-ghost use Rattle.group_state.specs.Place.{AreParts, Fits, Place, events, states};
-ghost use Rattle.group_state.specs.Moves.{IsThere, Moves, event_of, last_of};
+ghost use Rattle.group_state.specs.Place.{AreParts, PartsFit, Place, events, states};
+ghost use Rattle.group_state.specs.Moves.{IsThere, Moves, event_of, last_event_of};
 
 use crate::event::GroupEvent;
 use crate::forward::{head_of, take_turn};
@@ -145,14 +145,14 @@ impl<'m, 'a> Group<'m, 'a> {
         ensures position { result ≡ self.now.at }
         ensures within { self.now.at ≤ length (events self.now.start) }
         ensures parts { AreParts self.now.start }
-        ensures fits { Fits self.now.start }
+        ensures fits { PartsFit self.now.start }
     {
         self.at
     }
 
     /// The event that was made last. None comes exactly at position 0.
     pub fn last_event(&self) -> Option<GroupEvent<'a>>
-        ensures { option_map event_of result ≡ last_of self.now }
+        ensures { option_map event_of result ≡ last_event_of self.now }
     {
         self.last
     }

@@ -5,7 +5,7 @@ ghost use Rattle.guest_process.specs.Replay.{Verdict as VerdictOf, left_over};
 ghost use Rattle.proc_replay.specs.Course.{Tells, ahead};
 ghost use Rattle.proc_replay.specs.Replaying.{turn};
 ghost use Rattle.group_state.specs.Report.{EndsAt, accepted_in, said_of};
-ghost use Rattle.group_state.specs.Tallying.{AreNew, HasRoomFor, with_events};
+ghost use Rattle.group_state.specs.Tallying.{AreNew, HasTallyRoomFor, with_all_accepted};
 
 use crate::report::Verdict;
 use crate::tally::Tally;
@@ -20,8 +20,8 @@ pub(crate) fn tally_events<'m, 'a>(
     tally: &mut Tally,
 ) -> Result<Replayer<'m, 'a>, AllocError>
     requires new { AreNew tally.old (accepted_in part) }
-    requires room { HasRoomFor tally.old (accepted_in part) }
-    ensures tally { OnOk result (tally.new ≡ with_events tally.old (accepted_in part.entry)) }
+    requires room { HasTallyRoomFor tally.old (accepted_in part) }
+    ensures tally { OnOk result (tally.new ≡ with_all_accepted tally.old (accepted_in part.entry)) }
     ensures ends { IfOk result (EndsAt part.entry) }
 {
     replays();

@@ -1,8 +1,8 @@
 // What is said of a whole group.
 ghost use Rattle.std.specs.Prelude.{◌≡◌, IfOk, OnOk};
 ghost use Rattle.group_state.specs.Place.{group_count};
-ghost use Rattle.group_state.specs.Report.{IsReport, accepted_in, line_of};
-ghost use Rattle.group_state.specs.Tallying.{AreNew, HasRoomFor, with_events};
+ghost use Rattle.group_state.specs.Report.{IsReport, accepted_in, report_line};
+ghost use Rattle.group_state.specs.Tallying.{AreNew, HasTallyRoomFor, with_all_accepted};
 
 use crate::group::Group;
 use crate::part::{tally_events, verdict};
@@ -61,9 +61,9 @@ fn report_log(
 ) -> Result<ReportLine, AllocError>
     requires fresh { part.state.events ≡ 0 }
     requires new { AreNew tally.old (accepted_in part) }
-    requires room { HasRoomFor tally.old (accepted_in part) }
-    ensures tally { OnOk result (tally.new ≡ with_events tally.old (accepted_in part.entry)) }
-    ensures line { IfOk result (λ line. line ≡ line_of part.entry) }
+    requires room { HasTallyRoomFor tally.old (accepted_in part) }
+    ensures tally { OnOk result (tally.new ≡ with_all_accepted tally.old (accepted_in part.entry)) }
+    ensures line { IfOk result (λ line. line ≡ report_line part.entry) }
 {
     replays();
     let last = tally_events(part, tally)?;

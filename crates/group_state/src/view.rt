@@ -1,14 +1,14 @@
 // A group as expressions see it, at its position.
 ghost use Rattle.std.specs.Prelude.{◌≡◌};
-ghost use Rattle.group_state.specs.Seen.{signed};
+ghost use Rattle.group_state.specs.Seen.{signed_global};
 
 use crate::group::Group;
 use guest_process::Process;
 use wasm_types::Value;
 use watch_expr::View;
 
-fn signed(value: Value) -> i64
-    ensures { result ≡ signed value }
+fn signed_global(value: Value) -> i64
+    ensures { result ≡ signed_global value }
 {
     match value {
         Value::I32(x) => i64::from(x.cast_signed()),
@@ -49,7 +49,7 @@ impl<'m, 'a> View for Group<'m, 'a> {
     }
 
     fn global(&self, node: u32, n: u32) -> Option<i64> {
-        Some(signed(self.at(node).global(n)?))
+        Some(signed_global(self.at(node).global(n)?))
     }
 
     fn clock(&self, node: u32) -> i64 {

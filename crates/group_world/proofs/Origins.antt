@@ -6,7 +6,7 @@ use Rattle.std.proofs.lemmas.List.{get_or-drop}
 use Rattle.std.proofs.lemmas.List.Elements.{Contains-append_cases, Contains-append_right, Contains-push_cases}
 use Rattle.lib_calls.specs.declared.entry.Entry.{Entry}
 use Rattle.lib_calls.specs.Traffic.{is_sent}
-use Rattle.group_world.specs.History.{Act, Event, Deliver, Inject, History, addressed, datagram, given, nth, put_last_if, sends, taken}
+use Rattle.group_world.specs.History.{Act, Event, Deliver, Inject, History, addressed, datagram, given, nth, put_last_if, sends, taken_count}
 use Rattle.group_world.specs.Laws.{HasOrigin, Origin, FromOutside, FromSend}
 
 -- ---- lists
@@ -85,4 +85,4 @@ given_has_origin count (Inject q last ∷ h) p bytes held =
 given_has_origin count (a ∷ h) p bytes held = later count h p bytes a (given_has_origin count h p bytes held)
 
 pub has_origin : HasOrigin
-has_origin count h p bytes held = given_has_origin count h p bytes (in_rest (taken h p) (given count h p) bytes held)
+has_origin count h p bytes held = given_has_origin count h p bytes (in_rest (taken_count h p) (given count h p) bytes held)

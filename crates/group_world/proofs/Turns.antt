@@ -4,7 +4,7 @@ use Rattle.std.specs.Prelude.{◌==◌, ◌⊎◌, slice_get, if◌then◌else�
 use Rattle.std.proofs.lemmas.List.{append-nil}
 use Rattle.std.proofs.lemmas.Option.{same_Some}
 use Rattle.lib_calls.specs.declared.entry.Entry.{Entry}
-use Rattle.group_world.specs.History.{Act, Deliver, Inject, History, addressed, datagram, given, nth, sends, taken}
+use Rattle.group_world.specs.History.{Act, Deliver, Inject, History, addressed, datagram, given, nth, sends, taken_count}
 use Rattle.group_world.specs.Laws.{Giver, InTurn, gives}
 use Rattle.group_world.proofs.Lists.{put_last_is}
 
@@ -70,6 +70,6 @@ has_giver count (a ∷ h) p number bytes found = ⊎_elim
 
 pub in_turn : InTurn
 in_turn = record {
-  front = λ count h p. first_of_rest (taken h p) (given count h p);
+  front = λ count h p. first_of_rest (taken_count h p) (given count h p);
   giver = has_giver;
 }

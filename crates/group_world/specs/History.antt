@@ -65,14 +65,14 @@ one_if true = 1
 one_if false = 0
 
 -- how many datagrams a process took
-abbrev pub taken : History → ℕ → ℕ
-taken [] p = 0
-taken (Event q e ∷ h) p = taken h p + one_if ((q == p) && is_taken e)
-taken (_ ∷ h) p = taken h p
+abbrev pub taken_count : History → ℕ → ℕ
+taken_count [] p = 0
+taken_count (Event q e ∷ h) p = taken_count h p + one_if ((q == p) && is_taken e)
+taken_count (_ ∷ h) p = taken_count h p
 
 -- the mailbox of a process
 abbrev pub mailbox : ℕ → History → ℕ → List (List ℕ)
-mailbox count h p = drop (taken h p) (given count h p)
+mailbox count h p = drop (taken_count h p) (given count h p)
 
 -- ---- random bytes
 
@@ -83,14 +83,14 @@ supplied (Random q bytes ∷ h) p = if q == p then supplied h p ++ bytes else su
 supplied (_ ∷ h) p = supplied h p
 
 -- how many of them it took
-abbrev pub used : History → ℕ → ℕ
-used [] p = 0
-used (Event q e ∷ h) p = if q == p then used h p + drawn e else used h p
-used (_ ∷ h) p = used h p
+abbrev pub used_count : History → ℕ → ℕ
+used_count [] p = 0
+used_count (Event q e ∷ h) p = if q == p then used_count h p + drawn e else used_count h p
+used_count (_ ∷ h) p = used_count h p
 
 -- the pool of a process
 abbrev pub pool : History → ℕ → List ℕ
-pool h p = drop (used h p) (supplied h p)
+pool h p = drop (used_count h p) (supplied h p)
 
 -- ---- the rest
 

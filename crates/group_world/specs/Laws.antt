@@ -5,8 +5,8 @@ use Rattle.lamport_tag.specs.Tag.{read_datagram}
 use Rattle.lib_calls.specs.declared.entry.Entry.{Entry}
 use Rattle.lib_calls.specs.Traffic.{drawn, is_taken}
 use Rattle.lossy_net.specs.Network.{Sent, mailbox_of, sent_by}
-use Rattle.group_world.specs.History.{Act, Event, Deliver, Inject, Clock, Random, Signal, Kill, History, addressed, datagram, given, is_killed, is_pending, mailbox, nth, pool, sends, taken, time}
-use Rattle.group_world.specs.World.{World, has_pending, place_of, world_after}
+use Rattle.group_world.specs.History.{Act, Event, Deliver, Inject, Clock, Random, Signal, Kill, History, addressed, datagram, given, is_killed, is_pending, mailbox, nth, pool, sends, taken_count, time}
+use Rattle.group_world.specs.World.{World, has_pending, surroundings_of, world_after}
 
 -- ---- which acts can come
 
@@ -39,15 +39,15 @@ sent_as p e = record { to = e.call.a0; bytes = datagram p e }
 pub record IsCounted (count : ℕ) (h : History) (w : World) (p : ℕ) : Type 0 where
   pub sent : sent_by w.net p ≡ map (sent_as p) (sends count h p)
   pub mailbox : mailbox_of w.net p ≡ mailbox count h p
-  pub pool : (place_of w p).pool ≡ pool h p
-  pub time : (place_of w p).time ≡ time h p
+  pub pool : (surroundings_of w p).pool ≡ pool h p
+  pub time : (surroundings_of w p).time ≡ time h p
   pub pending : (s : ℕ) → 1 ≤ s → s ≤ 31 → has_pending w p s ≡ is_pending h p s
-  pub killed : (place_of w p).killed ≡ is_killed h p
+  pub killed : (surroundings_of w p).killed ≡ is_killed h p
 
 -- the size of the world stays, and what is kept around each process is what is counted
 pub record Counting : Type 0 where
   pub net : (count : ℕ) (h : History) → length (world_after count h).net ≡ count
-  pub places : (count : ℕ) (h : History) → length (world_after count h).places ≡ count
+  pub surroundings : (count : ℕ) (h : History) → length (world_after count h).surroundings ≡ count
   pub counted : (count : ℕ) (h : History) → CanBe count h → (p : ℕ) → p < count → IsCounted count h (world_after count h) p
 
 -- ---- where datagrams come from
@@ -84,7 +84,7 @@ pub record Giver (count : ℕ) (h : History) (p number : ℕ) (bytes : List ℕ)
 -- the front of a mailbox is the datagram that was given next after those that were taken; and each datagram
 -- was given by an act
 pub record InTurn : Type 0 where
-  pub front : (count : ℕ) (h : History) (p : ℕ) → slice_get (mailbox count h p) 0 ≡ slice_get (given count h p) (taken h p)
+  pub front : (count : ℕ) (h : History) (p : ℕ) → slice_get (mailbox count h p) 0 ≡ slice_get (given count h p) (taken_count h p)
   pub giver : (count : ℕ) (h : History) (p number : ℕ) (bytes : List ℕ) → slice_get (given count h p) number ≡ Some bytes
       → Giver count h p number bytes
 

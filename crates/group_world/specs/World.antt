@@ -9,36 +9,36 @@ use Rattle.group_world.specs.History.{Act, Event, Deliver, Inject, Clock, Random
 
 -- what stands around one process beside its datagrams: the random bytes that are left, the wall time as the
 -- bits of a signed number, which signals are pending, and whether the process was killed
-pub record Place : Type 0 where
+pub record Surroundings : Type 0 where
   pub pool : List ℕ
   pub time : ℕ
   pub pending : List Bool
   pub killed : Bool
 
-abbrev pub no_place : Place
-no_place = record { pool = []; time = 0; pending = none_pending; killed = false }
+abbrev pub no_surroundings : Surroundings
+no_surroundings = record { pool = []; time = 0; pending = none_pending; killed = false }
 
--- the network, and a place for each process
+-- the network, and what stands around each process
 pub record World : Type 0 where
   pub net : List Traffic
-  pub places : List Place
+  pub surroundings : List Surroundings
 
 abbrev pub new_world : ℕ → World
-new_world count = record { net = replicate count no_traffic; places = replicate count no_place }
+new_world count = record { net = replicate count no_traffic; surroundings = replicate count no_surroundings }
 
 -- how many processes the group has
 abbrev pub size : World → ℕ
 size w = length w.net
 
-abbrev pub place_of : World → ℕ → Place
-place_of w p = slice_index_or w.places p no_place
+abbrev pub surroundings_of : World → ℕ → Surroundings
+surroundings_of w p = slice_index_or w.surroundings p no_surroundings
 
-abbrev pub with_place : World → ℕ → Place → World
-with_place w p place = record w { places = slice_set w.places p place }
+abbrev pub with_surroundings : World → ℕ → Surroundings → World
+with_surroundings w p place = record w { surroundings = slice_set w.surroundings p place }
 
 -- whether a signal is pending at process p
 abbrev pub has_pending : World → ℕ → ℕ → Bool
-has_pending w p s = is_pending (place_of w p).pending s
+has_pending w p s = is_pending (surroundings_of w p).pending s
 
 -- ---- an event
 
@@ -48,7 +48,7 @@ took_if taken net p = if taken then without_front net p else net
 abbrev pub sent_if : Bool → List Traffic → ℕ → Entry → List Traffic
 sent_if sent net p e = if sent then with_sent net p (record { to = e.call.a0; bytes = datagram p e }) else net
 
-abbrev pub drew : Place → ℕ → Place
+abbrev pub drew : Surroundings → ℕ → Surroundings
 drew place n = record place { pool = drop n place.pool }
 
 -- signals are numbered from 1 to 31, and another number is none
@@ -56,32 +56,32 @@ abbrev pub is_signal : ℕ → Bool
 is_signal s = nat_le 1 s && nat_le s 31
 
 -- the signal, if it is one, is pending no longer
-abbrev pub without : List Bool → ℕ → List Bool
-without pending s = if is_signal s then with_pending pending s false else pending
+abbrev pub without_signal : List Bool → ℕ → List Bool
+without_signal pending s = if is_signal s then with_pending pending s false else pending
 
 -- random bytes that the event took are gone, and a signal that it delivered is pending no longer
-abbrev pub settled : Place → Entry → Place
-settled place e = record (drew place (drawn e)) { pending = without place.pending e.signal }
+abbrev pub after_entry : Surroundings → Entry → Surroundings
+after_entry place e = record (drew place (drawn e)) { pending = without_signal place.pending e.signal }
 
 -- a datagram that the event took is gone, and one that it sent is kept
 abbrev pub after_event : World → ℕ → Entry → World
 after_event w p e = record {
   net = sent_if (is_sent (size w) e) (took_if (is_taken e) w.net p) p e;
-  places = slice_set w.places p (settled (place_of w p) e);
+  surroundings = slice_set w.surroundings p (after_entry (surroundings_of w p) e);
 }
 
 -- ---- all acts
 
-abbrev pub after : World → Act → World
-after w (Event p e) = after_event w p e
-after w (Deliver p n) = record w { net = with_delivered w.net (nth_of (sent_by w.net p) n) }
-after w (Inject p bytes) = record w { net = with_waiting w.net p bytes }
-after w (Clock p time) = with_place w p (record (place_of w p) { time = time })
-after w (Random p bytes) = with_place w p (record (place_of w p) { pool = (place_of w p).pool ++ bytes })
-after w (Signal p s) = with_place w p (record (place_of w p) { pending = with_pending (place_of w p).pending s true })
-after w (Kill p) = with_place w p (record (place_of w p) { killed = true })
+abbrev pub with_act : World → Act → World
+with_act w (Event p e) = after_event w p e
+with_act w (Deliver p n) = record w { net = with_delivered w.net (nth_of (sent_by w.net p) n) }
+with_act w (Inject p bytes) = record w { net = with_waiting w.net p bytes }
+with_act w (Clock p time) = with_surroundings w p (record (surroundings_of w p) { time = time })
+with_act w (Random p bytes) = with_surroundings w p (record (surroundings_of w p) { pool = (surroundings_of w p).pool ++ bytes })
+with_act w (Signal p s) = with_surroundings w p (record (surroundings_of w p) { pending = with_pending (surroundings_of w p).pending s true })
+with_act w (Kill p) = with_surroundings w p (record (surroundings_of w p) { killed = true })
 
 -- the world of a group of `count` after these acts
 abbrev pub world_after : ℕ → History → World
 world_after count [] = new_world count
-world_after count (a ∷ h) = after (world_after count h) a
+world_after count (a ∷ h) = with_act (world_after count h) a

@@ -3,7 +3,7 @@
 #![tactic(auto)]
 
 mod laws;
-mod place;
+mod surroundings;
 mod world;
 
 pub use laws::by_counting;

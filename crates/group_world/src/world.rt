@@ -4,9 +4,9 @@ ghost use Rattle.lib_calls.specs.Entry.{entry_of};
 ghost use Rattle.lib_calls.specs.Traffic.{drawn as drawn_of, is_sent as is_sent_of, is_taken as is_taken_of};
 ghost use Rattle.lossy_net.specs.Network.{front_of, mailbox_of, nth_of, sent_by};
 ghost use Rattle.group_world.specs.History.{Event, Deliver, Inject, Clock, Random, Signal, Kill, datagram as datagram_of};
-ghost use Rattle.group_world.specs.World.{after, has_pending, new_world, place_of, sent_if, size, took_if};
+ghost use Rattle.group_world.specs.World.{has_pending, new_world, sent_if, size, surroundings_of, took_if, with_act};
 
-use crate::place::Place;
+use crate::surroundings::Surroundings;
 use fri_bytes::Bytes;
 use lamport_tag::{Tag, write_tag};
 use lib_calls::{EntryView, is_sent, is_taken};
@@ -15,13 +15,13 @@ use std::alloc::{AllocError, Global};
 use std::marker::Model;
 
 /// What is on its way between the processes of a group, and what stands around each of them. Contracts
-/// see the network and a place for each process.
+/// see the network and what stands around each process.
 #[derive(Drop)]
 pub struct World {
     alloc: Global,
     count: u32,
     net: Net,
-    places: Vec<Place>,
+    surroundings: Vec<Surroundings>,
 }
 
 impl Model for World {
@@ -30,9 +30,9 @@ impl Model for World {
 
     ghost Value = { WorldOf };
 
-    ghost view = { λ w. record { net = w.net; places = w.places.items } };
+    ghost view = { λ w. record { net = w.net; surroundings = w.surroundings.items } };
 
-    ghost invariant = { λ w. (w.count ≡ length w.net) × (length w.places.items ≡ length w.net) };
+    ghost invariant = { λ w. (w.count ≡ length w.net) × (length w.surroundings.items ≡ length w.net) };
 }
 
 impl World {
@@ -41,15 +41,15 @@ impl World {
         ensures { IfOk result (λ w. w ≡ new_world count) }
     {
         let net = Net::new(alloc, count)?;
-        let mut places = Vec::new(alloc);
+        let mut surroundings = Vec::new(alloc);
         for _ in 0..count {
-            places.push(Place::new(alloc))?;
+            surroundings.push(Surroundings::new(alloc))?;
         }
         Ok(World {
             alloc,
             count,
             net,
-            places,
+            surroundings,
         })
     }
 
@@ -65,17 +65,17 @@ impl World {
     /// The random bytes that are left for `p`.
     pub fn pool(&self, p: u32) -> &[u8]
         requires { p < size self.now }
-        ensures { result.now ≡ (place_of self.now p).pool }
+        ensures { result.now ≡ (surroundings_of self.now p).pool }
     {
-        self.places[p as usize].pool()
+        self.surroundings[p as usize].pool()
     }
 
     /// The wall time of `p`, as the bits of a signed number.
     pub fn time(&self, p: u32) -> u64
         requires { p < size self.now }
-        ensures { result ≡ (place_of self.now p).time }
+        ensures { result ≡ (surroundings_of self.now p).time }
     {
-        self.places[p as usize].time
+        self.surroundings[p as usize].time
     }
 
     /// Whether the signal is pending at `p`.
@@ -85,15 +85,15 @@ impl World {
         requires last { s ≤ 31 }
         ensures { result ≡ has_pending self.now p s }
     {
-        self.places[p as usize].is_pending(s)
+        self.surroundings[p as usize].is_pending(s)
     }
 
     /// Whether `p` was killed.
     pub fn is_killed(&self, p: u32) -> bool
         requires { p < size self.now }
-        ensures { result ≡ (place_of self.now p).killed }
+        ensures { result ≡ (surroundings_of self.now p).killed }
     {
-        self.places[p as usize].killed
+        self.surroundings[p as usize].killed
     }
 
     /// An event of `p`: what it took is gone, what it sent into the group is kept, and the signal that it
@@ -101,15 +101,15 @@ impl World {
     pub fn event(&mut self, p: u32, entry: &EntryView<'_>) -> Result<(), AllocError>
         requires process { p < size self.old }
         requires datagram { IsTrue (is_taken_of (entry_of entry.now)) → 1 ≤ length (mailbox_of self.old.net p) }
-        requires bytes { drawn_of (entry_of entry.now) ≤ length (place_of self.old p).pool }
-        ensures ok { OnOk result (self.new ≡ after self.old (Event p (entry_of entry.now))) }
+        requires bytes { drawn_of (entry_of entry.now) ≤ length (surroundings_of self.old p).pool }
+        ensures ok { OnOk result (self.new ≡ with_act self.old (Event p (entry_of entry.now))) }
         ensures err { OnErr result (self.new ≡ self.old) }
         ensures memory { OnErr result (IsTrue (is_sent_of (size self.old) (entry_of entry.now))) }
         ensures size { size self.new ≡ size self.old }
     {
         self.keep_sent(p, entry)?;
         self.let_go_taken(p, entry);
-        self.places[p as usize].settle(entry);
+        self.surroundings[p as usize].settle(entry);
         Ok(())
     }
 
@@ -146,7 +146,7 @@ impl World {
     pub fn deliver(&mut self, p: u32, n: u64) -> Result<bool, AllocError>
         requires { p < size self.old }
         ensures found { IfOk result (λ found. found ≡ is_some (nth_of (sent_by self.old.net p) n)) }
-        ensures ok { OnOk result (self.new ≡ after self.old (Deliver p n)) }
+        ensures ok { OnOk result (self.new ≡ with_act self.old (Deliver p n)) }
         ensures err { OnErr result (self.new ≡ self.old) }
         ensures memory { OnErr result (IsTrue (is_some (nth_of (sent_by self.old.net p) n))) }
         ensures size { size self.new ≡ size self.old }
@@ -157,7 +157,7 @@ impl World {
     /// Puts bytes from outside at the end of the mailbox of `p`.
     pub fn inject(&mut self, p: u32, bytes: &[u8]) -> Result<(), AllocError>
         requires { p < size self.old }
-        ensures ok { OnOk result (self.new ≡ after self.old (Inject p bytes.now)) }
+        ensures ok { OnOk result (self.new ≡ with_act self.old (Inject p bytes.now)) }
         ensures err { OnErr result (self.new ≡ self.old) }
         ensures size { size self.new ≡ size self.old }
     {
@@ -168,21 +168,21 @@ impl World {
     /// Puts random bytes behind those that are left for `p`.
     pub fn add_random(&mut self, p: u32, bytes: &[u8]) -> Result<(), AllocError>
         requires { p < size self.old }
-        ensures ok { OnOk result (self.new ≡ after self.old (Random p bytes.now)) }
+        ensures ok { OnOk result (self.new ≡ with_act self.old (Random p bytes.now)) }
         ensures err { OnErr result (self.new ≡ self.old) }
         ensures memory { OnErr result (1 ≤ length bytes.now) }
         ensures size { size self.new ≡ size self.old }
     {
-        self.places[p as usize].add(bytes)
+        self.surroundings[p as usize].add(bytes)
     }
 
     /// Sets the wall time of `p`, given as the bits of a signed number.
     pub fn set_time(&mut self, p: u32, time: u64)
         requires { p < size self.old }
-        ensures value { self.new ≡ after self.old (Clock p time) }
+        ensures value { self.new ≡ with_act self.old (Clock p time) }
         ensures size { size self.new ≡ size self.old }
     {
-        self.places[p as usize].time = time;
+        self.surroundings[p as usize].time = time;
     }
 
     /// Makes the signal pending at `p`.
@@ -190,19 +190,19 @@ impl World {
         requires process { p < size self.old }
         requires first { 1 ≤ s }
         requires last { s ≤ 31 }
-        ensures value { self.new ≡ after self.old (Signal p s) }
+        ensures value { self.new ≡ with_act self.old (Signal p s) }
         ensures size { size self.new ≡ size self.old }
     {
-        self.places[p as usize].raise(s);
+        self.surroundings[p as usize].raise(s);
     }
 
     /// Notes that `p` was killed.
     pub fn kill(&mut self, p: u32)
         requires { p < size self.old }
-        ensures value { self.new ≡ after self.old (Kill p) }
+        ensures value { self.new ≡ with_act self.old (Kill p) }
         ensures size { size self.new ≡ size self.old }
     {
-        self.places[p as usize].killed = true;
+        self.surroundings[p as usize].killed = true;
     }
 }
 

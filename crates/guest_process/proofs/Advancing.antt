@@ -28,14 +28,14 @@ use Rattle.guest_process.specs.declared.waiting.Waiting.{Waiting}
 use Rattle.lib_calls.specs.Answer.{Answer, answer_of}
 use Rattle.guest_process.specs.Answers.{acted, effects, exited, narrow}
 use Rattle.guest_process.specs.Fits.{Each, StateFits, live_has}
-use Rattle.guest_process.specs.GoesOn.{budget, called, counted, entered, goes_on, handler, runs, settled, stands, stopped}
-use Rattle.guest_process.specs.Kinds.{ends_process, value_of}
+use Rattle.guest_process.specs.GoesOn.{after_running, budget, counted, finished_if_over, goes_on, handler, stands, stopped, stopped_at_call, with_handler_frame}
+use Rattle.guest_process.specs.Kinds.{ends_process, reply_value}
 use Rattle.guest_process.specs.Legal.{reason, reason_at}
 use Rattle.guest_process.specs.Next.{next, next_at}
 use Rattle.guest_process.specs.Seen.{IsProcess, state_of}
 use Rattle.guest_process.specs.Sound.{IsSound, IsStanding}
 use Rattle.guest_process.specs.Start.{beginning}
-use Rattle.guest_process.specs.State.{State, is_running, kind_at as kind_of, thread_at, with_thread}
+use Rattle.guest_process.specs.State.{State, is_running, pending_kind as kind_of, thread_at, with_thread}
 use Rattle.guest_process.proofs.KeptFits.{state_kept}
 use Rattle.guest_process.proofs.KeptSound.{next_program, sound_kept}
 use Rattle.guest_process.proofs.Failing.{unless_none}
@@ -84,17 +84,17 @@ with_again S t slot = ap (λ slots. record S { crew = record S.crew { threads = 
 abbrev ended : State → End → State
 ended S end = record S { end = end }
 
-called_out : (S : State) (t : ℕ) (thread : Thread) (site : CallSite) (o : Option Kind) → called (with_thread S t Lent) t thread site o ≡ called S t thread site o
+called_out : (S : State) (t : ℕ) (thread : Thread) (site : CallSite) (o : Option Kind) → stopped_at_call (with_thread S t Lent) t thread site o ≡ stopped_at_call S t thread site o
 called_out S t thread site (Some kind) = with_again S t (Kept (stands S thread site kind))
 called_out S t thread site None = ap (λ S'. ended S' (Trapped Unreachable)) (with_again S t Over)
 
 stopped_out : (S : State) (t : ℕ) (stop : Stop) → stopped (with_thread S t Lent) t stop ≡ stopped S t stop
 stopped_out S t (Calls thread site) = called_out S t thread site (kind_at S.store.program site.func)
-stopped_out S t Ends = ap (λ S'. settled S') (with_again S t Over)
+stopped_out S t Ends = ap (λ S'. finished_if_over S') (with_again S t Over)
 stopped_out S t (Traps trap) = ap (λ S'. ended S' (Trapped trap)) (with_again S t Over)
 stopped_out S t Sticks = ap (λ S'. ended S' (Trapped Unreachable)) (with_again S t Over)
 
-runs_out : (S : State) (t : ℕ) (o : Option Thread) → runs (with_thread S t Lent) t o ≡ runs S t o
+runs_out : (S : State) (t : ℕ) (o : Option Thread) → after_running (with_thread S t Lent) t o ≡ after_running S t o
 runs_out S t None = ap (λ S'. ended S' (Trapped Exhausted)) (with_again S t Over)
 runs_out S t (Some thread) =
     let run = burst budget thread S.store in
@@ -110,13 +110,13 @@ exits_by _ S t w a signal clock e h = cc
 -- how a thread goes on that was taken out of the state after its answer
 abbrev pub goes_out : Kind → State → ℕ → Strand → ℕ → ℕ → ℕ → State
 goes_out k S t strand reply signal clock =
-    runs (counted (with_thread S t Lent) clock) t (entered S.store.program (answered strand (value_of k reply)) signal (handler S.handlers signal))
+    after_running (counted (with_thread S t Lent) clock) t (with_handler_frame S.store.program (answered strand (reply_value k reply)) signal (handler S.handlers signal))
 
 runs_by : (k : Kind) (S : State) (t : ℕ) (strand : Strand) (reply signal clock : ℕ) → ends_process k ≡ false → goes_out k S t strand reply signal clock ≡ goes_on k S t strand reply signal clock
 runs_by k S t strand reply signal clock h =
-    let thread = entered S.store.program (answered strand (value_of k reply)) signal (handler S.handlers signal) in
+    let thread = with_handler_frame S.store.program (answered strand (reply_value k reply)) signal (handler S.handlers signal) in
     runs_out (counted S clock) t thread
-    ∙ ap (λ ends. cond ends (counted S clock) (runs (counted S clock) t thread)) (sym h)
+    ∙ ap (λ ends. cond ends (counted S clock) (after_running (counted S clock) t thread)) (sym h)
 
 -- ---- what is done before the thread is taken out
 
@@ -185,10 +185,10 @@ goes S e w s legal at h =
 
 -- ---- the parts after a legal entry's event are those of a process
 
-pub process_kept : KeepsProgram → (p q : Parts) (e : Entry) → IsProcess p → reason (state_of p) e ≡ None → state_of q ≡ next (state_of p) e → q.program ≡ p.program → Suits q.store → IsProcess q
+pub process_kept : KeepsProgram → (p q : Parts) (e : Entry) → IsProcess p → reason (state_of p) e ≡ None → state_of q ≡ next (state_of p) e → q.«module» ≡ p.«module» → Suits q.store → IsProcess q
 process_kept keeps p q e is h state program suits = record {
   suits = suits;
-  program = ap (λ r. module_of r.now) program ∙ is.program ∙ sym (ap (λ S. S.store.program) state ∙ next_program keeps (state_of p) e is.sound);
+  same_module = ap (λ r. module_of r.now) program ∙ is.same_module ∙ sym (ap (λ S. S.store.program) state ∙ next_program keeps (state_of p) e is.sound);
   fits = subst StateFits (sym state) (state_kept keeps (state_of p) e is.fits h);
   sound = subst IsSound (sym state) (sound_kept keeps (state_of p) e is.sound h);
 }

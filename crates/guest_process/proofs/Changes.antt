@@ -20,14 +20,14 @@ use Rattle.guest_process.specs.declared.waiting.Waiting.{Waiting}
 use Rattle.lib_calls.specs.Answer.{Answer}
 use Rattle.guest_process.specs.Answers.{effects, narrow}
 use Rattle.guest_process.specs.Fits.{Each, Slotted}
-use Rattle.guest_process.specs.GoesOn.{after_burst, all_over, budget, called, counted, entered, goes_on, handler, runs, stands, stopped}
-use Rattle.guest_process.specs.Kinds.{ends_process, value_of}
+use Rattle.guest_process.specs.GoesOn.{after_burst, after_running, all_over, budget, counted, goes_on, handler, stands, stopped, stopped_at_call, with_handler_frame}
+use Rattle.guest_process.specs.Kinds.{ends_process, reply_value}
 use Rattle.guest_process.specs.Start.{beginning}
 use Rattle.guest_process.specs.State.{State, with_new_thread, with_thread}
 use Rattle.guest_process.proofs.Effects.{effects_has}
 use Rattle.guest_process.proofs.Spawning.{has_room}
 
--- what an answer changes of a state where P is to hold of each live thread: its program, its number and its
+-- what an answer changes of a state where P is to hold of each live thread: its module, its number and its
 -- group stay, and it makes no more threads than there is room for
 pub record Affects (P : Waiting → Type 0) (S S' : State) : Type 0 where
   pub who : S'.who ≡ S.who
@@ -108,7 +108,7 @@ module _ (P : Waiting → Type 0) where
   abbrev pub Stand : Module → Type 0
   Stand m = (S : State) (thread : Thread) (site : CallSite) (kind : Kind) → S.store.program ≡ m → kind_at m site.func ≡ Some kind → P (stands S thread site kind)
 
-  called_kept : (S : State) (t : ℕ) (thread : Thread) (site : CallSite) → Each P S.crew.threads → Stand S.store.program → (o : Option Kind) → kind_at S.store.program site.func ≡ o → Keeps P t S (called S t thread site o)
+  called_kept : (S : State) (t : ℕ) (thread : Thread) (site : CallSite) → Each P S.crew.threads → Stand S.store.program → (o : Option Kind) → kind_at S.store.program site.func ≡ o → Keeps P t S (stopped_at_call S t thread site o)
   called_kept S t thread site f g (Some kind) e = set_kept S t (Kept (stands S thread site kind)) S.end f (g S thread site kind refl e)
   called_kept S t thread site f g None e = set_kept S t Over _ f tt
 
@@ -124,18 +124,18 @@ module _ (P : Waiting → Type 0) where
       (record { who = refl; count = refl; program = e; room = refl; threads = f; others = λ u h. refl; holders = refl; handlers = refl; clock = refl; events = refl })
       (stopped_kept (record S { store = run.store }) t run.stop f (subst Stand (sym e) g))
 
-  runs_kept : KeepsProgram → (S : State) (t : ℕ) (o : Option Thread) → Each P S.crew.threads → Stand S.store.program → Keeps P t S (runs S t o)
+  runs_kept : KeepsProgram → (S : State) (t : ℕ) (o : Option Thread) → Each P S.crew.threads → Stand S.store.program → Keeps P t S (after_running S t o)
   runs_kept keeps S t None f g = set_kept S t Over _ f tt
   runs_kept keeps S t (Some thread) f g = burst_kept S t (burst budget thread S.store) (keeps budget thread S.store) f g
 
-  event_kept : KeepsProgram → (b : Bool) (S : State) (t : ℕ) (o : Option Thread) → Each P S.crew.threads → Stand S.store.program → Keeps P t S (cond b S (runs S t o))
+  event_kept : KeepsProgram → (b : Bool) (S : State) (t : ℕ) (o : Option Thread) → Each P S.crew.threads → Stand S.store.program → Keeps P t S (cond b S (after_running S t o))
   event_kept keeps true S t o f g = kept_same t S f
   event_kept keeps false S t o f g = runs_kept keeps S t o f g
 
   -- as it goes on after the answer
   pub went_on : KeepsProgram → (k : Kind) (S : State) (t : ℕ) (w : Waiting) (reply signal clock : ℕ) → Each P S.crew.threads → Stand S.store.program → Keeps P t (counted S clock) (goes_on k S t w.strand reply signal clock)
   went_on keeps k S t w reply signal clock f g =
-      event_kept keeps (ends_process k) (counted S clock) t (entered S.store.program (answered w.strand (value_of k reply)) signal (handler S.handlers signal)) f g
+      event_kept keeps (ends_process k) (counted S clock) t (with_handler_frame S.store.program (answered w.strand (reply_value k reply)) signal (handler S.handlers signal)) f g
 
   -- ---- the answer
 

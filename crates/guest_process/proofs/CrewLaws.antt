@@ -19,7 +19,7 @@ use Rattle.wasm_step.specs.Strand.{new_thread}
 use Rattle.wasm_step.specs.Thread.{Thread}
 use Rattle.guest_process.specs.declared.waiting.Waiting.{Waiting}
 use Rattle.guest_process.specs.Answers.{effects, narrow, spawnable}
-use Rattle.guest_process.specs.Crews.{AsMany, LockAfter, LockKept, Locked, MadeAfter, OneMore, OnlySpawnAdds, OthersStay, Same, Unlocked}
+use Rattle.guest_process.specs.Crews.{AsMany, LockAfter, LockKept, Locked, MadeAfter, OneMore, OnlySpawnAdds, OtherThreadsStay, Same, Unlocked}
 use Rattle.guest_process.specs.Fits.{StateFits, WaitingFits}
 use Rattle.guest_process.specs.GoesOn.{counted}
 use Rattle.guest_process.specs.Legal.{checks, reason_at}
@@ -63,7 +63,7 @@ others_at keeps S e s None h u other low = cc
 others_at keeps S e s (Some w) h u other low = (goes keeps S e s w).others u other ∙ answer_others S e w u other low
 
 -- the other threads stay as they were
-pub others_kept : KeepsProgram → OthersStay
+pub others_kept : KeepsProgram → OtherThreadsStay
 others_kept keeps S e s h = others_at keeps S e s (thread_at S e.thread) (unless_none (is_running S) _ _ h).1
 
 -- ---- the threads that are made

@@ -23,10 +23,10 @@ use Rattle.call_table.specs.declared.kind.Kind.TheVariants.{Begin, Exit, Note, P
 use Rattle.lib_calls.specs.Answer.{Answer}
 use Rattle.wasm_step.specs.Strand.{new_thread}
 use Rattle.wasm_step.specs.Thread.{Thread}
-use Rattle.guest_process.specs.Answers.{Need, Fixed, Blocked, World, asked, need, handled, handler_given, handles, is_empty, is_holder, is_payload, is_possible, is_due, is_plain, is_taken, joined, joins, locked, locks, narrow, replied, spawnable, spawned, spawned_at, spawns, unlocked, written}
+use Rattle.guest_process.specs.Answers.{Need, Fixed, Blocked, World, asked, need, handled, handler_given, handles, is_empty, is_holder, is_payload, is_possible, is_due, brings_nothing, takes_datagram, joined, joins, locked, locks, narrow, replied, spawnable, spawned, spawned_at, spawns, unlocked, with_answer}
 use Rattle.guest_process.specs.Fits.{EnvFits, StateFits}
-use Rattle.guest_process.specs.Legal.{answers}
-use Rattle.guest_process.specs.Live.{Env, Answered, cut, drawn, fills, first_taken, from_world, or_empty, takes}
+use Rattle.guest_process.specs.Legal.{gives_answer}
+use Rattle.guest_process.specs.Live.{Env, Answered, cut_datagram, random_answer, fills, first_taken, from_world, or_empty, takes}
 use Rattle.guest_process.specs.State.{State, with_memory, without_lock}
 use Rattle.guest_process.proofs.Failing.{kept, same}
 use Rattle.guest_process.proofs.Written.{asked_good, good_written, not_minus_two, now_written, random_short, recv_short, sleep_written, try_recv_short}
@@ -136,19 +136,19 @@ reply_fits Number S t c s low args = omega arith
 -- what its answer is to satisfy
 pub record Matches (k : Kind) (S : State) (c : Call) (a : Answered) : Type 0 where
   pub possible : is_possible k S c a.answer ≡ true
-  pub same : written S c a.answer ≡ a.after
+  pub same : with_answer S c a.answer ≡ a.after
   pub reply : a.answer.reply < 2 ^ 64
   pub incoming : IsStringIf (row k).entry.incoming a.answer.incoming
   pub tag : IsTagIf (row k).entry.tag a.answer.tag
   pub clock : clock_of a.answer.tag ≤ 2 ^ 62
 
-drawn_matches : (S : State) (c : Call) (pool : List ℕ) → kind_numbered c.kind ≡ Some Random → is_good c S.store.memory ≡ true → nat_le c.a1 (length pool) ≡ true → Matches Random S c (fills S c (drawn c (take c.a1 pool)))
+drawn_matches : (S : State) (c : Call) (pool : List ℕ) → kind_numbered c.kind ≡ Some Random → is_good c S.store.memory ≡ true → nat_le c.a1 (length pool) ≡ true → Matches Random S c (fills S c (random_answer c (take c.a1 pool)))
 drawn_matches S c pool e good enough =
     let long : length (take c.a1 pool) ≡ c.a1 = length-take-le c.a1 pool (leb-true c.a1 (length pool) enough) in
     let short = random_short S c e good in
     record {
       possible = and_from _ _ (same c.a1) (and_from _ _ (eq-eqb (length (take c.a1 pool)) c.a1 long) refl);
-      same = good_written Random S c (drawn c (take c.a1 pool)) e good;
+      same = good_written Random S c (random_answer c (take c.a1 pool)) e good;
       reply = omega (arith, short);
       incoming = omega (arith, long, short);
       tag = refl;
@@ -180,13 +180,13 @@ module _ (stays : StaysUntagged) (sent : IsFromGroup) where
 
   -- what a datagram brings
   record Brings (S : State) (c : Call) (a : Answer) : Type 0 where
-    taken : is_taken S.count c a ≡ true
+    taken : takes_datagram S.count c a ≡ true
     reply : a.reply ≤ c.a1
     incoming : length a.incoming ≤ c.a1
     tag : IsTagIf true a.tag
     clock : clock_of a.tag ≤ 2 ^ 62
 
-  cut_brings : (S : State) (c : Call) (datagram : List ℕ) → S.count ≤ 16 → Brings S c (cut c.a1 (read_datagram S.count datagram))
+  cut_brings : (S : State) (c : Call) (datagram : List ℕ) → S.count ≤ 16 → Brings S c (cut_datagram c.a1 (read_datagram S.count datagram))
   cut_brings S c datagram few =
       let read = read_datagram S.count datagram in
       let bytes = take c.a1 read.1 in
@@ -227,7 +227,7 @@ module _ (stays : StaysUntagged) (sent : IsFromGroup) where
 
   none_matches : (S : State) (c : Call) → kind_numbered c.kind ≡ Some TryRecv → is_good c S.store.memory ≡ true → Matches TryRecv S c (or_empty S None)
   none_matches S c e good = record {
-    possible = or_right (is_taken S.count c (or_empty S None).answer) _ refl;
+    possible = or_right (takes_datagram S.count c (or_empty S None).answer) _ refl;
     same = good_written TryRecv S c (or_empty S None).answer e good;
     reply = omega arith;
     incoming = omega arith;
@@ -261,7 +261,7 @@ module _ (stays : StaysUntagged) (sent : IsFromGroup) where
 -- ---- the clocks of tags
 
 -- a plain answer has no tag
-pub plain_tag : (tag : Option Tag) (incoming : List ℕ) → is_plain tag incoming ≡ true → tag ≡ None
+pub plain_tag : (tag : Option Tag) (incoming : List ℕ) → brings_nothing tag incoming ≡ true → tag ≡ None
 plain_tag None incoming h = refl
 plain_tag (Some t) incoming h = cc
 
@@ -269,22 +269,22 @@ drawn_tag : (tag : Option Tag) → not (is_some tag) ≡ true → tag ≡ None
 drawn_tag None h = refl
 drawn_tag (Some t) h = cc
 
-taken_clock : (count : ℕ) (c : Call) (a : Answer) → is_taken count c a ≡ true → clock_of a.tag ≤ 2 ^ 62
+taken_clock : (count : ℕ) (c : Call) (a : Answer) → takes_datagram count c a ≡ true → clock_of a.tag ≤ 2 ^ 62
 taken_clock count c a h = payload_clock count a.tag a.incoming (and_parts (takes_counted c a) (is_payload count a.tag a.incoming) h).1
 
 -- no tag that an answer of the world can have bears a clock past 2 ^ 62
 possible_clock : (k : Kind) (S : State) (c : Call) (a : Answer) → is_possible k S c a ≡ true → clock_of a.tag ≤ 2 ^ 62
 possible_clock Now S c a h = rw (plain_tag a.tag a.incoming h) (omega arith)
-possible_clock SleepUntil S c a h = rw (plain_tag a.tag a.incoming (and_parts (is_due c.a0 a.reply) (is_plain a.tag a.incoming) h).1) (omega arith)
+possible_clock SleepUntil S c a h = rw (plain_tag a.tag a.incoming (and_parts (is_due c.a0 a.reply) (brings_nothing a.tag a.incoming) h).1) (omega arith)
 possible_clock Random S c a h = rw (drawn_tag a.tag (and_parts (length a.incoming == c.a1) (not (is_some a.tag)) (and_parts (a.reply == c.a1) _ h).1).1) (omega arith)
 possible_clock Recv S c a h = taken_clock S.count c a h
-possible_clock TryRecv S c a h = elim (or_cases (is_taken S.count c a) (is_empty a) h) [
+possible_clock TryRecv S c a h = elim (or_cases (takes_datagram S.count c a) (is_empty a) h) [
   | inl taken ↦ taken_clock S.count c a taken
-  | inr empty ↦ rw (plain_tag a.tag a.incoming (and_parts (a.reply == minus_two) (is_plain a.tag a.incoming) empty).1) (omega arith)
+  | inr empty ↦ rw (plain_tag a.tag a.incoming (and_parts (a.reply == minus_two) (brings_nothing a.tag a.incoming) empty).1) (omega arith)
 ]
 possible_clock _ S c a h = cc
 
-pub answer_clock : (k : Kind) (S : State) (c : Call) (n : Need) (a : Answer) → answers n a (is_possible k S c a) ≡ true → clock_of a.tag ≤ 2 ^ 62
-answer_clock k S c (Fixed r S') a h = rw (plain_tag a.tag a.incoming (and_parts (a.reply == r) (is_plain a.tag a.incoming) h).1) (omega arith)
+pub answer_clock : (k : Kind) (S : State) (c : Call) (n : Need) (a : Answer) → gives_answer n a (is_possible k S c a) ≡ true → clock_of a.tag ≤ 2 ^ 62
+answer_clock k S c (Fixed r S') a h = rw (plain_tag a.tag a.incoming (and_parts (a.reply == r) (brings_nothing a.tag a.incoming) h).1) (omega arith)
 answer_clock k S c Blocked a h = cc
 answer_clock k S c World a h = possible_clock k S c a h

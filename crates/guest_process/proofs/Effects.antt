@@ -15,7 +15,7 @@ use Rattle.lib_calls.specs.declared.entry.Call.{Call}
 use Rattle.signal_points.specs.Signals.{with_handler}
 use Rattle.wasm_step.specs.Strand.{new_thread}
 use Rattle.wasm_step.specs.Thread.{Thread}
-use Rattle.guest_process.specs.Answers.{Fixed, World, acted, after_need, asked, effects, exited, handled, handler_given, handles, is_holder, joined, joins, locked, locks, narrow, spawnable, spawned, spawned_at, spawns, unlocked, written}
+use Rattle.guest_process.specs.Answers.{Fixed, World, acted, after_need, asked, effects, exited, handled, handler_given, handles, is_holder, joined, joins, locked, locks, narrow, spawnable, spawned, spawned_at, spawns, unlocked, with_answer}
 use Rattle.guest_process.specs.Start.{beginning}
 use Rattle.guest_process.specs.State.{State, with_handlers, with_lock, with_new_thread, without_lock}
 
@@ -88,16 +88,16 @@ pub record Cases (Q : State → Type 0) (k : Kind) (S : State) (t : ℕ) (c : Ca
   pub spawns : k ≡ Spawn → (f : ℕ) → spawnable S (narrow c.a0) ≡ Some f → (thread : Thread) → new_thread S.store.program f (narrow c.a1) ≡ Some thread → Q (with_new_thread S (beginning S.store.program thread))
 
 -- holds after each answer
-pub effects_has : (Q : State → Type 0) (k : Kind) (S : State) (t : ℕ) (c : Call) (a : Answer) → Cases Q k S t c → Q S → Q (written S c a) → (k ≡ Exit → Q (exited S t c.a0)) → Q (effects k S t c a)
+pub effects_has : (Q : State → Type 0) (k : Kind) (S : State) (t : ℕ) (c : Call) (a : Answer) → Cases Q k S t c → Q S → Q (with_answer S c a) → (k ≡ Exit → Q (exited S t c.a0)) → Q (effects k S t c a)
 effects_has Q Exit S t c a cases same writes exits = exits refl
-effects_has Q Random S t c a cases same writes exits = asked_has Q S c (written S c a) same writes
-effects_has Q Recv S t c a cases same writes exits = asked_has Q S c (written S c a) same writes
-effects_has Q TryRecv S t c a cases same writes exits = asked_has Q S c (written S c a) same writes
-effects_has Q Join S t c a cases same writes exits = joined_has Q S t (narrow c.a0) (written S c a) same writes
-effects_has Q Lock S t c a cases same writes exits = locked_has Q S (narrow c.a0) t (written S c a) same writes (cases.locks refl)
-effects_has Q Unlock S t c a cases same writes exits = unlocked_has Q S (narrow c.a0) t (written S c a) same (cases.unlocks refl)
-effects_has Q OnSignal S t c a cases same writes exits = handled_has Q S (narrow c.a0) (narrow c.a1) (written S c a) same (cases.handles refl)
-effects_has Q Spawn S t c a cases same writes exits = spawned_has Q S (narrow c.a0) (narrow c.a1) (written S c a) same (cases.spawns refl)
+effects_has Q Random S t c a cases same writes exits = asked_has Q S c (with_answer S c a) same writes
+effects_has Q Recv S t c a cases same writes exits = asked_has Q S c (with_answer S c a) same writes
+effects_has Q TryRecv S t c a cases same writes exits = asked_has Q S c (with_answer S c a) same writes
+effects_has Q Join S t c a cases same writes exits = joined_has Q S t (narrow c.a0) (with_answer S c a) same writes
+effects_has Q Lock S t c a cases same writes exits = locked_has Q S (narrow c.a0) t (with_answer S c a) same writes (cases.locks refl)
+effects_has Q Unlock S t c a cases same writes exits = unlocked_has Q S (narrow c.a0) t (with_answer S c a) same (cases.unlocks refl)
+effects_has Q OnSignal S t c a cases same writes exits = handled_has Q S (narrow c.a0) (narrow c.a1) (with_answer S c a) same (cases.handles refl)
+effects_has Q Spawn S t c a cases same writes exits = spawned_has Q S (narrow c.a0) (narrow c.a1) (with_answer S c a) same (cases.spawns refl)
 effects_has Q Begin S t c a cases same writes exits = same
 effects_has Q Note S t c a cases same writes exits = same
 effects_has Q Print S t c a cases same writes exits = same
@@ -108,7 +108,7 @@ effects_has Q Number S t c a cases same writes exits = same
 effects_has Q _ S t c a cases same writes exits = writes
 
 -- and but for the end of the thread
-pub acted_has : (Q : State → Type 0) (o : Option Kind) (S : State) (t : ℕ) (c : Call) (a : Answer) → ((k : Kind) → Cases Q k S t c) → Q S → Q (written S c a) → Q (acted o S t c a)
+pub acted_has : (Q : State → Type 0) (o : Option Kind) (S : State) (t : ℕ) (c : Call) (a : Answer) → ((k : Kind) → Cases Q k S t c) → Q S → Q (with_answer S c a) → Q (acted o S t c a)
 acted_has Q (Some Lock) S t c a cases same writes = locked_has Q S (narrow c.a0) t S same same ((cases Lock).locks refl)
 acted_has Q (Some Unlock) S t c a cases same writes = unlocked_has Q S (narrow c.a0) t S same ((cases Unlock).unlocks refl)
 acted_has Q (Some OnSignal) S t c a cases same writes = handled_has Q S (narrow c.a0) (narrow c.a1) S same ((cases OnSignal).handles refl)

@@ -16,9 +16,9 @@ use Rattle.wasm_step.specs.declared.call.CallSite.{CallSite}
 use Rattle.guest_process.specs.declared.end.End.TheVariants.{Finished}
 use Rattle.guest_process.specs.declared.waiting.Waiting.{Waiting}
 use Rattle.guest_process.specs.Answers.{effects}
-use Rattle.guest_process.specs.EventCount.{IsBegun, IsCounted, IsFresh}
-use Rattle.guest_process.specs.GoesOn.{budget, called, counted, entered, handler, runs, stopped}
-use Rattle.guest_process.specs.Kinds.{ends_process, value_of}
+use Rattle.guest_process.specs.EventCount.{BeginsFresh, CountsEvents, IsFresh}
+use Rattle.guest_process.specs.GoesOn.{after_running, budget, counted, handler, stopped, stopped_at_call, with_handler_frame}
+use Rattle.guest_process.specs.Kinds.{ends_process, reply_value}
 use Rattle.guest_process.specs.Legal.{reason_at}
 use Rattle.guest_process.specs.Next.{next_at}
 use Rattle.guest_process.specs.Start.{begun_with}
@@ -28,7 +28,7 @@ use Rattle.guest_process.proofs.Effects.{effects_has}
 
 -- ---- a process begins with no event
 
-pub begins : IsBegun
+pub begins : BeginsFresh
 begins m who count S h = by_store (store_of m) (first_thread m) h
   where
     by_store : (o : Option Store) (thread : Option Thread) → begun_with m who count o thread ≡ Some S → IsFresh who count S
@@ -46,7 +46,7 @@ settled_events : (S : State) (b : Bool) → (cond b (record S { end = Finished }
 settled_events S true = refl
 settled_events S false = refl
 
-called_events : (S : State) (t : ℕ) (thread : Thread) (site : CallSite) (o : Option Kind) → (called S t thread site o).events ≡ S.events
+called_events : (S : State) (t : ℕ) (thread : Thread) (site : CallSite) (o : Option Kind) → (stopped_at_call S t thread site o).events ≡ S.events
 called_events S t thread site (Some kind) = refl
 called_events S t thread site None = refl
 
@@ -56,13 +56,13 @@ stopped_events S t Ends = settled_events _ _
 stopped_events S t (Traps trap) = refl
 stopped_events S t Sticks = refl
 
-runs_events : (S : State) (t : ℕ) (o : Option Thread) → (runs S t o).events ≡ S.events
+runs_events : (S : State) (t : ℕ) (o : Option Thread) → (after_running S t o).events ≡ S.events
 runs_events S t None = refl
 runs_events S t (Some thread) =
     let run = burst budget thread S.store in
     stopped_events (record S { store = run.store }) t run.stop
 
-event_events : (b : Bool) (S : State) (t : ℕ) (o : Option Thread) → (cond b S (runs S t o)).events ≡ S.events
+event_events : (b : Bool) (S : State) (t : ℕ) (o : Option Thread) → (cond b S (after_running S t o)).events ≡ S.events
 event_events true S t o = refl
 event_events false S t o = runs_events S t o
 
@@ -73,8 +73,8 @@ counts_at S e None h = cc
 counts_at S e (Some w) h =
     let k = w.kind in
     let S' = effects k S e.thread w.call (answer_of e) in
-    event_events (ends_process k) (counted S' e.clock) e.thread (entered S'.store.program (answered w.strand (value_of k e.reply)) e.signal (handler S'.handlers e.signal))
+    event_events (ends_process k) (counted S' e.clock) e.thread (with_handler_frame S'.store.program (answered w.strand (reply_value k e.reply)) e.signal (handler S'.handlers e.signal))
     ∙ ap (λ n. n + 1) (answer_events k S e.thread w.call (answer_of e))
 
-pub counts : IsCounted
+pub counts : CountsEvents
 counts S e h = counts_at S e (thread_at S e.thread) (unless_none (is_running S) _ _ h).1

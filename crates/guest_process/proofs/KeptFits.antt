@@ -105,7 +105,7 @@ rises_at keeps S e s (Some w) h =
       events = kept.events;
       who = kept.who;
       count = kept.count;
-      program = kept.program;
+      same_module = kept.program;
     }
 
 -- the clock rises, and the process stays the same

@@ -1,4 +1,4 @@
--- A legal event keeps what the strands and handlers of a process owe its program.
+-- A legal event keeps what the strands and handlers of a process owe its module.
 use Rattle.std.proofs.Common.{◌≡◌, ℕ, zero, suc, Bool, true, false, cond, List, [], ◌∷◌, Option, Some, None, length, arith, ◌<◌, refl, ap, ◌∙◌, sym, subst}
 use Rattle.std.specs.Prelude.{All, get_or, option_and_then, slice_get, ◌==◌, ◌%◌, ◌^◌}
 use Rattle.std.proofs.lemmas.Option.{same_Some}
@@ -23,11 +23,11 @@ use Rattle.guest_process.specs.declared.waiting.Waiting.{Waiting}
 use Rattle.guest_process.specs.Answers.{effects, narrow}
 use Rattle.guest_process.specs.Fits.{Each}
 use Rattle.guest_process.specs.GoesOn.{handler, stands}
-use Rattle.guest_process.specs.Kinds.{value_of}
+use Rattle.guest_process.specs.Kinds.{reply_value}
 use Rattle.guest_process.specs.Legal.{reason_at}
 use Rattle.guest_process.specs.Next.{next, next_at}
 use Rattle.guest_process.specs.OneEvent.{IsKeptSound}
-use Rattle.guest_process.specs.Sound.{IsSound, IsStanding, StandsAt}
+use Rattle.guest_process.specs.Sound.{IsSound, IsStanding, StandsAtKind}
 use Rattle.guest_process.specs.Start.{beginning}
 use Rattle.guest_process.specs.State.{State, is_running, thread_at}
 use Rattle.guest_process.proofs.Changes.{Stand, affected, event_affects, went_on}
@@ -41,7 +41,7 @@ width_fits true narrow reply = tt
 width_fits false true reply = tt
 width_fits false false reply = tt
 
-value_fits : (kind : Kind) (reply : ℕ) → IsResult (slice_get (type_of (row kind).signature).results 0) (value_of kind reply)
+value_fits : (kind : Kind) (reply : ℕ) → IsResult (slice_get (type_of (row kind).signature).results 0) (reply_value kind reply)
 value_fits kind reply = let width = (row kind).signature.result in width_fits (width == 0) (width == 32) reply
 
 -- `begin` is not imported
@@ -69,11 +69,11 @@ described_as m (desc.Table limits) index type e h = cc
 described_as m (desc.Memory limits) index type e h = cc
 described_as m (desc.Global kind mutable) index type e h = cc
 
-stand_by : (m : Module) (w : Waiting) (func : ℕ) (kind : Kind) → (kind ≡ Begin → ⊥) → w.strand.call ≡ Some func → ((reply : ℕ) → IsResult (library_result m func) (value_of kind reply)) → StandsAt m w kind
+stand_by : (m : Module) (w : Waiting) (func : ℕ) (kind : Kind) → (kind ≡ Begin → ⊥) → w.strand.call ≡ Some func → ((reply : ℕ) → IsResult (library_result m func) (reply_value kind reply)) → StandsAtKind m w kind
 stand_by m w func Begin not_begin at gives = absurd (not_begin refl)
 stand_by m w func _ not_begin at gives = (func, at, gives)
 
-stand_at : (m : Module) (w : Waiting) (func : ℕ) (kind : Kind) → All (IsOfLibrary m.types) m.imports → w.strand.call ≡ Some func → (o : Option Import) → slice_get m.imports func ≡ o → option_and_then (λ (i : Import). importable i.name) o ≡ Some kind → StandsAt m w kind
+stand_at : (m : Module) (w : Waiting) (func : ℕ) (kind : Kind) → All (IsOfLibrary m.types) m.imports → w.strand.call ≡ Some func → (o : Option Import) → slice_get m.imports func ≡ o → option_and_then (λ (i : Import). importable i.name) o ≡ Some kind → StandsAtKind m w kind
 stand_at m w func kind all c None at h = cc
 stand_at m w func kind all c (Some import) at h =
     let is = imported m.types m.imports func all import at in
@@ -85,12 +85,12 @@ stand_at m w func kind all c (Some import) at h =
 
 stand_sound : (m : Module) → All (IsOfLibrary m.types) m.imports → (S : State) (thread : Thread) (site : CallSite) (kind : Kind) → S.store.program ≡ m → kind_at m site.func ≡ Some kind → IsStanding m (stands S thread site kind)
 stand_sound m all S thread site kind e h = record {
-  program = e;
+  same_module = e;
   stands = stand_at m (stands S thread site kind) site.func kind all refl (slice_get m.imports site.func) refl h;
 }
 
 begin_stands : (m : Module) (thread : Thread) → IsStanding m (beginning m thread)
-begin_stands m thread = record { program = refl; stands = refl }
+begin_stands m thread = record { same_module = refl; stands = refl }
 
 pub handlers_sound : (k : Kind) (S : State) (t : ℕ) (c : Call) (a : Answer) → AreHandlers S.store.program S.handlers → AreHandlers S.store.program (effects k S t c a).handlers
 handlers_sound k S t c a sound =
@@ -103,7 +103,7 @@ handlers_sound k S t c a sound =
     })
     sound sound (λ e. sound)
 
--- what an answer leaves of the handlers is of the program, and so they stay as the thread goes on
+-- what an answer leaves of the handlers is of the module, and so they stay as the thread goes on
 sound_at : KeepsProgram → (S : State) (e : Entry) → IsSound S → (o : Option Waiting) → reason_at S e o ≡ None → IsSound (next_at S e o)
 sound_at keeps S e s None h = cc
 sound_at keeps S e s (Some w) h =
@@ -131,6 +131,6 @@ program_at keeps S e s None = refl
 program_at keeps S e s (Some w) =
     (event_affects (IsStanding S.store.program) keeps w.kind S e.thread w.call (answer_of e) w e.signal e.clock s.threads (begin_stands S.store.program) (stand_sound S.store.program s.imports)).program
 
--- an event leaves the program as it is
+-- an event leaves the module as it is
 pub next_program : KeepsProgram → (S : State) (e : Entry) → IsSound S → (next S e).store.program ≡ S.store.program
 next_program keeps S e s = program_at keeps S e s (thread_at S e.thread)

@@ -18,12 +18,12 @@ use Rattle.lib_calls.specs.Entry.{IsStringIf, IsTagIf}
 use Rattle.lib_calls.specs.Kinds.{has_incoming, has_tag}
 use Rattle.call_table.specs.declared.kind.Kind.{Kind}
 use Rattle.guest_process.specs.declared.waiting.Waiting.{Waiting}
-use Rattle.guest_process.specs.Answers.{Need, Fixed, Blocked, World, need, is_possible, written, after_need, effects}
+use Rattle.guest_process.specs.Answers.{Need, Fixed, Blocked, World, need, is_possible, with_answer, after_need, effects}
 use Rattle.guest_process.specs.Fits.{EnvFits, StateFits, WaitingFits, live_has}
 use Rattle.guest_process.specs.GoesOn.{goes_on, handler}
 use Rattle.guest_process.specs.Kinds.{ends_process}
-use Rattle.guest_process.specs.Legal.{answers, checks, is_handled}
-use Rattle.guest_process.specs.Live.{Env, Event, Answered, answered, chosen, event, from_world, live_at, lowest}
+use Rattle.guest_process.specs.Legal.{checks, gives_answer, is_handled}
+use Rattle.guest_process.specs.Live.{Env, Event, Answered, answered_now, chosen_signal, event, from_world, event_of_waiting, lowest}
 use Rattle.guest_process.specs.OneEvent.{Agrees, OneEvent}
 use Rattle.guest_process.specs.State.{State, is_running, thread_at}
 use Rattle.guest_process.proofs.Failing.{same, kept, mapped, none_failing, lowest_holds}
@@ -37,14 +37,14 @@ live_low (slot ∷ slots) (suc t) w h = omega (arith, live_low slots t w h)
 
 -- what the laws of the kinds come to
 record Answers (k : Kind) (S : State) (c : Call) (n : Need) (a : Answered) : Type 0 where
-  pub possible : answers n a.answer (is_possible k S c a.answer) ≡ true
-  pub same : after_need n (written S c a.answer) ≡ a.after
+  pub possible : gives_answer n a.answer (is_possible k S c a.answer) ≡ true
+  pub same : after_need n (with_answer S c a.answer) ≡ a.after
   pub reply : a.answer.reply < 2 ^ 64
   pub incoming : IsStringIf (row k).entry.incoming a.answer.incoming
   pub tag : IsTagIf (row k).entry.tag a.answer.tag
   pub clock : clock_of a.answer.tag ≤ 2 ^ 62
 
-answered_holds : StaysUntagged → IsFromGroup → (k : Kind) (S : State) (t : ℕ) (c : Call) (env : Env) → S.count ≤ 16 → EnvFits env → kind_numbered c.kind ≡ Some k → (n : Need) → need k S t c ≡ n → ReplyFits n → (a : Answered) → answered n (from_world k S c env) ≡ Some a → Answers k S c n a
+answered_holds : StaysUntagged → IsFromGroup → (k : Kind) (S : State) (t : ℕ) (c : Call) (env : Env) → S.count ≤ 16 → EnvFits env → kind_numbered c.kind ≡ Some k → (n : Need) → need k S t c ≡ n → ReplyFits n → (a : Answered) → answered_now n (from_world k S c env) ≡ Some a → Answers k S c n a
 answered_holds stays sent k S t c env few e is (Fixed r S') need_is fits a h =
     subst (Answers k S c (Fixed r S')) (same_Some _ _ h) (record {
       possible = and_from _ _ (same r) refl;
@@ -67,9 +67,9 @@ handled_by p q true n is = rw is refl
 handled_by p q false n is =
     rw is (elim (lowest_holds (λ s. q s && p s) 31 1) [ inl h ↦ rw h refl | inr h ↦ handled_at p (q (lowest (λ s. q s && p s) 31 1)) (lowest (λ s. q s && p s) 31 1) h.0 h.1 ])
 
-chosen_handled : (k : Kind) (handlers : List (Option ℕ)) (pending : ℕ → Bool) → is_handled k handlers (chosen k handlers pending) ≡ true
+chosen_handled : (k : Kind) (handlers : List (Option ℕ)) (pending : ℕ → Bool) → is_handled k handlers (chosen_signal k handlers pending) ≡ true
 chosen_handled k handlers pending =
-    handled_by (λ s. is_some (handler handlers s)) pending (ends_process k) (chosen k handlers pending) refl
+    handled_by (λ s. is_some (handler handlers s)) pending (ends_process k) (chosen_signal k handlers pending) refl
 
 chosen_low : (p : ℕ → Bool) (b : Bool) → cond b 0 (lowest p 31 1) < 2 ^ 8
 chosen_low p true = omega arith
@@ -115,11 +115,11 @@ event_agrees S t w env s few running stands fits a m =
       same = rw stands (ap (λ S'. goes_on k S' t w.strand a.answer.reply now.entry.signal now.entry.clock) effect);
     }
 
-one_at : StaysUntagged → IsFromGroup → (S : State) (t : ℕ) (env : Env) → StateFits S → S.events < 2 ^ 61 → EnvFits env → is_running S ≡ true → (o : Option Waiting) → thread_at S t ≡ o → (e : Event) → live_at S t env o ≡ Some e → Agrees S e
+one_at : StaysUntagged → IsFromGroup → (S : State) (t : ℕ) (env : Env) → StateFits S → S.events < 2 ^ 61 → EnvFits env → is_running S ≡ true → (o : Option Waiting) → thread_at S t ≡ o → (e : Event) → event_of_waiting S t env o ≡ Some e → Agrees S e
 one_at stays sent S t env s few f running None stands e h = cc
 one_at stays sent S t env s few f running (Some w) stands e h =
     let k = w.kind in
-    let m = mapped (event S t env w) (answered (need k S t w.call) (from_world k S w.call env)) e h in
+    let m = mapped (event S t env w) (answered_now (need k S t w.call) (from_world k S w.call env)) e h in
     let fits : WaitingFits w = live_has WaitingFits S.crew.threads t s.threads w stands in
     let low : t < 64 = omega (arith, live_low S.crew.threads t w stands, s.room) in
     let n = need k S t w.call in

@@ -48,7 +48,7 @@ same_handlers k S t c a other =
 pub given_handlers : (S : State) (t : ℕ) (c : Call) (a : Answer) → (after_need (handled S (narrow c.a0) (narrow c.a1)) S).handlers ≡ (effects OnSignal S t c a).handlers
 given_handlers S t c a = ap (λ S'. S'.handlers) (sym (handled_once S _ (narrow c.a0) (narrow c.a1)))
 
--- ---- each handler is a function that the program itself defines, with one parameter and no result
+-- ---- each handler is a function that the module itself defines, with one parameter and no result
 
 one_number : (params : List ValType) → is_number params ≡ true → params ≡ types.I32 ∷ []
 one_number (types.I32 ∷ []) h = refl

@@ -1,4 +1,4 @@
--- The process before its first event is one of its program.
+-- The process before its first event is one of its module.
 use Rattle.std.proofs.Common.{◌≡◌, ℕ, zero, suc, true, false, cond, ◌<◌, ◌≤◌, Bool, ◌&&◌, Option, Some, None, refl, ap, sym, subst, arith}
 use Rattle.std.specs.Prelude.{All, ◌==◌, length, replicate}
 use Rattle.std.specs.List.{list_all, slice_index_or}
@@ -50,7 +50,7 @@ no_handler signal func h = by_test (signal == 0) h
 begun_holds : (m : Module) (who count : ℕ) (g : Store) (thread : Thread) → who < count → count ≤ 16 → store_of m ≡ Some g → IsValid m → StateFits (begun m who count g thread) × IsSound (begun m who count g thread)
 begun_holds m who count g thread low few store valid =
     let same : g.program ≡ m = store_program m g store in
-    let begin_stands : IsStanding g.program (beginning m thread) = record { program = sym same; stands = refl } in (
+    let begin_stands : IsStanding g.program (beginning m thread) = record { same_module = sym same; stands = refl } in (
       record { clock = omega arith; room = omega arith; count = few; who = low; threads = (begin_fits m thread, tt) },
       record {
         imports = subst (λ m. All (IsOfLibrary m.types) m.imports) (sym same) valid.imports;
@@ -59,7 +59,7 @@ begun_holds m who count g thread low few store valid =
       },
     )
 
--- how a process of a valid program begins is such a state
+-- how a process of a valid module begins is such a state
 pub started : IsStarted
 started m who count S valid low few h = by_store (store_of m) refl (first_thread m) h
   where
@@ -69,13 +69,13 @@ started m who count S valid low few h = by_store (store_of m) refl (first_thread
     by_store (Some g) e (Some thread) h =
         subst (λ S. StateFits S × IsSound S) (same_Some _ _ h) (begun_holds m who count g thread low few e valid)
 
-begun_process : (p : Parts) (thread : Thread) → p.who < p.count → p.count ≤ 16 → store_of (module_of p.program.now) ≡ Some p.store → IsValid (module_of p.program.now) → Suits p.store → state_of p ≡ begun (module_of p.program.now) p.who p.count p.store thread → IsProcess p
+begun_process : (p : Parts) (thread : Thread) → p.who < p.count → p.count ≤ 16 → store_of (module_of p.«module».now) ≡ Some p.store → IsValid (module_of p.«module».now) → Suits p.store → state_of p ≡ begun (module_of p.«module».now) p.who p.count p.store thread → IsProcess p
 begun_process p thread low few store valid suits state =
-    let m = module_of p.program.now in
+    let m = module_of p.«module».now in
     let holds = begun_holds m p.who p.count p.store thread low few store valid in
-    record { program = sym (store_program m p.store store); suits = suits; fits = subst StateFits (sym state) holds.0; sound = subst IsSound (sym state) holds.1 }
+    record { same_module = sym (store_program m p.store store); suits = suits; fits = subst StateFits (sym state) holds.0; sound = subst IsSound (sym state) holds.1 }
 
 -- the parts with which the code begins are those of a process
-pub is_process : (p : Parts) (thread : Thread) → p.who < p.count → p.count ≤ 16 → store_of (module_of p.program.now) ≡ Some p.store → IsValid (module_of p.program.now) → Suits p.store → p.crew ≡ with_new_thread empty (beginning (module_of p.program.now) thread) → p.handlers ≡ no_handlers → p.clock ≡ 0 → p.events ≡ 0 → p.end ≡ Running → IsProcess p
+pub is_process : (p : Parts) (thread : Thread) → p.who < p.count → p.count ≤ 16 → store_of (module_of p.«module».now) ≡ Some p.store → IsValid (module_of p.«module».now) → Suits p.store → p.crew ≡ with_new_thread empty (beginning (module_of p.«module».now) thread) → p.handlers ≡ no_handlers → p.clock ≡ 0 → p.events ≡ 0 → p.end ≡ Running → IsProcess p
 is_process p thread low few store valid suits crew handlers clock events end =
     begun_process p thread low few store valid suits (rw (crew, handlers, clock, events, end) refl)

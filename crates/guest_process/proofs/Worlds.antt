@@ -15,11 +15,11 @@ use Rattle.lib_calls.specs.declared.entry.Entry.{Entry}
 use Rattle.lib_calls.specs.Answer.{Answer, answer_of}
 use Rattle.lib_calls.specs.Effects.{filled, is_good, minus_two, outgoing_of, received, takes_counted}
 use Rattle.guest_process.specs.declared.waiting.Waiting.{Waiting}
-use Rattle.guest_process.specs.Answers.{Need, Fixed, Blocked, World, after_need, effects, is_drawn, is_due, is_empty, is_payload, is_plain, is_possible, is_taken, need, replies, written}
+use Rattle.guest_process.specs.Answers.{Need, Fixed, Blocked, World, after_need, effects, is_drawn, is_due, is_empty, is_payload, brings_nothing, is_possible, takes_datagram, need, replies, with_answer}
 use Rattle.guest_process.specs.GoesOn.{goes_on, handler}
 use Rattle.guest_process.specs.Kinds.{ends_process}
-use Rattle.guest_process.specs.Legal.{answers, checks, is_handled, reason_at}
-use Rattle.guest_process.specs.Live.{Env, Event, Answered, answered, chosen, cut, drawn, event, fills, first_taken, from_world, live_at, lowest, or_empty, takes}
+use Rattle.guest_process.specs.Legal.{checks, gives_answer, is_handled, reason_at}
+use Rattle.guest_process.specs.Live.{Env, Event, Answered, answered_now, chosen_signal, cut_datagram, random_answer, event, fills, first_taken, from_world, event_of_waiting, lowest, or_empty, takes}
 use Rattle.guest_process.specs.Next.{next_at}
 use Rattle.guest_process.specs.OneEvent.{Possible}
 use Rattle.guest_process.specs.State.{State, is_running, thread_at, with_memory}
@@ -47,10 +47,10 @@ given : {A : Type 0} (b : Bool) (x y : A) → b ≡ true → cond b x y ≡ x
 given true x y h = refl
 given false x y h = cc
 
-plain_is : (a : Answer) → is_plain a.tag a.incoming ≡ true → replies a.reply ≡ a
+plain_is : (a : Answer) → brings_nothing a.tag a.incoming ≡ true → replies a.reply ≡ a
 plain_is a h = by_parts a.incoming a.tag h
   where
-    by_parts : (incoming : List ℕ) (tag : Option Tag) → is_plain tag incoming ≡ true → replies a.reply ≡ record { reply = a.reply; incoming = incoming; tag = tag }
+    by_parts : (incoming : List ℕ) (tag : Option Tag) → brings_nothing tag incoming ≡ true → replies a.reply ≡ record { reply = a.reply; incoming = incoming; tag = tag }
     by_parts [] None h = refl
     by_parts (_ ∷ _) None h = cc
     by_parts incoming (Some t) h = cc
@@ -61,14 +61,14 @@ gives S a = Some (record { answer = a; after = S })
 
 -- ---- random bytes
 
-drawn_given : (S : State) (c : Call) (a : Answer) → is_drawn c a ≡ true → cond (nat_le c.a1 (length a.incoming)) (Some (fills S c (drawn c (take c.a1 a.incoming)))) None ≡ Some (fills S c (drawn c a.incoming))
+drawn_given : (S : State) (c : Call) (a : Answer) → is_drawn c a ≡ true → cond (nat_le c.a1 (length a.incoming)) (Some (fills S c (random_answer c (take c.a1 a.incoming)))) None ≡ Some (fills S c (random_answer c a.incoming))
 drawn_given S c a h =
     let count = eqb-true (length a.incoming) c.a1 (and_parts (length a.incoming == c.a1) (not (is_some a.tag)) (and_parts (a.reply == c.a1) _ h).1).0 in
     given (nat_le c.a1 (length a.incoming)) _ _ (le-leb c.a1 (length a.incoming) (omega (arith, count)))
-    ∙ ap (λ bytes. Some (fills S c (drawn c bytes))) (take_all c.a1 a.incoming (omega (arith, count)))
+    ∙ ap (λ bytes. Some (fills S c (random_answer c bytes))) (take_all c.a1 a.incoming (omega (arith, count)))
 
 -- such an answer is that of the bytes that came in
-drawn_is : (c : Call) (a : Answer) → is_drawn c a ≡ true → drawn c a.incoming ≡ a
+drawn_is : (c : Call) (a : Answer) → is_drawn c a ≡ true → random_answer c a.incoming ≡ a
 drawn_is c a h =
     let parts = and_parts (a.reply == c.a1) (length a.incoming == c.a1 && not (is_some a.tag)) h in
     let tag = (and_parts (length a.incoming == c.a1) (not (is_some a.tag)) parts.1).1 in
@@ -81,7 +81,7 @@ drawn_is c a h =
     by_tag None h = refl
     by_tag (Some tag) h = cc
 
-random_gives : (S : State) (c : Call) (a : Answer) → kind_numbered c.kind ≡ Some Random → is_good c S.store.memory ≡ true → is_drawn c a ≡ true → Some (fills S c (drawn c a.incoming)) ≡ gives (written S c a) a
+random_gives : (S : State) (c : Call) (a : Answer) → kind_numbered c.kind ≡ Some Random → is_good c S.store.memory ≡ true → is_drawn c a ≡ true → Some (fills S c (random_answer c a.incoming)) ≡ gives (with_answer S c a) a
 random_gives S c a e good h =
     let put = good_written Random S c a e good in
     ap (gives (with_memory S (filled c a S.store.memory))) (drawn_is c a h) ∙ ap (λ S'. gives S' a) (sym put)
@@ -99,39 +99,39 @@ module _ (again : IsReadBack) where
       ap (payload_behind (tag_bytes tag ++ payload)) (again count tag payload (omega (arith, few)) h)
 
   -- a datagram that was taken is taken so
-  cut_is : (S : State) (c : Call) (a : Answer) → S.count ≤ 16 → is_taken S.count c a ≡ true → cut c.a1 (read_datagram S.count (sent a.tag a.incoming)) ≡ a
+  cut_is : (S : State) (c : Call) (a : Answer) → S.count ≤ 16 → takes_datagram S.count c a ≡ true → cut_datagram c.a1 (read_datagram S.count (sent a.tag a.incoming)) ≡ a
   cut_is S c a few h =
       let parts = and_parts (takes_counted c a) (is_payload S.count a.tag a.incoming) h in
       let counts = and_parts (a.reply == length a.incoming) (nat_le (length a.incoming) c.a1) parts.0 in
       let whole = take_all c.a1 a.incoming (leb-true (length a.incoming) c.a1 counts.1) in
-      ap (cut c.a1) (read_sent S.count a.tag a.incoming few parts.1)
+      ap (cut_datagram c.a1) (read_sent S.count a.tag a.incoming few parts.1)
       ∙ ap {B = Answer} (λ bytes. record { reply = length bytes; incoming = bytes; tag = a.tag }) whole
       ∙ ap {B = Answer} (λ reply. record { reply = reply; incoming = a.incoming; tag = a.tag }) (sym (eqb-true a.reply (length a.incoming) counts.0))
 
-  taken_low : (S : State) (c : Call) (a : Answer) → is_taken S.count c a ≡ true → c.a1 ≤ 60000 → a.reply ≤ 60000
+  taken_low : (S : State) (c : Call) (a : Answer) → takes_datagram S.count c a ≡ true → c.a1 ≤ 60000 → a.reply ≤ 60000
   taken_low S c a h short =
       let counts = and_parts (a.reply == length a.incoming) (nat_le (length a.incoming) c.a1) (taken_counted S.count c a h) in
       omega (arith, short, eqb-true a.reply (length a.incoming) counts.0, leb-true (length a.incoming) c.a1 counts.1)
 
-  first_given : (S : State) (c : Call) (a : Answer) → S.count ≤ 16 → is_taken S.count c a ≡ true → c.a1 ≤ 60000 → first_taken S c (mailbox_before a) ≡ Some (takes S c a)
+  first_given : (S : State) (c : Call) (a : Answer) → S.count ≤ 16 → takes_datagram S.count c a ≡ true → c.a1 ≤ 60000 → first_taken S c (mailbox_before a) ≡ Some (takes S c a)
   first_given S c a few h short =
       ap (λ none. first_taken S c (cond none [] (sent a.tag a.incoming ∷ []))) (not_minus_two a.reply (taken_low S c a h short))
       ∙ ap (λ a. Some (takes S c a)) (cut_is S c a few h)
 
-  recv_gives : (S : State) (c : Call) (a : Answer) → S.count ≤ 16 → kind_numbered c.kind ≡ Some Recv → is_good c S.store.memory ≡ true → is_taken S.count c a ≡ true → first_taken S c (mailbox_before a) ≡ gives (written S c a) a
+  recv_gives : (S : State) (c : Call) (a : Answer) → S.count ≤ 16 → kind_numbered c.kind ≡ Some Recv → is_good c S.store.memory ≡ true → takes_datagram S.count c a ≡ true → first_taken S c (mailbox_before a) ≡ gives (with_answer S c a) a
   recv_gives S c a few e good h =
       first_given S c a few h (recv_short S c e good) ∙ ap (λ S'. gives S' a) (sym (good_written Recv S c a e good))
 
-  taken_gives : (S : State) (c : Call) (a : Answer) → S.count ≤ 16 → kind_numbered c.kind ≡ Some TryRecv → is_good c S.store.memory ≡ true → is_taken S.count c a ≡ true → Some (or_empty S (first_taken S c (mailbox_before a))) ≡ gives (written S c a) a
+  taken_gives : (S : State) (c : Call) (a : Answer) → S.count ≤ 16 → kind_numbered c.kind ≡ Some TryRecv → is_good c S.store.memory ≡ true → takes_datagram S.count c a ≡ true → Some (or_empty S (first_taken S c (mailbox_before a))) ≡ gives (with_answer S c a) a
   taken_gives S c a few e good h =
       let short = try_recv_short S c e good in
       let there = not_minus_two a.reply (taken_low S c a h short) in
       let put = good_written TryRecv S c a e good ∙ ap (λ none. with_memory S (cond none S.store.memory (received c a S.store.memory))) there in
       ap (λ taken. Some (or_empty S taken)) (first_given S c a few h short) ∙ ap (λ S'. gives S' a) (sym put)
 
-  empty_gives : (S : State) (c : Call) (a : Answer) → kind_numbered c.kind ≡ Some TryRecv → is_good c S.store.memory ≡ true → is_empty a ≡ true → Some (or_empty S (first_taken S c (mailbox_before a))) ≡ gives (written S c a) a
+  empty_gives : (S : State) (c : Call) (a : Answer) → kind_numbered c.kind ≡ Some TryRecv → is_good c S.store.memory ≡ true → is_empty a ≡ true → Some (or_empty S (first_taken S c (mailbox_before a))) ≡ gives (with_answer S c a) a
   empty_gives S c a e good h =
-      let parts = and_parts (a.reply == minus_two) (is_plain a.tag a.incoming) h in
+      let parts = and_parts (a.reply == minus_two) (brings_nothing a.tag a.incoming) h in
       let put = good_written TryRecv S c a e good ∙ ap (λ none. with_memory S (cond none S.store.memory (received c a S.store.memory))) parts.0 in
       ap (λ none. Some (or_empty S (first_taken S c (cond none [] (sent a.tag a.incoming ∷ []))))) parts.0
       ∙ ap (gives S) (ap replies (sym (eqb-true a.reply minus_two parts.0)) ∙ plain_is a parts.1)
@@ -139,24 +139,24 @@ module _ (again : IsReadBack) where
 
   -- ---- an answer of the world
 
-  world_gives : (k : Kind) (S : State) (t : ℕ) (c : Call) (a : Answer) (signal : ℕ) → S.count ≤ 16 → kind_numbered c.kind ≡ Some k → need k S t c ≡ World → is_possible k S c a ≡ true → from_world k S c (around a signal) ≡ gives (written S c a) a
+  world_gives : (k : Kind) (S : State) (t : ℕ) (c : Call) (a : Answer) (signal : ℕ) → S.count ≤ 16 → kind_numbered c.kind ≡ Some k → need k S t c ≡ World → is_possible k S c a ≡ true → from_world k S c (around a signal) ≡ gives (with_answer S c a) a
   world_gives Now S t c a signal few e w h = ap (gives S) (plain_is a h) ∙ ap (λ S'. gives S' a) (sym (now_written S c a e))
   world_gives SleepUntil S t c a signal few e w h =
-      let parts = and_parts (is_due c.a0 a.reply) (is_plain a.tag a.incoming) h in
+      let parts = and_parts (is_due c.a0 a.reply) (brings_nothing a.tag a.incoming) h in
       given (is_due c.a0 a.reply) _ _ parts.0
       ∙ ap (gives S) (plain_is a parts.1)
       ∙ ap (λ S'. gives S' a) (sym (sleep_written S c a e))
   world_gives Random S t c a signal few e w h = drawn_given S c a h ∙ random_gives S c a e (asked_good S c w) h
   world_gives Recv S t c a signal few e w h = recv_gives S c a few e (asked_good S c w) h
-  world_gives TryRecv S t c a signal few e w h = elim (or_cases (is_taken S.count c a) (is_empty a) h) [
+  world_gives TryRecv S t c a signal few e w h = elim (or_cases (takes_datagram S.count c a) (is_empty a) h) [
     | inl taken ↦ taken_gives S c a few e (asked_good S c w) taken
     | inr empty ↦ empty_gives S c a e (asked_good S c w) empty
   ]
   world_gives _ S t c a signal few e w h = cc
 
-  answer_given : (k : Kind) (S : State) (t : ℕ) (c : Call) (a : Answer) (signal : ℕ) → S.count ≤ 16 → kind_numbered c.kind ≡ Some k → (n : Need) → need k S t c ≡ n → answers n a (is_possible k S c a) ≡ true → answered n (from_world k S c (around a signal)) ≡ gives (after_need n (written S c a)) a
+  answer_given : (k : Kind) (S : State) (t : ℕ) (c : Call) (a : Answer) (signal : ℕ) → S.count ≤ 16 → kind_numbered c.kind ≡ Some k → (n : Need) → need k S t c ≡ n → gives_answer n a (is_possible k S c a) ≡ true → answered_now n (from_world k S c (around a signal)) ≡ gives (after_need n (with_answer S c a)) a
   answer_given k S t c a signal few e (Fixed reply S') w h =
-      let parts = and_parts (a.reply == reply) (is_plain a.tag a.incoming) h in
+      let parts = and_parts (a.reply == reply) (brings_nothing a.tag a.incoming) h in
       ap (gives S') (ap replies (sym (eqb-true a.reply reply parts.0)) ∙ plain_is a parts.1)
   answer_given k S t c a signal few e Blocked w h = cc
   answer_given k S t c a signal few e World w h = world_gives k S t c a signal few e w h
@@ -196,7 +196,7 @@ chosen_by p signal ends h = by_test ends (signal == 0) refl h
         let parts = and_parts (nat_le signal 31) (p signal) h in
         lowest_is p signal 31 1 (omega (arith, eqb-false signal 0 e)) (omega (arith, leb-true signal 31 parts.0)) parts.1
 
-chosen_is : (k : Kind) (handlers : List (Option ℕ)) (signal : ℕ) → is_handled k handlers signal ≡ true → chosen k handlers (λ s. s == signal) ≡ signal
+chosen_is : (k : Kind) (handlers : List (Option ℕ)) (signal : ℕ) → is_handled k handlers signal ≡ true → chosen_signal k handlers (λ s. s == signal) ≡ signal
 chosen_is k handlers signal h = chosen_by (λ s. is_some (handler handlers s)) signal (ends_process k) h
 
 -- ---- the event
@@ -225,7 +225,7 @@ same_told S' e w signal clock call outgoing signals clocks calls bytes =
     ∙ ap (λ c. told S' e w e.signal e.clock c outgoing) calls
     ∙ ap (λ bytes. told S' e w e.signal e.clock e.call bytes) bytes
 
-lived : IsReadBack → (S : State) (e : Entry) → StateFits S → (o : Option Waiting) → thread_at S e.thread ≡ o → reason_at S e o ≡ None → live_at S e.thread (around (answer_of e) e.signal) o ≡ Some (record { state = next_at S e o; entry = e })
+lived : IsReadBack → (S : State) (e : Entry) → StateFits S → (o : Option Waiting) → thread_at S e.thread ≡ o → reason_at S e o ≡ None → event_of_waiting S e.thread (around (answer_of e) e.signal) o ≡ Some (record { state = next_at S e o; entry = e })
 lived again S e s None at h = cc
 lived again S e s (Some w) at h =
     let k = w.kind in
@@ -237,7 +237,7 @@ lived again S e s (Some w) at h =
     let given = answer_given again k S e.thread w.call a e.signal s.count fits.kind (need k S e.thread w.call) refl holds.reply in
     let sent = outgoing_of w.call S.store.memory in
     ap (option_map (event S e.thread env w)) given
-    ∙ ap Some (same_told S' e w (chosen k S'.handlers env.pending) (next_clock_of S.clock e.tag) w.call sent
+    ∙ ap Some (same_told S' e w (chosen_signal k S'.handlers env.pending) (next_clock_of S.clock e.tag) w.call sent
     (chosen_is k S'.handlers e.signal holds.handler) (sym (eqb-true e.clock (next_clock_of S.clock e.tag) holds.clock)) (sym (call_told S e w holds)) (sym ((bytes_eq-Decides e.outgoing sent).0 holds.bytes)))
 
 pub possible : IsReadBack → Possible

@@ -10,9 +10,9 @@ use Rattle.lamport_tag.specs.declared.Tag.{Tag}
 use Rattle.lib_calls.specs.declared.entry.Call.{Call}
 use Rattle.lib_calls.specs.Answer.{Answer}
 use Rattle.lib_calls.specs.Effects.{brings, has_good, is_answer, is_good, is_range, minus_one, minus_two, put_in, takes_counted, takes_nothing, written as memory_with}
-use Rattle.guest_process.specs.Answers.{Need, Fixed, World, acted, after_need, asked, effects, handled, is_drawn, is_empty, is_payload, is_plain, is_possible, is_taken, locked, narrow, need, spawned, unlocked, written}
+use Rattle.guest_process.specs.Answers.{Need, Fixed, World, acted, after_need, asked, effects, handled, is_drawn, is_empty, is_payload, brings_nothing, is_possible, takes_datagram, locked, narrow, need, spawned, unlocked, with_answer}
 use Rattle.guest_process.specs.Kinds.{ends_process}
-use Rattle.guest_process.specs.Legal.{answers}
+use Rattle.guest_process.specs.Legal.{gives_answer}
 use Rattle.guest_process.specs.State.{State, with_memory}
 use Rattle.guest_process.proofs.Effects.{effects_has}
 
@@ -48,39 +48,39 @@ try_recv_short S c e good =
 
 -- ---- what is written
 
-pub good_written : (k : Kind) (S : State) (c : Call) (a : Answer) → kind_numbered c.kind ≡ Some k → is_good c S.store.memory ≡ true → written S c a ≡ with_memory S (put_in k c a S.store.memory)
+pub good_written : (k : Kind) (S : State) (c : Call) (a : Answer) → kind_numbered c.kind ≡ Some k → is_good c S.store.memory ≡ true → with_answer S c a ≡ with_memory S (put_in k c a S.store.memory)
 unfolding memory_with
 good_written k S c a e good = ap (with_memory S) (rw (good, e) refl)
 
-bad_written : (S : State) (c : Call) (a : Answer) → is_good c S.store.memory ≡ false → written S c a ≡ S
+bad_written : (S : State) (c : Call) (a : Answer) → is_good c S.store.memory ≡ false → with_answer S c a ≡ S
 unfolding memory_with
 bad_written S c a bad = ap (with_memory S) (rw bad refl)
 
 -- an answer to a call of a kind that puts nothing in writes nothing
-plain_written : (k : Kind) (S : State) (c : Call) (a : Answer) → kind_numbered c.kind ≡ Some k → put_in k c a S.store.memory ≡ S.store.memory → written S c a ≡ S
+plain_written : (k : Kind) (S : State) (c : Call) (a : Answer) → kind_numbered c.kind ≡ Some k → put_in k c a S.store.memory ≡ S.store.memory → with_answer S c a ≡ S
 plain_written k S c a e same = by_test (is_good c S.store.memory) refl
   where
-    by_test : (b : Bool) → is_good c S.store.memory ≡ b → written S c a ≡ S
+    by_test : (b : Bool) → is_good c S.store.memory ≡ b → with_answer S c a ≡ S
     by_test true good = good_written k S c a e good ∙ ap (with_memory S) same
     by_test false bad = bad_written S c a bad
 
-pub exit_written : (S : State) (c : Call) (a : Answer) → kind_numbered c.kind ≡ Some Exit → written S c a ≡ S
+pub exit_written : (S : State) (c : Call) (a : Answer) → kind_numbered c.kind ≡ Some Exit → with_answer S c a ≡ S
 exit_written S c a e = plain_written Exit S c a e refl
 
-asked_written : (S : State) (c : Call) (a : Answer) → after_need (asked S c) (written S c a) ≡ written S c a
+asked_written : (S : State) (c : Call) (a : Answer) → after_need (asked S c) (with_answer S c a) ≡ with_answer S c a
 asked_written S c a = by_test (is_good c S.store.memory) refl
   where
-    by_test : (b : Bool) → is_good c S.store.memory ≡ b → after_need (cond b World (Fixed minus_one S)) (written S c a) ≡ written S c a
+    by_test : (b : Bool) → is_good c S.store.memory ≡ b → after_need (cond b World (Fixed minus_one S)) (with_answer S c a) ≡ with_answer S c a
     by_test true good = refl
     by_test false bad = sym (bad_written S c a bad)
 
-fixed_written : (k : Kind) (S : State) (c : Call) (a : Answer) (n : Need) → kind_numbered c.kind ≡ Some k → put_in k c a S.store.memory ≡ S.store.memory → after_need n (written S c a) ≡ after_need n S
+fixed_written : (k : Kind) (S : State) (c : Call) (a : Answer) (n : Need) → kind_numbered c.kind ≡ Some k → put_in k c a S.store.memory ≡ S.store.memory → after_need n (with_answer S c a) ≡ after_need n S
 fixed_written k S c a n e same = ap (after_need n) (plain_written k S c a e same)
 
-joined_written : (S : State) (t : ℕ) (c : Call) (a : Answer) → kind_numbered c.kind ≡ Some Join → effects Join S t c a ≡ written S c a
+joined_written : (S : State) (t : ℕ) (c : Call) (a : Answer) → kind_numbered c.kind ≡ Some Join → effects Join S t c a ≡ with_answer S c a
 joined_written S t c a e =
     let plain = plain_written Join S c a e refl in
-    effects_has (λ S'. S' ≡ written S c a) Join S t c a (record { locks = λ h. cc; unlocks = λ h. cc; handles = λ h. cc; spawns = λ h. cc }) (sym plain) refl (λ h. cc)
+    effects_has (λ S'. S' ≡ with_answer S c a) Join S t c a (record { locks = λ h. cc; unlocks = λ h. cc; handles = λ h. cc; spawns = λ h. cc }) (sym plain) refl (λ h. cc)
 
 -- where it does not end the process, an answer does so much
 pub effects_acted : (k : Kind) (S : State) (t : ℕ) (c : Call) (a : Answer) → kind_numbered c.kind ≡ Some k → ends_process k ≡ false → effects k S t c a ≡ acted (Some k) S t c a
@@ -103,10 +103,10 @@ effects_acted Thread S t c a e h = sym (plain_written Thread S c a e refl)
 effects_acted _ S t c a e h = refl
 
 -- a time alone writes nothing
-pub now_written : (S : State) (c : Call) (a : Answer) → kind_numbered c.kind ≡ Some Now → written S c a ≡ S
+pub now_written : (S : State) (c : Call) (a : Answer) → kind_numbered c.kind ≡ Some Now → with_answer S c a ≡ S
 now_written S c a e = plain_written Now S c a e refl
 
-pub sleep_written : (S : State) (c : Call) (a : Answer) → kind_numbered c.kind ≡ Some SleepUntil → written S c a ≡ S
+pub sleep_written : (S : State) (c : Call) (a : Answer) → kind_numbered c.kind ≡ Some SleepUntil → with_answer S c a ≡ S
 sleep_written S c a e = plain_written SleepUntil S c a e refl
 
 -- an answer by the count of bytes is not -2
@@ -115,12 +115,12 @@ not_minus_two reply low = ne_eqb reply minus_two (λ e. omega (arith, e, low))
 
 -- ---- what comes in with a legal answer
 
-plain_nothing : (reply : ℕ) (a : Answer) → ((a.reply == reply) && is_plain a.tag a.incoming) ≡ true → takes_nothing reply a ≡ true
+plain_nothing : (reply : ℕ) (a : Answer) → ((a.reply == reply) && brings_nothing a.tag a.incoming) ≡ true → takes_nothing reply a ≡ true
 plain_nothing reply a h =
-    let parts = and_parts (a.reply == reply) (is_plain a.tag a.incoming) h in
+    let parts = and_parts (a.reply == reply) (brings_nothing a.tag a.incoming) h in
     and_from (a.reply == reply) (nat_le (length a.incoming) 0) parts.0 (by_parts a.tag a.incoming parts.1)
   where
-    by_parts : (tag : Option Tag) (incoming : List ℕ) → is_plain tag incoming ≡ true → nat_le (length incoming) 0 ≡ true
+    by_parts : (tag : Option Tag) (incoming : List ℕ) → brings_nothing tag incoming ≡ true → nat_le (length incoming) 0 ≡ true
     by_parts None [] h = refl
     by_parts None (_ ∷ _) h = cc
     by_parts (Some tag) incoming h = cc
@@ -133,31 +133,31 @@ drawn_counted c a h =
     let count = eqb-true (length a.incoming) c.a1 rest.0 in
     and_from (a.reply == length a.incoming) (nat_le (length a.incoming) c.a1) (eq-eqb a.reply (length a.incoming) (reply ∙ sym count)) (le-leb (length a.incoming) c.a1 (omega (arith, count)))
 
-pub taken_counted : (count : ℕ) (c : Call) (a : Answer) → is_taken count c a ≡ true → takes_counted c a ≡ true
+pub taken_counted : (count : ℕ) (c : Call) (a : Answer) → takes_datagram count c a ≡ true → takes_counted c a ≡ true
 taken_counted count c a h = (and_parts (takes_counted c a) (is_payload count a.tag a.incoming) h).0
 
-tried_counted : (count : ℕ) (c : Call) (a : Answer) → (is_taken count c a || is_empty a) ≡ true → (takes_counted c a || takes_nothing minus_two a) ≡ true
-tried_counted count c a h = elim (or_cases (is_taken count c a) (is_empty a) h) [
+tried_counted : (count : ℕ) (c : Call) (a : Answer) → (takes_datagram count c a || is_empty a) ≡ true → (takes_counted c a || takes_nothing minus_two a) ≡ true
+tried_counted count c a h = elim (or_cases (takes_datagram count c a) (is_empty a) h) [
   | inl taken ↦ or_left (takes_counted c a) (takes_nothing minus_two a) (taken_counted count c a taken)
   | inr empty ↦ or_right (takes_counted c a) (takes_nothing minus_two a) (plain_nothing minus_two a empty)
 ]
 
-asked_brings : (S : State) (c : Call) (a : Answer) (good possible counted : Bool) → is_good c S.store.memory ≡ good → (possible ≡ true → counted ≡ true) → answers (asked S c) a possible ≡ true → cond good counted (takes_nothing minus_one a) ≡ true
+asked_brings : (S : State) (c : Call) (a : Answer) (good possible counted : Bool) → is_good c S.store.memory ≡ good → (possible ≡ true → counted ≡ true) → gives_answer (asked S c) a possible ≡ true → cond good counted (takes_nothing minus_one a) ≡ true
 asked_brings S c a good possible counted e counts h = by_tests (is_good c S.store.memory) good e h
   where
-    by_tests : (b good : Bool) → b ≡ good → answers (cond b World (Fixed minus_one S)) a possible ≡ true → cond good counted (takes_nothing minus_one a) ≡ true
+    by_tests : (b good : Bool) → b ≡ good → gives_answer (cond b World (Fixed minus_one S)) a possible ≡ true → cond good counted (takes_nothing minus_one a) ≡ true
     by_tests true true e h = counts h
     by_tests true false e h = cc
     by_tests false true e h = cc
     by_tests false false e h = plain_nothing minus_one a h
 
-brought : (k : Kind) (S : State) (t : ℕ) (c : Call) (a : Answer) → is_good c S.store.memory ≡ has_good k c S.store.memory → answers (need k S t c) a (is_possible k S c a) ≡ true → brings k c a S.store.memory ≡ true
+brought : (k : Kind) (S : State) (t : ℕ) (c : Call) (a : Answer) → is_good c S.store.memory ≡ has_good k c S.store.memory → gives_answer (need k S t c) a (is_possible k S c a) ≡ true → brings k c a S.store.memory ≡ true
 brought Random S t c a good h =
     asked_brings S c a (has_good Random c S.store.memory) (is_drawn c a) (takes_counted c a) good (drawn_counted c a) h
 brought Recv S t c a good h =
-    asked_brings S c a (has_good Recv c S.store.memory) (is_taken S.count c a) (takes_counted c a) good (taken_counted S.count c a) h
+    asked_brings S c a (has_good Recv c S.store.memory) (takes_datagram S.count c a) (takes_counted c a) good (taken_counted S.count c a) h
 brought TryRecv S t c a good h =
-    asked_brings S c a (has_good TryRecv c S.store.memory) (is_taken S.count c a || is_empty a) (takes_counted c a || takes_nothing minus_two a) good (tried_counted S.count c a) h
+    asked_brings S c a (has_good TryRecv c S.store.memory) (takes_datagram S.count c a || is_empty a) (takes_counted c a || takes_nothing minus_two a) good (tried_counted S.count c a) h
 brought _ S t c a good h = refl
 
 answer_is : (k : Kind) (c : Call) (a : Answer) (memory : Memory) → kind_numbered c.kind ≡ Some k → is_answer c a memory ≡ brings k c a memory
@@ -165,5 +165,5 @@ unfolding is_answer
 answer_is k c a memory e = rw e refl
 
 -- the bytes that come in with a legal answer are such as the call lets come in
-pub legal_answer : (k : Kind) (S : State) (t : ℕ) (c : Call) (a : Answer) → kind_numbered c.kind ≡ Some k → answers (need k S t c) a (is_possible k S c a) ≡ true → is_answer c a S.store.memory ≡ true
+pub legal_answer : (k : Kind) (S : State) (t : ℕ) (c : Call) (a : Answer) → kind_numbered c.kind ≡ Some k → gives_answer (need k S t c) a (is_possible k S c a) ≡ true → is_answer c a S.store.memory ≡ true
 legal_answer k S t c a e h = answer_is k c a S.store.memory e ∙ brought k S t c a (good_is k c S.store.memory e) h

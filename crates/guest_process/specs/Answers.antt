@@ -152,10 +152,10 @@ need OnSignal S t c = handled S (narrow c.a0) (narrow c.a1)
 need Thread S t c = Fixed t S
 
 -- no bytes came in, and no tag
-abbrev pub is_plain : Option Tag → List ℕ → Bool
-is_plain None [] = true
-is_plain None (_ ∷ _) = false
-is_plain (Some _) incoming = false
+abbrev pub brings_nothing : Option Tag → List ℕ → Bool
+brings_nothing None [] = true
+brings_nothing None (_ ∷ _) = false
+brings_nothing (Some _) incoming = false
 
 -- a time at which a thread wakes that sleeps until this one, as signed numbers
 abbrev pub is_due : ℕ → ℕ → Bool
@@ -171,25 +171,25 @@ is_payload count None payload = not (is_some (tag_at count payload))
 is_payload count (Some tag) payload = is_sendable count tag
 
 -- what came in is the payload of some datagram, cut to the bytes that the call has room for, and its tag
-abbrev pub is_taken : ℕ → Call → Answer → Bool
-is_taken count c a = takes_counted c a && is_payload count a.tag a.incoming
+abbrev pub takes_datagram : ℕ → Call → Answer → Bool
+takes_datagram count c a = takes_counted c a && is_payload count a.tag a.incoming
 
 -- no datagram was there
 abbrev pub is_empty : Answer → Bool
-is_empty a = a.reply == minus_two && is_plain a.tag a.incoming
+is_empty a = a.reply == minus_two && brings_nothing a.tag a.incoming
 
 -- whether some world gives this answer
 abbrev pub is_possible : Kind → State → Call → Answer → Bool
-is_possible Now S c a = is_plain a.tag a.incoming
-is_possible SleepUntil S c a = is_due c.a0 a.reply && is_plain a.tag a.incoming
+is_possible Now S c a = brings_nothing a.tag a.incoming
+is_possible SleepUntil S c a = is_due c.a0 a.reply && brings_nothing a.tag a.incoming
 is_possible Random S c a = is_drawn c a
-is_possible Recv S c a = is_taken S.count c a
-is_possible TryRecv S c a = is_taken S.count c a || is_empty a
+is_possible Recv S c a = takes_datagram S.count c a
+is_possible TryRecv S c a = takes_datagram S.count c a || is_empty a
 is_possible _ S c a = false
 
 -- the effects of an answer that the world gave, from the answer alone
-abbrev pub written : State → Call → Answer → State
-written S c a = with_memory S (memory_with c a S.store.memory)
+abbrev pub with_answer : State → Call → Answer → State
+with_answer S c a = with_memory S (memory_with c a S.store.memory)
 
 abbrev pub after_need : Need → State → State
 after_need (Fixed reply S) S' = S
@@ -202,8 +202,8 @@ acted (Some Spawn) S t c a = after_need (spawned S (narrow c.a0) (narrow c.a1)) 
 acted (Some Lock) S t c a = after_need (locked S (narrow c.a0) t) S
 acted (Some Unlock) S t c a = after_need (unlocked S (narrow c.a0) t) S
 acted (Some OnSignal) S t c a = after_need (handled S (narrow c.a0) (narrow c.a1)) S
-acted _ S t c a = written S c a
+acted _ S t c a = with_answer S c a
 
 -- the state with the effects of an answer
 abbrev pub effects : Kind → State → ℕ → Call → Answer → State
-effects kind S t c a = after_need (need kind S t c) (written S c a)
+effects kind S t c a = after_need (need kind S t c) (with_answer S c a)

@@ -16,8 +16,8 @@ use Rattle.guest_process.specs.Start.{beginning}
 use Rattle.guest_process.specs.State.{State}
 
 -- an event of one thread leaves each other one that was made where it stands or ended
-abbrev pub OthersStay : Type 0
-OthersStay = (S : State) (e : Entry) → StateFits S → reason S e ≡ None
+abbrev pub OtherThreadsStay : Type 0
+OtherThreadsStay = (S : State) (e : Entry) → StateFits S → reason S e ≡ None
     → (t : ℕ) → t ≢ e.thread → t < length S.crew.threads → slice_get (next S e).crew.threads t ≡ slice_get S.crew.threads t
 
 -- the event makes one more thread, which is live at `begin`

@@ -14,9 +14,9 @@ pub record IsFresh (number size : ℕ) (S : State) : Type 0 where
   pub events : S.events ≡ 0
 
 -- a process begins with no event
-abbrev pub IsBegun : Type 0
-IsBegun = (m : Module) (who count : ℕ) (S : State) → start m who count ≡ Some S → IsFresh who count S
+abbrev pub BeginsFresh : Type 0
+BeginsFresh = (m : Module) (who count : ℕ) (S : State) → start m who count ≡ Some S → IsFresh who count S
 
 -- and each legal entry is the entry of one event more
-abbrev pub IsCounted : Type 0
-IsCounted = (S : State) (e : Entry) → reason S e ≡ None → (next S e).events ≡ S.events + 1
+abbrev pub CountsEvents : Type 0
+CountsEvents = (S : State) (e : Entry) → reason S e ≡ None → (next S e).events ≡ S.events + 1

@@ -1,4 +1,4 @@
--- What holds of each state that a process of a valid program can have.
+-- What holds of each state that a process of a valid module can have.
 use Rattle.std.proofs.Common.{subst}
 use Rattle.std.proofs.lemmas.Option.{same_Some}
 use Rattle.std.specs.Prelude.{◌≡◌, ℕ, zero, suc, ◌+◌, ◌^◌, ◌<◌, ◌≤◌, List, [], ◌∷◌, length, slice_get, option_and_then, Some}
@@ -28,7 +28,8 @@ Each P [] = Unit {0}
 Each P (slot ∷ slots) = Slotted P slot × Each P slots
 
 -- what holds of each live thread holds of one
-pub live_has : (P : Waiting → Type 0) (slots : List (Slot Waiting)) (t : ℕ) → Each P slots → (w : Waiting) → option_and_then value_of (slice_get slots t) ≡ Some w → P w
+pub live_has : (P : Waiting → Type 0) (slots : List (Slot Waiting)) (t : ℕ) → Each P slots
+    → (w : Waiting) → option_and_then value_of (slice_get slots t) ≡ Some w → P w
 live_has P [] t f w h = cc
 live_has P (Kept v ∷ slots) zero f w h = subst P (same_Some _ _ h) f.0
 live_has P (Lent ∷ slots) zero f w h = cc

@@ -17,7 +17,7 @@ use Rattle.wasm_step.specs.Thread.{Thread}
 use Rattle.wasm_step.specs.declared.call.CallSite.{CallSite}
 use Rattle.guest_process.specs.declared.end.End.TheVariants.{Finished, Trapped}
 use Rattle.guest_process.specs.declared.waiting.Waiting.{Waiting}
-use Rattle.guest_process.specs.Kinds.{ends_process, value_of}
+use Rattle.guest_process.specs.Kinds.{ends_process, reply_value}
 use Rattle.guest_process.specs.State.{State, with_thread}
 
 -- a burst has at most so many instructions
@@ -31,14 +31,14 @@ abbrev pub argument : Kind → ℕ → ℕ → ℕ
 argument kind n bits = if nat_lt n (row kind).signature.params then bits % 2 ^ 64 else 0
 
 -- the call of this kind with these arguments
-abbrev pub call_at : Kind → CallSite → Call
-call_at kind site =
+abbrev pub call_of_site : Kind → CallSite → Call
+call_of_site kind site =
     record { kind = (row kind).number; a0 = argument kind 0 site.a0; a1 = argument kind 1 site.a1; a2 = argument kind 2 site.a2 }
 
 -- a thread that stands at a call of the library
 abbrev pub stands : State → Thread → CallSite → Kind → Waiting
 stands S thread site kind =
-    record { kind = kind; call = call_at kind site; strand = record { program = S.store.program; thread = thread; call = Some site.func } }
+    record { kind = kind; call = call_of_site kind site; strand = record { program = S.store.program; thread = thread; call = Some site.func } }
 
 -- thread t has trapped
 abbrev pub trapped : State → ℕ → Trap → State
@@ -54,17 +54,17 @@ all_over [] = true
 all_over (slot ∷ slots) = if is_over slot then all_over slots else false
 
 -- a process ends with its last thread
-abbrev pub settled : State → State
-settled S = if all_over S.crew.threads then record S { end = Finished } else S
+abbrev pub finished_if_over : State → State
+finished_if_over S = if all_over S.crew.threads then record S { end = Finished } else S
 
--- a valid program imports functions of the library alone and never sticks, so that these two cases don't come up
-abbrev pub called : State → ℕ → Thread → CallSite → Option Kind → State
-called S t thread site (Some kind) = with_thread S t (Kept (stands S thread site kind))
-called S t thread site None = trapped S t Unreachable
+-- a valid module imports functions of the library alone and never sticks, so that these two cases don't come up
+abbrev pub stopped_at_call : State → ℕ → Thread → CallSite → Option Kind → State
+stopped_at_call S t thread site (Some kind) = with_thread S t (Kept (stands S thread site kind))
+stopped_at_call S t thread site None = trapped S t Unreachable
 
 abbrev pub stopped : State → ℕ → Stop → State
-stopped S t (Calls thread site) = called S t thread site (kind_at S.store.program site.func)
-stopped S t Ends = settled (with_thread S t Over)
+stopped S t (Calls thread site) = stopped_at_call S t thread site (kind_at S.store.program site.func)
+stopped S t Ends = finished_if_over (with_thread S t Over)
 stopped S t (Traps trap) = trapped S t trap
 stopped S t Sticks = trapped S t Unreachable
 
@@ -83,13 +83,13 @@ if_in None = None
 if_in (Some thread) = if is_in (Some thread) then Some thread else None
 
 -- the thread, with the frame of a handler on top where there is one
-abbrev pub entered : Module → Strand → ℕ → Option ℕ → Option Thread
-entered m strand signal None = Some strand.thread
-entered m strand signal (Some func) = if_in (handling m strand.thread func signal)
+abbrev pub with_handler_frame : Module → Strand → ℕ → Option ℕ → Option Thread
+with_handler_frame m strand signal None = Some strand.thread
+with_handler_frame m strand signal (Some func) = if_in (handling m strand.thread func signal)
 
-abbrev pub runs : State → ℕ → Option Thread → State
-runs S t None = trapped S t Exhausted
-runs S t (Some thread) = after_burst S t (burst budget thread S.store)
+abbrev pub after_running : State → ℕ → Option Thread → State
+after_running S t None = trapped S t Exhausted
+after_running S t (Some thread) = after_burst S t (burst budget thread S.store)
 
 abbrev pub counted : State → ℕ → State
 counted S clock = record S { clock = clock; events = S.events + 1 }
@@ -99,4 +99,4 @@ abbrev pub goes_on : Kind → State → ℕ → Strand → ℕ → ℕ → ℕ �
 goes_on kind S t strand reply signal clock =
     if ends_process kind
     then counted S clock
-    else runs (counted S clock) t (entered S.store.program (answered strand (value_of kind reply)) signal (handler S.handlers signal))
+    else after_running (counted S clock) t (with_handler_frame S.store.program (answered strand (reply_value kind reply)) signal (handler S.handlers signal))

@@ -9,19 +9,19 @@ use Rattle.lib_calls.specs.Effects.{outgoing_of}
 use Rattle.guest_process.specs.declared.divergence.Divergence.{Divergence}
 use Rattle.guest_process.specs.declared.divergence.Divergence.TheVariants.{AfterEnd, NoThread, OtherCall, OtherArguments, OtherBytes, OtherReply, NoHandler, OtherClock}
 use Rattle.guest_process.specs.declared.waiting.Waiting.{Waiting}
-use Rattle.guest_process.specs.Answers.{Need, Fixed, Blocked, World, need, effects, is_plain, is_possible}
+use Rattle.guest_process.specs.Answers.{Need, Fixed, Blocked, World, need, effects, brings_nothing, is_possible}
 use Rattle.guest_process.specs.GoesOn.{handler}
 use Rattle.guest_process.specs.Kinds.{ends_process}
 use Rattle.guest_process.specs.State.{State, is_running, thread_at}
 
-abbrev pub has_arguments : Call → Call → Bool
-has_arguments c pending = (c.a0 == pending.a0) && ((c.a1 == pending.a1) && (c.a2 == pending.a2))
+abbrev pub same_arguments : Call → Call → Bool
+same_arguments c pending = (c.a0 == pending.a0) && ((c.a1 == pending.a1) && (c.a2 == pending.a2))
 
 -- whether some environment gives the answer
-abbrev pub answers : Need → Answer → Bool → Bool
-answers (Fixed reply S) a from_world = (a.reply == reply) && is_plain a.tag a.incoming
-answers Blocked a from_world = false
-answers World a from_world = from_world
+abbrev pub gives_answer : Need → Answer → Bool → Bool
+gives_answer (Fixed reply S) a from_world = (a.reply == reply) && brings_nothing a.tag a.incoming
+gives_answer Blocked a from_world = false
+gives_answer World a from_world = from_world
 
 -- no signal, or one that is handled in the state after the answer
 abbrev pub is_handled : Kind → List (Option ℕ) → ℕ → Bool
@@ -40,9 +40,9 @@ pub record Checks : Type 0 where
 abbrev pub checks_by : Kind → State → Entry → Call → Answer → Checks
 checks_by kind S e c a = record {
   call = e.call.kind == c.kind;
-  arguments = has_arguments e.call c;
+  arguments = same_arguments e.call c;
   bytes = bytes_eq e.outgoing (outgoing_of c S.store.memory);
-  reply = answers (need kind S e.thread c) a (is_possible kind S c a);
+  reply = gives_answer (need kind S e.thread c) a (is_possible kind S c a);
   handler = is_handled kind (effects kind S e.thread c a).handlers e.signal;
   clock = e.clock == next_clock_of S.clock e.tag;
 }

@@ -30,8 +30,8 @@ pub record Answered : Type 0 where
   pub after : State
 
 -- the answer that takes these random bytes, as many as the call asks for
-abbrev pub drawn : Call → List ℕ → Answer
-drawn c bytes = record { reply = c.a1; incoming = bytes; tag = None }
+abbrev pub random_answer : Call → List ℕ → Answer
+random_answer c bytes = record { reply = c.a1; incoming = bytes; tag = None }
 
 -- what came in stands where the call named it
 abbrev pub fills : State → Call → Answer → Answered
@@ -39,8 +39,8 @@ fills S c a = record { answer = a; after = with_memory S (filled c a S.store.mem
 
 -- the answer that takes a datagram with this tag, or none, and this payload, of which at most so many
 -- bytes come in
-abbrev pub cut : ℕ → Option Tag × List ℕ → Answer
-cut cap datagram = record { reply = length (take cap datagram.1); incoming = take cap datagram.1; tag = datagram.0 }
+abbrev pub cut_datagram : ℕ → Option Tag × List ℕ → Answer
+cut_datagram cap datagram = record { reply = length (take cap datagram.1); incoming = take cap datagram.1; tag = datagram.0 }
 
 -- what came in and its sender stand where the call named them
 abbrev pub takes : State → Call → Answer → Answered
@@ -49,7 +49,7 @@ takes S c a = record { answer = a; after = with_memory S (received c a S.store.m
 -- the first datagram that waits, where there is one, is taken
 abbrev pub first_taken : State → Call → List (List ℕ) → Option Answered
 first_taken S c [] = None
-first_taken S c (datagram ∷ waiting) = Some (takes S c (cut c.a1 (read_datagram S.count datagram)))
+first_taken S c (datagram ∷ waiting) = Some (takes S c (cut_datagram c.a1 (read_datagram S.count datagram)))
 
 -- this, or that no datagram is there
 abbrev pub or_empty : State → Option Answered → Answered
@@ -60,15 +60,15 @@ or_empty S (Some taken) = taken
 abbrev pub from_world : Kind → State → Call → Env → Option Answered
 from_world Now S c env = Some (record { answer = replies env.time; after = S })
 from_world SleepUntil S c env = if is_due c.a0 env.time then Some (record { answer = replies env.time; after = S }) else None
-from_world Random S c env = if nat_le c.a1 (length env.pool) then Some (fills S c (drawn c (take c.a1 env.pool))) else None
+from_world Random S c env = if nat_le c.a1 (length env.pool) then Some (fills S c (random_answer c (take c.a1 env.pool))) else None
 from_world Recv S c env = first_taken S c env.mailbox
 from_world TryRecv S c env = Some (or_empty S (first_taken S c env.mailbox))
 from_world _ S c env = None
 
-abbrev pub answered : Need → Option Answered → Option Answered
-answered (Fixed reply S) world = Some (record { answer = replies reply; after = S })
-answered Blocked world = None
-answered World world = world
+abbrev pub answered_now : Need → Option Answered → Option Answered
+answered_now (Fixed reply S) world = Some (record { answer = replies reply; after = S })
+answered_now Blocked world = None
+answered_now World world = world
 
 -- the least of n numbers from s on at which p holds, or 0
 unfoldable pub lowest : (ℕ → Bool) → ℕ → ℕ → ℕ
@@ -76,8 +76,8 @@ lowest p zero s = 0
 lowest p (suc n) s = if p s then s else lowest p n (s + 1)
 
 -- the lowest signal that is pending and has a handler, or 0; none is delivered where the process ends
-abbrev pub chosen : Kind → List (Option ℕ) → (ℕ → Bool) → ℕ
-chosen kind handlers pending =
+abbrev pub chosen_signal : Kind → List (Option ℕ) → (ℕ → Bool) → ℕ
+chosen_signal kind handlers pending =
     if ends_process kind then 0 else lowest (λ s. pending s && is_some (handler handlers s)) 31 1
 
 -- an event: the state after it, and its entry
@@ -101,12 +101,12 @@ event_by S t w a signal clock = record {
 }
 
 abbrev pub event : State → ℕ → Env → Waiting → Answered → Event
-event S t env w a = event_by S t w a (chosen w.kind a.after.handlers env.pending) (next_clock_of S.clock a.answer.tag)
+event S t env w a = event_by S t w a (chosen_signal w.kind a.after.handlers env.pending) (next_clock_of S.clock a.answer.tag)
 
-abbrev pub live_at : State → ℕ → Env → Option Waiting → Option Event
-live_at S t env None = None
-live_at S t env (Some w) = option_map (event S t env w) (answered (need w.kind S t w.call) (from_world w.kind S w.call env))
+abbrev pub event_of_waiting : State → ℕ → Env → Option Waiting → Option Event
+event_of_waiting S t env None = None
+event_of_waiting S t env (Some w) = option_map (event S t env w) (answered_now (need w.kind S t w.call) (from_world w.kind S w.call env))
 
 -- the event of a try of this thread, or nothing where the try is idle
 abbrev pub live : State → ℕ → Env → Option Event
-live S t env = if not env.killed && is_running S then live_at S t env (thread_at S t) else None
+live S t env = if not env.killed && is_running S then event_of_waiting S t env (thread_at S t) else None

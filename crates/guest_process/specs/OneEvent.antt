@@ -29,7 +29,7 @@ Possible = (S : State) (e : Entry) → StateFits S → IsShaped e → reason S e
     → (env : Env) × EnvFits env × (live S e.thread env ≡ Some (record { state = next S e; entry = e }))
 
 -- the clock rises to the entry's, also above that of the datagram that was taken; the event is counted;
--- and the process keeps its number, its group and its program
+-- and the process keeps its number, its group and its module
 pub record RisesTo (S : State) (e : Entry) (S' : State) : Type 0 where
   pub told : S'.clock ≡ e.clock
   pub last : S.clock < S'.clock
@@ -37,12 +37,12 @@ pub record RisesTo (S : State) (e : Entry) (S' : State) : Type 0 where
   pub events : S'.events ≡ S.events + 1
   pub who : S'.who ≡ S.who
   pub count : S'.count ≡ S.count
-  pub program : S'.store.program ≡ S.store.program
+  pub same_module : S'.store.program ≡ S.store.program
 
 abbrev pub Rises : Type 0
 Rises = (S : State) (e : Entry) → StateFits S → reason S e ≡ None → RisesTo S e (next S e)
 
--- how a process of a valid program begins has what holds of each state
+-- how a process of a valid module begins has what holds of each state
 abbrev pub IsStarted : Type 0
 IsStarted = (m : Module) (who count : ℕ) (S : State) → IsValid m → who < count → count ≤ 16 → start m who count ≡ Some S → StateFits S × IsSound S
 
@@ -50,6 +50,6 @@ IsStarted = (m : Module) (who count : ℕ) (S : State) → IsValid m → who < c
 abbrev pub IsKept : Type 0
 IsKept = (S : State) (e : Entry) → StateFits S → reason S e ≡ None → StateFits (next S e)
 
--- and what its threads and handlers owe its program
+-- and what its threads and handlers owe its module
 abbrev pub IsKeptSound : Type 0
 IsKeptSound = (S : State) (e : Entry) → IsSound S → reason S e ≡ None → IsSound (next S e)

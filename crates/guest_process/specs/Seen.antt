@@ -25,9 +25,9 @@ state_of p = record {
   end = p.end;
 }
 
--- what holds of each process of a valid program
+-- what holds of each process of a valid module
 pub record IsProcess (p : Parts) : Type 0 where
-  pub program : module_of p.program.now ≡ p.store.program
+  pub same_module : module_of p.«module».now ≡ p.store.program
   pub suits : Suits p.store
   pub fits : StateFits (state_of p)
   pub sound : IsSound (state_of p)

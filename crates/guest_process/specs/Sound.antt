@@ -1,4 +1,4 @@
--- What the strands and handlers of a process owe its program.
+-- What the strands and handlers of a process owe its module.
 use Rattle.std.specs.Prelude.{◌≡◌, ℕ, Some, None, All}
 use Rattle.call_table.specs.declared.kind.Kind.{Kind}
 use Rattle.call_table.specs.declared.kind.Kind.TheVariants.{Begin}
@@ -8,19 +8,19 @@ use Rattle.wasm_step.specs.Strand.{IsHandler, IsResult, library_result}
 use Rattle.guest_process.specs.declared.waiting.Waiting.{Waiting}
 use Rattle.guest_process.specs.Fits.{Each}
 use Rattle.guest_process.specs.GoesOn.{handler}
-use Rattle.guest_process.specs.Kinds.{value_of}
+use Rattle.guest_process.specs.Kinds.{reply_value}
 use Rattle.guest_process.specs.State.{State}
 
 -- a thread at `begin` has not run yet; another stands at a call whose result is of its kind's type
-abbrev pub StandsAt : Module → Waiting → Kind → Type 0
-StandsAt m w Begin = w.strand.call ≡ None
-StandsAt m w kind = (func : ℕ) × (w.strand.call ≡ Some func) × ((reply : ℕ) → IsResult (library_result m func) (value_of kind reply))
+abbrev pub StandsAtKind : Module → Waiting → Kind → Type 0
+StandsAtKind m w Begin = w.strand.call ≡ None
+StandsAtKind m w kind = (func : ℕ) × (w.strand.call ≡ Some func) × ((reply : ℕ) → IsResult (library_result m func) (reply_value kind reply))
 
 pub record IsStanding (m : Module) (w : Waiting) : Type 0 where
-  pub program : w.strand.program ≡ m
-  pub stands : StandsAt m w w.kind
+  pub same_module : w.strand.program ≡ m
+  pub stands : StandsAtKind m w w.kind
 
--- the program imports functions of the library alone, each thread is one of the program, and so is each
+-- the module imports functions of the library alone, each thread is one of the module, and so is each
 -- function that handles a signal
 pub record IsSound (S : State) : Type 0 where
   pub imports : All (IsOfLibrary S.store.program.types) S.store.program.imports

@@ -22,7 +22,7 @@ begin = record { kind = (row Begin).number; a0 = 0; a1 = 0; a2 = 0 }
 abbrev pub waits : Strand → Waiting
 waits strand = record { kind = Begin; call = begin; strand = strand }
 
--- a thread of the program that stands there
+-- a thread of the module that stands there
 abbrev pub beginning : Module → Thread → Waiting
 beginning m thread = waits (record { program = m; thread = thread; call = None })
 

@@ -9,7 +9,7 @@ use Rattle.guest_process.specs.declared.end.End.{End}
 use Rattle.guest_process.specs.declared.end.End.TheVariants.{Running}
 use Rattle.guest_process.specs.declared.waiting.Waiting.{Waiting}
 
--- its number and its group's size; its program with memory, globals and table; the threads that were
+-- its number and its group's size; its module with memory, globals and table; the threads that were
 -- made, each of which stands at a pending call or has ended, and the locks that they hold; the function
 -- that handles each signal; the clock of its last event, or 0; how many events it has had; and how it ended
 pub record State : Type 0 where
@@ -27,8 +27,8 @@ abbrev pub thread_at : State → ℕ → Option Waiting
 thread_at S t = live_at S.crew t
 
 -- the kind of the call at which it stands
-abbrev pub kind_at : State → ℕ → Option Kind
-kind_at S t = option_map (λ w. w.kind) (thread_at S t)
+abbrev pub pending_kind : State → ℕ → Option Kind
+pending_kind S t = option_map (λ w. w.kind) (thread_at S t)
 
 -- thread t stands so
 abbrev pub with_thread : State → ℕ → Slot Waiting → State

@@ -7,15 +7,14 @@ ghost use Rattle.lib_calls.specs.Entry.{entry_of};
 ghost use Rattle.wasm_types.specs.Modules.{module_of};
 ghost use Rattle.wasm_step.specs.Burst.{burst};
 ghost use Rattle.wasm_step.specs.Suits.{Suits};
-ghost use Rattle.wasm_step.specs.Strand.{answered as answered_by, IsHandler};
-ghost use Rattle.guest_process.specs.Answers.{written};
-ghost use Rattle.guest_process.specs.GoesOn.{after_burst, budget, entered as entered_by, handler as handler_of, runs};
-ghost use Rattle.guest_process.specs.Kinds.{value_of};
+ghost use Rattle.wasm_step.specs.Strand.{IsHandler};
+ghost use Rattle.guest_process.specs.Answers.{with_answer};
+ghost use Rattle.guest_process.specs.GoesOn.{after_burst, budget, handler as handler_of};
 ghost use Rattle.guest_process.specs.Legal.{reason};
-ghost use Rattle.guest_process.specs.Next.{acted_by, next};
+ghost use Rattle.guest_process.specs.Next.{acted_by, gone_on, next};
 ghost use Rattle.guest_process.specs.Seen.{IsProcess, state_of};
-ghost use Rattle.guest_process.specs.Sound.{StandsAt};
-ghost use Rattle.guest_process.specs.State.{kind_at};
+ghost use Rattle.guest_process.specs.Sound.{StandsAtKind};
+ghost use Rattle.guest_process.specs.State.{pending_kind};
 
 use crate::answer::{answered, entered, handler};
 use crate::judge::ends_process;
@@ -34,7 +33,7 @@ impl<'m> Parts<'m> {
         requires legal { reason (state_of self) (entry_of entry.now) ≡ None }
         requires few { self.events < 2 ^ 61 }
         ensures state { IfOk result (λ p. state_of p ≡ next (state_of self.entry) (entry_of entry.now)) }
-        ensures program { IfOk result (λ p. p.program ≡ self.entry.program) }
+        ensures same_module { IfOk result (λ p. p.«module» ≡ self.entry.«module») }
         ensures suits { IfOk result (λ p. Suits p.store) }
     {
         self.act(entry)?;
@@ -53,15 +52,15 @@ impl<'m> Parts<'m> {
 
     // Does what the answer does, but for the end of a thread that calls `exit`.
     fn act(&mut self, entry: &EntryView<'_>) -> Result<(), AllocError>
-        requires program { module_of self.old.program.now ≡ self.old.store.program }
+        requires same_module { module_of self.old.«module».now ≡ self.old.store.program }
         requires suits { Suits self.old.store }
         requires answer { IsTrue (is_answer entry.now.call (answer_of (entry_of entry.now)) self.old.store.memory) }
         ensures state { OnOk result (state_of self.new ≡ acted_by (state_of self.old) (entry_of entry.now)) }
-        ensures program { OnOk result (self.new.program ≡ self.old.program) }
+        ensures same_module { OnOk result (self.new.«module» ≡ self.old.«module») }
         ensures suits { OnOk result (Suits self.new.store) }
     {
         let t = entry.thread;
-        match self.kind_at(t) {
+        match self.pending_kind(t) {
             Some(Kind::Spawn) => self.spawn(narrow(entry.call.a0), narrow(entry.call.a1)),
             Some(Kind::Lock) => self.lock(narrow(entry.call.a0), t),
             Some(Kind::Unlock) => {
@@ -77,10 +76,10 @@ impl<'m> Parts<'m> {
     }
 
     // The kind of the call at which a thread stands.
-    fn kind_at(&self, t: u16) -> Option<Kind>
-        ensures { result ≡ kind_at (state_of self.now) t }
+    fn pending_kind(&self, thread: u16) -> Option<Kind>
+        ensures { result ≡ pending_kind (state_of self.now) thread }
     {
-        match self.crew.get(t) {
+        match self.crew.get(thread) {
             Some(waiting) => Some(waiting.kind),
             None => None,
         }
@@ -90,8 +89,8 @@ impl<'m> Parts<'m> {
     fn write(&mut self, entry: &EntryView<'_>) -> Result<(), AllocError>
         requires suits { Suits self.old.store }
         requires answer { IsTrue (is_answer entry.now.call (answer_of (entry_of entry.now)) self.old.store.memory) }
-        ensures state { OnOk result (state_of self.new ≡ written (state_of self.old) entry.now.call (answer_of (entry_of entry.now))) }
-        ensures program { OnOk result (self.new.program ≡ self.old.program) }
+        ensures state { OnOk result (state_of self.new ≡ with_answer (state_of self.old) entry.now.call (answer_of (entry_of entry.now))) }
+        ensures same_module { OnOk result (self.new.«module» ≡ self.old.«module») }
         ensures suits { OnOk result (Suits self.new.store) }
     {
         write_back(entry, self.store.memory_mut())
@@ -100,13 +99,13 @@ impl<'m> Parts<'m> {
     // A thread that was taken out goes on after the answer to its call.
     fn go_on(&mut self, waiting: Waiting<'m>, entry: &EntryView<'_>) -> Result<(), AllocError>
         requires taken { IsTaken self.old.crew entry.now.thread }
-        requires program { module_of self.old.program.now ≡ self.old.store.program }
+        requires same_module { module_of self.old.«module».now ≡ self.old.store.program }
         requires suits { Suits self.old.store }
         requires same { waiting.strand.program ≡ self.old.store.program }
-        requires stands { StandsAt waiting.strand.program waiting waiting.kind }
+        requires stands { StandsAtKind waiting.strand.program waiting waiting.kind }
         requires handlers { (signal func : ℕ) → handler_of self.old.handlers signal ≡ Some func → IsHandler self.old.store.program func }
-        ensures state { OnOk result (state_of self.new ≡ runs (state_of self.old) entry.now.thread (entered_by self.old.store.program (answered_by waiting.entry.strand (value_of waiting.entry.kind entry.now.reply)) entry.now.signal (handler_of self.old.handlers entry.now.signal))) }
-        ensures program { OnOk result (self.new.program ≡ self.old.program) }
+        ensures state { OnOk result (state_of self.new ≡ gone_on (state_of self.old) waiting.entry (entry_of entry.now)) }
+        ensures same_module { OnOk result (self.new.«module» ≡ self.old.«module») }
         ensures suits { OnOk result (Suits self.new.store) }
     {
         let strand = answered(waiting, entry.reply)?;
@@ -120,18 +119,18 @@ impl<'m> Parts<'m> {
 
     // A thread that was taken out runs.
     #[tactic(auto, unfolding(crate::specs::GoesOn::budget))]
-    fn run(&mut self, t: u16, strand: Strand<'m>) -> Result<(), AllocError>
-        requires taken { IsTaken self.old.crew t }
-        requires program { module_of self.old.program.now ≡ self.old.store.program }
+    fn run(&mut self, thread: u16, strand: Strand<'m>) -> Result<(), AllocError>
+        requires taken { IsTaken self.old.crew thread }
+        requires same_module { module_of self.old.«module».now ≡ self.old.store.program }
         requires suits { Suits self.old.store }
         requires same { strand.program ≡ self.old.store.program }
         requires runs { strand.call ≡ None }
-        ensures state { OnOk result (state_of self.new ≡ after_burst (state_of self.old) t (burst budget strand.entry.thread self.old.store)) }
-        ensures program { OnOk result (self.new.program ≡ self.old.program) }
+        ensures state { OnOk result (state_of self.new ≡ after_burst (state_of self.old) thread (burst budget strand.entry.thread self.old.store)) }
+        ensures same_module { OnOk result (self.new.«module» ≡ self.old.«module») }
         ensures suits { OnOk result (Suits self.new.store) }
     {
         let pause = strand.run(&mut self.store)?;
-        self.stop(t, pause);
+        self.stop(thread, pause);
         Ok(())
     }
 }

@@ -1,10 +1,10 @@
 // How a thread goes on after the answer to its call.
 ghost use Rattle.std.specs.Prelude.{◌≡◌, IfOk, IfSome, None, Some, option_map};
 ghost use Rattle.wasm_step.specs.Strand.{answered, IsHandler};
-ghost use Rattle.guest_process.specs.GoesOn.{entered, handler as handler_of};
+ghost use Rattle.guest_process.specs.GoesOn.{handler as handler_of, with_handler_frame};
 ghost use Rattle.guest_process.specs.Answers.{is_due};
-ghost use Rattle.guest_process.specs.Kinds.{value_of};
-ghost use Rattle.guest_process.specs.Sound.{StandsAt};
+ghost use Rattle.guest_process.specs.Kinds.{reply_value};
+ghost use Rattle.guest_process.specs.Sound.{StandsAtKind};
 
 use crate::waiting::Waiting;
 use lib_calls::Kind;
@@ -14,8 +14,8 @@ use wasm_step::{HandlerError, Strand};
 use wasm_types::Value;
 
 /// What a reply puts on the operand stack.
-pub(crate) fn value_of(kind: Kind, reply: u64) -> Option<Value>
-    ensures { result ≡ value_of kind reply }
+pub(crate) fn reply_value(kind: Kind, reply: u64) -> Option<Value>
+    ensures { result ≡ reply_value kind reply }
 {
     match kind.signature().result {
         0 => None,
@@ -34,12 +34,12 @@ pub fn is_due(until: u64, time: u64) -> bool
 /// The strand of a thread whose call was answered.
 #[tactic(auto, using(crate::proofs::Answering::is_answer))]
 pub(crate) fn answered(waiting: Waiting<'_>, reply: u64) -> Result<Strand<'_>, AllocError>
-    requires { StandsAt waiting.strand.program waiting waiting.kind }
-    ensures { IfOk result (λ s. s ≡ answered waiting.entry.strand (value_of waiting.entry.kind reply)) }
+    requires { StandsAtKind waiting.strand.program waiting waiting.kind }
+    ensures { IfOk result (λ s. s ≡ answered waiting.entry.strand (reply_value waiting.entry.kind reply)) }
 {
     match waiting.kind {
         Kind::Begin => Ok(waiting.strand),
-        kind => waiting.strand.answer(value_of(kind, reply)),
+        kind => waiting.strand.answer(reply_value(kind, reply)),
     }
 }
 
@@ -62,8 +62,8 @@ pub(crate) fn entered<'m>(
 ) -> Result<Option<Strand<'m>>, AllocError>
     requires runs { strand.call ≡ None }
     requires handler { IfSome func (IsHandler strand.program) }
-    ensures thread { IfOk result (λ o. option_map (λ s. s.thread) o ≡ entered strand.entry.program strand.entry signal func) }
-    ensures program { IfOk result (λ o. IfSome o (λ s. s.program ≡ strand.entry.program)) }
+    ensures thread { IfOk result (λ o. option_map (λ s. s.thread) o ≡ with_handler_frame strand.entry.program strand.entry signal func) }
+    ensures same_module { IfOk result (λ o. IfSome o (λ s. s.program ≡ strand.entry.program)) }
     ensures call { IfOk result (λ o. IfSome o (λ s. s.call ≡ None)) }
 {
     let Some(func) = func else {

@@ -1,6 +1,6 @@
-// The calls of the library that a program makes.
+// The calls of the library that a process makes.
 ghost use Rattle.std.specs.Prelude.{◌≡◌};
-ghost use Rattle.guest_process.specs.GoesOn.{argument, call_at};
+ghost use Rattle.guest_process.specs.GoesOn.{argument, call_of_site};
 
 use lib_calls::{Call, Kind};
 use wasm_step::CallSite;
@@ -13,8 +13,8 @@ fn argument(kind: Kind, n: u8, bits: u64) -> u64
 }
 
 /// The call of this kind that was made there.
-pub(crate) fn call_at(kind: Kind, site: CallSite) -> Call
-    ensures { result ≡ call_at kind site }
+pub(crate) fn call_of_site(kind: Kind, site: CallSite) -> Call
+    ensures { result ≡ call_of_site kind site }
 {
     Call {
         kind: kind.number(),

@@ -37,7 +37,7 @@ impl<'m> Parts<'m> {
     #[tactic(auto, using(crate::proofs::Signalled::set_handlers))]
     pub(crate) fn set_handler(&mut self, signal: u32, number: u32)
         ensures state { state_of self.new ≡ after_need (handled (state_of self.old) signal number) (state_of self.old) }
-        ensures program { self.new.program ≡ self.old.program }
+        ensures same_module { self.new.«module» ≡ self.old.«module» }
         ensures store { self.new.store ≡ self.old.store }
     {
         self.handlers = self.handlers_with(signal, number);

@@ -4,7 +4,7 @@ ghost use Rattle.lib_calls.specs.Answer.{Answer, answer_of};
 ghost use Rattle.lib_calls.specs.Entry.{entry_of};
 ghost use Rattle.guest_process.specs.Answers.{asked, effects, is_possible, need, replied};
 ghost use Rattle.guest_process.specs.Kinds.{ends_process};
-ghost use Rattle.guest_process.specs.Legal.{answers, checks, first_failing, has_arguments, is_handled};
+ghost use Rattle.guest_process.specs.Legal.{checks, first_failing, is_handled, same_arguments};
 ghost use Rattle.guest_process.specs.Seen.{plain, refused, state_of};
 
 use crate::answer::{handler, is_due};
@@ -13,15 +13,15 @@ use crate::need::Need;
 use crate::parts::Parts;
 use crate::threads::narrow;
 use crate::waiting::Waiting;
-use crate::world::{is_drawn, is_empty, is_plain, is_taken};
+use crate::world::{brings_nothing, is_drawn, is_empty, takes_datagram};
 use lamport_tag::is_next_clock;
 use lib_calls::{BAD_ARGUMENTS, Call, EntryView, Kind, good_arguments, is_outgoing};
 use signal_points::Handlers;
 
 impl<'m> Parts<'m> {
-    /// What the answer to thread t's pending call depends on.
-    pub(crate) fn need(&self, t: u16, waiting: &Waiting<'m>) -> Need
-        ensures { result ≡ plain (need waiting.now.kind (state_of self.now) t waiting.now.call) }
+    /// What the answer to the thread's pending call depends on.
+    pub(crate) fn need(&self, thread: u16, waiting: &Waiting<'m>) -> Need
+        ensures { result ≡ plain (need waiting.now.kind (state_of self.now) thread waiting.now.call) }
     {
         match waiting.kind {
             Kind::Begin | Kind::Exit | Kind::Note | Kind::Yield => Need::Fixed(0),
@@ -31,11 +31,11 @@ impl<'m> Parts<'m> {
             Kind::Send => self.replied(&waiting.call, waiting.call.a2),
             Kind::Me => Need::Fixed(u64::from(self.who)),
             Kind::Spawn => self.spawned(narrow(waiting.call.a0)),
-            Kind::Join => self.joined(t, narrow(waiting.call.a0)),
-            Kind::Lock => self.locked(narrow(waiting.call.a0), t),
-            Kind::Unlock => self.unlocked(narrow(waiting.call.a0), t),
+            Kind::Join => self.joined(thread, narrow(waiting.call.a0)),
+            Kind::Lock => self.locked(narrow(waiting.call.a0), thread),
+            Kind::Unlock => self.unlocked(narrow(waiting.call.a0), thread),
             Kind::OnSignal => self.handled(narrow(waiting.call.a0), narrow(waiting.call.a1)),
-            Kind::Thread => Need::Fixed(u64::from(t)),
+            Kind::Thread => Need::Fixed(u64::from(thread)),
         }
     }
 
@@ -72,7 +72,7 @@ impl<'m> Parts<'m> {
         if entry.call.kind != waiting.call.kind {
             return Err(Divergence::OtherCall);
         }
-        if !has_arguments(&entry.call, &waiting.call) {
+        if !same_arguments(&entry.call, &waiting.call) {
             return Err(Divergence::OtherArguments);
         }
         if !is_outgoing(entry.outgoing, &waiting.call, self.store.memory()) {
@@ -93,10 +93,10 @@ impl<'m> Parts<'m> {
     // Whether some environment gives the answer.
     #[tactic(auto, using(crate::proofs::Judging::fixed, crate::proofs::Judging::blocked, crate::proofs::Judging::world))]
     fn is_answer(&self, entry: &EntryView<'_>, waiting: &Waiting<'m>) -> bool
-        ensures { result ≡ answers (need waiting.now.kind (state_of self.now) entry.now.thread waiting.now.call) (answer_of (entry_of entry.now)) (is_possible waiting.now.kind (state_of self.now) waiting.now.call (answer_of (entry_of entry.now))) }
+        ensures { result ≡ (checks (state_of self.now) (entry_of entry.now) waiting.now).reply }
     {
         match self.need(entry.thread, waiting) {
-            Need::Fixed(reply) => entry.reply == reply && is_plain(entry),
+            Need::Fixed(reply) => entry.reply == reply && brings_nothing(entry),
             Need::Blocked => false,
             Need::World => self.is_possible(entry, waiting),
         }
@@ -107,11 +107,11 @@ impl<'m> Parts<'m> {
         ensures { result ≡ is_possible waiting.now.kind (state_of self.now) waiting.now.call (answer_of (entry_of entry.now)) }
     {
         match waiting.kind {
-            Kind::Now => is_plain(entry),
-            Kind::SleepUntil => is_due(waiting.call.a0, entry.reply) && is_plain(entry),
+            Kind::Now => brings_nothing(entry),
+            Kind::SleepUntil => is_due(waiting.call.a0, entry.reply) && brings_nothing(entry),
             Kind::Random => is_drawn(&waiting.call, entry),
-            Kind::Recv => is_taken(self.count, &waiting.call, entry),
-            Kind::TryRecv => is_taken(self.count, &waiting.call, entry) || is_empty(entry),
+            Kind::Recv => takes_datagram(self.count, &waiting.call, entry),
+            Kind::TryRecv => takes_datagram(self.count, &waiting.call, entry) || is_empty(entry),
             _ => false,
         }
     }
@@ -129,14 +129,14 @@ impl<'m> Parts<'m> {
 
     // Whether the signal can be delivered after the answer.
     fn is_handled(&self, entry: &EntryView<'_>, waiting: &Waiting<'m>) -> bool
-        ensures { result ≡ is_handled waiting.now.kind (effects waiting.now.kind (state_of self.now) entry.now.thread waiting.now.call (answer_of (entry_of entry.now))).handlers entry.now.signal }
+        ensures { result ≡ (checks (state_of self.now) (entry_of entry.now) waiting.now).handler }
     {
         is_handled(waiting.kind, &self.handlers_after(waiting), entry.signal)
     }
 }
 
-fn has_arguments(call: &Call, pending: &Call) -> bool
-    ensures { result ≡ has_arguments call.now pending.now }
+fn same_arguments(call: &Call, pending: &Call) -> bool
+    ensures { result ≡ same_arguments call.now pending.now }
 {
     call.a0 == pending.a0 && (call.a1 == pending.a1 && call.a2 == pending.a2)
 }

@@ -1,5 +1,5 @@
 // The laws over one event, as calls that do nothing.
-ghost use Rattle.guest_process.specs.Crews.{LockKept, OnlySpawnAdds, OthersStay};
+ghost use Rattle.guest_process.specs.Crews.{LockKept, OnlySpawnAdds, OtherThreadsStay};
 ghost use Rattle.guest_process.specs.OneEvent.{IsKept, IsKeptSound, IsStarted, OneEvent, Possible, Rises};
 
 use lamport_tag::{cut_short, read_back};
@@ -23,7 +23,7 @@ pub fn possible()
 }
 
 /// With a legal event the clock of a process rises, also above that of the datagram that the event took,
-/// and the event is counted. The process keeps its number, its group and its program.
+/// and the event is counted. The process keeps its number, its group and its module.
 pub fn rises()
     ensures { Rises }
 {
@@ -33,7 +33,7 @@ pub fn rises()
 /// A legal event of one thread leaves each other thread that was made as it was. Only one of `spawn` makes
 /// a thread, one, which is live at `begin`.
 pub fn others_stay()
-    ensures stay { OthersStay }
+    ensures stay { OtherThreadsStay }
     ensures made { OnlySpawnAdds }
 {
     never_stuck();
@@ -47,8 +47,8 @@ pub fn lock_kept()
     never_stuck();
 }
 
-/// How a process of a valid program begins is in the ranges on which the law over one event rests, and
-/// its threads and handlers are the program's. A legal event keeps both.
+/// How a process of a valid module begins is in the ranges on which the law over one event rests, and
+/// its threads and handlers are the module's. A legal event keeps both.
 pub fn kept()
     ensures started { IsStarted }
     ensures ranges { IsKept }

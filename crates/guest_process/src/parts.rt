@@ -9,7 +9,7 @@ ghost use Rattle.guest_process.specs.GoesOn.{all_over, stopped, trapped};
 ghost use Rattle.guest_process.specs.Seen.{state_of};
 ghost use Rattle.guest_process.specs.State.{is_running};
 
-use crate::calls::call_at;
+use crate::calls::call_of_site;
 use crate::end::End;
 use crate::waiting::Waiting;
 use coop_threads::{Crew, Status};
@@ -22,7 +22,7 @@ use wasm_types::{Trap, ValidModule};
 #[derive(Drop)]
 pub(crate) struct Parts<'m> {
     pub(crate) alloc: Global,
-    pub(crate) program: &'m ValidModule,
+    pub(crate) module: &'m ValidModule,
     pub(crate) who: u32,
     pub(crate) count: u32,
     pub(crate) store: Store<'m>,
@@ -44,46 +44,46 @@ impl<'m> Parts<'m> {
     }
 
     /// A thread that was taken out traps.
-    pub(crate) fn trap(&mut self, t: u16, trap: Trap)
-        requires { IsTaken self.old.crew t }
-        ensures state { state_of self.new ≡ trapped (state_of self.old) t trap }
-        ensures program { self.new.program ≡ self.old.program }
+    pub(crate) fn trap(&mut self, thread: u16, trap: Trap)
+        requires { IsTaken self.old.crew thread }
+        ensures state { state_of self.new ≡ trapped (state_of self.old) thread trap }
+        ensures same_module { self.new.«module» ≡ self.old.«module» }
         ensures store { self.new.store ≡ self.old.store }
     {
-        self.crew.end(t);
+        self.crew.end(thread);
         self.end = End::Trapped(trap);
     }
 
     /// A thread that was taken out stops where its burst paused.
-    pub(crate) fn stop(&mut self, t: u16, pause: Pause<'m>)
-        requires taken { IsTaken self.old.crew t }
-        requires program { module_of self.old.program.now ≡ self.old.store.program }
+    pub(crate) fn stop(&mut self, thread: u16, pause: Pause<'m>)
+        requires taken { IsTaken self.old.crew thread }
+        requires same_module { module_of self.old.«module».now ≡ self.old.store.program }
         requires stands { StandsAt self.old.store.program pause }
-        ensures state { state_of self.new ≡ stopped (state_of self.old) t (stop_of pause.entry) }
-        ensures program { self.new.program ≡ self.old.program }
+        ensures state { state_of self.new ≡ stopped (state_of self.old) thread (stop_of pause.entry) }
+        ensures same_module { self.new.«module» ≡ self.old.«module» }
         ensures store { self.new.store ≡ self.old.store }
     {
         match pause {
-            Pause::AtCall(strand, site) => match self.program.import_kind(site.func) {
+            Pause::AtCall(strand, site) => match self.module.import_kind(site.func) {
                 Some(kind) => {
-                    let call = call_at(kind, site);
-                    self.crew.put(t, Waiting { kind, call, strand });
+                    let call = call_of_site(kind, site);
+                    self.crew.put(thread, Waiting { kind, call, strand });
                 }
-                None => self.trap(t, Trap::Unreachable),
+                None => self.trap(thread, Trap::Unreachable),
             },
-            Pause::Ended => self.finish(t),
-            Pause::Trapped(trap) => self.trap(t, trap),
+            Pause::Ended => self.finish(thread),
+            Pause::Trapped(trap) => self.trap(thread, trap),
         }
     }
 
     /// A thread that was taken out has called `exit` with this code.
-    pub(crate) fn exit(&mut self, t: u16, code: u64)
-        requires { IsTaken self.old.crew t }
-        ensures state { state_of self.new ≡ exited (state_of self.old) t code }
-        ensures program { self.new.program ≡ self.old.program }
+    pub(crate) fn exit(&mut self, thread: u16, code: u64)
+        requires { IsTaken self.old.crew thread }
+        ensures state { state_of self.new ≡ exited (state_of self.old) thread code }
+        ensures same_module { self.new.«module» ≡ self.old.«module» }
         ensures store { self.new.store ≡ self.old.store }
     {
-        self.crew.end(t);
+        self.crew.end(thread);
         let bits = (code % 0x1_0000_0000) as u32;
         self.end = End::Exited(bits.cast_signed());
     }
@@ -94,7 +94,7 @@ impl<'m> Parts<'m> {
     {
         Ok(Parts {
             alloc: self.alloc,
-            program: self.program,
+            module: self.module,
             who: self.who,
             count: self.count,
             store: self.store.copy()?,
@@ -106,13 +106,13 @@ impl<'m> Parts<'m> {
         })
     }
 
-    fn finish(&mut self, t: u16)
-        requires { IsTaken self.old.crew t }
-        ensures state { state_of self.new ≡ stopped (state_of self.old) t Ends }
-        ensures program { self.new.program ≡ self.old.program }
+    fn finish(&mut self, thread: u16)
+        requires { IsTaken self.old.crew thread }
+        ensures state { state_of self.new ≡ stopped (state_of self.old) thread Ends }
+        ensures same_module { self.new.«module» ≡ self.old.«module» }
         ensures store { self.new.store ≡ self.old.store }
     {
-        self.crew.end(t);
+        self.crew.end(thread);
         if is_all_over(&self.crew) {
             self.end = End::Finished;
         }

@@ -58,18 +58,18 @@ impl<'m> Process<'m> {
     /// without memory.
     pub fn start(
         alloc: Global,
-        program: &'m ValidModule,
+        module: &'m ValidModule,
         who: u32,
         count: u32,
     ) -> Result<Process<'m>, StartError>
         requires who { who < count }
         requires count { count ≤ 16 }
-        ensures ok { IfOk result (λ p. start (module_of program.now) who count ≡ Some p) }
-        ensures bad { (result ≡ Err StartError.BadSegment) → start (module_of program.now) who count ≡ None }
-        ensures sure { store_of (module_of program.now) ≡ None → result ≡ Err StartError.BadSegment }
+        ensures ok { IfOk result (λ p. start (module_of «module».now) who count ≡ Some p) }
+        ensures bad { (result ≡ Err StartError.BadSegment) → start (module_of «module».now) who count ≡ None }
+        ensures sure { store_of (module_of «module».now) ≡ None → result ≡ Err StartError.BadSegment }
     {
-        match Store::start(alloc, program) {
-            Ok(store) => match begin(alloc, program, who, count, store) {
+        match Store::start(alloc, module) {
+            Ok(store) => match begin(alloc, module, who, count, store) {
                 Ok(process) => Ok(process),
                 Err(AllocError) => Err(StartError::NoMemory),
             },
@@ -86,10 +86,10 @@ impl<'m> Process<'m> {
 
     /// The pending call of a thread. `None` comes exactly where the process is not running or the thread
     /// is not live.
-    pub fn pending(&self, t: u16) -> Option<&Call>
-        ensures { option_copied result ≡ option_map (λ w. w.call) (able self.now t) }
+    pub fn pending(&self, thread: u16) -> Option<&Call>
+        ensures { option_copied result ≡ option_map (λ w. w.call) (able self.now thread) }
     {
-        match self.able(t) {
+        match self.able(thread) {
             Some(waiting) => Some(&waiting.call),
             None => None,
         }
@@ -97,30 +97,30 @@ impl<'m> Process<'m> {
 
     /// What the answer to the pending call of a thread depends on. `None` comes exactly where the
     /// process is not running or the thread is not live.
-    pub fn need(&self, t: u16) -> Option<Need>
-        ensures { result ≡ option_map (λ w. plain (need w.kind self.now t w.call)) (able self.now t) }
+    pub fn need(&self, thread: u16) -> Option<Need>
+        ensures { result ≡ option_map (λ w. plain (need w.kind self.now thread w.call)) (able self.now thread) }
     {
-        match self.able(t) {
-            Some(waiting) => Some(self.parts.need(t, waiting)),
+        match self.able(thread) {
+            Some(waiting) => Some(self.parts.need(thread, waiting)),
             None => None,
         }
     }
 
     // The thread with this number, where it is live and the process runs.
-    fn able(&self, t: u16) -> Option<&Waiting<'m>>
-        ensures { option_map (λ w. w.now) result ≡ able self.now t }
+    fn able(&self, thread: u16) -> Option<&Waiting<'m>>
+        ensures { option_map (λ w. w.now) result ≡ able self.now thread }
     {
         if !self.parts.is_running() {
             return None;
         }
-        self.parts.crew.get(t)
+        self.parts.crew.get(thread)
     }
 
-    /// Whether a signal has a handler once the pending call of thread t is answered, however it is.
-    pub fn handles_after(&self, t: u16, s: u8) -> bool
-        ensures { (a : Answer) → result ≡ is_some (handler_of (answered_at self.now t a (thread_at self.now t)).handlers s) }
+    /// Whether a signal has a handler once the pending call of the thread is answered, however it is.
+    pub fn handles_after(&self, thread: u16, s: u8) -> bool
+        ensures { (a : Answer) → result ≡ is_some (handler_of (answered_at self.now thread a (thread_at self.now thread)).handlers s) }
     {
-        match self.parts.crew.get(t) {
+        match self.parts.crew.get(thread) {
             Some(waiting) => handler(&self.parts.handlers_after(waiting), s).is_some(),
             None => handler(&self.parts.handlers, s).is_some(),
         }
@@ -146,20 +146,20 @@ impl<'m> Process<'m> {
         requires few { self.events < 2 ^ 61 }
         ensures { IfOk result (λ p. p ≡ next self.entry (entry_of entry.now)) }
     {
-        // Its `ensures` tells the proof that a burst leaves the program as it is.
+        // Its `ensures` tells the proof that a burst leaves the module as it is.
         never_stuck();
         let parts = self.parts.advance(entry)?;
         Ok(Process { parts })
     }
 
-    /// The memory, which is empty where the program has none.
+    /// The memory, which is empty where the module has none.
     pub fn memory(&self) -> &Memory
         ensures { result.now ≡ self.now.store.memory }
     {
         self.parts.store.memory()
     }
 
-    /// The value of a global. `None` comes exactly where the program has no global of that index.
+    /// The value of a global. `None` comes exactly where the module has no global of that index.
     pub fn global(&self, n: u32) -> Option<Value>
         ensures { result ≡ slice_get self.now.store.globals n }
     {
@@ -190,11 +190,11 @@ impl<'m> Process<'m> {
 
     /// How a thread stands.
     #[tactic(auto, using(crate::proofs::Advancing::none_taken))]
-    pub fn status(&self, t: u16) -> Status
-        ensures status { result ≡ status_of (slice_get self.now.crew.threads t) }
+    pub fn status(&self, thread: u16) -> Status
+        ensures status { result ≡ status_of (slice_get self.now.crew.threads thread) }
         ensures here { result ≢ Status.Taken }
     {
-        self.parts.crew.status(t)
+        self.parts.crew.status(thread)
     }
 
     /// An equal process.
@@ -210,27 +210,27 @@ impl<'m> Process<'m> {
 #[tactic(auto, using(crate::proofs::Starting::is_process))]
 fn begin<'m>(
     alloc: Global,
-    program: &'m ValidModule,
+    module: &'m ValidModule,
     who: u32,
     count: u32,
     store: Store<'m>,
 ) -> Result<Process<'m>, AllocError>
     requires who { who < count }
     requires count { count ≤ 16 }
-    requires store { store_of (module_of program.now) ≡ Some store }
+    requires store { store_of (module_of «module».now) ≡ Some store }
     requires suits { Suits store }
-    ensures { IfOk result (λ p. start (module_of program.now) who count ≡ Some p) }
+    ensures { IfOk result (λ p. start (module_of «module».now) who count ≡ Some p) }
 {
-    let strand = Strand::first(alloc, program)?;
+    let strand = Strand::first(alloc, module)?;
     let mut crew = Crew::new(alloc);
     match crew.spawn(beginning(strand)) {
         Ok(_) => {}
         Err(_) => return Err(AllocError),
     }
-    let _ = program.module();
+    let _ = module.module();
     let parts = Parts {
         alloc,
-        program,
+        module,
         who,
         count,
         store,

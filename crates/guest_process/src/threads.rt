@@ -18,11 +18,11 @@ pub(crate) fn narrow(bits: u64) -> u32
 }
 
 impl<'m> Parts<'m> {
-    /// What the answer depends on where thread t joins the one with this number.
-    pub(crate) fn joined(&self, t: u16, number: u32) -> Need
-        ensures { result ≡ plain (joined (state_of self.now) t number) }
+    /// What the answer depends on where the thread joins the one with this number.
+    pub(crate) fn joined(&self, thread: u16, number: u32) -> Need
+        ensures { result ≡ plain (joined (state_of self.now) thread number) }
     {
-        if number == u32::from(t) {
+        if number == u32::from(thread) {
             return Need::Fixed(MINUS_ONE);
         }
         match self.status(number) {
@@ -44,45 +44,45 @@ impl<'m> Parts<'m> {
         }
     }
 
-    /// What the answer depends on where thread t asks for the lock m.
-    pub(crate) fn locked(&self, m: u32, t: u16) -> Need
-        ensures { result ≡ plain (locked (state_of self.now) m t) }
+    /// What the answer depends on where the thread asks for the lock m.
+    pub(crate) fn locked(&self, m: u32, thread: u16) -> Need
+        ensures { result ≡ plain (locked (state_of self.now) m thread) }
     {
         match self.crew.holder(m) {
             None => Need::Fixed(0),
-            Some(holder) if holder == t => Need::Fixed(MINUS_ONE),
+            Some(holder) if holder == thread => Need::Fixed(MINUS_ONE),
             Some(_) => Need::Blocked,
         }
     }
 
-    /// The reply where thread t gives the lock m back.
-    pub(crate) fn unlocked(&self, m: u32, t: u16) -> Need
-        ensures { result ≡ plain (unlocked (state_of self.now) m t) }
+    /// The reply where the thread gives the lock m back.
+    pub(crate) fn unlocked(&self, m: u32, thread: u16) -> Need
+        ensures { result ≡ plain (unlocked (state_of self.now) m thread) }
     {
         match self.crew.holder(m) {
-            Some(holder) if holder == t => Need::Fixed(0),
+            Some(holder) if holder == thread => Need::Fixed(0),
             _ => Need::Fixed(MINUS_ONE),
         }
     }
 
-    /// Thread t asks for the lock m, which it then holds if it was free.
+    /// The thread asks for the lock m, which it then holds if it was free.
     #[tactic(auto, using(crate::proofs::Crews::lock_taken))]
-    pub(crate) fn lock(&mut self, m: u32, t: u16) -> Result<(), AllocError>
-        ensures state { OnOk result (state_of self.new ≡ after_need (locked (state_of self.old) m t) (state_of self.old)) }
-        ensures program { self.new.program ≡ self.old.program }
+    pub(crate) fn lock(&mut self, m: u32, thread: u16) -> Result<(), AllocError>
+        ensures state { OnOk result (state_of self.new ≡ after_need (locked (state_of self.old) m thread) (state_of self.old)) }
+        ensures same_module { self.new.«module» ≡ self.old.«module» }
         ensures store { self.new.store ≡ self.old.store }
     {
-        self.crew.lock(m, t)?;
+        self.crew.lock(m, thread)?;
         Ok(())
     }
 
-    /// Thread t gives the lock m back, if it holds it.
+    /// The thread gives the lock m back, if it holds it.
     #[tactic(auto, using(crate::proofs::Crews::lock_freed, crate::proofs::Crews::lock_kept))]
-    pub(crate) fn unlock(&mut self, m: u32, t: u16)
-        ensures state { state_of self.new ≡ after_need (unlocked (state_of self.old) m t) (state_of self.old) }
-        ensures program { self.new.program ≡ self.old.program }
+    pub(crate) fn unlock(&mut self, m: u32, thread: u16)
+        ensures state { state_of self.new ≡ after_need (unlocked (state_of self.old) m thread) (state_of self.old) }
+        ensures same_module { self.new.«module» ≡ self.old.«module» }
         ensures store { self.new.store ≡ self.old.store }
     {
-        self.crew.unlock(m, t);
+        self.crew.unlock(m, thread);
     }
 }

@@ -3,7 +3,7 @@ ghost use Rattle.std.specs.Prelude.{◌≡◌};
 ghost use Rattle.lib_calls.specs.Answer.{answer_of};
 ghost use Rattle.lib_calls.specs.Effects.{takes_counted};
 ghost use Rattle.lib_calls.specs.Entry.{entry_of};
-ghost use Rattle.guest_process.specs.Answers.{is_drawn, is_empty, is_payload, is_plain, is_taken};
+ghost use Rattle.guest_process.specs.Answers.{brings_nothing, is_drawn, is_empty, is_payload, takes_datagram};
 
 use lamport_tag::{Tag, is_sendable, read_tag};
 use lib_calls::{Call, EntryView, NONE_THERE};
@@ -17,8 +17,8 @@ pub(crate) fn is_drawn(call: &Call, entry: &EntryView<'_>) -> bool
 
 /// Whether what came in is the payload of some datagram, cut to the bytes that the call has room for,
 /// and its tag.
-pub(crate) fn is_taken(count: u32, call: &Call, entry: &EntryView<'_>) -> bool
-    ensures { result ≡ is_taken count call.now (answer_of (entry_of entry.now)) }
+pub(crate) fn takes_datagram(count: u32, call: &Call, entry: &EntryView<'_>) -> bool
+    ensures { result ≡ takes_datagram count call.now (answer_of (entry_of entry.now)) }
 {
     is_counted(call, entry) && is_payload(count, entry.tag, entry.incoming)
 }
@@ -45,12 +45,12 @@ fn is_payload(count: u32, tag: Option<Tag>, payload: &[u8]) -> bool
 pub(crate) fn is_empty(entry: &EntryView<'_>) -> bool
     ensures { result ≡ is_empty (answer_of (entry_of entry.now)) }
 {
-    entry.reply == NONE_THERE && is_plain(entry)
+    entry.reply == NONE_THERE && brings_nothing(entry)
 }
 
 /// Whether the entry has no bytes that came in and no tag.
-pub(crate) fn is_plain(entry: &EntryView<'_>) -> bool
-    ensures { result ≡ is_plain entry.now.tag entry.now.incoming.now }
+pub(crate) fn brings_nothing(entry: &EntryView<'_>) -> bool
+    ensures { result ≡ brings_nothing entry.now.tag entry.now.incoming.now }
 {
     match (entry.tag, entry.incoming) {
         (None, []) => true,

@@ -4,12 +4,12 @@ use Rattle.lib_calls.specs.declared.entry.Entry.{Entry}
 use Rattle.call_log.specs.Log.{entry_at, entries_of, rest_of}
 use Rattle.call_log.specs.Walk.{IsEnd, IsStep}
 use Rattle.guest_process.specs.declared.divergence.Divergence.{Divergence}
-use Rattle.guest_process.specs.EventCount.{IsCounted}
+use Rattle.guest_process.specs.EventCount.{CountsEvents}
 use Rattle.guest_process.specs.Legal.{reason}
 use Rattle.guest_process.specs.Next.{next}
 use Rattle.guest_process.specs.Replay.{Reach, Diverged, accepted, left_over, reach, reach_then, state_after, verdict_of}
 use Rattle.guest_process.specs.State.{State}
-use Rattle.proc_replay.specs.Replaying.{Replaying, Makes, Ends, Diverges, after, after_at, judged, moved, turn, turn_at}
+use Rattle.proc_replay.specs.Replaying.{Replaying, Makes, Ends, Diverges, after, after_at, move_by, moved, turn, turn_at}
 use Rattle.proc_replay.specs.Course.{Tells, ahead, further, outcome, outcome_at, outcome_by}
 
 -- the turn makes the event of this entry
@@ -42,12 +42,12 @@ cases step end r = by_entry (entry_at r.left) refl
           shorter = here.shorter;
           entries = here.entries;
           rest = here.rest;
-          makes = ap (turn_at r.state) found ∙ ap (judged r.state e) legal;
+          makes = ap (turn_at r.state) found ∙ ap (move_by r.state e) legal;
           moves = ap (after_at r) found ∙ ap (moved r e behind) legal;
         })
     by_reason e behind found (Some why) differs =
         let here = step r.left e behind found in
-        let turns : turn r ≡ Diverges (r.state.events + 1) why = ap (turn_at r.state) found ∙ ap (judged r.state e) differs in
+        let turns : turn r ≡ Diverges (r.state.events + 1) why = ap (turn_at r.state) found ∙ ap (move_by r.state e) differs in
         let reaches : reach r.state (entries_of r.left) ≡ record { accepted = 0; divergence = Some why } =
         ap (reach r.state) here.entries ∙ ap (λ o. reach_then o (reach (next r.state e) (entries_of behind))) differs in
         let at : suc (r.state.events + 0) ≡ r.state.events + 1 = omega arith in
@@ -90,7 +90,7 @@ made_before : (n m : ℕ) (far : Reach) → n ≡ m + 1 → further n far ≡ fu
 made_before n m far one = let all : n + far.accepted ≡ m + suc far.accepted = omega (arith, one) in ap (λ k. record far { accepted = k }) all
 
 -- a turn that makes an event leaves it
-pub goes_same : IsCounted → (r : Replaying) → Goes r → outcome (after r) ≡ outcome r
+pub goes_same : CountsEvents → (r : Replaying) → Goes r → outcome (after r) ≡ outcome r
 goes_same counted r g =
     let S = next r.state g.entry in
     let es = entries_of g.behind in

@@ -5,7 +5,7 @@ use Rattle.std.proofs.lemmas.Option.{same_Some}
 use Rattle.lib_calls.specs.declared.entry.Entry.{Entry}
 use Rattle.call_log.specs.Log.{entries_of, rest_of}
 use Rattle.call_log.specs.Walk.{IsEnd, IsStep}
-use Rattle.guest_process.specs.EventCount.{IsCounted}
+use Rattle.guest_process.specs.EventCount.{CountsEvents}
 use Rattle.guest_process.specs.Replay.{Verdict, accepted, reach, state_after, verdict, verdict_of}
 use Rattle.guest_process.specs.State.{State}
 use Rattle.proc_replay.specs.Replaying.{Replaying, Move, Makes, Ends, Diverges, after, turn}
@@ -49,7 +49,7 @@ fresh_verdict S es rest fresh =
 same_entry : (e f : Entry) → Makes e ≡ Makes f → e ≡ f
 same_entry e f same = cc
 
-module _ (step : IsStep) (end : IsEnd) (counted : IsCounted) where
+module _ (step : IsStep) (end : IsEnd) (counted : CountsEvents) where
   states : (n : ℕ) (r : Replaying) → n ≤ left_to_make r → (turns r n).state ≡ state_after r.state (entries_of r.left) n
   states zero r few = refl
   states (suc n) r few = elim (cases step end r) [

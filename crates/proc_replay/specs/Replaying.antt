@@ -21,13 +21,13 @@ pub data Move : Type 0 where
   Ends : Move
   Diverges : (at : ℕ) → (why : Divergence) → Move
 
-abbrev pub judged : State → Entry → Option Divergence → Move
-judged S e None = Makes e
-judged S e (Some why) = Diverges (S.events + 1) why
+abbrev pub move_by : State → Entry → Option Divergence → Move
+move_by S e None = Makes e
+move_by S e (Some why) = Diverges (S.events + 1) why
 
 abbrev pub turn_at : State → Option (Entry × List ℕ) → Move
 turn_at S None = Ends
-turn_at S (Some x) = judged S x.0 (reason S x.0)
+turn_at S (Some x) = move_by S x.0 (reason S x.0)
 
 abbrev pub turn : Replaying → Move
 turn r = turn_at r.state (entry_at r.left)

@@ -2,7 +2,7 @@ use Rattle.std.proofs.Common.{◌≡◌, ◌≤◌, ℕ, length, length-take, ta
 use Rattle.std.proofs.lemmas.Bool.{ltb-false}
 use Rattle.std.proofs.lemmas.Result.{err_from_is_err_and}
 use Rattle.fri_outside.specs.Outside.{WhenTold}
-use Rattle.friday_app.specs.Conversation.{IsTaken}
+use Rattle.friday_app.specs.Conversation.{TakesOfInput}
 use Rattle.friday_app.proofs.Listening.{breaks_in, breaks_read, err_read, hears, stops_read}
 use Rattle.friday_app.proofs.converse.hear.Goals as goal
 
@@ -16,7 +16,7 @@ pub returns-in_err-talk-clause-said : goal.returns-in_err-talk-clause-said
 returns-in_err-talk-clause-said g c =
     let talk = c.args.talk in
     let n = c.in_ok-count.count in
-    let read : WhenTold (g.S.Source.left c.args.input.now) (λ input. IsTaken input (g.S.Source.left c.read.new.self) (take n c.read.new.buf)) =
+    let read : WhenTold (g.S.Source.left c.args.input.now) (λ input. TakesOfInput input (g.S.Source.left c.read.new.self) (take n c.read.new.buf)) =
     λ input told. let b = c.in_ok-count.ensures.bytes input told in record { rest = b.0; left = b.1; whole = b.2 } in
     let short : length (take n c.read.new.buf) ≤ length c.args.piece.now = omega (arith, length-take n c.read.new.buf, c.in_ok-count.ensures.bound) in
     let p = err_from_is_err_and c.from_residual-in_err-talk.result c.from_residual-in_err-talk.ensures.1 in
@@ -34,7 +34,7 @@ pub returns-clause-said : goal.returns-clause-said
 returns-clause-said g c =
     let talk = c.args.talk in
     let n = c.in_ok-count.count in
-    let read : WhenTold (g.S.Source.left c.args.input.now) (λ input. IsTaken input (g.S.Source.left c.read.new.self) (take n c.read.new.buf)) =
+    let read : WhenTold (g.S.Source.left c.args.input.now) (λ input. TakesOfInput input (g.S.Source.left c.read.new.self) (take n c.read.new.buf)) =
     λ input told. let b = c.in_ok-count.ensures.bytes input told in record { rest = b.0; left = b.1; whole = b.2 } in
     hears (g.K.Sink.taken c.args.out.now) (g.K.Sink.taken c.take_piece.new.out) talk.session talk.begun.items talk.count
     c.in_ok-talk.talk.session c.in_ok-talk.talk.begun.items c.in_ok-talk.talk.count (g.S.Source.left c.args.input.now) (g.S.Source.left c.read.new.self)

@@ -2,7 +2,7 @@ use Rattle.std.proofs.Common.{◌≡◌, ◌∙◌, List, ℕ, MatchResult, Ok, 
 use Rattle.std.specs.Prelude.{IsUtf8}
 use Rattle.wasm_types.specs.Modules.{module_of as shown}
 use Rattle.friday_app.specs.Call.{StopsAs}
-use Rattle.friday_app.specs.Inputs.{module_of}
+use Rattle.friday_app.specs.Inputs.{module_in}
 use Rattle.friday_app.proofs.Names.{module_utf8}
 use Rattle.friday_app.proofs.inputs.take_module_of.Goals as goal
 
@@ -10,4 +10,4 @@ pub returns-clause-answer : goal.returns-clause-answer
 returns-clause-answer g c = λ store told.
     let text : IsUtf8 c.as_slice.result.now = subst (λ (b : List ℕ). IsUtf8 b) (sym c.as_slice.ensures) (module_utf8 c.args.line.now.«module» c.requires.file) in
     let file : c.deref.result.now ≡ c.args.line.now.«module» = c.deref.ensures ∙ c.in_ok-file.ensures.ok text ∙ c.as_slice.ensures in
-    subst (λ (n : List ℕ). MatchResult c.take_module.result (λ m. module_of store n ≡ Ok (shown m)) (StopsAs (module_of store n))) file (c.take_module.ensures.answer store told)
+    subst (λ (n : List ℕ). MatchResult c.take_module.result (λ m. module_in store n ≡ Ok (shown m)) (StopsAs (module_in store n))) file (c.take_module.ensures.answer store told)

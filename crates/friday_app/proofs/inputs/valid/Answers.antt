@@ -7,4 +7,4 @@ use Rattle.friday_app.proofs.inputs.valid.Goals as goal
 
 pub returns-in-Err-BadImport-clause-answer : goal.returns-in-Err-BadImport-clause-answer
 returns-in-Err-BadImport-clause-answer c =
-    fault_stops c.args.name.now (shown c.args.checked) reason.BadImport c.refuse-in-Err-BadImport.result (bad_import c.exact_fault.ensures (shown c.args.checked) (subst (IsFirst (shown c.args.checked)) c.in-Err-BadImport.field-0-is c.in-Err-BadImport.ensures.refused)) c.refuse-in-Err-BadImport.ensures
+    fault_stops c.args.name.now (shown c.args.«module») reason.BadImport c.refuse-in-Err-BadImport.result (bad_import c.exact_fault.ensures (shown c.args.«module») (subst (IsFirst (shown c.args.«module»)) c.in-Err-BadImport.field-0-is c.in-Err-BadImport.ensures.refused)) c.refuse-in-Err-BadImport.ensures

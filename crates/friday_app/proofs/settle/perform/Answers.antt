@@ -1,7 +1,7 @@
 use Rattle.std.proofs.Common.{◌∙◌, Some, ap, map, sym, subst}
 use Rattle.fri_outside.specs.Outside.{WhenTold}
 use Rattle.fri_outside.specs.Several.{OthersStay}
-use Rattle.friday_app.specs.Call.{Makes, Tells}
+use Rattle.friday_app.specs.Call.{Makes, TellsOutcome}
 use Rattle.friday_app.specs.Command.{Command, Replay}
 use Rattle.friday_app.specs.Expected.{expected, written_by}
 use Rattle.friday_app.specs.Outcome.{writes_of}
@@ -11,7 +11,7 @@ use Rattle.friday_app.proofs.settle.perform.Goals as goal
 
 pub returns-in-Replay-clause-tells : goal.returns-in-Replay-clause-tells
 returns-in-Replay-clause-tells g c = λ left.
-    subst (λ (words : Command). WhenTold (expected (Some words) (g.F.Files.told c.args.files.now) left) (λ outcome. Tells outcome c.replay.result))
+    subst (λ (words : Command). WhenTold (expected (Some words) (g.F.Files.told c.args.files.now) left) (λ outcome. TellsOutcome outcome c.replay.result))
     (sym (ap batch_of c.in-Replay.is ∙ ap (λ ps. Replay c.in-Replay.images (map pair_of ps)) (sym c.deref.ensures.value))) c.replay.ensures.tells
 
 pub returns-in-Replay-clause-makes : goal.returns-in-Replay-clause-makes

@@ -1,6 +1,6 @@
 use Rattle.std.proofs.Common.{◌≡◌, ◌<◌, ◌-◌, None, length, get_or, map, sym, arith}
 use Rattle.friday_shell.specs.declared.points.Point.{Point as Held}
-use Rattle.friday_shell.specs.Seen.{point, run_of}
+use Rattle.friday_shell.specs.Seen.{point, run_so_far}
 use Rattle.friday_shell.specs.Walking.{quiet, treat_all}
 use Rattle.friday_shell.proofs.Walks.{read_at, treated, treated_more}
 use Rattle.friday_shell.proofs.turn.treat_all.Goals as goal
@@ -16,6 +16,6 @@ loop-n-preserved c =
     let p = c.index-points-n.result in
     let within : n < length points = omega (arith, c.loop-n-test.true) in
     let here : get_or points n p ≡ p = sym c.index-points-n.is in
-    let did = treated start at (run_of c.loop-n.turn) (run_of c.treat.new.turn) (point p) (get_or before n None) (get_or now n None) c.requires.moved
+    let did = treated start at (run_so_far c.loop-n.turn) (run_so_far c.treat.new.turn) (point p) (get_or before n None) (get_or now n None) c.requires.moved
     (read_at start (at - 1) n points p before None c.requires.before within here) (read_at start at n points p now None c.requires.now within here) c.in_ok-treat.ensures in
-    treated_more start at n points p (run_of c.loop-n.turn) (run_of c.treat.new.turn) (treat_all start at (quiet c.args.variables) (map {A = Held} point points)) within here did c.loop-n.invariant
+    treated_more start at n points p (run_so_far c.loop-n.turn) (run_so_far c.treat.new.turn) (treat_all start at (quiet c.args.variables) (map {A = Held} point points)) within here did c.loop-n.invariant

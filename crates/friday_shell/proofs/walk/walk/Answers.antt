@@ -6,9 +6,9 @@ use Rattle.group_state.specs.Place.{Place, events}
 use Rattle.friday_shell.specs.declared.points.Point.{Point as Held}
 use Rattle.friday_shell.specs.Firing.{place_at}
 use Rattle.friday_shell.specs.Reading.{readings}
-use Rattle.friday_shell.specs.Seen.{Walks, point, run_of}
+use Rattle.friday_shell.specs.Seen.{Walks, point, run_so_far}
 use Rattle.friday_shell.specs.Texts.{position_line}
-use Rattle.friday_shell.specs.Walking.{ended, goes_on, lines_in, most_lines, quiet, treat_all, walk_from, walk_over}
+use Rattle.friday_shell.specs.Walking.{lines_in, most_lines, quiet, treat_all, walk_ended, walk_from, walk_on, walk_over}
 use Rattle.friday_shell.proofs.Walks.{arrives, lines_append, moves_on, pauses_here, rests_here, stays, step, stops_here}
 use Rattle.friday_shell.proofs.walk.walk.Goals as goal
 
@@ -30,7 +30,7 @@ returns-then-is_none c =
     let stay = stays old new c.in_ok-group.event none c.in_ok-group.ensures in
     let all = ap (λ (s : List Replaying). length (events s)) i.start in
     let end : length (events first.start) - old.at ≡ 0 = omega (arith, stay.1, all) in
-    let is : walk_from first ps c.args.variables ≡ ended old.at variables (text ++ codes "end\n") =
+    let is : walk_from first ps c.args.variables ≡ walk_ended old.at variables (text ++ codes "end\n") =
     sym i.ahead ∙ ap (λ (left : ℕ). walk_over first.start ps old.at left variables text) end in
     let here : new ≡ place_at first.start old.at = stay.0 ∙ ap (λ (s : List Replaying). place_at s old.at) i.start in
     all_three c.arrive.result (λ done. done.group ≡ new) (λ done. done.variables ≡ variables) (λ done. done.text ≡ (text ++ codes "end\n") ++ position_line new)
@@ -51,12 +51,12 @@ returns-then-turn c =
     let went = moves_on old new c.in_ok-group.event some c.in_ok-group.ensures in
     let here : new ≡ place_at first.start (suc old.at) = went.0 ∙ ap (λ (s : List Replaying). place_at s (suc old.at)) i.start in
     let before : old.at < length (events first.start) = omega (arith, went.1, ap (λ (s : List Replaying). length (events s)) i.start) in
-    let did : treat_all first.start (suc old.at) (quiet c.positions.walked.variables) ps ≡ run_of turn =
+    let did : treat_all first.start (suc old.at) (quiet c.positions.walked.variables) ps ≡ run_so_far turn =
     sym (c.in_ok-turn.ensures ∙ ap (λ (p : Place). treat_all p.start p.at (quiet c.positions.walked.variables) ps) here) in
     let rest = walk_over first.start ps (suc old.at) (length (events first.start) - suc old.at) in
-    let is : walk_from first ps c.args.variables ≡ ended (suc old.at) turn.variables (text ++ turn.text) =
-    sym i.ahead ∙ step first.start ps old.at (length (events first.start)) c.positions.walked.variables text before ∙ ap (goes_on rest (suc old.at) text) did
-    ∙ stops_here rest (suc old.at) text (run_of turn) c.if-turn.true in
+    let is : walk_from first ps c.args.variables ≡ walk_ended (suc old.at) turn.variables (text ++ turn.text) =
+    sym i.ahead ∙ step first.start ps old.at (length (events first.start)) c.positions.walked.variables text before ∙ ap (walk_on rest (suc old.at) text) did
+    ∙ stops_here rest (suc old.at) text (run_so_far turn) c.if-turn.true in
     let said : c.push_bytes.new.self ≡ text ++ turn.text = c.in_ok-push_bytes.ensures.ok ∙ ap (λ (b : List ℕ). text ++ b) c.bytes.ensures in
     all_three c.arrive-then-turn.result (λ done. done.group ≡ new) (λ done. done.variables ≡ turn.variables) (λ done. done.text ≡ (c.push_bytes.new.self ++ []) ++ position_line new)
     (λ done. Walks first ps c.args.variables done.group done.variables done.text)
@@ -77,13 +77,13 @@ returns-then-said-ge-MOST_LINES c =
     let went = moves_on old new c.in_ok-group.event some c.in_ok-group.ensures in
     let here : new ≡ place_at first.start (suc old.at) = went.0 ∙ ap (λ (s : List Replaying). place_at s (suc old.at)) i.start in
     let before : old.at < length (events first.start) = omega (arith, went.1, ap (λ (s : List Replaying). length (events s)) i.start) in
-    let did : treat_all first.start (suc old.at) (quiet c.positions.walked.variables) ps ≡ run_of turn =
+    let did : treat_all first.start (suc old.at) (quiet c.positions.walked.variables) ps ≡ run_so_far turn =
     sym (c.in_ok-turn.ensures ∙ ap (λ (p : Place). treat_all p.start p.at (quiet c.positions.walked.variables) ps) here) in
     let many : most_lines ≤ lines_in (text ++ turn.text) = omega (arith, lines_append text turn.text, i.said, c.lines_in-said.ensures, c.if-said-ge-MOST_LINES.true) in
     let rest = walk_over first.start ps (suc old.at) (length (events first.start) - suc old.at) in
-    let is : walk_from first ps c.args.variables ≡ ended (suc old.at) turn.variables ((text ++ turn.text) ++ codes "paused\n") =
-    sym i.ahead ∙ step first.start ps old.at (length (events first.start)) c.positions.walked.variables text before ∙ ap (goes_on rest (suc old.at) text) did
-    ∙ pauses_here rest (suc old.at) text (run_of turn) c.if-turn.false many in
+    let is : walk_from first ps c.args.variables ≡ walk_ended (suc old.at) turn.variables ((text ++ turn.text) ++ codes "paused\n") =
+    sym i.ahead ∙ step first.start ps old.at (length (events first.start)) c.positions.walked.variables text before ∙ ap (walk_on rest (suc old.at) text) did
+    ∙ pauses_here rest (suc old.at) text (run_so_far turn) c.if-turn.false many in
     let said : c.push_bytes.new.self ≡ text ++ turn.text = c.in_ok-push_bytes.ensures.ok ∙ ap (λ (b : List ℕ). text ++ b) c.bytes.ensures in
     all_three c.arrive-then-said-ge-MOST_LINES.result (λ done. done.group ≡ new) (λ done. done.variables ≡ turn.variables)
     (λ done. done.text ≡ (c.push_bytes.new.self ++ codes "paused\n") ++ position_line new)
@@ -107,14 +107,14 @@ positions-preserved c =
     let same : new.start ≡ first.start = ap (λ (p : Place). p.start) here in
     let at : new.at ≡ suc old.at = ap (λ (p : Place). p.at) here in
     let before : old.at < length (events first.start) = omega (arith, went.1, ap (λ (s : List Replaying). length (events s)) i.start) in
-    let did : treat_all first.start (suc old.at) (quiet c.positions.walked.variables) ps ≡ run_of turn =
+    let did : treat_all first.start (suc old.at) (quiet c.positions.walked.variables) ps ≡ run_so_far turn =
     sym (c.in_ok-turn.ensures ∙ ap (λ (p : Place). treat_all p.start p.at (quiet c.positions.walked.variables) ps) here) in
     let said : c.push_bytes.new.self ≡ text ++ turn.text = c.in_ok-push_bytes.ensures.ok ∙ ap (λ (b : List ℕ). text ++ b) c.bytes.ensures in
     let few : lines_in (text ++ turn.text) < most_lines = omega (arith, lines_append text turn.text, i.said, c.lines_in-said.ensures, c.if-said-ge-MOST_LINES.false) in
     let rest = walk_over first.start ps (suc old.at) (length (events first.start) - suc old.at) in
     let is : walk_from first ps c.args.variables ≡ rest turn.variables (text ++ turn.text) =
-    sym i.ahead ∙ step first.start ps old.at (length (events first.start)) c.positions.walked.variables text before ∙ ap (goes_on rest (suc old.at) text) did
-    ∙ rests_here rest (suc old.at) text (run_of turn) c.if-turn.false few in
+    sym i.ahead ∙ step first.start ps old.at (length (events first.start)) c.positions.walked.variables text before ∙ ap (walk_on rest (suc old.at) text) did
+    ∙ rests_here rest (suc old.at) text (run_so_far turn) c.if-turn.false few in
     record {
       start = same;
       within = omega (arith, before, at);

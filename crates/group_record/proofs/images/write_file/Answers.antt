@@ -1,7 +1,7 @@
 use Rattle.std.proofs.Common.{◌≡◌, ◌⊎◌, ◌++◌, ℕ, [], ◌∷◌, ◌∙◌, take, ap, sym}
 use Rattle.std.proofs.lemmas.Result.{err_from_is_err_and}
 use Rattle.fri_outside.specs.Outside.{with_file, with_piece}
-use Rattle.group_record.specs.Images.{IsPart}
+use Rattle.group_record.specs.Images.{AreMadeInPart}
 use Rattle.group_record.proofs.Imaging.{append_part, create_part}
 use Rattle.group_record.proofs.Small.{on_err}
 use Rattle.group_record.proofs.images.write_file.Goals as goal
@@ -18,6 +18,6 @@ returns-clause-err g c =
     let after = g.F.Files.told c.append.new.self in
     let name = c.args.name.now ++ c.args.ending.now in
     let file = c.deref-2.result.now in
-    on_err ((after ≡ now) ⊎ ((n : ℕ) × (after ≡ with_piece file (take n c.args.bytes.now) now))) (IsPart ((name, c.args.bytes.now) ∷ []) before after) c.append.result
+    on_err ((after ≡ now) ⊎ ((n : ℕ) × (after ≡ with_piece file (take n c.args.bytes.now) now))) (AreMadeInPart ((name, c.args.bytes.now) ∷ []) before after) c.append.result
     (append_part c.keeps_files.ensures name file c.args.bytes.now before now after (c.deref-2.ensures ∙ c.in_ok-file.ensures) (c.in_ok-create.ensures.ok ∙ ap (λ n. with_file n [] before) (c.deref.ensures ∙ sym c.deref-2.ensures)))
     c.append.ensures.err

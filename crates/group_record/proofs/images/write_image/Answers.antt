@@ -1,6 +1,6 @@
 use Rattle.std.proofs.Common.{[], ◌∷◌}
 use Rattle.std.proofs.lemmas.Result.{err_from_is_err_and}
-use Rattle.group_record.specs.Images.{IsPart, image_files, mem_name, out_name}
+use Rattle.group_record.specs.Images.{AreMadeInPart, image_files, mem_name, out_name}
 use Rattle.group_record.proofs.Imaging.{first_fails, second_fails}
 use Rattle.group_record.proofs.Small.{on_err}
 use Rattle.group_record.proofs.images.write_image.Goals as goal
@@ -16,6 +16,6 @@ returns-clause-err g c =
     let now = g.F.Files.told c.write_file.new.files in
     let after = g.F.Files.told c.write_file-2.new.files in
     let name = c.args.name.now in
-    on_err (IsPart ((out_name name, c.args.printed.now) ∷ []) now after) (IsPart (image_files name c.args.memory.now c.args.printed.now) before after) c.write_file-2.result
+    on_err (AreMadeInPart ((out_name name, c.args.printed.now) ∷ []) now after) (AreMadeInPart (image_files name c.args.memory.now c.args.printed.now) before after) c.write_file-2.result
     (second_fails (mem_name name, c.args.memory.now) (out_name name, c.args.printed.now) before now after c.in_ok-write_file.ensures.ok)
     c.write_file-2.ensures.err

@@ -2,7 +2,7 @@ use Rattle.std.proofs.Common.{◌≡◌, ◌<◌, ◌∙◌, true, length, inl, 
 use Rattle.std.proofs.lemmas.Result.{err_from_is_err_and}
 use Rattle.fri_outside.specs.Several.{with_files}
 use Rattle.fri_outside.specs.declared.files.WriteError.TheVariants as writing
-use Rattle.group_record.specs.Images.{IsPart}
+use Rattle.group_record.specs.Images.{AreMadeInPart}
 use Rattle.group_record.specs.Run.{size}
 use Rattle.group_record.proofs.Imaging.{asked_fails, image_fails, image_is, image_made, name_here, named_all, within_kept}
 use Rattle.group_record.proofs.Small.{at_place, none_fell_on}
@@ -35,7 +35,7 @@ returns-in_err-write_image-clause-images g c = λ group done keeps named.
     (within_kept c.args.asked asked (length c.args.processes.now) (length c.args.recorder.now.prints) k c.requires.kept c.loop-p-test.true) c.of.ensures in
     rw (p.1, p.2) (asked_fails c.args.asked group done c.in_err-write_image.field-0.0 before after asked keeps.room
     (image_fails group done.steps k c.as_slice-name.result.now before now after within name (c.loop-p.invariant.made group done keeps named)
-    (subst (λ fs. IsPart fs now after) image c.in_err-write_image.ensures.err)))
+    (subst (λ fs. AreMadeInPart fs now after) image c.in_err-write_image.ensures.err)))
 
 pub loop-p-preserved : goal.loop-p-preserved
 loop-p-preserved g c = record {

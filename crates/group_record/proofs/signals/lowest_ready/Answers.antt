@@ -9,15 +9,15 @@ loop-s-init c = λ a. refl
 
 pub returns-then-is_ready : goal.returns-then-is_ready
 returns-then-is_ready c = λ a.
-    let ready = is_ready c.args.process.now c.args.t a (has_pending c.args.world.now c.args.p) in
+    let ready = is_ready c.args.process.now c.args.thread a (has_pending c.args.world.now c.args.p) in
     sym (c.loop-s.invariant a ∙ lowest_found ready c.loop-s.s c.loop-s-test.true (sym (c.is_ready.ensures a) ∙ c.if-is_ready.true))
 
 pub loop-s-preserved : goal.loop-s-preserved
 loop-s-preserved c = λ a.
-    let ready = is_ready c.args.process.now c.args.t a (has_pending c.args.world.now c.args.p) in
+    let ready = is_ready c.args.process.now c.args.thread a (has_pending c.args.world.now c.args.p) in
     c.loop-s.invariant a ∙ lowest_past ready c.loop-s.s c.loop-s-test.true (sym (c.is_ready.ensures a) ∙ c.if-is_ready.false)
 
 pub returns : goal.returns
 returns c = λ a.
-    let ready = is_ready c.args.process.now c.args.t a (has_pending c.args.world.now c.args.p) in
+    let ready = is_ready c.args.process.now c.args.thread a (has_pending c.args.world.now c.args.p) in
     sym (c.loop-s.invariant a ∙ lowest_none ready c.loop-s.s (omega (arith, c.loop-s-test.false)))

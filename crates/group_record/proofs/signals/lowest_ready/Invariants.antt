@@ -6,4 +6,4 @@ use Rattle.group_record.specs.Around.{is_ready}
 use Rattle.group_record.proofs.signals.lowest_ready.Given as goal
 
 abbrev pub invariant-loop-s : goal.invariant-loop-s
-invariant-loop-s l = (a : Answer) → lowest (is_ready l.process l.t a (has_pending l.world l.p)) 31 1 ≡ lowest (is_ready l.process l.t a (has_pending l.world l.p)) (32 - l.s) l.s
+invariant-loop-s l = (a : Answer) → lowest (is_ready l.process l.thread a (has_pending l.world l.p)) 31 1 ≡ lowest (is_ready l.process l.thread a (has_pending l.world l.p)) (32 - l.s) l.s

@@ -11,7 +11,7 @@ use Rattle.guest_process.proofs.process.begin.Goals as goal
 
 pub invariant_of-result : goal.invariant_of-result
 invariant_of-result c =
-    let m = module_of c.args.program.now in
+    let m = module_of c.args.«module».now in
     let s = c.in_ok-strand.strand in
     let program = ap {A = Module} {B = Strand} (λ m. record { program = m; thread = s.thread; call = s.call }) c.in_ok-strand.ensures.program in
     let call = ap {B = Strand} (λ o. record { program = m; thread = s.thread; call = o }) c.in_ok-strand.ensures.call in
@@ -20,7 +20,7 @@ invariant_of-result c =
     let valid = subst (λ r. IsValid (module_of r)) c.module.ensures.same c.module.ensures.valid in
     let p : Parts = record {
       alloc = c.args.alloc;
-      program = c.args.program;
+      «module» = c.args.«module»;
       who = c.args.who;
       count = c.args.count;
       store = c.args.store;

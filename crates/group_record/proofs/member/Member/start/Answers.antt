@@ -6,7 +6,7 @@ use Rattle.group_record.proofs.member.Member.start.Goals as goal
 
 pub returns-in-Ok : goal.returns-in-Ok
 returns-in-Ok c =
-    let fresh = c.counting.ensures.begun (module_of c.args.program.now) c.args.p c.args.count c.in-Ok.process c.in-Ok.ensures.ok in (
+    let fresh = c.counting.ensures.begun (module_of c.args.«module».now) c.args.p c.args.count c.in-Ok.process c.in-Ok.ensures.ok in (
       c.in-Ok.process,
       c.in-Ok.ensures.ok,
       record {

@@ -5,7 +5,7 @@ use Rattle.std.proofs.lemmas.List.Elements.{All-more}
 use Rattle.std.proofs.lemmas.Grind.{common_steps}
 use Rattle.guest_process.specs.Fits.{StateFits}
 use Rattle.proc_replay.specs.Replaying.{Replaying}
-use Rattle.group_state.specs.Place.{AreParts, Fits, events, head}
+use Rattle.group_state.specs.Place.{AreParts, PartsFit, events, head}
 use Rattle.group_state.proofs.Following.{few_events}
 use Rattle.group_state.proofs.Forwarding.{headed}
 use Rattle.group_state.proofs.Standing.{parts_none}
@@ -35,11 +35,11 @@ invariant_of-result c =
     let whole = take_all node parts done ∙ c.deref-part-items.ensures.value in
     let all : c.loop-node.first.items ≡ c.args.parts.items = i.copied ∙ whole in
     let heads : c.loop-node.merge ≡ map head c.args.parts.items = sym (take_all node c.loop-node.merge (omega (arith, i.size, done))) ∙ i.heads ∙ ap (map head) whole in
-    let fits : Fits c.args.parts.items = subst Fits whole i.fits in
+    let fits : PartsFit c.args.parts.items = subst PartsFit whole i.fits in
     let small = subst (All (λ (r : Replaying). length r.left < 2 ^ 64)) whole i.small in
     record {
       parts = subst AreParts (sym all) c.requires;
-      fits = subst Fits (sym all) fits;
+      fits = subst PartsFit (sym all) fits;
       stand = sym (parts_none 0 c.loop-node.first.items ∙ all);
       heads = heads;
       within = omega arith;

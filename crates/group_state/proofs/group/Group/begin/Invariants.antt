@@ -1,6 +1,6 @@
 use Rattle.std.proofs.Common.{◌≡◌, ◌<◌, ◌^◌, length, map, take}
 use Rattle.std.specs.Prelude.{All}
-use Rattle.group_state.specs.Place.{Fits, head}
+use Rattle.group_state.specs.Place.{PartsFit, head}
 use Rattle.group_state.proofs.group.Group.begin.Given as goal
 
 abbrev pub invariant-loop-node : goal.invariant-loop-node
@@ -8,6 +8,6 @@ invariant-loop-node l = record {
   size : length l.merge ≡ length l.part-items;
   heads : take l.node l.merge ≡ map head (take l.node l.part-items);
   copied : l.first.items ≡ take l.node l.part-items;
-  fits : Fits (take l.node l.part-items);
+  fits : PartsFit (take l.node l.part-items);
   small : All (λ r. length r.left < 2 ^ 64) (take l.node l.part-items);
 }

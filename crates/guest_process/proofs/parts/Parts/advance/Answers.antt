@@ -5,11 +5,11 @@ use Rattle.lib_calls.specs.Entry.{entry_of}
 use Rattle.wasm_types.specs.Modules.{module_of}
 use Rattle.wasm_step.specs.Strand.{IsHandler, answered}
 use Rattle.guest_process.specs.Answers.{exited}
-use Rattle.guest_process.specs.GoesOn.{counted, entered, handler, runs}
-use Rattle.guest_process.specs.Kinds.{value_of}
+use Rattle.guest_process.specs.GoesOn.{after_running, counted, handler, with_handler_frame}
+use Rattle.guest_process.specs.Kinds.{reply_value}
 use Rattle.guest_process.specs.Seen.{state_of}
-use Rattle.guest_process.specs.Sound.{StandsAt}
-use Rattle.guest_process.specs.State.{kind_at, thread_at, with_thread}
+use Rattle.guest_process.specs.Sound.{StandsAtKind}
+use Rattle.guest_process.specs.State.{pending_kind, thread_at, with_thread}
 use Rattle.guest_process.proofs.Advancing.{acted_events, acted_handlers, acted_program, exits, goes, goes_out, is_out, stands_at, still_live, taken_is}
 use Rattle.guest_process.proofs.Legality.{is_answer_of}
 use Rattle.guest_process.proofs.parts.Parts.advance.Goals as goal
@@ -22,13 +22,13 @@ pub unreachable-requires : goal.unreachable-requires
 unreachable-requires c =
     let S = state_of c.args.self in
     let e = entry_of c.args.entry.now in
-    still_live S e (kind_at S e.thread) c.requires.legal (ap (λ S'. thread_at S' e.thread) (sym c.in_ok-act.ensures.state) ∙ sym c.take.ensures.value ∙ c.in_default.is)
+    still_live S e (pending_kind S e.thread) c.requires.legal (ap (λ S'. thread_at S' e.thread) (sym c.in_ok-act.ensures.state) ∙ sym c.take.ensures.value ∙ c.in_default.is)
 
 pub overflow_add-self : goal.overflow_add-self
 overflow_add-self c =
     let S = state_of c.args.self in
     let e = entry_of c.args.entry.now in
-    let same = ap (λ S'. S'.events) c.in_ok-act.ensures.state ∙ acted_events S e (kind_at S e.thread) in
+    let same = ap (λ S'. S'.events) c.in_ok-act.ensures.state ∙ acted_events S e (pending_kind S e.thread) in
     omega (arith, same, c.requires.few)
 
 pub exit-requires : goal.exit-requires
@@ -43,7 +43,7 @@ returns-then-ends_process-clause-state c =
     let e = entry_of c.args.entry.now in
     let w = c.in-Some.waiting in
     let after = c.in_ok-act.ensures.state in
-    let at = taken_is S e (kind_at S e.thread) w c.requires.legal (ap (λ S'. thread_at S' e.thread) (sym after) ∙ sym c.take.ensures.value ∙ c.in-Some.is) in
+    let at = taken_is S e (pending_kind S e.thread) w c.requires.legal (ap (λ S'. thread_at S' e.thread) (sym after) ∙ sym c.take.ensures.value ∙ c.in-Some.is) in
     let ends = sym c.ends_process.ensures ∙ c.if-ends_process.true in
     c.exit.ensures.state
     ∙ ap (λ crew. exited (counted (record S' { crew = crew }) e.clock) e.thread w.call.a0) c.in-Some.ensures.some
@@ -55,13 +55,13 @@ go_on-requires-clause-taken c =
     let t = c.args.entry.now.thread in
     subst (λ crew. IsTaken crew t) (sym c.in-Some.ensures.some) (is_out c.act.new.self.crew t c.in-Some.waiting (sym c.take.ensures.value ∙ c.in-Some.is))
 
-pub go_on-requires-clause-program : goal.go_on-requires-clause-program
-go_on-requires-clause-program c =
+pub go_on-requires-clause-same_module : goal.go_on-requires-clause-same_module
+go_on-requires-clause-same_module c =
     let S = state_of c.args.self in
     let e = entry_of c.args.entry.now in
     let after = c.in_ok-act.ensures.state in
-    let same = sym (acted_program S e (kind_at S e.thread)) ∙ ap (λ S'. S'.store.program) (sym after) in
-    subst (λ r. module_of r.now ≡ S.store.program) (sym c.in_ok-act.ensures.program) c.requires.process.program ∙ same
+    let same = sym (acted_program S e (pending_kind S e.thread)) ∙ ap (λ S'. S'.store.program) (sym after) in
+    subst (λ r. module_of r.now ≡ S.store.program) (sym c.in_ok-act.ensures.same_module) c.requires.process.same_module ∙ same
 
 pub go_on-requires-clause-same : goal.go_on-requires-clause-same
 go_on-requires-clause-same c =
@@ -69,9 +69,9 @@ go_on-requires-clause-same c =
     let e = entry_of c.args.entry.now in
     let w = c.in-Some.waiting in
     let after = c.in_ok-act.ensures.state in
-    let at = taken_is S e (kind_at S e.thread) w c.requires.legal (ap (λ S'. thread_at S' e.thread) (sym after) ∙ sym c.take.ensures.value ∙ c.in-Some.is) in
-    (stands_at S e.thread w c.requires.process.sound.threads at).program
-    ∙ sym (acted_program S e (kind_at S e.thread))
+    let at = taken_is S e (pending_kind S e.thread) w c.requires.legal (ap (λ S'. thread_at S' e.thread) (sym after) ∙ sym c.take.ensures.value ∙ c.in-Some.is) in
+    (stands_at S e.thread w c.requires.process.sound.threads at).same_module
+    ∙ sym (acted_program S e (pending_kind S e.thread))
     ∙ ap (λ S'. S'.store.program) (sym after)
 
 pub go_on-requires-clause-stands : goal.go_on-requires-clause-stands
@@ -80,16 +80,16 @@ go_on-requires-clause-stands c =
     let e = entry_of c.args.entry.now in
     let w = c.in-Some.waiting in
     let after = c.in_ok-act.ensures.state in
-    let at = taken_is S e (kind_at S e.thread) w c.requires.legal (ap (λ S'. thread_at S' e.thread) (sym after) ∙ sym c.take.ensures.value ∙ c.in-Some.is) in
+    let at = taken_is S e (pending_kind S e.thread) w c.requires.legal (ap (λ S'. thread_at S' e.thread) (sym after) ∙ sym c.take.ensures.value ∙ c.in-Some.is) in
     let is = stands_at S e.thread w c.requires.process.sound.threads at in
-    subst (λ m. StandsAt m w w.kind) (sym is.program) is.stands
+    subst (λ m. StandsAtKind m w w.kind) (sym is.same_module) is.stands
 
 pub go_on-requires-clause-handlers : goal.go_on-requires-clause-handlers
 go_on-requires-clause-handlers c = λ signal func h.
     let S = state_of c.args.self in
     let e = entry_of c.args.entry.now in
     let after = c.in_ok-act.ensures.state in
-    let o = kind_at S e.thread in
+    let o = pending_kind S e.thread in
     let is = acted_handlers S e o c.requires.process.sound.handlers signal func (ap (λ S'. handler S'.handlers signal) (sym after) ∙ h) in
     subst (λ m. IsHandler m func) (sym (acted_program S e o) ∙ ap (λ S'. S'.store.program) (sym after)) is
 
@@ -100,9 +100,9 @@ returns-clause-state c =
     let e = entry_of c.args.entry.now in
     let w = c.in-Some.waiting in
     let after = c.in_ok-act.ensures.state in
-    let at = taken_is S e (kind_at S e.thread) w c.requires.legal (ap (λ S'. thread_at S' e.thread) (sym after) ∙ sym c.take.ensures.value ∙ c.in-Some.is) in
+    let at = taken_is S e (pending_kind S e.thread) w c.requires.legal (ap (λ S'. thread_at S' e.thread) (sym after) ∙ sym c.take.ensures.value ∙ c.in-Some.is) in
     let ends = sym c.ends_process.ensures ∙ c.if-ends_process.false in
     c.in_ok-go_on.ensures.state
-    ∙ ap (λ crew. runs (counted (record S' { crew = crew }) e.clock) e.thread (entered S'.store.program (answered w.strand (value_of w.kind e.reply)) e.signal (handler S'.handlers e.signal))) c.in-Some.ensures.some
+    ∙ ap (λ crew. after_running (counted (record S' { crew = crew }) e.clock) e.thread (with_handler_frame S'.store.program (answered w.strand (reply_value w.kind e.reply)) e.signal (handler S'.handlers e.signal))) c.in-Some.ensures.some
     ∙ ap (λ S'. goes_out w.kind S' e.thread w.strand e.reply e.signal e.clock) after
     ∙ goes S e w c.requires.process.fits c.requires.legal at ends

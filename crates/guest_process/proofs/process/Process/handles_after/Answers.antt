@@ -9,6 +9,6 @@ pub returns-in-Some : goal.returns-in-Some
 returns-in-Some c a =
     let S = state_of c.self.inside.parts in
     let at = sym c.get.ensures ∙ ap option_copied c.in-Some.is in
-    let after = c.handlers_after.ensures c.args.t a ∙ ap (λ o. (answered_at S c.args.t a o).handlers) (sym at) in
-    subst (λ S. c.is_some.result ≡ is_some (handler (answered_at S c.args.t a (thread_at S c.args.t)).handlers c.args.s)) c.self.view_is
+    let after = c.handlers_after.ensures c.args.thread a ∙ ap (λ o. (answered_at S c.args.thread a o).handlers) (sym at) in
+    subst (λ S. c.is_some.result ≡ is_some (handler (answered_at S c.args.thread a (thread_at S c.args.thread)).handlers c.args.s)) c.self.view_is
     (c.is_some.ensures ∙ ap is_some (c.handler.ensures ∙ ap (λ handlers. handler handlers c.args.s) after))

@@ -1,7 +1,7 @@
 use Rattle.std.proofs.Common.{rules, sym}
 use Rattle.std.proofs.lemmas.List.{take_rest}
 use Rattle.friday_shell.proofs.Trimmed.{front_at, front_none}
-use Rattle.friday_shell.proofs.line.without_front.Goals as goal
+use Rattle.friday_shell.proofs.line.without_front_blanks.Goals as goal
 
 pub returns-in-Some : goal.returns-in-Some
 returns-in-Some c =

@@ -3,7 +3,7 @@ ghost use Rattle.std.specs.Prelude.{◌≡◌, ◌++◌, ◌≤◌, length, true
 ghost use Rattle.lib_calls.specs.Entry.{entry_of};
 ghost use Rattle.lib_calls.specs.Traffic.{drawn as drawn_of};
 ghost use Rattle.signal_points.specs.Signals.{is_pending as is_pending_in, with_pending};
-ghost use Rattle.group_world.specs.World.{no_place, settled};
+ghost use Rattle.group_world.specs.World.{after_entry, no_surroundings};
 
 use lib_calls::{EntryView, drawn};
 use signal_points::Pending;
@@ -13,7 +13,7 @@ use std::marker::Model;
 /// Random bytes, the wall time as the bits of a signed number, the pending signals, and whether the
 /// process was killed. The random bytes that were taken stay in front of those that are left.
 #[derive(Drop)]
-pub(crate) struct Place {
+pub(crate) struct Surroundings {
     bytes: Vec<u8>,
     used: usize,
     pub(crate) time: u64,
@@ -21,22 +21,22 @@ pub(crate) struct Place {
     pub(crate) killed: bool,
 }
 
-impl Model for Place {
+impl Model for Surroundings {
     ghost use Rattle.std.specs.Prelude.{drop, length, ◌≤◌};
-    ghost use Rattle.group_world.specs.World.{Place as PlaceOf};
+    ghost use Rattle.group_world.specs.World.{Surroundings as SurroundingsOf};
 
-    ghost Value = { PlaceOf };
+    ghost Value = { SurroundingsOf };
 
     ghost view = { λ p. record { pool = drop p.used p.bytes.items; time = p.time; pending = p.pending; killed = p.killed } };
 
     ghost invariant = { λ p. p.used ≤ length p.bytes.items };
 }
 
-impl Place {
-    pub(crate) fn new(alloc: Global) -> Place
-        ensures { result ≡ no_place }
+impl Surroundings {
+    pub(crate) fn new(alloc: Global) -> Surroundings
+        ensures { result ≡ no_surroundings }
     {
-        Place {
+        Surroundings {
             bytes: Vec::new(alloc),
             used: 0,
             time: 0,
@@ -83,7 +83,7 @@ impl Place {
     /// An event takes random bytes, and delivers a signal or none.
     pub(crate) fn settle(&mut self, entry: &EntryView<'_>)
         requires { drawn_of (entry_of entry.now) ≤ length self.old.pool }
-        ensures { self.new ≡ settled self.old (entry_of entry.now) }
+        ensures { self.new ≡ after_entry self.old (entry_of entry.now) }
     {
         self.used += drawn(entry);
         if (1..=31).contains(&entry.signal) {

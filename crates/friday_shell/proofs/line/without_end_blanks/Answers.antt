@@ -1,6 +1,6 @@
 use Rattle.std.proofs.Common.{rules, sym, ap, take, add-one, ◌∙◌, ℕ}
 use Rattle.friday_shell.proofs.Trimmed.{end_at, end_none}
-use Rattle.friday_shell.proofs.line.without_end.Goals as goal
+use Rattle.friday_shell.proofs.line.without_end_blanks.Goals as goal
 
 pub returns-in-Some : goal.returns-in-Some
 returns-in-Some c =
