@@ -113,7 +113,7 @@ def build(folder, text):
 
 def compile(folder, name, size):
     flags = "--target=wasm32 -mcpu=mvp -std=c11 -O2 -ffreestanding -fno-builtin -Wall -Wextra -Werror -nostdlib -Wl,--no-entry -Wl,--export=_start -Wl,--strip-all"
-    words = [os.environ.get("CLANG", "clang")] + flags.split() + ["-I", here + "/examples/guests", "-DCOUNT=%d" % size]
+    words = [os.environ.get("CLANG", "clang")] + flags.split() + ["-I", here + "/guests", "-DCOUNT=%d" % size]
     subprocess.run(words + ["-o", "a.wasm", "%s/bench/%s.c" % (here, name)], cwd=folder, check=True)
 
 
