@@ -20,7 +20,7 @@ use wasm_types::{Trap, ValidModule, Value};
 #[derive(Drop)]
 pub struct Strand<'m> {
     program: &'m ValidModule,
-    stack: Stack<'m>,
+    stack: Box<Stack<'m>>,
     call: Option<u32>,
 }
 
@@ -36,9 +36,9 @@ impl<'m> Model for Strand<'m> {
     ghost use Rattle.wasm_types.specs.Modules.{module_of};
     ghost use Rattle.wasm_step.specs.Fits.{StandsFit};
 
-    ghost view = { λ s. record { program = module_of s.program.now; thread = s.stack; call = s.call } };
+    ghost view = { λ s. record { program = module_of s.program.now; thread = s.stack.value; call = s.call } };
 
-    ghost invariant = { λ s. StandsFit (module_of s.program.now) s.stack s.call };
+    ghost invariant = { λ s. StandsFit (module_of s.program.now) s.stack.value s.call };
 }
 
 /// Why a handler's frame is not put on top of a thread.
@@ -68,7 +68,8 @@ impl<'m> Strand<'m> {
         ensures thread { IfOk result (λ s. first_thread (module_of program.now) ≡ Some s.thread) }
         ensures call { IfOk result (λ s. s.call ≡ None) }
     {
-        let stack = first(alloc, program)?;
+        let thread = first(alloc, program)?;
+        let stack = Box::new(alloc, thread)?;
         Ok(Strand {
             program,
             stack,
@@ -90,7 +91,8 @@ impl<'m> Strand<'m> {
     {
         let arguments = vec![in alloc; Value::I32(arg)]?;
         let callee = own(program, func);
-        let stack = Stack::start(func, callee, arguments, None)?;
+        let thread = Stack::start(func, callee, arguments, None)?;
+        let stack = Box::new(alloc, thread)?;
         Ok(Strand {
             program,
             stack,
@@ -180,7 +182,8 @@ impl<'m> Strand<'m> {
     pub fn copy(&self) -> Result<Strand<'m>, AllocError>
         ensures { IfOk result (λ s. s ≡ self.now) }
     {
-        let stack = self.stack.copy()?;
+        let alloc = *Box::allocator(&self.stack);
+        let stack = Box::new(alloc, self.stack.copy()?)?;
         Ok(Strand {
             program: self.program,
             stack,

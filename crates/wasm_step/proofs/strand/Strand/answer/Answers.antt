@@ -1,6 +1,7 @@
 use Rattle.std.proofs.Common.{◌≡◌, ℕ, Option, Some, sym, ap, ◌∙◌, subst}
 use Rattle.wasm_types.specs.Modules.{Module, module_of}
 use Rattle.wasm_step.specs.Fits.{StandsFit, Fits}
+use Rattle.wasm_step.specs.Reduce.{given}
 use Rattle.wasm_step.specs.Strand.{Strand, IsResult, library_result}
 use Rattle.wasm_step.specs.Thread.{Thread}
 use Rattle.wasm_step.proofs.strand.Strand.answer.Goals as goal
@@ -10,5 +11,6 @@ invariant_of-result c =
     let m = module_of c.self.inside.program.now in
     let stands : c.self.inside.call ≡ Some c.requires.func = ap (λ (s : Strand). s.call) c.self.view_is ∙ c.requires.stands in
     let typed = subst (λ (m : Module). IsResult (library_result m c.requires.func) c.args.value) (ap (λ (s : Strand). s.program) (sym c.self.view_is)) c.requires.typed in
-    let fits = subst (λ (call : Option ℕ). StandsFit m c.self.inside.stack call) stands c.self.invariant in
-    subst (λ (t : Thread). Fits m t) (sym c.in_ok-give.ensures) (fits c.args.value typed)
+    let fits = subst (λ (call : Option ℕ). StandsFit m c.self.inside.stack.value call) stands c.self.invariant in
+    let after = c.in_ok-give.ensures ∙ ap (λ (t : Thread). given c.args.value t) c.deref_mut.ensures.value in
+    subst (λ (t : Thread). Fits m t) (sym after) (fits c.args.value typed)

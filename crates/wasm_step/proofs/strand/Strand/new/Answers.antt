@@ -13,5 +13,5 @@ invariant_of-result c =
     let m = module_of c.args.program.now in
     let f = c.args.func in
     let callee = c.own-callee.result in
-    let started : new_thread m f c.args.arg ≡ Some c.in_ok-stack.stack = ap (λ (o : Option Func). begun o [] f (I32 c.args.arg ∷ [])) c.own-callee.ensures.found ∙ ap Some (ap (λ (args : List Value). at_start [] f callee.body (args ++ zeros callee.locals) None) (sym c.in_ok-arguments.ensures.items) ∙ sym c.in_ok-stack.ensures) in
-    new_fits m f c.args.arg c.in_ok-stack.stack c.own-callee.ensures.valid (record { own = c.requires.own; type = c.requires.type }) started
+    let started : new_thread m f c.args.arg ≡ Some c.in_ok-stack.stack.value = ap (λ (o : Option Func). begun o [] f (I32 c.args.arg ∷ [])) c.own-callee.ensures.found ∙ ap Some (ap (λ (args : List Value). at_start [] f callee.body (args ++ zeros callee.locals) None) (sym c.in_ok-arguments.ensures.items) ∙ sym c.in_ok-thread.ensures ∙ sym c.in_ok-stack.ensures.ok) in
+    new_fits m f c.args.arg c.in_ok-stack.stack.value c.own-callee.ensures.valid (record { own = c.requires.own; type = c.requires.type }) started
