@@ -1,5 +1,5 @@
 // The event of a legal entry.
-ghost use Rattle.std.specs.Prelude.{◌≡◌, ◌+◌, ◌<◌, ◌^◌, IfOk, IsTrue, OnOk, None, Some, ℕ};
+ghost use Rattle.std.specs.Prelude.{◌≡◌, ◌+◌, ◌<◌, ◌^◌, IsTrue, OnOk, None, Some, ℕ};
 ghost use Rattle.coop_threads.specs.Crew.{IsTaken};
 ghost use Rattle.lib_calls.specs.Answer.{answer_of};
 ghost use Rattle.lib_calls.specs.Effects.{is_answer};
@@ -27,14 +27,14 @@ use wasm_step::Strand;
 use wasm_types::Trap;
 
 impl<'m> Parts<'m> {
-    /// The parts after the event of a legal entry.
-    pub(crate) fn advance(mut self, entry: &EntryView<'_>) -> Result<Parts<'m>, AllocError>
-        requires process { IsProcess self }
-        requires legal { reason (state_of self) (entry_of entry.now) ≡ None }
-        requires few { self.events < 2 ^ 61 }
-        ensures state { IfOk result (λ p. state_of p ≡ next (state_of self.entry) (entry_of entry.now)) }
-        ensures same_module { IfOk result (λ p. p.«module» ≡ self.entry.«module») }
-        ensures suits { IfOk result (λ p. Suits p.store) }
+    /// Makes the event of a legal entry.
+    pub(crate) fn advance(&mut self, entry: &EntryView<'_>) -> Result<(), AllocError>
+        requires process { IsProcess self.old }
+        requires legal { reason (state_of self.old) (entry_of entry.now) ≡ None }
+        requires few { self.old.events < 2 ^ 61 }
+        ensures state { OnOk result (state_of self.new ≡ next (state_of self.old) (entry_of entry.now)) }
+        ensures same_module { OnOk result (self.new.«module» ≡ self.old.«module») }
+        ensures suits { OnOk result (Suits self.new.store) }
     {
         self.act(entry)?;
         let Some(waiting) = self.crew.take(entry.thread) else {
@@ -44,10 +44,10 @@ impl<'m> Parts<'m> {
         self.events += 1;
         if ends_process(waiting.kind) {
             self.exit(entry.thread, waiting.call.a0);
-            return Ok(self);
+            return Ok(());
         }
         self.go_on(waiting, entry)?;
-        Ok(self)
+        Ok(())
     }
 
     // Does what the answer does, but for the end of a thread that calls `exit`.

@@ -33,7 +33,8 @@ use wasm_types::{ValidModule, Value};
 /// A process of a guest.
 #[derive(Drop)]
 pub struct Process<'m> {
-    pub(crate) parts: Parts<'m>,
+    // Behind a box, since a process is moved at each event.
+    pub(crate) parts: Box<Parts<'m>>,
 }
 
 impl<'m> Model for Process<'m> {
@@ -47,9 +48,9 @@ impl<'m> Model for Process<'m> {
 
     ghost coded = { Prim.hlevel (codes, trees_code, crew_code) };
 
-    ghost view = { λ p. state_of p.parts };
+    ghost view = { λ p. state_of p.parts.value };
 
-    ghost invariant = { λ p. IsProcess p.parts };
+    ghost invariant = { λ p. IsProcess p.parts.value };
 }
 
 impl<'m> Process<'m> {
@@ -148,7 +149,8 @@ impl<'m> Process<'m> {
     {
         // Its `ensures` tells the proof that a burst leaves the module as it is.
         never_stuck();
-        let parts = self.parts.advance(entry)?;
+        let mut parts = self.parts;
+        parts.advance(entry)?;
         Ok(Process { parts })
     }
 
@@ -201,7 +203,7 @@ impl<'m> Process<'m> {
     pub fn copy(&self, alloc: Global) -> Result<Process<'m>, AllocError>
         ensures { IfOk result (λ p. p ≡ self.now) }
     {
-        let parts = self.parts.copy(alloc)?;
+        let parts = Box::new(alloc, self.parts.copy(alloc)?)?;
         Ok(Process { parts })
     }
 }
@@ -240,5 +242,6 @@ fn begin<'m>(
         events: 0,
         end: End::Running,
     };
+    let parts = Box::new(alloc, parts)?;
     Ok(Process { parts })
 }

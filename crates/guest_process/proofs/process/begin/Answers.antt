@@ -1,10 +1,11 @@
-use Rattle.std.proofs.Common.{refl, ap, subst, ◌∙◌}
+use Rattle.std.proofs.Common.{refl, ap, sym, subst, ◌∙◌}
 use Rattle.coop_threads.specs.Crew.{empty, with_new_thread}
 use Rattle.wasm_types.specs.Modules.{Module, module_of}
 use Rattle.wasm_types.specs.Valid.{IsValid}
 use Rattle.wasm_step.specs.Strand.{Strand}
 use Rattle.guest_process.specs.declared.parts.Parts.{Parts}
 use Rattle.guest_process.specs.declared.end.End.TheVariants.{Running}
+use Rattle.guest_process.specs.Seen.{IsProcess}
 use Rattle.guest_process.specs.Start.{waits}
 use Rattle.guest_process.proofs.Starting.{is_process}
 use Rattle.guest_process.proofs.process.begin.Goals as goal
@@ -30,4 +31,4 @@ invariant_of-result c =
       events = 0;
       end = Running;
     } in
-    is_process p s.thread c.requires.who c.requires.count c.requires.store valid c.requires.suits crew c.new.ensures refl refl refl
+    subst IsProcess (sym c.in_ok-parts.ensures.ok) (is_process p s.thread c.requires.who c.requires.count c.requires.store valid c.requires.suits crew c.new.ensures refl refl refl)

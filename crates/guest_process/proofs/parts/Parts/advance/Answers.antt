@@ -16,17 +16,17 @@ use Rattle.guest_process.proofs.parts.Parts.advance.Goals as goal
 
 pub act-requires-clause-answer : goal.act-requires-clause-answer
 act-requires-clause-answer c =
-    is_answer_of (state_of c.args.self) (entry_of c.args.entry.now) c.requires.process.fits c.requires.legal
+    is_answer_of (state_of c.args.self.now) (entry_of c.args.entry.now) c.requires.process.fits c.requires.legal
 
 pub unreachable-requires : goal.unreachable-requires
 unreachable-requires c =
-    let S = state_of c.args.self in
+    let S = state_of c.args.self.now in
     let e = entry_of c.args.entry.now in
     still_live S e (pending_kind S e.thread) c.requires.legal (ap (λ S'. thread_at S' e.thread) (sym c.in_ok-act.ensures.state) ∙ sym c.take.ensures.value ∙ c.in_default.is)
 
 pub overflow_add-self : goal.overflow_add-self
 overflow_add-self c =
-    let S = state_of c.args.self in
+    let S = state_of c.args.self.now in
     let e = entry_of c.args.entry.now in
     let same = ap (λ S'. S'.events) c.in_ok-act.ensures.state ∙ acted_events S e (pending_kind S e.thread) in
     omega (arith, same, c.requires.few)
@@ -38,7 +38,7 @@ exit-requires c =
 
 pub returns-then-ends_process-clause-state : goal.returns-then-ends_process-clause-state
 returns-then-ends_process-clause-state c =
-    let S = state_of c.args.self in
+    let S = state_of c.args.self.now in
     let S' = state_of c.act.new.self in
     let e = entry_of c.args.entry.now in
     let w = c.in-Some.waiting in
@@ -57,7 +57,7 @@ go_on-requires-clause-taken c =
 
 pub go_on-requires-clause-same_module : goal.go_on-requires-clause-same_module
 go_on-requires-clause-same_module c =
-    let S = state_of c.args.self in
+    let S = state_of c.args.self.now in
     let e = entry_of c.args.entry.now in
     let after = c.in_ok-act.ensures.state in
     let same = sym (acted_program S e (pending_kind S e.thread)) ∙ ap (λ S'. S'.store.program) (sym after) in
@@ -65,7 +65,7 @@ go_on-requires-clause-same_module c =
 
 pub go_on-requires-clause-same : goal.go_on-requires-clause-same
 go_on-requires-clause-same c =
-    let S = state_of c.args.self in
+    let S = state_of c.args.self.now in
     let e = entry_of c.args.entry.now in
     let w = c.in-Some.waiting in
     let after = c.in_ok-act.ensures.state in
@@ -76,7 +76,7 @@ go_on-requires-clause-same c =
 
 pub go_on-requires-clause-stands : goal.go_on-requires-clause-stands
 go_on-requires-clause-stands c =
-    let S = state_of c.args.self in
+    let S = state_of c.args.self.now in
     let e = entry_of c.args.entry.now in
     let w = c.in-Some.waiting in
     let after = c.in_ok-act.ensures.state in
@@ -86,7 +86,7 @@ go_on-requires-clause-stands c =
 
 pub go_on-requires-clause-handlers : goal.go_on-requires-clause-handlers
 go_on-requires-clause-handlers c = λ signal func h.
-    let S = state_of c.args.self in
+    let S = state_of c.args.self.now in
     let e = entry_of c.args.entry.now in
     let after = c.in_ok-act.ensures.state in
     let o = pending_kind S e.thread in
@@ -95,7 +95,7 @@ go_on-requires-clause-handlers c = λ signal func h.
 
 pub returns-clause-state : goal.returns-clause-state
 returns-clause-state c =
-    let S = state_of c.args.self in
+    let S = state_of c.args.self.now in
     let S' = state_of c.act.new.self in
     let e = entry_of c.args.entry.now in
     let w = c.in-Some.waiting in
