@@ -54,27 +54,27 @@ items_fit schedule begun recorder before now fits b =
     subst (λ n. All (IsInRange n) schedule.items) (sym count) fits.formed.items
 
 -- it was not done to its end
-pub run_fails : (asked : Bool) (schedule : Schedule) (begun : Result (List State) ℕ) (recorder : Recorder) (error : RecordError) (before now after : Option Store) → GroupBegins schedule begun (Ok recorder) before now
-    → Does (λ group. after_items group 1 schedule.items) recorder (Err error) now after → RecordAnswers schedule asked begun (Err error) before after
-run_fails asked schedule begun recorder (errors.BadSegment p) before now after b does = absurd (does (group_of schedule b.0) nothing_yet before b.2 b.3)
-run_fails asked schedule begun recorder (errors.LogFull item) before now after b does =
+pub run_fails : (asked : Bool) (schedule : Schedule) (begun : Result (List State) ℕ) (recorder last : Recorder) (error : RecordError) (before now after : Option Store) → GroupBegins schedule begun (Ok recorder) before now
+    → Does (λ group. after_items group 1 schedule.items) recorder (Err error) last now after → RecordAnswers schedule asked begun (Err error) before after
+run_fails asked schedule begun recorder last (errors.BadSegment p) before now after b does = absurd (does (group_of schedule b.0) nothing_yet before b.2 b.3)
+run_fails asked schedule begun recorder last (errors.LogFull item) before now after b does =
     let h = does (group_of schedule b.0) nothing_yet before b.2 b.3 in
     (b.0, b.1, record { full = h.0; files = h.1 })
-run_fails asked schedule begun recorder errors.WriteFault before now after b does =
+run_fails asked schedule begun recorder last errors.WriteFault before now after b does =
     subst (λ x. StoppedWhere schedule asked x before after) (sym b.1) (stops_in asked schedule b.0 before after (does (group_of schedule b.0) nothing_yet before b.2 b.3))
-run_fails asked schedule begun recorder errors.NoMemory before now after b does =
+run_fails asked schedule begun recorder last errors.NoMemory before now after b does =
     subst (λ x. StoppedWhere schedule asked x before after) (sym b.1) (stops_in asked schedule b.0 before after (does (group_of schedule b.0) nothing_yet before b.2 b.3))
 
 -- all was done, and there was no memory to say so
 pub saying_fails : (asked : Bool) (schedule : Schedule) (begun : Result (List State) ℕ) (recorder last : Recorder) (before now after : Option Store) → GroupBegins schedule begun (Ok recorder) before now
-    → Does (λ group. after_items group 1 schedule.items) recorder (Ok last) now after → StoppedWhere schedule asked begun before after
+    → Does (λ group. after_items group 1 schedule.items) recorder (Ok tt) last now after → StoppedWhere schedule asked begun before after
 saying_fails asked schedule begun recorder last before now after b does =
     let h = does (group_of schedule b.0) nothing_yet before b.2 b.3 in
     subst (λ x. StoppedWhere schedule asked x before after) (sym b.1) (Between (run (group_of schedule b.0) schedule.items).steps ([], refl) h.1)
 
 -- the images were not all made
 pub images_fail : (asked : Bool) (schedule : Schedule) (begun : Result (List State) ℕ) (recorder last : Recorder) (error : RecordError) (before now middle after : Option Store) → GroupBegins schedule begun (Ok recorder) before now
-    → Does (λ group. after_items group 1 schedule.items) recorder (Ok last) now middle → MakesImages asked schedule.processes last (Err error) middle after → RecordAnswers schedule asked begun (Err error) before after
+    → Does (λ group. after_items group 1 schedule.items) recorder (Ok tt) last now middle → MakesImages asked schedule.processes last (Err error) middle after → RecordAnswers schedule asked begun (Err error) before after
 images_fail asked schedule begun recorder last error before now middle after b does makes = by_error error (makes group done h.0 refl)
   where
     group : Group
@@ -97,7 +97,7 @@ images_fail asked schedule begun recorder last error before now middle after b d
 
 -- all was done and said
 pub run_done : (asked : Bool) (schedule : Schedule) (begun : Result (List State) ℕ) (recorder last : Recorder) (said : Summary) (before now middle after : Option Store) → GroupBegins schedule begun (Ok recorder) before now
-    → Does (λ group. after_items group 1 schedule.items) recorder (Ok last) now middle → Sums schedule.processes last said → MakesImages asked schedule.processes last (Ok tt) middle after
+    → Does (λ group. after_items group 1 schedule.items) recorder (Ok tt) last now middle → Sums schedule.processes last said → MakesImages asked schedule.processes last (Ok tt) middle after
     → RecordAnswers schedule asked begun (Ok said) before after
 run_done asked schedule begun recorder last said before now middle after b does sums makes =
     let group = group_of schedule b.0 in
@@ -115,7 +115,7 @@ run_done asked schedule begun recorder last said before now middle after b does 
 -- ---- what is said of it
 
 pub last_keeps : (schedule : Schedule) (begun : Result (List State) ℕ) (recorder last : Recorder) (before now after : Option Store) → (b : GroupBegins schedule begun (Ok recorder) before now)
-    → Does (λ group. after_items group 1 schedule.items) recorder (Ok last) now after → KeepsUp (group_of schedule b.0) (run (group_of schedule b.0) schedule.items) last
+    → Does (λ group. after_items group 1 schedule.items) recorder (Ok tt) last now after → KeepsUp (group_of schedule b.0) (run (group_of schedule b.0) schedule.items) last
 last_keeps schedule begun recorder last before now after b does = (does (group_of schedule b.0) nothing_yet before b.2 b.3).0
 
 pub last_count : (schedule : Schedule) (first : List State) (last : Recorder) → KeepsUp (group_of schedule first) (run (group_of schedule first) schedule.items) last → length last.members.items ≡ length schedule.processes

@@ -1,6 +1,6 @@
 -- The counts of a recorder have room for all that a schedule comes to.
 use Rattle.std.proofs.Common.{◌≡◌, ℕ, suc, ◌+◌, ◌<◌, ◌≤◌, ◌^◌, Bool, true, false, List, [], ◌∷◌, length, drop, drop-cons, slice_index_or, refl, ap, sym, subst, ◌∙◌, add-one, arith}
-use Rattle.std.specs.Prelude.{IfOk, Ok, Err, Result, sum_by}
+use Rattle.std.specs.Prelude.{⊤, OnOk, Ok, Err, Result, sum_by}
 use Rattle.std.proofs.lemmas.List.Sums.{sum_by-cons}
 use Rattle.lib_calls.specs.declared.entry.Entry.{Entry}
 use Rattle.schedule_text.specs.Limits.{most_runs}
@@ -58,9 +58,9 @@ one_other (item.Kill p) other = refl
 -- ---- what was counted
 
 -- an event
-pub counted_kept : (result : Result Recorder RecordError) (old : Recorder) (p : ℕ) (m : Member) (e : Entry) → IfOk result (Kept old p m e) → IfOk result (λ r. counted r ≡ counted old + 1)
-counted_kept (Ok new) old p m e kept = omega (arith, kept.acted, kept.idle)
-counted_kept (Err error) old p m e kept = tt
+pub counted_kept : (result : Result ⊤ RecordError) (old new : Recorder) (p : ℕ) (m : Member) (e : Entry) → OnOk result (Kept old p m e new) → OnOk result (counted new ≡ counted old + 1)
+counted_kept (Ok _) old new p m e kept = omega (arith, kept.acted, kept.idle)
+counted_kept (Err error) old new p m e kept = kept
 
 -- an item that is not `run`
 pub few_other : (r : Recorder) (i : Item) → IsOther i → HasCountsFor (counted_of i) r → HasCountsFor 1 r

@@ -10,6 +10,7 @@ use Rattle.guest_process.specs.Live.{Event}
 use Rattle.group_world.specs.History as world
 use Rattle.group_record.specs.declared.error.RecordError.{RecordError}
 use Rattle.group_record.specs.declared.error.RecordError.TheVariants as errors
+use Rattle.group_record.specs.declared.recorder.Recorder.{Recorder}
 use Rattle.group_record.specs.Files.{IsStopped, InHeads, Between, InEntry, InImages}
 use Rattle.group_record.specs.Images.{AreMadeInPart, made_in_part}
 use Rattle.group_record.specs.Logs.{logs}
@@ -109,10 +110,10 @@ stopped_in group steps images before now after written (inr (n, m, is)) =
     InImages n m (is ∙ ap (with_files (made_in_part images n m)) written ∙ sym (files_behind (logs group steps) (made_in_part images n m) before))
 
 -- what is answered at one moment is answered of the whole
-pub comes_on : (group : Group) (early late : Progress) (error : RecordError) (before after : Option Store) → LeadsTo early late
-    → Comes group early (Err error) before after → Comes group late (Err error) before after
-comes_on group early late (errors.BadSegment p) before after leads h = h
-comes_on group early late (errors.LogFull number) before after leads h =
+pub comes_on : (group : Group) (early late : Progress) (error : RecordError) (r : Recorder) (before after : Option Store) → LeadsTo early late
+    → Comes group early (Err error) r before after → Comes group late (Err error) r before after
+comes_on group early late (errors.BadSegment p) r before after leads h = h
+comes_on group early late (errors.LogFull number) r before after leads h =
     subst (λ (d : Progress). (d.full ≡ Some number) × FilesOf group d before after) (sym (leads.full number h.0)) h
-comes_on group early late errors.WriteFault before after leads h = stopped_on group early.steps late.steps before after leads.front h
-comes_on group early late errors.NoMemory before after leads h = stopped_on group early.steps late.steps before after leads.front h
+comes_on group early late errors.WriteFault r before after leads h = stopped_on group early.steps late.steps before after leads.front h
+comes_on group early late errors.NoMemory r before after leads h = stopped_on group early.steps late.steps before after leads.front h

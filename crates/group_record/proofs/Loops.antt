@@ -17,22 +17,22 @@ pub record ComesTo (group : Group) (now : Recorder) (before told : Option Store)
   pub files : FilesOf group middle before told
   pub leads : rest middle ≡ whole
 
-pub under_next : (next : Group → Progress → Progress) (old new : Recorder) (told now : Option Store) → UnderWay old told → Does next old (Ok new) told now → UnderWay new now
+pub under_next : (next : Group → Progress → Progress) (old new : Recorder) (told now : Option Store) → UnderWay old told → Does next old (Ok tt) new told now → UnderWay new now
 under_next next old new told now u does =
     let c = does u.group u.done u.before u.keeps u.files in
     record { group = u.group; done = next u.group u.done; before = u.before; keeps = c.0; files = c.1 }
 
-pub count_next : (next : Group → Progress → Progress) (old new : Recorder) (told now : Option Store) → UnderWay old told → Does next old (Ok new) told now → length new.members.items ≡ length old.members.items
+pub count_next : (next : Group → Progress → Progress) (old new : Recorder) (told now : Option Store) → UnderWay old told → Does next old (Ok tt) new told now → length new.members.items ≡ length old.members.items
 count_next next old new told now u does = (does u.group u.done u.before u.keeps u.files).0.count ∙ sym u.keeps.count
 
-pub comes_at : (group : Group) (next : Progress) (now : Recorder) (before told : Option Store) → Comes group next (Ok now) before told → (rest : Progress → Progress) (whole : Progress) → rest next ≡ whole
+pub comes_at : (group : Group) (next : Progress) (now : Recorder) (before told : Option Store) → Comes group next (Ok tt) now before told → (rest : Progress → Progress) (whole : Progress) → rest next ≡ whole
     → ComesTo group now before told rest whole
 comes_at group next now before told c rest whole leads = record { middle = next; keeps = c.0; files = c.1; leads = leads }
 
 pub has_come : (group : Group) (now : Recorder) (before told : Option Store) (rest : Progress → Progress) (whole : Progress) → ComesTo group now before told rest whole → ((done : Progress) → rest done ≡ done)
-    → Comes group whole (Ok now) before told
+    → Comes group whole (Ok tt) now before told
 has_come group now before told rest whole h none =
-    subst (λ (d : Progress). Comes group d (Ok now) before told) (sym (none h.middle) ∙ h.leads) (h.keeps, h.files)
+    subst (λ (d : Progress). Comes group d (Ok tt) now before told) (sym (none h.middle) ∙ h.leads) (h.keeps, h.files)
 
 -- ---- tries
 
@@ -51,18 +51,18 @@ pub attempts-one : (group : Group) (number p thread left less : ℕ) (done : Pro
 attempts-one group number p thread left less done is = ap (λ n. attempts group number p thread n done) is ∙ attempts-next group number p thread less done
 
 pub try_next : (group : Group) (number p thread left less : ℕ) (old new : Recorder) (before told now : Option Store) (whole : Progress) → left ≡ suc less
-    → ComesTo group old before told (attempts group number p thread left) whole → Does (λ group. attempt group number p thread) old (Ok new) told now
+    → ComesTo group old before told (attempts group number p thread left) whole → Does (λ group. attempt group number p thread) old (Ok tt) new told now
     → ComesTo group new before now (attempts group number p thread less) whole
 try_next group number p thread left less old new before told now whole is h does =
     comes_at group (attempt group number p thread h.middle) new before now (does group h.middle before h.keeps h.files) (attempts group number p thread less) whole
     (sym (attempts-one group number p thread left less h.middle is) ∙ h.leads)
 
-pub try_stops : (group : Group) (number p thread left less : ℕ) (old : Recorder) (error : RecordError) (before told now : Option Store) (whole : Progress) → left ≡ suc less
-    → ComesTo group old before told (attempts group number p thread left) whole → Does (λ group. attempt group number p thread) old (Err error) told now
-    → Comes group whole (Err error) before now
-try_stops group number p thread left less old error before told now whole is h does =
+pub try_stops : (group : Group) (number p thread left less : ℕ) (old new : Recorder) (error : RecordError) (before told now : Option Store) (whole : Progress) → left ≡ suc less
+    → ComesTo group old before told (attempts group number p thread left) whole → Does (λ group. attempt group number p thread) old (Err error) new told now
+    → Comes group whole (Err error) new before now
+try_stops group number p thread left less old new error before told now whole is h does =
     let next = attempt group number p thread h.middle in
-    comes_on group next whole error before now
+    comes_on group next whole error new before now
     (subst (λ (d : Progress). LeadsTo next d) (sym (attempts-one group number p thread left less h.middle is) ∙ h.leads) (attempts_lead group number p thread less next))
     (does group h.middle before h.keeps h.files)
 
@@ -78,7 +78,7 @@ pub items_end : (group : Group) (number : ℕ) (items : List Item) (i : ℕ) (do
 items_end group number items i done past = ap (λ (xs : List Item). after_items group number xs done) (drop_all i items past)
 
 pub item_next : (group : Group) (number next : ℕ) (items : List Item) (i : ℕ) (this : Item) (old new : Recorder) (before told now : Option Store) (whole : Progress) → i < length items → next ≡ suc number
-    → this ≡ slice_index_or items i this → ComesTo group old before told (after_items group number (drop i items)) whole → Does (λ group. after_item group number this) old (Ok new) told now
+    → this ≡ slice_index_or items i this → ComesTo group old before told (after_items group number (drop i items)) whole → Does (λ group. after_item group number this) old (Ok tt) new told now
     → ComesTo group new before now (after_items group next (drop (i + 1) items)) whole
 item_next group number next items i this old new before told now whole inside is at h does =
     comes_at group (after_item group number this h.middle) new before now (does group h.middle before h.keeps h.files) (after_items group next (drop (i + 1) items)) whole
@@ -86,12 +86,12 @@ item_next group number next items i this old new before told now whole inside is
     ∙ ap (λ (x : Item). after_items group (suc number) (drop (i + 1) items) (after_item group number x h.middle)) at
     ∙ sym (items_next group number items i this h.middle inside) ∙ h.leads)
 
-pub item_stops : (group : Group) (number : ℕ) (items : List Item) (i : ℕ) (this : Item) (old : Recorder) (error : RecordError) (before told now : Option Store) (whole : Progress) → i < length items
-    → this ≡ slice_index_or items i this → ComesTo group old before told (after_items group number (drop i items)) whole → Does (λ group. after_item group number this) old (Err error) told now
-    → Comes group whole (Err error) before now
-item_stops group number items i this old error before told now whole inside at h does =
+pub item_stops : (group : Group) (number : ℕ) (items : List Item) (i : ℕ) (this : Item) (old new : Recorder) (error : RecordError) (before told now : Option Store) (whole : Progress) → i < length items
+    → this ≡ slice_index_or items i this → ComesTo group old before told (after_items group number (drop i items)) whole → Does (λ group. after_item group number this) old (Err error) new told now
+    → Comes group whole (Err error) new before now
+item_stops group number items i this old new error before told now whole inside at h does =
     let next = after_item group number this h.middle in
-    comes_on group next whole error before now
+    comes_on group next whole error new before now
     (subst (λ (d : Progress). LeadsTo next d)
     (ap (λ (x : Item). after_items group (suc number) (drop (i + 1) items) (after_item group number x h.middle)) at
     ∙ sym (items_next group number items i this h.middle inside) ∙ h.leads)

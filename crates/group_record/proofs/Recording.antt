@@ -1,6 +1,6 @@
 -- A recorder that goes on by one try or one item.
 use Rattle.std.proofs.Common.{◌≡◌, ◌≢◌, ℕ, zero, suc, ◌+◌, ◌<◌, ◌≤◌, ◌^◌, ◌++◌, Bool, true, false, ◌&&◌, not, cond, eqb, List, [], ◌∷◌, length, map, slice_get, take, Option, Some, None, inl, inr, refl, ap, sym, subst, ◌∙◌, arith, add-one, length-append, string_bytes}
-use Rattle.std.specs.Prelude.{All, IfOk, Result, ⊤, Ok, Err, is_some, nat_le, option_map, option_and_then}
+use Rattle.std.specs.Prelude.{All, OnOk, Result, ⊤, Ok, Err, is_some, nat_le, option_map, option_and_then}
 use Rattle.std.proofs.lemmas.Bool.{eq-eqb}
 use Rattle.std.proofs.lemmas.Bool.Decides.{nat_tests}
 use Rattle.std.proofs.lemmas.List.Elements.{All-push}
@@ -196,10 +196,10 @@ event_keeps counting group done old new p thread m entry keeps within k t room m
 
 -- it is idle
 pub try_idle : Counting → (group : Group) (done : Progress) (before now : Option Store) (old new : Recorder) (number p thread : ℕ) (m : Member) → KeepsUp group done old → FilesOf group done before now → p < size group
-    → (k : IsMember group done.steps p m) → live k.state thread (env_of old.world p) ≡ None → new ≡ record old { idle = old.idle + 1 } → Comes group (attempt group number p thread done) (Ok new) before now
+    → (k : IsMember group done.steps p m) → live k.state thread (env_of old.world p) ≡ None → new ≡ record old { idle = old.idle + 1 } → Comes group (attempt group number p thread done) (Ok tt) new before now
 try_idle counting group done before now old new number p thread m keeps files within k none is =
     let next : attempt group number p thread done ≡ idled done = attempt_is counting group done old number p thread k.state keeps within k.after ∙ ap (λ o. had group number p o done) none in
-    subst (λ d. Comes group d (Ok new) before now) (sym next) (idle_keeps group done old new keeps is, files)
+    subst (λ d. Comes group d (Ok tt) new before now) (sym next) (idle_keeps group done old new keeps is, files)
 
 -- it has an event, for which the log has room or not
 room_test : (n limit : ℕ) → n ≤ limit → nat_le n limit ≡ true
@@ -235,8 +235,8 @@ entry_written files_keep group done before now after old p m entry e keeps files
     ∙ ap (λ fs. with_files fs before) (logs_grown group done.steps p e)
 
 -- memory was wanting before the files were touched
-pub memory_stops : (group : Group) (done next : Progress) (before now : Option Store) → LeadsTo done next → FilesOf group done before now → Comes group next (Err errors.NoMemory) before now
-memory_stops group done next before now leads files = Between done.steps leads.front files
+pub memory_stops : (group : Group) (done next : Progress) (r : Recorder) (before now : Option Store) → LeadsTo done next → FilesOf group done before now → Comes group next (Err errors.NoMemory) r before now
+memory_stops group done next r before now leads files = Between done.steps leads.front files
 
 -- a write that failed
 fault_stops : KeepsFiles → (group : Group) (done : Progress) (before now after : Option Store) (old : Recorder) (p : ℕ) (m : Member) (entry : Entry) (e : Event) → KeepsUp group done old → FilesOf group done before now → p < size group
@@ -248,25 +248,25 @@ fault_stops files_keep group done before now after old p m entry e keeps files w
     ∙ ap (λ e. with_files (grown (logs group done.steps) p (take n (encoding e))) before) same)
 
 -- what comes of a try that has an event
-pub try_event : Counting → KeepsFiles → (group : Group) (done : Progress) (before now after : Option Store) (old : Recorder) (result : Result Recorder RecordError) (number p thread : ℕ) (m : Member) (entry : Entry)
+pub try_event : Counting → KeepsFiles → (group : Group) (done : Progress) (before now after : Option Store) (old : Recorder) (result : Result ⊤ RecordError) (new : Recorder) (number p thread : ℕ) (m : Member) (entry : Entry)
     → KeepsUp group done old → FilesOf group done before now → p < size group → (k : IsMember group done.steps p m) → IsLiveEntry k.state thread (env_of old.world p) entry
-    → Writes m number (encoding entry) result now after → IfOk result (Kept old p m entry) → Comes group (attempt group number p thread done) result before after
-try_event counting files_keep group done before now after old (Ok new) number p thread m entry keeps files within k t writes made =
-    subst (λ d. Comes group d (Ok new) before after) (sym (has_event counting group done old number p thread m entry keeps within k t writes.0)) (
+    → Writes m number (encoding entry) result now after → OnOk result (Kept old p m entry new) → Comes group (attempt group number p thread done) result new before after
+try_event counting files_keep group done before now after old (Ok _) new number p thread m entry keeps files within k t writes made =
+    subst (λ d. Comes group d (Ok tt) new before after) (sym (has_event counting group done old number p thread m entry keeps within k t writes.0)) (
       event_keeps counting group done old new p thread m entry keeps within k t writes.0 made,
       entry_written files_keep group done before now after old p m entry t.event keeps files within k t.same writes.1,
     )
-try_event counting files_keep group done before now after old (Err (errors.BadSegment q)) number p thread m entry keeps files within k t writes made = writes
-try_event counting files_keep group done before now after old (Err (errors.LogFull item)) number p thread m entry keeps files within k t writes made =
-    subst (λ d. Comes group d (Err (errors.LogFull item)) before after) (sym (no_room counting group done old number p thread m entry keeps within k t writes.1))
+try_event counting files_keep group done before now after old (Err (errors.BadSegment q)) new number p thread m entry keeps files within k t writes made = writes
+try_event counting files_keep group done before now after old (Err (errors.LogFull item)) new number p thread m entry keeps files within k t writes made =
+    subst (λ d. Comes group d (Err (errors.LogFull item)) new before after) (sym (no_room counting group done old number p thread m entry keeps within k t writes.1))
     (ap Some (sym writes.0), writes.2 ∙ files)
-try_event counting files_keep group done before now after old (Err errors.WriteFault) number p thread m entry keeps files within k t writes made =
-    subst (λ d. Comes group d (Err errors.WriteFault) before after) (sym (has_event counting group done old number p thread m entry keeps within k t writes.0))
+try_event counting files_keep group done before now after old (Err errors.WriteFault) new number p thread m entry keeps files within k t writes made =
+    subst (λ d. Comes group d (Err errors.WriteFault) new before after) (sym (has_event counting group done old number p thread m entry keeps within k t writes.0))
     (fault_stops files_keep group done before now after old p m entry t.event keeps files within k t.same writes.1)
-try_event counting files_keep group done before now after old (Err errors.NoMemory) number p thread m entry keeps files within k t (inl none) made =
+try_event counting files_keep group done before now after old (Err errors.NoMemory) new number p thread m entry keeps files within k t (inl none) made =
     Between done.steps (attempt_leads group number p thread done).front (none ∙ files)
-try_event counting files_keep group done before now after old (Err errors.NoMemory) number p thread m entry keeps files within k t (inr (room, is)) made =
-    subst (λ d. Comes group d (Err errors.NoMemory) before after) (sym (has_event counting group done old number p thread m entry keeps within k t room))
+try_event counting files_keep group done before now after old (Err errors.NoMemory) new number p thread m entry keeps files within k t (inr (room, is)) made =
+    subst (λ d. Comes group d (Err errors.NoMemory) new before after) (sym (has_event counting group done old number p thread m entry keeps within k t room))
     (Between (Had p t.event ∷ done.steps) ([], refl) (entry_written files_keep group done before now after old p m entry t.event keeps files within k t.same is))
 
 -- ---- what a try may ask
@@ -424,9 +424,9 @@ does_logs group number (item.Kill p) done other = acted_logs group done (can_be_
 
 pub item_comes : Counting → (group : Group) (done : Progress) (before now : Option Store) (old new : Recorder) (number : ℕ) (i : Item) → KeepsUp group done old → FilesOf group done before now
     → IsInRange (length old.members.items) i → IsOther i → new ≡ acted_on (acts old.members.items old.world i) (after_act old.members.items old.world i) old
-    → Comes group (after_item group number i done) (Ok new) before now
+    → Comes group (after_item group number i done) (Ok tt) new before now
 item_comes counting group done before now old new number i keeps files fits other is =
-    subst (λ d. Comes group d (Ok new) before now) (sym (unless_none done (done_by_item group number i done) keeps.room)) (
+    subst (λ d. Comes group d (Ok tt) new before now) (sym (unless_none done (done_by_item group number i done) keeps.room)) (
       item_keeps counting group done old new number i keeps fits other is,
       logs_stay group done (done_by_item group number i done) before now (does_logs group number i done other) files,
     )
@@ -438,17 +438,11 @@ acted_prints false w old new is = ap (λ (r : Recorder). length r.prints) is
 
 -- ---- what a write says of the whole
 
-writes_err : (m : Member) (number : ℕ) (bytes : List ℕ) (error : RecordError) (before after : Option Store) → Writes {T = ⊤} m number bytes (Err error) before after → Writes {T = Recorder} m number bytes (Err error) before after
-writes_err m number bytes (errors.BadSegment p) before after h = h
-writes_err m number bytes (errors.LogFull item) before after h = h
-writes_err m number bytes errors.WriteFault before after h = h
-writes_err m number bytes errors.NoMemory before after h = h
-
 pub stops_of : (m other : Member) (number : ℕ) (e same : Entry) (error : RecordError) (before after : Option Store) → m ≡ other → e ≡ same
-    → Writes {T = ⊤} m number (encoding e) (Err error) before after → Writes {T = Recorder} other number (encoding same) (Err error) before after
+    → Writes m number (encoding e) (Err error) before after → Writes other number (encoding same) (Err error) before after
 stops_of m other number e same error before after is told h =
-    subst (λ (m : Member). Writes {T = Recorder} m number (encoding same) (Err error) before after) is
-    (subst (λ (e : Entry). Writes {T = Recorder} m number (encoding e) (Err error) before after) told (writes_err m number (encoding e) error before after h))
+    subst (λ (m : Member). Writes m number (encoding same) (Err error) before after) is
+    (subst (λ (e : Entry). Writes m number (encoding e) (Err error) before after) told h)
 
 pub written_of : (m other : Member) (e same : Entry) (before after : Option Store) → m ≡ other → e ≡ same
     → LogHasRoom m (encoding e) × (after ≡ with_piece (string_bytes m.log) (encoding e) before) → LogHasRoom other (encoding same) × (after ≡ with_piece (string_bytes other.log) (encoding same) before)
@@ -456,10 +450,10 @@ written_of m other e same before after is told h =
     subst (λ (m : Member). LogHasRoom m (encoding same) × (after ≡ with_piece (string_bytes m.log) (encoding same) before)) is
     (subst (λ (e : Entry). LogHasRoom m (encoding e) × (after ≡ with_piece (string_bytes m.log) (encoding e) before)) told h)
 
-pub kept_at : (result : Result Recorder RecordError) (old : Recorder) (p : ℕ) (m : Member) (entry : Entry) → slice_get old.members.items p ≡ Some m
-    → IfOk result (λ r. (m : Member) → slice_get old.members.items p ≡ Some m → Kept old p m entry r) → IfOk result (Kept old p m entry)
-kept_at (Ok new) old p m entry at h = h m at
-kept_at (Err error) old p m entry at h = h
+pub kept_at : (result : Result ⊤ RecordError) (old new : Recorder) (p : ℕ) (m : Member) (entry : Entry) → slice_get old.members.items p ≡ Some m
+    → OnOk result ((m : Member) → slice_get old.members.items p ≡ Some m → Kept old p m entry new) → OnOk result (Kept old p m entry new)
+kept_at (Ok _) old new p m entry at h = h m at
+kept_at (Err error) old new p m entry at h = h
 
 pub never_away : (o : Option State) (S : State) → o ≡ Some S → o ≡ None → ⊥
 never_away o S here away = cc

@@ -1,5 +1,5 @@
 -- What a process with its log does by itself.
-use Rattle.std.specs.Prelude.{◌≡◌, ◌⊎◌, ℕ, ◌+◌, ◌<◌, ◌≤◌, ◌^◌, List, length, take, Option, Some, None, option_map, Result, Ok, Err, string_bytes}
+use Rattle.std.specs.Prelude.{◌≡◌, ◌⊎◌, ⊤, ℕ, ◌+◌, ◌<◌, ◌≤◌, ◌^◌, List, length, take, Option, Some, None, option_map, Result, Ok, Err, string_bytes}
 use Rattle.fri_outside.specs.Outside.{Store, with_piece}
 use Rattle.lib_calls.specs.declared.entry.Entry.{Entry}
 use Rattle.call_log.specs.Entry.{encoding}
@@ -51,7 +51,7 @@ abbrev pub LogHasRoom : Member → List ℕ → Type 0
 LogHasRoom m bytes = m.size + length bytes ≤ most_log
 
 -- these bytes were written behind the log, in the item with this number, or why they were not
-abbrev pub Writes : {T : Type 0} → Member → ℕ → List ℕ → Result T RecordError → Option Store → Option Store → Type 0
+abbrev pub Writes : Member → ℕ → List ℕ → Result ⊤ RecordError → Option Store → Option Store → Type 0
 Writes m number bytes (Ok _) before after = LogHasRoom m bytes × (after ≡ with_piece (string_bytes m.log) bytes before)
 Writes m number bytes (Err (errors.BadSegment p)) before after = ⊥
 Writes m number bytes (Err (errors.LogFull item)) before after = (item ≡ number) × (most_log < m.size + length bytes) × (after ≡ before)

@@ -146,19 +146,19 @@ pub record UnderWay (recorder : Recorder) (told : Option Store) : Type 0 where
   pub keeps : KeepsUp group done recorder
   pub files : FilesOf group done before told
 
--- a recorder that was to come as far as this has done so, or says why not
-abbrev pub Comes : Group → Progress → Result Recorder RecordError → Option Store → Option Store → Type 0
-Comes group next (Ok recorder) before after = KeepsUp group next recorder × FilesOf group next before after
-Comes group next (Err (errors.BadSegment p)) before after = ⊥
-Comes group next (Err (errors.LogFull item)) before after = (next.full ≡ Some item) × FilesOf group next before after
-Comes group next (Err errors.WriteFault) before after = IsStopped group next.steps [] before after
-Comes group next (Err errors.NoMemory) before after = IsStopped group next.steps [] before after
+-- a recorder that was to come as far as this has done so, or why not
+abbrev pub Comes : Group → Progress → Result ⊤ RecordError → Recorder → Option Store → Option Store → Type 0
+Comes group next (Ok _) recorder before after = KeepsUp group next recorder × FilesOf group next before after
+Comes group next (Err (errors.BadSegment p)) recorder before after = ⊥
+Comes group next (Err (errors.LogFull item)) recorder before after = (next.full ≡ Some item) × FilesOf group next before after
+Comes group next (Err errors.WriteFault) recorder before after = IsStopped group next.steps [] before after
+Comes group next (Err errors.NoMemory) recorder before after = IsStopped group next.steps [] before after
 
 -- wherever the recorder stood, it is to come as far as what comes next there
-abbrev pub Does : (Group → Progress → Progress) → Recorder → Result Recorder RecordError → Option Store → Option Store → Type 0
-Does next recorder result old new =
-    (group : Group) (done : Progress) (before : Option Store) → KeepsUp group done recorder → FilesOf group done before old
-    → Comes group (next group done) result before new
+abbrev pub Does : (Group → Progress → Progress) → Recorder → Result ⊤ RecordError → Recorder → Option Store → Option Store → Type 0
+Does next old result new told now =
+    (group : Group) (done : Progress) (before : Option Store) → KeepsUp group done old → FilesOf group done before told
+    → Comes group (next group done) result new before now
 
 -- for how many of so many processes it keeps what they print: for all where images are asked for, else for none
 abbrev pub kept_for : Bool → ℕ → ℕ

@@ -32,8 +32,8 @@ pub fn run_record<F: Files>(
     ensures cause { HasWriteCause (F.counts files.old) (F.counts files.new) result }
 {
     by_counting();
-    let begun = begin(alloc, schedule, modules, images, files)?;
-    let recorder = begun.perform_all(schedule.items(), files)?;
+    let mut recorder = begin(alloc, schedule, modules, images, files)?;
+    recorder.perform_all(schedule.items(), files)?;
     let summary = summary_of(alloc, schedule.processes(), &recorder)?;
     write_images(alloc, images, schedule.processes(), &recorder, files)?;
     Ok(summary)

@@ -15,33 +15,33 @@ use Rattle.group_record.proofs.recorder.Recorder.keep.Goals as goal
 pub keep-requires-clause-event : goal.keep-requires-clause-event
 keep-requires-clause-event g c =
     let m = c.index_mut.result.now in
-    subst (λ (e : Entry). CanKeep m e) (sym c.view-entry.ensures) (c.requires.event m (at_place c.args.self.members.items c.args.p m c.requires.process c.index_mut.ensures.value))
+    subst (λ (e : Entry). CanKeep m e) (sym c.view-entry.ensures) (c.requires.event m (at_place c.args.self.now.members.items c.args.p m c.requires.process c.index_mut.ensures.value))
 
 pub returns-in_err-keep-clause-writes : goal.returns-in_err-keep-clause-writes
 returns-in_err-keep-clause-writes g c = λ m at.
     let p = err_from_is_err_and c.from_residual.result c.from_residual.ensures.1 in
-    let same = only_one c.args.self.members.items c.args.p c.index_mut.result.now m c.requires.process c.index_mut.ensures.value at in
+    let same = only_one c.args.self.now.members.items c.args.p c.index_mut.result.now m c.requires.process c.index_mut.ensures.value at in
     rw (p.1, p.2) (stops_of c.index_mut.result.now m c.args.number (entry_of c.view-entry.result) c.args.entry.now c.in_err-keep.field-0.0 (g.F.Files.told c.args.files.now) (g.F.Files.told c.keep.new.files) same c.view-entry.ensures c.in_err-keep.ensures.writes)
 
 pub returns-in_err-event-clause-writes : goal.returns-in_err-event-clause-writes
 returns-in_err-event-clause-writes g c = λ m at.
     let p = err_from_is_err_and c.from_residual-in_err-event.result c.from_residual-in_err-event.ensures.1 in
-    let same = only_one c.args.self.members.items c.args.p c.index_mut.result.now m c.requires.process c.index_mut.ensures.value at in
+    let same = only_one c.args.self.now.members.items c.args.p c.index_mut.result.now m c.requires.process c.index_mut.ensures.value at in
     rw (p.1, p.2) (inr (written_of c.index_mut.result.now m (entry_of c.view-entry.result) c.args.entry.now (g.F.Files.told c.args.files.now) (g.F.Files.told c.keep.new.files) same c.view-entry.ensures c.in_ok-keep.ensures.writes))
 
 pub returns-clause-writes : goal.returns-clause-writes
 returns-clause-writes g c = λ m at.
-    let same = only_one c.args.self.members.items c.args.p c.index_mut.result.now m c.requires.process c.index_mut.ensures.value at in
+    let same = only_one c.args.self.now.members.items c.args.p c.index_mut.result.now m c.requires.process c.index_mut.ensures.value at in
     written_of c.index_mut.result.now m (entry_of c.view-entry.result) c.args.entry.now (g.F.Files.told c.args.files.now) (g.F.Files.told c.keep.new.files) same c.view-entry.ensures c.in_ok-keep.ensures.writes
 
 pub returns-clause-ok : goal.returns-clause-ok
 returns-clause-ok g c = λ m at.
-    let same = only_one c.args.self.members.items c.args.p c.index_mut.result.now m c.requires.process c.index_mut.ensures.value at in
+    let same = only_one c.args.self.now.members.items c.args.p c.index_mut.result.now m c.requires.process c.index_mut.ensures.value at in
     let made : c.keep.new.self ≡ kept m c.args.entry.now = c.in_ok-keep.ensures.ok ∙ ap (λ (m : Member). kept m (entry_of c.view-entry.result)) same ∙ ap (kept m) c.view-entry.ensures in
     record {
-      members = ap (λ (x : Member). slice_set c.args.self.members.items c.args.p x) made;
-      world = c.in_ok-event.ensures.ok ∙ ap (after_event c.args.self.world c.args.p) c.view-entry.ensures;
-      prints = c.in_ok-add.ensures ∙ ap (λ (e : Entry). with_print c.args.self.prints c.args.p (printed e)) c.view-entry.ensures;
+      members = ap (λ (x : Member). slice_set c.args.self.now.members.items c.args.p x) made;
+      world = c.in_ok-event.ensures.ok ∙ ap (after_event c.args.self.now.world c.args.p) c.view-entry.ensures;
+      prints = c.in_ok-add.ensures ∙ ap (λ (e : Entry). with_print c.args.self.now.prints c.args.p (printed e)) c.view-entry.ensures;
       acted = refl;
       idle = refl;
     }

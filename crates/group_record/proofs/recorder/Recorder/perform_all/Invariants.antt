@@ -9,11 +9,11 @@ use Rattle.group_record.proofs.recorder.Recorder.perform_all.Given as goal
 abbrev pub invariant-loop-item : goal.invariant-loop-item
 invariant-loop-item g l = record {
   number : l.number ≡ l.item-index;
-  under : UnderWay l.recorder (g.F.Files.told l.files);
-  count : length l.recorder.members.items ≡ length l.initial.recorder.members.items;
-  few : HasCountsFor (sum_by counted_of (drop l.item-index l.items)) l.recorder;
-  prints : length l.recorder.prints ≡ length l.initial.recorder.prints;
-  comes : (group : Group) (done : Progress) (before : Option Store) → KeepsUp group done l.initial.recorder → FilesOf group done before (g.F.Files.told l.initial.files)
-      → ComesTo group l.recorder before (g.F.Files.told l.files) (after_items group (l.number + 1) (drop l.item-index l.items)) (after_items group 1 l.items done);
+  under : UnderWay l.self (g.F.Files.told l.files);
+  count : length l.self.members.items ≡ length l.initial.self.members.items;
+  few : HasCountsFor (sum_by counted_of (drop l.item-index l.items)) l.self;
+  prints : length l.self.prints ≡ length l.initial.self.prints;
+  comes : (group : Group) (done : Progress) (before : Option Store) → KeepsUp group done l.initial.self → FilesOf group done before (g.F.Files.told l.initial.files)
+      → ComesTo group l.self before (g.F.Files.told l.files) (after_items group (l.number + 1) (drop l.item-index l.items)) (after_items group 1 l.items done);
   counts : NoneFell (g.F.Files.counts l.initial.files) (g.F.Files.counts l.files);
 }

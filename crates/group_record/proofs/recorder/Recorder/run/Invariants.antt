@@ -7,11 +7,11 @@ use Rattle.group_record.proofs.recorder.Recorder.run.Given as goal
 
 abbrev pub invariant-loop : goal.invariant-loop
 invariant-loop g l = record {
-  under : UnderWay l.recorder (g.F.Files.told l.files);
-  count : length l.recorder.members.items ≡ length l.initial.recorder.members.items;
-  counted : counted l.recorder ≡ counted l.initial.recorder + l.counter;
-  prints : length l.recorder.prints ≡ length l.initial.recorder.prints;
-  comes : (group : Group) (done : Progress) (before : Option Store) → KeepsUp group done l.initial.recorder → FilesOf group done before (g.F.Files.told l.initial.files)
-      → ComesTo group l.recorder before (g.F.Files.told l.files) (attempts group l.number l.p l.thread (l.times - l.counter)) (attempts group l.number l.p l.thread l.times done);
+  under : UnderWay l.self (g.F.Files.told l.files);
+  count : length l.self.members.items ≡ length l.initial.self.members.items;
+  counted : counted l.self ≡ counted l.initial.self + l.counter;
+  prints : length l.self.prints ≡ length l.initial.self.prints;
+  comes : (group : Group) (done : Progress) (before : Option Store) → KeepsUp group done l.initial.self → FilesOf group done before (g.F.Files.told l.initial.files)
+      → ComesTo group l.self before (g.F.Files.told l.files) (attempts group l.number l.p l.thread (l.times - l.counter)) (attempts group l.number l.p l.thread l.times done);
   counts : NoneFell (g.F.Files.counts l.initial.files) (g.F.Files.counts l.files);
 }
