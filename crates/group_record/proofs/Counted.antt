@@ -1,5 +1,5 @@
 -- The counts of a recorder have room for all that a schedule comes to.
-use Rattle.std.proofs.Common.{◌≡◌, ℕ, suc, ◌+◌, ◌<◌, ◌≤◌, ◌^◌, Bool, true, false, List, [], ◌∷◌, length, drop, drop-cons, slice_index_or, refl, ap, sym, subst, ◌∙◌, add-one, arith}
+use Rattle.std.proofs.Common.{◌≡◌, ℕ, suc, ◌+◌, ◌<◌, ◌≤◌, ◌^◌, Bool, true, false, List, [], ◌∷◌, length, drop, drop-cons, slice_index_or, ap, sym, subst, ◌∙◌, add-one, arith}
 use Rattle.std.specs.Prelude.{⊤, OnOk, Ok, Err, Result, sum_by}
 use Rattle.std.proofs.lemmas.List.Sums.{sum_by-cons}
 use Rattle.lib_calls.specs.declared.entry.Entry.{Entry}
@@ -12,7 +12,6 @@ use Rattle.group_record.specs.declared.error.RecordError.{RecordError}
 use Rattle.group_record.specs.declared.member.Member.{Member}
 use Rattle.group_record.specs.declared.recorder.Recorder.{Recorder}
 use Rattle.group_record.specs.Recorded.{HasCountsFor, Kept, acted_on, counted, counted_of}
-use Rattle.group_record.proofs.Recording.{IsOther}
 
 -- ---- what is counted of items
 
@@ -46,15 +45,6 @@ pub few_next : (items : List Item) (i : ℕ) (this : Item) (old new : Recorder) 
     → counted new ≡ counted old + counted_of this → HasCountsFor (sum_by counted_of (drop (i + 1) items)) new
 few_next items i this old new inside at few made = omega (arith, few, made, from_next items i this inside, ap counted_of at)
 
-one_other : (i : Item) → IsOther i → counted_of i ≡ 1
-one_other (item.Run p thread times) other = absurd other
-one_other (item.Deliver p n) other = refl
-one_other (item.Inject p bytes) other = refl
-one_other (item.Clock p value) other = refl
-one_other (item.Random p bytes) other = refl
-one_other (item.Signal p s) other = refl
-one_other (item.Kill p) other = refl
-
 -- ---- what was counted
 
 -- an event
@@ -63,12 +53,12 @@ counted_kept (Ok _) old new p m e kept = omega (arith, kept.acted, kept.idle)
 counted_kept (Err error) old new p m e kept = kept
 
 -- an item that is not `run`
-pub few_other : (r : Recorder) (i : Item) → IsOther i → HasCountsFor (counted_of i) r → HasCountsFor 1 r
-few_other r i other few = subst (λ (n : ℕ). HasCountsFor n r) (one_other i other) few
+pub few_other : (r : Recorder) (i : Item) → counted_of i ≡ 1 → HasCountsFor (counted_of i) r → HasCountsFor 1 r
+few_other r i one few = subst (λ (n : ℕ). HasCountsFor n r) one few
 
 counted_act : (acts : Bool) (w : World) (old new : Recorder) → new ≡ acted_on acts w old → counted new ≡ counted old + 1
 counted_act true w old new is = ap counted is ∙ omega arith
 counted_act false w old new is = ap counted is ∙ omega arith
 
-pub counted_other : (acts : Bool) (w : World) (old new : Recorder) (i : Item) → IsOther i → new ≡ acted_on acts w old → counted new ≡ counted old + counted_of i
-counted_other acts w old new i other is = counted_act acts w old new is ∙ ap (λ (n : ℕ). counted old + n) (sym (one_other i other))
+pub counted_other : (acts : Bool) (w : World) (old new : Recorder) (i : Item) → counted_of i ≡ 1 → new ≡ acted_on acts w old → counted new ≡ counted old + counted_of i
+counted_other acts w old new i one is = counted_act acts w old new is ∙ ap (λ (n : ℕ). counted old + n) (sym one)

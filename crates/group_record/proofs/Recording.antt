@@ -36,7 +36,7 @@ use Rattle.group_record.specs.Logs.{logs}
 use Rattle.group_record.specs.Files.{IsStopped, Between, InEntry}
 use Rattle.group_record.specs.Around.{env_of}
 use Rattle.group_record.specs.Members.{CanKeep, IsCut, LogHasRoom, Writes, kept}
-use Rattle.group_record.specs.Recorded.{Comes, FilesOf, IsMember, Kept, KeepsUp, IsLiveEntry, acted_on, acts, after_act, is_spared}
+use Rattle.group_record.specs.Recorded.{Comes, FilesOf, IsMember, Kept, KeepsUp, IsLiveEntry, acted_on, acts, after_act, counted_of, is_spared}
 use Rattle.group_record.proofs.Chosen.{live_same, with_signals}
 use Rattle.group_record.proofs.Going.{LeadsTo, attempt_leads}
 use Rattle.group_record.proofs.Growing.{entries_few, log_longer, logs_grown, piece_written}
@@ -365,14 +365,15 @@ abbrev pub IsOther : Item → Type 0
 IsOther (item.Run p thread times) = ⊥
 IsOther _ = Unit {0}
 
-pub is_other : (i : Item) → ((p thread times : ℕ) → i ≡ item.Run p thread times → ⊥) → IsOther i
-is_other (item.Run p thread times) h = h p thread times refl
-is_other (item.Deliver p n) h = tt
-is_other (item.Inject p bytes) h = tt
-is_other (item.Clock p value) h = tt
-is_other (item.Random p bytes) h = tt
-is_other (item.Signal p s) h = tt
-is_other (item.Kill p) h = tt
+-- it counts as one
+pub is_other : (i : Item) → ((p thread times : ℕ) → i ≡ item.Run p thread times → ⊥) → IsOther i × (counted_of i ≡ 1)
+is_other (item.Run p thread times) h = absurd (h p thread times refl)
+is_other (item.Deliver p n) h = (tt, refl)
+is_other (item.Inject p bytes) h = (tt, refl)
+is_other (item.Clock p value) h = (tt, refl)
+is_other (item.Random p bytes) h = (tt, refl)
+is_other (item.Signal p s) h = (tt, refl)
+is_other (item.Kill p) h = (tt, refl)
 
 around_too : Counting → (group : Group) (done : Progress) (r : Recorder) (p : ℕ) → KeepsUp group done r → p < length r.members.items → p < length r.world.net
 around_too counting group done r p keeps within = omega (arith, within, keeps.count, world_size counting group done r keeps)

@@ -10,7 +10,7 @@ use Rattle.group_record.proofs.recorder.Recorder.perform.Goals as goal
 pub act-requires : goal.act-requires
 act-requires g c =
     let u = c.requires.under_way in
-    record { around = world_size c.by_counting.ensures.counted u.group u.done c.args.self.now u.keeps ∙ sym u.keeps.count; in_range = c.requires.in_range; few = few_other c.args.self.now c.args.item.now (is_other c.args.item.now c.in_default.not-Run) c.requires.few }
+    record { around = world_size c.by_counting.ensures.counted u.group u.done c.args.self.now u.keeps ∙ sym u.keeps.count; in_range = c.requires.in_range; few = few_other c.args.self.now c.args.item.now (is_other c.args.item.now c.in_default.not-Run).1 c.requires.few }
 
 pub returns-in_err-act-in_default : goal.returns-in_err-act-in_default
 returns-in_err-act-in_default g c =
@@ -28,9 +28,9 @@ pub returns-in_ok-act-in_default : goal.returns-in_ok-act-in_default
 returns-in_ok-act-in_default g c = record {
   comes = λ group done before keeps files.
       item_comes c.by_counting.ensures.counted group done before (g.F.Files.told c.args.files.now) c.args.self.now c.act.new.self c.args.number c.args.item.now keeps files c.requires.in_range
-      (is_other c.args.item.now c.in_default.not-Run) c.in_ok-act-in_default.ensures;
+      (is_other c.args.item.now c.in_default.not-Run).0 c.in_ok-act-in_default.ensures;
   counted = counted_other (acts c.args.self.now.members.items c.args.self.now.world c.args.item.now) (after_act c.args.self.now.members.items c.args.self.now.world c.args.item.now) c.args.self.now c.act.new.self c.args.item.now
-      (is_other c.args.item.now c.in_default.not-Run) c.in_ok-act-in_default.ensures;
+      (is_other c.args.item.now c.in_default.not-Run).1 c.in_ok-act-in_default.ensures;
   prints = acted_prints (acts c.args.self.now.members.items c.args.self.now.world c.args.item.now) (after_act c.args.self.now.members.items c.args.self.now.world c.args.item.now) c.args.self.now c.act.new.self c.in_ok-act-in_default.ensures;
   counts = search rules;
   cause = tt;
