@@ -15,7 +15,7 @@ use Rattle.guest_process.specs.Kinds.{ends_process}
 use Rattle.guest_process.specs.Live.{Answered, Env, answered_now, chosen_signal, event, event_by, event_of_waiting, first_taken, from_world, live, lowest, or_empty}
 use Rattle.guest_process.specs.Seen.{answered_at}
 use Rattle.guest_process.specs.State.{State, is_running, thread_at}
-use Rattle.group_record.specs.Around.{signal_with}
+use Rattle.group_record.specs.Around.{is_ready, signal_with}
 
 -- ---- the handlers after an answer
 
@@ -74,6 +74,17 @@ lowest_past p s within fails = lowest_next p s within ∙ ap (λ b. cond b s (lo
 pub lowest_none : (p : ℕ → Bool) (s : ℕ) → 32 ≤ s → lowest p (32 - s) s ≡ 0
 unfolding lowest
 lowest_none p s past = let none : 32 - s ≡ 0 = omega (arith, past) in rw none refl
+
+-- where none holds
+lowest_nowhere : (p : ℕ → Bool) (n s : ℕ) → ((r : ℕ) → p r ≡ false) → lowest p n s ≡ 0
+unfolding lowest
+lowest_nowhere p zero s none = refl
+lowest_nowhere p (suc n) s none = ap (λ b. cond b s (lowest p n (s + 1))) (none s) ∙ lowest_nowhere p n (s + 1) none
+
+-- no signal is ready where none is pending
+pub none_ready : (S : State) (t : ℕ) (a : Answer) (pending : ℕ → Bool) → ((s : ℕ) → pending s ≡ false) → lowest (is_ready S t a pending) 31 1 ≡ 0
+none_ready S t a pending none =
+    lowest_nowhere (is_ready S t a pending) 31 1 (λ s. ap (λ (is : Bool). is && is_some (handler (answered_at S t a (thread_at S t)).handlers s)) (none s))
 
 lowest_same : (p q : ℕ → Bool) (n s : ℕ) → 1 ≤ s → s + n ≤ 32 → ((r : ℕ) → 1 ≤ r → r ≤ 31 → p r ≡ q r) → lowest p n s ≡ lowest q n s
 unfolding lowest

@@ -35,11 +35,14 @@ fn ends_process(call: &Call) -> bool
     matches!(Kind::from_number(call.kind), Some(Kind::Exit))
 }
 
-// The lowest signal that is pending and has a handler after the answer, or 0.
+// The lowest signal that is pending and has a handler after the answer, or 0. At most events none is pending.
 fn lowest_ready(process: &Process<'_>, thread: u16, world: &World, p: u32) -> u8
     requires { p < size world.now }
     ensures { (a : Answer) → result ≡ lowest (is_ready_of process.now thread a (has_pending world.now p)) 31 1 }
 {
+    if world.has_no_signal(p) {
+        return 0;
+    }
     for s in 1..32 {
         if is_ready(process, thread, world, p, s) {
             return s;

@@ -1,5 +1,5 @@
 // What stands around one process beside its datagrams.
-ghost use Rattle.std.specs.Prelude.{◌≡◌, ◌++◌, ◌≤◌, length, true, OnOk, OnErr};
+ghost use Rattle.std.specs.Prelude.{◌≡◌, ◌↔◌, ℕ, ◌++◌, ◌≤◌, length, true, false, IsTrue, OnOk, OnErr};
 ghost use Rattle.lib_calls.specs.Entry.{entry_of};
 ghost use Rattle.lib_calls.specs.Traffic.{drawn as drawn_of};
 ghost use Rattle.signal_points.specs.Signals.{is_pending as is_pending_in, with_pending};
@@ -78,6 +78,13 @@ impl Surroundings {
         ensures { result ≡ is_pending_in self.now.pending s }
     {
         self.pending.has(s)
+    }
+
+    /// Whether no signal is pending.
+    pub(crate) fn has_no_signal(&self) -> bool
+        ensures { IsTrue result ↔ ((s : ℕ) → is_pending_in self.now.pending s ≡ false) }
+    {
+        self.pending.is_empty()
     }
 
     /// An event takes random bytes, and delivers a signal or none.

@@ -1,5 +1,5 @@
 // The world around the processes of a group.
-ghost use Rattle.std.specs.Prelude.{◌≡◌, ◌<◌, ◌≤◌, length, IsTrue, IfOk, OnOk, OnErr, is_some, option_map};
+ghost use Rattle.std.specs.Prelude.{◌≡◌, ◌↔◌, ℕ, ◌<◌, ◌≤◌, length, false, IsTrue, IfOk, OnOk, OnErr, is_some, option_map};
 ghost use Rattle.lib_calls.specs.Entry.{entry_of};
 ghost use Rattle.lib_calls.specs.Traffic.{drawn as drawn_of, is_sent as is_sent_of, is_taken as is_taken_of};
 ghost use Rattle.lossy_net.specs.Network.{front_of, mailbox_of, nth_of, sent_by};
@@ -86,6 +86,14 @@ impl World {
         ensures { result ≡ has_pending self.now p s }
     {
         self.surroundings[p as usize].is_pending(s)
+    }
+
+    /// Whether no signal is pending at `p`.
+    pub fn has_no_signal(&self, p: u32) -> bool
+        requires { p < size self.now }
+        ensures { IsTrue result ↔ ((s : ℕ) → has_pending self.now p s ≡ false) }
+    {
+        self.surroundings[p as usize].has_no_signal()
     }
 
     /// Whether `p` was killed.

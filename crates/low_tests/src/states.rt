@@ -76,6 +76,8 @@ fn pending_signals_are_kept(rt: HostRuntime) {
     pending.clear(3);
     assert!(rt; pending.has(31));
     assert!(rt; !pending.has(3));
+    pending.clear(31);
+    assert!(rt; pending.is_empty());
 }
 
 #[test]

@@ -1,7 +1,7 @@
 -- The handlers and the pending signals of a process, as lists by the signal's number. Signals are
 -- numbered from 1 to 31, and the place of 0 stays empty.
 use Rattle.std.specs.Prelude.{ℕ, Bool, false, List, replicate, slice_set, Option, None}
-use Rattle.std.specs.List.{slice_index_or}
+use Rattle.std.specs.List.{list_any, slice_index_or}
 
 -- the function that handles the signal, if one does
 abbrev pub handler_of : List (Option ℕ) → ℕ → Option ℕ
@@ -18,6 +18,10 @@ no_handlers = replicate 32 None
 -- the signal is pending
 abbrev pub is_pending : List Bool → ℕ → Bool
 is_pending pending signal = slice_index_or pending signal false
+
+-- some signal is pending
+abbrev pub any_pending : List Bool → Bool
+any_pending pending = list_any (λ is. is) pending
 
 -- the pending signals with this one, or without it
 abbrev pub with_pending : List Bool → ℕ → Bool → List Bool

@@ -1,8 +1,12 @@
 use Rattle.std.proofs.Common.{◌∙◌, refl, sym, arith}
 use Rattle.group_world.specs.World.{has_pending}
 use Rattle.group_record.specs.Around.{is_ready}
-use Rattle.group_record.proofs.Chosen.{lowest_found, lowest_none, lowest_past}
+use Rattle.group_record.proofs.Chosen.{lowest_found, lowest_none, lowest_past, none_ready}
 use Rattle.group_record.proofs.signals.lowest_ready.Goals as goal
+
+pub returns-then-has_no_signal : goal.returns-then-has_no_signal
+returns-then-has_no_signal c = λ a.
+    sym (none_ready c.args.process.now c.args.thread a (has_pending c.args.world.now c.args.p) (c.has_no_signal.ensures.0 c.if-has_no_signal.true))
 
 pub loop-s-init : goal.loop-s-init
 loop-s-init c = λ a. refl
