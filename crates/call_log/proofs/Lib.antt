@@ -5,3 +5,4 @@ pub mod EntryLaws
 pub mod HeadLaws
 pub mod Entries
 pub mod Walks
+pub mod Puts

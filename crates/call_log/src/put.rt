@@ -1,13 +1,13 @@
 // Writing the head and the entries of a log.
-ghost use Rattle.std.specs.Prelude.{◌≡◌, ◌^◌, ◌<◌, ◌≤◌, ◌++◌, [], length, map, take, OnOk, OnErr, if◌then◌else◌};
+ghost use Rattle.std.specs.Prelude.{◌≡◌, ◌^◌, ◌<◌, ◌≤◌, ◌++◌, length, map, take, Some, OnOk, OnErr};
 ghost use Rattle.std.specs.List.{concat};
 ghost use Rattle.lib_calls.specs.Entry.{IsStringIf, IsTagIf, entry_of, IsShaped};
-ghost use Rattle.call_log.specs.Entry.{argument_bytes, front_bytes, reply_bytes, encoding, string_if, tag_if};
+ghost use Rattle.call_log.specs.Entry.{argument_bytes, body, encoding, flagged as flagged_of, front_bytes, number_if, reply_bytes, string_if, tag_if};
 ghost use Rattle.call_log.specs.Head.{IsHead, head_bytes, head_of};
 
 use crate::fields::{argument_count, has_incoming, has_outgoing, has_tag};
 use crate::head::{LogHead, MAGIC, VERSION};
-use fri_bytes::put_bytes;
+use fri_bytes::{put_byte, put_bytes, put_u32, put_u64};
 use lamport_tag::Tag;
 use lib_calls::{Call, EntryView};
 use std::alloc::AllocError;
@@ -55,7 +55,7 @@ fn put_fields(out: &mut Vec<u8>, entry: &EntryView<'_>) -> Result<(), AllocError
     put_front(out, entry)?;
     put_arguments(out, &entry.call)?;
     put_reply(out, entry)?;
-    put_tag(out, has_tag(entry.call.kind), entry.tag)
+    put_tag_if(out, has_tag(entry.call.kind), entry.tag)
 }
 
 // Adds the length of the body, and the fields in front of the arguments.
@@ -65,68 +65,91 @@ fn put_front(out: &mut Vec<u8>, entry: &EntryView<'_>) -> Result<(), AllocError>
     ensures err { OnErr result (out.new.items ≡ out.old.items) }
 {
     let size = (entry_length(entry) - 4) as u32;
-    put_pieces(
-        out,
-        &[
-            &size.to_le_bytes(),
-            &entry.clock.to_le_bytes(),
-            &entry.thread.to_le_bytes(),
-            &[entry.call.kind, entry.signal],
-        ],
-    )
+    put_bytes(out, &front(size, entry))
 }
 
-// Adds the arguments that the call has.
+// The length of the body, and the fields in front of the arguments.
+#[tactic(auto, unfolding(crate::specs::Entry::front_bytes))]
+fn front(size: u32, entry: &EntryView<'_>) -> [u8; 16]
+    requires { size ≡ length (body (entry_of entry.now)) }
+    ensures { result ≡ front_bytes (entry_of entry.now) }
+{
+    let [s0, s1, s2, s3] = size.to_le_bytes();
+    let [c0, c1, c2, c3, c4, c5, c6, c7] = entry.clock.to_le_bytes();
+    let [t0, t1] = entry.thread.to_le_bytes();
+    let kind = entry.call.kind;
+    let signal = entry.signal;
+    [
+        s0, s1, s2, s3, c0, c1, c2, c3, c4, c5, c6, c7, t0, t1, kind, signal,
+    ]
+}
+
+// Adds the arguments that the call has, or some of them where memory is wanting.
 #[tactic(auto, unfolding(crate::specs::Entry::argument_bytes))]
 fn put_arguments(out: &mut Vec<u8>, call: &Call) -> Result<(), AllocError>
     ensures ok { OnOk result (out.new.items ≡ out.old.items ++ argument_bytes call.now) }
-    ensures err { OnErr result (out.new.items ≡ out.old.items) }
+    ensures err { OnErr result (take (length out.old.items) out.new.items ≡ out.old.items) }
 {
     let count = argument_count(call.kind);
-    put_pieces(
-        out,
-        &[
-            piece_if(0 < count, &call.a0.to_le_bytes()),
-            piece_if(1 < count, &call.a1.to_le_bytes()),
-            piece_if(2 < count, &call.a2.to_le_bytes()),
-        ],
-    )
+    put_number_if(out, 0 < count, call.a0)?;
+    put_number_if(out, 1 < count, call.a1)?;
+    put_number_if(out, 2 < count, call.a2)
 }
 
-// Adds the reply, and the bytes that went out and came in.
+// Adds a number, where the kind has it.
+fn put_number_if(out: &mut Vec<u8>, has: bool, number: u64) -> Result<(), AllocError>
+    ensures ok { OnOk result (out.new.items ≡ out.old.items ++ number_if has number) }
+    ensures err { OnErr result (out.new.items ≡ out.old.items) }
+{
+    if has { put_u64(out, number) } else { Ok(()) }
+}
+
+// Adds the reply, and the bytes that went out and came in, or a part of that where memory is wanting.
 #[tactic(auto, unfolding(crate::specs::Entry::reply_bytes))]
 fn put_reply(out: &mut Vec<u8>, entry: &EntryView<'_>) -> Result<(), AllocError>
     requires { IsShaped (entry_of entry.now) }
     ensures ok { OnOk result (out.new.items ≡ out.old.items ++ reply_bytes (entry_of entry.now)) }
-    ensures err { OnErr result (out.new.items ≡ out.old.items) }
+    ensures err { OnErr result (take (length out.old.items) out.new.items ≡ out.old.items) }
 {
-    let outgoing = (entry.outgoing.len() as u32).to_le_bytes();
-    let incoming = (entry.incoming.len() as u32).to_le_bytes();
-    put_pieces(
-        out,
-        &[
-            &entry.reply.to_le_bytes(),
-            piece_if(has_outgoing(entry.call.kind), &outgoing),
-            entry.outgoing,
-            piece_if(has_incoming(entry.call.kind), &incoming),
-            entry.incoming,
-        ],
-    )
+    let kind = entry.call.kind;
+    put_u64(out, entry.reply)?;
+    put_string_if(out, has_outgoing(kind), entry.outgoing)?;
+    put_string_if(out, has_incoming(kind), entry.incoming)
+}
+
+// Adds bytes behind their length, or the length alone where memory is wanting, where the kind has them.
+fn put_string_if(out: &mut Vec<u8>, has: bool, bytes: &[u8]) -> Result<(), AllocError>
+    requires { IsStringIf has bytes.now }
+    ensures ok { OnOk result (out.new.items ≡ out.old.items ++ string_if has bytes.now) }
+    ensures err { OnErr result (take (length out.old.items) out.new.items ≡ out.old.items) }
+{
+    if has {
+        put_u32(out, bytes.len() as u32)?;
+        put_bytes(out, bytes)?;
+    }
+    Ok(())
 }
 
 // Adds a tag behind its flag, or the flag that there is none, where there may be a tag.
-fn put_tag(out: &mut Vec<u8>, has: bool, tag: Option<Tag>) -> Result<(), AllocError>
+fn put_tag_if(out: &mut Vec<u8>, has: bool, tag: Option<Tag>) -> Result<(), AllocError>
     requires { IsTagIf has tag }
     ensures ok { OnOk result (out.new.items ≡ out.old.items ++ tag_if has tag) }
     ensures err { OnErr result (out.new.items ≡ out.old.items) }
 {
     match tag {
-        Some(tag) => put_pieces(
-            out,
-            &[&[1], &tag.sender.to_le_bytes(), &tag.clock.to_le_bytes()],
-        ),
-        None => put_bytes(out, piece_if(has, &[0])),
+        Some(tag) => put_bytes(out, &flagged(tag)),
+        None if has => put_byte(out, 0),
+        None => Ok(()),
     }
+}
+
+// A tag behind the flag that there is one.
+fn flagged(tag: Tag) -> [u8; 13]
+    ensures { result ≡ flagged_of (Some tag) }
+{
+    let [s0, s1, s2, s3] = tag.sender.to_le_bytes();
+    let [c0, c1, c2, c3, c4, c5, c6, c7] = tag.clock.to_le_bytes();
+    [1, s0, s1, s2, s3, c0, c1, c2, c3, c4, c5, c6, c7]
 }
 
 /// The number of bytes that an entry takes.
@@ -162,13 +185,6 @@ fn tag_length(has: bool, tag: Option<Tag>) -> u64
         Some(_) => 13,
         None => u64::from(has),
     }
-}
-
-// The piece, where the kind has it.
-fn piece_if(has: bool, piece: &[u8]) -> &[u8]
-    ensures { result.now ≡ (if has then piece.now else []) }
-{
-    if has { piece } else { &[] }
 }
 
 // Adds the pieces, one after the other.

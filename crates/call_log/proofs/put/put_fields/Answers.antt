@@ -7,6 +7,7 @@ use Rattle.lib_calls.specs.declared.entry.Entry.{Entry}
 use Rattle.lib_calls.specs.Entry.{entry_of}
 use Rattle.call_log.specs.Entry.{body, encoding, front_bytes, argument_bytes, reply_bytes, tag_if, string_if}
 use Rattle.call_log.proofs.FieldLaws.{on_ok}
+use Rattle.call_log.proofs.Puts.{kept, kept_on_err, on_err, same_on_err}
 use Rattle.call_log.proofs.put.put_fields.Goals as goal
 
 regroup : (size clock thread kind signal arguments reply outgoing incoming tag : List ℕ) → size ++ concat (clock ∷ thread ∷ kind ∷ signal ∷ arguments ∷ reply ∷ outgoing ∷ incoming ∷ tag ∷ []) ≡ concat (size ∷ clock ∷ thread ∷ (kind ++ signal) ∷ []) ++ (arguments ++ ((reply ++ (outgoing ++ incoming)) ++ tag))
@@ -29,6 +30,14 @@ joined old a b c d x y z new p q r s = s ∙ rw (r, q, p) (simp append_assoc)
 pub returns-clause-ok : goal.returns-clause-ok
 returns-clause-ok c =
     let e : Entry = entry_of c.args.entry.now in
-    let put = joined c.args.out.now.items (front_bytes e) (argument_bytes e.call) (reply_bytes e) (tag_if (has_tag e.call.kind) e.tag) _ _ _ c.put_tag.new.out.items c.in_ok-put_front.ensures.ok c.in_ok-put_arguments.ensures.ok c.in_ok-put_reply.ensures.ok in
+    let put = joined c.args.out.now.items (front_bytes e) (argument_bytes e.call) (reply_bytes e) (tag_if (has_tag e.call.kind) e.tag) _ _ _ c.put_tag_if.new.out.items c.in_ok-put_front.ensures.ok c.in_ok-put_arguments.ensures.ok c.in_ok-put_reply.ensures.ok in
     let whole = ap (λ (t : List ℕ). c.args.out.now.items ++ t) (sym (parts e)) in
-    on_ok _ (λ tag. put (tag ∙ ap (λ (has : Bool). c.put_reply.new.out.items ++ tag_if has e.tag) c.has_tag.ensures) ∙ whole) c.put_tag.ensures.ok
+    on_ok _ (λ tag. put (tag ∙ ap (λ (has : Bool). c.put_reply.new.out.items ++ tag_if has e.tag) c.has_tag.ensures) ∙ whole) c.put_tag_if.ensures.ok
+
+pub returns-in_err-put_reply-clause-err : goal.returns-in_err-put_reply-clause-err
+returns-in_err-put_reply-clause-err c =
+    on_err _ (kept _ _ _ _ c.in_ok-put_front.ensures.ok (kept _ _ _ _ c.in_ok-put_arguments.ensures.ok c.in_err-put_reply.ensures.err))
+
+pub returns-clause-err : goal.returns-clause-err
+returns-clause-err c =
+    kept_on_err c.put_tag_if.result _ _ _ _ c.in_ok-put_front.ensures.ok (kept_on_err _ _ _ _ _ c.in_ok-put_arguments.ensures.ok (kept_on_err _ _ _ _ _ c.in_ok-put_reply.ensures.ok (same_on_err _ _ _ c.put_tag_if.ensures.err)))
