@@ -64,7 +64,7 @@ impl Memory {
     }
 
     // Whether each byte of the range lies in the memory.
-    #[inline]
+    #[inline(always)]
     fn contains(&self, addr: u64, len: u64) -> bool
         ensures { result ≡ is_inside self.now addr len }
     {
@@ -74,7 +74,7 @@ impl Memory {
 
     /// The number of so many bytes that stands at the address, the lowest byte first. `None` comes
     /// exactly where one of the bytes lies outside.
-    #[inline]
+    #[inline(always)]
     pub fn load(&self, addr: u64, width: u32) -> Option<u64>
         requires { IsWidth width }
         ensures { result ≡ loaded self.now addr width }
@@ -87,7 +87,7 @@ impl Memory {
 
     /// Writes so many bytes of the number at the address, the lowest byte first. `Ok(false)` comes
     /// exactly where one of them lies outside; nothing is changed then.
-    #[inline]
+    #[inline(always)]
     pub fn store(&mut self, addr: u64, width: u32, value: u64) -> Result<bool, AllocError>
         requires { IsWidth width }
         ensures answer { IfOk result (λ stands. stands ≡ is_inside self.old addr width) }

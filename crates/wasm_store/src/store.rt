@@ -161,7 +161,7 @@ impl<'m> Store<'m> {
     }
 
     /// Writes so many bytes of the number, if they lie in the memory.
-    #[inline]
+    #[inline(always)]
     pub fn write(&mut self, addr: u64, width: u32, bits: u64) -> Result<bool, AllocError>
         requires { IsWidth width }
         ensures is { IfOk result (λ is_in. is_in ≡ is_inside self.old.memory addr width) }

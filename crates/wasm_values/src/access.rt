@@ -25,6 +25,7 @@ pub fn load_width(op: u8) -> Option<u32>
 
 /// The operand that a load makes of the number that it reads.
 #[tactic(auto, unfolding(crate::specs::Access::load_value))]
+#[inline(always)]
 pub fn load_value(op: u8, n: u64) -> Option<Value>
     ensures { result ≡ load_value op n }
 {
