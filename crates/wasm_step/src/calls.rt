@@ -1,11 +1,11 @@
 // Calls: of the library, of the program's own functions, and through the table.
-ghost use Rattle.std.specs.Prelude.{◌≡◌, ◌+◌, ◌<◌, ◌≤◌, [], ◌∷◌, IfOk, IfSome, IfNone, None, OnOk, Some, length, slice_get};
+ghost use Rattle.std.specs.Prelude.{◌≡◌, ◌+◌, ◌<◌, ◌≤◌, [], ◌∷◌, IfOk, IfSome, IfNone, IsTrue, None, OnOk, Some, false, length, slice_get};
 ghost use Rattle.wasm_types.specs.Modules.{func_type, module_of};
 ghost use Rattle.wasm_step.specs.Answer.{after_of};
-ghost use Rattle.wasm_step.specs.Reduce.{call, call_element, call_indirect, call_library, call_own, go_on, limited};
+ghost use Rattle.wasm_step.specs.Reduce.{Goes, call, call_element, call_indirect, call_library, call_own, go_on, limited};
 ghost use Rattle.wasm_step.specs.Strand.{begun};
 ghost use Rattle.wasm_values.specs.Values.{zeros};
-ghost use Rattle.wasm_step.specs.Thread.{called, has_frame_room, waiting_frame};
+ghost use Rattle.wasm_step.specs.Thread.{Thread, called, has_frame_room, waiting_frame};
 
 use crate::halt::Next;
 use crate::stack::{SIZE_LIMIT, Stack};
@@ -13,7 +13,7 @@ use std::alloc::AllocError;
 use wasm_store::{
     Callee, Store, imported_kind, is_same_type, kind_at, kind_of, own_func, result_of,
 };
-use wasm_types::{FuncType, Trap, ValType, ValidModule, Value};
+use wasm_types::{FuncType, Module, Trap, ValType, ValidModule, Value};
 
 impl<'m> Stack<'m> {
     fn call_library(&mut self, kind: &FuncType, index: u32) -> Next
@@ -52,6 +52,91 @@ impl<'m> Stack<'m> {
         } else {
             Ok(Next::Stuck)
         }
+    }
+
+    // A call of a function of this type in place, where it has its arguments and the limits allow its frame.
+    #[inline(always)]
+    fn call_typed_in_place(
+        &mut self,
+        index: u32,
+        callee: Callee<'m>,
+        kind: &FuncType,
+    ) -> Result<bool, AllocError>
+        ensures goes { IfOk result (λ went. IsTrue went → limited (go_on (called self.old index callee.entry (func_type kind.now))) ≡ Goes self.new) }
+        ensures same { IfOk result (λ went. went ≡ false → self.new ≡ self.old) }
+    {
+        let n = kind.params.len();
+        if !self.has_arguments(n) || !self.can_enter(callee.declared()) {
+            return Ok(false);
+        }
+        let is_in = self.enter(index, callee, n, result_of(kind))?;
+        prove!(is_in);
+        Ok(true)
+    }
+
+    /// A call of the module's own function in place, where it has its arguments and the limits allow its frame. It is
+    /// kept out of the burst, whose other instructions would find fewer registers, and its answer is small.
+    #[inline(never)]
+    pub fn call_in_place(
+        &mut self,
+        program: &'m ValidModule,
+        index: u32,
+    ) -> Result<bool, AllocError>
+        ensures goes { IfOk result (λ went. IsTrue went → limited (call (module_of program.now) index self.old) ≡ Goes self.new) }
+        ensures same { IfOk result (λ went. went ≡ false → self.new ≡ self.old) }
+    {
+        let imports = program.module().imports.len();
+        let place = index as usize;
+        if place < imports {
+            return Ok(false);
+        }
+        let Some(callee) = own_func(program, place - imports) else {
+            return Ok(false);
+        };
+        let Some(kind) = kind_at(program.module(), callee.type_index()) else {
+            return Ok(false);
+        };
+        self.call_typed_in_place(index, callee, kind)
+    }
+
+    // Whether the function has the type with this index.
+    #[inline(always)]
+    fn has_type(code: &Module, index: u32, kind: u32) -> bool
+        ensures { IsTrue result → (t : Thread) → call_element (module_of code.now) kind (Some (Some index)) t ≡ call (module_of code.now) index t }
+    {
+        match (kind_of(code, index), kind_at(code, kind)) {
+            (Some(found), Some(wanted)) => is_same_type(found, wanted),
+            _ => false,
+        }
+    }
+
+    /// A call through the table in place, where it is one of the module's own functions.
+    #[inline(never)]
+    pub fn call_indirect_in_place(
+        &mut self,
+        program: &'m ValidModule,
+        store: &Store<'m>,
+        kind: u32,
+    ) -> Result<bool, AllocError>
+        requires { module_of program.now ≡ store.now.program }
+        ensures goes { IfOk result (λ went. IsTrue went → limited (call_indirect kind store.now self.old) ≡ Goes self.new) }
+        ensures same { IfOk result (λ went. went ≡ false → self.new ≡ self.old) }
+    {
+        let Some(Value::I32(i)) = self.top() else {
+            return Ok(false);
+        };
+        let Some(Some(index)) = store.element(i) else {
+            return Ok(false);
+        };
+        if !Self::has_type(program.module(), index, kind) {
+            return Ok(false);
+        }
+        self.drop_last(1);
+        if self.call_in_place(program, index)? {
+            return Ok(true);
+        }
+        self.push(Value::I32(i))?;
+        Ok(false)
     }
 
     // Whether a frame with these declared locals keeps to the limits.

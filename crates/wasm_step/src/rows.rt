@@ -130,12 +130,9 @@ impl<'m> Stack<'m> {
         ensures within { Within self.old → Within self.new }
         ensures same { result ≡ false → self.new ≡ self.old }
     {
-        if !self.has_local(x as usize) || !self.has_operand() {
+        if !self.local_tee(x) {
             return false;
         }
-        let v = self.last();
-        let is_set = self.set_local(x as usize, v);
-        prove!(is_set);
         self.drop_last(1);
         true
     }

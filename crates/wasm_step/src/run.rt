@@ -87,8 +87,18 @@ impl<'m> Stack<'m> {
             Instr::BrIf(n) => Ok(self.branch_if(*n).next()),
             Instr::BrTable(labels, default) => Ok(self.branch_table(labels, *default).next()),
             Instr::Return => Ok(self.return_from().next()),
-            Instr::CallFunc(index) => self.call(program, *index),
-            Instr::CallIndirect(kind) => self.call_indirect(program, store, *kind),
+            Instr::CallFunc(index) => {
+                if self.call_in_place(program, *index)? {
+                    return Ok(Next::Going);
+                }
+                self.call(program, *index)
+            }
+            Instr::CallIndirect(kind) => {
+                if self.call_indirect_in_place(program, store, *kind)? {
+                    return Ok(Next::Going);
+                }
+                self.call_indirect(program, store, *kind)
+            }
             _ => self.step(program, store, instr),
         }
     }

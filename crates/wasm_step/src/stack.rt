@@ -750,13 +750,18 @@ fn push_operand(operands: &mut Vec<Value>, v: Value) -> Result<(), AllocError>
     Ok(())
 }
 
-// What declared locals start as.
+// What declared locals start as. Most runs are of one local, for which a call would cost more than its place.
 fn append_zeros(locals: &mut Vec<Value>, declared: &[(u32, ValType)]) -> Result<(), AllocError>
     ensures ok { OnOk result (locals.new.items ≡ locals.old.items ++ zeros declared.now) }
     ensures kept { take (length locals.old.items) locals.new.items ≡ locals.old.items }
 {
     for local in declared {
-        locals.resize(locals.len() + local.0 as usize, zero_of(local.1))?;
+        let zero = zero_of(local.1);
+        if local.0 == 1 {
+            push_to(locals, zero)?;
+        } else {
+            locals.resize(locals.len() + local.0 as usize, zero)?;
+        }
     }
     Ok(())
 }
@@ -766,8 +771,12 @@ fn append_all(items: &mut Vec<Value>, more: &[Value]) -> Result<(), AllocError>
     ensures ok { OnOk result (items.new.items ≡ items.old.items ++ more.now) }
     ensures kept { take (length items.old.items) items.new.items ≡ items.old.items }
 {
+    if items.capacity() - items.len() < more.len() {
+        items.extend_from_slice(more)?;
+        return Ok(());
+    }
     for item in more {
-        push_to(items, *item)?;
+        items.push_reserved(*item);
     }
     Ok(())
 }
