@@ -6,7 +6,7 @@ use Rattle.std.proofs.lemmas.List.{map-append}
 use Rattle.fri_outside.specs.Laws.{KeepsFiles}
 use Rattle.fri_outside.specs.Outside.{Store, found_within}
 use Rattle.wasm_types.specs.Modules.{Module}
-use Rattle.wasm_decode.specs.Grammar.{Spells}
+use Rattle.wasm_decode.specs.Grammar.{SpellsModule}
 use Rattle.wasm_decode.specs.Sections.{module_of_bytes}
 use Rattle.wasm_validate.specs.Fault.{ExactFault}
 use Rattle.call_log.specs.Head.{Head, head_bytes}
@@ -45,7 +45,7 @@ use Rattle.friday_app.proofs.Together.{no_clash}
 -- what the crates below say of their definitions
 pub record Laws : Type 0 where
   pub files : KeepsFiles
-  pub modules : (bytes : List ℕ) (m : Module) → (module_of_bytes bytes ≡ Some m) ↔ Spells bytes m
+  pub modules : (bytes : List ℕ) (m : Module) → (module_of_bytes bytes ≡ Some m) ↔ SpellsModule bytes m
   pub faults : ExactFault
   pub logs : ExactLogs
   pub schedules : GivesSchedules

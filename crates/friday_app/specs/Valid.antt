@@ -4,7 +4,7 @@ use Rattle.std.specs.FinMap.{get}
 use Rattle.fri_outside.specs.Outside.{Store}
 use Rattle.wasm_types.specs.Modules.{Module}
 use Rattle.wasm_types.specs.Valid.{IsValid as IsValidModule}
-use Rattle.wasm_decode.specs.Grammar.{Spells as IsSpelled}
+use Rattle.wasm_decode.specs.Grammar.{SpellsModule}
 use Rattle.schedule_text.specs.Limits.{most_runs}
 use Rattle.schedule_text.specs.Grammar.{Spells}
 use Rattle.schedule_text.specs.Schedule.{Schedule, run_count}
@@ -34,7 +34,7 @@ pub record IsModuleFile (store : Store) (name : List ℕ) : Type 0 where
   pub bytes : List ℕ
   pub stands : IsFileWithin store name most_module bytes
   pub «module» : Module
-  pub spelled : IsSpelled bytes «module»
+  pub spelled : SpellsModule bytes «module»
   pub valid : IsValidModule «module»
 
 -- the segments of a module lie inside its table and its memory, so that process `who` of a group of `count` begins

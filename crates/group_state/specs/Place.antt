@@ -34,7 +34,7 @@ pub record AreParts (parts : List Replaying) : Type 0 where
   pub one : All (λ r. r.head.count ≡ group_count parts) parts
   pub ascends : Ascends parts
 
--- each process is in the ranges of its program
+-- each process is in the ranges of its module
 abbrev pub PartsFit : List Replaying → Type 0
 PartsFit parts = All (λ r. StateFits r.state) parts
 

@@ -7,5 +7,5 @@ abbrev pub memory_of : Inside → Memory
 memory_of inside = record { bytes = inside.bytes.items; max = inside.max }
 
 -- they are those of a memory
-abbrev pub IsSound : Inside → Type 0
-IsSound inside = IsMemory (memory_of inside)
+abbrev pub HasMemory : Inside → Type 0
+HasMemory inside = IsMemory (memory_of inside)

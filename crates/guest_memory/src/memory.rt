@@ -1,7 +1,7 @@
 // A linear memory.
 ghost use Rattle.std.specs.Prelude.{◌≡◌, ◌↔◌, ◌+◌, ◌≤◌, length, IsSome, IfSome, IfOk, OnOk, OnErr, Ok, None};
 ghost use Rattle.guest_memory.specs.LittleEndian.{low_bytes, IsWidth};
-ghost use Rattle.guest_memory.specs.Memory.{IsMemory, WritesPrefix, after_store, after_write, bytes_at, fresh, growth, grown, is_inside, loaded, size_of, stretch};
+ghost use Rattle.guest_memory.specs.Memory.{IsMemory, WritesPrefix, after_store, after_write_at, bytes_from, fresh, growth, after_grow, is_inside, loaded, size_of, stretch};
 
 use crate::little_endian::{number_at, put_number, put_piece};
 use std::alloc::{AllocError, Global};
@@ -26,11 +26,11 @@ impl Model for Memory {
 
     ghost Value = { Bytes };
 
-    ghost use Rattle.guest_memory.specs.Inside.{memory_of, IsSound};
+    ghost use Rattle.guest_memory.specs.Inside.{memory_of, HasMemory};
 
     ghost view = { memory_of };
 
-    ghost invariant = { IsSound };
+    ghost invariant = { HasMemory };
 }
 
 impl Memory {
@@ -105,7 +105,7 @@ impl Memory {
     /// nothing is changed then.
     pub fn write(&mut self, addr: u64, piece: &[u8]) -> Result<bool, AllocError>
         ensures answer { IfOk result (λ stands. stands ≡ is_inside self.old addr (length piece.now)) }
-        ensures ok { OnOk result (self.new ≡ after_write self.old addr piece.now) }
+        ensures ok { OnOk result (self.new ≡ after_write_at self.old addr piece.now) }
         ensures err { OnErr result (WritesPrefix self.old self.new addr piece.now) }
     {
         if !self.contains(addr, piece.len() as u64) {
@@ -118,7 +118,7 @@ impl Memory {
     /// The longest first part of the range that stays in one watch page of 4,096 bytes.
     pub fn part(&self, addr: u64, len: u64) -> Option<&[u8]>
         ensures some { IsSome result ↔ (addr + len ≤ length self.now.bytes) }
-        ensures value { IfSome result (λ part. part.now ≡ bytes_at self.now addr (stretch addr len)) }
+        ensures value { IfSome result (λ part. part.now ≡ bytes_from self.now addr (stretch addr len)) }
     {
         if !self.contains(addr, len) {
             return None;
@@ -131,7 +131,7 @@ impl Memory {
     /// where the sum passes the maximum.
     pub fn grow(&mut self, pages: u32) -> Result<Option<u32>, AllocError>
         ensures answer { IfOk result (λ before. before ≡ growth self.old pages) }
-        ensures ok { OnOk result (self.new ≡ grown self.old pages) }
+        ensures ok { OnOk result (self.new ≡ after_grow self.old pages) }
         ensures refused { growth self.old pages ≡ None → result ≡ Ok None }
         ensures err { OnErr result (self.new ≡ self.old) }
     {

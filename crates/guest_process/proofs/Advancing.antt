@@ -11,11 +11,11 @@ use Rattle.lib_calls.specs.declared.entry.Entry.{Entry}
 use Rattle.wasm_types.specs.Library.{kind_at}
 use Rattle.wasm_types.specs.Modules.{module_of}
 use Rattle.wasm_types.specs.declared.traps.Trap.TheVariants.{Exhausted, Unreachable}
-use Rattle.wasm_step.specs.Reduce.{Stop, Calls, Ends, Traps, Sticks}
+use Rattle.wasm_step.specs.Reduce.{Halt, Calls, Ends, Traps, Sticks}
 use Rattle.wasm_step.specs.Strand.{Strand, answered}
 use Rattle.wasm_step.specs.Burst.{burst}
 use Rattle.wasm_step.specs.Suits.{Suits}
-use Rattle.wasm_step.specs.Laws.{KeepsProgram}
+use Rattle.wasm_step.specs.Laws.{KeepsModule}
 use Rattle.wasm_step.specs.Thread.{Thread}
 use Rattle.wasm_step.specs.declared.call.CallSite.{CallSite}
 use Rattle.guest_process.specs.declared.end.End.{End}
@@ -37,7 +37,7 @@ use Rattle.guest_process.specs.Sound.{IsSound, IsStanding}
 use Rattle.guest_process.specs.Start.{beginning}
 use Rattle.guest_process.specs.State.{State, is_running, pending_kind as kind_of, thread_at, with_thread}
 use Rattle.guest_process.proofs.KeptFits.{state_kept}
-use Rattle.guest_process.proofs.KeptSound.{next_program, sound_kept}
+use Rattle.guest_process.proofs.KeptSound.{next_module, sound_kept}
 use Rattle.guest_process.proofs.Failing.{unless_none}
 use Rattle.guest_process.proofs.Legality.{call_told, fits_at, legal_at}
 use Rattle.guest_process.proofs.Written.{effects_acted, exit_written}
@@ -60,8 +60,8 @@ live_is S e h none = by_thread (thread_at S e.thread) none (unless_none (is_runn
     by_thread None n r = cc
     by_thread (Some w) n r = cc
 
-pub stands_at : (S : State) (t : ℕ) (w : Waiting) → Each (IsStanding S.store.program) S.crew.threads → thread_at S t ≡ Some w → IsStanding S.store.program w
-stands_at S t w f at = live_has (IsStanding S.store.program) S.crew.threads t f w at
+pub stands_at : (S : State) (t : ℕ) (w : Waiting) → Each (IsStanding S.store.«module») S.crew.threads → thread_at S t ≡ Some w → IsStanding S.store.«module» w
+stands_at S t w f at = live_has (IsStanding S.store.«module») S.crew.threads t f w at
 
 pub is_out : (crew : Crew Waiting) (t : ℕ) (w : Waiting) → live_at crew t ≡ Some w → IsTaken (crew_with crew t Lent) t
 is_out crew t w at = by_slots crew.threads t at
@@ -88,8 +88,8 @@ called_out : (S : State) (t : ℕ) (thread : Thread) (site : CallSite) (o : Opti
 called_out S t thread site (Some kind) = with_again S t (Kept (stands S thread site kind))
 called_out S t thread site None = ap (λ S'. ended S' (Trapped Unreachable)) (with_again S t Over)
 
-stopped_out : (S : State) (t : ℕ) (stop : Stop) → stopped (with_thread S t Lent) t stop ≡ stopped S t stop
-stopped_out S t (Calls thread site) = called_out S t thread site (kind_at S.store.program site.func)
+stopped_out : (S : State) (t : ℕ) (stop : Halt) → stopped (with_thread S t Lent) t stop ≡ stopped S t stop
+stopped_out S t (Calls thread site) = called_out S t thread site (kind_at S.store.«module» site.func)
 stopped_out S t Ends = ap (λ S'. finished_if_over S') (with_again S t Over)
 stopped_out S t (Traps trap) = ap (λ S'. ended S' (Trapped trap)) (with_again S t Over)
 stopped_out S t Sticks = ap (λ S'. ended S' (Trapped Unreachable)) (with_again S t Over)
@@ -110,11 +110,11 @@ exits_by _ S t w a signal clock e h = cc
 -- how a thread goes on that was taken out of the state after its answer
 abbrev pub goes_out : Kind → State → ℕ → Strand → ℕ → ℕ → ℕ → State
 goes_out k S t strand reply signal clock =
-    after_running (counted (with_thread S t Lent) clock) t (with_handler_frame S.store.program (answered strand (reply_value k reply)) signal (handler S.handlers signal))
+    after_running (counted (with_thread S t Lent) clock) t (with_handler_frame S.store.«module» (answered strand (reply_value k reply)) signal (handler S.handlers signal))
 
 runs_by : (k : Kind) (S : State) (t : ℕ) (strand : Strand) (reply signal clock : ℕ) → ends_process k ≡ false → goes_out k S t strand reply signal clock ≡ goes_on k S t strand reply signal clock
 runs_by k S t strand reply signal clock h =
-    let thread = with_handler_frame S.store.program (answered strand (reply_value k reply)) signal (handler S.handlers signal) in
+    let thread = with_handler_frame S.store.«module» (answered strand (reply_value k reply)) signal (handler S.handlers signal) in
     runs_out (counted S clock) t thread
     ∙ ap (λ ends. cond ends (counted S clock) (after_running (counted S clock) t thread)) (sym h)
 
@@ -129,7 +129,7 @@ kept_before (slot ∷ slots) (suc t) new w at = kept_before slots t new w at
 -- the thread stands as it stood
 same_thread : (o : Option Kind) (S : State) (t : ℕ) (c : Call) (a : Answer) (w : Waiting) → thread_at S t ≡ Some w → thread_at (acted o S t c a) t ≡ Some w
 same_thread o S t c a w at =
-    acted_has (λ S'. thread_at S' t ≡ Some w) o S t c a (λ k. record { locks = λ e free. at; unlocks = λ e held. at; handles = λ e h given. at; spawns = λ e f found thread starts. kept_before S.crew.threads t (beginning S.store.program thread) w at }) at at
+    acted_has (λ S'. thread_at S' t ≡ Some w) o S t c a (λ k. record { locks = λ e free. at; unlocks = λ e held. at; handles = λ e h given. at; spawns = λ e f found thread starts. kept_before S.crew.threads t (beginning S.store.«module» thread) w at }) at at
 
 pub taken_is : (S : State) (e : Entry) (o : Option Kind) (w : Waiting) → reason S e ≡ None → thread_at (acted o S e.thread e.call (answer_of e)) e.thread ≡ Some w → thread_at S e.thread ≡ Some w
 taken_is S e o w legal after = by_thread (thread_at S e.thread) refl
@@ -145,20 +145,20 @@ still_live S e o legal after = by_thread (thread_at S e.thread) refl
     by_thread None at = live_is S e legal at
     by_thread (Some found) at = let there = same_thread o S e.thread e.call (answer_of e) found at in cc
 
-pub acted_program : (S : State) (e : Entry) (o : Option Kind) → (acted o S e.thread e.call (answer_of e)).store.program ≡ S.store.program
-acted_program S e o =
-    acted_has (λ S'. S'.store.program ≡ S.store.program) o S e.thread e.call (answer_of e) (λ k. record { locks = λ h free. refl; unlocks = λ h held. refl; handles = λ e h given. refl; spawns = λ e f found thread starts. refl }) refl refl
+pub acted_module : (S : State) (e : Entry) (o : Option Kind) → (acted o S e.thread e.call (answer_of e)).store.«module» ≡ S.store.«module»
+acted_module S e o =
+    acted_has (λ S'. S'.store.«module» ≡ S.store.«module») o S e.thread e.call (answer_of e) (λ k. record { locks = λ h free. refl; unlocks = λ h held. refl; handles = λ e h given. refl; spawns = λ e f found thread starts. refl }) refl refl
 
 pub acted_events : (S : State) (e : Entry) (o : Option Kind) → (acted o S e.thread e.call (answer_of e)).events ≡ S.events
 acted_events S e o =
     acted_has (λ S'. S'.events ≡ S.events) o S e.thread e.call (answer_of e) (λ k. record { locks = λ h free. refl; unlocks = λ h held. refl; handles = λ e h given. refl; spawns = λ e f found thread starts. refl }) refl refl
 
-pub acted_handlers : (S : State) (e : Entry) (o : Option Kind) → AreHandlers S.store.program S.handlers → AreHandlers S.store.program (acted o S e.thread e.call (answer_of e)).handlers
+pub acted_handlers : (S : State) (e : Entry) (o : Option Kind) → AreHandlers S.store.«module» S.handlers → AreHandlers S.store.«module» (acted o S e.thread e.call (answer_of e)).handlers
 acted_handlers S e o sound =
-    acted_has (λ S'. AreHandlers S.store.program S'.handlers) o S e.thread e.call (answer_of e) (λ k. record {
+    acted_has (λ S'. AreHandlers S.store.«module» S'.handlers) o S e.thread e.call (answer_of e) (λ k. record {
       locks = λ h free. sound;
       unlocks = λ h held. sound;
-      handles = λ h set given. set_sound S.store.program S.handlers (narrow e.call.a0) set (λ f is. given_is S (narrow e.call.a0) (narrow e.call.a1) f (given ∙ ap Some is)) sound;
+      handles = λ h set given. set_sound S.store.«module» S.handlers (narrow e.call.a0) set (λ f is. given_is S (narrow e.call.a0) (narrow e.call.a1) f (given ∙ ap Some is)) sound;
       spawns = λ e f found thread starts. sound;
     })
     sound sound
@@ -185,10 +185,10 @@ goes S e w s legal at h =
 
 -- ---- the parts after a legal entry's event are those of a process
 
-pub process_kept : KeepsProgram → (p q : Parts) (e : Entry) → IsProcess p → reason (state_of p) e ≡ None → state_of q ≡ next (state_of p) e → q.«module» ≡ p.«module» → Suits q.store → IsProcess q
-process_kept keeps p q e is h state program suits = record {
+pub process_kept : KeepsModule → (p q : Parts) (e : Entry) → IsProcess p → reason (state_of p) e ≡ None → state_of q ≡ next (state_of p) e → q.«module» ≡ p.«module» → Suits q.store → IsProcess q
+process_kept keeps p q e is h state same_module suits = record {
   suits = suits;
-  same_module = ap (λ r. module_of r.now) program ∙ is.same_module ∙ sym (ap (λ S. S.store.program) state ∙ next_program keeps (state_of p) e is.sound);
+  same_module = ap (λ r. module_of r.now) same_module ∙ is.same_module ∙ sym (ap (λ S. S.store.«module») state ∙ next_module keeps (state_of p) e is.sound);
   fits = subst StateFits (sym state) (state_kept keeps (state_of p) e is.fits h);
   sound = subst IsSound (sym state) (sound_kept keeps (state_of p) e is.sound h);
 }

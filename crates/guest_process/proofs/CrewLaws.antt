@@ -13,7 +13,7 @@ use Rattle.coop_threads.specs.declared.slot.Slot.{Slot}
 use Rattle.coop_threads.specs.declared.slot.Slot.TheVariants.{Kept, Over}
 use Rattle.lib_calls.specs.Answer.{answer_of}
 use Rattle.lib_calls.specs.declared.entry.Entry.{Entry}
-use Rattle.wasm_step.specs.Laws.{KeepsProgram}
+use Rattle.wasm_step.specs.Laws.{KeepsModule}
 use Rattle.wasm_step.specs.Store.{handler_at}
 use Rattle.wasm_step.specs.Strand.{new_thread}
 use Rattle.wasm_step.specs.Thread.{Thread}
@@ -35,11 +35,11 @@ use Rattle.guest_process.proofs.Spawning.{found_at, has_room}
 use Rattle.guest_process.proofs.Legality.{call_told, fits_at}
 
 -- what the thread changes that goes on after the answer
-goes : KeepsProgram → (S : State) (e : Entry) → StateFits S → (w : Waiting) → Keeps WaitingFits e.thread (counted (effects w.kind S e.thread w.call (answer_of e)) e.clock) (next_at S e (Some w))
+goes : KeepsModule → (S : State) (e : Entry) → StateFits S → (w : Waiting) → Keeps WaitingFits e.thread (counted (effects w.kind S e.thread w.call (answer_of e)) e.clock) (next_at S e (Some w))
 goes keeps S e s w =
     let S' = effects w.kind S e.thread w.call (answer_of e) in
-    let n = affected WaitingFits w.kind S e.thread w.call (answer_of e) s.threads (begin_fits S.store.program) in
-    went_on WaitingFits keeps w.kind S' e.thread w e.reply e.signal e.clock n.threads (subst (Stand WaitingFits) (sym n.program) (stand_fits S.store.program))
+    let n = affected WaitingFits w.kind S e.thread w.call (answer_of e) s.threads (begin_fits S.store.«module») in
+    went_on WaitingFits keeps w.kind S' e.thread w e.reply e.signal e.clock n.threads (subst (Stand WaitingFits) (sym n.«module») (stand_fits S.store.«module»))
 
 -- ---- the other threads
 
@@ -55,15 +55,15 @@ last (slot ∷ slots) w = last slots w
 answer_others : (S : State) (e : Entry) (w : Waiting) (u : ℕ) → u ≢ e.thread → u < length S.crew.threads → slice_get (effects w.kind S e.thread w.call (answer_of e)).crew.threads u ≡ slice_get S.crew.threads u
 answer_others S e w u other low =
     effects_has (λ S'. slice_get S'.crew.threads u ≡ slice_get S.crew.threads u) w.kind S e.thread w.call (answer_of e)
-    (record { locks = λ k free. refl; unlocks = λ k held. refl; handles = λ k h given. refl; spawns = λ k f found thread starts. before_last S.crew.threads u (beginning S.store.program thread) low })
+    (record { locks = λ k free. refl; unlocks = λ k held. refl; handles = λ k h given. refl; spawns = λ k f found thread starts. before_last S.crew.threads u (beginning S.store.«module» thread) low })
     refl refl (λ k. set_other S.crew.threads e.thread u Over other)
 
-others_at : KeepsProgram → (S : State) (e : Entry) → StateFits S → (o : Option Waiting) → reason_at S e o ≡ None → (u : ℕ) → u ≢ e.thread → u < length S.crew.threads → slice_get (next_at S e o).crew.threads u ≡ slice_get S.crew.threads u
+others_at : KeepsModule → (S : State) (e : Entry) → StateFits S → (o : Option Waiting) → reason_at S e o ≡ None → (u : ℕ) → u ≢ e.thread → u < length S.crew.threads → slice_get (next_at S e o).crew.threads u ≡ slice_get S.crew.threads u
 others_at keeps S e s None h u other low = cc
 others_at keeps S e s (Some w) h u other low = (goes keeps S e s w).others u other ∙ answer_others S e w u other low
 
 -- the other threads stay as they were
-pub others_kept : KeepsProgram → OtherThreadsStay
+pub others_kept : KeepsModule → OtherThreadsStay
 others_kept keeps S e s h = others_at keeps S e s (thread_at S e.thread) (unless_none (is_running S) _ _ h).1
 
 -- ---- the threads that are made
@@ -72,16 +72,16 @@ others_kept keeps S e s h = others_at keeps S e s (thread_at S e.thread) (unless
 told_kind : (S : State) (e : Entry) → StateFits S → (w : Waiting) → thread_at S e.thread ≡ Some w → Hold (checks S e w) → kind_numbered e.call.kind ≡ Some w.kind
 told_kind S e s w at holds = ap (λ call. kind_numbered call.kind) (call_told S e w holds) ∙ (fits_at S e.thread w s at).kind
 
-thread_made : (S : State) (e : Entry) (w : Waiting) (f : ℕ) (thread : Thread) → kind_numbered e.call.kind ≡ Some Spawn → e.call ≡ w.call → spawnable S (narrow w.call.a0) ≡ Some f → new_thread S.store.program f (narrow w.call.a1) ≡ Some thread → MadeAfter S e (with_new_thread S (beginning S.store.program thread))
+thread_made : (S : State) (e : Entry) (w : Waiting) (f : ℕ) (thread : Thread) → kind_numbered e.call.kind ≡ Some Spawn → e.call ≡ w.call → spawnable S (narrow w.call.a0) ≡ Some f → new_thread S.store.«module» f (narrow w.call.a1) ≡ Some thread → MadeAfter S e (with_new_thread S (beginning S.store.«module» thread))
 thread_made S e w f thread kind call found starts = OneMore (record {
   func = f;
   thread = thread;
   kind = kind;
   room = has_room S (narrow w.call.a0) f found;
   found = ap (λ call. handler_at S.store (narrow call.a0)) call ∙ found_at S (narrow w.call.a0) f found;
-  starts = ap (λ call. new_thread S.store.program f (narrow call.a1)) call ∙ starts;
-  one_more = one_more S.crew.threads (beginning S.store.program thread);
-  made = last S.crew.threads (beginning S.store.program thread);
+  starts = ap (λ call. new_thread S.store.«module» f (narrow call.a1)) call ∙ starts;
+  one_more = one_more S.crew.threads (beginning S.store.«module» thread);
+  made = last S.crew.threads (beginning S.store.«module» thread);
 })
 
 -- the thread that goes on is another
@@ -98,7 +98,7 @@ made_later S S' S'' e low same others (OneMore n) = OneMore (record {
   made = others (length S.crew.threads) (λ is. absurd (omega (arith, low, is))) ∙ n.made;
 })
 
-made_at : KeepsProgram → (S : State) (e : Entry) → StateFits S → (o : Option Waiting) → thread_at S e.thread ≡ o → reason_at S e o ≡ None → MadeAfter S e (next_at S e o)
+made_at : KeepsModule → (S : State) (e : Entry) → StateFits S → (o : Option Waiting) → thread_at S e.thread ≡ o → reason_at S e o ≡ None → MadeAfter S e (next_at S e o)
 made_at keeps S e s None at h = cc
 made_at keeps S e s (Some w) at h =
     let holds = all_hold (checks S e w) h in
@@ -116,7 +116,7 @@ made_at keeps S e s (Some w) at h =
     (AsMany refl) (AsMany refl) (λ k. AsMany (length-set S.crew.threads e.thread Over)))
 
 -- only `spawn` makes a thread
-pub spawn_adds : KeepsProgram → OnlySpawnAdds
+pub spawn_adds : KeepsModule → OnlySpawnAdds
 spawn_adds keeps S e s h = made_at keeps S e s (thread_at S e.thread) refl (unless_none (is_running S) _ _ h).1
 
 -- ---- the locks
@@ -171,7 +171,7 @@ lock_later S S' S'' e m same (Locked l) =
 lock_later S S' S'' e m same (Unlocked l) =
     Unlocked (record { kind = l.kind; lock = l.lock; held = l.held; free = ap (λ holders. map.get holders m) same ∙ l.free })
 
-lock_at : KeepsProgram → (S : State) (e : Entry) → StateFits S → (o : Option Waiting) → thread_at S e.thread ≡ o → reason_at S e o ≡ None → (m : ℕ) → LockAfter S e m (next_at S e o)
+lock_at : KeepsModule → (S : State) (e : Entry) → StateFits S → (o : Option Waiting) → thread_at S e.thread ≡ o → reason_at S e o ≡ None → (m : ℕ) → LockAfter S e m (next_at S e o)
 lock_at keeps S e s None at h m = cc
 lock_at keeps S e s (Some w) at h m =
     let holds = all_hold (checks S e w) h in
@@ -189,5 +189,5 @@ lock_at keeps S e s (Some w) at h m =
     (Same refl) (Same refl) (λ k. Same refl))
 
 -- no event but its holder's `unlock` takes a lock away
-pub locks_kept : KeepsProgram → LockKept
+pub locks_kept : KeepsModule → LockKept
 locks_kept keeps S e s h = lock_at keeps S e s (thread_at S e.thread) refl (unless_none (is_running S) _ _ h).1

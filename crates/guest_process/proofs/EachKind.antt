@@ -109,7 +109,7 @@ spawned_fits S index arg few = by_func (spawnable S index)
 
     by_func : (o : Option ℕ) → ReplyFits (spawned_at S arg o)
     by_func None = omega arith
-    by_func (Some f) = by_thread (new_thread S.store.program f arg)
+    by_func (Some f) = by_thread (new_thread S.store.«module» f arg)
 
 pub reply_fits : (k : Kind) (S : State) (t : ℕ) (c : Call) → StateFits S → t < 64 → HasArguments c → ReplyFits (need k S t c)
 reply_fits Begin S t c s low args = omega arith

@@ -69,23 +69,23 @@ handled_has Q S signal number S' same set = by_given (handler_given S signal num
     by_given None given = same
     by_given (Some h) given = set h given
 
-spawned_has : (Q : State → Type 0) (S : State) (index arg : ℕ) (S' : State) → Q S → ((f : ℕ) → spawnable S index ≡ Some f → (thread : Thread) → new_thread S.store.program f arg ≡ Some thread → Q (with_new_thread S (beginning S.store.program thread))) → Q (after_need (spawned S index arg) S')
+spawned_has : (Q : State → Type 0) (S : State) (index arg : ℕ) (S' : State) → Q S → ((f : ℕ) → spawnable S index ≡ Some f → (thread : Thread) → new_thread S.store.«module» f arg ≡ Some thread → Q (with_new_thread S (beginning S.store.«module» thread))) → Q (after_need (spawned S index arg) S')
 spawned_has Q S index arg S' same made = by_func (spawnable S index) refl
   where
-    by_thread : (f : ℕ) → spawnable S index ≡ Some f → (o : Option Thread) → new_thread S.store.program f arg ≡ o → Q (after_need (spawns S o) S')
+    by_thread : (f : ℕ) → spawnable S index ≡ Some f → (o : Option Thread) → new_thread S.store.«module» f arg ≡ o → Q (after_need (spawns S o) S')
     by_thread f found None starts = same
     by_thread f found (Some thread) starts = made f found thread starts
 
     by_func : (o : Option ℕ) → spawnable S index ≡ o → Q (after_need (spawned_at S arg o) S')
     by_func None found = same
-    by_func (Some f) found = by_thread f found (new_thread S.store.program f arg) refl
+    by_func (Some f) found = by_thread f found (new_thread S.store.«module» f arg) refl
 
 -- what is to hold after the answers that change more than the memory
 pub record Cases (Q : State → Type 0) (k : Kind) (S : State) (t : ℕ) (c : Call) : Type 0 where
   pub locks : k ≡ Lock → holder_of S.crew (narrow c.a0) ≡ None → Q (with_lock S (narrow c.a0) t)
   pub unlocks : k ≡ Unlock → holder_of S.crew (narrow c.a0) ≡ Some t → Q (without_lock S (narrow c.a0))
   pub handles : k ≡ OnSignal → (h : Option ℕ) → handler_given S (narrow c.a0) (narrow c.a1) ≡ Some h → Q (with_handlers S (with_handler S.handlers (narrow c.a0) h))
-  pub spawns : k ≡ Spawn → (f : ℕ) → spawnable S (narrow c.a0) ≡ Some f → (thread : Thread) → new_thread S.store.program f (narrow c.a1) ≡ Some thread → Q (with_new_thread S (beginning S.store.program thread))
+  pub spawns : k ≡ Spawn → (f : ℕ) → spawnable S (narrow c.a0) ≡ Some f → (thread : Thread) → new_thread S.store.«module» f (narrow c.a1) ≡ Some thread → Q (with_new_thread S (beginning S.store.«module» thread))
 
 -- holds after each answer
 pub effects_has : (Q : State → Type 0) (k : Kind) (S : State) (t : ℕ) (c : Call) (a : Answer) → Cases Q k S t c → Q S → Q (with_answer S c a) → (k ≡ Exit → Q (exited S t c.a0)) → Q (effects k S t c a)

@@ -6,9 +6,9 @@ use Rattle.lib_calls.specs.Answer.{Answer, answer_of}
 use Rattle.lib_calls.specs.declared.entry.Call.{Call}
 use Rattle.lib_calls.specs.declared.entry.Entry.{Entry}
 use Rattle.wasm_types.specs.Library.{kind_at}
-use Rattle.wasm_step.specs.Reduce.{Stop, Calls, Ends, Traps, Sticks}
+use Rattle.wasm_step.specs.Reduce.{Halt, Calls, Ends, Traps, Sticks}
 use Rattle.wasm_step.specs.Burst.{burst}
-use Rattle.wasm_step.specs.Start.{start as store_of}
+use Rattle.wasm_step.specs.Start.{first_store}
 use Rattle.wasm_step.specs.Store.{Store}
 use Rattle.wasm_step.specs.Strand.{answered, first_thread}
 use Rattle.wasm_step.specs.Thread.{Thread}
@@ -29,7 +29,7 @@ use Rattle.guest_process.proofs.Effects.{effects_has}
 -- ---- a process begins with no event
 
 pub begins : BeginsFresh
-begins m who count S h = by_store (store_of m) (first_thread m) h
+begins m who count S h = by_store (first_store m) (first_thread m) h
   where
     by_store : (o : Option Store) (thread : Option Thread) → begun_with m who count o thread ≡ Some S → IsFresh who count S
     by_store None thread h = cc
@@ -50,8 +50,8 @@ called_events : (S : State) (t : ℕ) (thread : Thread) (site : CallSite) (o : O
 called_events S t thread site (Some kind) = refl
 called_events S t thread site None = refl
 
-stopped_events : (S : State) (t : ℕ) (stop : Stop) → (stopped S t stop).events ≡ S.events
-stopped_events S t (Calls thread site) = called_events S t thread site (kind_at S.store.program site.func)
+stopped_events : (S : State) (t : ℕ) (stop : Halt) → (stopped S t stop).events ≡ S.events
+stopped_events S t (Calls thread site) = called_events S t thread site (kind_at S.store.«module» site.func)
 stopped_events S t Ends = settled_events _ _
 stopped_events S t (Traps trap) = refl
 stopped_events S t Sticks = refl
@@ -73,7 +73,7 @@ counts_at S e None h = cc
 counts_at S e (Some w) h =
     let k = w.kind in
     let S' = effects k S e.thread w.call (answer_of e) in
-    event_events (ends_process k) (counted S' e.clock) e.thread (with_handler_frame S'.store.program (answered w.strand (reply_value k e.reply)) e.signal (handler S'.handlers e.signal))
+    event_events (ends_process k) (counted S' e.clock) e.thread (with_handler_frame S'.store.«module» (answered w.strand (reply_value k e.reply)) e.signal (handler S'.handlers e.signal))
     ∙ ap (λ n. n + 1) (answer_events k S e.thread w.call (answer_of e))
 
 pub counts : CountsEvents

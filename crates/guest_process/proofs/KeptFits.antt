@@ -14,7 +14,7 @@ use Rattle.lib_calls.specs.Kinds.{argument_count}
 use Rattle.lib_calls.specs.declared.entry.Entry.{Entry}
 use Rattle.wasm_types.specs.Library.{kind_at}
 use Rattle.wasm_types.specs.Modules.{Module}
-use Rattle.wasm_step.specs.Laws.{KeepsProgram}
+use Rattle.wasm_step.specs.Laws.{KeepsModule}
 use Rattle.wasm_step.specs.Thread.{Thread}
 use Rattle.wasm_step.specs.declared.call.CallSite.{CallSite}
 use Rattle.guest_process.specs.declared.waiting.Waiting.{Waiting}
@@ -39,7 +39,7 @@ counted : (kind : Kind) → argument_count (row kind).number ≡ (row kind).sign
 unfolding argument_count
 counted kind = ap (λ (o : Option Kind). option_map_or (λ (kind : Kind). (row kind).signature.params) o 0) (numbered kind)
 
-pub stand_fits : (m : Module) (S : State) (thread : Thread) (site : CallSite) (kind : Kind) → S.store.program ≡ m → kind_at m site.func ≡ Some kind → WaitingFits (stands S thread site kind)
+pub stand_fits : (m : Module) (S : State) (thread : Thread) (site : CallSite) (kind : Kind) → S.store.«module» ≡ m → kind_at m site.func ≡ Some kind → WaitingFits (stands S thread site kind)
 stand_fits m S thread site kind e h = record {
   kind = numbered kind;
   arguments = record {
@@ -61,8 +61,8 @@ pub begin_fits : (m : Module) (thread : Thread) → WaitingFits (beginning m thr
 begin_fits m thread = record { kind = numbered Begin; arguments = record { first = zero_fits _; second = zero_fits _; third = zero_fits _ } }
 
 -- what an event of a thread that stands so changes
-event_keeps : KeepsProgram → (S : State) (e : Entry) → StateFits S → (w : Waiting) → Affects WaitingFits (counted_at S e.clock) (next_at S e (Some w))
-event_keeps keeps S e s w = event_affects WaitingFits keeps w.kind S e.thread w.call (answer_of e) w e.signal e.clock s.threads (begin_fits S.store.program) (stand_fits S.store.program)
+event_keeps : KeepsModule → (S : State) (e : Entry) → StateFits S → (w : Waiting) → Affects WaitingFits (counted_at S e.clock) (next_at S e (Some w))
+event_keeps keeps S e s w = event_affects WaitingFits keeps w.kind S e.thread w.call (answer_of e) w e.signal e.clock s.threads (begin_fits S.store.«module») (stand_fits S.store.«module»)
 
 -- its clock is the next one, and no tag bears one past 2 ^ 62
 record NextClock (S : State) (e : Entry) : Type 0 where
@@ -77,7 +77,7 @@ next_clock S e w h =
       clock = eqb-true e.clock (next_clock_of S.clock e.tag) holds.clock;
     }
 
-fits_at : KeepsProgram → (S : State) (e : Entry) → StateFits S → (o : Option Waiting) → reason_at S e o ≡ None → StateFits (next_at S e o)
+fits_at : KeepsModule → (S : State) (e : Entry) → StateFits S → (o : Option Waiting) → reason_at S e o ≡ None → StateFits (next_at S e o)
 fits_at keeps S e s None h = cc
 fits_at keeps S e s (Some w) h =
     let told = next_clock S e w h in
@@ -90,10 +90,10 @@ fits_at keeps S e s (Some w) h =
       threads = kept.threads;
     }
 
-pub state_kept : KeepsProgram → IsKept
+pub state_kept : KeepsModule → IsKept
 state_kept keeps S e s h = fits_at keeps S e s (thread_at S e.thread) (unless_none (is_running S) _ _ h).1
 
-rises_at : KeepsProgram → (S : State) (e : Entry) → StateFits S → (o : Option Waiting) → reason_at S e o ≡ None → RisesTo S e (next_at S e o)
+rises_at : KeepsModule → (S : State) (e : Entry) → StateFits S → (o : Option Waiting) → reason_at S e o ≡ None → RisesTo S e (next_at S e o)
 rises_at keeps S e s None h = cc
 rises_at keeps S e s (Some w) h =
     let told = next_clock S e w h in
@@ -105,9 +105,9 @@ rises_at keeps S e s (Some w) h =
       events = kept.events;
       who = kept.who;
       count = kept.count;
-      same_module = kept.program;
+      same_module = kept.«module»;
     }
 
 -- the clock rises, and the process stays the same
-pub clock_rises : KeepsProgram → Rises
+pub clock_rises : KeepsModule → Rises
 clock_rises keeps S e s h = rises_at keeps S e s (thread_at S e.thread) (unless_none (is_running S) _ _ h).1

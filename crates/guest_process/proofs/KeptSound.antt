@@ -12,10 +12,10 @@ use Rattle.wasm_types.specs.declared.modules.ImportDesc.{ImportDesc}
 use Rattle.wasm_types.specs.declared.modules.ImportDesc.TheVariants as desc
 use Rattle.wasm_types.specs.declared.code.ValType.TheVariants.{I32, I64}
 use Rattle.wasm_types.specs.declared.code.Value.TheVariants as values
-use Rattle.wasm_types.specs.Library.{IsOfLibrary, importable, imported_type, kind_at, type_of, unless_begin}
+use Rattle.wasm_types.specs.Library.{IsOfLibrary, importable, imported_type_index, kind_at, signature_type, unless_begin}
 use Rattle.wasm_types.specs.Modules.{Module, Import, FuncType}
-use Rattle.wasm_types.specs.Functions.{described, imported_type as described_in}
-use Rattle.wasm_step.specs.Laws.{KeepsProgram}
+use Rattle.wasm_types.specs.Functions.{described, imported_type}
+use Rattle.wasm_step.specs.Laws.{KeepsModule}
 use Rattle.wasm_step.specs.Strand.{IsHandler, IsResult, first_result, library_result}
 use Rattle.wasm_step.specs.Thread.{Thread}
 use Rattle.wasm_step.specs.declared.call.CallSite.{CallSite}
@@ -41,7 +41,7 @@ width_fits true narrow reply = tt
 width_fits false true reply = tt
 width_fits false false reply = tt
 
-value_fits : (kind : Kind) (reply : ℕ) → IsResult (slice_get (type_of (row kind).signature).results 0) (reply_value kind reply)
+value_fits : (kind : Kind) (reply : ℕ) → IsResult (slice_get (signature_type (row kind).signature).results 0) (reply_value kind reply)
 value_fits kind reply = let width = (row kind).signature.result in width_fits (width == 0) (width == 32) reply
 
 -- `begin` is not imported
@@ -63,7 +63,7 @@ got (first ∷ rest) (suc f) import h = let later = got rest f import h in (omeg
 imported : (types : List FuncType) (imports : List Import) (f : ℕ) → All (IsOfLibrary types) imports → (import : Import) → slice_get imports f ≡ Some import → IsOfLibrary types import
 imported types imports f all import h = let at = got imports f import h in subst (IsOfLibrary types) at.1 (all f import at.0)
 
-described_as : (m : Module) (desc : ImportDesc) (index : ℕ) (type : FuncType) → imported_type desc ≡ Some index → slice_get m.types index ≡ Some type → described m desc ≡ Some type
+described_as : (m : Module) (desc : ImportDesc) (index : ℕ) (type : FuncType) → imported_type_index desc ≡ Some index → slice_get m.types index ≡ Some type → described m desc ≡ Some type
 described_as m (desc.Func t) index type e h = ap (slice_get m.types) (same_Some t index e) ∙ h
 described_as m (desc.Table limits) index type e h = cc
 described_as m (desc.Memory limits) index type e h = cc
@@ -78,12 +78,12 @@ stand_at m w func kind all c None at h = cc
 stand_at m w func kind all c (Some import) at h =
     let is = imported m.types m.imports func all import at in
     let same : is.kind ≡ kind = same_Some _ _ (sym is.named ∙ h) in
-    let result : library_result m func ≡ slice_get (type_of (row is.kind).signature).results 0 =
-    ap (λ o. first_result (described_in m o)) at ∙ ap first_result (described_as m import.desc is.type_index (type_of (row is.kind).signature) is.is_func is.typed) in
-    let results = result ∙ ap (λ (kind : Kind). slice_get (type_of (row kind).signature).results 0) same in
+    let result : library_result m func ≡ slice_get (signature_type (row is.kind).signature).results 0 =
+    ap (λ o. first_result (imported_type m o)) at ∙ ap first_result (described_as m import.desc is.type_index (signature_type (row is.kind).signature) is.is_func is.typed) in
+    let results = result ∙ ap (λ (kind : Kind). slice_get (signature_type (row kind).signature).results 0) same in
     stand_by m w func kind (λ begin. not_begin import.name (h ∙ ap Some begin)) c (λ reply. rw results (value_fits kind reply))
 
-stand_sound : (m : Module) → All (IsOfLibrary m.types) m.imports → (S : State) (thread : Thread) (site : CallSite) (kind : Kind) → S.store.program ≡ m → kind_at m site.func ≡ Some kind → IsStanding m (stands S thread site kind)
+stand_sound : (m : Module) → All (IsOfLibrary m.types) m.imports → (S : State) (thread : Thread) (site : CallSite) (kind : Kind) → S.store.«module» ≡ m → kind_at m site.func ≡ Some kind → IsStanding m (stands S thread site kind)
 stand_sound m all S thread site kind e h = record {
   same_module = e;
   stands = stand_at m (stands S thread site kind) site.func kind all refl (slice_get m.imports site.func) refl h;
@@ -92,29 +92,29 @@ stand_sound m all S thread site kind e h = record {
 begin_stands : (m : Module) (thread : Thread) → IsStanding m (beginning m thread)
 begin_stands m thread = record { same_module = refl; stands = refl }
 
-pub handlers_sound : (k : Kind) (S : State) (t : ℕ) (c : Call) (a : Answer) → AreHandlers S.store.program S.handlers → AreHandlers S.store.program (effects k S t c a).handlers
+pub handlers_sound : (k : Kind) (S : State) (t : ℕ) (c : Call) (a : Answer) → AreHandlers S.store.«module» S.handlers → AreHandlers S.store.«module» (effects k S t c a).handlers
 handlers_sound k S t c a sound =
-    effects_has (λ S'. AreHandlers S.store.program S'.handlers) k S t c a
+    effects_has (λ S'. AreHandlers S.store.«module» S'.handlers) k S t c a
     (record {
       locks = λ e free. sound;
       unlocks = λ e held. sound;
-      handles = λ e h given. set_sound S.store.program S.handlers (narrow c.a0) h (λ f is. given_is S (narrow c.a0) (narrow c.a1) f (given ∙ ap Some is)) sound;
+      handles = λ e h given. set_sound S.store.«module» S.handlers (narrow c.a0) h (λ f is. given_is S (narrow c.a0) (narrow c.a1) f (given ∙ ap Some is)) sound;
       spawns = λ e f found thread starts. sound;
     })
     sound sound (λ e. sound)
 
 -- what an answer leaves of the handlers is of the module, and so they stay as the thread goes on
-sound_at : KeepsProgram → (S : State) (e : Entry) → IsSound S → (o : Option Waiting) → reason_at S e o ≡ None → IsSound (next_at S e o)
+sound_at : KeepsModule → (S : State) (e : Entry) → IsSound S → (o : Option Waiting) → reason_at S e o ≡ None → IsSound (next_at S e o)
 sound_at keeps S e s None h = cc
 sound_at keeps S e s (Some w) h =
     let k = w.kind in
-    let m = S.store.program in
+    let m = S.store.«module» in
     let a = answer_of e in
     let S' = effects k S e.thread w.call a in
     let n = affected (IsStanding m) k S e.thread w.call a s.threads (begin_stands m) in
     let stand = stand_sound m s.imports in
-    let kept = went_on (IsStanding m) keeps k S' e.thread w e.reply e.signal e.clock n.threads (subst (Stand (IsStanding m)) (sym n.program) stand) in
-    let same = kept.program ∙ n.program in
+    let kept = went_on (IsStanding m) keeps k S' e.thread w e.reply e.signal e.clock n.threads (subst (Stand (IsStanding m)) (sym n.«module») stand) in
+    let same = kept.«module» ∙ n.«module» in
     let S'' = next_at S e (Some w) in
     record {
       imports = subst (λ m. All (IsOfLibrary m.types) m.imports) (sym same) s.imports;
@@ -123,14 +123,14 @@ sound_at keeps S e s (Some w) h =
           subst (λ m. IsHandler m func) (sym same) (handlers_sound k S e.thread w.call a s.handlers signal func (ap (λ hs. handler hs signal) (sym kept.handlers) ∙ h));
     }
 
-pub sound_kept : KeepsProgram → IsKeptSound
+pub sound_kept : KeepsModule → IsKeptSound
 sound_kept keeps S e s h = sound_at keeps S e s (thread_at S e.thread) (unless_none (is_running S) _ _ h).1
 
-program_at : KeepsProgram → (S : State) (e : Entry) → IsSound S → (o : Option Waiting) → (next_at S e o).store.program ≡ S.store.program
-program_at keeps S e s None = refl
-program_at keeps S e s (Some w) =
-    (event_affects (IsStanding S.store.program) keeps w.kind S e.thread w.call (answer_of e) w e.signal e.clock s.threads (begin_stands S.store.program) (stand_sound S.store.program s.imports)).program
+module_at : KeepsModule → (S : State) (e : Entry) → IsSound S → (o : Option Waiting) → (next_at S e o).store.«module» ≡ S.store.«module»
+module_at keeps S e s None = refl
+module_at keeps S e s (Some w) =
+    (event_affects (IsStanding S.store.«module») keeps w.kind S e.thread w.call (answer_of e) w e.signal e.clock s.threads (begin_stands S.store.«module») (stand_sound S.store.«module» s.imports)).«module»
 
 -- an event leaves the module as it is
-pub next_program : KeepsProgram → (S : State) (e : Entry) → IsSound S → (next S e).store.program ≡ S.store.program
-next_program keeps S e s = program_at keeps S e s (thread_at S e.thread)
+pub next_module : KeepsModule → (S : State) (e : Entry) → IsSound S → (next S e).store.«module» ≡ S.store.«module»
+next_module keeps S e s = module_at keeps S e s (thread_at S e.thread)

@@ -7,7 +7,7 @@ use Rattle.std.proofs.lemmas.List.{length-take}
 use Rattle.call_table.specs.Table.{kind_numbered, row}
 use Rattle.call_table.specs.declared.kind.Kind.{Kind}
 use Rattle.call_table.specs.declared.kind.Kind.TheVariants.{Print, Send}
-use Rattle.guest_memory.specs.Memory.{Memory, bytes_at, is_inside}
+use Rattle.guest_memory.specs.Memory.{Memory, bytes_from, is_inside}
 use Rattle.lib_calls.specs.declared.entry.Call.{Call}
 use Rattle.lib_calls.specs.Effects.{is_range, named, outgoing_of, sent_out}
 use Rattle.lib_calls.specs.Entry.{IsStringIf}
@@ -18,7 +18,7 @@ named_short : (memory : Memory) (addr len : ℕ) → length (named memory addr l
 unfolding is_range
 named_short memory addr len = by_test (nat_le len 60000) (is_inside memory addr len) refl
   where
-    by_test : (low inside : Bool) → nat_le len 60000 ≡ low → length (cond (low && inside) (bytes_at memory addr len) []) < 2 ^ 31
+    by_test : (low inside : Bool) → nat_le len 60000 ≡ low → length (cond (low && inside) (bytes_from memory addr len) []) < 2 ^ 31
     by_test true true e = omega (arith, leb-true len 60000 e, length-take len (drop addr memory.bytes))
     by_test true false e = omega arith
     by_test false inside e = omega arith

@@ -13,7 +13,7 @@ use Rattle.wasm_types.specs.declared.code.ValType.{ValType}
 use Rattle.wasm_types.specs.declared.code.ValType.TheVariants as types
 use Rattle.wasm_types.specs.Functions.{type_of}
 use Rattle.wasm_types.specs.Modules.{FuncType, Module}
-use Rattle.wasm_step.specs.Store.{Store, func_at, handler_at, handler_in, is_handler, is_number, takes_number}
+use Rattle.wasm_step.specs.Store.{Store, func_in_table, handler_at, handler_in, is_handler, is_number, takes_number}
 use Rattle.wasm_step.specs.Strand.{IsHandler}
 use Rattle.guest_process.specs.Answers.{after_need, effects, handled, handler_given, handler_named, handles, narrow, removal}
 use Rattle.guest_process.specs.GoesOn.{handler}
@@ -84,27 +84,27 @@ in_table m (Some g) f h = by_test (is_handler m g) refl h
     by_test false is h = cc
 
 -- what is found in the table is such
-pub found_is : (store : Store) (index f : ℕ) → handler_at store index ≡ Some f → IsHandler store.program f
-found_is store index f h = in_table store.program (func_at (slice_get store.table index)) f h
+pub found_is : (store : Store) (index f : ℕ) → handler_at store index ≡ Some f → IsHandler store.«module» f
+found_is store index f h = in_table store.«module» (func_in_table (slice_get store.table index)) f h
 
 abbrev pub AreHandlers : Module → List (Option ℕ) → Type 0
 AreHandlers m handlers = (signal func : ℕ) → handler handlers signal ≡ Some func → IsHandler m func
 
-named_is : (store : Store) (number f : ℕ) → handler_named store number ≡ Some (Some f) → IsHandler store.program f
+named_is : (store : Store) (number f : ℕ) → handler_named store number ≡ Some (Some f) → IsHandler store.«module» f
 named_is store number f h = by_test (number == removal) h
   where
-    by_found : (o : Option ℕ) → handler_at store number ≡ o → option_map (λ func. Some func) o ≡ Some (Some f) → IsHandler store.program f
+    by_found : (o : Option ℕ) → handler_at store number ≡ o → option_map (λ func. Some func) o ≡ Some (Some f) → IsHandler store.«module» f
     by_found None e h = cc
     by_found (Some func) e h = found_is store number f (e ∙ same_Some _ _ h)
 
-    by_test : (b : Bool) → cond b (Some None) (option_map (λ func. Some func) (handler_at store number)) ≡ Some (Some f) → IsHandler store.program f
+    by_test : (b : Bool) → cond b (Some None) (option_map (λ func. Some func) (handler_at store number)) ≡ Some (Some f) → IsHandler store.«module» f
     by_test true h = cc
     by_test false h = by_found (handler_at store number) refl h
 
-pub given_is : (S : State) (signal number f : ℕ) → handler_given S signal number ≡ Some (Some f) → IsHandler S.store.program f
+pub given_is : (S : State) (signal number f : ℕ) → handler_given S signal number ≡ Some (Some f) → IsHandler S.store.«module» f
 given_is S signal number f h = by_test (nat_le 1 signal && nat_le signal 31) h
   where
-    by_test : (b : Bool) → cond b (handler_named S.store number) None ≡ Some (Some f) → IsHandler S.store.program f
+    by_test : (b : Bool) → cond b (handler_named S.store number) None ≡ Some (Some f) → IsHandler S.store.«module» f
     by_test true h = named_is S.store number f h
     by_test false h = cc
 

@@ -5,7 +5,7 @@ use Rattle.std.proofs.lemmas.Bool.{ltb-true}
 use Rattle.wasm_types.specs.Functions.{imported_type, own_func, own_type}
 use Rattle.wasm_types.specs.Modules.{Func, FuncType, Module}
 use Rattle.wasm_step.specs.Store.{handler_at}
-use Rattle.wasm_step.specs.Strand.{IsHandler, Strand, begun as begun_at, new_thread}
+use Rattle.wasm_step.specs.Strand.{IsHandler, Strand, new_thread, started_above}
 use Rattle.wasm_step.specs.Thread.{Thread}
 use Rattle.wasm_types.specs.declared.code.ValType.TheVariants as types
 use Rattle.wasm_types.specs.declared.code.Value.TheVariants.{I32}
@@ -32,10 +32,10 @@ has_room S index f h = ltb-true (length S.crew.threads) most_threads (spawnable_
 pub found_at : (S : State) (index f : ℕ) → spawnable S index ≡ Some f → handler_at S.store index ≡ Some f
 found_at S index f h = (spawnable_parts S index f h).1
 
-pub found_handler : (S : State) (index f : ℕ) → spawnable S index ≡ Some f → IsHandler S.store.program f
+pub found_handler : (S : State) (index f : ℕ) → spawnable S index ≡ Some f → IsHandler S.store.«module» f
 found_handler S index f h = found_is S.store index f (found_at S index f h)
 
-pub found_own : (m : Module) (S : State) (index f : ℕ) → m ≡ S.store.program → spawnable S index ≡ Some f → IsHandler m f
+pub found_own : (m : Module) (S : State) (index f : ℕ) → m ≡ S.store.«module» → spawnable S index ≡ Some f → IsHandler m f
 found_own m S index f same h = subst (λ m. IsHandler m f) (sym same) (found_handler S index f h)
 
 -- ---- a thread can begin with it
@@ -52,13 +52,13 @@ own_is m f is = by_test (nat_lt f (length m.imports)) refl is.type
     by_test false e h = own_typed m (slice_get m.funcs (f - length m.imports)) (record { params = types.I32 ∷ []; results = [] }) h
 
 pub begins : (m : Module) (f arg : ℕ) → IsHandler m f → (thread : Thread) × (new_thread m f arg ≡ Some thread)
-begins m f arg is = let own = own_is m f is in (_, ap (λ o. begun_at o [] f (I32 arg ∷ [])) own.1)
+begins m f arg is = let own = own_is m f is in (_, ap (λ o. started_above o [] f (I32 arg ∷ [])) own.1)
 
 -- ---- the reply
 
 pub spawned_reply : (S : State) (index arg f : ℕ) → spawnable S index ≡ Some f → plainly.Fixed (length S.crew.threads) ≡ plain (spawned S index arg)
 spawned_reply S index arg f h =
-    let new = begins S.store.program f arg (found_handler S index f h) in
+    let new = begins S.store.«module» f arg (found_handler S index f h) in
     ap (λ thread. plain (spawns S thread)) (sym new.1) ∙ ap (λ o. plain (spawned_at S arg o)) (sym h)
 
 pub not_spawned : (S : State) (index arg : ℕ) → spawnable S index ≡ None → spawned S index arg ≡ Fixed minus_one S
@@ -73,10 +73,10 @@ pub none_made : (S : State) (index arg : ℕ) → spawnable S index ≡ None →
 none_made S index arg h = ap (λ o. after_need (spawned_at S arg o) S) (sym h)
 
 -- a strand at the function's start is that of the new thread
-pub begun : (S : State) (m : Module) (f arg : ℕ) (s : Strand) → m ≡ S.store.program → s.program ≡ m → s.call ≡ None → new_thread m f arg ≡ Some s.thread → with_new_thread S (waits s) ≡ after_need (spawned_at S arg (Some f)) S
-begun S m f arg s same program call thread =
-    ap (λ s. with_new_thread S (waits s)) (same_strand s (program ∙ same) call)
+pub begun : (S : State) (m : Module) (f arg : ℕ) (s : Strand) → m ≡ S.store.«module» → s.«module» ≡ m → s.call ≡ None → new_thread m f arg ≡ Some s.thread → with_new_thread S (waits s) ≡ after_need (spawned_at S arg (Some f)) S
+begun S m f arg s same same_module call thread =
+    ap (λ s. with_new_thread S (waits s)) (same_strand s (same_module ∙ same) call)
     ∙ ap (λ o. after_need (spawns S o) S) (sym thread ∙ ap (λ m. new_thread m f arg) same)
   where
-    same_strand : (s : Strand) → s.program ≡ S.store.program → s.call ≡ None → s ≡ record { program = S.store.program; thread = s.thread; call = None }
-    same_strand s p c = ap {B = Strand} (λ m. record { program = m; thread = s.thread; call = s.call }) p ∙ ap {B = Strand} (λ o. record { program = S.store.program; thread = s.thread; call = o }) c
+    same_strand : (s : Strand) → s.«module» ≡ S.store.«module» → s.call ≡ None → s ≡ record { «module» = S.store.«module»; thread = s.thread; call = None }
+    same_strand s p c = ap {B = Strand} (λ m. record { «module» = m; thread = s.thread; call = s.call }) p ∙ ap {B = Strand} (λ o. record { «module» = S.store.«module»; thread = s.thread; call = o }) c

@@ -7,7 +7,7 @@ use Rattle.coop_threads.specs.Crew.{empty, with_new_thread}
 use Rattle.wasm_types.specs.Modules.{Module, module_of}
 use Rattle.wasm_types.specs.Library.{IsOfLibrary}
 use Rattle.wasm_types.specs.Valid.{IsValid}
-use Rattle.wasm_step.specs.Start.{start as store_of, empty_memory, empty_table, initial_globals, is_elem_inside, is_segment_inside}
+use Rattle.wasm_step.specs.Start.{first_store, empty_memory, empty_table, initial_globals, is_elem_inside, is_segment_inside}
 use Rattle.wasm_step.specs.Store.{Store}
 use Rattle.wasm_step.specs.Strand.{first_thread}
 use Rattle.wasm_step.specs.Suits.{Suits}
@@ -24,13 +24,13 @@ use Rattle.guest_process.specs.declared.end.End.TheVariants.{Running}
 use Rattle.guest_process.proofs.Failing.{kept}
 use Rattle.guest_process.proofs.KeptFits.{begin_fits}
 
-store_program : (m : Module) (g : Store) → store_of m ≡ Some g → g.program ≡ m
-store_program m g h =
+store_module : (m : Module) (g : Store) → first_store m ≡ Some g → g.«module» ≡ m
+store_module m g h =
     let globals = initial_globals m in
     let table = empty_table m in
     let memory = empty_memory m in
     let inside = list_all (is_elem_inside globals (length table)) m.elems && list_all (is_segment_inside globals memory) m.segments in
-    ap (λ g. g.program) (sym (same_Some _ _ (kept inside _ g h).1))
+    ap (λ g. g.«module») (sym (same_Some _ _ (kept inside _ g h).1))
 
 abbrev nothing : Option ℕ
 nothing = None
@@ -47,10 +47,10 @@ no_handler signal func h = by_test (signal == 0) h
     by_test true h = cc
     by_test false h = let none = none_in 32 signal in cc
 
-begun_holds : (m : Module) (who count : ℕ) (g : Store) (thread : Thread) → who < count → count ≤ 16 → store_of m ≡ Some g → IsValid m → StateFits (begun m who count g thread) × IsSound (begun m who count g thread)
+begun_holds : (m : Module) (who count : ℕ) (g : Store) (thread : Thread) → who < count → count ≤ 16 → first_store m ≡ Some g → IsValid m → StateFits (begun m who count g thread) × IsSound (begun m who count g thread)
 begun_holds m who count g thread low few store valid =
-    let same : g.program ≡ m = store_program m g store in
-    let begin_stands : IsStanding g.program (beginning m thread) = record { same_module = sym same; stands = refl } in (
+    let same : g.«module» ≡ m = store_module m g store in
+    let begin_stands : IsStanding g.«module» (beginning m thread) = record { same_module = sym same; stands = refl } in (
       record { clock = omega arith; room = omega arith; count = few; who = low; threads = (begin_fits m thread, tt) },
       record {
         imports = subst (λ m. All (IsOfLibrary m.types) m.imports) (sym same) valid.imports;
@@ -61,21 +61,21 @@ begun_holds m who count g thread low few store valid =
 
 -- how a process of a valid module begins is such a state
 pub started : IsStarted
-started m who count S valid low few h = by_store (store_of m) refl (first_thread m) h
+started m who count S valid low few h = by_store (first_store m) refl (first_thread m) h
   where
-    by_store : (o : Option Store) → store_of m ≡ o → (thread : Option Thread) → begun_with m who count o thread ≡ Some S → StateFits S × IsSound S
+    by_store : (o : Option Store) → first_store m ≡ o → (thread : Option Thread) → begun_with m who count o thread ≡ Some S → StateFits S × IsSound S
     by_store None e thread h = cc
     by_store (Some g) e None h = cc
     by_store (Some g) e (Some thread) h =
         subst (λ S. StateFits S × IsSound S) (same_Some _ _ h) (begun_holds m who count g thread low few e valid)
 
-begun_process : (p : Parts) (thread : Thread) → p.who < p.count → p.count ≤ 16 → store_of (module_of p.«module».now) ≡ Some p.store → IsValid (module_of p.«module».now) → Suits p.store → state_of p ≡ begun (module_of p.«module».now) p.who p.count p.store thread → IsProcess p
+begun_process : (p : Parts) (thread : Thread) → p.who < p.count → p.count ≤ 16 → first_store (module_of p.«module».now) ≡ Some p.store → IsValid (module_of p.«module».now) → Suits p.store → state_of p ≡ begun (module_of p.«module».now) p.who p.count p.store thread → IsProcess p
 begun_process p thread low few store valid suits state =
     let m = module_of p.«module».now in
     let holds = begun_holds m p.who p.count p.store thread low few store valid in
-    record { same_module = sym (store_program m p.store store); suits = suits; fits = subst StateFits (sym state) holds.0; sound = subst IsSound (sym state) holds.1 }
+    record { same_module = sym (store_module m p.store store); suits = suits; fits = subst StateFits (sym state) holds.0; sound = subst IsSound (sym state) holds.1 }
 
 -- the parts with which the code begins are those of a process
-pub is_process : (p : Parts) (thread : Thread) → p.who < p.count → p.count ≤ 16 → store_of (module_of p.«module».now) ≡ Some p.store → IsValid (module_of p.«module».now) → Suits p.store → p.crew ≡ with_new_thread empty (beginning (module_of p.«module».now) thread) → p.handlers ≡ no_handlers → p.clock ≡ 0 → p.events ≡ 0 → p.end ≡ Running → IsProcess p
+pub is_process : (p : Parts) (thread : Thread) → p.who < p.count → p.count ≤ 16 → first_store (module_of p.«module».now) ≡ Some p.store → IsValid (module_of p.«module».now) → Suits p.store → p.crew ≡ with_new_thread empty (beginning (module_of p.«module».now) thread) → p.handlers ≡ no_handlers → p.clock ≡ 0 → p.events ≡ 0 → p.end ≡ Running → IsProcess p
 is_process p thread low few store valid suits crew handlers clock events end =
     begun_process p thread low few store valid suits (rw (crew, handlers, clock, events, end) refl)

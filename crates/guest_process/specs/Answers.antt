@@ -120,11 +120,11 @@ spawnable S index = if nat_lt (length S.crew.threads) most_threads then handler_
 -- the thread is made, which is the next in number; a function that was found has its code, so that there is one
 abbrev pub spawns : State → Option stack.Thread → Need
 spawns S None = Fixed minus_one S
-spawns S (Some thread) = Fixed (length S.crew.threads) (with_new_thread S (beginning S.store.program thread))
+spawns S (Some thread) = Fixed (length S.crew.threads) (with_new_thread S (beginning S.store.«module» thread))
 
 abbrev pub spawned_at : State → ℕ → Option ℕ → Need
 spawned_at S arg None = Fixed minus_one S
-spawned_at S arg (Some func) = spawns S (new_thread S.store.program func arg)
+spawned_at S arg (Some func) = spawns S (new_thread S.store.«module» func arg)
 
 -- a thread is to begin with the function of this table index, and be given this argument
 abbrev pub spawned : State → ℕ → ℕ → Need

@@ -27,9 +27,9 @@ pub record Spawns (S : State) (e : Entry) (S' : State) : Type 0 where
   pub kind : kind_numbered e.call.kind ≡ Some Spawn
   pub room : length S.crew.threads < most_threads
   pub found : handler_at S.store (narrow e.call.a0) ≡ Some func
-  pub starts : new_thread S.store.program func (narrow e.call.a1) ≡ Some thread
+  pub starts : new_thread S.store.«module» func (narrow e.call.a1) ≡ Some thread
   pub one_more : length S'.crew.threads ≡ length S.crew.threads + 1
-  pub made : slice_get S'.crew.threads (length S.crew.threads) ≡ Some (Kept (beginning S.store.program thread))
+  pub made : slice_get S'.crew.threads (length S.crew.threads) ≡ Some (Kept (beginning S.store.«module» thread))
 
 -- what an event does to the number of threads
 pub data MadeAfter (S : State) (e : Entry) (S' : State) : Type 0 where

@@ -10,8 +10,8 @@ use Rattle.wasm_types.specs.declared.traps.Trap.{Trap}
 use Rattle.wasm_types.specs.declared.traps.Trap.TheVariants.{Exhausted, Unreachable}
 use Rattle.wasm_types.specs.Library.{kind_at}
 use Rattle.wasm_types.specs.Modules.{Module}
-use Rattle.wasm_step.specs.Burst.{Run, burst}
-use Rattle.wasm_step.specs.Reduce.{Stop, Calls, Ends, Traps, Sticks}
+use Rattle.wasm_step.specs.Burst.{BurstResult, burst}
+use Rattle.wasm_step.specs.Reduce.{Halt, Calls, Ends, Traps, Sticks}
 use Rattle.wasm_step.specs.Strand.{Strand, answered, handling, is_in}
 use Rattle.wasm_step.specs.Thread.{Thread}
 use Rattle.wasm_step.specs.declared.call.CallSite.{CallSite}
@@ -38,7 +38,7 @@ call_of_site kind site =
 -- a thread that stands at a call of the library
 abbrev pub stands : State → Thread → CallSite → Kind → Waiting
 stands S thread site kind =
-    record { kind = kind; call = call_of_site kind site; strand = record { program = S.store.program; thread = thread; call = Some site.func } }
+    record { kind = kind; call = call_of_site kind site; strand = record { «module» = S.store.«module»; thread = thread; call = Some site.func } }
 
 -- thread t has trapped
 abbrev pub trapped : State → ℕ → Trap → State
@@ -62,13 +62,13 @@ abbrev pub stopped_at_call : State → ℕ → Thread → CallSite → Option Ki
 stopped_at_call S t thread site (Some kind) = with_thread S t (Kept (stands S thread site kind))
 stopped_at_call S t thread site None = trapped S t Unreachable
 
-abbrev pub stopped : State → ℕ → Stop → State
-stopped S t (Calls thread site) = stopped_at_call S t thread site (kind_at S.store.program site.func)
+abbrev pub stopped : State → ℕ → Halt → State
+stopped S t (Calls thread site) = stopped_at_call S t thread site (kind_at S.store.«module» site.func)
 stopped S t Ends = finished_if_over (with_thread S t Over)
 stopped S t (Traps trap) = trapped S t trap
 stopped S t Sticks = trapped S t Unreachable
 
-abbrev pub after_burst : State → ℕ → Run → State
+abbrev pub after_burst : State → ℕ → BurstResult → State
 after_burst S t run = stopped (record S { store = run.store }) t run.stop
 
 -- ---- the whole
@@ -99,4 +99,4 @@ abbrev pub goes_on : Kind → State → ℕ → Strand → ℕ → ℕ → ℕ �
 goes_on kind S t strand reply signal clock =
     if ends_process kind
     then counted S clock
-    else after_running (counted S clock) t (with_handler_frame S.store.program (answered strand (reply_value kind reply)) signal (handler S.handlers signal))
+    else after_running (counted S clock) t (with_handler_frame S.store.«module» (answered strand (reply_value kind reply)) signal (handler S.handlers signal))

@@ -23,4 +23,4 @@ acted_by S e = acted (pending_kind S e.thread) S e.thread e.call (answer_of e)
 -- the state once the thread of an entry went on, from one in which it was taken out and its answer has had its effects
 abbrev pub gone_on : State → Waiting → Entry → State
 gone_on S w e =
-    after_running S e.thread (with_handler_frame S.store.program (answered w.strand (reply_value w.kind e.reply)) e.signal (handler S.handlers e.signal))
+    after_running S e.thread (with_handler_frame S.store.«module» (answered w.strand (reply_value w.kind e.reply)) e.signal (handler S.handlers e.signal))

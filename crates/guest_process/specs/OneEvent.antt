@@ -37,7 +37,7 @@ pub record RisesTo (S : State) (e : Entry) (S' : State) : Type 0 where
   pub events : S'.events ≡ S.events + 1
   pub who : S'.who ≡ S.who
   pub count : S'.count ≡ S.count
-  pub same_module : S'.store.program ≡ S.store.program
+  pub same_module : S'.store.«module» ≡ S.store.«module»
 
 abbrev pub Rises : Type 0
 Rises = (S : State) (e : Entry) → StateFits S → reason S e ≡ None → RisesTo S e (next S e)

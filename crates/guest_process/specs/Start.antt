@@ -6,7 +6,7 @@ use Rattle.coop_threads.specs.Crew.{empty, with_new_thread}
 use Rattle.lib_calls.specs.declared.entry.Call.{Call}
 use Rattle.signal_points.specs.Signals.{no_handlers}
 use Rattle.wasm_types.specs.Modules.{Module}
-use Rattle.wasm_step.specs.Start.{start as store_of}
+use Rattle.wasm_step.specs.Start.{first_store}
 use Rattle.wasm_step.specs.Store.{Store}
 use Rattle.wasm_step.specs.Strand.{Strand, first_thread}
 use Rattle.wasm_step.specs.Thread.{Thread}
@@ -24,7 +24,7 @@ waits strand = record { kind = Begin; call = begin; strand = strand }
 
 -- a thread of the module that stands there
 abbrev pub beginning : Module → Thread → Waiting
-beginning m thread = waits (record { program = m; thread = thread; call = None })
+beginning m thread = waits (record { «module» = m; thread = thread; call = None })
 
 -- thread 0 stands at `begin`, and nothing has happened
 abbrev pub begun : Module → ℕ → ℕ → Store → Thread → State
@@ -46,4 +46,4 @@ begun_with m who count (Some store) (Some thread) = Some (begun m who count stor
 
 -- process `who` of a group of `count`, or nothing where a segment ends past its table or memory
 abbrev pub start : Module → ℕ → ℕ → Option State
-start m who count = begun_with m who count (store_of m) (first_thread m)
+start m who count = begun_with m who count (first_store m) (first_thread m)

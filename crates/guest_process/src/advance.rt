@@ -52,7 +52,7 @@ impl<'m> Parts<'m> {
 
     // Does what the answer does, but for the end of a thread that calls `exit`.
     fn act(&mut self, entry: &EntryView<'_>) -> Result<(), AllocError>
-        requires same_module { module_of self.old.«module».now ≡ self.old.store.program }
+        requires same_module { module_of self.old.«module».now ≡ self.old.store.«module» }
         requires suits { Suits self.old.store }
         requires answer { IsTrue (is_answer entry.now.call (answer_of (entry_of entry.now)) self.old.store.memory) }
         ensures state { OnOk result (state_of self.new ≡ acted_by (state_of self.old) (entry_of entry.now)) }
@@ -99,11 +99,11 @@ impl<'m> Parts<'m> {
     // A thread that was taken out goes on after the answer to its call.
     fn go_on(&mut self, waiting: Waiting<'m>, entry: &EntryView<'_>) -> Result<(), AllocError>
         requires taken { IsTaken self.old.crew entry.now.thread }
-        requires same_module { module_of self.old.«module».now ≡ self.old.store.program }
+        requires same_module { module_of self.old.«module».now ≡ self.old.store.«module» }
         requires suits { Suits self.old.store }
-        requires same { waiting.strand.program ≡ self.old.store.program }
-        requires stands { StandsAtKind waiting.strand.program waiting waiting.kind }
-        requires handlers { (signal func : ℕ) → handler_of self.old.handlers signal ≡ Some func → IsHandler self.old.store.program func }
+        requires same { waiting.strand.«module» ≡ self.old.store.«module» }
+        requires stands { StandsAtKind waiting.strand.«module» waiting waiting.kind }
+        requires handlers { (signal func : ℕ) → handler_of self.old.handlers signal ≡ Some func → IsHandler self.old.store.«module» func }
         ensures state { OnOk result (state_of self.new ≡ gone_on (state_of self.old) waiting.entry (entry_of entry.now)) }
         ensures same_module { OnOk result (self.new.«module» ≡ self.old.«module») }
         ensures suits { OnOk result (Suits self.new.store) }
@@ -121,9 +121,9 @@ impl<'m> Parts<'m> {
     #[tactic(auto, unfolding(crate::specs::GoesOn::budget))]
     fn run(&mut self, thread: u16, strand: Strand<'m>) -> Result<(), AllocError>
         requires taken { IsTaken self.old.crew thread }
-        requires same_module { module_of self.old.«module».now ≡ self.old.store.program }
+        requires same_module { module_of self.old.«module».now ≡ self.old.store.«module» }
         requires suits { Suits self.old.store }
-        requires same { strand.program ≡ self.old.store.program }
+        requires same { strand.«module» ≡ self.old.store.«module» }
         requires runs { strand.call ≡ None }
         ensures state { OnOk result (state_of self.new ≡ after_burst (state_of self.old) thread (burst budget strand.entry.thread self.old.store)) }
         ensures same_module { OnOk result (self.new.«module» ≡ self.old.«module») }

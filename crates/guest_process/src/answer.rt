@@ -34,7 +34,7 @@ pub fn is_due(until: u64, time: u64) -> bool
 /// The strand of a thread whose call was answered.
 #[tactic(auto, using(crate::proofs::Answering::is_answer))]
 pub(crate) fn answered(waiting: Waiting<'_>, reply: u64) -> Result<Strand<'_>, AllocError>
-    requires { StandsAtKind waiting.strand.program waiting waiting.kind }
+    requires { StandsAtKind waiting.strand.«module» waiting waiting.kind }
     ensures { IfOk result (λ s. s ≡ answered waiting.entry.strand (reply_value waiting.entry.kind reply)) }
 {
     match waiting.kind {
@@ -61,9 +61,9 @@ pub(crate) fn entered<'m>(
     func: Option<u32>,
 ) -> Result<Option<Strand<'m>>, AllocError>
     requires runs { strand.call ≡ None }
-    requires handler { IfSome func (IsHandler strand.program) }
-    ensures thread { IfOk result (λ o. option_map (λ s. s.thread) o ≡ with_handler_frame strand.entry.program strand.entry signal func) }
-    ensures same_module { IfOk result (λ o. IfSome o (λ s. s.program ≡ strand.entry.program)) }
+    requires handler { IfSome func (IsHandler strand.«module») }
+    ensures thread { IfOk result (λ o. option_map (λ s. s.thread) o ≡ with_handler_frame strand.entry.«module» strand.entry signal func) }
+    ensures same_module { IfOk result (λ o. IfSome o (λ s. s.«module» ≡ strand.entry.«module»)) }
     ensures call { IfOk result (λ o. IfSome o (λ s. s.call ≡ None)) }
 {
     let Some(func) = func else {

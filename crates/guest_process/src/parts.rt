@@ -2,7 +2,7 @@
 ghost use Rattle.std.specs.Prelude.{◌≡◌, IfOk};
 ghost use Rattle.coop_threads.specs.Crew.{IsTaken};
 ghost use Rattle.wasm_types.specs.Modules.{module_of};
-ghost use Rattle.wasm_step.specs.Pause.{StandsAt, stop_of};
+ghost use Rattle.wasm_step.specs.Pause.{StandsAt, pause_halt};
 ghost use Rattle.wasm_step.specs.Reduce.{Ends};
 ghost use Rattle.guest_process.specs.Answers.{exited};
 ghost use Rattle.guest_process.specs.GoesOn.{all_over, stopped, trapped};
@@ -57,9 +57,9 @@ impl<'m> Parts<'m> {
     /// A thread that was taken out stops where its burst paused.
     pub(crate) fn stop(&mut self, thread: u16, pause: Pause<'m>)
         requires taken { IsTaken self.old.crew thread }
-        requires same_module { module_of self.old.«module».now ≡ self.old.store.program }
-        requires stands { StandsAt self.old.store.program pause }
-        ensures state { state_of self.new ≡ stopped (state_of self.old) thread (stop_of pause.entry) }
+        requires same_module { module_of self.old.«module».now ≡ self.old.store.«module» }
+        requires stands { StandsAt self.old.store.«module» pause }
+        ensures state { state_of self.new ≡ stopped (state_of self.old) thread (pause_halt pause.entry) }
         ensures same_module { self.new.«module» ≡ self.old.«module» }
         ensures store { self.new.store ≡ self.old.store }
     {

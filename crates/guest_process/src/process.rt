@@ -5,7 +5,7 @@ ghost use Rattle.lib_calls.specs.Answer.{Answer};
 ghost use Rattle.lib_calls.specs.Entry.{entry_of};
 ghost use Rattle.wasm_types.specs.Modules.{module_of};
 ghost use Rattle.wasm_step.specs.Suits.{Suits};
-ghost use Rattle.wasm_step.specs.Start.{start as store_of};
+ghost use Rattle.wasm_step.specs.Start.{first_store};
 ghost use Rattle.guest_process.specs.Answers.{need};
 ghost use Rattle.guest_process.specs.Fits.{StateFits};
 ghost use Rattle.guest_process.specs.GoesOn.{handler as handler_of};
@@ -67,7 +67,7 @@ impl<'m> Process<'m> {
         requires count { count ≤ 16 }
         ensures ok { IfOk result (λ p. start (module_of «module».now) who count ≡ Some p) }
         ensures bad { (result ≡ Err StartError.BadSegment) → start (module_of «module».now) who count ≡ None }
-        ensures sure { store_of (module_of «module».now) ≡ None → result ≡ Err StartError.BadSegment }
+        ensures sure { first_store (module_of «module».now) ≡ None → result ≡ Err StartError.BadSegment }
     {
         match Store::start(alloc, module) {
             Ok(store) => match begin(alloc, module, who, count, store) {
@@ -219,7 +219,7 @@ fn begin<'m>(
 ) -> Result<Process<'m>, AllocError>
     requires who { who < count }
     requires count { count ≤ 16 }
-    requires store { store_of (module_of «module».now) ≡ Some store }
+    requires store { first_store (module_of «module».now) ≡ Some store }
     requires suits { Suits store }
     ensures { IfOk result (λ p. start (module_of «module».now) who count ≡ Some p) }
 {

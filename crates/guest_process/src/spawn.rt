@@ -32,7 +32,7 @@ impl<'m> Parts<'m> {
     /// that may be.
     #[tactic(auto, using(crate::proofs::Spawning::found_own, crate::proofs::Spawning::has_room, crate::proofs::Spawning::spawned_so, crate::proofs::Spawning::none_made))]
     pub(crate) fn spawn(&mut self, index: u32, arg: u32) -> Result<(), AllocError>
-        requires same_module { module_of self.old.«module».now ≡ self.old.store.program }
+        requires same_module { module_of self.old.«module».now ≡ self.old.store.«module» }
         ensures state { OnOk result (state_of self.new ≡ after_need (spawned (state_of self.old) index arg) (state_of self.old)) }
         ensures same_module { OnOk result (self.new.«module» ≡ self.old.«module») }
         ensures store { OnOk result (self.new.store ≡ self.old.store) }
@@ -58,7 +58,7 @@ impl<'m> Parts<'m> {
     #[tactic(auto, using(crate::proofs::Spawning::begun))]
     fn begin(&mut self, func: u32, arg: u32) -> Result<(), AllocError>
         requires room { length self.old.crew.threads < 64 }
-        requires same_module { module_of self.old.«module».now ≡ self.old.store.program }
+        requires same_module { module_of self.old.«module».now ≡ self.old.store.«module» }
         requires handler { IsHandler (module_of self.old.«module».now) func }
         ensures state { OnOk result (state_of self.new ≡ after_need (spawned_at (state_of self.old) arg (Some func)) (state_of self.old)) }
         ensures same_module { OnOk result (self.new.«module» ≡ self.old.«module») }

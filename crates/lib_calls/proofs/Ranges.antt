@@ -3,7 +3,7 @@ use Rattle.std.proofs.Common.{◌≡◌, ℕ, ◌+◌, ◌-◌, ◌<◌, ◌≤�
 use Rattle.std.specs.Int.{w32, to_le_bytes}
 use Rattle.std.proofs.lemmas.Bool.{leb-true}
 use Rattle.std.proofs.lemmas.List.{drop-drop, drop-take, length-take-le, take-append-drop, take-take, take_all}
-use Rattle.guest_memory.specs.Memory.{Memory, WritesPrefix, put, stretch, written as with_piece}
+use Rattle.guest_memory.specs.Memory.{Memory, WritesPrefix, put_piece, stretch, with_bytes}
 use Rattle.lib_calls.specs.declared.entry.Call.{Call}
 use Rattle.lib_calls.specs.Answer.{Answer}
 use Rattle.lib_calls.specs.Effects.{WritesPart, is_range, sender_of}
@@ -46,7 +46,7 @@ read_more bytes addr len count old part new inside more so_far is put =
 -- ---- writing
 
 -- nothing that is written leaves all as it was
-put-nothing : (bytes : List ℕ) (addr : ℕ) → put bytes addr [] ≡ bytes
+put-nothing : (bytes : List ℕ) (addr : ℕ) → put_piece bytes addr [] ≡ bytes
 put-nothing bytes addr =
     let here : addr + 0 ≡ addr = omega arith in
     rw here (take-append-drop addr bytes)
@@ -60,10 +60,10 @@ pub part_of_payload : (call : Call) (a : Answer) (old new : Memory) → WritesPr
 part_of_payload call a old new h = record {
   payload = h.count;
   sender = 0;
-  after = h.after ∙ ap (λ (t : List ℕ). record old { bytes = t }) (sym (put-nothing (put old.bytes call.a0 (take h.count a.incoming)) call.a2));
+  after = h.after ∙ ap (λ (t : List ℕ). record old { bytes = t }) (sym (put-nothing (put_piece old.bytes call.a0 (take h.count a.incoming)) call.a2));
 }
 
-pub part_of_sender : (call : Call) (a : Answer) (old middle new : Memory) (sender : List ℕ) → middle ≡ with_piece old call.a0 a.incoming → sender ≡ to_le_bytes w32 (sender_of a.tag) → WritesPrefix middle new call.a2 sender → WritesPart call a old new
+pub part_of_sender : (call : Call) (a : Answer) (old middle new : Memory) (sender : List ℕ) → middle ≡ with_bytes old call.a0 a.incoming → sender ≡ to_le_bytes w32 (sender_of a.tag) → WritesPrefix middle new call.a2 sender → WritesPart call a old new
 part_of_sender call a old middle new sender first is h = record {
   payload = length a.incoming;
   sender = h.count;

@@ -6,7 +6,7 @@ use Rattle.std.specs.Option.{option_map_or}
 use Rattle.call_table.specs.Table.{kind_numbered}
 use Rattle.call_table.specs.declared.kind.Kind.{Kind}
 use Rattle.call_table.specs.declared.kind.Kind.TheVariants.{Print, Random, Send, Recv, TryRecv}
-use Rattle.guest_memory.specs.Memory.{Memory, is_inside, bytes_at, written as with_piece}
+use Rattle.guest_memory.specs.Memory.{Memory, is_inside, bytes_from, with_bytes}
 use Rattle.lamport_tag.specs.declared.Tag.{Tag}
 use Rattle.lib_calls.specs.declared.entry.Call.{Call}
 use Rattle.lib_calls.specs.Answer.{Answer}
@@ -39,7 +39,7 @@ is_good call memory = option_map_or (λ kind. has_good kind call memory) (kind_n
 
 -- the bytes of a range that a call may name, and none of another
 abbrev pub named : Memory → ℕ → ℕ → List ℕ
-named memory addr len = if is_range memory addr len then bytes_at memory addr len else []
+named memory addr len = if is_range memory addr len then bytes_from memory addr len else []
 
 -- print and send send out the bytes that they name, and nothing where they are bad
 abbrev pub sent_out : Kind → Call → Memory → List ℕ
@@ -80,11 +80,11 @@ sender_of (Some tag) = tag.sender
 
 -- the bytes that came in stand where the call named them
 abbrev pub filled : Call → Answer → Memory → Memory
-filled call a memory = with_piece memory call.a0 a.incoming
+filled call a memory = with_bytes memory call.a0 a.incoming
 
 -- these of the bytes that came in, and then these of the sender's, stand where the call named them
 abbrev pub taken : Call → List ℕ → List ℕ → Memory → Memory
-taken call payload sender memory = with_piece (with_piece memory call.a0 payload) call.a2 sender
+taken call payload sender memory = with_bytes (with_bytes memory call.a0 payload) call.a2 sender
 
 -- the payload, and then the sender in 4 bytes, the lowest first; where they overlap, the sender stands
 abbrev pub received : Call → Answer → Memory → Memory

@@ -1,6 +1,6 @@
 // What the answer to a call writes to the guest's memory.
 ghost use Rattle.std.specs.Prelude.{◌≡◌, ◌+◌, ◌≤◌, length, OnOk, OnErr, IsTrue};
-ghost use Rattle.guest_memory.specs.Memory.{WritesPrefix, written as with_piece};
+ghost use Rattle.guest_memory.specs.Memory.{WritesPrefix, with_bytes};
 ghost use Rattle.lib_calls.specs.Answer.{answer_of};
 ghost use Rattle.lib_calls.specs.Entry.{entry_of};
 ghost use Rattle.lib_calls.specs.Effects.{WritesPart, brings, filled, has_good, is_answer, put_in, received, sender_of as sender_number, written};
@@ -85,7 +85,7 @@ fn sender_of(tag: Option<Tag>) -> u32
 // Writes a piece that lies in the memory.
 fn put(memory: &mut Memory, addr: u64, piece: &[u8]) -> Result<(), AllocError>
     requires { addr + length piece.now ≤ length memory.old.bytes }
-    ensures ok { OnOk result (memory.new ≡ with_piece memory.old addr piece.now) }
+    ensures ok { OnOk result (memory.new ≡ with_bytes memory.old addr piece.now) }
     ensures err { OnErr result (WritesPrefix memory.old memory.new addr piece.now) }
     ensures max { memory.new.max ≡ memory.old.max }
 {

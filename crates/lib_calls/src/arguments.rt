@@ -1,6 +1,6 @@
 // The bytes of the guest's memory that a call names.
 ghost use Rattle.std.specs.Prelude.{◌≡◌, ◌+◌, ◌^◌, ◌≤◌, bytes_eq, length, IfOk, IsTrue, []};
-ghost use Rattle.guest_memory.specs.Memory.{bytes_at, is_inside as is_inside_of};
+ghost use Rattle.guest_memory.specs.Memory.{bytes_from, is_inside as is_inside_of};
 ghost use Rattle.lib_calls.specs.Effects.{has_good, is_good, is_range as is_range_of, named, outgoing_of, sent_out};
 
 use crate::entry::Call;
@@ -97,7 +97,7 @@ fn named(alloc: Global, memory: &Memory, addr: u64, len: u64) -> Result<Bytes, A
 pub(crate) fn read(alloc: Global, memory: &Memory, addr: u64, len: u64) -> Result<Bytes, AllocError>
     requires inside { addr + len ≤ length memory.now.bytes }
     requires small { addr + len ≤ 2 ^ 24 }
-    ensures { IfOk result (λ bytes. bytes ≡ bytes_at memory.now addr len) }
+    ensures { IfOk result (λ bytes. bytes ≡ bytes_from memory.now addr len) }
 {
     let mut bytes = Bytes::new(alloc);
     let mut count = 0;
@@ -158,7 +158,7 @@ fn is_named(bytes: &[u8], memory: &Memory, addr: u64, len: u64) -> bool
 fn stands_at(bytes: &[u8], memory: &Memory, addr: u64) -> bool
     requires inside { addr + length bytes.now ≤ length memory.now.bytes }
     requires small { addr + length bytes.now ≤ 2 ^ 24 }
-    ensures { result ≡ bytes_eq bytes.now (bytes_at memory.now addr (length bytes.now)) }
+    ensures { result ≡ bytes_eq bytes.now (bytes_from memory.now addr (length bytes.now)) }
 {
     let mut count = 0;
     while count < bytes.len() {

@@ -1,6 +1,6 @@
 // Copies of a guest's memory.
 ghost use Rattle.std.specs.Prelude.{◌≡◌, IfOk, Some, None, if◌then◌else◌};
-ghost use Rattle.guest_memory.specs.Memory.{bytes_at, is_inside as is_inside_of};
+ghost use Rattle.guest_memory.specs.Memory.{bytes_from, is_inside as is_inside_of};
 
 use crate::arguments::{PAGE, is_inside, read};
 use fri_bytes::Bytes;
@@ -14,7 +14,7 @@ pub fn memory_part(
     addr: u64,
     len: u64,
 ) -> Result<Option<Bytes>, AllocError>
-    ensures { IfOk result (λ found. found ≡ (if is_inside_of memory.now addr len then Some (bytes_at memory.now addr len) else None)) }
+    ensures { IfOk result (λ found. found ≡ (if is_inside_of memory.now addr len then Some (bytes_from memory.now addr len) else None)) }
 {
     if !is_inside(memory, addr, len) {
         return Ok(None);

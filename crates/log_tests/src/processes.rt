@@ -33,7 +33,7 @@ const LOCK: Call = Call {
     a2: 0,
 };
 
-fn program(alloc: Global) -> Result<ValidModule, Fail> {
+fn module(alloc: Global) -> Result<ValidModule, Fail> {
     let decoded = decode(alloc, GUEST)?;
     Ok(validate(alloc, decoded)?)
 }
@@ -109,8 +109,8 @@ fn assert_copied<'m>(
 
 #[test]
 fn a_process_and_its_copies_go_from_call_to_call(rt: HostRuntime) -> Result<(), Fail> {
-    let program = program(rt.alloc())?;
-    let mut process = Process::start(rt.alloc(), &program, 1, 3)?;
+    let module = module(rt.alloc())?;
+    let mut process = Process::start(rt.alloc(), &module, 1, 3)?;
     for event in EVENTS {
         process = assert_copied(&rt, process, event)?;
     }

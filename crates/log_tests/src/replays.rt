@@ -17,20 +17,20 @@ const GUEST: &[u8] =
 const LOG: &[u8] = b"LLOG\x01\0\0\0\x01\0\0\0\0\0\0\0\x01a\
       \x14\0\0\0\x01\0\0\0\0\0\0\0\0\0\0\0\0\0\0\0\0\0\0\0";
 
-fn program(alloc: Global) -> Result<ValidModule, Fail> {
+fn module(alloc: Global) -> Result<ValidModule, Fail> {
     let decoded = decode(alloc, GUEST)?;
     Ok(validate(alloc, decoded)?)
 }
 
 fn begin<'m, 'a>(
     alloc: Global,
-    program: &'m ValidModule,
+    module: &'m ValidModule,
     bytes: &'a [u8],
 ) -> Result<Replayer<'m, 'a>, Fail> {
     counting();
     let log = LogView::begin(bytes)?;
     let head = log.head();
-    let process = Process::start(alloc, program, head.process, head.count)?;
+    let process = Process::start(alloc, module, head.process, head.count)?;
     Ok(Replayer::begin(process, log))
 }
 
@@ -44,8 +44,8 @@ fn kind_of(turn: Turn<'_>) -> Option<u8> {
 
 #[test]
 fn a_copy_takes_the_same_turn(rt: HostRuntime) -> Result<(), Fail> {
-    let program = program(rt.alloc())?;
-    let replayer = begin(rt.alloc(), &program, LOG)?;
+    let module = module(rt.alloc())?;
+    let replayer = begin(rt.alloc(), &module, LOG)?;
     let copy = replayer.copy(rt.alloc())?;
     assert_eq!(rt; kind_of(copy.peek()), Some(0));
     assert_eq!(rt; copy.left(), replayer.left());

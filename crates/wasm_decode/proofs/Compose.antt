@@ -3,7 +3,7 @@
 use Rattle.std.proofs.Common.{◌≡◌, ℕ, cond, eqb, inl, inr, List, [], ◌∷◌, ◌++◌, Option, Some, None, refl, sym, ap, ◌∙◌, subst, append_assoc}
 use Rattle.std.proofs.lemmas.Bool.{eqb-true, eq-eqb}
 use Rattle.fri_bytes.specs.Reading.{Reads, Begins, byte_at}
-use Rattle.wasm_decode.specs.Values.{Reader, ◌>>=◌, tag_at}
+use Rattle.wasm_decode.specs.Values.{Reader, ◌>>=◌, exact_byte_at}
 use Rattle.wasm_decode.proofs.Steps.{chosen, bind_some, some_is, kept, joined, joined_byte, joined_three, byte_takes}
 
 -- another way to say the same spellings
@@ -71,26 +71,26 @@ three_read {A} {B} {C} {D} P Q S R p q r make first second third to from = recor
 
 -- ---- the byte that says what follows
 
-pub tag_takes : (tag : ℕ) (bytes rest : List ℕ) → tag_at tag bytes ≡ Some rest → bytes ≡ tag ∷ rest
-unfolding tag_at
+pub tag_takes : (tag : ℕ) (bytes rest : List ℕ) → exact_byte_at tag bytes ≡ Some rest → bytes ≡ tag ∷ rest
+unfolding exact_byte_at
 tag_takes tag bytes rest e =
     let b = bind_some _ _ _ e in
     let g = kept _ _ _ b.2 in
     byte_takes bytes b.0.0 b.0.1 b.1 ∙ ap (λ (k : ℕ). k ∷ b.0.1) (eqb-true b.0.0 tag g.0) ∙ ap (λ (r : List ℕ). tag ∷ r) (some_is b.0.1 rest g.1)
 
-pub tag_again : (tag : ℕ) (rest : List ℕ) → tag_at tag (tag ∷ rest) ≡ Some rest
-unfolding tag_at
+pub tag_again : (tag : ℕ) (rest : List ℕ) → exact_byte_at tag (tag ∷ rest) ≡ Some rest
+unfolding exact_byte_at
 tag_again tag rest = rw (eq-eqb tag tag refl) refl
 
 -- a value behind a byte that has to stand there
-pub tag_read : {A : Type 0} (tag : ℕ) (P : List ℕ → A → Type 0) (p : Reader A) → Reads P p → Reads (λ bytes x. (behind : List ℕ) × (bytes ≡ tag ∷ behind) × P behind x) (λ bytes. tag_at tag bytes >>= λ behind. p behind)
+pub tag_read : {A : Type 0} (tag : ℕ) (P : List ℕ → A → Type 0) (p : Reader A) → Reads P p → Reads (λ bytes x. (behind : List ℕ) × (bytes ≡ tag ∷ behind) × P behind x) (λ bytes. exact_byte_at tag bytes >>= λ behind. p behind)
 tag_read {A} tag P p laws = record {
   takes = λ bytes x rest e.
       let a = bind_some _ _ _ e in
       let one = laws.takes a.0 x rest a.2 in
       (tag ∷ one.0, joined_byte bytes tag a.0 one.0 rest (tag_takes tag bytes a.0 a.1) one.1, (one.0, refl, one.2));
   again = λ s x rest h.
-      let front : tag_at tag (s ++ rest) ≡ Some (h.0 ++ rest) = ap (λ (t : List ℕ). tag_at tag (t ++ rest)) h.1 ∙ tag_again tag (h.0 ++ rest) in
+      let front : exact_byte_at tag (s ++ rest) ≡ Some (h.0 ++ rest) = ap (λ (t : List ℕ). exact_byte_at tag (t ++ rest)) h.1 ∙ tag_again tag (h.0 ++ rest) in
       rw front (laws.again h.0 x rest h.2);
 }
 

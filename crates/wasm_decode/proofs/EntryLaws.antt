@@ -8,29 +8,29 @@ use Rattle.wasm_types.specs.declared.modules.ImportDesc.TheVariants as imported
 use Rattle.wasm_types.specs.declared.modules.ExportDesc.{ExportDesc}
 use Rattle.wasm_types.specs.declared.modules.ExportDesc.TheVariants as exported
 use Rattle.wasm_types.specs.Modules.{Func}
-use Rattle.wasm_decode.specs.Grammar.{IsU32, IsVector, IsBytes, IsName, IsSized, IsValType, IsLimits, IsTable, IsGlobalType, IsExpr, IsImportDesc, IsImport, IsGlobal, IsExportDesc, IsExport, IsStart, IsElem, IsLocals, IsFunc, AreFuncs, IsCode, IsSegment}
-use Rattle.wasm_decode.specs.Values.{Reader, ◌>>=◌, u32_at, vector_at, bytes_at, name_at, all_of, sized_at, val_type_at, limits_at, table_at, global_type_at}
-use Rattle.wasm_decode.specs.Instrs.{expr_at}
-use Rattle.wasm_decode.specs.Entries.{imported_at, import_desc_at, import_at, exported_of, export_desc_at, export_at, global_at, start_at, elem_at, segment_at, locals_at, are_few, func_at, funcs_at, code_at}
+use Rattle.wasm_decode.specs.Grammar.{IsU32, IsVector, IsBytes, IsName, IsSized, IsValType, IsLimits, IsTable, IsGlobalType, IsExpression, IsImportDesc, IsImport, IsGlobal, IsExportDesc, IsExport, IsStart, IsElem, IsLocals, IsFunc, AreFuncs, IsCode, IsSegment}
+use Rattle.wasm_decode.specs.Values.{Reader, ◌>>=◌, u32_at, vector_at, byte_vector_at, utf8_name_at, whole_read, sized_at, val_type_at, limits_at, table_at, global_type_at}
+use Rattle.wasm_decode.specs.Instrs.{expression_at}
+use Rattle.wasm_decode.specs.Entries.{imported_at, import_desc_at, import_at, exported_of, export_desc_at, export_at, global_def_at, start_at, elem_at, segment_at, locals_at, are_few, func_at, funcs_at, code_at}
 use Rattle.wasm_decode.proofs.Steps.{bind_some, some_is, kept, joined}
 use Rattle.wasm_decode.proofs.Compose.{Behind, AgainBehind, one_read, two_read, three_read, byte_read, case_takes, last_takes, one_takes, value_takes}
 use Rattle.wasm_decode.proofs.ValueLaws.{u32_reads, vector_reads, bytes_reads, name_reads, all_reads, sized_reads, val_type_reads, limits_reads, table_reads, global_type_reads}
 use Rattle.wasm_decode.proofs.InstrLaws.{expr_reads}
 
-exported_is : (kind index : ℕ) (d : ExportDesc) (s : List ℕ) → exported_of kind index ≡ Some d → IsU32 s index → IsExportDesc (kind ∷ s) d
+exported_is : (byte index : ℕ) (d : ExportDesc) (s : List ℕ) → exported_of byte index ≡ Some d → IsU32 s index → IsExportDesc (byte ∷ s) d
 unfolding exported_of
-exported_is kind index d s e h =
+exported_is byte index d s e h =
     let P : ℕ → ExportDesc → Type 0 = λ k v. IsExportDesc (k ∷ s) v in
-    value_takes P 0x00 kind (exported.Func index) d _ e (s, refl, h) (λ e1.
-    value_takes P 0x01 kind (exported.Table index) d _ e1 (s, refl, h) (λ e2.
-    value_takes P 0x02 kind (exported.Memory index) d _ e2 (s, refl, h) (λ e3.
-    value_takes P 0x03 kind (exported.Global index) d _ e3 (s, refl, h) (λ none. absurd cc))))
+    value_takes P 0x00 byte (exported.Func index) d _ e (s, refl, h) (λ e1.
+    value_takes P 0x01 byte (exported.Table index) d _ e1 (s, refl, h) (λ e2.
+    value_takes P 0x02 byte (exported.Memory index) d _ e2 (s, refl, h) (λ e3.
+    value_takes P 0x03 byte (exported.Global index) d _ e3 (s, refl, h) (λ none. absurd cc))))
 
--- what is exported, behind the byte that says its kind
+-- what is exported, behind the byte that says what it is
 unfoldable exported_at : ℕ → Reader ExportDesc
-exported_at kind bytes = do
+exported_at byte bytes = do
   index ← u32_at bytes
-  desc ← exported_of kind index.0
+  desc ← exported_of byte index.0
   Some (desc, index.1)
 
 start_is : (s : List ℕ) (x : Option ℕ) → IsStart s x → (n : ℕ) × IsU32 s n × (x ≡ Some n)
@@ -43,21 +43,21 @@ module _ (readers : ExactReaders) where
 
   -- ---- imports and exports
 
-  imported_takes : (kind : ℕ) (bytes : List ℕ) (d : ImportDesc) (rest : List ℕ) → imported_at kind bytes ≡ Some (d, rest) → Behind IsImportDesc kind bytes d rest
+  imported_takes : (byte : ℕ) (bytes : List ℕ) (d : ImportDesc) (rest : List ℕ) → imported_at byte bytes ≡ Some (d, rest) → Behind IsImportDesc byte bytes d rest
   unfolding imported_at
-  imported_takes kind bytes d rest e =
+  imported_takes byte bytes d rest e =
       let R = IsImportDesc in
-      case_takes R 0x00 kind bytes d rest _ _ e (λ here. one_takes R 0x00 bytes d rest IsU32 u32_at imported.Func (u32_reads readers) here (λ s n h. (s, refl, h))) (λ e1.
-      case_takes R 0x01 kind bytes d rest _ _ e1 (λ here. one_takes R 0x01 bytes d rest IsTable table_at imported.Table (table_reads readers) here (λ s l h. (s, refl, h))) (λ e2.
-      case_takes R 0x02 kind bytes d rest _ _ e2 (λ here. one_takes R 0x02 bytes d rest IsLimits limits_at imported.Memory (limits_reads readers) here (λ s l h. (s, refl, h))) (λ e3.
-      last_takes R 0x03 kind bytes d rest _ e3 (λ here. one_takes R 0x03 bytes d rest IsGlobalType global_type_at (λ t. imported.Global t.0 t.1) global_type_reads here (λ s t h. (s, refl, h))))))
+      case_takes R 0x00 byte bytes d rest _ _ e (λ here. one_takes R 0x00 bytes d rest IsU32 u32_at imported.Func (u32_reads readers) here (λ s n h. (s, refl, h))) (λ e1.
+      case_takes R 0x01 byte bytes d rest _ _ e1 (λ here. one_takes R 0x01 bytes d rest IsTable table_at imported.Table (table_reads readers) here (λ s l h. (s, refl, h))) (λ e2.
+      case_takes R 0x02 byte bytes d rest _ _ e2 (λ here. one_takes R 0x02 bytes d rest IsLimits limits_at imported.Memory (limits_reads readers) here (λ s l h. (s, refl, h))) (λ e3.
+      last_takes R 0x03 byte bytes d rest _ e3 (λ here. one_takes R 0x03 bytes d rest IsGlobalType global_type_at (λ t. imported.Global t.0 t.1) global_type_reads here (λ s t h. (s, refl, h))))))
 
   imported_again : (s : List ℕ) (d : ImportDesc) → IsImportDesc s d → AgainBehind imported_at s d
   unfolding imported_at
   imported_again s (imported.Func n) h = record { first = 0x00; behind = h.0; parts = h.1; read = λ rest. rw ((u32_reads readers).again h.0 n rest h.2) refl }
   imported_again s (imported.Table l) h = record { first = 0x01; behind = h.0; parts = h.1; read = λ rest. rw ((table_reads readers).again h.0 l rest h.2) refl }
   imported_again s (imported.Memory l) h = record { first = 0x02; behind = h.0; parts = h.1; read = λ rest. rw ((limits_reads readers).again h.0 l rest h.2) refl }
-  imported_again s (imported.Global kind mutable) h = record { first = 0x03; behind = h.0; parts = h.1; read = λ rest. rw (global_type_reads.again h.0 (kind, mutable) rest h.2) refl }
+  imported_again s (imported.Global value_type mutable) h = record { first = 0x03; behind = h.0; parts = h.1; read = λ rest. rw (global_type_reads.again h.0 (value_type, mutable) rest h.2) refl }
 
   import_desc_reads : Reads IsImportDesc import_desc_at
   unfolding import_desc_at
@@ -66,17 +66,17 @@ module _ (readers : ExactReaders) where
   pub import_reads : Reads IsImport import_at
   unfolding import_at
   import_reads =
-      three_read IsName IsName IsImportDesc IsImport name_at name_at import_desc_at (λ front name desc. record { «module» = front; name = name; desc = desc }) (name_reads readers) (name_reads readers) import_desc_reads
+      three_read IsName IsName IsImportDesc IsImport utf8_name_at utf8_name_at import_desc_at (λ front name desc. record { «module» = front; name = name; desc = desc }) (name_reads readers) (name_reads readers) import_desc_reads
       (λ a b c x y z p q r. (a, b, c, refl, p, q, r)) (λ s i h. (h.0, h.1, h.2, i.«module», i.name, i.desc, h.3, h.4, h.5, h.6, refl))
 
-  exported_takes : (kind : ℕ) (bytes : List ℕ) (d : ExportDesc) (rest : List ℕ) → exported_at kind bytes ≡ Some (d, rest) → Behind IsExportDesc kind bytes d rest
+  exported_takes : (byte : ℕ) (bytes : List ℕ) (d : ExportDesc) (rest : List ℕ) → exported_at byte bytes ≡ Some (d, rest) → Behind IsExportDesc byte bytes d rest
   unfolding exported_at
-  exported_takes kind bytes d rest e =
+  exported_takes byte bytes d rest e =
       let a = bind_some _ _ _ e in
       let b = bind_some _ _ _ a.2 in
       let number = (u32_reads readers).takes bytes a.0.0 a.0.1 a.1 in
-      subst (λ (y : ExportDesc × List ℕ). Behind IsExportDesc kind bytes y.0 y.1) (some_is (b.0, a.0.1) (d, rest) b.2)
-      (number.0, number.1, exported_is kind a.0.0 b.0 number.0 b.1 number.2)
+      subst (λ (y : ExportDesc × List ℕ). Behind IsExportDesc byte bytes y.0 y.1) (some_is (b.0, a.0.1) (d, rest) b.2)
+      (number.0, number.1, exported_is byte a.0.0 b.0 number.0 b.1 number.2)
 
   exported_again : (s : List ℕ) (d : ExportDesc) → IsExportDesc s d → AgainBehind exported_at s d
   unfolding exported_at exported_of
@@ -92,16 +92,16 @@ module _ (readers : ExactReaders) where
   pub export_reads : Reads IsExport export_at
   unfolding export_at
   export_reads =
-      two_read IsName IsExportDesc IsExport name_at export_desc_at (λ name desc. record { name = name; desc = desc }) (name_reads readers) export_desc_reads
+      two_read IsName IsExportDesc IsExport utf8_name_at export_desc_at (λ name desc. record { name = name; desc = desc }) (name_reads readers) export_desc_reads
       (λ a b x y p q. (a, b, refl, p, q)) (λ s e h. (h.0, h.1, e.name, e.desc, h.2, h.3, h.4, refl))
 
   -- ---- globals, the start function and segments
 
-  pub global_reads : Reads IsGlobal global_at
-  unfolding global_at
+  pub global_reads : Reads IsGlobal global_def_at
+  unfolding global_def_at
   global_reads =
-      two_read IsGlobalType IsExpr IsGlobal global_type_at expr_at (λ type init. record { kind = type.0; mutable = type.1; init = init }) global_type_reads (expr_reads readers)
-      (λ a b x y p q. (a, b, refl, p, q)) (λ s g h. (h.0, h.1, (g.kind, g.mutable), g.init, h.2, h.3, h.4, refl))
+      two_read IsGlobalType IsExpression IsGlobal global_type_at expression_at (λ type init. record { value_type = type.0; mutable = type.1; init = init }) global_type_reads (expr_reads readers)
+      (λ a b x y p q. (a, b, refl, p, q)) (λ s g h. (h.0, h.1, (g.value_type, g.mutable), g.init, h.2, h.3, h.4, refl))
 
   pub start_reads : Reads IsStart start_at
   unfolding start_at
@@ -110,13 +110,13 @@ module _ (readers : ExactReaders) where
   pub elem_reads : Reads IsElem elem_at
   unfolding elem_at
   elem_reads =
-      three_read IsU32 IsExpr (IsVector IsU32) IsElem u32_at expr_at (vector_at u32_at) (λ table offset funcs. record { table = table; offset = offset; funcs = funcs }) (u32_reads readers) (expr_reads readers) indices_read
+      three_read IsU32 IsExpression (IsVector IsU32) IsElem u32_at expression_at (vector_at u32_at) (λ table offset funcs. record { table = table; offset = offset; funcs = funcs }) (u32_reads readers) (expr_reads readers) indices_read
       (λ a b c x y z p q r. (a, b, c, refl, p, q, r)) (λ s e h. (h.0, h.1, h.2, e.table, e.offset, e.funcs, h.3, h.4, h.5, h.6, refl))
 
   pub segment_reads : Reads IsSegment segment_at
   unfolding segment_at
   segment_reads =
-      three_read IsU32 IsExpr IsBytes IsSegment u32_at expr_at bytes_at (λ memory offset contents. record { memory = memory; offset = offset; bytes = contents }) (u32_reads readers) (expr_reads readers) (bytes_reads readers)
+      three_read IsU32 IsExpression IsBytes IsSegment u32_at expression_at byte_vector_at (λ memory offset contents. record { memory = memory; offset = offset; bytes = contents }) (u32_reads readers) (expr_reads readers) (bytes_reads readers)
       (λ a b c x y z p q r. (a, b, c, refl, p, q, r)) (λ s e h. (h.0, h.1, h.2, e.memory, e.offset, e.bytes, h.3, h.4, h.5, h.6, refl))
 
   -- ---- functions
@@ -149,8 +149,8 @@ module _ (readers : ExactReaders) where
         rw (front, few, (expr_reads readers).again h.1 f.body rest h.4) (ap (λ (k : ℕ). Some (record f { type_index = k }, rest)) (sym h.6));
   }
 
-  sized_func_reads : (index : ℕ) → Reads (IsSized (IsFunc index)) (sized_at (all_of (func_at index)))
-  sized_func_reads index = sized_reads readers (IsFunc index) (all_of (func_at index)) (all_reads (IsFunc index) (func_at index) (func_reads index))
+  sized_func_reads : (index : ℕ) → Reads (IsSized (IsFunc index)) (sized_at (whole_read (func_at index)))
+  sized_func_reads index = sized_reads readers (IsFunc index) (whole_read (func_at index)) (all_reads (IsFunc index) (func_at index) (func_reads index))
 
   funcs_take : (indices bytes : List ℕ) (fs : List Func) (rest : List ℕ) → funcs_at indices bytes ≡ Some (fs, rest) → Begins (AreFuncs indices) bytes fs rest
   unfolding funcs_at
@@ -169,7 +169,7 @@ module _ (readers : ExactReaders) where
   funcs_again [] s (f ∷ fs) rest h = absurd h
   funcs_again (index ∷ indices) s [] rest h = absurd h
   funcs_again (index ∷ indices) s (f ∷ fs) rest (first, others, parts, one, more) =
-      let front : sized_at (all_of (func_at index)) (s ++ rest) ≡ Some (f, others ++ rest) = ap (sized_at (all_of (func_at index))) (ap (λ (t : List ℕ). t ++ rest) parts ∙ append_assoc first others rest) ∙ (sized_func_reads index).again first f (others ++ rest) one in
+      let front : sized_at (whole_read (func_at index)) (s ++ rest) ≡ Some (f, others ++ rest) = ap (sized_at (whole_read (func_at index))) (ap (λ (t : List ℕ). t ++ rest) parts ∙ append_assoc first others rest) ∙ (sized_func_reads index).again first f (others ++ rest) one in
       rw (front, funcs_again indices others fs rest more) refl
 
   pub code_reads : (indices : List ℕ) → Reads (IsCode indices) (code_at indices)

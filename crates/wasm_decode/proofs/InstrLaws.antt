@@ -5,9 +5,9 @@ use Rattle.fri_bytes.specs.Laws.{ExactReaders}
 use Rattle.fri_bytes.specs.Reading.{Reads, Begins}
 use Rattle.wasm_types.specs.declared.code.ValType.{ValType}
 use Rattle.wasm_types.specs.Code.{Tree, Trees, Unreachable, Nop, Block, Loop, If, Br, BrIf, BrTable, Return, CallFunc, CallIndirect, DropTop, Select, LocalGet, LocalSet, LocalTee, GlobalGet, GlobalSet, Load, Store, MemorySize, MemoryGrow, ConstI32, ConstI64, ConstF32, ConstF64, Op, End, Then}
-use Rattle.wasm_decode.specs.Grammar.{IsU32, IsI32, IsI64, IsF32, IsF64, IsVector, IsResultType, IsMemArg, IsInstr, IsInstrs, NestsWithin, AllNestWithin, IsExpr}
-use Rattle.wasm_decode.specs.Values.{u32_at, i32_at, i64_at, f32_at, f64_at, tag_at, vector_at, result_type_at}
-use Rattle.wasm_decode.specs.Instrs.{Ended, whole_at, block_at, if_at, zero_at, br_table_at, indirect_at, access_at, control_at, variable_at, memory_at, numeric_at, plain_at, instr_at, is_end, sequence_at, levels_at, expr_at}
+use Rattle.wasm_decode.specs.Grammar.{IsU32, IsI32, IsI64, IsF32, IsF64, IsVector, IsResultType, IsMemArg, IsInstr, IsInstrs, NestsWithin, AllNestWithin, IsExpression}
+use Rattle.wasm_decode.specs.Values.{u32_at, i32_at, i64_at, f32_at, f64_at, exact_byte_at, vector_at, result_type_at}
+use Rattle.wasm_decode.specs.Instrs.{Ended, whole_at, block_at, if_at, zero_at, br_table_at, indirect_at, access_at, control_at, variable_instr_at, memory_at, numeric_at, plain_at, instr_at, is_end_opcode, sequence_at, levels_at, expression_at}
 use Rattle.wasm_decode.proofs.Steps.{chosen, bind_some, some_is, guard_some, joined, byte_takes}
 use Rattle.wasm_decode.proofs.Compose.{Behind, two_read, tag_takes, case_takes, last_takes, alone_takes, one_takes, all_takes}
 use Rattle.wasm_decode.proofs.ValueLaws.{u32_reads, i32_reads, i64_reads, f32_reads, f64_reads, vector_reads, result_type_reads}
@@ -122,7 +122,7 @@ record Again (n : ℕ) (s : List ℕ) (t : Tree) : Type 0 where
   opcode : ℕ
   behind : List ℕ
   parts : s ≡ opcode ∷ behind
-  goes_on : is_end opcode ≡ false
+  goes_on : is_end_opcode opcode ≡ false
   read : (rest : List ℕ) → instr_at (levels_at n) opcode (behind ++ rest) ≡ Some (t, rest)
 
 if_again_one : (n : ℕ) → Reads (IsLevel n) (levels_at n) → (type w : List ℕ) (result : Option ValType) (body : Trees) (rest : List ℕ) → IsResultType type result → IsWhole n w body → if_at (levels_at n) ((type ++ w) ++ rest) ≡ Some (If result body End, rest)
@@ -137,7 +137,7 @@ if_again_two n laws type w v result a b rest spelled first second =
     ap (if_at (levels_at n)) regrouped ∙ rw (result_type_reads.again type result (w ++ (v ++ rest)) spelled, laws.again w (a, 0x05) (v ++ rest) first, (whole_reads n laws).again v b rest second) refl
 
 -- opcodes from 12 on are read by those of instructions with none inside them
-goes_on_from : (opcode : ℕ) → 0x12 ≤ opcode → is_end opcode ≡ false
+goes_on_from : (opcode : ℕ) → 0x12 ≤ opcode → is_end_opcode opcode ≡ false
 goes_on_from opcode low =
     let not_end : eqb opcode 0x0b ≡ false = ne_eqb opcode 0x0b (λ is. omega (arith, low)) in
     let not_else : eqb opcode 0x05 ≡ false = ne_eqb opcode 0x05 (λ is. omega (arith, low)) in
@@ -175,14 +175,14 @@ op_again n opcode rest low high =
 
 -- ---- instructions one after the other
 
-ends_from : (b : ℕ) → is_end b ≡ true → (b ≡ 0x0b) ⊎ (b ≡ 0x05)
+ends_from : (b : ℕ) → is_end_opcode b ≡ true → (b ≡ 0x0b) ⊎ (b ≡ 0x05)
 ends_from b e =
     elim (or_cases (eqb b 0x0b) (eqb b 0x05) e) [
       | inl p ↦ inl (eqb-true b 0x0b p)
       | inr p ↦ inr (eqb-true b 0x05 p)
     ]
 
-is_end_from : (b : ℕ) → (b ≡ 0x0b) ⊎ (b ≡ 0x05) → is_end b ≡ true
+is_end_from : (b : ℕ) → (b ≡ 0x0b) ⊎ (b ≡ 0x05) → is_end_opcode b ≡ true
 is_end_from b (inl e) = rw e refl
 is_end_from b (inr e) = rw e refl
 
@@ -230,8 +230,8 @@ module _ (readers : ExactReaders) where
       case_takes R 0x10 opcode bytes t rest _ _ e6 (λ here. one_takes R 0x10 bytes t rest IsU32 u32_at CallFunc (u32_reads readers) here (λ s k h. ((s, refl, h), tt))) (λ e7.
       last_takes R 0x11 opcode bytes t rest _ e7 (λ here. indirect_takes n bytes t rest here))))))))
 
-  variable_takes : (n opcode : ℕ) (bytes : List ℕ) (t : Tree) (rest : List ℕ) → variable_at opcode bytes ≡ Some (t, rest) → Behind (Nested n) opcode bytes t rest
-  unfolding variable_at
+  variable_takes : (n opcode : ℕ) (bytes : List ℕ) (t : Tree) (rest : List ℕ) → variable_instr_at opcode bytes ≡ Some (t, rest) → Behind (Nested n) opcode bytes t rest
+  unfolding variable_instr_at
   variable_takes n opcode bytes t rest e =
       let R = Nested n in
       case_takes R 0x1a opcode bytes t rest _ _ e (λ here. alone_takes R 0x1a bytes t rest DropTop here (refl, tt)) (λ e1.
@@ -297,7 +297,7 @@ module _ (readers : ExactReaders) where
       case_takes R 0x04 opcode bytes t rest _ _ e2 (λ here. if_takes n laws bytes t rest here) (λ e3. plain_takes n opcode bytes t rest e3)))
 
   indirect_again : (number : List ℕ) (type : ℕ) (rest : List ℕ) → IsU32 number type → indirect_at ((number ++ 0x00 ∷ []) ++ rest) ≡ Some (CallIndirect type, rest)
-  unfolding indirect_at zero_at tag_at
+  unfolding indirect_at zero_at exact_byte_at
   indirect_again number type rest h = ap indirect_at (append_assoc number (0x00 ∷ []) rest) ∙ rw ((u32_reads readers).again number type (0x00 ∷ rest) h) refl
 
   access_again : (make : ℕ → ℕ → Tree) (s : List ℕ) (align offset : ℕ) (rest : List ℕ) → IsMemArg s align offset → access_at make (s ++ rest) ≡ Some (make align offset, rest)
@@ -322,7 +322,7 @@ module _ (readers : ExactReaders) where
       ∙ rw (behind_load, no_load, from, to) (access_again (Store opcode) s align offset rest h)
 
   instr_again : (n : ℕ) → Reads (IsLevel n) (levels_at n) → (s : List ℕ) (t : Tree) → IsInstr s t → NestsWithin n t → Again n s t
-  unfolding instr_at plain_at control_at variable_at memory_at numeric_at zero_at tag_at
+  unfolding instr_at plain_at control_at variable_instr_at memory_at numeric_at zero_at exact_byte_at
   instr_again n laws s (Load opcode align offset) h nests =
       record { opcode = opcode; behind = h.0; parts = h.1; goes_on = goes_on_from opcode (omega (arith, h.2)); read = λ rest. load_again n opcode align offset h.0 rest h.2 h.3 h.4 }
   instr_again n laws s (Store opcode align offset) h nests =
@@ -393,7 +393,7 @@ module _ (readers : ExactReaders) where
   sequence_takes n laws (suc count) bytes x rest e =
       let b = bind_some _ _ _ e in
       let front = byte_takes bytes b.0.0 b.0.1 b.1 in
-      elim (chosen (is_end b.0.0) _ _ _ b.2) [
+      elim (chosen (is_end_opcode b.0.0) _ _ _ b.2) [
         | inl p ↦
             let made : Ended × List ℕ = ((End, b.0.0), b.0.1) in
             subst (λ (y : Ended × List ℕ). Sequence n bytes y.0 y.1) (some_is made (x, rest) p.1) ([], front, refl, tt, ends_from b.0.0 p.0)
@@ -439,8 +439,8 @@ module _ (readers : ExactReaders) where
         ∙ sequence_again less (levels_read less) (length ((h.inside ++ x.1 ∷ []) ++ rest)) h.inside x.0 x.1 rest room h.spelled (subst (λ (k : ℕ). AllNestWithin k x.0) same h.nests) h.ends;
   }
 
-  pub expr_reads : Reads IsExpr expr_at
-  unfolding expr_at
+  pub expr_reads : Reads IsExpression expression_at
+  unfolding expression_at
   expr_reads = record {
     takes = λ bytes body rest e.
         let b = (whole_reads 1001 (levels_read 1001)).takes bytes body rest e in

@@ -10,9 +10,9 @@ use Rattle.wasm_types.specs.Code.{Tree, Trees, Then, If, tree, trees, before}
 use Rattle.wasm_types.specs.CodeLaws.{tree-block, tree-loop, tree-if, before-append}
 use Rattle.wasm_decode.specs.declared.error.DecodeError.{DecodeError}
 use Rattle.wasm_decode.specs.declared.error.DecodeError.TheVariants as errors
-use Rattle.wasm_decode.specs.Gives.{Fails}
+use Rattle.wasm_decode.specs.Decoding.{IsErrorOf}
 use Rattle.wasm_decode.specs.Values.{Reader, ◌>>=◌, result_type_at}
-use Rattle.wasm_decode.specs.Instrs.{Ended, whole_at, block_at, if_at, instr_at, is_end, sequence_at, levels_at}
+use Rattle.wasm_decode.specs.Instrs.{Ended, whole_at, block_at, if_at, instr_at, is_end_opcode, sequence_at, levels_at}
 use Rattle.wasm_decode.proofs.Steps.{byte_takes}
 use Rattle.wasm_decode.proofs.InstrLaws.{instr_takes, levels_read}
 
@@ -65,7 +65,7 @@ unfolding levels_at
 no_levels levels bytes nothing = rw nothing refl
 
 -- no byte is left
-pub no_byte : (e : DecodeError) (n count : ℕ) (front : List Instr) (bytes : List ℕ) (total : Option (Ended × List ℕ)) → Fails e (byte_at bytes) → with_front front (sequence_at (levels_at n) count bytes) ≡ total → Fails e total
+pub no_byte : (e : DecodeError) (n count : ℕ) (front : List Instr) (bytes : List ℕ) (total : Option (Ended × List ℕ)) → IsErrorOf e (byte_at bytes) → with_front front (sequence_at (levels_at n) count bytes) ≡ total → IsErrorOf e total
 unfolding sequence_at
 no_byte errors.NoMemory n count front bytes total none so_far = tt
 no_byte errors.Malformed n zero front bytes total none so_far = sym so_far
@@ -74,7 +74,7 @@ no_byte errors.Malformed n (suc count) front bytes total none so_far =
     sym so_far ∙ nothing
 
 -- the byte that ends the instructions
-pub ended : (n count : ℕ) (front : List Instr) (bytes : List ℕ) (b : ℕ) (rest : List ℕ) (total : Option (Ended × List ℕ)) → 0 < count → byte_at bytes ≡ Some (b, rest) → is_end b ≡ true → with_front front (sequence_at (levels_at n) count bytes) ≡ total → total ≡ Some ((trees front, b), rest)
+pub ended : (n count : ℕ) (front : List Instr) (bytes : List ℕ) (b : ℕ) (rest : List ℕ) (total : Option (Ended × List ℕ)) → 0 < count → byte_at bytes ≡ Some (b, rest) → is_end_opcode b ≡ true → with_front front (sequence_at (levels_at n) count bytes) ≡ total → total ≡ Some ((trees front, b), rest)
 unfolding sequence_at
 ended n zero front bytes b rest total room byte ends so_far = absurd (omega arith)
 ended n (suc count) front bytes b rest total room byte ends so_far =
@@ -82,7 +82,7 @@ ended n (suc count) front bytes b rest total room byte ends so_far =
     sym so_far ∙ one
 
 -- no instruction stands there
-pub no_instr : (e : DecodeError) (n count : ℕ) (front : List Instr) (bytes : List ℕ) (b : ℕ) (between : List ℕ) (total : Option (Ended × List ℕ)) → byte_at bytes ≡ Some (b, between) → is_end b ≡ false → Fails e (instr_at (levels_at n) b between) → with_front front (sequence_at (levels_at n) count bytes) ≡ total → Fails e total
+pub no_instr : (e : DecodeError) (n count : ℕ) (front : List Instr) (bytes : List ℕ) (b : ℕ) (between : List ℕ) (total : Option (Ended × List ℕ)) → byte_at bytes ≡ Some (b, between) → is_end_opcode b ≡ false → IsErrorOf e (instr_at (levels_at n) b between) → with_front front (sequence_at (levels_at n) count bytes) ≡ total → IsErrorOf e total
 unfolding sequence_at
 no_instr errors.NoMemory n count front bytes b between total byte goes_on none so_far = tt
 no_instr errors.Malformed n zero front bytes b between total byte goes_on none so_far = sym so_far
@@ -95,7 +95,7 @@ regroup : (front : List Instr) (i : Instr) (read : Option (Ended × List ℕ)) �
 regroup front i None = refl
 regroup front i (Some x) = ap (λ (ts : Trees). Some ((ts, x.0.1), x.1)) (sym (before-append front (i ∷ []) x.0.0))
 
-pub more : (n count : ℕ) (front : List Instr) (bytes : List ℕ) (b : ℕ) (between : List ℕ) (i : Instr) (after : List ℕ) (total : Option (Ended × List ℕ)) → 0 < count → byte_at bytes ≡ Some (b, between) → is_end b ≡ false → instr_at (levels_at n) b between ≡ Some (tree i, after)
+pub more : (n count : ℕ) (front : List Instr) (bytes : List ℕ) (b : ℕ) (between : List ℕ) (i : Instr) (after : List ℕ) (total : Option (Ended × List ℕ)) → 0 < count → byte_at bytes ≡ Some (b, between) → is_end_opcode b ≡ false → instr_at (levels_at n) b between ≡ Some (tree i, after)
     → with_front front (sequence_at (levels_at n) count bytes) ≡ total → with_front (front ++ i ∷ []) (sequence_at (levels_at n) (count - 1) after) ≡ total
 unfolding sequence_at
 more n zero front bytes b between i after total room byte goes_on one so_far = absurd (omega arith)

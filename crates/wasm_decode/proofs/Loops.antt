@@ -4,8 +4,8 @@ use Rattle.std.proofs.lemmas.List.{append-nil}
 use Rattle.wasm_types.specs.Modules.{Func}
 use Rattle.wasm_decode.specs.declared.error.DecodeError.{DecodeError}
 use Rattle.wasm_decode.specs.declared.error.DecodeError.TheVariants as errors
-use Rattle.wasm_decode.specs.Gives.{Fails}
-use Rattle.wasm_decode.specs.Values.{Reader, ◌>>=◌, each_at, all_of, sized_at}
+use Rattle.wasm_decode.specs.Decoding.{IsErrorOf}
+use Rattle.wasm_decode.specs.Values.{Reader, ◌>>=◌, each_at, whole_read, sized_at}
 use Rattle.wasm_decode.specs.Entries.{func_at, funcs_at}
 
 -- what was read before, and what is still read
@@ -27,8 +27,8 @@ goes_on read front count i bytes x after total less h so_far =
     let one : with_front front (each_at read (count - i) bytes) ≡ with_front (front ++ x ∷ []) (each_at read (count - (i + 1)) after) = rw (k, h) (regroup front x (each_at read (count - (i + 1)) after)) in
     sym one ∙ so_far
 
-pub fails : {A : Type 0} (e : DecodeError) (read : Reader A) (front : List A) (count i : ℕ) (bytes : List ℕ) (total : Option (List A × List ℕ)) → i < count → Fails e (read bytes)
-    → with_front front (each_at read (count - i) bytes) ≡ total → Fails e total
+pub fails : {A : Type 0} (e : DecodeError) (read : Reader A) (front : List A) (count i : ℕ) (bytes : List ℕ) (total : Option (List A × List ℕ)) → i < count → IsErrorOf e (read bytes)
+    → with_front front (each_at read (count - i) bytes) ≡ total → IsErrorOf e total
 unfolding each_at
 fails errors.NoMemory read front count i bytes total less h so_far = tt
 fails errors.Malformed read front count i bytes total less h so_far =
@@ -45,15 +45,15 @@ is_done {A} read front count i bytes total le so_far =
 
 -- ---- functions, one for each index
 
-pub func_goes_on : (front : List Func) (index : ℕ) (indices bytes : List ℕ) (f : Func) (after : List ℕ) (total : Option (List Func × List ℕ)) → sized_at (all_of (func_at index)) bytes ≡ Some (f, after)
+pub func_goes_on : (front : List Func) (index : ℕ) (indices bytes : List ℕ) (f : Func) (after : List ℕ) (total : Option (List Func × List ℕ)) → sized_at (whole_read (func_at index)) bytes ≡ Some (f, after)
     → with_front front (funcs_at (index ∷ indices) bytes) ≡ total → with_front (front ++ f ∷ []) (funcs_at indices after) ≡ total
 unfolding funcs_at
 func_goes_on front index indices bytes f after total h so_far =
     let one : with_front front (funcs_at (index ∷ indices) bytes) ≡ with_front (front ++ f ∷ []) (funcs_at indices after) = rw h (regroup front f (funcs_at indices after)) in
     sym one ∙ so_far
 
-pub func_fails : (e : DecodeError) (front : List Func) (index : ℕ) (indices bytes : List ℕ) (total : Option (List Func × List ℕ)) → Fails e (sized_at (all_of (func_at index)) bytes)
-    → with_front front (funcs_at (index ∷ indices) bytes) ≡ total → Fails e total
+pub func_fails : (e : DecodeError) (front : List Func) (index : ℕ) (indices bytes : List ℕ) (total : Option (List Func × List ℕ)) → IsErrorOf e (sized_at (whole_read (func_at index)) bytes)
+    → with_front front (funcs_at (index ∷ indices) bytes) ≡ total → IsErrorOf e total
 unfolding funcs_at
 func_fails errors.NoMemory front index indices bytes total h so_far = tt
 func_fails errors.Malformed front index indices bytes total h so_far =

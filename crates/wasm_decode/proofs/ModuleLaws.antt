@@ -5,9 +5,9 @@ use Rattle.std.proofs.lemmas.Bool.{eqb-true, eq-eqb}
 use Rattle.std.proofs.lemmas.List.{take-append-drop}
 use Rattle.fri_bytes.specs.Laws.{ExactReaders}
 use Rattle.wasm_types.specs.Modules.{Module}
-use Rattle.wasm_decode.specs.Grammar.{IsU32, IsVector, IsFuncType, IsLimits, IsTable, IsImport, IsGlobal, IsExport, IsStart, IsElem, IsCode, IsSegment, AreCustoms, After, header, Spells}
+use Rattle.wasm_decode.specs.Grammar.{IsU32, IsVector, IsFuncType, IsLimits, IsTable, IsImport, IsGlobal, IsExport, IsStart, IsElem, IsCode, IsSegment, AreCustoms, HasSection, header, SpellsModule}
 use Rattle.wasm_decode.specs.Values.{u32_at, vector_at, end_of, func_type_at, limits_at, table_at}
-use Rattle.wasm_decode.specs.Entries.{import_at, export_at, global_at, start_at, elem_at, segment_at, code_at}
+use Rattle.wasm_decode.specs.Entries.{import_at, export_at, global_def_at, start_at, elem_at, segment_at, code_at}
 use Rattle.wasm_decode.specs.Sections.{customs_at, section_at, header_at, module_of_bytes}
 use Rattle.wasm_decode.proofs.Steps.{bind_some, guard_some}
 use Rattle.wasm_decode.proofs.ValueLaws.{vector_reads, end_takes, func_type_reads, limits_reads, table_reads}
@@ -31,37 +31,37 @@ abbrev From12 : List ℕ → Module → List ℕ → Type 0
 From12 indices m = AreCustoms
 
 abbrev From11 : List ℕ → Module → List ℕ → Type 0
-From11 indices m = After 11 [] (IsVector IsSegment) m.segments (From12 indices m)
+From11 indices m = HasSection 11 [] (IsVector IsSegment) m.segments (From12 indices m)
 
 abbrev From10 : List ℕ → Module → List ℕ → Type 0
-From10 indices m = After 10 [] (IsCode indices) m.funcs (From11 indices m)
+From10 indices m = HasSection 10 [] (IsCode indices) m.funcs (From11 indices m)
 
 abbrev From9 : List ℕ → Module → List ℕ → Type 0
-From9 indices m = After 9 [] (IsVector IsElem) m.elems (From10 indices m)
+From9 indices m = HasSection 9 [] (IsVector IsElem) m.elems (From10 indices m)
 
 abbrev From8 : List ℕ → Module → List ℕ → Type 0
-From8 indices m = After 8 None IsStart m.start (From9 indices m)
+From8 indices m = HasSection 8 None IsStart m.start (From9 indices m)
 
 abbrev From7 : List ℕ → Module → List ℕ → Type 0
-From7 indices m = After 7 [] (IsVector IsExport) m.exports (From8 indices m)
+From7 indices m = HasSection 7 [] (IsVector IsExport) m.exports (From8 indices m)
 
 abbrev From6 : List ℕ → Module → List ℕ → Type 0
-From6 indices m = After 6 [] (IsVector IsGlobal) m.globals (From7 indices m)
+From6 indices m = HasSection 6 [] (IsVector IsGlobal) m.globals (From7 indices m)
 
 abbrev From5 : List ℕ → Module → List ℕ → Type 0
-From5 indices m = After 5 [] (IsVector IsLimits) m.mems (From6 indices m)
+From5 indices m = HasSection 5 [] (IsVector IsLimits) m.mems (From6 indices m)
 
 abbrev From4 : List ℕ → Module → List ℕ → Type 0
-From4 indices m = After 4 [] (IsVector IsTable) m.tables (From5 indices m)
+From4 indices m = HasSection 4 [] (IsVector IsTable) m.tables (From5 indices m)
 
 abbrev From3 : List ℕ → Module → List ℕ → Type 0
-From3 indices m = After 3 [] (IsVector IsU32) indices (From4 indices m)
+From3 indices m = HasSection 3 [] (IsVector IsU32) indices (From4 indices m)
 
 abbrev From2 : List ℕ → Module → List ℕ → Type 0
-From2 indices m = After 2 [] (IsVector IsImport) m.imports (From3 indices m)
+From2 indices m = HasSection 2 [] (IsVector IsImport) m.imports (From3 indices m)
 
 abbrev From1 : List ℕ → Module → List ℕ → Type 0
-From1 indices m = After 1 [] (IsVector IsFuncType) m.types (From2 indices m)
+From1 indices m = HasSection 1 [] (IsVector IsFuncType) m.types (From2 indices m)
 
 -- the steps of a reading that gave something, with the bytes behind each
 record Steps (bytes : List ℕ) (m : Module) : Type 0 where
@@ -84,7 +84,7 @@ record Steps (bytes : List ℕ) (m : Module) : Type 0 where
   step3 : section_at 3 [] (vector_at u32_at) rest2 ≡ Some (indices, rest3)
   step4 : section_at 4 [] (vector_at table_at) rest3 ≡ Some (m.tables, rest4)
   step5 : section_at 5 [] (vector_at limits_at) rest4 ≡ Some (m.mems, rest5)
-  step6 : section_at 6 [] (vector_at global_at) rest5 ≡ Some (m.globals, rest6)
+  step6 : section_at 6 [] (vector_at global_def_at) rest5 ≡ Some (m.globals, rest6)
   step7 : section_at 7 [] (vector_at export_at) rest6 ≡ Some (m.exports, rest7)
   step8 : section_at 8 None start_at rest7 ≡ Some (m.start, rest8)
   step9 : section_at 9 [] (vector_at elem_at) rest8 ≡ Some (m.elems, rest9)
@@ -149,7 +149,7 @@ read_from bytes m h =
     rw (h.step0, h.step1, h.step2, h.step3, h.step4, h.step5, h.step6, h.step7, h.step8, h.step9, h.step10, h.step11, h.last, same) refl
 
 module _ (readers : ExactReaders) where
-  spells_from : (bytes : List ℕ) (m : Module) → Steps bytes m → Spells bytes m
+  spells_from : (bytes : List ℕ) (m : Module) → Steps bytes m → SpellsModule bytes m
   spells_from bytes m h =
       let indices = h.indices in
       let f12 : From12 indices m h.rest11 = customs_take readers h.rest11 h.last in
@@ -158,7 +158,7 @@ module _ (readers : ExactReaders) where
       let f9 : From9 indices m h.rest8 = section_takes readers 9 [] (IsVector IsElem) m.elems (From10 indices m) (vector_at elem_at) (vector_reads readers IsElem elem_at (elem_reads readers)) h.rest8 h.rest9 h.step9 f10 in
       let f8 : From8 indices m h.rest7 = section_takes readers 8 None IsStart m.start (From9 indices m) start_at (start_reads readers) h.rest7 h.rest8 h.step8 f9 in
       let f7 : From7 indices m h.rest6 = section_takes readers 7 [] (IsVector IsExport) m.exports (From8 indices m) (vector_at export_at) (vector_reads readers IsExport export_at (export_reads readers)) h.rest6 h.rest7 h.step7 f8 in
-      let f6 : From6 indices m h.rest5 = section_takes readers 6 [] (IsVector IsGlobal) m.globals (From7 indices m) (vector_at global_at) (vector_reads readers IsGlobal global_at (global_reads readers)) h.rest5 h.rest6 h.step6 f7 in
+      let f6 : From6 indices m h.rest5 = section_takes readers 6 [] (IsVector IsGlobal) m.globals (From7 indices m) (vector_at global_def_at) (vector_reads readers IsGlobal global_def_at (global_reads readers)) h.rest5 h.rest6 h.step6 f7 in
       let f5 : From5 indices m h.rest4 = section_takes readers 5 [] (IsVector IsLimits) m.mems (From6 indices m) (vector_at limits_at) (vector_reads readers IsLimits limits_at (limits_reads readers)) h.rest4 h.rest5 h.step5 f6 in
       let f4 : From4 indices m h.rest3 = section_takes readers 4 [] (IsVector IsTable) m.tables (From5 indices m) (vector_at table_at) (vector_reads readers IsTable table_at (table_reads readers)) h.rest3 h.rest4 h.step4 f5 in
       let f3 : From3 indices m h.rest2 = section_takes readers 3 [] (IsVector IsU32) indices (From4 indices m) (vector_at u32_at) (indices_read readers) h.rest2 h.rest3 h.step3 f4 in
@@ -166,7 +166,7 @@ module _ (readers : ExactReaders) where
       let f1 : From1 indices m h.rest0 = section_takes readers 1 [] (IsVector IsFuncType) m.types (From2 indices m) (vector_at func_type_at) (vector_reads readers IsFuncType func_type_at (func_type_reads readers)) h.rest0 h.rest1 h.step1 f2 in
       record { sections = h.rest0; indices = indices; parts = header_takes bytes h.rest0 h.step0; are_sections = f1; same_count = h.same_count }
 
-  pub module_takes : (bytes : List ℕ) (m : Module) → module_of_bytes bytes ≡ Some m → Spells bytes m
+  pub module_takes : (bytes : List ℕ) (m : Module) → module_of_bytes bytes ≡ Some m → SpellsModule bytes m
   module_takes bytes m e = spells_from bytes m (module_steps bytes m e)
 
   -- ---- what is spelled is read
@@ -204,7 +204,7 @@ module _ (readers : ExactReaders) where
   tail1 : (indices : List ℕ) (m : Module) → Tail 1 (From2 indices m)
   tail1 indices m = tail_after readers 1 2 [] (IsVector IsImport) m.imports (From3 indices m) (lit< tt) (tail2 indices m)
 
-  again_steps : (bytes : List ℕ) (m : Module) → Spells bytes m → Steps bytes m
+  again_steps : (bytes : List ℕ) (m : Module) → SpellsModule bytes m → Steps bytes m
   again_steps bytes m h =
       let indices = h.indices in
       let rest0 = h.sections in
@@ -214,7 +214,7 @@ module _ (readers : ExactReaders) where
       let s3 = section_again readers 3 [] (IsVector IsU32) indices (From4 indices m) (vector_at u32_at) (indices_read readers) (lit< tt) (tail3 indices m) s2.0 s2.2 in
       let s4 = section_again readers 4 [] (IsVector IsTable) m.tables (From5 indices m) (vector_at table_at) (vector_reads readers IsTable table_at (table_reads readers)) (lit< tt) (tail4 indices m) s3.0 s3.2 in
       let s5 = section_again readers 5 [] (IsVector IsLimits) m.mems (From6 indices m) (vector_at limits_at) (vector_reads readers IsLimits limits_at (limits_reads readers)) (lit< tt) (tail5 indices m) s4.0 s4.2 in
-      let s6 = section_again readers 6 [] (IsVector IsGlobal) m.globals (From7 indices m) (vector_at global_at) (vector_reads readers IsGlobal global_at (global_reads readers)) (lit< tt) (tail6 indices m) s5.0 s5.2 in
+      let s6 = section_again readers 6 [] (IsVector IsGlobal) m.globals (From7 indices m) (vector_at global_def_at) (vector_reads readers IsGlobal global_def_at (global_reads readers)) (lit< tt) (tail6 indices m) s5.0 s5.2 in
       let s7 = section_again readers 7 [] (IsVector IsExport) m.exports (From8 indices m) (vector_at export_at) (vector_reads readers IsExport export_at (export_reads readers)) (lit< tt) (tail7 indices m) s6.0 s6.2 in
       let s8 = section_again readers 8 None IsStart m.start (From9 indices m) start_at (start_reads readers) (lit< tt) (tail8 indices m) s7.0 s7.2 in
       let s9 = section_again readers 9 [] (IsVector IsElem) m.elems (From10 indices m) (vector_at elem_at) (vector_reads readers IsElem elem_at (elem_reads readers)) (lit< tt) (tail9 indices m) s8.0 s8.2 in
@@ -250,5 +250,5 @@ module _ (readers : ExactReaders) where
         same_count = h.same_count;
       }
 
-  pub module_again : (bytes : List ℕ) (m : Module) → Spells bytes m → module_of_bytes bytes ≡ Some m
+  pub module_again : (bytes : List ℕ) (m : Module) → SpellsModule bytes m → module_of_bytes bytes ≡ Some m
   module_again bytes m h = read_from bytes m (again_steps bytes m h)

@@ -6,10 +6,10 @@ use Rattle.fri_bytes.specs.Laws.{ExactReaders}
 use Rattle.fri_bytes.specs.Reading.{Reads, byte_at}
 use Rattle.wasm_decode.specs.declared.error.DecodeError.{DecodeError}
 use Rattle.wasm_decode.specs.declared.error.DecodeError.TheVariants as errors
-use Rattle.wasm_decode.specs.Gives.{Fails}
-use Rattle.wasm_decode.specs.Grammar.{IsBytes, IsEach, IsSized, BeginsWithName, IsCustom, AreCustoms, IsSection, After}
-use Rattle.wasm_decode.specs.Values.{Reader, bytes_at, name_at, all_of, sized_at}
-use Rattle.wasm_decode.specs.Sections.{custom_name_of, starts, skip_at, customs_at, contents_at, value_of, section_at}
+use Rattle.wasm_decode.specs.Decoding.{IsErrorOf}
+use Rattle.wasm_decode.specs.Grammar.{IsBytes, IsEach, IsSized, BeginsWithName, IsCustom, AreCustoms, IsSection, HasSection}
+use Rattle.wasm_decode.specs.Values.{Reader, byte_vector_at, utf8_name_at, whole_read, sized_at}
+use Rattle.wasm_decode.specs.Sections.{custom_name_of, starts, skip_at, customs_at, contents_at, contents_value, section_at}
 use Rattle.wasm_decode.proofs.Steps.{chosen, bind_some, some_is, joined, joined_byte, byte_takes}
 use Rattle.wasm_decode.proofs.ValueLaws.{ReadsAll, bytes_reads, name_reads, all_reads, sized_reads}
 
@@ -30,7 +30,7 @@ unfolding skip_at
 stays bytes none zero room = refl
 stays bytes none (suc count) room = rw none refl
 
-pub skip_fails : (e : DecodeError) (count : ℕ) (bytes : List ℕ) (b : ℕ) (behind : List ℕ) (total : Option (List ℕ)) → byte_at bytes ≡ Some (b, behind) → starts 0 bytes ≡ true → Fails e (sized_at custom_name_of behind) → length bytes ≤ count → skip_at count bytes ≡ total → Fails e total
+pub skip_fails : (e : DecodeError) (count : ℕ) (bytes : List ℕ) (b : ℕ) (behind : List ℕ) (total : Option (List ℕ)) → byte_at bytes ≡ Some (b, behind) → starts 0 bytes ≡ true → IsErrorOf e (sized_at custom_name_of behind) → length bytes ≤ count → skip_at count bytes ≡ total → IsErrorOf e total
 unfolding skip_at
 skip_fails errors.NoMemory count bytes b behind total byte next custom room so_far = tt
 skip_fails errors.Malformed zero bytes b behind total byte next custom room so_far = absurd (omega (arith, ap length (byte_takes bytes b behind byte)))
@@ -64,7 +64,7 @@ Found id s (Some contents) = (sized : List ℕ) × (s ≡ id ∷ sized) × IsByt
 abbrev Contents : ℕ → List ℕ → Option (List ℕ) → List ℕ → Type 0
 Contents id bytes found rest = (customs s : List ℕ) × (bytes ≡ (customs ++ s) ++ rest) × AreCustoms customs × Found id s found
 
-value_takes : {A : Type 0} (id : ℕ) (absent : A) (P : List ℕ → A → Type 0) (x : A) (read : Reader A) → Reads P read → (s : List ℕ) (found : Option (List ℕ)) → Found id s found → value_of absent read found ≡ Some x → IsSection id absent P s x
+value_takes : {A : Type 0} (id : ℕ) (absent : A) (P : List ℕ → A → Type 0) (x : A) (read : Reader A) → Reads P read → (s : List ℕ) (found : Option (List ℕ)) → Found id s found → contents_value absent read found ≡ Some x → IsSection id absent P s x
 value_takes {A} id absent P x read laws s None nothing e = inl (nothing, sym (some_is absent x e))
 value_takes id absent P x read laws s (Some contents) (sized, parts, piece) e = inr (sized, parts, (contents, piece, (all_reads P read laws).takes contents x e))
 
@@ -79,7 +79,7 @@ module _ (readers : ExactReaders) where
         let front = (name_reads readers).takes bytes a.0.0 a.0.1 a.1 in
         subst (BeginsWithName bytes) (some_is a.0.0 name a.2) (front.0, a.0.1, front.1, front.2);
     again = λ bytes name h.
-        let front : name_at bytes ≡ Some (name, h.1) = ap name_at h.2 ∙ (name_reads readers).again h.0 name h.1 h.3 in
+        let front : utf8_name_at bytes ≡ Some (name, h.1) = ap utf8_name_at h.2 ∙ (name_reads readers).again h.0 name h.1 h.3 in
         rw front refl;
   }
 
@@ -150,7 +150,7 @@ module _ (readers : ExactReaders) where
         ([], subst (λ (s : List ℕ). Leads s []) (append-nil bytes) leads, ([], refl), λ k le. refl);
   }
 
-  pub tail_after : {A : Type 0} (from id : ℕ) (absent : A) (P : List ℕ → A → Type 0) (x : A) (Q : List ℕ → Type 0) → from < id → Tail id Q → Tail from (After id absent P x Q)
+  pub tail_after : {A : Type 0} (from id : ℕ) (absent : A) (P : List ℕ → A → Type 0) (x : A) (Q : List ℕ → Type 0) → from < id → Tail id Q → Tail from (HasSection id absent P x Q)
   tail_after from id absent P x Q less tail = record {
     skips = λ bytes h.
         elim h.is_section [
@@ -158,19 +158,19 @@ module _ (readers : ExactReaders) where
               let t = tail.skips h.others h.follow in
               let all : h.customs ++ h.others ≡ bytes = sym (h.parts ∙ ap (λ (s : List ℕ). (h.customs ++ s) ++ h.others) gone.0 ∙ ap (λ (s : List ℕ). s ++ h.others) (append-nil h.customs)) in
               let leads = customs_then h.are_customs.0 h.customs h.others t.0 h.are_customs.1 t.1 in
-              let after : After id absent P x Q t.0 = record { customs = []; section = []; others = t.0; parts = refl; are_customs = ([], refl); is_section = inl (refl, gone.1); follow = t.2 } in
+              let after : HasSection id absent P x Q t.0 = record { customs = []; section = []; others = t.0; parts = refl; are_customs = ([], refl); is_section = inl (refl, gone.1); follow = t.2 } in
               (t.0, subst (λ (s : List ℕ). Leads s t.0) all leads, after, λ k le. t.3 k (omega arith))
           | inr present ↦
               let rest = (id ∷ present.0) ++ h.others in
               let all : h.customs ++ rest ≡ bytes = sym (h.parts ∙ ap (λ (s : List ℕ). (h.customs ++ s) ++ h.others) present.1 ∙ append_assoc h.customs (id ∷ present.0) h.others) in
               let above : Above from rest = λ k le. ne_eqb id k (λ same. omega arith) in
               let leads = customs_then h.are_customs.0 h.customs rest rest h.are_customs.1 (stays rest (above 0 (omega arith))) in
-              let after : After id absent P x Q rest = record { customs = []; section = id ∷ present.0; others = h.others; parts = refl; are_customs = ([], refl); is_section = inr (present.0, refl, present.2); follow = h.follow } in
+              let after : HasSection id absent P x Q rest = record { customs = []; section = id ∷ present.0; others = h.others; parts = refl; are_customs = ([], refl); is_section = inr (present.0, refl, present.2); follow = h.follow } in
               (rest, subst (λ (s : List ℕ). Leads s rest) all leads, after, above)
         ];
   }
 
-  pub section_again : {A : Type 0} (id : ℕ) (absent : A) (P : List ℕ → A → Type 0) (x : A) (Q : List ℕ → Type 0) (read : Reader A) → Reads P read → 0 < id → Tail id Q → (bytes : List ℕ) → After id absent P x Q bytes
+  pub section_again : {A : Type 0} (id : ℕ) (absent : A) (P : List ℕ → A → Type 0) (x : A) (Q : List ℕ → Type 0) (read : Reader A) → Reads P read → 0 < id → Tail id Q → (bytes : List ℕ) → HasSection id absent P x Q bytes
       → (rest : List ℕ) × (section_at id absent read bytes ≡ Some (x, rest)) × Q rest
   unfolding section_at contents_at customs_at
   section_again {A} id absent P x Q read laws some tail bytes h =
@@ -191,8 +191,8 @@ module _ (readers : ExactReaders) where
             let skipped : skip_at (length bytes) bytes ≡ Some rest = leads (length bytes) (omega arith) in
             let same : eqb id id ≡ true = eq-eqb id id refl in
             let contents = present.2.0 in
-            let piece : bytes_at (sized ++ h.others) ≡ Some (contents, h.others) = (bytes_reads readers).again sized contents h.others present.2.1 in
-            let value : all_of read contents ≡ Some x = (all_reads P read laws).again contents x present.2.2 in
+            let piece : byte_vector_at (sized ++ h.others) ≡ Some (contents, h.others) = (bytes_reads readers).again sized contents h.others present.2.1 in
+            let value : whole_read read contents ≡ Some x = (all_reads P read laws).again contents x present.2.2 in
             (h.others, rw (skipped, same, piece, value) refl, h.follow)
       ]
 
@@ -214,14 +214,14 @@ module _ (readers : ExactReaders) where
             (s.0, [], joined bytes s.0 a.0 [] a.0 s.1 refl, s.2, refl)
       ]
 
-  pub section_takes : {A : Type 0} (id : ℕ) (absent : A) (P : List ℕ → A → Type 0) (x : A) (Q : List ℕ → Type 0) (read : Reader A) → Reads P read → (bytes rest : List ℕ) → section_at id absent read bytes ≡ Some (x, rest) → Q rest → After id absent P x Q bytes
+  pub section_takes : {A : Type 0} (id : ℕ) (absent : A) (P : List ℕ → A → Type 0) (x : A) (Q : List ℕ → Type 0) (read : Reader A) → Reads P read → (bytes rest : List ℕ) → section_at id absent read bytes ≡ Some (x, rest) → Q rest → HasSection id absent P x Q bytes
   unfolding section_at
   section_takes {A} id absent P x Q read laws bytes rest e follow =
       let a = bind_some _ _ _ e in
       let b = bind_some _ _ _ a.2 in
       let is = some_is (b.0, a.0.1) (x, rest) b.2 in
       let c = contents_take id bytes a.0.0 a.0.1 a.1 in
-      let found : value_of absent read a.0.0 ≡ Some x = b.1 ∙ ap (λ (y : A × List ℕ). Some y.0) is in
+      let found : contents_value absent read a.0.0 ≡ Some x = b.1 ∙ ap (λ (y : A × List ℕ). Some y.0) is in
       let behind : a.0.1 ≡ rest = ap (λ (y : A × List ℕ). y.1) is in
       record {
         customs = c.0;

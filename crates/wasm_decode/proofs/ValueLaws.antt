@@ -13,7 +13,7 @@ use Rattle.wasm_types.specs.declared.code.ValType.TheVariants.{I32, I64, F32, F6
 use Rattle.wasm_types.specs.declared.modules.Limits.{Limits}
 use Rattle.wasm_types.specs.Modules.{FuncType}
 use Rattle.wasm_decode.specs.Grammar.{IsU32, IsI32, IsI64, IsF32, IsF64, IsEach, IsVector, IsBytes, IsName, IsSized, IsValType, IsResultType, IsFuncType, IsMinMax, IsLimits, IsTable, IsMutable, IsGlobalType}
-use Rattle.wasm_decode.specs.Values.{Reader, ◌>>=◌, u32_at, i32_at, i64_at, f32_at, f64_at, each_at, vector_at, bytes_at, name_at, end_of, all_of, sized_at, val_type_of, val_type_at, result_type_at, func_type_at, min_at, min_max_at, limits_of, limits_at, table_at, mutable_of, mutable_at, global_type_at}
+use Rattle.wasm_decode.specs.Values.{Reader, ◌>>=◌, u32_at, i32_at, i64_at, f32_at, f64_at, each_at, vector_at, byte_vector_at, utf8_name_at, end_of, whole_read, sized_at, val_type_of, val_type_at, result_type_at, func_type_at, min_at, min_max_at, limits_of, limits_at, table_at, mutable_of, mutable_at, global_type_at}
 use Rattle.wasm_decode.proofs.Steps.{bind_some, some_is, guard_some, joined}
 use Rattle.wasm_decode.proofs.Compose.{Behind, AgainBehind, read_as, one_read, two_read, tag_read, byte_read, case_takes, last_takes, alone_takes, all_takes, value_takes}
 
@@ -49,8 +49,8 @@ pub end_takes : (bytes : List ℕ) (unit : Unit {0}) → end_of bytes ≡ Some u
 unfolding end_of
 end_takes bytes unit e = nil_from_length bytes (eqb-true _ _ (guard_some _ _ _ e).0)
 
-pub all_reads : {A : Type 0} (P : List ℕ → A → Type 0) (read : Reader A) → Reads P read → ReadsAll P (all_of read)
-unfolding all_of end_of
+pub all_reads : {A : Type 0} (P : List ℕ → A → Type 0) (read : Reader A) → Reads P read → ReadsAll P (whole_read read)
+unfolding whole_read end_of
 all_reads {A} P read laws = record {
   takes = λ bytes x e.
       let a = bind_some _ _ _ e in
@@ -188,8 +188,8 @@ module _ (readers : ExactReaders) where
         rw front (each_again P read laws h.1 xs rest h.4);
   }
 
-  pub bytes_reads : Reads IsBytes bytes_at
-  unfolding bytes_at
+  pub bytes_reads : Reads IsBytes byte_vector_at
+  unfolding byte_vector_at
   bytes_reads = record {
     takes = λ bytes contents rest e.
         let a = bind_some _ _ _ e in
@@ -202,8 +202,8 @@ module _ (readers : ExactReaders) where
         rw front ((readers.piece (length contents)).again contents contents rest (refl, refl));
   }
 
-  pub name_reads : Reads IsName name_at
-  unfolding name_at
+  pub name_reads : Reads IsName utf8_name_at
+  unfolding utf8_name_at
   name_reads = record {
     takes = λ bytes name rest e.
         let a = bind_some _ _ _ e in

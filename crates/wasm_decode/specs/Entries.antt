@@ -7,72 +7,72 @@ use Rattle.wasm_types.specs.declared.modules.ImportDesc.TheVariants as imported
 use Rattle.wasm_types.specs.declared.modules.ExportDesc.{ExportDesc}
 use Rattle.wasm_types.specs.declared.modules.ExportDesc.TheVariants as exported
 use Rattle.wasm_types.specs.Modules.{Import, Func, GlobalDef, Export, Elem, Segment}
-use Rattle.wasm_decode.specs.Values.{Reader, ◌>>=◌, u32_at, vector_at, bytes_at, name_at, all_of, sized_at, val_type_at, limits_at, table_at, global_type_at}
-use Rattle.wasm_decode.specs.Instrs.{expr_at}
+use Rattle.wasm_decode.specs.Values.{Reader, ◌>>=◌, u32_at, vector_at, byte_vector_at, utf8_name_at, whole_read, sized_at, val_type_at, limits_at, table_at, global_type_at}
+use Rattle.wasm_decode.specs.Instrs.{expression_at}
 
 -- ---- imports and exports
 
--- what is imported, behind the byte that says its kind
+-- what is imported, behind the byte that says what it is
 unfoldable pub imported_at : ℕ → Reader ImportDesc
-imported_at kind bytes =
-    if kind == 0x00 then (do
+imported_at byte bytes =
+    if byte == 0x00 then (do
       type ← u32_at bytes
       Some (imported.Func type.0, type.1)) else
-    (if kind == 0x01 then (do
+    (if byte == 0x01 then (do
       limits ← table_at bytes
       Some (imported.Table limits.0, limits.1)) else
-    (if kind == 0x02 then (do
+    (if byte == 0x02 then (do
       limits ← limits_at bytes
       Some (imported.Memory limits.0, limits.1)) else
-    (if kind == 0x03 then (do
+    (if byte == 0x03 then (do
       type ← global_type_at bytes
       Some (imported.Global type.0.0 type.0.1, type.1)) else None)))
 
 -- what is imported
 unfoldable pub import_desc_at : Reader ImportDesc
 import_desc_at bytes = do
-  kind ← byte_at bytes
-  imported_at kind.0 kind.1
+  byte ← byte_at bytes
+  imported_at byte.0 byte.1
 
 -- an import
 unfoldable pub import_at : Reader Import
 import_at bytes = do
-  front ← name_at bytes
-  name ← name_at front.1
+  front ← utf8_name_at bytes
+  name ← utf8_name_at front.1
   desc ← import_desc_at name.1
   Some (record { «module» = front.0; name = name.0; desc = desc.0 }, desc.1)
 
--- what is exported, by the byte that says its kind and the index
+-- what is exported, by the byte that says what it is, and the index
 unfoldable pub exported_of : ℕ → ℕ → Option ExportDesc
-exported_of kind index =
-    if kind == 0x00 then Some (exported.Func index) else
-    (if kind == 0x01 then Some (exported.Table index) else
-    (if kind == 0x02 then Some (exported.Memory index) else
-    (if kind == 0x03 then Some (exported.Global index) else None)))
+exported_of byte index =
+    if byte == 0x00 then Some (exported.Func index) else
+    (if byte == 0x01 then Some (exported.Table index) else
+    (if byte == 0x02 then Some (exported.Memory index) else
+    (if byte == 0x03 then Some (exported.Global index) else None)))
 
 -- what is exported
 unfoldable pub export_desc_at : Reader ExportDesc
 export_desc_at bytes = do
-  kind ← byte_at bytes
-  index ← u32_at kind.1
-  desc ← exported_of kind.0 index.0
+  byte ← byte_at bytes
+  index ← u32_at byte.1
+  desc ← exported_of byte.0 index.0
   Some (desc, index.1)
 
 -- an export
 unfoldable pub export_at : Reader Export
 export_at bytes = do
-  name ← name_at bytes
+  name ← utf8_name_at bytes
   desc ← export_desc_at name.1
   Some (record { name = name.0; desc = desc.0 }, desc.1)
 
 -- ---- globals, the start function and segments
 
 -- a global
-unfoldable pub global_at : Reader GlobalDef
-global_at bytes = do
+unfoldable pub global_def_at : Reader GlobalDef
+global_def_at bytes = do
   type ← global_type_at bytes
-  init ← expr_at type.1
-  Some (record { kind = type.0.0; mutable = type.0.1; init = init.0 }, init.1)
+  init ← expression_at type.1
+  Some (record { value_type = type.0.0; mutable = type.0.1; init = init.0 }, init.1)
 
 -- the index of the start function
 unfoldable pub start_at : Reader (Option ℕ)
@@ -84,7 +84,7 @@ start_at bytes = do
 unfoldable pub elem_at : Reader Elem
 elem_at bytes = do
   table ← u32_at bytes
-  offset ← expr_at table.1
+  offset ← expression_at table.1
   funcs ← vector_at u32_at offset.1
   Some (record { table = table.0; offset = offset.0; funcs = funcs.0 }, funcs.1)
 
@@ -92,8 +92,8 @@ elem_at bytes = do
 unfoldable pub segment_at : Reader Segment
 segment_at bytes = do
   memory ← u32_at bytes
-  offset ← expr_at memory.1
-  contents ← bytes_at offset.1
+  offset ← expression_at memory.1
+  contents ← byte_vector_at offset.1
   Some (record { memory = memory.0; offset = offset.0; bytes = contents.0 }, contents.1)
 
 -- ---- functions
@@ -114,14 +114,14 @@ unfoldable pub func_at : ℕ → Reader Func
 func_at type_index bytes = do
   locals ← vector_at locals_at bytes
   if are_few locals.0 then (do
-    body ← expr_at locals.1
+    body ← expression_at locals.1
     Some (record { type_index = type_index; locals = locals.0; body = body.0 }, body.1)) else None
 
 -- a function for each index of a type
 unfoldable pub funcs_at : List ℕ → Reader (List Func)
 funcs_at [] bytes = Some ([], bytes)
 funcs_at (index ∷ indices) bytes = do
-  first ← sized_at (all_of (func_at index)) bytes
+  first ← sized_at (whole_read (func_at index)) bytes
   others ← funcs_at indices first.1
   Some (first.0 ∷ others.0, others.1)
 

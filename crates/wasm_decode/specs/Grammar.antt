@@ -73,7 +73,8 @@ IsResultType bytes (Some type) = IsValType bytes type
 
 -- 5.3.3
 abbrev pub IsFuncType : List ℕ → FuncType → Type 0
-IsFuncType bytes t = (params results : List ℕ) × (bytes ≡ 0x60 ∷ (params ++ results)) × IsVector IsValType params t.params × IsVector IsValType results t.results
+IsFuncType bytes t =
+    (params results : List ℕ) × (bytes ≡ 0x60 ∷ (params ++ results)) × IsVector IsValType params t.params × IsVector IsValType results t.results
 
 -- limits with a minimum and, where there is one, a maximum
 abbrev pub IsMinMax : List ℕ → ℕ → Option ℕ → Type 0
@@ -158,8 +159,8 @@ abbrev mutual
   AllNestWithin depth (Then first rest) = NestsWithin depth first × AllNestWithin depth rest
 
 -- 5.4.6: an expression. How deep blocks may nest is left to the implementation. Here it is 1,000 deep.
-abbrev pub IsExpr : List ℕ → Trees → Type 0
-IsExpr bytes body = (instrs : List ℕ) × (bytes ≡ instrs ++ 0x0b ∷ []) × IsInstrs instrs body × AllNestWithin 1000 body
+abbrev pub IsExpression : List ℕ → Trees → Type 0
+IsExpression bytes body = (instrs : List ℕ) × (bytes ≡ instrs ++ 0x0b ∷ []) × IsInstrs instrs body × AllNestWithin 1000 body
 
 -- ---- what stands in sections (5.5)
 
@@ -168,7 +169,7 @@ abbrev pub IsImportDesc : List ℕ → ImportDesc → Type 0
 IsImportDesc bytes (imported.Func type) = (number : List ℕ) × (bytes ≡ 0x00 ∷ number) × IsU32 number type
 IsImportDesc bytes (imported.Table limits) = (table : List ℕ) × (bytes ≡ 0x01 ∷ table) × IsTable table limits
 IsImportDesc bytes (imported.Memory limits) = (memory : List ℕ) × (bytes ≡ 0x02 ∷ memory) × IsLimits memory limits
-IsImportDesc bytes (imported.Global kind mutable) = (type : List ℕ) × (bytes ≡ 0x03 ∷ type) × IsGlobalType type (kind, mutable)
+IsImportDesc bytes (imported.Global value_type mutable) = (type : List ℕ) × (bytes ≡ 0x03 ∷ type) × IsGlobalType type (value_type, mutable)
 
 -- 5.5.5
 abbrev pub IsImport : List ℕ → Import → Type 0
@@ -176,7 +177,7 @@ IsImport bytes i = (front name desc : List ℕ) × (bytes ≡ front ++ name ++ d
 
 -- 5.5.9
 abbrev pub IsGlobal : List ℕ → GlobalDef → Type 0
-IsGlobal bytes g = (type init : List ℕ) × (bytes ≡ type ++ init) × IsGlobalType type (g.kind, g.mutable) × IsExpr init g.init
+IsGlobal bytes g = (type init : List ℕ) × (bytes ≡ type ++ init) × IsGlobalType type (g.value_type, g.mutable) × IsExpression init g.init
 
 -- 5.5.10: what is exported
 abbrev pub IsExportDesc : List ℕ → ExportDesc → Type 0
@@ -196,7 +197,8 @@ IsStart bytes (Some func) = IsU32 bytes func
 
 -- 5.5.12
 abbrev pub IsElem : List ℕ → Elem → Type 0
-IsElem bytes e = (table offset funcs : List ℕ) × (bytes ≡ table ++ offset ++ funcs) × IsU32 table e.table × IsExpr offset e.offset × IsVector IsU32 funcs e.funcs
+IsElem bytes e =
+    (table offset funcs : List ℕ) × (bytes ≡ table ++ offset ++ funcs) × IsU32 table e.table × IsExpression offset e.offset × IsVector IsU32 funcs e.funcs
 
 -- 5.5.13: locals of one type, as their count and the type
 abbrev pub IsLocals : List ℕ → ℕ × ValType → Type 0
@@ -206,7 +208,7 @@ IsLocals bytes l = (count type : List ℕ) × (bytes ≡ count ++ type) × IsU32
 -- locals.
 abbrev pub IsFunc : ℕ → List ℕ → Func → Type 0
 IsFunc type_index bytes f =
-    (locals body : List ℕ) × (bytes ≡ locals ++ body) × IsVector IsLocals locals f.locals × IsExpr body f.body
+    (locals body : List ℕ) × (bytes ≡ locals ++ body) × IsVector IsLocals locals f.locals × IsExpression body f.body
     × (sum_by (λ l. l.0) f.locals < 2 ^ 32) × (f.type_index ≡ type_index)
 
 -- one function for each index of a type
@@ -222,7 +224,9 @@ IsCode indices bytes fs = (count elements : List ℕ) × (bytes ≡ count ++ ele
 
 -- 5.5.14
 abbrev pub IsSegment : List ℕ → Segment → Type 0
-IsSegment bytes s = (memory offset contents : List ℕ) × (bytes ≡ memory ++ offset ++ contents) × IsU32 memory s.memory × IsExpr offset s.offset × IsBytes contents s.bytes
+IsSegment bytes s =
+    (memory offset contents : List ℕ) × (bytes ≡ memory ++ offset ++ contents) × IsU32 memory s.memory
+    × IsExpression offset s.offset × IsBytes contents s.bytes
 
 -- ---- sections and modules (5.5)
 
@@ -243,7 +247,7 @@ abbrev pub IsSection : {A : Type 0} → ℕ → A → (List ℕ → A → Type 0
 IsSection id absent P bytes x = ((bytes ≡ []) × (x ≡ absent)) ⊎ ((sized : List ℕ) × (bytes ≡ id ∷ sized) × IsSized P sized x)
 
 -- custom sections, the section with this id, and what follows it
-pub record After {A : Type 0} (id : ℕ) (absent : A) (P : List ℕ → A → Type 0) (x : A) (Q : List ℕ → Type 0) (bytes : List ℕ) : Type 0 where
+pub record HasSection {A : Type 0} (id : ℕ) (absent : A) (P : List ℕ → A → Type 0) (x : A) (Q : List ℕ → Type 0) (bytes : List ℕ) : Type 0 where
   pub customs : List ℕ
   pub section : List ℕ
   pub others : List ℕ
@@ -259,20 +263,20 @@ header = 0x00 ∷ 0x61 ∷ 0x73 ∷ 0x6d ∷ 0x01 ∷ 0x00 ∷ 0x00 ∷ 0x00 ∷
 -- 5.5.15: the sections of a module (5.5.4 to 5.5.14), whose functions have the types with these indices
 abbrev pub AreSections : List ℕ → Module → List ℕ → Type 0
 AreSections indices m =
-    After 1 [] (IsVector IsFuncType) m.types (
-    After 2 [] (IsVector IsImport) m.imports (
-    After 3 [] (IsVector IsU32) indices (
-    After 4 [] (IsVector IsTable) m.tables (
-    After 5 [] (IsVector IsLimits) m.mems (
-    After 6 [] (IsVector IsGlobal) m.globals (
-    After 7 [] (IsVector IsExport) m.exports (
-    After 8 None IsStart m.start (
-    After 9 [] (IsVector IsElem) m.elems (
-    After 10 [] (IsCode indices) m.funcs (
-    After 11 [] (IsVector IsSegment) m.segments AreCustoms))))))))))
+    HasSection 1 [] (IsVector IsFuncType) m.types (
+    HasSection 2 [] (IsVector IsImport) m.imports (
+    HasSection 3 [] (IsVector IsU32) indices (
+    HasSection 4 [] (IsVector IsTable) m.tables (
+    HasSection 5 [] (IsVector IsLimits) m.mems (
+    HasSection 6 [] (IsVector IsGlobal) m.globals (
+    HasSection 7 [] (IsVector IsExport) m.exports (
+    HasSection 8 None IsStart m.start (
+    HasSection 9 [] (IsVector IsElem) m.elems (
+    HasSection 10 [] (IsCode indices) m.funcs (
+    HasSection 11 [] (IsVector IsSegment) m.segments AreCustoms))))))))))
 
 -- 5.5.15: the bytes spell the module
-pub record Spells (bytes : List ℕ) (m : Module) : Type 0 where
+pub record SpellsModule (bytes : List ℕ) (m : Module) : Type 0 where
   pub sections : List ℕ
   pub indices : List ℕ
   pub parts : bytes ≡ header ++ sections

@@ -3,7 +3,7 @@ use Rattle.std.specs.Prelude.{ℕ, zero, suc, length, Option, Some, None, Bool, 
 use Rattle.fri_bytes.specs.Reading.{byte_at}
 use Rattle.wasm_types.specs.declared.code.ValType.{ValType}
 use Rattle.wasm_types.specs.Code.{Tree, Trees, Unreachable, Nop, Block, Loop, If, Br, BrIf, BrTable, Return, CallFunc, CallIndirect, DropTop, Select, LocalGet, LocalSet, LocalTee, GlobalGet, GlobalSet, Load, Store, MemorySize, MemoryGrow, ConstI32, ConstI64, ConstF32, ConstF64, Op, End, Then}
-use Rattle.wasm_decode.specs.Values.{Reader, ◌>>=◌, u32_at, i32_at, i64_at, f32_at, f64_at, tag_at, vector_at, result_type_at}
+use Rattle.wasm_decode.specs.Values.{Reader, ◌>>=◌, u32_at, i32_at, i64_at, f32_at, f64_at, exact_byte_at, vector_at, result_type_at}
 
 -- instructions with the byte that ends them, 05 or 0B
 abbrev pub Ended : Type 0
@@ -40,7 +40,7 @@ with_number read make bytes = do
 -- an instruction that the byte 00 ends
 unfoldable pub zero_at : Tree → Reader Tree
 zero_at tree bytes = do
-  rest ← tag_at 0x00 bytes
+  rest ← exact_byte_at 0x00 bytes
   Some (tree, rest)
 
 -- a `br_table`
@@ -78,8 +78,8 @@ control_at opcode bytes =
     (if opcode == 0x11 then indirect_at bytes else None)))))))
 
 -- a parametric instruction or one on variables
-unfoldable pub variable_at : ℕ → Reader Tree
-variable_at opcode bytes =
+unfoldable pub variable_instr_at : ℕ → Reader Tree
+variable_instr_at opcode bytes =
     if opcode == 0x1a then Some (DropTop, bytes) else
     (if opcode == 0x1b then Some (Select, bytes) else
     (if opcode == 0x20 then with_number u32_at LocalGet bytes else
@@ -109,7 +109,7 @@ numeric_at opcode bytes =
 unfoldable pub plain_at : ℕ → Reader Tree
 plain_at opcode bytes =
     if nat_le opcode 0x11 then control_at opcode bytes else
-    (if nat_le opcode 0x24 then variable_at opcode bytes else
+    (if nat_le opcode 0x24 then variable_instr_at opcode bytes else
     (if nat_le opcode 0x40 then memory_at opcode bytes else numeric_at opcode bytes))
 
 -- ---- instructions
@@ -122,15 +122,15 @@ instr_at inner opcode bytes =
     (if opcode == 0x04 then if_at inner bytes else plain_at opcode bytes))
 
 -- 0B ends instructions, and so does 05
-abbrev pub is_end : ℕ → Bool
-is_end b = b == 0x0b || b == 0x05
+abbrev pub is_end_opcode : ℕ → Bool
+is_end_opcode b = b == 0x0b || b == 0x05
 
 -- at most so many instructions and their end
 unfoldable pub sequence_at : Reader Ended → ℕ → Reader Ended
 sequence_at inner zero bytes = None
 sequence_at inner (suc count) bytes = do
   b ← byte_at bytes
-  if is_end b.0 then Some ((End, b.0), b.1) else (do
+  if is_end_opcode b.0 then Some ((End, b.0), b.1) else (do
     first ← instr_at inner b.0 b.1
     others ← sequence_at inner count first.1
     Some ((Then first.0 others.0.0, others.0.1), others.1))
@@ -141,5 +141,5 @@ levels_at zero bytes = None
 levels_at (suc less) bytes = sequence_at (levels_at less) (length bytes) bytes
 
 -- an expression, with the levels of blocks that nest at most 1,000 deep
-unfoldable pub expr_at : Reader Trees
-expr_at = whole_at (levels_at 1001)
+unfoldable pub expression_at : Reader Trees
+expression_at = whole_at (levels_at 1001)

@@ -1,5 +1,5 @@
 pub mod Grammar
-pub mod Gives
+pub mod Decoding
 pub mod Values
 pub mod Instrs
 pub mod Entries

@@ -3,13 +3,13 @@ use Rattle.std.specs.Prelude.{ℕ, zero, suc, List, [], ◌∷◌, length, drop,
 use Rattle.std.specs.List.{starts_with}
 use Rattle.wasm_types.specs.Modules.{Module}
 use Rattle.wasm_decode.specs.Grammar.{header}
-use Rattle.wasm_decode.specs.Values.{Reader, ◌>>=◌, u32_at, vector_at, bytes_at, name_at, end_of, all_of, sized_at, func_type_at, limits_at, table_at}
-use Rattle.wasm_decode.specs.Entries.{import_at, export_at, global_at, start_at, elem_at, segment_at, code_at}
+use Rattle.wasm_decode.specs.Values.{Reader, ◌>>=◌, u32_at, vector_at, byte_vector_at, utf8_name_at, end_of, whole_read, sized_at, func_type_at, limits_at, table_at}
+use Rattle.wasm_decode.specs.Entries.{import_at, export_at, global_def_at, start_at, elem_at, segment_at, code_at}
 
 -- the name at the front of a custom section's contents
 unfoldable pub custom_name_of : List ℕ → Option (List ℕ)
 custom_name_of bytes = do
-  name ← name_at bytes
+  name ← utf8_name_at bytes
   Some name.0
 
 -- this byte is the next one
@@ -34,19 +34,19 @@ unfoldable pub contents_at : ℕ → Reader (Option (List ℕ))
 contents_at id bytes = do
   rest ← customs_at bytes
   if starts id rest then (do
-    contents ← bytes_at (drop 1 rest)
+    contents ← byte_vector_at (drop 1 rest)
     Some (Some contents.0, contents.1)) else Some (None, rest)
 
 -- what the contents of a section stand for
-abbrev pub value_of : {A : Type 0} → A → Reader A → Option (List ℕ) → Option A
-value_of absent read None = Some absent
-value_of absent read (Some contents) = all_of read contents
+abbrev pub contents_value : {A : Type 0} → A → Reader A → Option (List ℕ) → Option A
+contents_value absent read None = Some absent
+contents_value absent read (Some contents) = whole_read read contents
 
 -- the section with this id, behind custom sections
 unfoldable pub section_at : {A : Type 0} → ℕ → A → Reader A → Reader A
 section_at id absent read bytes = do
   contents ← contents_at id bytes
-  x ← value_of absent read contents.0
+  x ← contents_value absent read contents.0
   Some (x, contents.1)
 
 -- what follows the header
@@ -62,7 +62,7 @@ module_of_bytes bytes = do
   indices ← section_at 3 [] (vector_at u32_at) imports.1
   tables ← section_at 4 [] (vector_at table_at) indices.1
   mems ← section_at 5 [] (vector_at limits_at) tables.1
-  globals ← section_at 6 [] (vector_at global_at) mems.1
+  globals ← section_at 6 [] (vector_at global_def_at) mems.1
   exports ← section_at 7 [] (vector_at export_at) globals.1
   start ← section_at 8 None start_at exports.1
   elems ← section_at 9 [] (vector_at elem_at) start.1

@@ -46,8 +46,8 @@ abbrev pub f64_at : Reader ℕ
 f64_at = le_at w64
 
 -- a byte that has to stand there
-unfoldable pub tag_at : ℕ → List ℕ → Option (List ℕ)
-tag_at tag bytes = do
+unfoldable pub exact_byte_at : ℕ → List ℕ → Option (List ℕ)
+exact_byte_at tag bytes = do
   b ← byte_at bytes
   if b.0 == tag then Some b.1 else None
 
@@ -68,15 +68,15 @@ vector_at read bytes = do
   each_at read count.0 count.1
 
 -- a vector of bytes
-unfoldable pub bytes_at : Reader (List ℕ)
-bytes_at bytes = do
+unfoldable pub byte_vector_at : Reader (List ℕ)
+byte_vector_at bytes = do
   size ← u32_at bytes
   piece_at size.0 size.1
 
 -- a vector of bytes that is UTF-8
-unfoldable pub name_at : Reader (List ℕ)
-name_at bytes = do
-  name ← bytes_at bytes
+unfoldable pub utf8_name_at : Reader (List ℕ)
+utf8_name_at bytes = do
+  name ← byte_vector_at bytes
   if is_utf8 name.0 then Some name else None
 
 -- nothing more
@@ -84,8 +84,8 @@ unfoldable pub end_of : List ℕ → Option (Unit {0})
 end_of bytes = if length bytes == 0 then Some tt else None
 
 -- all of the bytes
-unfoldable pub all_of : {A : Type 0} → Reader A → List ℕ → Option A
-all_of read bytes = do
+unfoldable pub whole_read : {A : Type 0} → Reader A → List ℕ → Option A
+whole_read read bytes = do
   x ← read bytes
   end ← end_of x.1
   Some x.0
@@ -93,7 +93,7 @@ all_of read bytes = do
 -- a vector of bytes, and what reading gives of these
 unfoldable pub sized_at : {A : Type 0} → (List ℕ → Option A) → Reader A
 sized_at read bytes = do
-  contents ← bytes_at bytes
+  contents ← byte_vector_at bytes
   x ← read contents.0
   Some (x, contents.1)
 
@@ -125,7 +125,7 @@ result_type_at bytes = do
 -- a function type
 unfoldable pub func_type_at : Reader FuncType
 func_type_at bytes = do
-  after ← tag_at 0x60 bytes
+  after ← exact_byte_at 0x60 bytes
   params ← vector_at val_type_at after
   results ← vector_at val_type_at params.1
   Some (record { params = params.0; results = results.0 }, results.1)
@@ -158,7 +158,7 @@ limits_at bytes = do
 -- the type of a table
 unfoldable pub table_at : Reader Limits
 table_at bytes = do
-  after ← tag_at 0x70 bytes
+  after ← exact_byte_at 0x70 bytes
   limits_at after
 
 -- whether a global is mutable, behind the byte that says it

@@ -1,29 +1,29 @@
 // Imports, exports, globals and segments (WebAssembly 1.0, sections 5.5.5 to 5.5.14).
 ghost use Rattle.std.specs.Prelude.{◌≡◌};
 ghost use Rattle.wasm_types.specs.Modules.{import_of, export, global_def, elem, segment};
-ghost use Rattle.wasm_decode.specs.Gives.{Gives};
-ghost use Rattle.wasm_decode.specs.Entries.{imported_at, import_desc_at, import_at, exported_of, export_desc_at, export_at, global_at, elem_at, segment_at};
+ghost use Rattle.wasm_decode.specs.Decoding.{Decodes};
+ghost use Rattle.wasm_decode.specs.Entries.{imported_at, import_desc_at, import_at, exported_of, export_desc_at, export_at, global_def_at, elem_at, segment_at};
 
 use crate::error::DecodeError;
 use crate::instructions::expression;
 use crate::numbers::{byte, number};
 use crate::types::{global_type, limits, table};
-use crate::vectors::{Entry, IndexEntry, bytes, name, vector};
+use crate::vectors::{Entry, IndexEntry, byte_vector, utf8_name, vector};
 use fri_bytes::Cursor;
 use std::alloc::Global;
 use wasm_types::{Elem, Export, ExportDesc, GlobalDef, Import, ImportDesc, Segment};
 
 #[tactic(auto, unfolding(crate::specs::Entries::import_desc_at, crate::specs::Entries::imported_at))]
 fn import_desc(cursor: &mut Cursor) -> Result<ImportDesc, DecodeError>
-    ensures { Gives (λ desc. desc) result cursor.new (import_desc_at cursor.old.left) }
+    ensures { Decodes (λ desc. desc) result cursor.new (import_desc_at cursor.old.left) }
 {
     match byte(cursor)? {
         0x00 => Ok(ImportDesc::Func(number(cursor)?)),
         0x01 => Ok(ImportDesc::Table(table(cursor)?)),
         0x02 => Ok(ImportDesc::Memory(limits(cursor)?)),
         0x03 => {
-            let (kind, mutable) = global_type(cursor)?;
-            Ok(ImportDesc::Global(kind, mutable))
+            let (value_type, mutable) = global_type(cursor)?;
+            Ok(ImportDesc::Global(value_type, mutable))
         }
         _ => Err(DecodeError::Malformed),
     }
@@ -31,21 +31,21 @@ fn import_desc(cursor: &mut Cursor) -> Result<ImportDesc, DecodeError>
 
 #[tactic(auto, unfolding(crate::specs::Entries::import_at))]
 fn import(alloc: Global, cursor: &mut Cursor) -> Result<Import, DecodeError>
-    ensures { Gives import_of result cursor.new (import_at cursor.old.left) }
+    ensures { Decodes import_of result cursor.new (import_at cursor.old.left) }
 {
-    let module = Vec::from_slice(alloc, name(cursor)?)?;
-    let name = Vec::from_slice(alloc, name(cursor)?)?;
+    let module = Vec::from_slice(alloc, utf8_name(cursor)?)?;
+    let name = Vec::from_slice(alloc, utf8_name(cursor)?)?;
     let desc = import_desc(cursor)?;
     Ok(Import { module, name, desc })
 }
 
 #[tactic(auto, unfolding(crate::specs::Entries::export_desc_at, crate::specs::Entries::exported_of))]
 fn export_desc(cursor: &mut Cursor) -> Result<ExportDesc, DecodeError>
-    ensures { Gives (λ desc. desc) result cursor.new (export_desc_at cursor.old.left) }
+    ensures { Decodes (λ desc. desc) result cursor.new (export_desc_at cursor.old.left) }
 {
-    let kind = byte(cursor)?;
+    let byte = byte(cursor)?;
     let index = number(cursor)?;
-    match kind {
+    match byte {
         0x00 => Ok(ExportDesc::Func(index)),
         0x01 => Ok(ExportDesc::Table(index)),
         0x02 => Ok(ExportDesc::Memory(index)),
@@ -56,21 +56,21 @@ fn export_desc(cursor: &mut Cursor) -> Result<ExportDesc, DecodeError>
 
 #[tactic(auto, unfolding(crate::specs::Entries::export_at))]
 fn export(alloc: Global, cursor: &mut Cursor) -> Result<Export, DecodeError>
-    ensures { Gives export result cursor.new (export_at cursor.old.left) }
+    ensures { Decodes export result cursor.new (export_at cursor.old.left) }
 {
-    let name = Vec::from_slice(alloc, name(cursor)?)?;
+    let name = Vec::from_slice(alloc, utf8_name(cursor)?)?;
     let desc = export_desc(cursor)?;
     Ok(Export { name, desc })
 }
 
-#[tactic(auto, unfolding(crate::specs::Entries::global_at))]
-fn global(alloc: Global, cursor: &mut Cursor) -> Result<GlobalDef, DecodeError>
-    ensures { Gives global_def result cursor.new (global_at cursor.old.left) }
+#[tactic(auto, unfolding(crate::specs::Entries::global_def_at))]
+fn global_def(alloc: Global, cursor: &mut Cursor) -> Result<GlobalDef, DecodeError>
+    ensures { Decodes global_def result cursor.new (global_def_at cursor.old.left) }
 {
-    let (kind, mutable) = global_type(cursor)?;
+    let (value_type, mutable) = global_type(cursor)?;
     let init = expression(alloc, cursor)?;
     Ok(GlobalDef {
-        kind,
+        kind: value_type,
         mutable,
         init,
     })
@@ -78,7 +78,7 @@ fn global(alloc: Global, cursor: &mut Cursor) -> Result<GlobalDef, DecodeError>
 
 #[tactic(auto, unfolding(crate::specs::Entries::elem_at))]
 fn elem(alloc: Global, cursor: &mut Cursor) -> Result<Elem, DecodeError>
-    ensures { Gives elem result cursor.new (elem_at cursor.old.left) }
+    ensures { Decodes elem result cursor.new (elem_at cursor.old.left) }
 {
     let table = number(cursor)?;
     let offset = expression(alloc, cursor)?;
@@ -92,11 +92,11 @@ fn elem(alloc: Global, cursor: &mut Cursor) -> Result<Elem, DecodeError>
 
 #[tactic(auto, unfolding(crate::specs::Entries::segment_at))]
 fn segment(alloc: Global, cursor: &mut Cursor) -> Result<Segment, DecodeError>
-    ensures { Gives segment result cursor.new (segment_at cursor.old.left) }
+    ensures { Decodes segment result cursor.new (segment_at cursor.old.left) }
 {
     let memory = number(cursor)?;
     let offset = expression(alloc, cursor)?;
-    let bytes = Vec::from_slice(alloc, bytes(cursor)?)?;
+    let bytes = Vec::from_slice(alloc, byte_vector(cursor)?)?;
     Ok(Segment {
         memory,
         offset,
@@ -148,7 +148,7 @@ pub(crate) struct GlobalEntry;
 
 impl Entry for GlobalEntry {
     ghost use Rattle.wasm_types.specs.Modules.{GlobalDef, global_def};
-    ghost use Rattle.wasm_decode.specs.Entries.{global_at};
+    ghost use Rattle.wasm_decode.specs.Entries.{global_def_at};
 
     type Value = GlobalDef;
 
@@ -156,10 +156,10 @@ impl Entry for GlobalEntry {
 
     ghost view = { global_def };
 
-    ghost read_at = { global_at };
+    ghost read_at = { global_def_at };
 
     fn read(alloc: Global, cursor: &mut Cursor) -> Result<GlobalDef, DecodeError> {
-        global(alloc, cursor)
+        global_def(alloc, cursor)
     }
 }
 

@@ -1,15 +1,15 @@
 // The code section: locals and bodies of functions (WebAssembly 1.0, section 5.5.13).
 ghost use Rattle.std.specs.Prelude.{◌≡◌, map};
 ghost use Rattle.wasm_types.specs.Modules.{func};
-ghost use Rattle.wasm_decode.specs.Gives.{Gives, GivesAll};
-ghost use Rattle.wasm_decode.specs.Values.{all_of, sized_at};
+ghost use Rattle.wasm_decode.specs.Decoding.{Decodes, DecodesAll};
+ghost use Rattle.wasm_decode.specs.Values.{sized_at, whole_read};
 ghost use Rattle.wasm_decode.specs.Entries.{are_few, locals_at, func_at, funcs_at, code_at};
 
 use crate::error::DecodeError;
 use crate::instructions::expression;
 use crate::numbers::{end, number};
 use crate::types::val_type;
-use crate::vectors::{Entry, bytes, vector};
+use crate::vectors::{Entry, byte_vector, vector};
 use fri_bytes::Cursor;
 use std::alloc::Global;
 use wasm_types::{Func, ValType};
@@ -17,7 +17,7 @@ use wasm_types::{Func, ValType};
 /// Locals of one type, as their count and the type.
 #[tactic(auto, unfolding(crate::specs::Entries::locals_at))]
 fn locals(cursor: &mut Cursor) -> Result<(u32, ValType), DecodeError>
-    ensures { Gives (λ locals. locals) result cursor.new (locals_at cursor.old.left) }
+    ensures { Decodes (λ locals. locals) result cursor.new (locals_at cursor.old.left) }
 {
     let count = number(cursor)?;
     Ok((count, val_type(cursor)?))
@@ -59,7 +59,7 @@ fn are_few(locals: &[(u32, ValType)]) -> bool
 
 #[tactic(auto, unfolding(crate::specs::Entries::func_at))]
 fn func(alloc: Global, cursor: &mut Cursor, type_index: u32) -> Result<Func, DecodeError>
-    ensures { Gives func result cursor.new (func_at type_index cursor.old.left) }
+    ensures { Decodes func result cursor.new (func_at type_index cursor.old.left) }
 {
     let locals = vector::<LocalsEntry>(alloc, cursor)?;
     if !are_few(&locals) {
@@ -74,9 +74,9 @@ fn func(alloc: Global, cursor: &mut Cursor, type_index: u32) -> Result<Func, Dec
 }
 
 /// The function that all of the bytes spell.
-#[tactic(auto, unfolding(crate::specs::Values::all_of))]
+#[tactic(auto, unfolding(crate::specs::Values::whole_read))]
 fn whole_func(alloc: Global, contents: &[u8], type_index: u32) -> Result<Func, DecodeError>
-    ensures { GivesAll func result (all_of (func_at type_index) contents.now) }
+    ensures { DecodesAll func result (whole_read (func_at type_index) contents.now) }
 {
     let mut cursor = Cursor::new(contents);
     let func = func(alloc, &mut cursor, type_index)?;
@@ -87,15 +87,15 @@ fn whole_func(alloc: Global, contents: &[u8], type_index: u32) -> Result<Func, D
 /// A size, and a function of that many bytes.
 #[tactic(auto, unfolding(crate::specs::Values::sized_at))]
 fn sized_func(alloc: Global, cursor: &mut Cursor, type_index: u32) -> Result<Func, DecodeError>
-    ensures { Gives func result cursor.new (sized_at (all_of (func_at type_index)) cursor.old.left) }
+    ensures { Decodes func result cursor.new (sized_at (whole_read (func_at type_index)) cursor.old.left) }
 {
-    let contents = bytes(cursor)?;
+    let contents = byte_vector(cursor)?;
     whole_func(alloc, contents, type_index)
 }
 
 /// A function for each index of a type.
 fn funcs(alloc: Global, cursor: &mut Cursor, indices: &[u32]) -> Result<Vec<Func>, DecodeError>
-    ensures { Gives (λ v. map func v.items) result cursor.new (funcs_at indices.now cursor.old.left) }
+    ensures { Decodes (λ v. map func v.items) result cursor.new (funcs_at indices.now cursor.old.left) }
 {
     let mut found = Vec::new(alloc);
     for index in indices {
@@ -111,7 +111,7 @@ pub(crate) fn code(
     cursor: &mut Cursor,
     indices: &[u32],
 ) -> Result<Vec<Func>, DecodeError>
-    ensures { Gives (λ v. map func v.items) result cursor.new (code_at indices.now cursor.old.left) }
+    ensures { Decodes (λ v. map func v.items) result cursor.new (code_at indices.now cursor.old.left) }
 {
     let count = number(cursor)?;
     if count as usize != indices.len() {

@@ -3,8 +3,8 @@
 
 ghost use Rattle.std.specs.Prelude.{◌≡◌, ◌↔◌, ℕ, List, Some, None, IfOk, IsErrOf, MatchResult};
 ghost use Rattle.wasm_types.specs.Modules.{module_of, Module as Shown};
-ghost use Rattle.wasm_decode.specs.Gives.{GivesAll};
-ghost use Rattle.wasm_decode.specs.Grammar.{Spells};
+ghost use Rattle.wasm_decode.specs.Decoding.{DecodesAll};
+ghost use Rattle.wasm_decode.specs.Grammar.{SpellsModule};
 ghost use Rattle.wasm_decode.specs.Sections.{module_of_bytes};
 
 mod entries;
@@ -31,14 +31,14 @@ use wasm_types::Module;
 /// Malformed, as is all that came after version 1.0.
 pub fn decode(alloc: Global, bytes: &[u8]) -> Result<Module, DecodeError>
     // What is decoded is spelled so.
-    ensures found { IfOk result (λ m. Spells bytes.now (module_of m)) }
+    ensures found { IfOk result (λ m. SpellsModule bytes.now (module_of m)) }
 
     // What is spelled so is decoded, unless memory runs out.
-    ensures only { (m : Shown) → Spells bytes.now m →
+    ensures only { (m : Shown) → SpellsModule bytes.now m →
         MatchResult result (λ found. module_of found ≡ m) (λ e. e ≡ DecodeError.NoMemory) }
 
     // Malformed comes only where no module is spelled.
-    ensures malformed { IsErrOf result DecodeError.Malformed → (m : Shown) → Spells bytes.now m → ⊥ }
+    ensures malformed { IsErrOf result DecodeError.Malformed → (m : Shown) → SpellsModule bytes.now m → ⊥ }
 
     // The same, in the words of the function that gives the module.
     ensures computed { MatchResult result
@@ -52,7 +52,7 @@ pub fn decode(alloc: Global, bytes: &[u8]) -> Result<Module, DecodeError>
 /// The header, the sections in their order, and nothing more.
 #[tactic(auto, unfolding(crate::specs::Sections::module_of_bytes))]
 fn module(alloc: Global, bytes: &[u8]) -> Result<Module, DecodeError>
-    ensures { GivesAll module_of result (module_of_bytes bytes.now) }
+    ensures { DecodesAll module_of result (module_of_bytes bytes.now) }
 {
     let mut cursor = Cursor::new(bytes);
     header(&mut cursor)?;
@@ -88,14 +88,14 @@ fn module(alloc: Global, bytes: &[u8]) -> Result<Module, DecodeError>
 
 /// A law: bytes spell at most one module.
 pub fn one_module()
-    ensures { (bytes : List ℕ) (a b : Shown) → Spells bytes a → Spells bytes b → a ≡ b }
+    ensures { (bytes : List ℕ) (a b : Shown) → SpellsModule bytes a → SpellsModule bytes b → a ≡ b }
 {
     exact_readers();
 }
 
 /// A law: the function that gives the module gives the one that the bytes spell, and no other.
 pub fn module_is_spelled()
-    ensures { (bytes : List ℕ) (m : Shown) → (module_of_bytes bytes ≡ Some m) ↔ Spells bytes m }
+    ensures { (bytes : List ℕ) (m : Shown) → (module_of_bytes bytes ≡ Some m) ↔ SpellsModule bytes m }
 {
     exact_readers();
 }

@@ -1,15 +1,15 @@
 // Sections (WebAssembly 1.0, sections 5.5.2, 5.5.3 and 5.5.15).
 ghost use Rattle.std.specs.Prelude.{◌≡◌, [], None, map, option_map};
 ghost use Rattle.wasm_types.specs.Modules.{func};
-ghost use Rattle.wasm_decode.specs.Gives.{Gives, GivesAll, Leaves};
-ghost use Rattle.wasm_decode.specs.Values.{vector_at, all_of, sized_at};
+ghost use Rattle.wasm_decode.specs.Decoding.{Decodes, DecodesAll, Passes};
+ghost use Rattle.wasm_decode.specs.Values.{vector_at, whole_read, sized_at};
 ghost use Rattle.wasm_decode.specs.Entries.{start_at, code_at};
 ghost use Rattle.wasm_decode.specs.Sections.{custom_name_of, starts, customs_at, contents_at, section_at, header_at};
 
 use crate::error::DecodeError;
 use crate::functions::code;
 use crate::numbers::{byte, end, number};
-use crate::vectors::{Entry, bytes, name, vector};
+use crate::vectors::{Entry, byte_vector, utf8_name, vector};
 use fri_bytes::{Cursor, exact_readers};
 use std::alloc::Global;
 use wasm_types::Func;
@@ -19,7 +19,7 @@ const HEADER: [u8; 8] = [0x00, 0x61, 0x73, 0x6d, 0x01, 0x00, 0x00, 0x00];
 
 #[tactic(auto, unfolding(crate::specs::Sections::header_at))]
 pub(crate) fn header(cursor: &mut Cursor) -> Result<(), DecodeError>
-    ensures { Leaves result cursor.new (header_at cursor.old.left) }
+    ensures { Passes result cursor.new (header_at cursor.old.left) }
 {
     if !cursor.rest().starts_with(&HEADER) {
         return Err(DecodeError::Malformed);
@@ -31,18 +31,18 @@ pub(crate) fn header(cursor: &mut Cursor) -> Result<(), DecodeError>
 /// The name at the front of a custom section's contents. What follows it is ignored.
 #[tactic(auto, unfolding(crate::specs::Sections::custom_name_of))]
 fn custom_name(contents: &[u8]) -> Result<&[u8], DecodeError>
-    ensures { GivesAll (λ name. name.now) result (custom_name_of contents.now) }
+    ensures { DecodesAll (λ name. name.now) result (custom_name_of contents.now) }
 {
     let mut cursor = Cursor::new(contents);
-    name(&mut cursor)
+    utf8_name(&mut cursor)
 }
 
 /// A custom section behind its id.
 #[tactic(auto, unfolding(crate::specs::Values::sized_at))]
 fn custom<'a>(cursor: &mut Cursor<'a>) -> Result<&'a [u8], DecodeError>
-    ensures { Gives (λ name. name.now) result cursor.new (sized_at custom_name_of cursor.old.left) }
+    ensures { Decodes (λ name. name.now) result cursor.new (sized_at custom_name_of cursor.old.left) }
 {
-    let contents = bytes(cursor)?;
+    let contents = byte_vector(cursor)?;
     custom_name(contents)
 }
 
@@ -58,7 +58,7 @@ fn is_next(cursor: &Cursor, byte: u8) -> bool
 
 /// Passes over custom sections.
 pub(crate) fn customs(cursor: &mut Cursor) -> Result<(), DecodeError>
-    ensures { Leaves result cursor.new (customs_at cursor.old.left) }
+    ensures { Passes result cursor.new (customs_at cursor.old.left) }
 {
     exact_readers();
     while is_next(cursor, 0) {
@@ -71,20 +71,20 @@ pub(crate) fn customs(cursor: &mut Cursor) -> Result<(), DecodeError>
 /// The contents of the section with this id, behind custom sections, or nothing where it is absent.
 #[tactic(auto, unfolding(crate::specs::Sections::contents_at))]
 fn contents<'a>(cursor: &mut Cursor<'a>, id: u8) -> Result<Option<&'a [u8]>, DecodeError>
-    ensures { Gives (option_map (λ contents. contents.now)) result cursor.new (contents_at id cursor.old.left) }
+    ensures { Decodes (option_map (λ contents. contents.now)) result cursor.new (contents_at id cursor.old.left) }
 {
     customs(cursor)?;
     if !is_next(cursor, id) {
         return Ok(None);
     }
     byte(cursor)?;
-    Ok(Some(bytes(cursor)?))
+    Ok(Some(byte_vector(cursor)?))
 }
 
 /// The vector that all of the bytes spell.
-#[tactic(auto, unfolding(crate::specs::Values::all_of))]
+#[tactic(auto, unfolding(crate::specs::Values::whole_read))]
 fn whole_vector<E: Entry>(alloc: Global, contents: &[u8]) -> Result<Vec<E::Value>, DecodeError>
-    ensures { GivesAll (λ v. map E.view v.items) result (all_of (vector_at E.read_at) contents.now) }
+    ensures { DecodesAll (λ v. map E.view v.items) result (whole_read (vector_at E.read_at) contents.now) }
 {
     let mut cursor = Cursor::new(contents);
     let found = vector::<E>(alloc, &mut cursor)?;
@@ -99,7 +99,7 @@ pub(crate) fn section<E: Entry>(
     cursor: &mut Cursor,
     id: u8,
 ) -> Result<Vec<E::Value>, DecodeError>
-    ensures { Gives (λ v. map E.view v.items) result cursor.new (section_at id [] (vector_at E.read_at) cursor.old.left) }
+    ensures { Decodes (λ v. map E.view v.items) result cursor.new (section_at id [] (vector_at E.read_at) cursor.old.left) }
 {
     match contents(cursor, id)? {
         Some(contents) => whole_vector::<E>(alloc, contents),
@@ -107,9 +107,9 @@ pub(crate) fn section<E: Entry>(
     }
 }
 
-#[tactic(auto, unfolding(crate::specs::Values::all_of, crate::specs::Entries::start_at))]
+#[tactic(auto, unfolding(crate::specs::Values::whole_read, crate::specs::Entries::start_at))]
 fn whole_start(contents: &[u8]) -> Result<Option<u32>, DecodeError>
-    ensures { GivesAll (λ func. func) result (all_of start_at contents.now) }
+    ensures { DecodesAll (λ func. func) result (whole_read start_at contents.now) }
 {
     let mut cursor = Cursor::new(contents);
     let func = number(&mut cursor)?;
@@ -120,7 +120,7 @@ fn whole_start(contents: &[u8]) -> Result<Option<u32>, DecodeError>
 /// The start section (section 5.5.11).
 #[tactic(auto, unfolding(crate::specs::Sections::section_at))]
 pub(crate) fn start_section(cursor: &mut Cursor) -> Result<Option<u32>, DecodeError>
-    ensures { Gives (λ func. func) result cursor.new (section_at 8 None start_at cursor.old.left) }
+    ensures { Decodes (λ func. func) result cursor.new (section_at 8 None start_at cursor.old.left) }
 {
     match contents(cursor, 8)? {
         Some(contents) => whole_start(contents),
@@ -128,9 +128,9 @@ pub(crate) fn start_section(cursor: &mut Cursor) -> Result<Option<u32>, DecodeEr
     }
 }
 
-#[tactic(auto, unfolding(crate::specs::Values::all_of))]
+#[tactic(auto, unfolding(crate::specs::Values::whole_read))]
 fn whole_code(alloc: Global, contents: &[u8], indices: &[u32]) -> Result<Vec<Func>, DecodeError>
-    ensures { GivesAll (λ v. map func v.items) result (all_of (code_at indices.now) contents.now) }
+    ensures { DecodesAll (λ v. map func v.items) result (whole_read (code_at indices.now) contents.now) }
 {
     let mut cursor = Cursor::new(contents);
     let funcs = code(alloc, &mut cursor, indices)?;
@@ -145,7 +145,7 @@ pub(crate) fn code_section(
     cursor: &mut Cursor,
     indices: &[u32],
 ) -> Result<Vec<Func>, DecodeError>
-    ensures { Gives (λ v. map func v.items) result cursor.new (section_at 10 [] (code_at indices.now) cursor.old.left) }
+    ensures { Decodes (λ v. map func v.items) result cursor.new (section_at 10 [] (code_at indices.now) cursor.old.left) }
 {
     match contents(cursor, 10)? {
         Some(contents) => whole_code(alloc, contents, indices),

@@ -2,12 +2,12 @@
 use Rattle.std.proofs.Common.{◌≡◌, ℕ, ◌+◌, ◌<◌, ◌≤◌, true, false, List, ◌∷◌, Option, Some, length, drop, refl, sym, ap, ◌∙◌, arith}
 use Rattle.std.specs.Prelude.{if◌then◌else◌}
 use Rattle.guest_memory.specs.LittleEndian.{low_bytes}
-use Rattle.guest_memory.specs.Memory.{Memory, loaded, is_inside, after_store, written}
+use Rattle.guest_memory.specs.Memory.{Memory, loaded, is_inside, after_store, with_bytes}
 use Rattle.wasm_types.specs.declared.code.Value.{Value}
 use Rattle.wasm_types.specs.declared.code.Value.TheVariants.{I32}
 use Rattle.wasm_values.specs.Access.{load_width, load_value}
 use Rattle.wasm_store.specs.Store.{Store}
-use Rattle.wasm_step.specs.Quick.{Within}
+use Rattle.wasm_step.specs.Limits.{Within}
 use Rattle.wasm_step.specs.Reduce.{Goes, got, load, load_at, read_at}
 use Rattle.wasm_step.specs.Thread.{Thread, without}
 
@@ -23,7 +23,7 @@ load_by op offset base w n v memory t st width at value =
 -- a store that lies outside changes nothing
 pub outside : (g : Store) (addr w bits : ℕ) → is_inside g.memory addr w ≡ false → record g { memory = after_store g.memory addr w bits } ≡ g
 outside g addr w bits e =
-    ap (λ (m : Memory). record g { memory = m }) (ap (λ b. if b then written g.memory addr (low_bytes w bits) else g.memory) e)
+    ap (λ (m : Memory). record g { memory = m }) (ap (λ b. if b then with_bytes g.memory addr (low_bytes w bits) else g.memory) e)
 
 pub within_without : (n : ℕ) (t : Thread) → Within t → Within (without n t)
 within_without n t h = record { frames = h.frames; size = omega (arith, h.size, Rattle.std.proofs.Common.length-drop n t.stack) }

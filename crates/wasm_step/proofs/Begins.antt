@@ -1,4 +1,4 @@
--- The threads of a valid program fit when they begin.
+-- The threads of a valid module fit when they begin.
 use Rattle.std.proofs.Common.{◌≡◌, ℕ, ◌≤◌, List, [], ◌∷◌, Option, Some, None, length, refl, sym, ap, ◌∙◌, subst}
 use Rattle.std.specs.Prelude.{slice_get, if◌then◌else◌}
 use Rattle.std.proofs.lemmas.Bool.{le-ltb}
@@ -8,10 +8,10 @@ use Rattle.wasm_types.specs.declared.code.ValType.{ValType}
 use Rattle.wasm_types.specs.declared.code.ValType.TheVariants as types
 use Rattle.wasm_types.specs.Modules.{Module, Func}
 use Rattle.wasm_types.specs.Valid.{IsValid}
-use Rattle.wasm_values.specs.Values.{kinds_of}
+use Rattle.wasm_values.specs.Values.{types_of_values}
 use Rattle.wasm_step.specs.Fits.{FramesFit, Fits}
 use Rattle.wasm_types.specs.Functions.{imported_type, own_type, type_of, own_func}
-use Rattle.wasm_step.specs.Strand.{IsHandler, begun, new_thread, handling, entry_from, entry_thread, with_start, first_thread}
+use Rattle.wasm_step.specs.Strand.{IsHandler, started_above, new_thread, handling, entry_from, entry_thread, with_start, first_thread}
 use Rattle.wasm_step.specs.Thread.{Thread, Frame, waiting_frame}
 use Rattle.wasm_step.proofs.Callees.{enter_fits}
 use Rattle.wasm_step.proofs.Starts.{entry_is_plain, start_is_plain}
@@ -22,14 +22,14 @@ module _ (m : Module) where
       ap (λ b. if b then imported_type m (slice_get m.imports f) else own_type m (own_func m f)) (le-ltb f (length m.imports) le)
 
   -- a function without a result begins with arguments of its types
-  begun_fits : (callers : List Frame) (f : ℕ) (args : List Value) (params : List ValType) (t : Thread) → IsValid m → length m.imports ≤ f → type_of m f ≡ Some (record { params = params; results = [] }) → kinds_of args ≡ params → FramesFit m None callers → begun (own_func m f) callers f args ≡ Some t → Fits m t
-  begun_fits callers f args params t v le is kinds frames e =
+  started_fits : (callers : List Frame) (f : ℕ) (args : List Value) (params : List ValType) (t : Thread) → IsValid m → length m.imports ≤ f → type_of m f ≡ Some (record { params = params; results = [] }) → types_of_values args ≡ params → FramesFit m None callers → started_above (own_func m f) callers f args ≡ Some t → Fits m t
+  started_fits callers f args params t v le is value_types frames e =
       by_func (own_func m f) refl (sym (own_typed f le) ∙ is) e
     where
-      by_func : (o : Option Func) → own_func m f ≡ o → own_type m o ≡ Some (record { params = params; results = [] }) → begun o callers f args ≡ Some t → Fits m t
+      by_func : (o : Option Func) → own_func m f ≡ o → own_type m o ≡ Some (record { params = params; results = [] }) → started_above o callers f args ≡ Some t → Fits m t
       by_func None q h b = cc
       by_func (Some func) q h b =
-          let fits = enter_fits m callers f func (record { params = params; results = [] }) args v q h kinds frames in
+          let fits = enter_fits m callers f func (record { params = params; results = [] }) args v q h value_types frames in
           let same = some_is b in
           subst (λ (t : Thread). Fits m t) same fits
         where
@@ -37,11 +37,11 @@ module _ (m : Module) where
           some_is e' = cc
 
   pub new_fits : (f arg : ℕ) (t : Thread) → IsValid m → IsHandler m f → new_thread m f arg ≡ Some t → Fits m t
-  new_fits f arg t v h e = begun_fits [] f (I32 arg ∷ []) (types.I32 ∷ []) t v h.own h.type refl tt e
+  new_fits f arg t v h e = started_fits [] f (I32 arg ∷ []) (types.I32 ∷ []) t v h.own h.type refl tt e
 
   pub handler_fits : (t : Thread) (f signal : ℕ) (u : Thread) → IsValid m → IsHandler m f → Fits m t → handling m t f signal ≡ Some u → Fits m u
   handler_fits t f signal u v h fits e =
-      begun_fits (waiting_frame t ∷ t.callers) f (I32 signal ∷ []) (types.I32 ∷ []) u v h.own h.type refl fits e
+      started_fits (waiting_frame t ∷ t.callers) f (I32 signal ∷ []) (types.I32 ∷ []) u v h.own h.type refl fits e
 
   pub first_fits : (t : Thread) → IsValid m → first_thread m ≡ Some t → Fits m t
   first_fits t v e = by_entry (entry_from m m.exports) refl e
@@ -50,7 +50,7 @@ module _ (m : Module) where
       by_start None u q h e' = let same : u ≡ t = cc in subst (λ (t : Thread). Fits m t) same h
       by_start (Some s) u q h e' =
           let p = start_is_plain m v s q in
-          begun_fits (waiting_frame u ∷ u.callers) s [] [] t v p.0 p.1 refl h e'
+          started_fits (waiting_frame u ∷ u.callers) s [] [] t v p.0 p.1 refl h e'
 
       by_thread : (o : Option Thread) → ((u : Thread) → o ≡ Some u → Fits m u) → with_start m m.start o ≡ Some t → Fits m t
       by_thread None h e' = cc
@@ -60,4 +60,4 @@ module _ (m : Module) where
       by_entry None q e' = cc
       by_entry (Some f) q e' =
           let p = entry_is_plain m v f q in
-          by_thread (begun (own_func m f) [] f []) (λ u b. begun_fits [] f [] [] u v p.0 p.1 refl tt b) e'
+          by_thread (started_above (own_func m f) [] f []) (λ u b. started_fits [] f [] [] u v p.0 p.1 refl tt b) e'

@@ -10,10 +10,10 @@ use Rattle.wasm_types.specs.Context.{Context}
 use Rattle.wasm_types.specs.Labels.{Labels, table_label, has_label, is_same_label, around, block_of}
 use Rattle.wasm_types.specs.Maybe.{◌>>=◌}
 use Rattle.wasm_types.specs.Modules.{Module}
-use Rattle.wasm_types.specs.Stack.{Stack, empty, jumped, is_exactly, pop_type, pop_result, push_result, jump_with}
-use Rattle.wasm_types.specs.Typing.{after_all}
-use Rattle.wasm_values.specs.Values.{kinds_of}
-use Rattle.wasm_step.specs.Fits.{TargetFits, known, put_kind, label_of, Leaves, Fits, AfterFits}
+use Rattle.wasm_types.specs.Stack.{Stack, empty_stack, jumped, is_exactly, pop_type, pop_result, push_result, jump_with}
+use Rattle.wasm_types.specs.Typing.{typed_instrs}
+use Rattle.wasm_values.specs.Values.{types_of_values}
+use Rattle.wasm_step.specs.Fits.{TargetFits, known, put_type, label_of, Leaves, Fits, AfterFits}
 use Rattle.wasm_step.specs.Reduce as Reduce
 use Rattle.wasm_step.specs.Reduce.{After, Goes, Stops, branch, label_at}
 use Rattle.wasm_step.specs.Thread.{Thread, opened, here}
@@ -88,7 +88,7 @@ table_at ls ns default i label e = by_default (slice_get ls default) refl e
     by_default None q e' = cc
     by_default (Some d) q e' = by_test d (list_all (has_label ls d) ns) q refl e'
 
-put_push : (o : Option ValType) (ks : List ValType) → push_result o (known ks) ≡ known (put_kind o ks)
+put_push : (o : Option ValType) (ks : List ValType) → push_result o (known ks) ≡ known (put_type o ks)
 put_push None ks = refl
 put_push (Some k) ks = refl
 
@@ -98,7 +98,7 @@ label_true (Some k) = refl
 
 module _ (m : Module) (c : Context) where
   -- a block that is opened fits, where its inside, its end and a branch to it do
-  open_fits : (t : Thread) (gives : Option ValType) (body target : Trees) (carries loops : Bool) → RestOf m c t → carries ≡ is_some (label_of gives carries) → Leaves c (label_of gives carries ∷ labels_at m t) gives body [] → TargetFits loops c gives target carries (here t) t.outer → LeavesAt m c t (put_kind gives (kinds_of t.stack)) → Fits m (opened t gives body target carries loops)
+  open_fits : (t : Thread) (gives : Option ValType) (body target : Trees) (carries loops : Bool) → RestOf m c t → carries ≡ is_some (label_of gives carries) → Leaves c (label_of gives carries ∷ labels_at m t) gives body [] → TargetFits loops c gives target carries (here t) t.outer → LeavesAt m c t (put_type gives (types_of_values t.stack)) → Fits m (opened t gives body target carries loops)
   open_fits t gives body target carries loops r e inside at_target after =
       goes m c (opened t gives body target carries loops) (r.0, r.1, r.2, (e, at_target, after, r.3), r.4) inside
 
@@ -106,34 +106,34 @@ module _ (m : Module) (c : Context) where
   carries_it None = refl
   carries_it (Some k) = refl
 
-  pub block_fits : (gives : Option ValType) (body : Trees) (t : Thread) → RestOf m c t → Before m c (Block gives body) t (kinds_of t.stack) → Fits m (opened t gives body t.todo (is_some gives) false)
+  pub block_fits : (gives : Option ValType) (body : Trees) (t : Thread) → RestOf m c t → Before m c (Block gives body) t (types_of_values t.stack) → Fits m (opened t gives body t.todo (is_some gives) false)
   block_fits gives body t r h =
-      let ks = kinds_of t.stack in
-      let i = inside_of gives (after_all c body (gives ∷ labels_at m t) empty) (known ks) (After' m c t) (End' m c t) h.typed in
+      let ks = types_of_values t.stack in
+      let i = inside_of gives (typed_instrs c body (gives ∷ labels_at m t) empty_stack) (known ks) (After' m c t) (End' m c t) h.typed in
       let nf = neither _ _ h.no_float in
       let nf' = neither _ _ nf.0 in
-      let after : LeavesAt m c t (put_kind gives ks) = record { typed = subst (λ s. IsSome (After' m c t s >>= End' m c t)) (put_push gives ks) i.rest; no_float = nf.1 } in
+      let after : LeavesAt m c t (put_type gives ks) = record { typed = subst (λ s. IsSome (After' m c t s >>= End' m c t)) (put_push gives ks) i.rest; no_float = nf.1 } in
       let inside : Leaves c (gives ∷ labels_at m t) gives body [] = record { typed = i.within; no_float = nf'.1 } in
       open_fits t gives body t.todo (is_some gives) false r (carries_it gives)
       (subst (λ l. Leaves c (l ∷ labels_at m t) gives body []) (sym (label_true gives)) inside)
-      (subst (λ l. LeavesAt m c t (put_kind l ks)) (sym (label_true gives)) after) after
+      (subst (λ l. LeavesAt m c t (put_type l ks)) (sym (label_true gives)) after) after
 
-  pub loop_fits : (gives : Option ValType) (body : Trees) (t : Thread) → RestOf m c t → Before m c (Loop gives body) t (kinds_of t.stack) → Fits m (opened t gives body body false true)
+  pub loop_fits : (gives : Option ValType) (body : Trees) (t : Thread) → RestOf m c t → Before m c (Loop gives body) t (types_of_values t.stack) → Fits m (opened t gives body body false true)
   loop_fits gives body t r h =
-      let ks = kinds_of t.stack in
-      let i = inside_of gives (after_all c body (None ∷ labels_at m t) empty) (known ks) (After' m c t) (End' m c t) h.typed in
+      let ks = types_of_values t.stack in
+      let i = inside_of gives (typed_instrs c body (None ∷ labels_at m t) empty_stack) (known ks) (After' m c t) (End' m c t) h.typed in
       let nf = neither _ _ h.no_float in
       let nf' = neither _ _ nf.0 in
-      let after : LeavesAt m c t (put_kind gives ks) = record { typed = subst (λ s. IsSome (After' m c t s >>= End' m c t)) (put_push gives ks) i.rest; no_float = nf.1 } in
+      let after : LeavesAt m c t (put_type gives ks) = record { typed = subst (λ s. IsSome (After' m c t s >>= End' m c t)) (put_push gives ks) i.rest; no_float = nf.1 } in
       open_fits t gives body body false true r refl (record { typed = i.within; no_float = nf'.1 }) (record { typed = i.within; no_float = nf'.1 }) after
 
-  pub choose_fits : (gives : Option ValType) (yes' no' : Trees) (t : Thread) → RestOf m c t → Before m c (If gives yes' no') t (kinds_of t.stack) → AfterFits m (Reduce.choose gives yes' no' t)
+  pub choose_fits : (gives : Option ValType) (yes' no' : Trees) (t : Thread) → RestOf m c t → Before m c (If gives yes' no') t (types_of_values t.stack) → AfterFits m (Reduce.choose gives yes' no' t)
   choose_fits gives yes' no' t r h =
-      let ks = kinds_of t.stack in
+      let ks = types_of_values t.stack in
       let F = After' m c t in
       let G = End' m c t in
-      let on_yes = after_all c yes' (gives ∷ labels_at m t) empty in
-      let on_no = after_all c no' (gives ∷ labels_at m t) empty in
+      let on_yes = typed_instrs c yes' (gives ∷ labels_at m t) empty_stack in
+      let on_no = typed_instrs c no' (gives ∷ labels_at m t) empty_stack in
       let a = step (pop_type types.I32 (known ks)) (λ tested. around gives on_yes tested >>= (λ before. block_of gives on_no before)) F G h.typed in
       let p = pops_type types.I32 ks a.value a.is in
       let y = around_of gives on_yes a.value (λ before. block_of gives on_no before) F G a.rest in
@@ -141,26 +141,26 @@ module _ (m : Module) (c : Context) where
       let nf = neither _ _ h.no_float in
       let nf1 = neither _ _ nf.0 in
       let nf2 = neither _ _ nf1.1 in
-      let after : LeavesAt m c t (put_kind gives p.more) = record { typed = subst (λ s. IsSome (F s >>= G)) (ap (push_result gives) p.left ∙ put_push gives p.more) n.rest; no_float = nf.1 } in
+      let after : LeavesAt m c t (put_type gives p.more) = record { typed = subst (λ s. IsSome (F s >>= G)) (ap (push_result gives) p.left ∙ put_push gives p.more) n.rest; no_float = nf.1 } in
       on_top_fits m c t _ t.stack types.I32 p.more p.there (λ v rest kv kr.
-      let after' : LeavesAt m c t (put_kind gives (kinds_of rest)) = subst (λ ks. LeavesAt m c t (put_kind gives ks)) (sym kr) after in
-      let at_label = subst (λ l. LeavesAt m c t (put_kind l (kinds_of rest))) (sym (label_true gives)) after' in
+      let after' : LeavesAt m c t (put_type gives (types_of_values rest)) = subst (λ ks. LeavesAt m c t (put_type gives ks)) (sym kr) after in
+      let at_label = subst (λ l. LeavesAt m c t (put_type l (types_of_values rest))) (sym (label_true gives)) after' in
       let t' = record t { stack = rest } in
       on_test_fits m c v _ _ kv
       (open_fits t' gives no' t.todo (is_some gives) false r (carries_it gives) (subst (λ l. Leaves c (l ∷ labels_at m t) gives no' []) (sym (label_true gives)) (record { typed = n.within; no_float = nf2.1 })) at_label after')
       (open_fits t' gives yes' t.todo (is_some gives) false r (carries_it gives) (subst (λ l. Leaves c (l ∷ labels_at m t) gives yes' []) (sym (label_true gives)) (record { typed = y.0; no_float = nf2.0 })) at_label after'))
 
-  pub br_fits : (n : ℕ) (t : Thread) → RestOf m c t → Before m c (Br n) t (kinds_of t.stack) → AfterFits m (branch n t)
+  pub br_fits : (n : ℕ) (t : Thread) → RestOf m c t → Before m c (Br n) t (types_of_values t.stack) → AfterFits m (branch n t)
   br_fits n t r h =
-      let ks = kinds_of t.stack in
+      let ks = types_of_values t.stack in
       let a = step (slice_get (labels_at m t) n) (λ label. jump_with label (known ks)) (After' m c t) (End' m c t) h.typed in
       let b = step (pop_result a.value (known ks)) (λ rest. Some jumped) (After' m c t) (End' m c t) a.rest in
       let p = pops_result a.value ks b.value b.is in
       branch_fits m c n t.outer t a.value p.more r a.is p.there
 
-  pub br_if_fits : (n : ℕ) (t : Thread) → RestOf m c t → Before m c (BrIf n) t (kinds_of t.stack) → AfterFits m (Reduce.branch_if n t)
+  pub br_if_fits : (n : ℕ) (t : Thread) → RestOf m c t → Before m c (BrIf n) t (types_of_values t.stack) → AfterFits m (Reduce.branch_if n t)
   br_if_fits n t r h =
-      let ks = kinds_of t.stack in
+      let ks = types_of_values t.stack in
       let F = After' m c t in
       let G = End' m c t in
       let a = step (slice_get (labels_at m t) n) (λ label. pop_type types.I32 (known ks) >>= (λ tested. pop_result label tested >>= (λ rest. Some (push_result label rest)))) F G h.typed in
@@ -176,9 +176,9 @@ module _ (m : Module) (c : Context) where
       (goes m c t' r (subst (λ ks. LeavesAt m c t ks) (sym kr) after))
       (branch_fits m c n t.outer t' a.value q.more r a.is (kr ∙ q.there)))
 
-  pub br_table_fits : (ns : List ℕ) (default : ℕ) (t : Thread) → RestOf m c t → Before m c (BrTable ns default) t (kinds_of t.stack) → AfterFits m (Reduce.branch_table ns default t)
+  pub br_table_fits : (ns : List ℕ) (default : ℕ) (t : Thread) → RestOf m c t → Before m c (BrTable ns default) t (types_of_values t.stack) → AfterFits m (Reduce.branch_table ns default t)
   br_table_fits ns default t r h =
-      let ks = kinds_of t.stack in
+      let ks = types_of_values t.stack in
       let F = After' m c t in
       let G = End' m c t in
       let a = step (table_label (labels_at m t) ns default) (λ label. pop_type types.I32 (known ks) >>= (λ tested. jump_with label tested)) F G h.typed in
@@ -191,9 +191,9 @@ module _ (m : Module) (c : Context) where
       on_i32_fits m c v _ kv (λ i.
       branch_fits m c (label_at (slice_get ns i) default) t.outer (record t { stack = rest }) a.value q.more r (table_at (labels_at m t) ns default i a.value a.is) (kr ∙ q.there)))
 
-  pub return_row_fits : (t : Thread) → RestOf m c t → Before m c Return t (kinds_of t.stack) → AfterFits m (Reduce.return_from t)
+  pub return_row_fits : (t : Thread) → RestOf m c t → Before m c Return t (types_of_values t.stack) → AfterFits m (Reduce.return_from t)
   return_row_fits t r h =
-      let ks = kinds_of t.stack in
+      let ks = types_of_values t.stack in
       let b = step (pop_result c.gives (known ks)) (λ rest. Some jumped) (After' m c t) (End' m c t) h.typed in
       let p = pops_result c.gives ks b.value b.is in
       return_fits m t c.gives p.more r.2 r.4 p.there

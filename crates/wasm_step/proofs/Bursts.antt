@@ -9,36 +9,36 @@ use Rattle.wasm_types.specs.Modules.{Module}
 use Rattle.wasm_types.specs.Valid.{IsValid}
 use Rattle.wasm_step.specs.declared.halt.Stopped.{Stopped}
 use Rattle.wasm_step.specs.Answer.{stopped_of}
-use Rattle.wasm_step.specs.Paused.{run_of}
-use Rattle.wasm_step.specs.Burst.{Settled, At, Done, Run, at_next, after_end, settle_by, settle, at_further, further, spent, after_step, burst}
-use Rattle.wasm_values.specs.Values.{kinds_of}
+use Rattle.wasm_step.specs.Paused.{stopped_result}
+use Rattle.wasm_step.specs.Burst.{Settled, At, Done, BurstResult, at_next, after_end, settle_by, settle, one_step_at, one_step, spent, after_step, burst}
+use Rattle.wasm_values.specs.Values.{types_of_values}
 use Rattle.wasm_store.specs.Suits.{Suits}
-use Rattle.wasm_step.specs.Fits.{Leaves, Fits, StopFits, AfterFits, RunFits, StandsFit}
-use Rattle.wasm_step.specs.Reduce.{Both, Stop, Traps, After, Goes, Stops, row, reduce, limited, ended, trapped}
+use Rattle.wasm_step.specs.Fits.{Leaves, Fits, HaltFits, AfterFits, BurstFits, StandsFit}
+use Rattle.wasm_step.specs.Reduce.{Both, Halt, Traps, After, Goes, Stops, instr_row, reduce, limited, ended, at_trap}
 use Rattle.wasm_store.specs.Store.{Store}
 use Rattle.wasm_step.specs.Thread.{Thread, with_operand, is_within, depth}
 use Rattle.wasm_step.proofs.Branches.{block_fits, loop_fits, choose_fits, br_fits, br_if_fits, br_table_fits, return_row_fits}
 use Rattle.wasm_step.proofs.Callees.{call_row_fits, call_indirect_fits}
 use Rattle.wasm_step.proofs.Fits.{never_none, RestOf, labels_at, goes, rest_of, ended_fits}
 use Rattle.wasm_step.proofs.Plain.{Before, numeric_fits, local_get_fits, local_set_fits, local_tee_fits, drop_fits, select_fits}
-use Rattle.wasm_step.proofs.Programs.{same_program}
+use Rattle.wasm_step.proofs.SameModule.{keeps_module}
 use Rattle.wasm_step.proofs.Runs.{zero_depth, less_depth}
 use Rattle.wasm_step.proofs.Stored.{global_get_fits, global_set_fits, load_row_fits, store_row_fits, size_fits, grow_fits}
 
-at_further_program : (s : Settled) (g : Store) → (at_further s g).store.program ≡ g.program
-at_further_program (At i t) g = same_program i t g
-at_further_program (Done stop) g = refl
+one_step_at_module : (s : Settled) (g : Store) → (one_step_at s g).store.«module» ≡ g.«module»
+one_step_at_module (At i t) g = keeps_module i t g
+one_step_at_module (Done stop) g = refl
 
--- an instruction leaves the program as it is
-pub further_program : (t : Thread) (g : Store) → (further t g).store.program ≡ g.program
-further_program t g = at_further_program (settle t) g
+-- an instruction leaves the module as it is
+pub one_step_module : (t : Thread) (g : Store) → (one_step t g).store.«module» ≡ g.«module»
+one_step_module t g = one_step_at_module (settle t) g
 
 module _ (m : Module) where
   abbrev BothFit : Both → Type 0
   BothFit b = AfterFits m b.after × Suits b.store
 
   -- each instruction keeps what fits
-  row_fits : (c : Context) (i : Tree) (t : Thread) (g : Store) → IsValid m → g.program ≡ m → Suits g → RestOf m c t → Before m c i t (kinds_of t.stack) → BothFit (row i t g)
+  row_fits : (c : Context) (i : Tree) (t : Thread) (g : Store) → IsValid m → g.«module» ≡ m → Suits g → RestOf m c t → Before m c i t (types_of_values t.stack) → BothFit (instr_row i t g)
   row_fits c Unreachable t g v same s r h = (tt, s)
   row_fits c Nop t g v same s r h = (goes m c t r (record { typed = h.typed; no_float = h.no_float }), s)
   row_fits c (Block gives body) t g v same s r h = (block_fits m c gives body t r h, s)
@@ -73,18 +73,18 @@ module _ (m : Module) where
   limited_fits : (a : After) → AfterFits m a → AfterFits m (limited a)
   limited_fits (Stops s) h = h
   limited_fits (Goes t) h =
-      elim (is_within t) as (λ b. AfterFits m (if b then Goes t else trapped Exhausted)) [ true ↦ h | false ↦ tt ]
+      elim (is_within t) as (λ b. AfterFits m (if b then Goes t else at_trap Exhausted)) [ true ↦ h | false ↦ tt ]
 
   -- ---- the ends, and bursts
 
   abbrev SettledFits : Settled → Type 0
   SettledFits (At i t) = Fits m (record t { todo = Then i t.todo })
-  SettledFits (Done s) = StopFits m s
+  SettledFits (Done s) = HaltFits m s
 
   next_fits : (todo : Trees) (t : Thread) (rest : Settled) → t.todo ≡ todo → Fits m t → (todo ≡ End → SettledFits rest) → SettledFits (at_next todo t rest)
   next_fits End t rest e h otherwise = otherwise refl
   next_fits (Then i is) t rest e h otherwise =
-      goes m h.0.context (record t { todo = Then i is }) (rest_of m t h) (subst (λ x. Leaves h.0.context (labels_at m t) t.gives x (kinds_of t.stack)) e h.0.todo)
+      goes m h.0.context (record t { todo = Then i is }) (rest_of m t h) (subst (λ x. Leaves h.0.context (labels_at m t) t.gives x (types_of_values t.stack)) e h.0.todo)
 
   after_end_fits : (a : After) (go : Thread → Settled) → AfterFits m a → ((t : Thread) → a ≡ Goes t → Fits m t → SettledFits (go t)) → SettledFits (after_end a go)
   after_end_fits (Goes t) go h next = next t refl h
@@ -96,55 +96,55 @@ module _ (m : Module) where
   settle_by_fits (suc n) t d h =
       next_fits t.todo t _ refl h (λ none. after_end_fits (ended t) _ (ended_fits m t none h) (λ u e hu. settle_by_fits n u (less_depth t u n d e) hu))
 
-  at_further_fits : (s : Settled) (g : Store) → IsValid m → g.program ≡ m → Suits g → SettledFits s → BothFit (at_further s g)
-  at_further_fits (At i t) g v same s h =
+  one_step_at_fits : (s : Settled) (g : Store) → IsValid m → g.«module» ≡ m → Suits g → SettledFits s → BothFit (one_step_at s g)
+  one_step_at_fits (At i t) g v same s h =
       let b = row_fits h.0.context i t g v same s (rest_of m (record t { todo = Then i t.todo }) h) h.0.todo in
-      (limited_fits (row i t g).after b.0, b.1)
-  at_further_fits (Done stop) g v same s h = (h, s)
+      (limited_fits (instr_row i t g).after b.0, b.1)
+  one_step_at_fits (Done stop) g v same s h = (h, s)
 
-  spent_fits : (s : Settled) → SettledFits s → StopFits m (spent s)
+  spent_fits : (s : Settled) → SettledFits s → HaltFits m (spent s)
   spent_fits (At i t) h = tt
   spent_fits (Done stop) h = h
 
-  after_step_fits : (a : After) (g : Store) (go : Thread → Store → Run) → AfterFits m a → Suits g → ((t : Thread) → Fits m t → RunFits m (go t g)) → RunFits m (after_step a g go)
+  after_step_fits : (a : After) (g : Store) (go : Thread → Store → BurstResult) → AfterFits m a → Suits g → ((t : Thread) → Fits m t → BurstFits m (go t g)) → BurstFits m (after_step a g go)
   after_step_fits (Goes t) g go h hg next = next t h
   after_step_fits (Stops s) g go h hg next = (h, hg)
 
   -- a burst keeps what fits, and does not stick
-  pub burst_fits : (n : ℕ) (t : Thread) (g : Store) → IsValid m → g.program ≡ m → Suits g → Fits m t → RunFits m (burst n t g)
+  pub burst_fits : (n : ℕ) (t : Thread) (g : Store) → IsValid m → g.«module» ≡ m → Suits g → Fits m t → BurstFits m (burst n t g)
   unfolding burst
   burst_fits zero t g v same s h = (spent_fits (settle t) (settle_by_fits (depth t) t refl h), s)
   burst_fits (suc n) t g v same s h =
-      let b = at_further_fits (settle t) g v same s (settle_by_fits (depth t) t refl h) in
-      after_step_fits (further t g).after (further t g).store _ b.0 b.1 (λ u hu. burst_fits n u (further t g).store v (further_program t g ∙ same) b.1 hu)
+      let b = one_step_at_fits (settle t) g v same s (settle_by_fits (depth t) t refl h) in
+      after_step_fits (one_step t g).after (one_step t g).store _ b.0 b.1 (λ u hu. burst_fits n u (one_step t g).store v (one_step_module t g ∙ same) b.1 hu)
 
   -- the same of what equals the burst
-  pub run_fits : (n : ℕ) (t : Thread) (g : Store) (r : Run) → r ≡ burst n t g → IsValid m → g.program ≡ m → Suits g → Fits m t → RunFits m r
-  run_fits n t g r e v same s h = subst (λ r. RunFits m r) (sym e) (burst_fits n t g v same s h)
+  pub result_fits : (n : ℕ) (t : Thread) (g : Store) (r : BurstResult) → r ≡ burst n t g → IsValid m → g.«module» ≡ m → Suits g → Fits m t → BurstFits m r
+  result_fits n t g r e v same s h = subst (λ r. BurstFits m r) (sym e) (burst_fits n t g v same s h)
 
-after_step_program : (a : After) (g : Store) (go : Thread → Store → Run) → ((t : Thread) → (go t g).store.program ≡ g.program) → (after_step a g go).store.program ≡ g.program
-after_step_program (Goes t) g go next = next t
-after_step_program (Stops s) g go next = refl
+after_step_module : (a : After) (g : Store) (go : Thread → Store → BurstResult) → ((t : Thread) → (go t g).store.«module» ≡ g.«module») → (after_step a g go).store.«module» ≡ g.«module»
+after_step_module (Goes t) g go next = next t
+after_step_module (Stops s) g go next = refl
 
--- a burst leaves the program as it is
-pub burst_program : (n : ℕ) (t : Thread) (g : Store) → (burst n t g).store.program ≡ g.program
+-- a burst leaves the module as it is
+pub burst_module : (n : ℕ) (t : Thread) (g : Store) → (burst n t g).store.«module» ≡ g.«module»
 unfolding burst
-burst_program zero t g = refl
-burst_program (suc n) t g =
-    after_step_program (further t g).after (further t g).store (burst n) (λ u. burst_program n u (further t g).store)
-    ∙ further_program t g
+burst_module zero t g = refl
+burst_module (suc n) t g =
+    after_step_module (one_step t g).after (one_step t g).store (burst n) (λ u. burst_module n u (one_step t g).store)
+    ∙ one_step_module t g
 
-run_program : (n : ℕ) (t : Thread) (g : Store) (r : Run) → r ≡ burst n t g → r.store.program ≡ g.program
-run_program n t g r e = ap (λ (r : Run). r.store.program) e ∙ burst_program n t g
+result_module : (n : ℕ) (t : Thread) (g : Store) (r : BurstResult) → r ≡ burst n t g → r.store.«module» ≡ g.«module»
+result_module n t g r e = ap (λ (r : BurstResult). r.store.«module») e ∙ burst_module n t g
 
--- what a burst of the program leaves: a stop that fits, a store that suits, and the program
+-- what a burst of the module leaves: a stop that fits, a store that suits, and the module
 pub record Leaving (m : Module) (stopped : Stopped) (u : Thread) (g : Store) : Type 0 where
-  pub stop : StopFits m (stopped_of stopped u)
+  pub stop : HaltFits m (stopped_of stopped u)
   pub suits : Suits g
-  pub program : g.program ≡ m
+  pub same_module : g.«module» ≡ m
 
-pub leaving : (m : Module) (t u : Thread) (g g' : Store) (stopped : Stopped) (call : Option ℕ) → run_of stopped u g' ≡ burst 10000000 t g → IsValid m → m ≡ g.program → Suits g → StandsFit m t call → call ≡ None → Leaving m stopped u g'
+pub leaving : (m : Module) (t u : Thread) (g g' : Store) (stopped : Stopped) (call : Option ℕ) → stopped_result stopped u g' ≡ burst 10000000 t g → IsValid m → m ≡ g.«module» → Suits g → StandsFit m t call → call ≡ None → Leaving m stopped u g'
 leaving m t u g g' stopped call e v same s stands runs =
     let fits = subst (λ (call : Option ℕ). StandsFit m t call) runs stands in
-    let r = run_fits m 10000000 t g (run_of stopped u g') e v (sym same) s fits in
-    record { stop = r.0; suits = r.1; program = run_program 10000000 t g (run_of stopped u g') e ∙ sym same }
+    let r = result_fits m 10000000 t g (stopped_result stopped u g') e v (sym same) s fits in
+    record { stop = r.0; suits = r.1; same_module = result_module 10000000 t g (stopped_result stopped u g') e ∙ sym same }

@@ -19,21 +19,21 @@ use Rattle.wasm_types.specs.Typing.{IsWellTyped}
 use Rattle.wasm_types.specs.Valid.{IsValid}
 use Rattle.wasm_types.specs.declared.traps.Trap.TheVariants as traps
 use Rattle.wasm_step.specs.Call.{site_of}
-use Rattle.wasm_values.specs.Values.{kind_of, kinds_of, zeros, zero_of}
+use Rattle.wasm_values.specs.Values.{type_of_value, types_of_values, zeros, zero_of}
 use Rattle.wasm_store.specs.Suits.{Suits}
-use Rattle.wasm_step.specs.Fits.{known, put_kind, label_of, Leaves, FramesFit, Fits, AfterFits, CallFits}
+use Rattle.wasm_step.specs.Fits.{known, put_type, label_of, Leaves, FramesFit, Fits, AfterFits, CallFits}
 use Rattle.wasm_step.specs.Reduce as Reduce
-use Rattle.wasm_types.specs.Functions.{imported_type, own_type, type_of, same_kinds, same_type, own_func}
-use Rattle.wasm_step.specs.Reduce.{After, Goes, Stops, Calls, Sticks, given}
+use Rattle.wasm_types.specs.Functions.{imported_type, own_type, type_of, same_types, same_type, own_func}
+use Rattle.wasm_step.specs.Reduce.{After, Goes, Stops, Calls, Sticks, with_result}
 use Rattle.wasm_store.specs.Store.{Store}
 use Rattle.wasm_step.specs.Strand.{IsResult, library_result, first_result}
 use Rattle.wasm_step.specs.Thread as Thread'
 use Rattle.wasm_step.specs.Thread.{Thread, Frame, without, arguments, waiting_frame, has_room}
-use Rattle.wasm_step.proofs.Fits.{never_none, is_same_equal, pops_type, RestOf, LeavesAt, given_fits}
+use Rattle.wasm_step.proofs.Fits.{never_none, is_same_equal, pops_type, RestOf, LeavesAt, with_result_fits}
 use Rattle.wasm_step.proofs.Plain.{neither, step, After', End', Before, on_top_fits, on_i32_fits}
 use Rattle.wasm_step.proofs.Starts.{same_lookup}
 
--- ---- a function of the program
+-- ---- a function of the module
 
 -- no element of a list passes a test that none passes
 pub none_of : {X : Type 0} (p : X → Bool) (xs : List X) (k : ℕ) (x : X) → list_any p xs ≡ false → slice_get xs k ≡ Some x → p x ≡ false
@@ -46,28 +46,28 @@ pub at_all : {X : Type 0} (P : X → Type 0) (xs : List X) (k : ℕ) (x : X) →
 at_all P xs k x h at = subst P (get_or_from_slice_get xs k x x at) (h k x (slice_get_within xs k x at))
 
 -- a local starts as a value of its type
-pub kind_of_zero : (k : ValType) → is_float k ≡ false → kind_of (zero_of k) ≡ k
-kind_of_zero types.I32 e = refl
-kind_of_zero types.I64 e = refl
-kind_of_zero types.F32 e = cc
-kind_of_zero types.F64 e = cc
+pub type_of_zero : (k : ValType) → is_float k ≡ false → type_of_value (zero_of k) ≡ k
+type_of_zero types.I32 e = refl
+type_of_zero types.I64 e = refl
+type_of_zero types.F32 e = cc
+type_of_zero types.F64 e = cc
 
-kinds_of_replicate : (n : ℕ) (v : Value) → kinds_of (replicate n v) ≡ replicate n (kind_of v)
-kinds_of_replicate zero v = refl
-kinds_of_replicate (suc n) v = ap (λ ks. kind_of v ∷ ks) (kinds_of_replicate n v)
+types_of_replicate : (n : ℕ) (v : Value) → types_of_values (replicate n v) ≡ replicate n (type_of_value v)
+types_of_replicate zero v = refl
+types_of_replicate (suc n) v = ap (λ ks. type_of_value v ∷ ks) (types_of_replicate n v)
 
-kinds_of_zeros : (ds : List (ℕ × ValType)) → list_any (λ (run : ℕ × ValType). is_float run.1) ds ≡ false → kinds_of (zeros ds) ≡ expand ds
-kinds_of_zeros [] e = refl
-kinds_of_zeros (d ∷ ds) e =
+types_of_zeros : (ds : List (ℕ × ValType)) → list_any (λ (run : ℕ × ValType). is_float run.1) ds ≡ false → types_of_values (zeros ds) ≡ expand ds
+types_of_zeros [] e = refl
+types_of_zeros (d ∷ ds) e =
     let parts = neither (is_float d.1) _ e in
-    map-append kind_of (replicate d.0 (zero_of d.1)) (zeros ds)
-    ∙ ap (λ ks. ks ++ kinds_of (zeros ds)) (kinds_of_replicate d.0 (zero_of d.1) ∙ ap (replicate d.0) (kind_of_zero d.1 parts.0))
-    ∙ ap (λ ks. replicate d.0 d.1 ++ ks) (kinds_of_zeros ds parts.1)
+    map-append type_of_value (replicate d.0 (zero_of d.1)) (zeros ds)
+    ∙ ap (λ ks. ks ++ types_of_values (zeros ds)) (types_of_replicate d.0 (zero_of d.1) ∙ ap (replicate d.0) (type_of_zero d.1 parts.0))
+    ∙ ap (λ ks. replicate d.0 d.1 ++ ks) (types_of_zeros ds parts.1)
 
--- the body of a function of a valid program leaves its result, and its locals start as values of their types
+-- the body of a function of a valid module leaves its result, and its locals start as values of their types
 pub record BodyFits (m : Module) (func : Func) (type : FuncType) : Type 0 where
   pub body : Leaves (context_of m (type.params ++ expand func.locals) (result_of type)) (result_of type ∷ []) (result_of type) func.body []
-  pub zeros : kinds_of (zeros func.locals) ≡ expand func.locals
+  pub zeros : types_of_values (zeros func.locals) ≡ expand func.locals
 
 pub body_fits : (m : Module) (f : ℕ) (func : Func) (type : FuncType) → IsValid m → own_func m f ≡ Some func → slice_get m.types func.type_index ≡ Some type → BodyFits m func type
 body_fits m f func type v own at =
@@ -76,7 +76,7 @@ body_fits m f func type v own at =
     let parts = neither (list_any (λ (run : ℕ × ValType). is_float run.1) func.locals) (have_float func.body) plain in
     record {
       body = record { typed = subst (λ o. IsSomeAnd o (λ (t : FuncType). IsWellTyped (context_of m (t.params ++ expand func.locals) (result_of t)) func.body)) at typed; no_float = parts.1 };
-      zeros = kinds_of_zeros func.locals parts.0;
+      zeros = types_of_zeros func.locals parts.0;
     }
 
 -- ---- arguments
@@ -97,33 +97,33 @@ pops_each (t ∷ ts) ks s e = by_case (pop_type t (known ks)) refl e (λ ks' e'.
         let r = next p.more (subst (λ b. pop_each ts b ≡ Some s) p.left e') in
         record { more = r.more; there = p.there ∙ ap (λ ks. t ∷ ks) r.there; left = r.left }
 
-kinds_of-reverse : (vs : List Value) → kinds_of (reverse vs) ≡ reverse (kinds_of vs)
-kinds_of-reverse [] = refl
-kinds_of-reverse (v ∷ vs) =
-    ap kinds_of (reverse-append (v ∷ []) vs) ∙ map-append kind_of (reverse vs) (v ∷ []) ∙ ap (λ l. l ++ kind_of v ∷ []) (kinds_of-reverse vs) ∙ sym (reverse-append (kind_of v ∷ []) (kinds_of vs))
+types_of_values-reverse : (vs : List Value) → types_of_values (reverse vs) ≡ reverse (types_of_values vs)
+types_of_values-reverse [] = refl
+types_of_values-reverse (v ∷ vs) =
+    ap types_of_values (reverse-append (v ∷ []) vs) ∙ map-append type_of_value (reverse vs) (v ∷ []) ∙ ap (λ l. l ++ type_of_value v ∷ []) (types_of_values-reverse vs) ∙ sym (reverse-append (type_of_value v ∷ []) (types_of_values vs))
 
-drop_map : (n : ℕ) (vs : List Value) → kinds_of (drop n vs) ≡ drop n (kinds_of vs)
+drop_map : (n : ℕ) (vs : List Value) → types_of_values (drop n vs) ≡ drop n (types_of_values vs)
 drop_map zero vs = refl
 drop_map (suc n) [] = refl
 drop_map (suc n) (v ∷ vs) = drop_map n vs
 
-module _ (t : Thread) (params more : List ValType) (h : kinds_of t.stack ≡ reverse params ++ more) where
+module _ (t : Thread) (params more : List ValType) (h : types_of_values t.stack ≡ reverse params ++ more) where
   count : length t.stack ≡ length params + length more
-  count = omega (arith, ap length h, length-map t.stack kind_of, length-append (reverse params) more, length-reverse params)
+  count = omega (arith, ap length h, length-map t.stack type_of_value, length-append (reverse params) more, length-reverse params)
 
   args_are : arguments (length params) t ≡ Some (reverse (take (length params) t.stack))
   args_are =
       let enough : nat_lt (length t.stack) (length params) ≡ false = search (rules, tests, count) in
       ap (λ b. if b then None else Some (reverse (take (length params) t.stack))) enough
 
-  args_kinds : kinds_of (reverse (take (length params) t.stack)) ≡ params
-  args_kinds =
-      kinds_of-reverse (take (length params) t.stack)
-      ∙ ap reverse (sym (take-map kind_of (length params) t.stack) ∙ ap (λ l. take (length params) l) h ∙ take_at (reverse params) more (length params) (length-reverse params))
+  args_value_types : types_of_values (reverse (take (length params) t.stack)) ≡ params
+  args_value_types =
+      types_of_values-reverse (take (length params) t.stack)
+      ∙ ap reverse (sym (take-map type_of_value (length params) t.stack) ∙ ap (λ l. take (length params) l) h ∙ take_at (reverse params) more (length params) (length-reverse params))
       ∙ reverse-reverse params
 
-  rest_kinds : kinds_of (drop (length params) t.stack) ≡ more
-  rest_kinds =
+  rest_value_types : types_of_values (drop (length params) t.stack) ≡ more
+  rest_value_types =
       drop_map (length params) t.stack ∙ ap (λ l. drop (length params) l) h ∙ drop_at (reverse params) more (length params) (length-reverse params)
 
 label_true : (o : Option ValType) → label_of o (is_some o) ≡ o
@@ -131,12 +131,12 @@ label_true None = refl
 label_true (Some k) = refl
 
 module _ (m : Module) where
-  -- a frame of the program's own function, above these
-  pub enter_fits : (callers : List Frame) (f : ℕ) (func : Func) (type : FuncType) (args : List Value) → IsValid m → own_func m f ≡ Some func → slice_get m.types func.type_index ≡ Some type → kinds_of args ≡ type.params → FramesFit m (result_of type) callers → Fits m (Thread'.at_start callers f func.body (args ++ zeros func.locals) (result_of type))
-  enter_fits callers f func type args v own at kinds frames =
+  -- a frame of the module's own function, above these
+  pub enter_fits : (callers : List Frame) (f : ℕ) (func : Func) (type : FuncType) (args : List Value) → IsValid m → own_func m f ≡ Some func → slice_get m.types func.type_index ≡ Some type → types_of_values args ≡ type.params → FramesFit m (result_of type) callers → Fits m (Thread'.at_start callers f func.body (args ++ zeros func.locals) (result_of type))
+  enter_fits callers f func type args v own at value_types frames =
       let b = body_fits m f func type v own at in
       let c' = context_of m (type.params ++ expand func.locals) (result_of type) in
-      let locals = map-append kind_of args (zeros func.locals) ∙ ap (λ l. l ++ kinds_of (zeros func.locals)) kinds ∙ ap (λ l. type.params ++ l) b.zeros in (
+      let locals = map-append type_of_value args (zeros func.locals) ∙ ap (λ l. l ++ types_of_values (zeros func.locals)) value_types ∙ ap (λ l. type.params ++ l) b.zeros in (
         record {
           context = c';
           function = record { func = func; type = type; is_own = own; has_type = at; same = refl };
@@ -149,7 +149,7 @@ module _ (m : Module) where
       )
 
 module _ (m : Module) (c : Context) where
-  caller_fits : (t : Thread) (type : FuncType) (more : List ValType) → RestOf m c t → kinds_of t.stack ≡ reverse type.params ++ more → LeavesAt m c t (put_kind (result_of type) more) → FramesFit m (result_of type) (waiting_frame (without (length type.params) t) ∷ t.callers)
+  caller_fits : (t : Thread) (type : FuncType) (more : List ValType) → RestOf m c t → types_of_values t.stack ≡ reverse type.params ++ more → LeavesAt m c t (put_type (result_of type) more) → FramesFit m (result_of type) (waiting_frame (without (length type.params) t) ∷ t.callers)
   caller_fits t type more r h l = (
     record {
       context = c;
@@ -157,32 +157,32 @@ module _ (m : Module) (c : Context) where
       locals = r.1;
       returns = r.2;
       around = r.3;
-      todo = subst (λ ks. LeavesAt m c t (put_kind (result_of type) ks)) (sym (rest_kinds t type.params more h)) l;
+      todo = subst (λ ks. LeavesAt m c t (put_type (result_of type) ks)) (sym (rest_value_types t type.params more h)) l;
     },
     r.4,
   )
 
-  library_fits : (t : Thread) (f : ℕ) (type : FuncType) (more : List ValType) → RestOf m c t → imported_type m (slice_get m.imports f) ≡ Some type → kinds_of t.stack ≡ reverse type.params ++ more → LeavesAt m c t (put_kind (result_of type) more) → AfterFits m (Reduce.call_library f (Some type) t)
+  library_fits : (t : Thread) (f : ℕ) (type : FuncType) (more : List ValType) → RestOf m c t → imported_type m (slice_get m.imports f) ≡ Some type → types_of_values t.stack ≡ reverse type.params ++ more → LeavesAt m c t (put_type (result_of type) more) → AfterFits m (Reduce.call_library f (Some type) t)
   library_fits t f type more r is h l =
       let n = length type.params in
-      let left = subst (λ ks. LeavesAt m c t (put_kind (result_of type) ks)) (sym (rest_kinds t type.params more h)) l in
+      let left = subst (λ ks. LeavesAt m c t (put_type (result_of type) ks)) (sym (rest_value_types t type.params more h)) l in
       let gives : library_result m f ≡ result_of type = ap first_result is in
-      let fits : CallFits m (without n t) f = λ o k. given_fits m c (result_of type) o (without n t) r left (subst (λ g. IsResult g o) gives k) in
+      let fits : CallFits m (without n t) f = λ o k. with_result_fits m c (result_of type) o (without n t) r left (subst (λ g. IsResult g o) gives k) in
       subst (λ o. AfterFits m (Reduce.at_call o f type t)) (sym (args_are t type.params more h)) (by_room (has_room (length type.results) (without n t)) fits)
     where
-      by_room : (b : Bool) → CallFits m (without (length type.params) t) f → AfterFits m (if b then Stops (Calls (without (length type.params) t) (site_of f (reverse (take (length type.params) t.stack)))) else Reduce.trapped traps.Exhausted)
+      by_room : (b : Bool) → CallFits m (without (length type.params) t) f → AfterFits m (if b then Stops (Calls (without (length type.params) t) (site_of f (reverse (take (length type.params) t.stack)))) else Reduce.at_trap traps.Exhausted)
       by_room true k = (subst (λ o. IsSome o) (sym is) refl, k)
       by_room false k = tt
 
-  own_fits : (t : Thread) (f : ℕ) (func : Func) (type : FuncType) (more : List ValType) → IsValid m → RestOf m c t → own_func m f ≡ Some func → slice_get m.types func.type_index ≡ Some type → kinds_of t.stack ≡ reverse type.params ++ more → LeavesAt m c t (put_kind (result_of type) more) → AfterFits m (Reduce.call_own m f (Some func) t)
+  own_fits : (t : Thread) (f : ℕ) (func : Func) (type : FuncType) (more : List ValType) → IsValid m → RestOf m c t → own_func m f ≡ Some func → slice_get m.types func.type_index ≡ Some type → types_of_values t.stack ≡ reverse type.params ++ more → LeavesAt m c t (put_type (result_of type) more) → AfterFits m (Reduce.call_own m f (Some func) t)
   own_fits t f func type more v r own at h l =
       let n = length type.params in
       let args = reverse (take n t.stack) in
-      let inner = enter_fits m (waiting_frame (without n t) ∷ t.callers) f func type args v own at (args_kinds t type.params more h) (caller_fits t type more r h l) in
+      let inner = enter_fits m (waiting_frame (without n t) ∷ t.callers) f func type args v own at (args_value_types t type.params more h) (caller_fits t type more r h l) in
       subst (λ o. AfterFits m (Reduce.call_typed f func o t)) (sym at)
       (subst (λ o. AfterFits m (Reduce.go_on (Thread'.called_with o n t f func (result_of type)))) (sym (args_are t type.params more h)) inner)
 
-  call_fits : (t : Thread) (f : ℕ) (type : FuncType) (more : List ValType) → IsValid m → RestOf m c t → type_of m f ≡ Some type → kinds_of t.stack ≡ reverse type.params ++ more → LeavesAt m c t (put_kind (result_of type) more) → AfterFits m (Reduce.call m f t)
+  call_fits : (t : Thread) (f : ℕ) (type : FuncType) (more : List ValType) → IsValid m → RestOf m c t → type_of m f ≡ Some type → types_of_values t.stack ≡ reverse type.params ++ more → LeavesAt m c t (put_type (result_of type) more) → AfterFits m (Reduce.call m f t)
   call_fits t f type more v r is h l =
       by_place (nat_lt f (length m.imports)) (imported_type m (slice_get m.imports f)) (own_func m f) refl refl is
     where
@@ -200,9 +200,9 @@ module _ (m : Module) (c : Context) where
     at : slice_get types k ≡ Some callee
     more : List ValType
     there : ks ≡ reverse callee.params ++ more
-    rest : IsSome (F (known (put_kind (result_of callee) more)) >>= G)
+    rest : IsSome (F (known (put_type (result_of callee) more)) >>= G)
 
-  put_push : (o : Option ValType) (ks : List ValType) → push_result o (known ks) ≡ known (put_kind o ks)
+  put_push : (o : Option ValType) (ks : List ValType) → push_result o (known ks) ≡ known (put_type o ks)
   put_push None ks = refl
   put_push (Some k) ks = refl
 
@@ -219,9 +219,9 @@ module _ (m : Module) (c : Context) where
         rest = subst (λ s. IsSome (F s >>= G)) (ap (push_result (result_of a.value)) p.left ∙ put_push (result_of a.value) p.more) b.rest;
       }
 
-  pub call_row_fits : (f : ℕ) (t : Thread) → IsValid m → RestOf m c t → Before m c (CallFunc f) t (kinds_of t.stack) → AfterFits m (Reduce.call m f t)
+  pub call_row_fits : (f : ℕ) (t : Thread) → IsValid m → RestOf m c t → Before m c (CallFunc f) t (types_of_values t.stack) → AfterFits m (Reduce.call m f t)
   call_row_fits f t v r h =
-      let ks = kinds_of t.stack in
+      let ks = types_of_values t.stack in
       let F = After' m c t in
       let G = End' m c t in
       let a = step (slice_get c.funcs f) (λ k. call_type c.types k (known ks)) F G h.typed in
@@ -236,25 +236,25 @@ module _ (m : Module) (c : Context) where
   both true false e = cc
   both false b e = cc
 
-  same_kinds_equal : (as' bs : List ValType) → same_kinds as' bs ≡ true → as' ≡ bs
-  same_kinds_equal [] [] e = refl
-  same_kinds_equal [] (b ∷ bs) e = cc
-  same_kinds_equal (a ∷ as') [] e = cc
-  same_kinds_equal (a ∷ as') (b ∷ bs) e =
-      let parts = both (is_same a b) (same_kinds as' bs) e in
-      ap (λ k. k ∷ as') (is_same_equal a b parts.0) ∙ ap (λ ks. b ∷ ks) (same_kinds_equal as' bs parts.1)
+  same_types_equal : (as' bs : List ValType) → same_types as' bs ≡ true → as' ≡ bs
+  same_types_equal [] [] e = refl
+  same_types_equal [] (b ∷ bs) e = cc
+  same_types_equal (a ∷ as') [] e = cc
+  same_types_equal (a ∷ as') (b ∷ bs) e =
+      let parts = both (is_same a b) (same_types as' bs) e in
+      ap (λ k. k ∷ as') (is_same_equal a b parts.0) ∙ ap (λ ks. b ∷ ks) (same_types_equal as' bs parts.1)
 
   same_type_equal : (a b : FuncType) → same_type a b ≡ true → a ≡ b
   same_type_equal a b e =
-      let parts = both (same_kinds a.params b.params) (same_kinds a.results b.results) e in
-      ap (λ (ks : List ValType). record a { params = ks }) (same_kinds_equal a.params b.params parts.0)
-      ∙ ap (λ (ks : List ValType). record b { results = ks }) (same_kinds_equal a.results b.results parts.1)
+      let parts = both (same_types a.params b.params) (same_types a.results b.results) e in
+      ap (λ (ks : List ValType). record a { params = ks }) (same_types_equal a.params b.params parts.0)
+      ∙ ap (λ (ks : List ValType). record b { results = ks }) (same_types_equal a.results b.results parts.1)
 
-  checked_fits : (t : Thread) (f : ℕ) (k : ℕ) (callee : FuncType) (more : List ValType) → IsValid m → RestOf m c t → IsSome (type_of m f) → slice_get m.types k ≡ Some callee → kinds_of t.stack ≡ reverse callee.params ++ more → LeavesAt m c t (put_kind (result_of callee) more) → AfterFits m (Reduce.call_if_same m f (type_of m f) (slice_get m.types k) t)
+  checked_fits : (t : Thread) (f : ℕ) (k : ℕ) (callee : FuncType) (more : List ValType) → IsValid m → RestOf m c t → IsSome (type_of m f) → slice_get m.types k ≡ Some callee → types_of_values t.stack ≡ reverse callee.params ++ more → LeavesAt m c t (put_type (result_of callee) more) → AfterFits m (Reduce.call_if_same m f (type_of m f) (slice_get m.types k) t)
   checked_fits t f k callee more v r there at h l =
       subst (λ w. AfterFits m (Reduce.call_if_same m f (type_of m f) w t)) (sym at) (by_type (type_of m f) refl there)
     where
-      by_test : (found : FuncType) (b : Bool) → type_of m f ≡ Some found → same_type found callee ≡ b → AfterFits m (if b then Reduce.call m f t else Reduce.trapped traps.TypeDiffers)
+      by_test : (found : FuncType) (b : Bool) → type_of m f ≡ Some found → same_type found callee ≡ b → AfterFits m (if b then Reduce.call m f t else Reduce.at_trap traps.TypeDiffers)
       by_test found true e q = call_fits t f callee more v r (e ∙ ap Some (same_type_equal found callee q)) h l
       by_test found false e q = tt
 
@@ -262,21 +262,21 @@ module _ (m : Module) (c : Context) where
       by_type None e h' = never_none h'
       by_type (Some found) e h' = by_test found (same_type found callee) e refl
 
-  element_fits : (t : Thread) (k : ℕ) (callee : FuncType) (more : List ValType) (e : Option (Option ℕ)) → IsValid m → RestOf m c t → ((f : ℕ) → e ≡ Some (Some f) → IsSome (type_of m f)) → slice_get m.types k ≡ Some callee → kinds_of t.stack ≡ reverse callee.params ++ more → LeavesAt m c t (put_kind (result_of callee) more) → AfterFits m (Reduce.call_element m k e t)
+  element_fits : (t : Thread) (k : ℕ) (callee : FuncType) (more : List ValType) (e : Option (Option ℕ)) → IsValid m → RestOf m c t → ((f : ℕ) → e ≡ Some (Some f) → IsSome (type_of m f)) → slice_get m.types k ≡ Some callee → types_of_values t.stack ≡ reverse callee.params ++ more → LeavesAt m c t (put_type (result_of callee) more) → AfterFits m (Reduce.call_element m k e t)
   element_fits t k callee more None v r there at h l = tt
   element_fits t k callee more (Some None) v r there at h l = tt
   element_fits t k callee more (Some (Some f)) v r there at h l = checked_fits t f k callee more v r (there f refl) at h l
 
-  pub call_indirect_fits : (k : ℕ) (g : Store) (t : Thread) → g.program ≡ m → Suits g → IsValid m → RestOf m c t → Before m c (CallIndirect k) t (kinds_of t.stack) → AfterFits m (Reduce.call_indirect k g t)
+  pub call_indirect_fits : (k : ℕ) (g : Store) (t : Thread) → g.«module» ≡ m → Suits g → IsValid m → RestOf m c t → Before m c (CallIndirect k) t (types_of_values t.stack) → AfterFits m (Reduce.call_indirect k g t)
   call_indirect_fits k g t same suits v r h =
-      let ks = kinds_of t.stack in
+      let ks = types_of_values t.stack in
       let F = After' m c t in
       let G = End' m c t in
       let a = step (pop_type types.I32 (known ks)) (λ below. if c.has_table then call_type c.types k below else None) F G h.typed in
       let p = pops_type types.I32 ks a.value a.is in
       let d = by_test c.has_table p.more (subst (λ s. IsSome (((if c.has_table then call_type c.types k s else None) >>= F) >>= G)) p.left a.rest) in
       let type : slice_get m.types k ≡ Some d.callee = ap (λ (c : Context). slice_get c.types k) (sym r.0.same) ∙ d.at in
-      let left : LeavesAt m c t (put_kind (result_of d.callee) d.more) = record { typed = d.rest; no_float = h.no_float } in
+      let left : LeavesAt m c t (put_type (result_of d.callee) d.more) = record { typed = d.rest; no_float = h.no_float } in
       on_top_fits m c t _ t.stack types.I32 p.more p.there (λ w rest kw kr.
       on_i32_fits m c w _ kw (λ i.
       let t' = record t { stack = rest } in

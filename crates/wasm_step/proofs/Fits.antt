@@ -12,9 +12,9 @@ use Rattle.wasm_types.specs.Labels.{Labels}
 use Rattle.wasm_types.specs.Maybe.{◌>>=◌}
 use Rattle.wasm_types.specs.Modules.{Module}
 use Rattle.wasm_types.specs.Stack.{Stack, is_same, is_exactly, pop_type, pop_result}
-use Rattle.wasm_values.specs.Values.{kind_of, kinds_of}
-use Rattle.wasm_step.specs.Fits.{TargetFits, known, put_kind, label_of, labels_of, Leaves, LevelsFit, IsContext, FramesFit, Fits, AfterFits}
-use Rattle.wasm_step.specs.Reduce.{jump_by, After, carried, carry_top, with_carried, given, resumed, return_from, landed, jump, branch, at_end, ended}
+use Rattle.wasm_values.specs.Values.{type_of_value, types_of_values}
+use Rattle.wasm_step.specs.Fits.{TargetFits, known, put_type, label_of, labels_of, Leaves, LevelsFit, IsContext, FramesFit, Fits, AfterFits}
+use Rattle.wasm_step.specs.Reduce.{jump_by, After, carried, carry_top, with_carried, with_result, resumed, return_from, landed, jump, branch, at_end, ended}
 use Rattle.wasm_step.specs.Strand.{IsResult}
 use Rattle.wasm_step.specs.Thread.{Level, Frame, Thread, with_operand, closed, closed_to, left, left_to}
 
@@ -61,7 +61,7 @@ pops_type k (j ∷ ks) s e = by_case (is_same j k) refl e
 -- the same of a result, if there is one
 pub record PopsResult (o : Option ValType) (ks : List ValType) (below : Stack) : Type 0 where
   pub more : List ValType
-  pub there : ks ≡ put_kind o more
+  pub there : ks ≡ put_type o more
   pub left : below ≡ known more
 
 pub pops_result : (o : Option ValType) (ks : List ValType) (s : Stack) → pop_result o (known ks) ≡ Some s → PopsResult o ks s
@@ -80,7 +80,7 @@ taken None f g h = never_none h
 taken (Some a) f g h = record { value = a; is = refl; rest = h }
 
 -- exactly the result is left
-exactly : (gives : Option ValType) (ks : List ValType) → IsSome (is_exactly gives (known ks)) → ks ≡ put_kind gives []
+exactly : (gives : Option ValType) (ks : List ValType) → IsSome (is_exactly gives (known ks)) → ks ≡ put_type gives []
 exactly None [] h = refl
 exactly None (k ∷ ks) h = never_none h
 exactly (Some j) [] h = never_none h
@@ -98,16 +98,16 @@ label_whole : (o : Option ValType) → label_of o (is_some o) ≡ o
 label_whole None = refl
 label_whole (Some k) = refl
 
-put_kind-append : (o : Option ValType) (a b : List ValType) → put_kind o a ++ b ≡ put_kind o (a ++ b)
-put_kind-append None a b = refl
-put_kind-append (Some k) a b = refl
+put_type-append : (o : Option ValType) (a b : List ValType) → put_type o a ++ b ≡ put_type o (a ++ b)
+put_type-append None a b = refl
+put_type-append (Some k) a b = refl
 
 module _ (m : Module) where
   -- what stays of a frame while its innermost level runs
   abbrev pub Rest : Context → ℕ → List Value → Bool → Option ValType → Trees → Bool → Bool → List Level → List Frame → Type 0
   Rest c func locals returns gives target carries loops outer callers =
       IsContext m func c
-      × (kinds_of locals ≡ c.locals)
+      × (types_of_values locals ≡ c.locals)
       × (returns ≡ is_some c.gives)
       × LevelsFit c gives target carries loops outer
       × FramesFit m c.gives callers
@@ -122,38 +122,38 @@ module _ (m : Module) where
   abbrev pub LeavesAt : Context → Thread → List ValType → Type 0
   LeavesAt c t ks = Leaves c (labels_at t) t.gives t.todo ks
 
-  pub goes : (c : Context) (t : Thread) → RestOf c t → LeavesAt c t (kinds_of t.stack) → Fits m t
+  pub goes : (c : Context) (t : Thread) → RestOf c t → LeavesAt c t (types_of_values t.stack) → Fits m t
   goes c t r h = (record { context = c; function = r.0; locals = r.1; returns = r.2; around = r.3; todo = h }, r.4)
 
-  carry_top_fits : (t : Thread) (go : Option Value → Thread → After) (stack : List Value) (k : ValType) (more : List ValType) → kinds_of stack ≡ k ∷ more → ((o : Option Value) (rest : List Value) → IsResult (Some k) o → kinds_of rest ≡ more → AfterFits m (go o (record t { stack = rest }))) → AfterFits m (with_carried (carry_top stack t) go)
+  carry_top_fits : (t : Thread) (go : Option Value → Thread → After) (stack : List Value) (k : ValType) (more : List ValType) → types_of_values stack ≡ k ∷ more → ((o : Option Value) (rest : List Value) → IsResult (Some k) o → types_of_values rest ≡ more → AfterFits m (go o (record t { stack = rest }))) → AfterFits m (with_carried (carry_top stack t) go)
   carry_top_fits t go [] k more e next = cc
-  carry_top_fits t go (v ∷ rest) k more e next = next (Some v) rest (of_kind v k (cc)) (cc)
+  carry_top_fits t go (v ∷ rest) k more e next = next (Some v) rest (of_value_type v k (cc)) (cc)
     where
-      of_kind : (v : Value) (k : ValType) → kind_of v ≡ k → IsResult (Some k) (Some v)
-      of_kind (I32 x) types.I32 q = tt
-      of_kind (I64 x) types.I64 q = tt
-      of_kind (I32 x) types.I64 q = cc
-      of_kind (I32 x) types.F32 q = cc
-      of_kind (I32 x) types.F64 q = cc
-      of_kind (I64 x) types.I32 q = cc
-      of_kind (I64 x) types.F32 q = cc
-      of_kind (I64 x) types.F64 q = cc
+      of_value_type : (v : Value) (k : ValType) → type_of_value v ≡ k → IsResult (Some k) (Some v)
+      of_value_type (I32 x) types.I32 q = tt
+      of_value_type (I64 x) types.I64 q = tt
+      of_value_type (I32 x) types.I64 q = cc
+      of_value_type (I32 x) types.F32 q = cc
+      of_value_type (I32 x) types.F64 q = cc
+      of_value_type (I64 x) types.I32 q = cc
+      of_value_type (I64 x) types.F32 q = cc
+      of_value_type (I64 x) types.F64 q = cc
 
-  carried_fits : (b : Bool) (c : Option ValType) (t : Thread) (go : Option Value → Thread → After) (more : List ValType) → b ≡ is_some c → kinds_of t.stack ≡ put_kind c more → ((o : Option Value) (rest : List Value) → IsResult c o → kinds_of rest ≡ more → AfterFits m (go o (record t { stack = rest }))) → AfterFits m (with_carried (carried b t) go)
+  carried_fits : (b : Bool) (c : Option ValType) (t : Thread) (go : Option Value → Thread → After) (more : List ValType) → b ≡ is_some c → types_of_values t.stack ≡ put_type c more → ((o : Option Value) (rest : List Value) → IsResult c o → types_of_values rest ≡ more → AfterFits m (go o (record t { stack = rest }))) → AfterFits m (with_carried (carried b t) go)
   carried_fits false None t go more b e next = next None t.stack tt e
   carried_fits true None t go more b e next = cc
   carried_fits false (Some k) t go more b e next = cc
   carried_fits true (Some k) t go more b e next = carry_top_fits t go t.stack k more e next
 
-  result_kind : (k : ValType) (v : Value) → IsResult (Some k) (Some v) → k ≡ kind_of v
-  result_kind types.I32 (I32 x) h = refl
-  result_kind types.I64 (I64 x) h = refl
-  result_kind types.I32 (I64 x) h = absurd h
-  result_kind types.I64 (I32 x) h = absurd h
-  result_kind types.F32 (I32 x) h = absurd h
-  result_kind types.F32 (I64 x) h = absurd h
-  result_kind types.F64 (I32 x) h = absurd h
-  result_kind types.F64 (I64 x) h = absurd h
+  result_value_type : (k : ValType) (v : Value) → IsResult (Some k) (Some v) → k ≡ type_of_value v
+  result_value_type types.I32 (I32 x) h = refl
+  result_value_type types.I64 (I64 x) h = refl
+  result_value_type types.I32 (I64 x) h = absurd h
+  result_value_type types.I64 (I32 x) h = absurd h
+  result_value_type types.F32 (I32 x) h = absurd h
+  result_value_type types.F32 (I64 x) h = absurd h
+  result_value_type types.F64 (I32 x) h = absurd h
+  result_value_type types.F64 (I64 x) h = absurd h
 
   no_result : (k : ValType) → IsResult (Some k) None → ⊥
   no_result types.I32 h = h
@@ -162,29 +162,29 @@ module _ (m : Module) where
   no_result types.F64 h = h
 
   -- a thread goes on with what it waits for
-  pub given_fits : (c : Context) (k : Option ValType) (o : Option Value) (t : Thread) → RestOf c t → LeavesAt c t (put_kind k (kinds_of t.stack)) → IsResult k o → Fits m (given o t)
-  given_fits c None None t r h is = goes c t r h
-  given_fits c None (Some v) t r h is = absurd is
-  given_fits c (Some k) None t r h is = absurd (no_result k is)
-  given_fits c (Some k) (Some v) t r h is =
-      goes c (with_operand t v) r (subst (λ k'. LeavesAt c t (k' ∷ kinds_of t.stack)) (result_kind k v is) h)
+  pub with_result_fits : (c : Context) (k : Option ValType) (o : Option Value) (t : Thread) → RestOf c t → LeavesAt c t (put_type k (types_of_values t.stack)) → IsResult k o → Fits m (with_result o t)
+  with_result_fits c None None t r h is = goes c t r h
+  with_result_fits c None (Some v) t r h is = absurd is
+  with_result_fits c (Some k) None t r h is = absurd (no_result k is)
+  with_result_fits c (Some k) (Some v) t r h is =
+      goes c (with_operand t v) r (subst (λ k'. LeavesAt c t (k' ∷ types_of_values t.stack)) (result_value_type k v is) h)
 
   resumed_fits : (callers : List Frame) (k : Option ValType) (o : Option Value) → FramesFit m k callers → IsResult k o → AfterFits m (resumed (left_to callers) o)
   resumed_fits [] k o h is = tt
   resumed_fits (f ∷ fs) k o h is =
       let t : Thread = record { gives = f.here.gives; todo = f.here.todo; stack = f.here.stack; target = f.here.target; carries = f.here.carries; loops = f.here.loops; outer = f.outer; func = f.func; locals = f.locals; returns = f.returns; callers = fs } in
-      given_fits h.0.context k o t (h.0.function, h.0.locals, h.0.returns, h.0.around, h.1) h.0.todo is
+      with_result_fits h.0.context k o t (h.0.function, h.0.locals, h.0.returns, h.0.around, h.1) h.0.todo is
 
-  pub return_fits : (t : Thread) (k : Option ValType) (more : List ValType) → t.returns ≡ is_some k → FramesFit m k t.callers → kinds_of t.stack ≡ put_kind k more → AfterFits m (return_from t)
+  pub return_fits : (t : Thread) (k : Option ValType) (more : List ValType) → t.returns ≡ is_some k → FramesFit m k t.callers → types_of_values t.stack ≡ put_type k more → AfterFits m (return_from t)
   return_fits t k more b frames e =
       carried_fits t.returns k t (λ o u. resumed (left u) o) more b e (λ o rest is _. resumed_fits t.callers k o frames is)
 
-  jump_by_fits : (b : Bool) (c : Context) (outer : List Level) (t : Thread) (more : List ValType) → t.loops ≡ b → Rest c t.func t.locals t.returns t.gives t.target t.carries t.loops outer t.callers → kinds_of t.stack ≡ put_kind (label_of t.gives t.carries) more → AfterFits m (jump_by b (record t { outer = outer }))
+  jump_by_fits : (b : Bool) (c : Context) (outer : List Level) (t : Thread) (more : List ValType) → t.loops ≡ b → Rest c t.func t.locals t.returns t.gives t.target t.carries t.loops outer t.callers → types_of_values t.stack ≡ put_type (label_of t.gives t.carries) more → AfterFits m (jump_by b (record t { outer = outer }))
   jump_by_fits true c [] t more loops r es = cc
   jump_by_fits false c [] t more loops r es =
       let u = record t { outer = [] } in
       let whole : label_of t.gives t.carries ≡ c.gives = ap (λ g. label_of g t.carries) r.3.0 ∙ ap (label_of c.gives) r.3.1 ∙ label_whole c.gives in
-      carried_fits t.carries c.gives u (λ o u'. landed (closed (record u' { stack = [] })) (record u' { stack = [] }) t.target o) more r.3.1 (es ∙ ap (λ g. put_kind g more) whole)
+      carried_fits t.carries c.gives u (λ o u'. landed (closed (record u' { stack = [] })) (record u' { stack = [] }) t.target o) more r.3.1 (es ∙ ap (λ g. put_type g more) whole)
       (λ o rest is _. resumed_fits t.callers c.gives o r.4 is)
   jump_by_fits true c (l ∷ ls) t more loops r es =
       goes c (record t { outer = l ∷ ls; todo = t.target; stack = [] }) r (subst (λ b. TargetFits b c t.gives t.target t.carries l ls) loops r.3.1)
@@ -192,27 +192,27 @@ module _ (m : Module) where
       let u = record t { outer = l ∷ ls } in
       let target = subst (λ b. TargetFits b c t.gives t.target t.carries l ls) loops r.3.1 in
       carried_fits t.carries (label_of t.gives t.carries) u (λ o u'. landed (closed (record u' { stack = [] })) (record u' { stack = [] }) t.target o) more r.3.0 es
-      (λ o rest is _. given_fits c (label_of t.gives t.carries) o (record t { gives = l.gives; todo = t.target; stack = l.stack; target = l.target; carries = l.carries; loops = l.loops; outer = ls }) (r.0, r.1, r.2, r.3.3, r.4) target is)
+      (λ o rest is _. with_result_fits c (label_of t.gives t.carries) o (record t { gives = l.gives; todo = t.target; stack = l.stack; target = l.target; carries = l.carries; loops = l.loops; outer = ls }) (r.0, r.1, r.2, r.3.3, r.4) target is)
 
-  jump_fits : (c : Context) (outer : List Level) (t : Thread) (more : List ValType) → Rest c t.func t.locals t.returns t.gives t.target t.carries t.loops outer t.callers → kinds_of t.stack ≡ put_kind (label_of t.gives t.carries) more → AfterFits m (jump (record t { outer = outer }))
+  jump_fits : (c : Context) (outer : List Level) (t : Thread) (more : List ValType) → Rest c t.func t.locals t.returns t.gives t.target t.carries t.loops outer t.callers → types_of_values t.stack ≡ put_type (label_of t.gives t.carries) more → AfterFits m (jump (record t { outer = outer }))
   jump_fits c outer t more r es = jump_by_fits t.loops c outer t more refl r es
 
-  pub branch_fits : (c : Context) (n : ℕ) (outer : List Level) (t : Thread) (label : Option ValType) (more : List ValType) → Rest c t.func t.locals t.returns t.gives t.target t.carries t.loops outer t.callers → slice_get (label_of t.gives t.carries ∷ labels_of outer) n ≡ Some label → kinds_of t.stack ≡ put_kind label more → AfterFits m (branch n (record t { outer = outer }))
+  pub branch_fits : (c : Context) (n : ℕ) (outer : List Level) (t : Thread) (label : Option ValType) (more : List ValType) → Rest c t.func t.locals t.returns t.gives t.target t.carries t.loops outer t.callers → slice_get (label_of t.gives t.carries ∷ labels_of outer) n ≡ Some label → types_of_values t.stack ≡ put_type label more → AfterFits m (branch n (record t { outer = outer }))
   branch_fits c zero outer t label more r at es =
       let same : label ≡ label_of t.gives t.carries = cc in
-      jump_fits c outer t more r (subst (λ x. kinds_of t.stack ≡ put_kind x more) same es)
+      jump_fits c outer t more r (subst (λ x. types_of_values t.stack ≡ put_type x more) same es)
   branch_fits c (suc n) [] t label more r at es = cc
   branch_fits c (suc n) (l ∷ ls) t label more r at es =
-      branch_fits c n ls (record t { gives = l.gives; todo = l.todo; stack = t.stack ++ l.stack; target = l.target; carries = l.carries; loops = l.loops }) label (more ++ kinds_of l.stack)
+      branch_fits c n ls (record t { gives = l.gives; todo = l.todo; stack = t.stack ++ l.stack; target = l.target; carries = l.carries; loops = l.loops }) label (more ++ types_of_values l.stack)
       (r.0, r.1, r.2, r.3.3, r.4)
       at
-      (map-append kind_of t.stack l.stack ∙ ap (λ ks. ks ++ kinds_of l.stack) es ∙ put_kind-append label more (kinds_of l.stack))
+      (map-append type_of_value t.stack l.stack ∙ ap (λ ks. ks ++ types_of_values l.stack) es ∙ put_type-append label more (types_of_values l.stack))
 
-  end_fits : (c : Context) (outer : List Level) (t : Thread) → Rest c t.func t.locals t.returns t.gives t.target t.carries t.loops outer t.callers → kinds_of t.stack ≡ put_kind t.gives [] → AfterFits m (at_end (closed_to outer t) (record t { outer = outer }))
+  end_fits : (c : Context) (outer : List Level) (t : Thread) → Rest c t.func t.locals t.returns t.gives t.target t.carries t.loops outer t.callers → types_of_values t.stack ≡ put_type t.gives [] → AfterFits m (at_end (closed_to outer t) (record t { outer = outer }))
   end_fits c [] t r es =
-      return_fits (record t { outer = [] }) c.gives [] r.2 r.4 (es ∙ ap (λ g. put_kind g []) r.3.0)
+      return_fits (record t { outer = [] }) c.gives [] r.2 r.4 (es ∙ ap (λ g. put_type g []) r.3.0)
   end_fits c (l ∷ ls) t r es =
-      let stack = map-append kind_of t.stack l.stack ∙ ap (λ ks. ks ++ kinds_of l.stack) es ∙ put_kind-append t.gives [] (kinds_of l.stack) in
+      let stack = map-append type_of_value t.stack l.stack ∙ ap (λ ks. ks ++ types_of_values l.stack) es ∙ put_type-append t.gives [] (types_of_values l.stack) in
       goes c (record t { gives = l.gives; todo = l.todo; stack = t.stack ++ l.stack; target = l.target; carries = l.carries; loops = l.loops; outer = ls })
       (r.0, r.1, r.2, r.3.3, r.4)
       (subst (λ ks. Leaves c (labels_of (l ∷ ls)) l.gives l.todo ks) (sym stack) r.3.2)
@@ -223,5 +223,5 @@ module _ (m : Module) where
   -- the end of a level or of a frame fits
   pub ended_fits : (t : Thread) → t.todo ≡ End → Fits m t → AfterFits m (ended t)
   ended_fits t none h =
-      let left = subst (λ x. Leaves h.0.context (labels_at t) t.gives x (kinds_of t.stack)) none h.0.todo in
-      end_fits h.0.context t.outer t (rest_of t h) (exactly t.gives (kinds_of t.stack) left.typed)
+      let left = subst (λ x. Leaves h.0.context (labels_at t) t.gives x (types_of_values t.stack)) none h.0.todo in
+      end_fits h.0.context t.outer t (rest_of t h) (exactly t.gives (types_of_values t.stack) left.typed)

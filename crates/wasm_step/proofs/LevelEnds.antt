@@ -11,18 +11,18 @@ use Rattle.wasm_types.specs.Code.{Tree, Trees, Block, Loop, If, tree, trees}
 use Rattle.wasm_types.specs.CodeLaws.{tree-block, tree-if, tree-loop}
 use Rattle.wasm_store.specs.Store.{Store}
 use Rattle.wasm_step.specs.declared.stack.Label.{Label}
-use Rattle.wasm_step.specs.Burst.{after_both, at_further, settle, spent, burst}
-use Rattle.wasm_step.specs.Quick.{Within, and_close, closed_by, entered_by}
-use Rattle.wasm_step.specs.Reduce.{Goes, ended, branch, jump, keep, on_test, past, row, with_top}
-use Rattle.wasm_step.specs.Thread.{Level, Frame, Thread, is_end, closed, closed_to, depth, opened, size, size_of_frames, size_of_levels, waiting}
-use Rattle.wasm_step.specs.View.{levels_of}
+use Rattle.wasm_step.specs.Burst.{after_both, one_step_at, settle, spent, burst}
+use Rattle.wasm_step.specs.Limits.{Within}
+use Rattle.wasm_step.specs.View.{and_close, closed_by, entered_by, levels_of}
+use Rattle.wasm_step.specs.Reduce.{Goes, ended, branch, jump, keep, on_test, past, instr_row, with_top}
+use Rattle.wasm_step.specs.Thread.{Level, Frame, Thread, is_end, closed, closed_to, depth, opened, size_of_thread, size_of_frames, size_of_levels, waiting}
 use Rattle.wasm_step.proofs.Runs.{none_left, settle_end}
 
 pub outer_is : (gives : Option ValType) (ls : List Label) (ops : List Value) (t : Thread) → is_some (closed_to (levels_of gives ls ops) t) ≡ nat_lt 0 (length ls)
 outer_is gives [] ops t = refl
 outer_is gives (l ∷ ls) ops t = sym (lt-ltb 0 (suc (length ls)) (omega arith))
 
-pub within_opened : (t : Thread) (gives : Option ValType) (body target : Trees) (carries loops : Bool) → Within t → size t < 16384 → Within (opened t gives body target carries loops)
+pub within_opened : (t : Thread) (gives : Option ValType) (body target : Trees) (carries loops : Bool) → Within t → size_of_thread t < 16384 → Within (opened t gives body target carries loops)
 within_opened t gives body target carries loops h lt = record { frames = h.frames; size = omega (arith, lt) }
 
 within_closed_to : (outer : List Level) (t u : Thread) → t.outer ≡ outer → closed_to outer t ≡ Some u → Within t → Within u
@@ -40,7 +40,7 @@ within_closed t u e h = within_closed_to t.outer t u refl e h
 pub settled_same : (t u : Thread) → settle u ≡ settle t → (n : ℕ) (g : Store) → burst n t g ≡ burst n u g
 unfolding burst
 settled_same t u e zero g = ap (λ x. record { stop = spent x; store = g }) (sym e)
-settled_same t u e (suc n) g = ap (λ x. after_both (at_further x g) (burst n)) (sym e)
+settled_same t u e (suc n) g = ap (λ x. after_both (one_step_at x g) (burst n)) (sym e)
 
 pub end_same : (t u : Thread) → is_end t.todo ≡ true → Goes u ≡ ended t → (n : ℕ) (g : Store) → burst n t g ≡ burst n u g
 end_same t u e goes = settled_same t u (settle_end t u (none_left t.todo e) (sym goes))
@@ -74,19 +74,19 @@ pub branch_by : (n : ℕ) (t : Thread) (o : Option Thread) → closed_by n t ≡
 branch_by n t o e = further n n 0 t (omega arith) ∙ ap (λ (o : Option Thread). past o jump) e
 
 -- a block and a loop open a level with their body
-enters : (i j : Tree) (b b' : Trees) (t : Thread) (g : Store) → i ≡ j → b ≡ b' → row j t g ≡ keep g (Goes (entered_by j b' t)) → row i t g ≡ keep g (Goes (entered_by i b t))
+enters : (i j : Tree) (b b' : Trees) (t : Thread) (g : Store) → i ≡ j → b ≡ b' → instr_row j t g ≡ keep g (Goes (entered_by j b' t)) → instr_row i t g ≡ keep g (Goes (entered_by i b t))
 enters i j b b' t g is body goes =
-    ap (λ i. row i t g) is ∙ goes ∙ sym (ap (λ b. keep g (Goes (entered_by j b t))) body) ∙ sym (ap (λ i. keep g (Goes (entered_by i b t))) is)
+    ap (λ i. instr_row i t g) is ∙ goes ∙ sym (ap (λ b. keep g (Goes (entered_by j b t))) body) ∙ sym (ap (λ i. keep g (Goes (entered_by i b t))) is)
 
-pub row_enters : (i : Instr) (v : Vec Instr) (body : List Instr) (t : Thread) (g : Store) → ((gives : Option ValType) × i ≡ instr.Block gives v) ⊎ ((gives : Option ValType) × i ≡ instr.Loop gives v) → body ≡ v.items → row (tree i) t g ≡ keep g (Goes (entered_by (tree i) (trees body) t))
+pub row_enters : (i : Instr) (v : Vec Instr) (body : List Instr) (t : Thread) (g : Store) → ((gives : Option ValType) × i ≡ instr.Block gives v) ⊎ ((gives : Option ValType) × i ≡ instr.Loop gives v) → body ≡ v.items → instr_row (tree i) t g ≡ keep g (Goes (entered_by (tree i) (trees body) t))
 row_enters i v body t g (inl is) e = enters (tree i) (Block is.0 (trees v.items)) (trees body) (trees v.items) t g (ap tree is.1 ∙ tree-block is.0 v) (ap trees e) refl
 row_enters i v body t g (inr is) e = enters (tree i) (Loop is.0 (trees v.items)) (trees body) (trees v.items) t g (ap tree is.1 ∙ tree-loop is.0 v) (ap trees e) refl
 
 -- a choice opens one with either of its two
-pub row_chooses : (i : Instr) (gives : Option ValType) (v w : Vec Instr) (on_true on_false : List Instr) (t : Thread) (g : Store) → i ≡ instr.If gives v w → on_true ≡ v.items → on_false ≡ w.items → row (tree i) t g ≡ keep g (with_top t (λ v t. on_test v (Goes (entered_by (tree i) (trees on_false) t)) (Goes (entered_by (tree i) (trees on_true) t))))
+pub row_chooses : (i : Instr) (gives : Option ValType) (v w : Vec Instr) (on_true on_false : List Instr) (t : Thread) (g : Store) → i ≡ instr.If gives v w → on_true ≡ v.items → on_false ≡ w.items → instr_row (tree i) t g ≡ keep g (with_top t (λ v t. on_test v (Goes (entered_by (tree i) (trees on_false) t)) (Goes (entered_by (tree i) (trees on_true) t))))
 row_chooses i gives v w on_true on_false t g is e_true e_false =
     let j = If gives (trees v.items) (trees w.items) in
     let same = ap tree is ∙ tree-if gives v w in
     let by = λ (i : Tree) (a b : Trees). keep g (with_top t (λ v t. on_test v (Goes (entered_by i b t)) (Goes (entered_by i a t)))) in
-    ap (λ i. row i t g) same
+    ap (λ i. instr_row i t g) same
     ∙ sym (ap (λ i. by i (trees on_true) (trees on_false)) same ∙ ap (λ o. by j (trees o) (trees on_false)) e_true ∙ ap (λ o. by j (trees v.items) (trees o)) e_false)

@@ -5,12 +5,12 @@ pub mod Bursts
 pub mod Callees
 pub mod Ends
 pub mod Fits
+pub mod InPlace
 pub mod LevelEnds
 pub mod Opcodes
 pub mod Plain
-pub mod Programs
-pub mod Quicks
 pub mod Runs
+pub mod SameModule
 pub mod Starts
 pub mod Stored
 pub mod Views

@@ -9,12 +9,12 @@ use Rattle.wasm_types.specs.declared.code.Value.{Value}
 use Rattle.wasm_types.specs.declared.code.Value.TheVariants.{I32, I64}
 use Rattle.wasm_types.specs.declared.code.ValType.{ValType}
 use Rattle.wasm_types.specs.declared.code.ValType.TheVariants as types
-use Rattle.wasm_types.specs.Accesses.{Access, load_of, store_of}
+use Rattle.wasm_types.specs.Accesses.{Access, load_access, store_access}
 use Rattle.wasm_types.specs.Floats.{is_float, is_float_access, is_float_operator}
 use Rattle.wasm_types.specs.Numeric.{Operator, operator_of}
 use Rattle.wasm_types.specs.Stack.{is_same}
 use Rattle.wasm_values.specs.Access.{load_width, load_value, loaded_value, loaded_width, operand_of, store_width, stored_width, widened}
-use Rattle.wasm_values.specs.Values.{kind_of}
+use Rattle.wasm_values.specs.Values.{type_of_value}
 use Rattle.wasm_values.specs.Numeric.{Computed, Gives, Fails, IsNone, divided_32, divided_64, is_unary, unary, binary}
 
 -- a number is the first of a range, or it is past that
@@ -32,15 +32,15 @@ never e = cc
 
 -- the operand has this type, or there is a trap
 abbrev pub ComputedFits : Computed → ValType → Type 0
-ComputedFits (Gives v) k = kind_of v ≡ k
+ComputedFits (Gives v) k = type_of_value v ≡ k
 ComputedFits (Fails trap) k = Unit {0}
 ComputedFits IsNone k = ⊥
 
 abbrev pub TakesFit : ℕ → List ValType → ValType → Type 0
 TakesFit op [] k = ⊥
-TakesFit op (t ∷ []) k = (is_unary op ≡ true) × ((v : Value) → kind_of v ≡ t → ComputedFits (unary op v) k)
+TakesFit op (t ∷ []) k = (is_unary op ≡ true) × ((v : Value) → type_of_value v ≡ t → ComputedFits (unary op v) k)
 TakesFit op (t ∷ (u ∷ [])) k =
-    (is_unary op ≡ false) × (t ≡ u) × ((x y : Value) → kind_of x ≡ t → kind_of y ≡ t → ComputedFits (binary op x y) k)
+    (is_unary op ≡ false) × (t ≡ u) × ((x y : Value) → type_of_value x ≡ t → type_of_value y ≡ t → ComputedFits (binary op x y) k)
 TakesFit op (t ∷ (u ∷ (w ∷ ts))) k = ⊥
 
 abbrev pub FitsOf : ℕ → Option Operator → Type 0
@@ -50,20 +50,20 @@ FitsOf op (Some o) = is_float_operator (Some o) ≡ false → TakesFit op o.take
 abbrev OpFits : ℕ → Type 0
 OpFits op = FitsOf op (operator_of op)
 
-on_32 : (op : ℕ) (k : ValType) → ((x : ℕ) → ComputedFits (unary op (I32 x)) k) → (v : Value) → kind_of v ≡ types.I32 → ComputedFits (unary op v) k
+on_32 : (op : ℕ) (k : ValType) → ((x : ℕ) → ComputedFits (unary op (I32 x)) k) → (v : Value) → type_of_value v ≡ types.I32 → ComputedFits (unary op v) k
 on_32 op k h (I32 x) e = h x
 on_32 op k h (I64 x) e = cc
 
-on_64 : (op : ℕ) (k : ValType) → ((x : ℕ) → ComputedFits (unary op (I64 x)) k) → (v : Value) → kind_of v ≡ types.I64 → ComputedFits (unary op v) k
+on_64 : (op : ℕ) (k : ValType) → ((x : ℕ) → ComputedFits (unary op (I64 x)) k) → (v : Value) → type_of_value v ≡ types.I64 → ComputedFits (unary op v) k
 on_64 op k h (I64 x) e = h x
 on_64 op k h (I32 x) e = cc
 
-both_32 : (op : ℕ) (k : ValType) → ((x y : ℕ) → ComputedFits (binary op (I32 x) (I32 y)) k) → (x y : Value) → kind_of x ≡ types.I32 → kind_of y ≡ types.I32 → ComputedFits (binary op x y) k
+both_32 : (op : ℕ) (k : ValType) → ((x y : ℕ) → ComputedFits (binary op (I32 x) (I32 y)) k) → (x y : Value) → type_of_value x ≡ types.I32 → type_of_value y ≡ types.I32 → ComputedFits (binary op x y) k
 both_32 op k h (I32 x) (I32 y) d e = h x y
 both_32 op k h (I64 x) y d e = cc
 both_32 op k h (I32 x) (I64 y) d e = cc
 
-both_64 : (op : ℕ) (k : ValType) → ((x y : ℕ) → ComputedFits (binary op (I64 x) (I64 y)) k) → (x y : Value) → kind_of x ≡ types.I64 → kind_of y ≡ types.I64 → ComputedFits (binary op x y) k
+both_64 : (op : ℕ) (k : ValType) → ((x y : ℕ) → ComputedFits (binary op (I64 x) (I64 y)) k) → (x y : Value) → type_of_value x ≡ types.I64 → type_of_value y ≡ types.I64 → ComputedFits (binary op x y) k
 both_64 op k h (I64 x) (I64 y) d e = h x y
 both_64 op k h (I32 x) y d e = cc
 both_64 op k h (I64 x) (I32 y) d e = cc
@@ -267,12 +267,12 @@ pub record LoadFits (op : ℕ) (k : ValType) : Type 0 where
   pub reads : load_width op ≡ Some width
   pub value : ℕ → Value
   pub makes : (n : ℕ) → load_value op n ≡ Some (value n)
-  pub kind : (n : ℕ) → kind_of (value n) ≡ k
+  pub value_type : (n : ℕ) → type_of_value (value n) ≡ k
 
 -- the store writes some bytes of an operand of this type
 pub record StoreFits (op : ℕ) (k : ValType) : Type 0 where
-  pub width : (v : Value) → kind_of v ≡ k → ℕ
-  pub writes : (v : Value) (e : kind_of v ≡ k) → store_width op v ≡ Some (width v e)
+  pub width : (v : Value) → type_of_value v ≡ k → ℕ
+  pub writes : (v : Value) (e : type_of_value v ≡ k) → store_width op v ≡ Some (width v e)
 
 abbrev pub LoadFitsOf : ℕ → Option Access → Type 0
 LoadFitsOf op None = Unit {0}
@@ -286,20 +286,20 @@ StoreFitsOf op (Some a) = is_float_access (Some a) ≡ false → StoreFits op a.
 record OperandFits (k : ValType) (bits : ℕ → Width → ℕ) : Type 0 where
   value : ℕ → Value
   makes : (n : ℕ) → operand_of k (bits n) ≡ Some (value n)
-  kind : (n : ℕ) → kind_of (value n) ≡ k
+  value_type : (n : ℕ) → type_of_value (value n) ≡ k
 
 operand_fits : (k : ValType) (bits : ℕ → Width → ℕ) → is_float k ≡ false → OperandFits k bits
-operand_fits types.I32 bits e = record { value = λ n. I32 (bits n w32); makes = λ n. refl; kind = λ n. refl }
-operand_fits types.I64 bits e = record { value = λ n. I64 (bits n w64); makes = λ n. refl; kind = λ n. refl }
+operand_fits types.I32 bits e = record { value = λ n. I32 (bits n w32); makes = λ n. refl; value_type = λ n. refl }
+operand_fits types.I64 bits e = record { value = λ n. I64 (bits n w64); makes = λ n. refl; value_type = λ n. refl }
 operand_fits types.F32 bits e = absurd (never e)
 operand_fits types.F64 bits e = absurd (never e)
 
 -- a load makes an operand of the type that typing says
-pub load_fits : (op : ℕ) → LoadFitsOf op (load_of op)
+pub load_fits : (op : ℕ) → LoadFitsOf op (load_access op)
 unfolding load_width load_value
-load_fits op = by_access (load_of op) refl
+load_fits op = by_access (load_access op) refl
   where
-    by_access : (o : Option Access) → load_of op ≡ o → LoadFitsOf op o
+    by_access : (o : Option Access) → load_access op ≡ o → LoadFitsOf op o
     by_access None e = tt
     by_access (Some a) e =
         λ no_float. let operand = operand_fits a.moved (widened op a.exponent) no_float in record {
@@ -307,7 +307,7 @@ load_fits op = by_access (load_of op) refl
           reads = ap (option_and_then loaded_width) e ∙ ap (λ b. if b then None else Some (2 ^ a.exponent)) no_float;
           value = operand.value;
           makes = λ n. ap (option_and_then (loaded_value op n)) e ∙ operand.makes n;
-          kind = operand.kind;
+          value_type = operand.value_type;
         }
 
 same_itself : (k : ValType) → is_same k k ≡ true
@@ -317,16 +317,16 @@ same_itself types.F32 = refl
 same_itself types.F64 = refl
 
 -- a store writes an operand of the type that typing says
-pub store_fits : (op : ℕ) → StoreFitsOf op (store_of op)
+pub store_fits : (op : ℕ) → StoreFitsOf op (store_access op)
 unfolding store_width
-store_fits op = by_access (store_of op) refl
+store_fits op = by_access (store_access op) refl
   where
-    by_access : (o : Option Access) → store_of op ≡ o → StoreFitsOf op o
+    by_access : (o : Option Access) → store_access op ≡ o → StoreFitsOf op o
     by_access None e = tt
     by_access (Some a) e = λ _. record {
       width = λ v k. 2 ^ a.exponent;
       writes =
-          λ v k. ap (option_and_then (stored_width (kind_of v))) e
+          λ v k. ap (option_and_then (stored_width (type_of_value v))) e
           ∙ ap (λ j. if is_same j a.moved then Some (2 ^ a.exponent) else None) k
           ∙ ap (λ b. if b then Some (2 ^ a.exponent) else None) (same_itself a.moved);
     }

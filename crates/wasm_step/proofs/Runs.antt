@@ -3,15 +3,15 @@ use Rattle.std.proofs.Common.{◌≡◌, ℕ, zero, suc, Bool, true, false, List
 use Rattle.wasm_types.specs.declared.code.Value.{Value}
 use Rattle.wasm_types.specs.Code.{Tree, Trees, End, Then}
 use Rattle.wasm_step.specs.Paused.{settled_of}
-use Rattle.wasm_step.specs.Answer.{after_of, stop_of, way_of}
+use Rattle.wasm_step.specs.Answer.{after_of, halt_of, way_of}
 use Rattle.wasm_step.specs.declared.halt.Next.{Next}
 use Rattle.wasm_step.specs.declared.halt.Way.{Way}
 use Rattle.wasm_step.specs.declared.halt.Way.TheVariants as way
 use Rattle.wasm_step.specs.declared.halt.Next.TheVariants.{Going, Calling, Ended, Trapped, Stuck}
 use Rattle.wasm_store.specs.Store.{Store}
 use Rattle.wasm_step.specs.Thread.{Level, Frame, Thread, is_end, closed_to, left, left_to, waiting, depth}
-use Rattle.wasm_step.specs.Reduce.{Stop, Sticks, After, Goes, Stops, carried, with_carried, resumed, reduce, at_end, ended}
-use Rattle.wasm_step.specs.Burst.{Settled, At, Done, at_next, after_end, settle_by, settle, after_step, after_both, at_further, spent, burst}
+use Rattle.wasm_step.specs.Reduce.{Halt, Sticks, After, Goes, Stops, carried, with_carried, resumed, reduce, at_end, ended}
+use Rattle.wasm_step.specs.Burst.{Settled, At, Done, at_next, after_end, settle_by, settle, after_step, after_both, one_step_at, spent, burst}
 
 -- each end leaves one less to end
 abbrev depth_after : After → ℕ
@@ -63,36 +63,36 @@ standing t u v i e f = sym e ∙ ap (λ v. settled_of (Goes v)) f
 pub settle_here : (t : Thread) → is_end t.todo ≡ false → settle t ≡ at_next t.todo t (Done Sticks)
 settle_here t e = settle_by_here (depth t) t e
 
-halted_is : (n : Next) (t : Thread) → (n ≡ Going → ⊥) → after_of n t ≡ Stops (stop_of (after_of n t))
+halted_is : (n : Next) (t : Thread) → (n ≡ Going → ⊥) → after_of n t ≡ Stops (halt_of (after_of n t))
 halted_is Going t h = absurd (h refl)
 halted_is (Calling f n) t h = refl
 halted_is Ended t h = refl
 halted_is (Trapped trap) t h = refl
 halted_is Stuck t h = refl
 
-pub settle_halts : (n : Next) (t u : Thread) → settled_of (after_of n u) ≡ settle t → (n ≡ Going → ⊥) → settle t ≡ Done (stop_of (after_of n u))
+pub settle_halts : (n : Next) (t u : Thread) → settled_of (after_of n u) ≡ settle t → (n ≡ Going → ⊥) → settle t ≡ Done (halt_of (after_of n u))
 settle_halts n t u e h = sym e ∙ ap settled_of (halted_is n u h)
 
-pub burst_done : (n : ℕ) (t : Thread) (g : Store) (s : Stop) → settle t ≡ Done s → burst n t g ≡ record { stop = s; store = g }
+pub burst_done : (n : ℕ) (t : Thread) (g : Store) (s : Halt) → settle t ≡ Done s → burst n t g ≡ record { stop = s; store = g }
 unfolding burst
 burst_done zero t g s e = ap (λ x. record { stop = spent x; store = g }) e
-burst_done (suc n) t g s e = ap (λ x. after_both (at_further x g) (burst n)) e
+burst_done (suc n) t g s e = ap (λ x. after_both (one_step_at x g) (burst n)) e
 
 pub burst_on : (n : ℕ) (t v u : Thread) (g g' : Store) (i : Tree) → settle t ≡ At i v → (reduce i v g).after ≡ Goes u → (reduce i v g).store ≡ g' → burst (suc n) t g ≡ burst n u g'
 unfolding burst
 burst_on n t v u g g' i e f h =
-    ap (λ x. after_both (at_further x g) (burst n)) e
+    ap (λ x. after_both (one_step_at x g) (burst n)) e
     ∙ ap (λ a. after_step a (reduce i v g).store (burst n)) f
     ∙ ap (burst n u) h
 
-pub burst_stop : (n : ℕ) (t v : Thread) (g g' : Store) (i : Tree) (s : Stop) → settle t ≡ At i v → (reduce i v g).after ≡ Stops s → (reduce i v g).store ≡ g' → burst (suc n) t g ≡ record { stop = s; store = g' }
+pub burst_stop : (n : ℕ) (t v : Thread) (g g' : Store) (i : Tree) (s : Halt) → settle t ≡ At i v → (reduce i v g).after ≡ Stops s → (reduce i v g).store ≡ g' → burst (suc n) t g ≡ record { stop = s; store = g' }
 unfolding burst
 burst_stop n t v g g' i s e f h =
-    ap (λ x. after_both (at_further x g) (burst n)) e
+    ap (λ x. after_both (one_step_at x g) (burst n)) e
     ∙ ap (λ a. after_step a (reduce i v g).store (burst n)) f
     ∙ ap (λ a. record { stop = s; store = a }) h
 
-pub burst_spent : (t : Thread) (g : Store) (s : Stop) → s ≡ spent (settle t) → burst 0 t g ≡ record { stop = s; store = g }
+pub burst_spent : (t : Thread) (g : Store) (s : Halt) → s ≡ spent (settle t) → burst 0 t g ≡ record { stop = s; store = g }
 unfolding burst
 burst_spent t g s e = ap (λ s. record { stop = s; store = g }) (sym e)
 
@@ -103,32 +103,32 @@ pub less_depth : (t t' : Thread) (n : ℕ) → depth t ≡ suc n → ended t ≡
 less_depth t t' n d e = omega (arith, ended_depth t t' e)
 
 -- what does not go on makes no further instruction
-pub stopped_step : (n : Next) (t : Thread) (g : Store) (k : ℕ) → (n ≡ Going → ⊥) → after_step (after_of n t) g (burst k) ≡ record { stop = stop_of (after_of n t); store = g }
+pub stopped_step : (n : Next) (t : Thread) (g : Store) (k : ℕ) → (n ≡ Going → ⊥) → after_step (after_of n t) g (burst k) ≡ record { stop = halt_of (after_of n t); store = g }
 stopped_step Going t g k h = absurd (h refl)
 stopped_step (Calling f n) t g k h = refl
 stopped_step Ended t g k h = refl
 stopped_step (Trapped trap) t g k h = refl
 stopped_step Stuck t g k h = refl
 
-settle_stops : (n : ℕ) (t : Thread) (s : Stop) → t.todo ≡ End → ended t ≡ Stops s → settle_by n t ≡ Done s
+settle_stops : (n : ℕ) (t : Thread) (s : Halt) → t.todo ≡ End → ended t ≡ Stops s → settle_by n t ≡ Done s
 settle_stops zero t s none e = ap (λ is. at_next is t (after_end (ended t) (λ u. Done Sticks))) none ∙ ap (λ a. after_end a (λ u. Done Sticks)) e
 settle_stops (suc n) t s none e = ap (λ is. at_next is t (after_end (ended t) (settle_by n))) none ∙ ap (λ a. after_end a (settle_by n)) e
 
 -- a thread that ends, or sticks, at an end
-pub burst_ended : (n : ℕ) (t : Thread) (g : Store) (s : Stop) → is_end t.todo ≡ true → ended t ≡ Stops s → burst n t g ≡ record { stop = s; store = g }
+pub burst_ended : (n : ℕ) (t : Thread) (g : Store) (s : Halt) → is_end t.todo ≡ true → ended t ≡ Stops s → burst n t g ≡ record { stop = s; store = g }
 burst_ended n t g s e stops = burst_done n t g s (settle_stops (depth t) t s (none_left t.todo e) stops)
 
-pub way_halts : (w : Way) (n : Next) (t : Thread) → after_of n t ≡ way_of w t → (w ≡ way.Goes → ⊥) → way_of w t ≡ Stops (stop_of (after_of n t))
+pub way_halts : (w : Way) (n : Next) (t : Thread) → after_of n t ≡ way_of w t → (w ≡ way.Goes → ⊥) → way_of w t ≡ Stops (halt_of (after_of n t))
 way_halts way.Goes n t e h = absurd (h refl)
-way_halts way.Ends n t e h = ap (λ a. Stops (stop_of a)) (sym e)
-way_halts way.Sticks n t e h = ap (λ a. Stops (stop_of a)) (sym e)
+way_halts way.Ends n t e h = ap (λ a. Stops (halt_of a)) (sym e)
+way_halts way.Sticks n t e h = ap (λ a. Stops (halt_of a)) (sym e)
 
 pub first_on : (k : ℕ) (t v u : Thread) (g h : Store) (i : Tree) (n : Next) → settle t ≡ At i v → after_of n u ≡ (reduce i v g).after → h ≡ (reduce i v g).store → after_step (after_of n u) h (burst k) ≡ burst (suc k) t g
 unfolding burst
 first_on k t v u g h i n at e store =
     ap (λ a. after_step a h (burst k)) e
     ∙ ap (λ (x : Store). after_step (reduce i v g).after x (burst k)) store
-    ∙ sym (ap (λ x. after_both (at_further x g) (burst k)) at)
+    ∙ sym (ap (λ x. after_both (one_step_at x g) (burst k)) at)
 
 -- an instruction on a thread and a store that are as they were
 module _ (t v v' u : Thread) (g h h' : Store) (i : Tree) (here : t ≡ record v { todo = Then i v.todo }) (same : v' ≡ v) (kept : h ≡ g) (store : h' ≡ (reduce i v' h).store) where
@@ -144,5 +144,5 @@ module _ (t v v' u : Thread) (g h h' : Store) (i : Tree) (here : t ≡ record v 
   pub step_on : (n : ℕ) → Goes u ≡ (reduce i v' h).after → burst (suc n) t g ≡ burst n u h'
   step_on n e = burst_on n t v u g h' i at (after_is (Goes u) e) store_is
 
-  pub step_stop : (n : ℕ) (a : Next) → after_of a u ≡ (reduce i v' h).after → (a ≡ Going → ⊥) → burst (suc n) t g ≡ record { stop = stop_of (after_of a u); store = h' }
-  step_stop n a e halted = burst_stop n t v g h' i (stop_of (after_of a u)) at (after_is (after_of a u) e ∙ halted_is a u halted) store_is
+  pub step_stop : (n : ℕ) (a : Next) → after_of a u ≡ (reduce i v' h).after → (a ≡ Going → ⊥) → burst (suc n) t g ≡ record { stop = halt_of (after_of a u); store = h' }
+  step_stop n a e halted = burst_stop n t v g h' i (halt_of (after_of a u)) at (after_is (after_of a u) e ∙ halted_is a u halted) store_is

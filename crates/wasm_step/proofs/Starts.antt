@@ -1,4 +1,4 @@
--- A valid program has the functions that run first.
+-- A valid module has the functions that run first.
 use Rattle.std.proofs.Common.{◌≡◌, ℕ, zero, suc, ◌-◌, ◌≤◌, Bool, true, false, List, [], ◌∷◌, ◌++◌, Option, Some, None, length, refl, sym, ap, ◌∙◌, subst, arith, rules, tests}
 use Rattle.std.specs.Prelude.{map, slice_get, nat_lt, nat_le, if◌then◌else◌, option_and_then, All, IfSome, IsSome, ◌&&◌, ◌||◌, not}
 use Rattle.std.specs.List.{list_any}
@@ -8,7 +8,7 @@ use Rattle.std.proofs.lemmas.Option.{slice_get-map}
 use Rattle.wasm_types.specs.declared.modules.ImportDesc.{ImportDesc}
 use Rattle.wasm_types.specs.declared.modules.ImportDesc.TheVariants as desc
 use Rattle.wasm_types.specs.declared.code.ValType.{ValType}
-use Rattle.wasm_types.specs.Context.{imported_func, imported_funcs, func_type_at}
+use Rattle.wasm_types.specs.Context.{imported_func, imported_funcs, func_type_of}
 use Rattle.wasm_types.specs.Library.{IsOfLibrary}
 use Rattle.wasm_types.specs.declared.modules.ExportDesc.{ExportDesc}
 use Rattle.wasm_types.specs.declared.modules.ExportDesc.TheVariants.{Func as ToFunc, Table as ToTable, Memory as ToMemory, Global as ToGlobal}
@@ -24,7 +24,7 @@ all_rest P x xs h = λ k d lt. h (suc k) d (omega (arith, lt))
 described_func : (types : List FuncType) (i : Import) → IsOfLibrary types i → (t : ℕ) × (i.desc ≡ desc.Func t)
 described_func types i h = func_in i.desc h.type_index h.is_func
   where
-    func_in : (d : ImportDesc) (t : ℕ) → Rattle.wasm_types.specs.Library.imported_type d ≡ Some t → (t : ℕ) × (d ≡ desc.Func t)
+    func_in : (d : ImportDesc) (t : ℕ) → Rattle.wasm_types.specs.Library.imported_type_index d ≡ Some t → (t : ℕ) × (d ≡ desc.Func t)
     func_in (desc.Func t') t e = (t', refl)
     func_in (desc.Table l) t e = cc
     func_in (desc.Memory l) t e = cc
@@ -77,10 +77,10 @@ module _ (m : Module) where
       ∙ ap (λ k. in_range (nat_lt (suc f) (suc (length is))) (i ∷ is) fs (suc f) k) (sym less)
 
   -- the type of a function, by the indices that typing has of the functions' types
-  pub same_lookup : (f : ℕ) → All (IsOfLibrary m.types) m.imports → func_type_at m f ≡ type_of m f
+  pub same_lookup : (f : ℕ) → All (IsOfLibrary m.types) m.imports → func_type_of m f ≡ type_of m f
   same_lookup f h = lookup m.imports m.funcs f h
 
-  -- a function with a type, past the imports, is one of the program's own
+  -- a function with a type, past the imports, is one of the module's own
   own_there : (f : ℕ) → length m.imports ≤ f → IsSome (type_of m f) → IsSome (own_func m f)
   own_there f le h =
       let past = le-ltb f (length m.imports) le in
@@ -104,13 +104,13 @@ module _ (m : Module) where
   plain_there None e = cc
   plain_there (Some t) e = search rules
 
-  -- what an export names as its start is a function of the program's own
+  -- what an export names as its start is a function of the module's own
   entry_own : (f : ℕ) → All (IsOfLibrary m.types) m.imports → is_entry m (ToFunc f) ≡ true → IsSome (own_func m f)
   entry_own f h e =
       let parts = both (nat_le (import_count m) f) _ e in
       let counted = imports_counted m.types m.imports h in
       let past : length m.imports ≤ f = omega (arith, counted, leb-true (import_count m) f parts.0) in
-      own_there f past (subst (λ o. IsSome o) (same_lookup f h) (plain_there (func_type_at m f) parts.1))
+      own_there f past (subst (λ o. IsSome o) (same_lookup f h) (plain_there (func_type_of m f) parts.1))
 
   plain_type : (o : Option FuncType) → option_map_or is_plain o false ≡ true → o ≡ Some (record { params = []; results = [] })
   plain_type None e = cc
@@ -131,7 +131,7 @@ module _ (m : Module) where
       let parts = both (nat_le (import_count m) f) _ e in
       let counted = imports_counted m.types m.imports h in
       let past : length m.imports ≤ f = omega (arith, counted, leb-true (import_count m) f parts.0) in
-      (past, sym (same_lookup f h) ∙ plain_type (func_type_at m f) parts.1)
+      (past, sym (same_lookup f h) ∙ plain_type (func_type_of m f) parts.1)
 
   named : (es : List Export) (f : ℕ) → entry_from m es ≡ Some f → is_entry m (ToFunc f) ≡ true
   named [] f e = cc
@@ -168,7 +168,7 @@ module _ (m : Module) where
   not_false true e = refl
   not_false false e = cc
 
-  -- a valid program exports its start
+  -- a valid module exports its start
   pub entry_there : IsValid m → IsSome (entry_from m m.exports)
   entry_there v = found m.exports (not_false _ (neither _ _ v.has_start).0)
 
@@ -182,7 +182,7 @@ module _ (m : Module) where
       let counted = imports_counted m.types m.imports v.imports in
       let not_import : nat_lt s (import_count m) ≡ false = ap (λ o. option_map_or (λ f. nat_lt f (import_count m)) o false) (sym e) ∙ (neither (not (list_any (is_start_export m) m.exports)) (option_map_or (λ f. nat_lt f (import_count m)) m.start false) v.has_start).1 in
       let past : length m.imports ≤ s = omega (arith, counted, ltb-false s (import_count m) not_import) in
-      let typed = subst (λ o. IfSome o (λ f. func_type_at m f ≡ Some (record { params = []; results = [] }))) e v.typed.shaped.start in
+      let typed = subst (λ o. IfSome o (λ f. func_type_of m f ≡ Some (record { params = []; results = [] }))) e v.typed.shaped.start in
       own_there s past (subst (λ o. IsSome o) (sym (sym (same_lookup s v.imports) ∙ typed)) (search rules))
 
   -- the functions that run first have no parameters and no result
@@ -194,5 +194,5 @@ module _ (m : Module) where
       let counted = imports_counted m.types m.imports v.imports in
       let not_import : nat_lt s (import_count m) ≡ false = ap (λ o. option_map_or (λ f. nat_lt f (import_count m)) o false) (sym e) ∙ (neither (not (list_any (is_start_export m) m.exports)) (option_map_or (λ f. nat_lt f (import_count m)) m.start false) v.has_start).1 in
       let past : length m.imports ≤ s = omega (arith, counted, ltb-false s (import_count m) not_import) in
-      let typed = subst (λ o. IfSome o (λ f. func_type_at m f ≡ Some (record { params = []; results = [] }))) e v.typed.shaped.start in
+      let typed = subst (λ o. IfSome o (λ f. func_type_of m f ≡ Some (record { params = []; results = [] }))) e v.typed.shaped.start in
       (past, sym (same_lookup s v.imports) ∙ typed)

@@ -14,16 +14,15 @@ use Rattle.wasm_step.specs.declared.stack.Label.{Label}
 use Rattle.wasm_step.specs.declared.stack.Held.{Held}
 use Rattle.wasm_step.specs.declared.stack.Stack.TheInside.{Inside}
 use Rattle.wasm_types.specs.Code.{Trees, tree, trees}
-use Rattle.wasm_step.specs.Thread.{Thread, with_operand, closed, closed_to, entered, left, left_to, without, arguments, size_of_levels, size_of_frames, size, has_frame_room, has_room}
-use Rattle.wasm_step.specs.Quick.{and_close, closed_by, entered_by}
-use Rattle.wasm_step.specs.View.{Opened, opened_as, opened_by, given_by, repeated_by, innermost, levels_of, around, frames_of, thread_in, thread_of, AreCut, IsPart, AreParts, IsSound}
+use Rattle.wasm_step.specs.Thread.{Thread, with_operand, closed, closed_to, entered, left, left_to, without, arguments, size_of_levels, size_of_frames, size_of_thread, has_frame_room, has_room}
+use Rattle.wasm_step.specs.View.{and_close, closed_by, entered_by, Opened, opened_as, opened_by, given_by, repeated_by, innermost, levels_of, frame_labels, frames_of, thread_in, thread_of, AreCut, IsPart, AreFrameParts, IsStack}
 
 -- a frame's operands begin below those of each of its levels
 pub AreCut-low : (bottom : ℕ) (ls : List Label) (top : ℕ) → AreCut bottom ls top → bottom ≤ top
 AreCut-low bottom [] top h = omega arith
 AreCut-low bottom (l ∷ ls) top h = omega (arith, AreCut-low bottom ls l.floor h.1, h.0)
 
-module _ (s : Inside) (h : IsSound s) where
+module _ (s : Inside) (h : IsStack s) where
   pub floor_low : s.here.bottom ≤ s.here.floor
   floor_low = AreCut-low s.here.bottom (reverse (drop s.here.labels_from s.labels.items)) s.here.floor h.part.cut
 
@@ -32,26 +31,26 @@ pub record KeepsBelow (s : Inside) (ops : List Value) : Type 0 where
   pub top : s.here.floor ≤ length ops
   pub same : take s.here.floor ops ≡ take s.here.floor s.operands.items
 
-below_bottom : (s : Inside) (ops : List Value) → IsSound s → KeepsBelow s ops → take s.here.bottom ops ≡ take s.here.bottom s.operands.items
+below_bottom : (s : Inside) (ops : List Value) → IsStack s → KeepsBelow s ops → take s.here.bottom ops ≡ take s.here.bottom s.operands.items
 below_bottom s ops h k =
     let low = floor_low s h in
     sym (take-take s.here.bottom s.here.floor ops low) ∙ ap (λ o. take s.here.bottom o) k.same ∙ take-take s.here.bottom s.here.floor s.operands.items low
 
 -- other operands in the innermost level
-pub IsSound-operands : (s : Inside) (w : Vec Value Global) → IsSound s → s.operands.cap ≤ w.cap → KeepsBelow s w.items → IsSound (record s { operands = w })
+pub IsSound-operands : (s : Inside) (w : Vec Value Global) → IsStack s → s.operands.cap ≤ w.cap → KeepsBelow s w.items → IsStack (record s { operands = w })
 IsSound-operands s w h cap k = record {
   part = record { top = k.top; cut = h.part.cut; labels_in = h.part.labels_in; locals_in = h.part.locals_in };
-  below = subst (λ o. AreParts (reverse s.callers.items) (take s.here.labels_from s.labels.items) (take s.here.locals_from s.locals.items) o) (sym (below_bottom s w.items h k)) h.below;
+  below = subst (λ o. AreFrameParts (reverse s.callers.items) (take s.here.labels_from s.labels.items) (take s.here.locals_from s.locals.items) o) (sym (below_bottom s w.items h k)) h.below;
   room = record { place = omega (arith, cap, h.room.place); limit = h.room.limit };
 }
 
-pub thread_of-operands : (s : Inside) (w : Vec Value Global) → IsSound s → KeepsBelow s w.items → thread_of (record s { operands = w }) ≡ record (thread_of s) { stack = reverse (drop s.here.floor w.items) }
+pub thread_of-operands : (s : Inside) (w : Vec Value Global) → IsStack s → KeepsBelow s w.items → thread_of (record s { operands = w }) ≡ record (thread_of s) { stack = reverse (drop s.here.floor w.items) }
 thread_of-operands s w h k =
     let below = below_bottom s w.items h k in
     let same = k.same in
     cc
 
-pub keeps_pushed : (s : Inside) (w : List Value) (v : Value) → IsSound s → w ≡ s.operands.items ++ v ∷ [] → KeepsBelow s w
+pub keeps_pushed : (s : Inside) (w : List Value) (v : Value) → IsStack s → w ≡ s.operands.items ++ v ∷ [] → KeepsBelow s w
 keeps_pushed s w v h e = record {
   top = omega (arith, ap length e, length-append s.operands.items (v ∷ []), h.part.top);
   same = ap (λ o. take s.here.floor o) e ∙ take-append-le s.here.floor s.operands.items (v ∷ []) h.part.top;
@@ -60,7 +59,7 @@ keeps_pushed s w v h e = record {
 pub reverse_drop_push : {A : Type 0} (n : ℕ) (xs : List A) (x : A) → n ≤ length xs → reverse (drop n (xs ++ x ∷ [])) ≡ x ∷ reverse (drop n xs)
 reverse_drop_push n xs x le = ap reverse (drop-append-le n xs (x ∷ []) le) ∙ reverse-append (drop n xs) (x ∷ [])
 
-pub pushed_view : (s : Inside) (w : Vec Value Global) (v : Value) → IsSound s → w.items ≡ s.operands.items ++ v ∷ [] → thread_of (record s { operands = w }) ≡ with_operand (thread_of s) v
+pub pushed_view : (s : Inside) (w : Vec Value Global) (v : Value) → IsStack s → w.items ≡ s.operands.items ++ v ∷ [] → thread_of (record s { operands = w }) ≡ with_operand (thread_of s) v
 pushed_view s w v h e =
     thread_of-operands s w h (keeps_pushed s w.items v h e)
     ∙ ap (λ o. record (thread_of s) { stack = o }) (ap (λ o. reverse (drop s.here.floor o)) e ∙ reverse_drop_push s.here.floor s.operands.items v h.part.top)
@@ -70,20 +69,20 @@ keeps_popped s w v lt e =
     let top : s.here.floor ≤ length w = omega (arith, ap length e, length-append w (v ∷ []), lt) in
     record { top = top; same = sym (ap (λ o. take s.here.floor o) e ∙ take-append-le s.here.floor w (v ∷ []) top) }
 
-pub popped_view : (s : Inside) (w : Vec Value Global) (v : Value) → IsSound s → s.here.floor < length s.operands.items → s.operands.items ≡ w.items ++ v ∷ [] → thread_of s ≡ with_operand (thread_of (record s { operands = w })) v
+pub popped_view : (s : Inside) (w : Vec Value Global) (v : Value) → IsStack s → s.here.floor < length s.operands.items → s.operands.items ≡ w.items ++ v ∷ [] → thread_of s ≡ with_operand (thread_of (record s { operands = w })) v
 popped_view s w v h lt e =
     let k = keeps_popped s w.items v lt e in
     let view = thread_of-operands s w h k in
     let stack = ap (λ o. reverse (drop s.here.floor o)) e ∙ reverse_drop_push s.here.floor w.items v k.top in
     ap (λ o. record (thread_of s) { stack = o }) stack ∙ ap (λ t. with_operand t v) (sym view)
 
-pub keeps_cleared : (s : Inside) (w : List Value) → IsSound s → w ≡ take s.here.floor s.operands.items → KeepsBelow s w
+pub keeps_cleared : (s : Inside) (w : List Value) → IsStack s → w ≡ take s.here.floor s.operands.items → KeepsBelow s w
 keeps_cleared s w h e = record {
   top = omega (arith, ap length e, length-take-le s.here.floor s.operands.items h.part.top);
   same = ap (λ o. take s.here.floor o) e ∙ take-take s.here.floor s.here.floor s.operands.items (omega arith);
 }
 
-pub cleared_view : (s : Inside) (w : Vec Value Global) → IsSound s → w.items ≡ take s.here.floor s.operands.items → thread_of (record s { operands = w }) ≡ record (thread_of s) { stack = [] }
+pub cleared_view : (s : Inside) (w : Vec Value Global) → IsStack s → w.items ≡ take s.here.floor s.operands.items → thread_of (record s { operands = w }) ≡ record (thread_of s) { stack = [] }
 cleared_view s w h e =
     let none : length w.items ≤ s.here.floor = omega (arith, ap length e, length-take-le s.here.floor s.operands.items h.part.top) in
     thread_of-operands s w h (keeps_cleared s w.items h e)
@@ -106,11 +105,11 @@ closed_in f labels w locals ops callers l h lt e =
     let lower = ap (λ o. take from o) e ∙ take-append-le from w (l ∷ []) within in
     ap (λ ls. closed_to (levels_of f.gives ls (take f.floor ops)) (thread_in f labels locals ops callers)) ls ∙ (cc)
 
-pub closed_view : (s : Inside) (w : Vec Label Global) (l : Label) → IsSound s → s.here.labels_from < length s.labels.items → s.labels.items ≡ w.items ++ l ∷ [] → closed (thread_of s) ≡ Some (thread_of (record s { labels = w; here = record s.here { todo = l.todo; floor = l.floor } }))
+pub closed_view : (s : Inside) (w : Vec Label Global) (l : Label) → IsStack s → s.here.labels_from < length s.labels.items → s.labels.items ≡ w.items ++ l ∷ [] → closed (thread_of s) ≡ Some (thread_of (record s { labels = w; here = record s.here { todo = l.todo; floor = l.floor } }))
 closed_view s w l h lt e = closed_in s.here s.labels.items w.items s.locals.items s.operands.items s.callers.items l h.part lt e
 
 -- no room is known
-pub emptied : (s : Inside) → IsSound s → IsSound (record s { room = 0 })
+pub emptied : (s : Inside) → IsStack s → IsStack (record s { room = 0 })
 emptied s h = record { part = record { top = h.part.top; cut = h.part.cut; labels_in = h.part.labels_in; locals_in = h.part.locals_in }; below = h.below; room = record { place = omega arith; limit = omega arith } }
 
 -- a local of the innermost frame
@@ -128,7 +127,7 @@ split_reverse xs m n e =
     let len : length (reverse (drop m xs)) ≡ n = omega (arith, length-reverse (drop m xs), length-drop m xs) in
     (ap (λ o. take n o) whole ∙ take_at (reverse (drop m xs)) (reverse (take m xs)) n len, ap (λ o. drop n o) whole ∙ drop_at (reverse (drop m xs)) (reverse (take m xs)) n len)
 
-module _ (s : Inside) (n : ℕ) (h : IsSound s) (le : n ≤ length s.operands.items - s.here.floor) where
+module _ (s : Inside) (n : ℕ) (h : IsStack s) (le : n ≤ length s.operands.items - s.here.floor) where
   kept_arguments : length (drop s.here.floor s.operands.items) ≡ length s.operands.items - n - s.here.floor + n
   kept_arguments = omega (arith, length-drop s.here.floor s.operands.items, h.part.top)
 
@@ -161,7 +160,7 @@ module _ (s : Inside) (n : ℕ) (h : IsSound s) (le : n ≤ length s.operands.it
       thread_of-operands s w h (keeps_without w.items e)
       ∙ ap (λ o. record (thread_of s) { stack = o }) (ap reverse part ∙ sym (split_reverse xs m n kept_arguments).1)
 
-module _ (s : Inside) (here : Held) (w : Vec Value Global) (c : Vec Held Global) (more : List Value) (h : IsSound s) (none : s.room ≡ 0) (floor : here.floor ≡ length s.operands.items) (bottom : here.bottom ≡ here.floor) (labels : here.labels_from ≡ length s.labels.items) (locals : here.locals_from ≡ length s.locals.items) (added : w.items ≡ s.locals.items ++ more) (called' : c.items ≡ s.callers.items ++ s.here ∷ []) where
+module _ (s : Inside) (here : Held) (w : Vec Value Global) (c : Vec Held Global) (more : List Value) (h : IsStack s) (none : s.room ≡ 0) (floor : here.floor ≡ length s.operands.items) (bottom : here.bottom ≡ here.floor) (labels : here.labels_from ≡ length s.labels.items) (locals : here.locals_from ≡ length s.locals.items) (added : w.items ≡ s.locals.items ++ more) (called' : c.items ≡ s.callers.items ++ s.here ∷ []) where
   low_labels : take here.labels_from s.labels.items ≡ s.labels.items
   low_labels = take_all here.labels_from s.labels.items (omega arith)
 
@@ -177,12 +176,12 @@ module _ (s : Inside) (here : Held) (w : Vec Value Global) (c : Vec Held Global)
   no_labels : drop here.labels_from s.labels.items ≡ []
   no_labels = drop_all here.labels_from s.labels.items (omega arith)
 
-  pub entered_sound : IsSound (record s { here = here; locals = w; callers = c })
+  pub entered_sound : IsStack (record s { here = here; locals = w; callers = c })
   entered_sound =
-      let whole : IsPart s.here s.labels.items s.locals.items s.operands.items × AreParts (reverse s.callers.items) (take s.here.labels_from s.labels.items) (take s.here.locals_from s.locals.items) (take s.here.bottom s.operands.items) = (h.part, h.below) in
-      let parts1 = subst (λ o. AreParts o s.labels.items s.locals.items s.operands.items) (sym callers_now) whole in
-      let parts2 = subst (λ o. AreParts (reverse c.items) o s.locals.items s.operands.items) (sym low_labels) parts1 in
-      let parts3 = subst (λ o. AreParts (reverse c.items) (take here.labels_from s.labels.items) o s.operands.items) (sym low_locals) parts2 in
+      let whole : IsPart s.here s.labels.items s.locals.items s.operands.items × AreFrameParts (reverse s.callers.items) (take s.here.labels_from s.labels.items) (take s.here.locals_from s.locals.items) (take s.here.bottom s.operands.items) = (h.part, h.below) in
+      let parts1 = subst (λ o. AreFrameParts o s.labels.items s.locals.items s.operands.items) (sym callers_now) whole in
+      let parts2 = subst (λ o. AreFrameParts (reverse c.items) o s.locals.items s.operands.items) (sym low_labels) parts1 in
+      let parts3 = subst (λ o. AreFrameParts (reverse c.items) (take here.labels_from s.labels.items) o s.operands.items) (sym low_locals) parts2 in
       let cut : here.bottom ≡ here.floor = bottom in
       record {
         part = record {
@@ -191,7 +190,7 @@ module _ (s : Inside) (here : Held) (w : Vec Value Global) (c : Vec Held Global)
           labels_in = omega arith;
           locals_in = omega (arith, ap length added, length-append s.locals.items more);
         };
-        below = subst (λ o. AreParts (reverse c.items) (take here.labels_from s.labels.items) (take here.locals_from w.items) o) (sym low_operands) parts3;
+        below = subst (λ o. AreFrameParts (reverse c.items) (take here.labels_from s.labels.items) (take here.locals_from w.items) o) (sym low_operands) parts3;
         room = record { place = h.room.place; limit = omega (arith, none) };
       }
 
@@ -212,11 +211,11 @@ size_of_cut gives bottom [] ops top e h = omega arith
 size_of_cut gives bottom (l ∷ ls) ops top e h =
     omega (arith, size_of_cut gives bottom ls (take l.floor ops) l.floor (sym (length-take-le l.floor ops (omega arith))) h.1, length-take-le l.floor ops (omega arith), length-reverse (drop l.floor ops), length-drop l.floor ops)
 
-size_of_part : (f : Held) (labels : List Label) (locals ops : List Value) → IsPart f labels locals ops → size_of_levels (levels_of f.gives (around f labels) (take f.floor ops)) + f.bottom + f.labels_from ≡ length labels + f.floor
+size_of_part : (f : Held) (labels : List Label) (locals ops : List Value) → IsPart f labels locals ops → size_of_levels (levels_of f.gives (frame_labels f labels) (take f.floor ops)) + f.bottom + f.labels_from ≡ length labels + f.floor
 size_of_part f labels locals ops h =
     omega (arith, size_of_cut f.gives f.bottom (reverse (drop f.labels_from labels)) (take f.floor ops) f.floor (sym (length-take-le f.floor ops h.top)) h.cut, length-reverse (drop f.labels_from labels), length-drop f.labels_from labels, length-take-le f.floor ops h.top, h.labels_in)
 
-size_of_parts : (fs : List Held) (labels : List Label) (locals ops : List Value) → AreParts fs labels locals ops → size_of_frames (frames_of fs labels locals ops) ≡ length labels + length locals + length ops
+size_of_parts : (fs : List Held) (labels : List Label) (locals ops : List Value) → AreFrameParts fs labels locals ops → size_of_frames (frames_of fs labels locals ops) ≡ length labels + length locals + length ops
 size_of_parts [] labels locals ops h = omega (arith, ap length h.0, ap length h.1, ap length h.2)
 size_of_parts (f ∷ fs) labels locals ops h =
     let low = AreCut-low f.bottom (reverse (drop f.labels_from labels)) f.floor h.0.cut in
@@ -226,29 +225,29 @@ pub length_of_frames : (fs : List Held) (labels : List Label) (locals ops : List
 length_of_frames [] labels locals ops = refl
 length_of_frames (f ∷ fs) labels locals ops = ap suc (length_of_frames fs (take f.labels_from labels) (take f.locals_from locals) (take f.bottom ops))
 
-pub size_view : (s : Inside) → IsSound s → size (thread_of s) ≡ length s.operands.items + length s.labels.items + length s.locals.items
+pub size_view : (s : Inside) → IsStack s → size_of_thread (thread_of s) ≡ length s.operands.items + length s.labels.items + length s.locals.items
 size_view s h =
     let f = s.here in
     let low = floor_low s h in
     omega (arith, size_of_part f s.labels.items s.locals.items s.operands.items h.part, size_of_parts (reverse s.callers.items) (take f.labels_from s.labels.items) (take f.locals_from s.locals.items) (take f.bottom s.operands.items) h.below, h.part.top, h.part.labels_in, h.part.locals_in, length-reverse (drop f.floor s.operands.items), length-drop f.floor s.operands.items, length-drop f.locals_from s.locals.items, length-take-le f.labels_from s.labels.items h.part.labels_in, length-take-le f.locals_from s.locals.items h.part.locals_in, length-take-le f.bottom s.operands.items (omega arith))
 
-pub room_view : (more : ℕ) (s : Inside) → IsSound s → (nat_lt (length s.callers.items) 512 && nat_le (length s.operands.items + length s.labels.items + length s.locals.items + more) 16384) ≡ has_room more (thread_of s)
+pub room_view : (more : ℕ) (s : Inside) → IsStack s → (nat_lt (length s.callers.items) 512 && nat_le (length s.operands.items + length s.labels.items + length s.locals.items + more) 16384) ≡ has_room more (thread_of s)
 room_view more s h =
     let frames = length_of_frames (reverse s.callers.items) (take s.here.labels_from s.labels.items) (take s.here.locals_from s.locals.items) (take s.here.bottom s.operands.items) ∙ length-reverse s.callers.items in
     let size = size_view s h in
     ap (λ k. nat_lt k 512 && nat_le (length s.operands.items + length s.labels.items + length s.locals.items + more) 16384) (sym frames)
     ∙ ap (λ k. nat_lt (length (thread_of s).callers) 512 && nat_le (k + more) 16384) (sym size)
 
-pub room_without_view : (n more : ℕ) (s : Inside) → IsSound s → n ≤ length (thread_of s).stack → (nat_lt (length s.callers.items) 512 && nat_le (length s.operands.items - n + length s.labels.items + length s.locals.items + more) 16384) ≡ has_room more (without n (thread_of s))
+pub room_without_view : (n more : ℕ) (s : Inside) → IsStack s → n ≤ length (thread_of s).stack → (nat_lt (length s.callers.items) 512 && nat_le (length s.operands.items - n + length s.labels.items + length s.locals.items + more) 16384) ≡ has_room more (without n (thread_of s))
 room_without_view n more s h le =
     let t = thread_of s in
     let frames = length_of_frames (reverse s.callers.items) (take s.here.labels_from s.labels.items) (take s.here.locals_from s.locals.items) (take s.here.bottom s.operands.items) ∙ length-reverse s.callers.items in
     let stack : length t.stack ≡ length s.operands.items - s.here.floor = length-reverse (drop s.here.floor s.operands.items) ∙ length-drop s.here.floor s.operands.items in
-    let rest : length s.operands.items - n + length s.labels.items + length s.locals.items ≡ size (without n t) = omega (arith, size_view s h, length-drop n t.stack, stack, le) in
+    let rest : length s.operands.items - n + length s.labels.items + length s.locals.items ≡ size_of_thread (without n t) = omega (arith, size_view s h, length-drop n t.stack, stack, le) in
     ap (λ k. nat_lt k 512 && nat_le (length s.operands.items - n + length s.labels.items + length s.locals.items + more) 16384) (sym frames)
     ∙ ap (λ k. nat_lt (length t.callers) 512 && nat_le (k + more) 16384) rest
 
-pub frame_room_view : (more : ℕ) (s : Inside) → IsSound s → (nat_lt (length s.callers.items + 1) 512 && nat_le (length s.operands.items + length s.labels.items + length s.locals.items + more) 16384) ≡ has_frame_room more (thread_of s)
+pub frame_room_view : (more : ℕ) (s : Inside) → IsStack s → (nat_lt (length s.callers.items + 1) 512 && nat_le (length s.operands.items + length s.labels.items + length s.locals.items + more) 16384) ≡ has_frame_room more (thread_of s)
 frame_room_view more s h =
     let frames = length_of_frames (reverse s.callers.items) (take s.here.labels_from s.labels.items) (take s.here.locals_from s.locals.items) (take s.here.bottom s.operands.items) ∙ length-reverse s.callers.items in
     let size = size_view s h in
@@ -256,12 +255,12 @@ frame_room_view more s h =
     ∙ ap (λ k. nat_lt (length (thread_of s).callers + 1) 512 && nat_le (k + more) 16384) (sym size)
 
 -- more locals on top
-pub IsSound-locals : (s : Inside) (w : Vec Value Global) → IsSound s → s.room ≡ 0 → (take (length s.locals.items) w.items ≡ s.locals.items) × (length s.locals.items ≤ length w.items) → IsSound (record s { locals = w })
+pub IsSound-locals : (s : Inside) (w : Vec Value Global) → IsStack s → s.room ≡ 0 → (take (length s.locals.items) w.items ≡ s.locals.items) × (length s.locals.items ≤ length w.items) → IsStack (record s { locals = w })
 IsSound-locals s w h none e =
     let same : take s.here.locals_from w.items ≡ take s.here.locals_from s.locals.items = sym (take-take s.here.locals_from (length s.locals.items) w.items h.part.locals_in) ∙ ap (λ o. take s.here.locals_from o) e.0 in
     record {
       part = record { top = h.part.top; cut = h.part.cut; labels_in = h.part.labels_in; locals_in = omega (arith, h.part.locals_in, e.1) };
-      below = subst (λ o. AreParts (reverse s.callers.items) (take s.here.labels_from s.labels.items) o (take s.here.bottom s.operands.items)) (sym same) h.below;
+      below = subst (λ o. AreFrameParts (reverse s.callers.items) (take s.here.labels_from s.labels.items) o (take s.here.bottom s.operands.items)) (sym same) h.below;
       room = record { place = h.room.place; limit = omega (arith, none) };
     }
 
@@ -377,12 +376,12 @@ past_none n f labels locals ops callers h lt =
     let m = length labels - f.labels_from in
     none_further (n - suc m) (suc m) n (thread_in f labels locals ops callers) (omega arith) (none_by labels f locals ops callers h)
 
-module _ (s : Inside) (n : ℕ) (w : Vec Label Global) (l : Label) (h : IsSound s) (le : n ≤ length s.labels.items - s.here.labels_from) (past : IsPast n s.here s.labels.items s.locals.items s.operands.items s.callers.items l) (e : w.items ≡ take (length s.labels.items - n) s.labels.items) where
+module _ (s : Inside) (n : ℕ) (w : Vec Label Global) (l : Label) (h : IsStack s) (le : n ≤ length s.labels.items - s.here.labels_from) (past : IsPast n s.here s.labels.items s.locals.items s.operands.items s.callers.items l) (e : w.items ≡ take (length s.labels.items - n) s.labels.items) where
   pub past_view : closed_by n (thread_of s) ≡ Some (thread_of (record s { labels = w; here = record s.here { todo = l.todo; floor = l.floor } }))
   past_view =
       past.thread ∙ ap (λ o. Some (thread_in (record s.here { todo = l.todo; floor = l.floor }) o s.locals.items s.operands.items s.callers.items)) (sym e)
 
-  pub past_sound : IsSound (record s { labels = w; here = record s.here { todo = l.todo; floor = l.floor } })
+  pub past_sound : IsStack (record s { labels = w; here = record s.here { todo = l.todo; floor = l.floor } })
   past_sound =
       let from = s.here.labels_from in
       let m = length s.labels.items - n in
@@ -390,7 +389,7 @@ module _ (s : Inside) (n : ℕ) (w : Vec Label Global) (l : Label) (h : IsSound 
       let many : length w.items ≤ length s.labels.items = omega (arith, ap length e, length-take m s.labels.items) in
       record {
         part = subst (λ o. IsPart (record s.here { todo = l.todo; floor = l.floor }) o s.locals.items s.operands.items) (sym e) past.part;
-        below = subst (λ o. AreParts (reverse s.callers.items) o (take s.here.locals_from s.locals.items) (take s.here.bottom s.operands.items)) low h.below;
+        below = subst (λ o. AreFrameParts (reverse s.callers.items) o (take s.here.locals_from s.locals.items) (take s.here.bottom s.operands.items)) low h.below;
         room = record { place = h.room.place; limit = omega (arith, h.room.limit, many) };
       }
 
@@ -401,7 +400,7 @@ pub record IsLeft (s : Inside) (ops : List Value) (labels : List Label) (locals 
   pub labels_is : labels ≡ take s.here.labels_from s.labels.items
   pub locals_is : locals ≡ take s.here.locals_from s.locals.items
 
-module _ (s : Inside) (v : Vec Value Global) (w : Vec Label Global) (x : Vec Value Global) (y : Vec Held Global) (f : Held) (h : IsSound s) (e : IsLeft s v.items w.items x.items y.items f) where
+module _ (s : Inside) (v : Vec Value Global) (w : Vec Label Global) (x : Vec Value Global) (y : Vec Held Global) (f : Held) (h : IsStack s) (e : IsLeft s v.items w.items x.items y.items f) where
   callers_left : reverse s.callers.items ≡ f ∷ reverse y.items
   callers_left = ap reverse e.caller ∙ reverse-append y.items (f ∷ [])
 
@@ -415,15 +414,15 @@ module _ (s : Inside) (v : Vec Value Global) (w : Vec Label Global) (x : Vec Val
       ∙ ap (λ o. Some (thread_in f o locals v.items y.items)) (sym e.labels_is)
       ∙ ap (λ o. Some (thread_in f w.items o v.items y.items)) (sym e.locals_is)
 
-  pub left_sound : s.operands.cap ≤ v.cap → IsSound (record s { here = f; operands = v; labels = w; locals = x; callers = y })
+  pub left_sound : s.operands.cap ≤ v.cap → IsStack (record s { here = f; operands = v; labels = w; locals = x; callers = y })
   left_sound cap =
       let labels = take s.here.labels_from s.labels.items in
       let locals = take s.here.locals_from s.locals.items in
       let ops = take s.here.bottom s.operands.items in
-      let p0 = subst (λ fs. AreParts fs labels locals ops) callers_left h.below in
-      let p1 = subst (λ o. AreParts (f ∷ reverse y.items) labels locals o) (sym e.ops_is) p0 in
-      let p2 = subst (λ o. AreParts (f ∷ reverse y.items) o locals v.items) (sym e.labels_is) p1 in
-      let p3 = subst (λ o. AreParts (f ∷ reverse y.items) w.items o v.items) (sym e.locals_is) p2 in
+      let p0 = subst (λ fs. AreFrameParts fs labels locals ops) callers_left h.below in
+      let p1 = subst (λ o. AreFrameParts (f ∷ reverse y.items) labels locals o) (sym e.ops_is) p0 in
+      let p2 = subst (λ o. AreFrameParts (f ∷ reverse y.items) o locals v.items) (sym e.labels_is) p1 in
+      let p3 = subst (λ o. AreFrameParts (f ∷ reverse y.items) w.items o v.items) (sym e.locals_is) p2 in
       record {
         part = p3.0;
         below = p3.1;
@@ -434,14 +433,14 @@ module _ (s : Inside) (v : Vec Value Global) (w : Vec Label Global) (x : Vec Val
       }
 
 -- a level that opens
-module _ (s : Inside) (here : Held) (w : Vec Label Global) (l : Label) (h : IsSound s) (top : here.floor ≡ length s.operands.items) (floor : l.floor ≡ s.here.floor) (e : w.items ≡ s.labels.items ++ l ∷ []) where
+module _ (s : Inside) (here : Held) (w : Vec Label Global) (l : Label) (h : IsStack s) (top : here.floor ≡ length s.operands.items) (floor : l.floor ≡ s.here.floor) (e : w.items ≡ s.labels.items ++ l ∷ []) where
   around_now : reverse (drop s.here.labels_from w.items) ≡ l ∷ reverse (drop s.here.labels_from s.labels.items)
   around_now = ap (λ o. reverse (drop s.here.labels_from o)) e ∙ reverse_drop_push s.here.labels_from s.labels.items l h.part.labels_in
 
   below_now : take s.here.labels_from w.items ≡ take s.here.labels_from s.labels.items
   below_now = ap (λ o. take s.here.labels_from o) e ∙ take-append-le s.here.labels_from s.labels.items (l ∷ []) h.part.labels_in
 
-  pub opened_sound : (room : ℕ) → room ≤ s.room - 1 → IsSound (record s { here = record s.here { todo = here.todo; floor = here.floor }; labels = w; room = room })
+  pub opened_sound : (room : ℕ) → room ≤ s.room - 1 → IsStack (record s { here = record s.here { todo = here.todo; floor = here.floor }; labels = w; room = room })
   opened_sound room fewer =
       let low : l.floor ≤ here.floor = omega (arith, h.part.top, top, floor) in
       let cut : AreCut s.here.bottom (l ∷ reverse (drop s.here.labels_from s.labels.items)) here.floor = (low, subst (λ k. AreCut s.here.bottom (reverse (drop s.here.labels_from s.labels.items)) k) (sym floor) h.part.cut) in
@@ -453,7 +452,7 @@ module _ (s : Inside) (here : Held) (w : Vec Label Global) (l : Label) (h : IsSo
           labels_in = omega (arith, more, h.part.labels_in);
           locals_in = h.part.locals_in;
         };
-        below = subst (λ o. AreParts (reverse s.callers.items) o (take s.here.locals_from s.locals.items) (take s.here.bottom s.operands.items)) (sym below_now) h.below;
+        below = subst (λ o. AreFrameParts (reverse s.callers.items) o (take s.here.locals_from s.locals.items) (take s.here.bottom s.operands.items)) (sym below_now) h.below;
         room = record { place = omega (arith, h.room.place, fewer); limit = omega (arith, h.room.limit, fewer, more) };
       }
 

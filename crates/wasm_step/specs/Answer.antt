@@ -9,10 +9,10 @@ use Rattle.wasm_step.specs.declared.halt.Way.TheVariants as way
 use Rattle.wasm_step.specs.declared.halt.Stopped.{Stopped}
 use Rattle.wasm_step.specs.declared.halt.Stopped.TheVariants as stopped
 use Rattle.wasm_step.specs.Thread.{Thread, arguments, without}
-use Rattle.wasm_step.specs.Reduce.{Stop, Calls, Ends, Traps, Sticks, After, Goes, Stops}
+use Rattle.wasm_step.specs.Reduce.{Halt, Calls, Ends, Traps, Sticks, After, Goes, Stops}
 
 -- a call of the library, whose n arguments are the topmost operands
-abbrev pub calling : Option (List Value) → ℕ → ℕ → Thread → Stop
+abbrev pub calling : Option (List Value) → ℕ → ℕ → Thread → Halt
 calling None f n t = Sticks
 calling (Some args) f n t = Calls (without n t) (site_of f args)
 
@@ -29,11 +29,11 @@ way_of way.Ends t = Stops Ends
 way_of way.Sticks t = Stops Sticks
 
 -- how a thread stops that does not go on
-abbrev pub stop_of : After → Stop
-stop_of (Goes t) = Sticks
-stop_of (Stops s) = s
+abbrev pub halt_of : After → Halt
+halt_of (Goes t) = Sticks
+halt_of (Stops s) = s
 
-abbrev pub stopped_of : Stopped → Thread → Stop
+abbrev pub stopped_of : Stopped → Thread → Halt
 stopped_of (stopped.Calling site) t = Calls t site
 stopped_of stopped.Ended t = Ends
 stopped_of (stopped.Trapped trap) t = Traps trap

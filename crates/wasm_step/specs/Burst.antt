@@ -4,12 +4,12 @@ use Rattle.wasm_types.specs.declared.traps.Trap.TheVariants.{Spent}
 use Rattle.wasm_types.specs.Code.{Tree, Trees, End, Then}
 use Rattle.wasm_store.specs.Store.{Store}
 use Rattle.wasm_step.specs.Thread.{Thread, depth}
-use Rattle.wasm_step.specs.Reduce.{Both, Stop, Traps, Sticks, After, Goes, Stops, keep, reduce, ended}
+use Rattle.wasm_step.specs.Reduce.{Both, Halt, Traps, Sticks, After, Goes, Stops, keep, reduce, ended}
 
 -- a thread at its next instruction, with those after it, or at a stop
 pub data Settled : Type 0 where
   At : Tree → Thread → Settled
-  Done : Stop → Settled
+  Done : Halt → Settled
 
 abbrev pub after_end : After → (Thread → Settled) → Settled
 after_end (Goes t) go = go t
@@ -29,31 +29,31 @@ abbrev pub settle : Thread → Settled
 settle t = settle_by (depth t) t
 
 -- where a burst stops, and the store then
-pub record Run : Type 0 where
-  pub stop : Stop
+pub record BurstResult : Type 0 where
+  pub stop : Halt
   pub store : Store
 
-abbrev pub after_step : After → Store → (Thread → Store → Run) → Run
+abbrev pub after_step : After → Store → (Thread → Store → BurstResult) → BurstResult
 after_step (Goes t) g go = go t g
 after_step (Stops s) g go = record { stop = s; store = g }
 
-abbrev pub after_both : Both → (Thread → Store → Run) → Run
+abbrev pub after_both : Both → (Thread → Store → BurstResult) → BurstResult
 after_both r go = after_step r.after r.store go
 
 -- one instruction more, past the ends before it
-abbrev pub at_further : Settled → Store → Both
-at_further (At i t) g = reduce i t g
-at_further (Done s) g = keep g (Stops s)
+abbrev pub one_step_at : Settled → Store → Both
+one_step_at (At i t) g = reduce i t g
+one_step_at (Done s) g = keep g (Stops s)
 
-abbrev pub further : Thread → Store → Both
-further t g = at_further (settle t) g
+abbrev pub one_step : Thread → Store → Both
+one_step t g = one_step_at (settle t) g
 
 -- where there is one instruction too many
-abbrev pub spent : Settled → Stop
+abbrev pub spent : Settled → Halt
 spent (At i t) = Traps Spent
 spent (Done s) = s
 
 -- at most n instructions, and `Spent` where there is one more
-unfoldable pub burst : ℕ → Thread → Store → Run
+unfoldable pub burst : ℕ → Thread → Store → BurstResult
 burst zero t g = record { stop = spent (settle t); store = g }
-burst (suc n) t g = after_both (further t g) (burst n)
+burst (suc n) t g = after_both (one_step t g) (burst n)

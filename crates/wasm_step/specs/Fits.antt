@@ -1,4 +1,4 @@
--- Threads and stores that fit a program: what is typed is left to do, from operands of its types.
+-- Threads and stores that fit a module: what is typed is left to do, from operands of its types.
 use Rattle.std.specs.Prelude.{◌≡◌, ℕ, Bool, true, false, List, [], ◌∷◌, ◌++◌, Option, Some, None, map, is_some, slice_get, IsSome}
 use Rattle.wasm_types.specs.declared.code.Value.{Value}
 use Rattle.wasm_types.specs.declared.code.ValType.{ValType}
@@ -11,11 +11,11 @@ use Rattle.wasm_types.specs.Labels.{Labels}
 use Rattle.wasm_types.specs.Maybe.{◌>>=◌}
 use Rattle.wasm_types.specs.Modules.{Module, Func, FuncType}
 use Rattle.wasm_types.specs.Stack.{Stack, is_exactly}
-use Rattle.wasm_types.specs.Typing.{after_all}
+use Rattle.wasm_types.specs.Typing.{typed_instrs}
 use Rattle.wasm_store.specs.Suits.{Suits}
-use Rattle.wasm_values.specs.Values.{kinds_of}
-use Rattle.wasm_step.specs.Burst.{Run}
-use Rattle.wasm_step.specs.Reduce.{Stop, Calls, Ends, Traps, Sticks, After, Goes, Stops, given}
+use Rattle.wasm_values.specs.Values.{types_of_values}
+use Rattle.wasm_step.specs.Burst.{BurstResult}
+use Rattle.wasm_step.specs.Reduce.{Halt, Calls, Ends, Traps, Sticks, After, Goes, Stops, with_result}
 use Rattle.wasm_step.specs.Strand.{IsResult, library_result}
 use Rattle.wasm_step.specs.Thread.{Level, Frame, Thread, here}
 
@@ -24,9 +24,9 @@ abbrev pub known : List ValType → Stack
 known ks = record { types = map Some ks; after_jump = false }
 
 -- the type before the others, if there is one
-abbrev pub put_kind : Option ValType → List ValType → List ValType
-put_kind None ks = ks
-put_kind (Some k) ks = k ∷ ks
+abbrev pub put_type : Option ValType → List ValType → List ValType
+put_type None ks = ks
+put_type (Some k) ks = k ∷ ks
 
 -- what a branch to a level carries: an operand of the type of what the level leaves, or none
 abbrev pub label_of : Option ValType → Bool → Option ValType
@@ -39,13 +39,13 @@ labels_of (l ∷ ls) = label_of l.gives l.carries ∷ labels_of ls
 
 -- the code, from operands of these types, is typed to exactly this result, and has no floats
 pub record Leaves (c : Context) (labels : Labels) (gives : Option ValType) (code : Trees) (ks : List ValType) : Type 0 where
-  pub typed : IsSome (after_all c code labels (known ks) >>= is_exactly gives)
+  pub typed : IsSome (typed_instrs c code labels (known ks) >>= is_exactly gives)
   pub no_float : have_float code ≡ false
 
 -- Where a branch to a level goes on, in the level around it or at the level's own start, is typed from what
 -- the branch carries.
 abbrev pub TargetFits : Bool → Context → Option ValType → Trees → Bool → Level → List Level → Type 0
-TargetFits false c gives target carries l ls = Leaves c (labels_of (l ∷ ls)) l.gives target (put_kind (label_of gives carries) (kinds_of l.stack))
+TargetFits false c gives target carries l ls = Leaves c (labels_of (l ∷ ls)) l.gives target (put_type (label_of gives carries) (types_of_values l.stack))
 TargetFits true c gives target carries l ls = Leaves c (label_of gives carries ∷ labels_of (l ∷ ls)) gives target []
 
 -- The levels around one with this target: what is left in each is typed from its operands, after the end
@@ -55,10 +55,10 @@ LevelsFit c gives target carries loops [] = (gives ≡ c.gives) × (carries ≡ 
 LevelsFit c gives target carries loops (l ∷ ls) =
     (carries ≡ is_some (label_of gives carries))
     × TargetFits loops c gives target carries l ls
-    × Leaves c (labels_of (l ∷ ls)) l.gives l.todo (put_kind gives (kinds_of l.stack))
+    × Leaves c (labels_of (l ∷ ls)) l.gives l.todo (put_type gives (types_of_values l.stack))
     × LevelsFit c l.gives l.target l.carries l.loops ls
 
--- the code of the program's own function f may name this
+-- the code of the module's own function f may name this
 pub record IsContext (m : Module) (f : ℕ) (c : Context) : Type 0 where
   pub func : Func
   pub type : FuncType
@@ -70,10 +70,10 @@ pub record IsContext (m : Module) (f : ℕ) (c : Context) : Type 0 where
 pub record FrameFits (m : Module) (waits : Option ValType) (f : Frame) : Type 0 where
   pub context : Context
   pub function : IsContext m f.func context
-  pub locals : kinds_of f.locals ≡ context.locals
+  pub locals : types_of_values f.locals ≡ context.locals
   pub returns : f.returns ≡ is_some context.gives
   pub around : LevelsFit context f.here.gives f.here.target f.here.carries f.here.loops f.outer
-  pub todo : Leaves context (labels_of (f.here ∷ f.outer)) f.here.gives f.here.todo (put_kind waits (kinds_of f.here.stack))
+  pub todo : Leaves context (labels_of (f.here ∷ f.outer)) f.here.gives f.here.todo (put_type waits (types_of_values f.here.stack))
 
 abbrev pub FramesFit : Module → Option ValType → List Frame → Type 0
 FramesFit m waits [] = Unit {0}
@@ -88,22 +88,22 @@ Fits m t = FramesFit m None (frame_of t ∷ t.callers)
 
 -- a call that fits with each value that it may give
 abbrev pub CallFits : Module → Thread → ℕ → Type 0
-CallFits m t f = (o : Option Value) → IsResult (library_result m f) o → Fits m (given o t)
+CallFits m t f = (o : Option Value) → IsResult (library_result m f) o → Fits m (with_result o t)
 
 -- a stop of a thread that fits: it does not stick, and what it calls is an imported function
-abbrev pub StopFits : Module → Stop → Type 0
-StopFits m (Calls t site) = IsSome (imported_type m (slice_get m.imports site.func)) × CallFits m t site.func
-StopFits m Ends = Unit {0}
-StopFits m (Traps trap) = Unit {0}
-StopFits m Sticks = ⊥
+abbrev pub HaltFits : Module → Halt → Type 0
+HaltFits m (Calls t site) = IsSome (imported_type m (slice_get m.imports site.func)) × CallFits m t site.func
+HaltFits m Ends = Unit {0}
+HaltFits m (Traps trap) = Unit {0}
+HaltFits m Sticks = ⊥
 
 abbrev pub AfterFits : Module → After → Type 0
 AfterFits m (Goes t) = Fits m t
-AfterFits m (Stops s) = StopFits m s
+AfterFits m (Stops s) = HaltFits m s
 
 -- a burst stops well, and the store still suits
-abbrev pub RunFits : Module → Run → Type 0
-RunFits m r = StopFits m r.stop × Suits r.store
+abbrev pub BurstFits : Module → BurstResult → Type 0
+BurstFits m r = HaltFits m r.stop × Suits r.store
 
 -- a thread with the call at which it stands, if it stands at one
 abbrev pub StandsFit : Module → Thread → Option ℕ → Type 0

@@ -5,15 +5,15 @@ use Rattle.wasm_types.specs.Valid.{IsValid}
 use Rattle.wasm_store.specs.Store.{Store}
 use Rattle.wasm_store.specs.Suits.{Suits}
 use Rattle.wasm_step.specs.Burst.{burst}
-use Rattle.wasm_step.specs.Fits.{Fits, RunFits}
+use Rattle.wasm_step.specs.Fits.{BurstFits, Fits}
 use Rattle.wasm_step.specs.Thread.{Thread}
 
--- A burst of a valid program, from a thread that fits it and a store that suits it, never sticks: it stops at
+-- A burst of a valid module, from a thread that fits it and a store that suits it, never sticks: it stops at
 -- a call of an imported function, at the thread's end or by a trap. The store then still suits.
 abbrev pub NeverSticks : Type 0
 NeverSticks =
-    (m : Module) (n : ℕ) (t : Thread) (g : Store) → IsValid m → g.program ≡ m → Suits g → Fits m t → RunFits m (burst n t g)
+    (m : Module) (n : ℕ) (t : Thread) (g : Store) → IsValid m → g.«module» ≡ m → Suits g → Fits m t → BurstFits m (burst n t g)
 
--- a burst leaves the program as it is
-abbrev pub KeepsProgram : Type 0
-KeepsProgram = (n : ℕ) (t : Thread) (g : Store) → (burst n t g).store.program ≡ g.program
+-- a burst leaves the module as it is
+abbrev pub KeepsModule : Type 0
+KeepsModule = (n : ℕ) (t : Thread) (g : Store) → (burst n t g).store.«module» ≡ g.«module»

@@ -3,9 +3,9 @@ pub mod Burst
 pub mod Call
 pub mod Fits
 pub mod Laws
+pub mod Limits
 pub mod Pause
 pub mod Paused
-pub mod Quick
 pub mod Reduce
 pub mod Strand
 pub mod Target

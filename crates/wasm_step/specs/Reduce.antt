@@ -1,7 +1,7 @@
 -- What one instruction does to a thread and to the store, and what the end of a level or of a frame does
 -- to a thread (WebAssembly 1.0, section 4.4).
 use Rattle.std.specs.Prelude.{ℕ, zero, suc, ◌+◌, ◌-◌, ◌^◌, Bool, true, false, List, [], ◌∷◌, Option, Some, None, is_some, slice_get, slice_set, length, nat_lt, if◌then◌else◌}
-use Rattle.guest_memory.specs.Memory.{Memory, size_of, loaded, is_inside, after_store, growth, grown}
+use Rattle.guest_memory.specs.Memory.{Memory, size_of, loaded, is_inside, after_store, growth, after_grow}
 use Rattle.wasm_types.specs.declared.code.Value.{Value}
 use Rattle.wasm_types.specs.declared.code.Value.TheVariants.{I32, I64}
 use Rattle.wasm_types.specs.declared.code.ValType.{ValType}
@@ -19,16 +19,16 @@ use Rattle.wasm_store.specs.Store.{Store}
 use Rattle.wasm_step.specs.Thread.{Thread, with_operand, opened, closed, left, called, arguments, without, is_within, has_room}
 
 -- how a thread stops: at a call of the library, at its end, by a trap, or where no row is for it
-pub data Stop : Type 0 where
-  Calls : Thread → CallSite → Stop
-  Ends : Stop
-  Traps : Trap → Stop
-  Sticks : Stop
+pub data Halt : Type 0 where
+  Calls : Thread → CallSite → Halt
+  Ends : Halt
+  Traps : Trap → Halt
+  Sticks : Halt
 
 -- what comes after a step
 pub data After : Type 0 where
   Goes : Thread → After
-  Stops : Stop → After
+  Stops : Halt → After
 
 -- the same with the store
 pub record Both : Type 0 where
@@ -43,8 +43,8 @@ abbrev pub go_on : Option Thread → After
 go_on None = Stops Sticks
 go_on (Some t) = Goes t
 
-abbrev pub trapped : Trap → After
-trapped trap = Stops (Traps trap)
+abbrev pub at_trap : Trap → After
+at_trap trap = Stops (Traps trap)
 
 -- the topmost operand
 abbrev pub on_top : List Value → Thread → (Value → Thread → After) → After
@@ -61,16 +61,16 @@ on_i32 (I64 x) go = Stops Sticks
 
 -- ---- numbers
 
-abbrev pub put : Computed → Thread → After
-put (Gives v) t = Goes (with_operand t v)
-put (Fails trap) t = trapped trap
-put IsNone t = Stops Sticks
+abbrev pub put_computed : Computed → Thread → After
+put_computed (Gives v) t = Goes (with_operand t v)
+put_computed (Fails trap) t = at_trap trap
+put_computed IsNone t = Stops Sticks
 
 abbrev pub numeric : ℕ → Thread → After
 numeric op t =
     if is_unary op
-    then with_top t (λ x t'. put (unary op x) t')
-    else with_top t (λ y t'. with_top t' (λ x t''. put (binary op x y) t''))
+    then with_top t (λ x t'. put_computed (unary op x) t')
+    else with_top t (λ y t'. with_top t' (λ x t''. put_computed (binary op x y) t''))
 
 -- ---- operands and locals
 
@@ -120,7 +120,7 @@ global_set x g t = set_global x g t.stack t
 -- ---- memory
 
 abbrev pub read_at : Option ℕ → ℕ → Thread → After
-read_at None op t = trapped traps.MemoryRange
+read_at None op t = at_trap traps.MemoryRange
 read_at (Some n) op t = got (load_value op n) t
 
 abbrev pub load_at : Option ℕ → ℕ → ℕ → Memory → Thread → After
@@ -134,7 +134,7 @@ load op offset memory t = with_top t (λ v t'. on_i32 v (λ base. load_at (load_
 abbrev pub write_at : Option ℕ → ℕ → ℕ → Store → Thread → Both
 write_at None addr bits g t = keep g (Stops Sticks)
 write_at (Some width) addr bits g t = record {
-  after = if is_inside g.memory addr width then Goes t else trapped traps.MemoryRange;
+  after = if is_inside g.memory addr width then Goes t else at_trap traps.MemoryRange;
   store = record g { memory = after_store g.memory addr width bits };
 }
 
@@ -164,7 +164,7 @@ grow_top [] g t = keep g (Stops Sticks)
 grow_top (I64 x ∷ rest) g t = keep g (Stops Sticks)
 grow_top (I32 pages ∷ rest) g t = record {
   after = Goes (with_operand (record t { stack = rest }) (grow_answer (growth g.memory pages)));
-  store = record g { memory = grown g.memory pages };
+  store = record g { memory = after_grow g.memory pages };
 }
 
 abbrev pub memory_grow : Store → Thread → Both
@@ -189,14 +189,14 @@ abbrev pub with_carried : Carried → (Option Value → Thread → After) → Af
 with_carried Lacks go = Stops Sticks
 with_carried (Takes o t) go = go o t
 
-abbrev pub given : Option Value → Thread → Thread
-given None t = t
-given (Some v) t = with_operand t v
+abbrev pub with_result : Option Value → Thread → Thread
+with_result None t = t
+with_result (Some v) t = with_operand t v
 
 -- the caller goes on with what the frame carries; the thread ends with its outermost frame
 abbrev pub resumed : Option Thread → Option Value → After
 resumed None o = Stops Ends
-resumed (Some t) o = Goes (given o t)
+resumed (Some t) o = Goes (with_result o t)
 
 -- the end of the innermost frame, from any of its levels
 abbrev pub return_from : Thread → After
@@ -205,7 +205,7 @@ return_from t = with_carried (carried t.returns t) (λ o t'. resumed (left t') o
 -- a branch out of the innermost level goes on in the level around it, and the frame's outermost level returns
 abbrev pub landed : Option Thread → Thread → Trees → Option Value → After
 landed None t target o = resumed (left t) o
-landed (Some t') t target o = Goes (given o (record t' { todo = target }))
+landed (Some t') t target o = Goes (with_result o (record t' { todo = target }))
 
 abbrev pub jump_out : Thread → After
 jump_out t =
@@ -248,7 +248,9 @@ branch_table labels default t = with_top t (λ v t'. on_i32 v (λ i. branch (lab
 
 abbrev pub choose : Option ValType → Trees → Trees → Thread → After
 choose gives on_true on_false t =
-    with_top t (λ v t'. on_test v (Goes (opened t' gives on_false t'.todo (is_some gives) false)) (Goes (opened t' gives on_true t'.todo (is_some gives) false)))
+    with_top t (λ v t'. on_test v
+    (Goes (opened t' gives on_false t'.todo (is_some gives) false))
+    (Goes (opened t' gives on_true t'.todo (is_some gives) false)))
 
 -- ---- calls
 
@@ -258,7 +260,7 @@ at_call None f type t = Stops Sticks
 at_call (Some args) f type t =
     if has_room (length type.results) (without (length type.params) t)
     then Stops (Calls (without (length type.params) t) (site_of f args))
-    else trapped traps.Exhausted
+    else at_trap traps.Exhausted
 
 abbrev pub call_library : ℕ → Option FuncType → Thread → After
 call_library f None t = Stops Sticks
@@ -282,56 +284,56 @@ call m f t =
 abbrev pub call_if_same : Module → ℕ → Option FuncType → Option FuncType → Thread → After
 call_if_same m f None wanted t = Stops Sticks
 call_if_same m f (Some type) None t = Stops Sticks
-call_if_same m f (Some type) (Some wanted) t = if same_type type wanted then call m f t else trapped traps.TypeDiffers
+call_if_same m f (Some type) (Some wanted) t = if same_type type wanted then call m f t else at_trap traps.TypeDiffers
 
 abbrev pub call_element : Module → ℕ → Option (Option ℕ) → Thread → After
-call_element m type None t = trapped traps.TableRange
-call_element m type (Some None) t = trapped traps.EmptyElement
+call_element m type None t = at_trap traps.TableRange
+call_element m type (Some None) t = at_trap traps.EmptyElement
 call_element m type (Some (Some f)) t = call_if_same m f (type_of m f) (slice_get m.types type) t
 
 abbrev pub call_indirect : ℕ → Store → Thread → After
 call_indirect type g t =
-    with_top t (λ v t'. on_i32 v (λ i. call_element g.program type (slice_get g.table i) t'))
+    with_top t (λ v t'. on_i32 v (λ i. call_element g.«module» type (slice_get g.table i) t'))
 
 -- ---- the rows, one for each instruction i, which the thread has left behind
 
-abbrev pub row : Tree → Thread → Store → Both
-row Unreachable t g = keep g (trapped traps.Unreachable)
-row Nop t g = keep g (Goes t)
-row (Block gives body) t g = keep g (Goes (opened t gives body t.todo (is_some gives) false))
-row (Loop gives body) t g = keep g (Goes (opened t gives body body false true))
-row (If gives on_true on_false) t g = keep g (choose gives on_true on_false t)
-row (Br n) t g = keep g (branch n t)
-row (BrIf n) t g = keep g (branch_if n t)
-row (BrTable labels default) t g = keep g (branch_table labels default t)
-row Return t g = keep g (return_from t)
-row (CallFunc f) t g = keep g (call g.program f t)
-row (CallIndirect type) t g = keep g (call_indirect type g t)
-row DropTop t g = keep g (drop_top t)
-row Select t g = keep g (select t)
-row (LocalGet x) t g = keep g (local_get x t)
-row (LocalSet x) t g = keep g (local_set x t)
-row (LocalTee x) t g = keep g (local_tee x t)
-row (GlobalGet x) t g = keep g (global_get x g t)
-row (GlobalSet x) t g = global_set x g t
-row (Load op align offset) t g = keep g (load op offset g.memory t)
-row (StoreIn op align offset) t g = write op offset g t
-row MemorySize t g = keep g (memory_size g.memory t)
-row MemoryGrow t g = memory_grow g t
-row (ConstI32 bits) t g = keep g (Goes (with_operand t (I32 bits)))
-row (ConstI64 bits) t g = keep g (Goes (with_operand t (I64 bits)))
-row (ConstF32 bits) t g = keep g (Stops Sticks)
-row (ConstF64 bits) t g = keep g (Stops Sticks)
-row (Op op) t g = keep g (numeric op t)
+abbrev pub instr_row : Tree → Thread → Store → Both
+instr_row Unreachable t g = keep g (at_trap traps.Unreachable)
+instr_row Nop t g = keep g (Goes t)
+instr_row (Block gives body) t g = keep g (Goes (opened t gives body t.todo (is_some gives) false))
+instr_row (Loop gives body) t g = keep g (Goes (opened t gives body body false true))
+instr_row (If gives on_true on_false) t g = keep g (choose gives on_true on_false t)
+instr_row (Br n) t g = keep g (branch n t)
+instr_row (BrIf n) t g = keep g (branch_if n t)
+instr_row (BrTable labels default) t g = keep g (branch_table labels default t)
+instr_row Return t g = keep g (return_from t)
+instr_row (CallFunc f) t g = keep g (call g.«module» f t)
+instr_row (CallIndirect type) t g = keep g (call_indirect type g t)
+instr_row DropTop t g = keep g (drop_top t)
+instr_row Select t g = keep g (select t)
+instr_row (LocalGet x) t g = keep g (local_get x t)
+instr_row (LocalSet x) t g = keep g (local_set x t)
+instr_row (LocalTee x) t g = keep g (local_tee x t)
+instr_row (GlobalGet x) t g = keep g (global_get x g t)
+instr_row (GlobalSet x) t g = global_set x g t
+instr_row (Load op align offset) t g = keep g (load op offset g.memory t)
+instr_row (StoreIn op align offset) t g = write op offset g t
+instr_row MemorySize t g = keep g (memory_size g.memory t)
+instr_row MemoryGrow t g = memory_grow g t
+instr_row (ConstI32 bits) t g = keep g (Goes (with_operand t (I32 bits)))
+instr_row (ConstI64 bits) t g = keep g (Goes (with_operand t (I64 bits)))
+instr_row (ConstF32 bits) t g = keep g (Stops Sticks)
+instr_row (ConstF64 bits) t g = keep g (Stops Sticks)
+instr_row (Op op) t g = keep g (numeric op t)
 
 -- a thread past its limits traps
 abbrev pub limited : After → After
 limited (Stops s) = Stops s
-limited (Goes t) = if is_within t then Goes t else trapped traps.Exhausted
+limited (Goes t) = if is_within t then Goes t else at_trap traps.Exhausted
 
 -- one instruction; its own trap comes before the limits
 abbrev pub reduce : Tree → Thread → Store → Both
-reduce i t g = let r = row i t g in record { after = limited r.after; store = r.store }
+reduce i t g = let r = instr_row i t g in record { after = limited r.after; store = r.store }
 
 -- the end of a level, or of a frame with its outermost level
 abbrev pub at_end : Option Thread → Thread → After

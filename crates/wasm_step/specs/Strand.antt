@@ -11,31 +11,31 @@ use Rattle.wasm_types.specs.Valid.{is_start_export}
 use Rattle.wasm_values.specs.Values.{zeros}
 use Rattle.wasm_step.specs.Thread.{Thread, Frame, at_start, waiting_frame, is_within}
 use Rattle.wasm_types.specs.Functions.{own_func, type_of, imported_type}
-use Rattle.wasm_step.specs.Reduce.{given}
+use Rattle.wasm_step.specs.Reduce.{with_result}
 
--- a thread with its program, and the function of the library at whose call it stands, if it stands at one
+-- a thread with its module, and the function of the library at whose call it stands, if it stands at one
 pub record Strand : Type 0 where
-  pub program : Module
+  pub «module» : Module
   pub thread : Thread
   pub call : Option ℕ
 
--- the program itself defines the function, with one parameter of 32 bits and no result
+-- the module itself defines the function, with one parameter of 32 bits and no result
 pub record IsHandler (m : Module) (f : ℕ) : Type 0 where
   pub own : length m.imports ≤ f
   pub type : type_of m f ≡ Some (record { params = types.I32 ∷ []; results = [] })
 
 -- a function without a result at its start, above these frames
-abbrev pub begun : Option Func → List Frame → ℕ → List Value → Option Thread
-begun None callers f args = None
-begun (Some func) callers f args = Some (at_start callers f func.body (args ++ zeros func.locals) None)
+abbrev pub started_above : Option Func → List Frame → ℕ → List Value → Option Thread
+started_above None callers f args = None
+started_above (Some func) callers f args = Some (at_start callers f func.body (args ++ zeros func.locals) None)
 
--- a thread of the program that stands at the start of this function, which has one argument
+-- a thread of the module that stands at the start of this function, which has one argument
 abbrev pub new_thread : Module → ℕ → ℕ → Option Thread
-new_thread m f arg = begun (own_func m f) [] f (I32 arg ∷ [])
+new_thread m f arg = started_above (own_func m f) [] f (I32 arg ∷ [])
 
 -- a thread with the frame of a handler of a signal on top
 abbrev pub handling : Module → Thread → ℕ → ℕ → Option Thread
-handling m t f signal = begun (own_func m f) (waiting_frame t ∷ t.callers) f (I32 signal ∷ [])
+handling m t f signal = started_above (own_func m f) (waiting_frame t ∷ t.callers) f (I32 signal ∷ [])
 
 abbrev pub is_in : Option Thread → Bool
 is_in None = false
@@ -60,11 +60,11 @@ library_result m f = first_result (imported_type m (slice_get m.imports f))
 pub record IsAnswer (s : Strand) (value : Option Value) : Type 0 where
   pub func : ℕ
   pub stands : s.call ≡ Some func
-  pub typed : IsResult (library_result s.program func) value
+  pub typed : IsResult (library_result s.«module» func) value
 
 -- the strand after its call
 abbrev pub answered : Strand → Option Value → Strand
-answered s value = record s { thread = given value s.thread; call = None }
+answered s value = record s { thread = with_result value s.thread; call = None }
 
 -- ---- the thread that runs first
 
@@ -74,7 +74,7 @@ exported (ToTable t) = None
 exported (ToMemory x) = None
 exported (ToGlobal g) = None
 
--- the function that the program exports as its start
+-- the function that the module exports as its start
 abbrev pub entry_from : Module → List Export → Option ℕ
 entry_from m [] = None
 entry_from m (e ∷ es) = if is_start_export m e then exported e.desc else entry_from m es
@@ -83,11 +83,11 @@ entry_from m (e ∷ es) = if is_start_export m e then exported e.desc else entry
 abbrev pub with_start : Module → Option ℕ → Option Thread → Option Thread
 with_start m start None = None
 with_start m None (Some t) = Some t
-with_start m (Some s) (Some t) = begun (own_func m s) (waiting_frame t ∷ t.callers) s []
+with_start m (Some s) (Some t) = started_above (own_func m s) (waiting_frame t ∷ t.callers) s []
 
 abbrev pub entry_thread : Module → Option ℕ → Option Thread
 entry_thread m None = None
-entry_thread m (Some f) = begun (own_func m f) [] f []
+entry_thread m (Some f) = started_above (own_func m f) [] f []
 
 -- the thread that runs first: at its start, with the start section's function above it
 abbrev pub first_thread : Module → Option Thread

@@ -129,19 +129,19 @@ abbrev pub size_of_frames : List Frame → ℕ
 size_of_frames [] = 0
 size_of_frames (f ∷ fs) = length f.here.stack + size_of_levels f.outer + length f.locals + size_of_frames fs
 
-abbrev pub size : Thread → ℕ
-size t = length t.stack + size_of_levels t.outer + length t.locals + size_of_frames t.callers
+abbrev pub size_of_thread : Thread → ℕ
+size_of_thread t = length t.stack + size_of_levels t.outer + length t.locals + size_of_frames t.callers
 
 -- at most 512 frames, and at most 16,384 operands, locals and labels with this many more
 abbrev pub has_room : ℕ → Thread → Bool
-has_room more t = nat_lt (length t.callers) 512 && nat_le (size t + more) 16384
+has_room more t = nat_lt (length t.callers) 512 && nat_le (size_of_thread t + more) 16384
 
 abbrev pub is_within : Thread → Bool
 is_within t = has_room 0 t
 
 -- the same with one more frame
 abbrev pub has_frame_room : ℕ → Thread → Bool
-has_frame_room more t = nat_lt (length t.callers + 1) 512 && nat_le (size t + more) 16384
+has_frame_room more t = nat_lt (length t.callers + 1) 512 && nat_le (size_of_thread t + more) 16384
 
 -- without the n topmost operands
 abbrev pub without : ℕ → Thread → Thread

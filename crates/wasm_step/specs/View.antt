@@ -1,12 +1,13 @@
--- The thread that the stacks of a strand stand for.
-use Rattle.std.specs.Prelude.{◌≡◌, ℕ, ◌+◌, ◌-◌, ◌≤◌, Bool, true, false, List, [], ◌∷◌, Option, Some, None, is_some, reverse, take, drop, length}
+-- The thread that the stacks of a strand stand for, and the levels that an instruction opens and an end closes.
+use Rattle.std.specs.Prelude.{◌≡◌, ℕ, zero, suc, ◌+◌, ◌-◌, ◌≤◌, Bool, true, false, List, [], ◌∷◌, Option, Some, None, is_some, reverse, take, drop, length}
 use Rattle.wasm_types.specs.declared.code.Value.{Value}
 use Rattle.wasm_types.specs.declared.code.ValType.{ValType}
 use Rattle.wasm_types.specs.Code.{Tree, Block, Loop, If, Trees, End, tree, trees}
 use Rattle.wasm_step.specs.declared.stack.Label.{Label}
 use Rattle.wasm_step.specs.declared.stack.Held.{Held}
 use Rattle.wasm_step.specs.declared.stack.Stack.TheInside.{Inside}
-use Rattle.wasm_step.specs.Thread.{Level, Frame, Thread}
+use Rattle.wasm_step.specs.Reduce.{After, Goes, on_test, with_top}
+use Rattle.wasm_step.specs.Thread.{Level, Frame, Thread, closed, opened}
 
 -- what a level is by how it was opened: the type of what it leaves, where a branch to it goes on, whether that carries
 -- an operand, and whether it begins the level anew
@@ -52,16 +53,16 @@ levels_of gives [] ops = []
 levels_of gives (l ∷ ls) ops = level (innermost gives ls) (trees l.todo.now) l.floor ops ∷ levels_of gives ls (take l.floor ops)
 
 -- the labels of a frame, the innermost first
-abbrev pub around : Held → List Label → List Label
-around f labels = reverse (drop f.labels_from labels)
+abbrev pub frame_labels : Held → List Label → List Label
+frame_labels f labels = reverse (drop f.labels_from labels)
 
 -- the frames that wait, the innermost first
 abbrev pub frames_of : List Held → List Label → List Value → List Value → List Frame
 frames_of [] labels locals ops = []
 frames_of (f ∷ fs) labels locals ops =
     record {
-      here = level (innermost f.gives (around f labels)) (trees f.todo.now) f.floor ops;
-      outer = levels_of f.gives (around f labels) (take f.floor ops);
+      here = level (innermost f.gives (frame_labels f labels)) (trees f.todo.now) f.floor ops;
+      outer = levels_of f.gives (frame_labels f labels) (take f.floor ops);
       func = f.func;
       locals = drop f.locals_from locals;
       returns = is_some f.gives;
@@ -71,14 +72,14 @@ frames_of (f ∷ fs) labels locals ops =
 -- the thread whose innermost frame is this
 abbrev pub thread_in : Held → List Label → List Value → List Value → List Held → Thread
 thread_in f labels locals ops callers =
-    let o = innermost f.gives (around f labels) in record {
+    let o = innermost f.gives (frame_labels f labels) in record {
       gives = o.gives;
       todo = trees f.todo.now;
       stack = reverse (drop f.floor ops);
       target = o.target;
       carries = o.carries;
       loops = o.loops;
-      outer = levels_of f.gives (around f labels) (take f.floor ops);
+      outer = levels_of f.gives (frame_labels f labels) (take f.floor ops);
       func = f.func;
       locals = drop f.locals_from locals;
       returns = is_some f.gives;
@@ -87,6 +88,24 @@ thread_in f labels locals ops callers =
 
 abbrev pub thread_of : Inside → Thread
 thread_of s = thread_in s.here s.labels.items s.locals.items s.operands.items s.callers.items
+
+-- the level that the instruction opens, with this body, in front of what is left
+abbrev pub entered_by : Tree → Trees → Thread → Thread
+entered_by i body t = let o = opened_by i t.todo in opened t o.gives body o.target o.carries o.loops
+
+-- a choice that this instruction opens, and which enters one of these bodies
+abbrev pub chosen_by : Tree → Trees → Trees → Thread → After
+chosen_by i on_true on_false t =
+    with_top t (λ v t'. on_test v (Goes (entered_by i on_false t')) (Goes (entered_by i on_true t')))
+
+abbrev pub and_close : Option Thread → Option Thread
+and_close None = None
+and_close (Some t) = closed t
+
+-- the level n levels around the innermost, with the operands of all
+abbrev pub closed_by : ℕ → Thread → Option Thread
+closed_by zero t = Some t
+closed_by (suc n) t = and_close (closed_by n t)
 
 -- each label's operands begin at or below those of the next, and at or above the frame's
 abbrev pub AreCut : ℕ → List Label → ℕ → Type 0
@@ -100,18 +119,20 @@ pub record IsPart (f : Held) (labels : List Label) (locals ops : List Value) : T
   pub labels_in : f.labels_from ≤ length labels
   pub locals_in : f.locals_from ≤ length locals
 
-abbrev pub AreParts : List Held → List Label → List Value → List Value → Type 0
-AreParts [] labels locals ops = (labels ≡ []) × (locals ≡ []) × (ops ≡ [])
-AreParts (f ∷ fs) labels locals ops =
+abbrev pub AreFrameParts : List Held → List Label → List Value → List Value → Type 0
+AreFrameParts [] labels locals ops = (labels ≡ []) × (locals ≡ []) × (ops ≡ [])
+AreFrameParts (f ∷ fs) labels locals ops =
     IsPart f labels locals ops
-    × AreParts fs (take f.labels_from labels) (take f.locals_from locals) (take f.bottom ops)
+    × AreFrameParts fs (take f.labels_from labels) (take f.locals_from locals) (take f.bottom ops)
 
 -- with fewer operands than the room, one more has its place and keeps to the limit
-pub record HasRoom (s : Inside) : Type 0 where
+pub record HasOperandRoom (s : Inside) : Type 0 where
   pub place : s.room ≤ s.operands.cap
   pub limit : s.room ≤ 16384 - (length s.labels.items + length s.locals.items)
 
-pub record IsSound (s : Inside) : Type 0 where
+pub record IsStack (s : Inside) : Type 0 where
   pub part : IsPart s.here s.labels.items s.locals.items s.operands.items
-  pub below : AreParts (reverse s.callers.items) (take s.here.labels_from s.labels.items) (take s.here.locals_from s.locals.items) (take s.here.bottom s.operands.items)
-  pub room : HasRoom s
+  pub below :
+      AreFrameParts (reverse s.callers.items) (take s.here.labels_from s.labels.items) (take s.here.locals_from s.locals.items)
+      (take s.here.bottom s.operands.items)
+  pub room : HasOperandRoom s

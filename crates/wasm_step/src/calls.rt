@@ -1,9 +1,9 @@
-// Calls: of the library, of the program's own functions, and through the table.
+// Calls: of the library, of the module's own functions, and through the table.
 ghost use Rattle.std.specs.Prelude.{◌≡◌, ◌+◌, ◌<◌, ◌≤◌, [], ◌∷◌, IfOk, IfSome, IfNone, IsTrue, None, OnOk, Some, false, length, slice_get};
 ghost use Rattle.wasm_types.specs.Modules.{func_type, module_of};
 ghost use Rattle.wasm_step.specs.Answer.{after_of};
 ghost use Rattle.wasm_step.specs.Reduce.{Goes, call, call_element, call_indirect, call_library, call_own, go_on, limited};
-ghost use Rattle.wasm_step.specs.Strand.{begun};
+ghost use Rattle.wasm_step.specs.Strand.{started_above};
 ghost use Rattle.wasm_values.specs.Values.{zeros};
 ghost use Rattle.wasm_step.specs.Thread.{Thread, called, has_frame_room, waiting_frame};
 
@@ -11,43 +11,43 @@ use crate::halt::Next;
 use crate::stack::{SIZE_LIMIT, Stack};
 use std::alloc::AllocError;
 use wasm_store::{
-    Callee, Store, imported_kind, is_same_type, kind_at, kind_of, own_func, result_of,
+    Callee, Store, imported_type, is_same_type, own_func, result_of, type_at, type_of,
 };
 use wasm_types::{FuncType, Module, Trap, ValType, ValidModule, Value};
 
 impl<'m> Stack<'m> {
-    fn call_library(&mut self, kind: &FuncType, index: u32) -> Next
-        ensures { after_of result self.new ≡ call_library index (Some (func_type kind.now)) self.old }
+    fn call_library(&mut self, typing: &FuncType, index: u32) -> Next
+        ensures { after_of result self.new ≡ call_library index (Some (func_type typing.now)) self.old }
     {
-        let n = kind.params.len();
+        let n = typing.params.len();
         if !self.has_arguments(n) {
             return Next::Stuck;
         }
-        if self.has_room_without(n, kind.results.len()) {
+        if self.has_room_without(n, typing.results.len()) {
             Next::Calling(index, n)
         } else {
             Next::Trapped(Trap::Exhausted)
         }
     }
 
-    /// A call of the program's own function, whose limits are tested before its frame is made.
+    /// A call of the module's own function, whose limits are tested before its frame is made.
     #[inline(always)]
     fn call_typed(
         &mut self,
         index: u32,
         callee: Callee<'m>,
-        kind: &FuncType,
+        typing: &FuncType,
     ) -> Result<Next, AllocError>
-        ensures { IfOk result (λ a. after_of a self.new ≡ limited (go_on (called self.old index callee.entry (func_type kind.now)))) }
+        ensures { IfOk result (λ a. after_of a self.new ≡ limited (go_on (called self.old index callee.entry (func_type typing.now)))) }
     {
-        let n = kind.params.len();
+        let n = typing.params.len();
         if !self.has_arguments(n) {
             return Ok(Next::Stuck);
         }
         if !self.can_enter(callee.declared()) {
             return Ok(Next::Trapped(Trap::Exhausted));
         }
-        if self.enter(index, callee, n, result_of(kind))? {
+        if self.enter(index, callee, n, result_of(typing))? {
             Ok(Next::Going)
         } else {
             Ok(Next::Stuck)
@@ -60,16 +60,16 @@ impl<'m> Stack<'m> {
         &mut self,
         index: u32,
         callee: Callee<'m>,
-        kind: &FuncType,
+        typing: &FuncType,
     ) -> Result<bool, AllocError>
-        ensures goes { IfOk result (λ went. IsTrue went → limited (go_on (called self.old index callee.entry (func_type kind.now))) ≡ Goes self.new) }
+        ensures goes { IfOk result (λ went. IsTrue went → limited (go_on (called self.old index callee.entry (func_type typing.now))) ≡ Goes self.new) }
         ensures same { IfOk result (λ went. went ≡ false → self.new ≡ self.old) }
     {
-        let n = kind.params.len();
+        let n = typing.params.len();
         if !self.has_arguments(n) || !self.can_enter(callee.declared()) {
             return Ok(false);
         }
-        let is_in = self.enter(index, callee, n, result_of(kind))?;
+        let is_in = self.enter(index, callee, n, result_of(typing))?;
         prove!(is_in);
         Ok(true)
     }
@@ -77,34 +77,30 @@ impl<'m> Stack<'m> {
     /// A call of the module's own function in place, where it has its arguments and the limits allow its frame. It is
     /// kept out of the burst, whose other instructions would find fewer registers, and its answer is small.
     #[inline(never)]
-    pub fn call_in_place(
-        &mut self,
-        program: &'m ValidModule,
-        index: u32,
-    ) -> Result<bool, AllocError>
-        ensures goes { IfOk result (λ went. IsTrue went → limited (call (module_of program.now) index self.old) ≡ Goes self.new) }
+    pub fn call_in_place(&mut self, module: &'m ValidModule, index: u32) -> Result<bool, AllocError>
+        ensures goes { IfOk result (λ went. IsTrue went → limited (call (module_of «module».now) index self.old) ≡ Goes self.new) }
         ensures same { IfOk result (λ went. went ≡ false → self.new ≡ self.old) }
     {
-        let imports = program.module().imports.len();
+        let imports = module.module().imports.len();
         let place = index as usize;
         if place < imports {
             return Ok(false);
         }
-        let Some(callee) = own_func(program, place - imports) else {
+        let Some(callee) = own_func(module, place - imports) else {
             return Ok(false);
         };
-        let Some(kind) = kind_at(program.module(), callee.type_index()) else {
+        let Some(typing) = type_at(module.module(), callee.type_index()) else {
             return Ok(false);
         };
-        self.call_typed_in_place(index, callee, kind)
+        self.call_typed_in_place(index, callee, typing)
     }
 
     // Whether the function has the type with this index.
     #[inline(always)]
-    fn has_type(code: &Module, index: u32, kind: u32) -> bool
-        ensures { IsTrue result → (t : Thread) → call_element (module_of code.now) kind (Some (Some index)) t ≡ call (module_of code.now) index t }
+    fn has_type(module: &Module, index: u32, type_index: u32) -> bool
+        ensures { IsTrue result → (t : Thread) → call_element (module_of «module».now) type_index (Some (Some index)) t ≡ call (module_of «module».now) index t }
     {
-        match (kind_of(code, index), kind_at(code, kind)) {
+        match (type_of(module, index), type_at(module, type_index)) {
             (Some(found), Some(wanted)) => is_same_type(found, wanted),
             _ => false,
         }
@@ -114,12 +110,12 @@ impl<'m> Stack<'m> {
     #[inline(never)]
     pub fn call_indirect_in_place(
         &mut self,
-        program: &'m ValidModule,
+        module: &'m ValidModule,
         store: &Store<'m>,
-        kind: u32,
+        type_index: u32,
     ) -> Result<bool, AllocError>
-        requires { module_of program.now ≡ store.now.program }
-        ensures goes { IfOk result (λ went. IsTrue went → limited (call_indirect kind store.now self.old) ≡ Goes self.new) }
+        requires { module_of «module».now ≡ store.now.«module» }
+        ensures goes { IfOk result (λ went. IsTrue went → limited (call_indirect type_index store.now self.old) ≡ Goes self.new) }
         ensures same { IfOk result (λ went. went ≡ false → self.new ≡ self.old) }
     {
         let Some(Value::I32(i)) = self.top() else {
@@ -128,11 +124,11 @@ impl<'m> Stack<'m> {
         let Some(Some(index)) = store.element(i) else {
             return Ok(false);
         };
-        if !Self::has_type(program.module(), index, kind) {
+        if !Self::has_type(module.module(), index, type_index) {
             return Ok(false);
         }
         self.drop_last(1);
-        if self.call_in_place(program, index)? {
+        if self.call_in_place(module, index)? {
             return Ok(true);
         }
         self.push(Value::I32(i))?;
@@ -162,7 +158,7 @@ impl<'m> Stack<'m> {
 
     /// A new innermost frame of a handler, which has the signal as its argument.
     pub fn handle(&mut self, index: u32, callee: Callee<'m>, signal: u32) -> Result<(), AllocError>
-        ensures { OnOk result (begun (Some callee.entry) (waiting_frame self.old ∷ self.old.callers) index (Value.I32 signal ∷ []) ≡ Some self.new) }
+        ensures { OnOk result (started_above (Some callee.entry) (waiting_frame self.old ∷ self.old.callers) index (Value.I32 signal ∷ []) ≡ Some self.new) }
     {
         self.push(Value::I32(signal))?;
         let is_in = self.enter(index, callee, 1, None)?;
@@ -172,7 +168,7 @@ impl<'m> Stack<'m> {
 
     /// A new innermost frame of a function without parameters or a result.
     pub fn call_start(&mut self, index: u32, callee: Callee<'m>) -> Result<(), AllocError>
-        ensures { OnOk result (begun (Some callee.entry) (waiting_frame self.old ∷ self.old.callers) index [] ≡ Some self.new) }
+        ensures { OnOk result (started_above (Some callee.entry) (waiting_frame self.old ∷ self.old.callers) index [] ≡ Some self.new) }
     {
         let is_in = self.enter(index, callee, 0, None)?;
         prove!(is_in);
@@ -182,43 +178,44 @@ impl<'m> Stack<'m> {
     #[inline(always)]
     fn call_own(
         &mut self,
-        program: &'m ValidModule,
+        module: &'m ValidModule,
         index: u32,
         place: usize,
     ) -> Result<Next, AllocError>
-        ensures { IfOk result (λ a. after_of a self.new ≡ limited (call_own (module_of program.now) index (slice_get (module_of program.now).funcs place) self.old)) }
+        ensures { IfOk result (λ a. after_of a self.new
+            ≡ limited (call_own (module_of «module».now) index (slice_get (module_of «module».now).funcs place) self.old)) }
     {
-        let Some(callee) = own_func(program, place) else {
+        let Some(callee) = own_func(module, place) else {
             return Ok(Next::Stuck);
         };
-        let Some(kind) = kind_at(program.module(), callee.type_index()) else {
+        let Some(typing) = type_at(module.module(), callee.type_index()) else {
             return Ok(Next::Stuck);
         };
-        self.call_typed(index, callee, kind)
+        self.call_typed(index, callee, typing)
     }
 
     #[inline(never)]
-    pub fn call(&mut self, program: &'m ValidModule, index: u32) -> Result<Next, AllocError>
-        ensures { IfOk result (λ a. after_of a self.new ≡ limited (call (module_of program.now) index self.old)) }
+    pub fn call(&mut self, module: &'m ValidModule, index: u32) -> Result<Next, AllocError>
+        ensures { IfOk result (λ a. after_of a self.new ≡ limited (call (module_of «module».now) index self.old)) }
     {
-        let code = program.module();
+        let inner = module.module();
         let place = index as usize;
-        if place >= code.imports.len() {
-            return self.call_own(program, index, place - code.imports.len());
+        if place >= inner.imports.len() {
+            return self.call_own(module, index, place - inner.imports.len());
         }
-        match imported_kind(code, place) {
-            Some(kind) => Ok(self.call_library(kind, index)),
+        match imported_type(inner, place) {
+            Some(typing) => Ok(self.call_library(typing, index)),
             None => Ok(Next::Stuck),
         }
     }
 
     fn call_element(
         &mut self,
-        program: &'m ValidModule,
-        kind: u32,
+        module: &'m ValidModule,
+        type_index: u32,
         element: Option<Option<u32>>,
     ) -> Result<Next, AllocError>
-        ensures { IfOk result (λ a. after_of a self.new ≡ limited (call_element (module_of program.now) kind element self.old)) }
+        ensures { IfOk result (λ a. after_of a self.new ≡ limited (call_element (module_of «module».now) type_index element self.old)) }
     {
         let Some(place) = element else {
             return Ok(Next::Trapped(Trap::TableRange));
@@ -226,31 +223,31 @@ impl<'m> Stack<'m> {
         let Some(index) = place else {
             return Ok(Next::Trapped(Trap::EmptyElement));
         };
-        let code = program.module();
-        let Some(found) = kind_of(code, index) else {
+        let inner = module.module();
+        let Some(found) = type_of(inner, index) else {
             return Ok(Next::Stuck);
         };
-        let Some(wanted) = kind_at(code, kind) else {
+        let Some(wanted) = type_at(inner, type_index) else {
             return Ok(Next::Stuck);
         };
         if !is_same_type(found, wanted) {
             return Ok(Next::Trapped(Trap::TypeDiffers));
         }
-        self.call(program, index)
+        self.call(module, index)
     }
 
     #[inline(never)]
     pub fn call_indirect(
         &mut self,
-        program: &'m ValidModule,
+        module: &'m ValidModule,
         store: &Store<'m>,
-        kind: u32,
+        type_index: u32,
     ) -> Result<Next, AllocError>
-        requires { module_of program.now ≡ store.now.program }
-        ensures { IfOk result (λ a. after_of a self.new ≡ limited (call_indirect kind store.now self.old)) }
+        requires { module_of «module».now ≡ store.now.«module» }
+        ensures { IfOk result (λ a. after_of a self.new ≡ limited (call_indirect type_index store.now self.old)) }
     {
         match self.pop() {
-            Some(Value::I32(i)) => self.call_element(program, kind, store.element(i)),
+            Some(Value::I32(i)) => self.call_element(module, type_index, store.element(i)),
             _ => Ok(Next::Stuck),
         }
     }

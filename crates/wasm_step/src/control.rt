@@ -2,8 +2,8 @@
 ghost use Rattle.std.specs.Prelude.{◌≡◌, IfOk, false, slice_get};
 ghost use Rattle.wasm_types.specs.Code.{tree, trees};
 ghost use Rattle.wasm_step.specs.Answer.{after_of, way_of};
-ghost use Rattle.wasm_step.specs.Quick.{entered_by};
-ghost use Rattle.wasm_step.specs.Reduce.{Goes, branch, branch_if, branch_table, carried, ended, jump, jump_out, label_at, on_test, resumed, return_from, with_carried, with_top};
+ghost use Rattle.wasm_step.specs.View.{chosen_by};
+ghost use Rattle.wasm_step.specs.Reduce.{branch, branch_if, branch_table, carried, ended, jump, jump_out, label_at, resumed, return_from, with_carried};
 ghost use Rattle.wasm_step.specs.Thread.{left};
 
 use crate::halt::{Next, Way};
@@ -110,7 +110,7 @@ impl<'m> Stack<'m> {
         on_true: &'m [Instr],
         on_false: &'m [Instr],
     ) -> Result<Next, AllocError>
-        ensures { IfOk result (λ a. after_of a self.new ≡ with_top self.old (λ v t. on_test v (Goes (entered_by (tree opener.now) (trees on_false.now) t)) (Goes (entered_by (tree opener.now) (trees on_true.now) t)))) }
+        ensures { IfOk result (λ a. after_of a self.new ≡ chosen_by (tree opener.now) (trees on_true.now) (trees on_false.now) self.old) }
     {
         match self.pop() {
             Some(Value::I32(0)) => {

@@ -1,8 +1,9 @@
 // Levels that open in place, and branches that stay in theirs, of a thread within its limits.
 ghost use Rattle.std.specs.Prelude.{◌≡◌, IsTrue, false, true};
 ghost use Rattle.wasm_types.specs.Code.{tree, trees};
-ghost use Rattle.wasm_step.specs.Quick.{Within, entered_by};
-ghost use Rattle.wasm_step.specs.Reduce.{Goes, branch_if, jump, on_test, with_top};
+ghost use Rattle.wasm_step.specs.Limits.{Within};
+ghost use Rattle.wasm_step.specs.View.{chosen_by};
+ghost use Rattle.wasm_step.specs.Reduce.{Goes, branch_if, jump};
 
 use crate::stack::{Stack, Target};
 use wasm_types::{Instr, Value};
@@ -10,14 +11,14 @@ use wasm_types::{Instr, Value};
 impl<'m> Stack<'m> {
     /// A choice, of which this instruction is the opener.
     #[inline(always)]
-    pub fn quick_choose(
+    pub fn choose_in_place(
         &mut self,
         opener: &'m Instr,
         on_true: &'m [Instr],
         on_false: &'m [Instr],
     ) -> bool
         requires { Within self.old }
-        ensures goes { IsTrue result → Goes self.new ≡ with_top self.old (λ v t. on_test v (Goes (entered_by (tree opener.now) (trees on_false.now) t)) (Goes (entered_by (tree opener.now) (trees on_true.now) t))) }
+        ensures goes { IsTrue result → Goes self.new ≡ chosen_by (tree opener.now) (trees on_true.now) (trees on_false.now) self.old }
         ensures within { Within self.new }
         ensures same { result ≡ false → self.new ≡ self.old }
     {
@@ -30,7 +31,7 @@ impl<'m> Stack<'m> {
 
     /// A branch to the innermost level, which is a loop.
     #[inline(always)]
-    fn quick_again(&mut self) -> bool
+    fn jump_in_place(&mut self) -> bool
         requires { Within self.old }
         ensures goes { IsTrue result → Goes self.new ≡ jump self.old }
         ensures loops { IsTrue result → self.old.loops ≡ true }
@@ -48,7 +49,7 @@ impl<'m> Stack<'m> {
     }
 
     #[inline(always)]
-    pub fn quick_branch_if(&mut self, n: u32) -> bool
+    pub fn branch_if_in_place(&mut self, n: u32) -> bool
         requires { Within self.old }
         ensures goes { IsTrue result → Goes self.new ≡ branch_if n self.old }
         ensures within { Within self.new }
@@ -61,6 +62,6 @@ impl<'m> Stack<'m> {
             self.drop_last(1);
             return true;
         }
-        n == 0 && self.quick_again()
+        n == 0 && self.jump_in_place()
     }
 }

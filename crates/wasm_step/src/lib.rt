@@ -1,4 +1,4 @@
-//! Threads of a WebAssembly 1.0 program as owned values.
+//! Threads of a WebAssembly 1.0 module as owned values.
 #![tactic(auto)]
 
 mod call;
@@ -6,10 +6,10 @@ mod calls;
 mod control;
 mod first;
 mod halt;
+mod in_place;
 mod laws;
 mod levels;
 mod memory;
-mod quick;
 mod rows;
 mod run;
 mod stack;

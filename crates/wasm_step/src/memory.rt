@@ -2,7 +2,7 @@
 ghost use Rattle.std.specs.Prelude.{◌≡◌, ◌+◌, IfOk, IfSome, IsTrue, OnOk, Some, false, if◌then◌else◌};
 ghost use Rattle.guest_memory.specs.LittleEndian.{IsWidth};
 ghost use Rattle.wasm_step.specs.Answer.{after_of};
-ghost use Rattle.wasm_step.specs.Quick.{Within};
+ghost use Rattle.wasm_step.specs.Limits.{Within};
 ghost use Rattle.wasm_step.specs.Reduce.{Goes, Sticks, Stops, global_get, global_set, grow_answer, keep, load, memory_grow, memory_size, write, write_at};
 
 use crate::halt::Next;
@@ -58,9 +58,9 @@ impl<'m> Stack<'m> {
         Next::Going
     }
 
-    #[tactic(auto, using(crate::proofs::Accesses::load_by, crate::proofs::Quicks::within_one))]
+    #[tactic(auto, using(crate::proofs::Accesses::load_by, crate::proofs::InPlace::within_one))]
     #[inline(always)]
-    pub fn quick_load(&mut self, store: &Store<'m>, op: u8, offset: u32) -> bool
+    pub fn load_in_place(&mut self, store: &Store<'m>, op: u8, offset: u32) -> bool
         requires { Within self.old }
         ensures goes { IsTrue result → Goes self.new ≡ load op offset store.now.memory self.old }
         ensures within { Within self.new }
@@ -82,7 +82,7 @@ impl<'m> Stack<'m> {
     }
 
     #[inline(always)]
-    pub fn quick_write(
+    pub fn write_in_place(
         &mut self,
         store: &mut Store<'m>,
         op: u8,

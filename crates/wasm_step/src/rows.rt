@@ -3,8 +3,8 @@
 ghost use Rattle.std.specs.Prelude.{◌≡◌, IfOk, OnOk, false, true, if◌then◌else◌};
 ghost use Rattle.wasm_values.specs.Numeric.{is_unary};
 ghost use Rattle.wasm_step.specs.Answer.{after_of};
-ghost use Rattle.wasm_step.specs.Quick.{Within};
-ghost use Rattle.wasm_step.specs.Reduce.{Goes, Sticks, Stops, drop_top, given, got, local_get, local_set, local_tee, numeric, select};
+ghost use Rattle.wasm_step.specs.Limits.{Within};
+ghost use Rattle.wasm_step.specs.Reduce.{Goes, Sticks, Stops, drop_top, got, local_get, local_set, local_tee, numeric, select, with_result};
 
 use crate::halt::Next;
 use crate::stack::Stack;
@@ -94,7 +94,7 @@ impl<'m> Stack<'m> {
 
     /// What is given goes onto the operands.
     pub fn give(&mut self, value: Option<Value>) -> Result<(), AllocError>
-        ensures { OnOk result (self.new ≡ given value self.old) }
+        ensures { OnOk result (self.new ≡ with_result value self.old) }
     {
         if let Some(v) = value {
             self.push(v)?;

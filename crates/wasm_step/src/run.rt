@@ -2,11 +2,11 @@
 ghost use Rattle.std.specs.Prelude.{◌≡◌, ℕ, suc, IfOk, OnOk};
 ghost use Rattle.wasm_types.specs.Code.{tree};
 ghost use Rattle.wasm_types.specs.Modules.{module_of};
-ghost use Rattle.wasm_step.specs.Answer.{after_of, stop_of, stopped_of};
+ghost use Rattle.wasm_step.specs.Answer.{after_of, halt_of, stopped_of};
 ghost use Rattle.wasm_step.specs.Burst.{after_step, burst, settle, spent};
-ghost use Rattle.wasm_step.specs.Quick.{Within};
+ghost use Rattle.wasm_step.specs.Limits.{Within};
 ghost use Rattle.wasm_step.specs.Reduce.{reduce};
-ghost use Rattle.wasm_step.specs.Paused.{run_of, settled_of};
+ghost use Rattle.wasm_step.specs.Paused.{settled_of, stopped_result};
 
 use crate::halt::{Next, Stopped, Way};
 use crate::stack::Stack;
@@ -36,7 +36,7 @@ impl<'m> Stack<'m> {
 
     /// The end of a burst whose instructions are spent.
     fn spend(&mut self) -> Next
-        ensures { stop_of (after_of result self.new) ≡ spent (settle self.old) }
+        ensures { halt_of (after_of result self.new) ≡ spent (settle self.old) }
     {
         match self.settle() {
             Next::Going => match self.fetch() {
@@ -50,13 +50,13 @@ impl<'m> Stack<'m> {
     /// The first instruction of a burst, after which the thread is within its limits.
     fn first_step(
         &mut self,
-        program: &'m ValidModule,
+        module: &'m ValidModule,
         store: &mut Store<'m>,
     ) -> Result<Next, AllocError>
-        requires program { module_of program.now ≡ store.old.program }
+        requires same_module { module_of «module».now ≡ store.old.«module» }
         ensures ran { IfOk result (λ n. (k : ℕ) → after_step (after_of n self.new) store.new (burst k) ≡ burst (suc k) self.old store.old) }
         ensures within { IfOk result (λ n. n ≡ Next.Going → Within self.new) }
-        ensures program { OnOk result (store.new.program ≡ store.old.program) }
+        ensures same_module { OnOk result (store.new.«module» ≡ store.old.«module») }
     {
         match self.settle() {
             Next::Going => {}
@@ -65,19 +65,19 @@ impl<'m> Stack<'m> {
         let Some(instr) = self.fetch() else {
             return Ok(Next::Stuck);
         };
-        let next = self.step(program, store, instr)?;
+        let next = self.step(module, store, instr)?;
         Ok(next)
     }
 
     /// An instruction that was not done in place, of a thread within its limits.
     #[inline(always)]
-    fn slow_row(
+    fn full_row(
         &mut self,
-        program: &'m ValidModule,
+        module: &'m ValidModule,
         store: &mut Store<'m>,
         instr: &'m Instr,
     ) -> Result<Next, AllocError>
-        requires program { module_of program.now ≡ store.old.program }
+        requires same_module { module_of «module».now ≡ store.old.«module» }
         requires within { Within self.old }
         ensures after { IfOk result (λ a. after_of a self.new ≡ (reduce (tree instr.now) self.old store.old).after) }
         ensures store { OnOk result (store.new ≡ (reduce (tree instr.now) self.old store.old).store) }
@@ -88,30 +88,30 @@ impl<'m> Stack<'m> {
             Instr::BrTable(labels, default) => Ok(self.branch_table(labels, *default).next()),
             Instr::Return => Ok(self.return_from().next()),
             Instr::CallFunc(index) => {
-                if self.call_in_place(program, *index)? {
+                if self.call_in_place(module, *index)? {
                     return Ok(Next::Going);
                 }
-                self.call(program, *index)
+                self.call(module, *index)
             }
-            Instr::CallIndirect(kind) => {
-                if self.call_indirect_in_place(program, store, *kind)? {
+            Instr::CallIndirect(type_index) => {
+                if self.call_indirect_in_place(module, store, *type_index)? {
                     return Ok(Next::Going);
                 }
-                self.call_indirect(program, store, *kind)
+                self.call_indirect(module, store, *type_index)
             }
-            _ => self.step(program, store, instr),
+            _ => self.step(module, store, instr),
         }
     }
 
     /// A burst, at whose stop a call of the library has its arguments among the operands.
     #[inline(never)]
-    fn burst(&mut self, program: &'m ValidModule, store: &mut Store<'m>) -> Result<Next, AllocError>
-        requires { module_of program.now ≡ store.old.program }
-        ensures { IfOk result (λ n. record { stop = stop_of (after_of n self.new); store = store.new } ≡ burst BUDGET self.old store.old) }
+    fn burst(&mut self, module: &'m ValidModule, store: &mut Store<'m>) -> Result<Next, AllocError>
+        requires { module_of «module».now ≡ store.old.«module» }
+        ensures { IfOk result (λ n. record { stop = halt_of (after_of n self.new); store = store.new } ≡ burst BUDGET self.old store.old) }
     {
         let mut left = BUDGET;
         if !self.is_within() {
-            match self.first_step(program, store)? {
+            match self.first_step(module, store)? {
                 Next::Going => {}
                 halted => return Ok(halted),
             }
@@ -128,10 +128,10 @@ impl<'m> Stack<'m> {
                 return Ok(Next::Stuck);
             };
             left -= 1;
-            if self.quick_row(store, instr)? {
+            if self.row_in_place(store, instr)? {
                 continue 'steps;
             }
-            match self.slow_row(program, store, instr)? {
+            match self.full_row(module, store, instr)? {
                 Next::Going => {}
                 halted => return Ok(halted),
             }
@@ -141,7 +141,7 @@ impl<'m> Stack<'m> {
 
     // A call of the library takes its arguments.
     fn stopped(&mut self, halted: Next) -> Stopped
-        ensures { stopped_of result self.new ≡ stop_of (after_of halted self.old) }
+        ensures { stopped_of result self.new ≡ halt_of (after_of halted self.old) }
     {
         match halted {
             Next::Calling(func, n) => match self.take_site(func, n) {
@@ -157,13 +157,13 @@ impl<'m> Stack<'m> {
     /// A burst: instructions until a call of the library, the thread's end or a trap.
     pub fn run(
         &mut self,
-        program: &'m ValidModule,
+        module: &'m ValidModule,
         store: &mut Store<'m>,
     ) -> Result<Stopped, AllocError>
-        requires { module_of program.now ≡ store.old.program }
-        ensures { IfOk result (λ stopped. run_of stopped self.new store.new ≡ burst BUDGET self.old store.old) }
+        requires { module_of «module».now ≡ store.old.«module» }
+        ensures { IfOk result (λ stopped. stopped_result stopped self.new store.new ≡ burst BUDGET self.old store.old) }
     {
-        let halted = self.burst(program, store)?;
+        let halted = self.burst(module, store)?;
         Ok(self.stopped(halted))
     }
 }

@@ -5,7 +5,8 @@ ghost use Rattle.wasm_step.specs.Thread.{is_end, with_operand, closed, left, cal
 ghost use Rattle.wasm_values.specs.Values.{zeros};
 ghost use Rattle.std.specs.Vec.{vec_capacity};
 ghost use Rattle.wasm_step.specs.Call.{sited};
-ghost use Rattle.wasm_step.specs.Quick.{Within, closed_by, entered_by};
+ghost use Rattle.wasm_step.specs.Limits.{Within};
+ghost use Rattle.wasm_step.specs.View.{closed_by, entered_by};
 ghost use Rattle.wasm_step.specs.Target.{IsTarget};
 ghost use Rattle.wasm_step.specs.Reduce.{Ends, Goes, Stops, on_top, resumed};
 
@@ -67,11 +68,11 @@ impl<'m> Model for Stack<'m> {
 
     ghost coded = { Prim.hlevel (codes, trees_code) };
 
-    ghost use Rattle.wasm_step.specs.View.{thread_of, IsSound};
+    ghost use Rattle.wasm_step.specs.View.{thread_of, IsStack};
 
     ghost view = { thread_of };
 
-    ghost invariant = { IsSound };
+    ghost invariant = { IsStack };
 }
 
 impl<'m> Stack<'m> {
@@ -168,6 +169,7 @@ impl<'m> Stack<'m> {
         }
     }
 
+    /// Whether the innermost frame gives its caller an operand.
     pub fn returns(&self) -> bool
         ensures { result ≡ self.now.returns }
     {
@@ -656,7 +658,7 @@ impl<'m> Stack<'m> {
             && self.callers.len() + 1 < FRAME_LIMIT
     }
 
-    /// The same with one more frame.
+    /// Whether the thread keeps to the limits with one more frame and this many more locals.
     pub fn has_frame_room(&self, more: usize) -> bool
         ensures { result ≡ has_frame_room more self.now }
     {

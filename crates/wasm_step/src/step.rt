@@ -3,7 +3,7 @@ ghost use Rattle.std.specs.Prelude.{◌≡◌, IfOk, OnOk};
 ghost use Rattle.wasm_types.specs.Code.{tree};
 ghost use Rattle.wasm_types.specs.Modules.{module_of};
 ghost use Rattle.wasm_step.specs.Answer.{after_of};
-ghost use Rattle.wasm_step.specs.Reduce.{limited, reduce, row};
+ghost use Rattle.wasm_step.specs.Reduce.{instr_row, limited, reduce};
 
 use crate::halt::{Next, unless_stuck};
 use crate::stack::Stack;
@@ -13,15 +13,15 @@ use wasm_types::{Instr, Trap, ValidModule, Value};
 
 impl<'m> Stack<'m> {
     #[inline(always)]
-    fn row(
+    fn instr_row(
         &mut self,
-        program: &'m ValidModule,
+        module: &'m ValidModule,
         store: &mut Store<'m>,
         instr: &'m Instr,
     ) -> Result<Next, AllocError>
-        requires { module_of program.now ≡ store.old.program }
-        ensures after { IfOk result (λ a. limited (after_of a self.new) ≡ limited (row (tree instr.now) self.old store.old).after) }
-        ensures store { OnOk result (store.new ≡ (row (tree instr.now) self.old store.old).store) }
+        requires { module_of «module».now ≡ store.old.«module» }
+        ensures after { IfOk result (λ a. limited (after_of a self.new) ≡ limited (instr_row (tree instr.now) self.old store.old).after) }
+        ensures store { OnOk result (store.new ≡ (instr_row (tree instr.now) self.old store.old).store) }
     {
         match instr {
             Instr::Unreachable => Ok(Next::Trapped(Trap::Unreachable)),
@@ -35,8 +35,8 @@ impl<'m> Stack<'m> {
             Instr::BrIf(n) => Ok(self.branch_if(*n).next()),
             Instr::BrTable(labels, default) => Ok(self.branch_table(labels, *default).next()),
             Instr::Return => Ok(self.return_from().next()),
-            Instr::CallFunc(index) => self.call(program, *index),
-            Instr::CallIndirect(kind) => self.call_indirect(program, store, *kind),
+            Instr::CallFunc(index) => self.call(module, *index),
+            Instr::CallIndirect(type_index) => self.call_indirect(module, store, *type_index),
             Instr::DropTop => Ok(unless_stuck(self.drop_top())),
             Instr::Select => Ok(unless_stuck(self.select())),
             Instr::LocalGet(x) => self.local_get(*x),
@@ -65,15 +65,15 @@ impl<'m> Stack<'m> {
     #[inline(never)]
     pub fn step(
         &mut self,
-        program: &'m ValidModule,
+        module: &'m ValidModule,
         store: &mut Store<'m>,
         instr: &'m Instr,
     ) -> Result<Next, AllocError>
-        requires { module_of program.now ≡ store.old.program }
+        requires { module_of «module».now ≡ store.old.«module» }
         ensures after { IfOk result (λ a. after_of a self.new ≡ (reduce (tree instr.now) self.old store.old).after) }
         ensures store { OnOk result (store.new ≡ (reduce (tree instr.now) self.old store.old).store) }
     {
-        match self.row(program, store, instr)? {
+        match self.instr_row(module, store, instr)? {
             Next::Going => {
                 if !self.is_within() {
                     return Ok(Next::Trapped(Trap::Exhausted));

@@ -3,7 +3,7 @@ ghost use Rattle.std.specs.Prelude.{◌≡◌, ◌↔◌, IfOk, None, OnOk, Some
 ghost use Rattle.wasm_types.specs.Modules.{module_of};
 ghost use Rattle.wasm_step.specs.Burst.{burst};
 ghost use Rattle.wasm_store.specs.Suits.{Suits};
-ghost use Rattle.wasm_step.specs.Pause.{StandsAt, run_of};
+ghost use Rattle.wasm_step.specs.Pause.{StandsAt, pause_result};
 ghost use Rattle.wasm_step.specs.Strand.{IsAnswer, IsHandler, answered, handling, first_thread, is_in, new_thread};
 
 use crate::call::CallSite;
@@ -16,10 +16,10 @@ use std::marker::Model;
 use wasm_store::Store;
 use wasm_types::{Trap, ValidModule, Value};
 
-/// A thread of a program, with its whole stack.
+/// A thread of a module, with its whole stack.
 #[derive(Drop)]
 pub struct Strand<'m> {
-    program: &'m ValidModule,
+    module: &'m ValidModule,
     stack: Box<Stack<'m>>,
     call: Option<u32>,
 }
@@ -36,9 +36,9 @@ impl<'m> Model for Strand<'m> {
     ghost use Rattle.wasm_types.specs.Modules.{module_of};
     ghost use Rattle.wasm_step.specs.Fits.{StandsFit};
 
-    ghost view = { λ s. record { program = module_of s.program.now; thread = s.stack.value; call = s.call } };
+    ghost view = { λ s. record { «module» = module_of s.«module».now; thread = s.stack.value; call = s.call } };
 
-    ghost invariant = { λ s. StandsFit (module_of s.program.now) s.stack.value s.call };
+    ghost invariant = { λ s. StandsFit (module_of s.«module».now) s.stack.value s.call };
 }
 
 /// Why a handler's frame is not put on top of a thread.
@@ -61,17 +61,17 @@ pub enum Pause<'m> {
 }
 
 impl<'m> Strand<'m> {
-    /// The thread that runs first: at the start of the program's `_start`, with the function of its start
+    /// The thread that runs first: at the start of the module's `_start`, with the function of its start
     /// section above it where there is one.
-    pub fn first(alloc: Global, program: &'m ValidModule) -> Result<Strand<'m>, AllocError>
-        ensures program { IfOk result (λ s. s.program ≡ module_of program.now) }
-        ensures thread { IfOk result (λ s. first_thread (module_of program.now) ≡ Some s.thread) }
+    pub fn first(alloc: Global, module: &'m ValidModule) -> Result<Strand<'m>, AllocError>
+        ensures same_module { IfOk result (λ s. s.«module» ≡ module_of «module».now) }
+        ensures thread { IfOk result (λ s. first_thread (module_of «module».now) ≡ Some s.thread) }
         ensures call { IfOk result (λ s. s.call ≡ None) }
     {
-        let thread = first(alloc, program)?;
+        let thread = first(alloc, module)?;
         let stack = Box::new(alloc, thread)?;
         Ok(Strand {
-            program,
+            module,
             stack,
             call: None,
         })
@@ -80,21 +80,21 @@ impl<'m> Strand<'m> {
     /// A thread at the start of this function, with this argument.
     pub fn new(
         alloc: Global,
-        program: &'m ValidModule,
+        module: &'m ValidModule,
         func: u32,
         arg: u32,
     ) -> Result<Strand<'m>, AllocError>
-        requires { IsHandler (module_of program.now) func }
-        ensures program { IfOk result (λ s. s.program ≡ module_of program.now) }
-        ensures thread { IfOk result (λ s. new_thread (module_of program.now) func arg ≡ Some s.thread) }
+        requires { IsHandler (module_of «module».now) func }
+        ensures same_module { IfOk result (λ s. s.«module» ≡ module_of «module».now) }
+        ensures thread { IfOk result (λ s. new_thread (module_of «module».now) func arg ≡ Some s.thread) }
         ensures call { IfOk result (λ s. s.call ≡ None) }
     {
         let arguments = vec![in alloc; Value::I32(arg)]?;
-        let callee = own(program, func);
+        let callee = own(module, func);
         let thread = Stack::start(func, callee, arguments, None)?;
         let stack = Box::new(alloc, thread)?;
         Ok(Strand {
-            program,
+            module,
             stack,
             call: None,
         })
@@ -106,13 +106,13 @@ impl<'m> Strand<'m> {
         ensures { IfOk result (λ s. s ≡ answered self.entry value) }
     {
         let Strand {
-            program,
+            module,
             mut stack,
             call: _,
         } = self;
         stack.give(value)?;
         Ok(Strand {
-            program,
+            module,
             stack,
             call: None,
         })
@@ -120,25 +120,25 @@ impl<'m> Strand<'m> {
 
     /// The thread with the frame of this function on top, which handles the signal.
     pub fn push_handler(self, func: u32, signal: u32) -> Result<Strand<'m>, HandlerError>
-        requires handler { IsHandler self.program func }
+        requires handler { IsHandler self.«module» func }
         requires runs { self.call ≡ None }
-        ensures exhausted { (result ≡ Err HandlerError.Exhausted) ↔ (is_in (handling self.entry.program self.entry.thread func signal) ≡ false) }
-        ensures program { IfOk result (λ s. s.program ≡ self.entry.program) }
-        ensures thread { IfOk result (λ s. handling self.entry.program self.entry.thread func signal ≡ Some s.thread) }
+        ensures exhausted { (result ≡ Err HandlerError.Exhausted) ↔ (is_in (handling self.entry.«module» self.entry.thread func signal) ≡ false) }
+        ensures same_module { IfOk result (λ s. s.«module» ≡ self.entry.«module») }
+        ensures thread { IfOk result (λ s. handling self.entry.«module» self.entry.thread func signal ≡ Some s.thread) }
         ensures call { IfOk result (λ s. s.call ≡ None) }
     {
-        let callee = own(self.program, func);
+        let callee = own(self.module, func);
         if !self.stack.can_handle(callee.declared()) {
             return Err(HandlerError::Exhausted);
         }
         let Strand {
-            program,
+            module,
             mut stack,
             call: _,
         } = self;
         match stack.handle(func, callee, signal) {
             Ok(()) => Ok(Strand {
-                program,
+                module,
                 stack,
                 call: None,
             }),
@@ -149,24 +149,24 @@ impl<'m> Strand<'m> {
     /// A burst: at most 10,000,000 instructions until a call of the library, the thread's end or a trap.
     pub fn run(self, store: &mut Store<'m>) -> Result<Pause<'m>, AllocError>
         requires runs { self.call ≡ None }
-        requires program { self.program ≡ store.old.program }
+        requires same_module { self.«module» ≡ store.old.«module» }
         requires suits { Suits store.old }
-        ensures ran { IfOk result (λ p. run_of p store.new ≡ burst BUDGET self.entry.thread store.old) }
-        ensures call { IfOk result (λ p. StandsAt self.entry.program p) }
+        ensures ran { IfOk result (λ p. pause_result p store.new ≡ burst BUDGET self.entry.thread store.old) }
+        ensures call { IfOk result (λ p. StandsAt self.entry.«module» p) }
         ensures suits { OnOk result (Suits store.new) }
-        ensures program { OnOk result (store.new.program ≡ self.entry.program) }
+        ensures same_module { OnOk result (store.new.«module» ≡ self.entry.«module») }
     {
         let Strand {
-            program,
+            module,
             mut stack,
             call: _,
         } = self;
-        // Its `ensures` tells the proof that the program is valid.
-        let _ = program.module();
-        match stack.run(program, store)? {
+        // Its `ensures` tells the proof that the module is valid.
+        let _ = module.module();
+        match stack.run(module, store)? {
             Stopped::Calling(site) => {
                 let strand = Strand {
-                    program,
+                    module,
                     stack,
                     call: Some(site.func),
                 };
@@ -185,7 +185,7 @@ impl<'m> Strand<'m> {
         let alloc = *Box::allocator(&self.stack);
         let stack = Box::new(alloc, self.stack.copy()?)?;
         Ok(Strand {
-            program: self.program,
+            module: self.module,
             stack,
             call: self.call,
         })

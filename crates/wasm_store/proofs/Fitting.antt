@@ -4,7 +4,7 @@ use Rattle.std.specs.Prelude.{◌&&◌, map, slice_get, option_map}
 use Rattle.std.proofs.lemmas.Option.{slice_get-map, slice_get_read}
 use Rattle.std.specs.List.{list_all}
 use Rattle.std.proofs.lemmas.List.{length-replicate}
-use Rattle.guest_memory.specs.Memory.{zeros}
+use Rattle.guest_memory.specs.Memory.{zero_bytes}
 use Rattle.wasm_types.specs.declared.code.Value.{Value}
 use Rattle.wasm_types.specs.declared.modules.GlobalDef.{GlobalDef}
 use Rattle.wasm_types.specs.Modules.{Module, global_def}
@@ -13,7 +13,7 @@ use Rattle.wasm_store.specs.Start.{empty_memory, empty_table, first_min, initial
 
 -- an empty memory has the bytes of its pages
 empty_bytes : (m : Module) → length (empty_memory m).bytes ≡ first_min m.mems * 65536
-unfolding zeros
+unfolding zero_bytes
 empty_bytes m = length-replicate (65536 * first_min m.mems) 0 ∙ omega arith
 
 pub fit_by_sizes : (m : Module) (places bytes : ℕ) → places ≡ first_min m.tables → bytes ≡ first_min m.mems * 65536

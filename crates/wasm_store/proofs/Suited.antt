@@ -1,4 +1,4 @@
--- The store that a valid program begins with suits it.
+-- The store that a valid module begins with suits it.
 use Rattle.std.proofs.Common.{◌≡◌, ℕ, zero, suc, ◌+◌, ◌-◌, ◌<◌, ◌≤◌, Bool, true, false, List, [], ◌∷◌, ◌++◌, Option, Some, None, length, take, drop, replicate, refl, sym, ap, ◌∙◌, subst, arith, length-append, length-drop}
 use Rattle.std.specs.Prelude.{map, slice_get, nat_lt, All, IsSome, IsSomeAnd, ◌&&◌, ◌||◌, if◌then◌else◌}
 use Rattle.std.specs.List.{list_all, list_any}
@@ -6,7 +6,7 @@ use Rattle.std.specs.Option.{option_map_or}
 use Rattle.std.proofs.lemmas.Bool.{ltb-true, ltb-false, leb-true}
 use Rattle.std.proofs.lemmas.List.{length-map, length-replicate, length-take-le}
 use Rattle.std.proofs.lemmas.Option.{slice_get_within, get_or_from_slice_get}
-use Rattle.guest_memory.specs.Memory.{Memory, is_inside, after_write}
+use Rattle.guest_memory.specs.Memory.{Memory, is_inside, after_write_at}
 use Rattle.wasm_types.specs.declared.code.Value.{Value}
 use Rattle.wasm_types.specs.declared.code.ValType.{ValType}
 use Rattle.wasm_types.specs.declared.code.ValType.TheVariants as types
@@ -22,9 +22,9 @@ use Rattle.wasm_types.specs.Rules.{IsTypedFunc, constant_type, is_initial, is_el
 use Rattle.wasm_types.specs.Stack.{is_same}
 use Rattle.wasm_types.specs.Valid.{IsValid}
 use Rattle.wasm_store.specs.Suits.{Suits}
-use Rattle.wasm_values.specs.Values.{kind_of, kinds_of, zero_of}
+use Rattle.wasm_values.specs.Values.{type_of_value, types_of_values, zero_of}
 use Rattle.wasm_types.specs.Functions.{described, imported_type, own_func, own_type, type_of}
-use Rattle.wasm_store.specs.Start.{begun, constant, initial, initial_in, initial_globals, offset_in, first_min, empty_table, empty_memory, is_elem_inside, put_funcs, put_elems, put_segments, segments_fit}
+use Rattle.wasm_store.specs.Start.{initial_store, constant, initial, initial_in, initial_globals, offset_in, first_min, empty_table, empty_memory, is_elem_inside, put_funcs, put_elems, put_segments, segments_fit}
 use Rattle.wasm_store.specs.Store.{Store}
 
 both : (a b : Bool) → a && b ≡ true → (a ≡ true) × (b ≡ true)
@@ -54,7 +54,7 @@ choice_most false memory other e = refl
 segments_most : (globals : List Value) (ss : List Segment) (memory : Memory) → (put_segments globals ss memory).max ≡ memory.max
 segments_most globals [] memory = refl
 segments_most globals (s ∷ ss) memory =
-    segments_most globals ss (after_write memory (offset_in globals s.offset) s.bytes)
+    segments_most globals ss (after_write_at memory (offset_in globals s.offset) s.bytes)
     ∙ choice_most (is_inside memory (offset_in globals s.offset) (length s.bytes)) memory _ refl
 
 -- ---- the table
@@ -131,7 +131,7 @@ there (x ∷ xs) (suc k) lt = there xs k (omega (arith, lt))
 import_there : (m : Module) (i : Import) → IsOfLibrary m.types i → IsSome (described m i.desc)
 import_there m i h = by_desc i.desc h.is_func
   where
-    by_desc : (d : ImportDesc) → library.imported_type d ≡ Some h.type_index → IsSome (described m d)
+    by_desc : (d : ImportDesc) → library.imported_type_index d ≡ Some h.type_index → IsSome (described m d)
     by_desc (desc.Func t) e =
         let same : t ≡ h.type_index = cc in
         subst (λ o. IsSome o) (sym (ap (slice_get m.types) same ∙ h.typed)) refl
@@ -150,7 +150,7 @@ imported_at_most (i ∷ is) = by_desc i.desc (imported_at_most is)
     by_desc (desc.Memory l) h = omega (arith, h)
     by_desc (desc.Global k b) h = omega (arith, h)
 
--- each function of a valid program has a type
+-- each function of a valid module has a type
 type_there : (m : Module) (f : ℕ) → IsValid m → f < length (funcs_of m) → IsSome (type_of m f)
 type_there m f v lt = by_place (nat_lt f (length m.imports)) refl
   where
@@ -176,41 +176,41 @@ type_there m f v lt = by_place (nat_lt f (length m.imports)) refl
 
 -- ---- the globals
 
-is_i32 : (kind : ValType) → is_same kind types.I32 ≡ true → kind ≡ types.I32
+is_i32 : (value_type : ValType) → is_same value_type types.I32 ≡ true → value_type ≡ types.I32
 is_i32 types.I32 e = refl
 is_i32 types.I64 e = cc
 is_i32 types.F32 e = cc
 is_i32 types.F64 e = cc
 
-is_i64 : (kind : ValType) → is_same kind types.I64 ≡ true → kind ≡ types.I64
+is_i64 : (value_type : ValType) → is_same value_type types.I64 ≡ true → value_type ≡ types.I64
 is_i64 types.I64 e = refl
 is_i64 types.I32 e = cc
 is_i64 types.F32 e = cc
 is_i64 types.F64 e = cc
 
-kind_of_zero : (k : ValType) → is_float k ≡ false → kind_of (zero_of k) ≡ k
-kind_of_zero types.I32 e = refl
-kind_of_zero types.I64 e = refl
-kind_of_zero types.F32 e = cc
-kind_of_zero types.F64 e = cc
+type_of_zero : (k : ValType) → is_float k ≡ false → type_of_value (zero_of k) ≡ k
+type_of_zero types.I32 e = refl
+type_of_zero types.I64 e = refl
+type_of_zero types.F32 e = cc
+type_of_zero types.F64 e = cc
 
-constant_kind : (kind : ValType) (i : Tree) → option_map_or (is_same kind) (constant_type (Then i End)) false ≡ true → is_float kind ≡ false → kind_of (constant i (zero_of kind)) ≡ kind
-constant_kind kind (ConstI32 bits) e nf = sym (is_i32 kind e)
-constant_kind kind (ConstI64 bits) e nf = sym (is_i64 kind e)
-constant_kind kind _ e nf = kind_of_zero kind nf
+constant_value_type : (value_type : ValType) (i : Tree) → option_map_or (is_same value_type) (constant_type (Then i End)) false ≡ true → is_float value_type ≡ false → type_of_value (constant i (zero_of value_type)) ≡ value_type
+constant_value_type value_type (ConstI32 bits) e nf = sym (is_i32 value_type e)
+constant_value_type value_type (ConstI64 bits) e nf = sym (is_i64 value_type e)
+constant_value_type value_type _ e nf = type_of_zero value_type nf
 
-initial_kind : (kind : ValType) (init : Trees) → option_map_or (is_same kind) (constant_type init) false ≡ true → is_float kind ≡ false → kind_of (initial_in init (zero_of kind)) ≡ kind
-initial_kind kind End e nf = kind_of_zero kind nf
-initial_kind kind (Then i End) e nf = constant_kind kind i e nf
-initial_kind kind (Then i (Then j rest)) e nf = kind_of_zero kind nf
+initial_value_type : (value_type : ValType) (init : Trees) → option_map_or (is_same value_type) (constant_type init) false ≡ true → is_float value_type ≡ false → type_of_value (initial_in init (zero_of value_type)) ≡ value_type
+initial_value_type value_type End e nf = type_of_zero value_type nf
+initial_value_type value_type (Then i End) e nf = constant_value_type value_type i e nf
+initial_value_type value_type (Then i (Then j rest)) e nf = type_of_zero value_type nf
 
-initial_kinds : (gs : List GlobalDef) → list_all is_initial gs ≡ true → list_any has_float_global gs ≡ false → kinds_of (map initial gs) ≡ map (λ (d : GlobalDef). d.kind) gs
-initial_kinds [] h nf = refl
-initial_kinds (g ∷ gs) h nf =
+initial_value_types : (gs : List GlobalDef) → list_all is_initial gs ≡ true → list_any has_float_global gs ≡ false → types_of_values (map initial gs) ≡ map (λ (d : GlobalDef). d.value_type) gs
+initial_value_types [] h nf = refl
+initial_value_types (g ∷ gs) h nf =
     let parts = both (is_initial g) (list_all is_initial gs) h in
     let plain = neither (has_float_global g) (list_any has_float_global gs) nf in
-    ap (λ k. k ∷ kinds_of (map initial gs)) (initial_kind g.kind g.init parts.0 (neither (is_float g.kind) (have_float g.init) plain.0).0)
-    ∙ ap (λ ks. g.kind ∷ ks) (initial_kinds gs parts.1 plain.1)
+    ap (λ k. k ∷ types_of_values (map initial gs)) (initial_value_type g.value_type g.init parts.0 (neither (is_float g.value_type) (have_float g.init) plain.0).0)
+    ∙ ap (λ ks. g.value_type ∷ ks) (initial_value_types gs parts.1 plain.1)
 
 fourth : (a b c d e : Bool) → a || (b || (c || (d || e))) ≡ false → d ≡ false
 fourth a b c d e h =
@@ -219,7 +219,7 @@ fourth a b c d e h =
 -- ---- the whole
 
 module _ (m : Module) (v : IsValid m) where
-  suits : list_all (is_elem_inside (initial_globals m) (length (empty_table m))) m.elems ≡ true → Suits (begun m)
+  suits : list_all (is_elem_inside (initial_globals m) (length (empty_table m))) m.elems ≡ true → Suits (initial_store m)
   suits inside =
       let n = length (funcs_of m) in
       let plain = fourth (list_any has_float_type m.types) (list_any (λ (i : Import). is_float_import i.desc) m.imports) (list_any has_float_func m.funcs) (list_any has_float_global m.globals) (list_any (λ (e : Elem). have_float e.offset) m.elems || list_any (λ (s : Segment). have_float s.offset) m.segments) v.no_float in
@@ -228,10 +228,10 @@ module _ (m : Module) (v : IsValid m) where
       record {
         most = segments_most (initial_globals m) m.segments (empty_memory m);
         places = elems_length (initial_globals m) m.elems (empty_table m) (length (empty_table m)) refl inside ∙ empty;
-        globals = initial_kinds m.globals v.typed.shaped.globals plain;
+        globals = initial_value_types m.globals v.typed.shaped.globals plain;
         elements = λ k f e. type_there m f v (ltb-true f n (known_at n (put_elems (initial_globals m) m.elems (empty_table m)) k f known e));
       }
 
-  -- what a valid program begins with suits it
-  pub begun_suits : (g : Store) → g ≡ begun m → segments_fit m ≡ true → Suits g
-  begun_suits g same fit = subst (λ (g : Store). Suits g) (sym same) (suits (both _ _ fit).0)
+  -- what a valid module begins with suits it
+  pub initial_suits : (g : Store) → g ≡ initial_store m → segments_fit m ≡ true → Suits g
+  initial_suits g same fit = subst (λ (g : Store). Suits g) (sym same) (suits (both _ _ fit).0)

@@ -7,8 +7,8 @@ use Rattle.wasm_store.specs.declared.start.Parts.{Parts}
 use Rattle.wasm_store.specs.Start.{initial}
 use Rattle.wasm_store.specs.Store.{Store}
 
-abbrev pub store_of : Module → Parts → Store
-store_of m p = record { program = m; memory = p.memory; globals = p.globals.items; table = p.table.items }
+abbrev pub store_of_parts : Module → Parts → Store
+store_of_parts m p = record { «module» = m; memory = p.memory; globals = p.globals.items; table = p.table.items }
 
 -- the first values of these globals
 abbrev pub first_values : List GlobalDef → List Value

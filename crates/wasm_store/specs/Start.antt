@@ -1,8 +1,8 @@
--- How a program begins: its globals, its table and its memory (WebAssembly 1.0, section 4.5.4), and the
+-- How a module begins: its globals, its table and its memory (WebAssembly 1.0, section 4.5.4), and the
 -- thread that runs first.
 use Rattle.std.specs.Prelude.{ℕ, ◌+◌, Bool, ◌&&◌, nat_le, min, List, [], ◌∷◌, ◌++◌, Option, Some, None, length, map, slice_get, replicate, take, drop, if◌then◌else◌}
 use Rattle.std.specs.List.{list_all}
-use Rattle.guest_memory.specs.Memory.{Memory, fresh, after_write}
+use Rattle.guest_memory.specs.Memory.{Memory, fresh, after_write_at}
 use Rattle.wasm_types.specs.declared.code.Value.{Value}
 use Rattle.wasm_types.specs.declared.code.Value.TheVariants.{I32, I64}
 use Rattle.wasm_types.specs.declared.modules.Limits.{Limits}
@@ -14,7 +14,7 @@ use Rattle.wasm_values.specs.Values.{zero_of}
 
 -- ---- globals
 
--- a constant as a value; the initial values of a valid program are all such
+-- a constant as a value; the initial values of a valid module are all such
 abbrev pub constant : Tree → Value → Value
 constant (ConstI32 bits) otherwise = I32 bits
 constant (ConstI64 bits) otherwise = I64 bits
@@ -26,14 +26,14 @@ initial_in (Then i End) otherwise = constant i otherwise
 initial_in _ otherwise = otherwise
 
 abbrev pub initial : GlobalDef → Value
-initial g = initial_in g.init (zero_of g.kind)
+initial g = initial_in g.init (zero_of g.value_type)
 
 abbrev pub initial_globals : Module → List Value
 initial_globals m = map initial m.globals
 
 -- ---- where segments begin
 
--- a constant, or the value of a global; the offsets of a valid program are all such
+-- a constant, or the value of a global; the offsets of a valid module are all such
 abbrev pub offset_at : List Value → Tree → ℕ
 offset_at globals (ConstI32 bits) = bits
 offset_at globals (GlobalGet x) = bits_of (slice_get globals x)
@@ -92,7 +92,7 @@ is_segment_inside globals memory s = is_segment_within globals (length memory.by
 abbrev pub put_segments : List Value → List Segment → Memory → Memory
 put_segments globals [] memory = memory
 put_segments globals (s ∷ ss) memory =
-    put_segments globals ss (after_write memory (offset_in globals s.offset) s.bytes)
+    put_segments globals ss (after_write_at memory (offset_in globals s.offset) s.bytes)
 
 -- ---- the whole
 
@@ -103,14 +103,14 @@ segments_fit m =
     && list_all (is_segment_inside (initial_globals m) (empty_memory m)) m.segments
 
 -- the globals with their first values, and the table and the memory with their segments
-abbrev pub begun : Module → Store
-begun m = record {
-  program = m;
+abbrev pub initial_store : Module → Store
+initial_store m = record {
+  «module» = m;
   memory = put_segments (initial_globals m) m.segments (empty_memory m);
   globals = initial_globals m;
   table = put_elems (initial_globals m) m.elems (empty_table m);
 }
 
--- what the threads of a program share at first, unless some segment ends past the table or the memory
-abbrev pub start : Module → Option Store
-start m = if segments_fit m then Some (begun m) else None
+-- what the threads of a module share at first, unless some segment ends past the table or the memory
+abbrev pub first_store : Module → Option Store
+first_store m = if segments_fit m then Some (initial_store m) else None

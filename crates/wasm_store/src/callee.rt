@@ -1,4 +1,4 @@
-// A function of the program as calls take it.
+// A function of the module as calls take it.
 ghost use Rattle.std.specs.Prelude.{◌≡◌, IfNone, IfSome, None, Some, slice_get};
 ghost use Rattle.wasm_types.specs.Code.{trees};
 ghost use Rattle.wasm_types.specs.Modules.{module_of};
@@ -7,7 +7,7 @@ ghost use Rattle.wasm_values.specs.Values.{zeros};
 use std::marker::Model;
 use wasm_types::{Func, Instr, ValType, ValidModule};
 
-/// A function of the program, and the locals that it declares without the runs of count 0, of which a
+/// A function of the module, and the locals that it declares without the runs of count 0, of which a
 /// module can declare millions: a call walks none of them. Contracts see the function alone.
 #[derive(Drop)]
 pub struct Callee<'m> {
@@ -55,15 +55,15 @@ impl<'m> Callee<'m> {
     }
 }
 
-/// The program's own function at this place.
-pub fn own_func<'m>(program: &'m ValidModule, place: usize) -> Option<Callee<'m>>
-    ensures some { IfSome result (λ callee. slice_get (module_of program.now).funcs place ≡ Some callee) }
-    ensures none { IfNone result (slice_get (module_of program.now).funcs place ≡ None) }
+/// The module's own function at this place.
+pub fn own_func<'m>(module: &'m ValidModule, place: usize) -> Option<Callee<'m>>
+    ensures some { IfSome result (λ callee. slice_get (module_of «module».now).funcs place ≡ Some callee) }
+    ensures none { IfNone result (slice_get (module_of «module».now).funcs place ≡ None) }
 {
-    let Some(func) = program.module().funcs.get(place) else {
+    let Some(func) = module.module().funcs.get(place) else {
         return None;
     };
-    let Some(declared) = program.declared(place) else {
+    let Some(declared) = module.declared(place) else {
         return None;
     };
     Some(Callee { func, declared })

@@ -1,4 +1,4 @@
-//! What a WebAssembly 1.0 program has as it runs, beside its threads: its functions, memory, globals and
+//! What a WebAssembly 1.0 module has as it runs, beside its threads: its functions, memory, globals and
 //! table.
 #![tactic(auto)]
 
@@ -8,5 +8,5 @@ mod start;
 mod store;
 
 pub use callee::{Callee, own_func};
-pub use functions::{imported_kind, is_same_type, kind_at, kind_of, result_of};
+pub use functions::{imported_type, is_same_type, result_of, type_at, type_of};
 pub use store::{StartError, Store};

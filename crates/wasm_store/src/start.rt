@@ -1,11 +1,11 @@
-// How a program begins: its globals, its table and its memory.
+// How a module begins: its globals, its table and its memory.
 ghost use Rattle.std.specs.Prelude.{◌≡◌, ◌+◌, ◌≤◌, IfOk, IsTrue, OnOk, None, length, map, nat_le, replicate, slice_get};
 ghost use Rattle.std.specs.List.{list_all};
 ghost use Rattle.guest_memory.specs.Memory.{fresh};
 ghost use Rattle.wasm_types.specs.Code.{tree, trees};
 ghost use Rattle.wasm_types.specs.Modules.{elem, global_def, module_of, segment as segment_of};
-ghost use Rattle.wasm_store.specs.Start.{begun, constant, first_min, first_most, initial, is_elem_inside, is_segment_within, offset_at, offset_in, put_elems, put_funcs, put_segments, segments_fit};
-ghost use Rattle.wasm_store.specs.Parts.{first_values, store_of};
+ghost use Rattle.wasm_store.specs.Start.{constant, first_min, first_most, initial, initial_store, is_elem_inside, is_segment_within, offset_at, offset_in, put_elems, put_funcs, put_segments, segments_fit};
+ghost use Rattle.wasm_store.specs.Parts.{first_values, store_of_parts};
 
 use guest_memory::Memory;
 use std::alloc::{AllocError, Global};
@@ -203,7 +203,7 @@ fn first_most(limits: &[Limits]) -> u32
     }
 }
 
-/// The parts of what the threads of a program share.
+/// The parts of what the threads of a module share.
 #[derive(Drop)]
 pub(crate) struct Parts {
     pub memory: Memory,
@@ -211,17 +211,17 @@ pub(crate) struct Parts {
     pub table: Vec<Option<u32>>,
 }
 
-/// What the threads of a program share at first.
-pub(crate) fn begin(alloc: Global, program: &ValidModule) -> Result<Parts, AllocError>
-    requires { IsTrue (segments_fit (module_of program.now)) }
-    ensures { IfOk result (λ parts. store_of (module_of program.now) parts ≡ begun (module_of program.now)) }
+/// What the threads of a module share at first.
+pub(crate) fn begin(alloc: Global, module: &ValidModule) -> Result<Parts, AllocError>
+    requires { IsTrue (segments_fit (module_of «module».now)) }
+    ensures { IfOk result (λ parts. store_of_parts (module_of «module».now) parts ≡ initial_store (module_of «module».now)) }
 {
-    let module = program.module();
-    let globals = first_values(alloc, &module.globals)?;
-    let mut table = empty_table(alloc, &module.tables)?;
-    let mut memory = empty_memory(alloc, &module.mems)?;
-    put_elems(&module.globals, &mut table, &module.elems);
-    put_segments(&module.globals, &mut memory, &module.segments)?;
+    let inner = module.module();
+    let globals = first_values(alloc, &inner.globals)?;
+    let mut table = empty_table(alloc, &inner.tables)?;
+    let mut memory = empty_memory(alloc, &inner.mems)?;
+    put_elems(&inner.globals, &mut table, &inner.elems);
+    put_segments(&inner.globals, &mut memory, &inner.segments)?;
     Ok(Parts {
         memory,
         globals,

@@ -1,12 +1,12 @@
-// What the threads of a program share: its memory, its globals and its table.
+// What the threads of a module share: its memory, its globals and its table.
 ghost use Rattle.std.specs.Prelude.{◌≡◌, ◌↔◌, Err, IfOk, None, OnOk, Some, length, nat_lt, if◌then◌else◌, slice_get, slice_set};
 ghost use Rattle.std.specs.Borrow.{sem};
-ghost use Rattle.guest_memory.specs.Memory.{after_store, growth, grown, is_inside};
+ghost use Rattle.guest_memory.specs.Memory.{after_store, growth, after_grow, is_inside};
 ghost use Rattle.guest_memory.specs.LittleEndian.{IsWidth};
 ghost use Rattle.wasm_types.specs.Modules.{module_of};
 ghost use Rattle.wasm_store.specs.Suits.{Suits};
-ghost use Rattle.wasm_store.specs.Start.{start};
-ghost use Rattle.wasm_store.specs.Store.{func_at, handler_at};
+ghost use Rattle.wasm_store.specs.Start.{first_store};
+ghost use Rattle.wasm_store.specs.Store.{func_in_table, handler_at};
 ghost use Rattle.wasm_store.specs.Lending.{LendsMemory};
 
 use crate::functions::is_handler;
@@ -16,10 +16,10 @@ use std::alloc::{AllocError, Global};
 use std::marker::Model;
 use wasm_types::{Module, ValidModule, Value};
 
-/// A program's memory, the values of its globals, and its table.
+/// A module's memory, the values of its globals, and its table.
 #[derive(Drop)]
 pub struct Store<'m> {
-    program: &'m ValidModule,
+    module: &'m ValidModule,
     memory: Memory,
     globals: Vec<Value>,
     table: Vec<Option<u32>>,
@@ -36,10 +36,10 @@ impl<'m> Model for Store<'m> {
 
     ghost use Rattle.wasm_types.specs.Modules.{module_of};
 
-    ghost view = { λ s. record { program = module_of s.program.now; memory = s.memory; globals = s.globals.items; table = s.table.items } };
+    ghost view = { λ s. record { «module» = module_of s.«module».now; memory = s.memory; globals = s.globals.items; table = s.table.items } };
 }
 
-/// Why a program does not begin.
+/// Why a module does not begin.
 #[derive(Clone, Copy, Debug, PartialEq, Eq, Drop)]
 pub enum StartError {
     /// A segment ends past the table or the memory.
@@ -48,20 +48,20 @@ pub enum StartError {
 }
 
 impl<'m> Store<'m> {
-    /// What the threads of a program share at first. `BadSegment` comes exactly where an element segment
+    /// What the threads of a module share at first. `BadSegment` comes exactly where an element segment
     /// ends past the table or a data segment past the memory, and is found without memory.
-    pub fn start(alloc: Global, program: &'m ValidModule) -> Result<Store<'m>, StartError>
-        ensures ok { IfOk result (λ g. start (module_of program.now) ≡ Some g) }
+    pub fn start(alloc: Global, module: &'m ValidModule) -> Result<Store<'m>, StartError>
+        ensures ok { IfOk result (λ g. first_store (module_of «module».now) ≡ Some g) }
         ensures suits { IfOk result (λ g. Suits g) }
-        ensures program { IfOk result (λ g. g.program ≡ module_of program.now) }
-        ensures bad { (result ≡ Err StartError.BadSegment) ↔ (start (module_of program.now) ≡ None) }
+        ensures same_module { IfOk result (λ g. g.«module» ≡ module_of «module».now) }
+        ensures bad { (result ≡ Err StartError.BadSegment) ↔ (first_store (module_of «module».now) ≡ None) }
     {
-        if !segments_fit(program.module()) {
+        if !segments_fit(module.module()) {
             return Err(StartError::BadSegment);
         }
-        match begin(alloc, program) {
+        match begin(alloc, module) {
             Ok(parts) => Ok(Store {
-                program,
+                module,
                 memory: parts.memory,
                 globals: parts.globals,
                 table: parts.table,
@@ -75,7 +75,7 @@ impl<'m> Store<'m> {
         ensures { IfOk result (λ g. g ≡ self.now) }
     {
         Ok(Store {
-            program: self.program,
+            module: self.module,
             memory: self.memory.copy()?,
             globals: self.globals.clone()?,
             table: self.table.clone()?,
@@ -91,15 +91,15 @@ impl<'m> Store<'m> {
         &mut self.memory
     }
 
-    /// The program.
+    /// The module.
     #[inline]
-    pub fn program(&self) -> &'m Module
-        ensures { module_of result.now ≡ self.now.program }
+    pub fn module(&self) -> &'m Module
+        ensures { module_of result.now ≡ self.now.«module» }
     {
-        self.program.module()
+        self.module.module()
     }
 
-    /// The memory, which is empty where the program has none.
+    /// The memory, which is empty where the module has none.
     #[inline]
     pub fn memory(&self) -> &Memory
         ensures { result.now ≡ self.now.memory }
@@ -107,7 +107,7 @@ impl<'m> Store<'m> {
         &self.memory
     }
 
-    /// The value of a global. `None` comes exactly where the program has no global of that index.
+    /// The value of a global. `None` comes exactly where the module has no global of that index.
     #[inline]
     pub fn global(&self, n: u32) -> Option<Value>
         ensures { result ≡ slice_get self.now.globals n }
@@ -126,7 +126,7 @@ impl<'m> Store<'m> {
     /// The index of the function that the table holds at this place. `None` comes exactly where the
     /// place lies outside the table or is empty.
     pub fn table_func(&self, index: u32) -> Option<u32>
-        ensures { result ≡ func_at (slice_get self.now.table index) }
+        ensures { result ≡ func_in_table (slice_get self.now.table index) }
     {
         match self.element(index) {
             Some(func) => func,
@@ -135,12 +135,12 @@ impl<'m> Store<'m> {
     }
 
     /// The index of the function that the table holds at this place, where it can begin a thread or
-    /// handle a signal: the program itself defines it, with one parameter of 32 bits and no result.
+    /// handle a signal: the module itself defines it, with one parameter of 32 bits and no result.
     pub fn handler_at(&self, index: u32) -> Option<u32>
         ensures { result ≡ handler_at self.now index }
     {
         let func = self.table_func(index)?;
-        if is_handler(self.program.module(), func) {
+        if is_handler(self.module.module(), func) {
             Some(func)
         } else {
             None
@@ -175,7 +175,7 @@ impl<'m> Store<'m> {
     #[inline]
     pub fn grow(&mut self, pages: u32) -> Result<Option<u32>, AllocError>
         ensures before { IfOk result (λ before. before ≡ growth self.old.memory pages) }
-        ensures new { OnOk result (self.new ≡ record self.old { memory = grown self.old.memory pages }) }
+        ensures new { OnOk result (self.new ≡ record self.old { memory = after_grow self.old.memory pages }) }
     {
         let before = self.memory.grow(pages)?;
         Ok(before)

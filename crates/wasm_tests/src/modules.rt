@@ -49,7 +49,7 @@ const MODULES: &[(&[u8], &str)] = &[
 
 // Bytes that make no module behind the header.
 const MALFORMED: &[&[u8]] = &[
-    // A section twice, two in the wrong order, one that came after version 1.0, and one of no kind.
+    // A section twice, two in the wrong order, one that came after version 1.0, and one with no known id.
     b"\x01\x01\0\x01\x01\0",
     b"\x05\x01\0\x04\x01\0",
     b"\x0c\x01\0",

@@ -1,4 +1,4 @@
-// Threads of a program that begin at a function, under handlers, and the store that they share.
+// Threads of a module that begin at a function, under handlers, and the store that they share.
 ghost use Rattle.std.specs.Prelude.{IsTrue};
 ghost use Rattle.wasm_types.specs.Modules.{module_of};
 ghost use Rattle.wasm_step.specs.Strand.{IsHandler};
@@ -17,26 +17,26 @@ const GUEST: &[u8] = b"\0asm\x01\0\0\0\x01\x0c\x03`\x01~\0`\x01\x7f\0`\0\0\x02\x
     \x01A\x07\x0b\x07\x0a\x01\x06_start\0\x02\x09\x07\x01\0A\x01\x0b\x01\x01\x0a\x15\x02\x0c\0#\
     \0A\x0al \0j$\0\x0b\x06\0B\x09\x10\0\x0b\x0b\x09\x01\0A\x08\x0b\x03log";
 
-fn program(alloc: Global) -> Result<ValidModule, Fail> {
+fn module(alloc: Global) -> Result<ValidModule, Fail> {
     let decoded = decode(alloc, GUEST)?;
     Ok(validate(alloc, decoded)?)
 }
 
-// Whether the program's own function with this index takes a number of 32 bits and gives nothing.
-fn is_handler(program: &ValidModule, func: u32) -> bool
-    ensures { IsTrue result → IsHandler (module_of program.now) func }
+// Whether the module's own function with this index takes a number of 32 bits and gives nothing.
+fn is_handler(module: &ValidModule, func: u32) -> bool
+    ensures { IsTrue result → IsHandler (module_of «module».now) func }
 {
-    let code = program.module();
-    let imports = code.imports.len();
+    let inner = module.module();
+    let imports = inner.imports.len();
     let index = func as usize;
     if index < imports {
         return false;
     }
-    let Some(own) = code.funcs.get(index - imports) else {
+    let Some(own) = inner.funcs.get(index - imports) else {
         return false;
     };
-    match code.types.get(own.type_index as usize) {
-        Some(kind) => match (kind.params.as_slice(), kind.results.as_slice()) {
+    match inner.types.get(own.type_index as usize) {
+        Some(typing) => match (typing.params.as_slice(), typing.results.as_slice()) {
             ([ValType::I32], []) => true,
             _ => false,
         },
@@ -47,10 +47,10 @@ fn is_handler(program: &ValidModule, func: u32) -> bool
 // The handler, which has 5, runs first, and then the thread's own function, which has 3.
 #[test]
 fn a_handler_runs_above_a_new_thread(rt: HostRuntime) -> Result<(), Fail> {
-    let program = program(rt.alloc())?;
-    assert!(rt; is_handler(&program, 1));
-    let mut store = Store::start(rt.alloc(), &program)?;
-    let strand = Strand::new(rt.alloc(), &program, 1, 3)?.push_handler(1, 5)?;
+    let module = module(rt.alloc())?;
+    assert!(rt; is_handler(&module, 1));
+    let mut store = Store::start(rt.alloc(), &module)?;
+    let strand = Strand::new(rt.alloc(), &module, 1, 3)?.push_handler(1, 5)?;
     let copy = strand.copy()?;
     assert!(rt; matches!(copy.run(&mut store)?, Pause::Ended));
     assert_eq!(rt; store.global(0), Some(Value::I32(753)));
@@ -59,8 +59,8 @@ fn a_handler_runs_above_a_new_thread(rt: HostRuntime) -> Result<(), Fail> {
 
 #[test]
 fn a_store_begins_as_its_module_says(rt: HostRuntime) -> Result<(), Fail> {
-    let program = program(rt.alloc())?;
-    let store = Store::start(rt.alloc(), &program)?;
+    let module = module(rt.alloc())?;
+    let store = Store::start(rt.alloc(), &module)?;
     assert_eq!(rt; store.global(0), Some(Value::I32(7)));
     assert_eq!(rt; store.table_func(1), Some(1));
     assert_eq!(rt; store.table_func(2), None);
@@ -69,8 +69,8 @@ fn a_store_begins_as_its_module_says(rt: HostRuntime) -> Result<(), Fail> {
 
 #[test]
 fn a_copy_of_a_store_has_a_memory_of_its_own(rt: HostRuntime) -> Result<(), Fail> {
-    let program = program(rt.alloc())?;
-    let store = Store::start(rt.alloc(), &program)?;
+    let module = module(rt.alloc())?;
+    let store = Store::start(rt.alloc(), &module)?;
     let mut copy = store.copy()?;
     assert!(rt; copy.memory_mut().write(8, b"LOG")?);
     assert_eq!(rt; copy.memory().part(8, 3), Some(b"LOG".as_slice()));

@@ -6,32 +6,32 @@ use Rattle.wasm_types.specs.Modules.{GlobalType}
 use Rattle.wasm_types.specs.Maybe.{◌>>=◌}
 use Rattle.wasm_types.specs.Stack.{Stack, push, pop_type, operate}
 
-abbrev pub get_local : List ValType → ℕ → Stack → Option Stack
-get_local locals x s = do
+abbrev pub typed_local_get : List ValType → ℕ → Stack → Option Stack
+typed_local_get locals x s = do
   type ← slice_get locals x
   Some (push (Some type) s)
 
-abbrev pub set_local : List ValType → ℕ → Stack → Option Stack
-set_local locals x s = do
+abbrev pub typed_local_set : List ValType → ℕ → Stack → Option Stack
+typed_local_set locals x s = do
   type ← slice_get locals x
   pop_type type s
 
-abbrev pub tee_local : List ValType → ℕ → Stack → Option Stack
-tee_local locals x s = do
+abbrev pub typed_local_tee : List ValType → ℕ → Stack → Option Stack
+typed_local_tee locals x s = do
   type ← slice_get locals x
   rest ← pop_type type s
   Some (push (Some type) rest)
 
-abbrev pub get_global : List GlobalType → ℕ → Stack → Option Stack
-get_global globals x s = do
+abbrev pub typed_global_get : List GlobalType → ℕ → Stack → Option Stack
+typed_global_get globals x s = do
   global ← slice_get globals x
-  Some (push (Some global.kind) s)
+  Some (push (Some global.value_type) s)
 
 -- only a global that may change is set
-abbrev pub set_global : List GlobalType → ℕ → Stack → Option Stack
-set_global globals x s = do
+abbrev pub typed_global_set : List GlobalType → ℕ → Stack → Option Stack
+typed_global_set globals x s = do
   global ← slice_get globals x
-  if global.mutable then pop_type global.kind s else None
+  if global.mutable then pop_type global.value_type s else None
 
 -- the type of the value that a load or a store moves, and the number of bytes in memory as an exponent
 -- of 2
@@ -43,8 +43,8 @@ abbrev pub access : ValType → ℕ → Option Access
 access moved exponent = Some (record { moved = moved; exponent = exponent })
 
 -- the loads, by the last opcode of each group
-abbrev pub load_of : ℕ → Option Access
-load_of n =
+abbrev pub load_access : ℕ → Option Access
+load_access n =
     if nat_lt n 0x28 then None else
     if nat_le n 0x28 then access I32 2 else
     if nat_le n 0x29 then access I64 3 else
@@ -58,8 +58,8 @@ load_of n =
     None
 
 -- the stores, by the last opcode of each group
-abbrev pub store_of : ℕ → Option Access
-store_of n =
+abbrev pub store_access : ℕ → Option Access
+store_access n =
     if nat_lt n 0x36 then None else
     if nat_le n 0x36 then access I32 2 else
     if nat_le n 0x37 then access I64 3 else
@@ -76,18 +76,18 @@ store_of n =
 abbrev pub may_access : Bool → Access → ℕ → Bool
 may_access has_memory a align = has_memory && nat_le align a.exponent
 
-abbrev pub load : Bool → ℕ → ℕ → Stack → Option Stack
-load has_memory opcode align s = do
-  a ← load_of opcode
+abbrev pub typed_load : Bool → ℕ → ℕ → Stack → Option Stack
+typed_load has_memory opcode align s = do
+  a ← load_access opcode
   if may_access has_memory a align then operate (I32 ∷ []) (Some a.moved) s else None
 
-abbrev pub store : Bool → ℕ → ℕ → Stack → Option Stack
-store has_memory opcode align s = do
-  a ← store_of opcode
+abbrev pub typed_store : Bool → ℕ → ℕ → Stack → Option Stack
+typed_store has_memory opcode align s = do
+  a ← store_access opcode
   if may_access has_memory a align then operate (I32 ∷ a.moved ∷ []) None s else None
 
-abbrev pub memory_size : Bool → Stack → Option Stack
-memory_size has_memory s = if has_memory then operate [] (Some I32) s else None
+abbrev pub typed_memory_size : Bool → Stack → Option Stack
+typed_memory_size has_memory s = if has_memory then operate [] (Some I32) s else None
 
-abbrev pub memory_grow : Bool → Stack → Option Stack
-memory_grow has_memory s = if has_memory then operate (I32 ∷ []) (Some I32) s else None
+abbrev pub typed_memory_grow : Bool → Stack → Option Stack
+typed_memory_grow has_memory s = if has_memory then operate (I32 ∷ []) (Some I32) s else None

@@ -18,18 +18,18 @@ call_type types t s = do
   operate callee.params (result_of callee) s
 
 -- a call of the function with this index; `funcs` has the index of each function's type
-abbrev pub call : List FuncType → List ℕ → ℕ → Stack → Option Stack
-call types funcs f s = do
+abbrev pub typed_call : List FuncType → List ℕ → ℕ → Stack → Option Stack
+typed_call types funcs f s = do
   t ← slice_get funcs f
   call_type types t s
 
 -- a call through the table
-abbrev pub call_indirect : Bool → List FuncType → ℕ → Stack → Option Stack
-call_indirect has_table types t s = do
+abbrev pub typed_call_indirect : Bool → List FuncType → ℕ → Stack → Option Stack
+typed_call_indirect has_table types t s = do
   below ← pop_type I32 s
   if has_table then call_type types t below else None
 
-abbrev pub operator : ℕ → Stack → Option Stack
-operator n s = do
+abbrev pub typed_operator : ℕ → Stack → Option Stack
+typed_operator n s = do
   op ← operator_of n
   operate op.takes (Some op.gives) s

@@ -25,7 +25,8 @@ pub tree-loop : (result : Option ValType) (body : Vec Instr) → tree (instr.Loo
 tree-loop result body = ap (Loop result) (trees_of_vec body)
 
 -- the tree of a choice
-pub tree-if : (result : Option ValType) (on_true on_false : Vec Instr) → tree (instr.If result on_true on_false) ≡ If result (trees on_true.items) (trees on_false.items)
+pub tree-if : (result : Option ValType) (on_true on_false : Vec Instr)
+    → tree (instr.If result on_true on_false) ≡ If result (trees on_true.items) (trees on_false.items)
 tree-if result on_true on_false =
     ap (λ (t : Trees). If result t (trees_of_row (hidden-the_row-Instr-0 on_false))) (trees_of_vec on_true)
     ∙ ap (If result (trees on_true.items)) (trees_of_vec on_false)

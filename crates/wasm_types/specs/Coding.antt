@@ -1,4 +1,4 @@
--- A code for sequences of instructions: a list of words, each a kind and numbers, that gives them back.
+-- A code for sequences of instructions: a list of words, each an opcode and numbers, that gives them back.
 -- A word makes an instruction of the sequences read last, and puts it in front of the one before those.
 use Rattle.std.specs.Prelude.{◌≡◌, ℕ, List, [], ◌∷◌, Option, Some, None, nat_eq, get_or, if◌then◌else◌, refl}
 use Rattle.std.proofs.Common.{ap, ◌∙◌}
@@ -33,32 +33,32 @@ abbrev table_in : List ℕ → Tree
 table_in [] = BrTable [] 0
 table_in (default ∷ labels) = BrTable labels default
 
--- an instruction with none inside it, by its kind
+-- an instruction with none inside it, by its opcode
 abbrev leaf_in : ℕ → List ℕ → Tree
-leaf_in kind ns =
-    if nat_eq kind 4 then Unreachable else
-    if nat_eq kind 5 then Nop else
-    if nat_eq kind 6 then Br (get_or ns 0 0) else
-    if nat_eq kind 7 then BrIf (get_or ns 0 0) else
-    if nat_eq kind 8 then table_in ns else
-    if nat_eq kind 9 then Return else
-    if nat_eq kind 10 then CallFunc (get_or ns 0 0) else
-    if nat_eq kind 11 then CallIndirect (get_or ns 0 0) else
-    if nat_eq kind 12 then DropTop else
-    if nat_eq kind 13 then Select else
-    if nat_eq kind 14 then LocalGet (get_or ns 0 0) else
-    if nat_eq kind 15 then LocalSet (get_or ns 0 0) else
-    if nat_eq kind 16 then LocalTee (get_or ns 0 0) else
-    if nat_eq kind 17 then GlobalGet (get_or ns 0 0) else
-    if nat_eq kind 18 then GlobalSet (get_or ns 0 0) else
-    if nat_eq kind 19 then Load (get_or ns 0 0) (get_or ns 1 0) (get_or ns 2 0) else
-    if nat_eq kind 20 then Store (get_or ns 0 0) (get_or ns 1 0) (get_or ns 2 0) else
-    if nat_eq kind 21 then MemorySize else
-    if nat_eq kind 22 then MemoryGrow else
-    if nat_eq kind 23 then ConstI32 (get_or ns 0 0) else
-    if nat_eq kind 24 then ConstI64 (get_or ns 0 0) else
-    if nat_eq kind 25 then ConstF32 (get_or ns 0 0) else
-    if nat_eq kind 26 then ConstF64 (get_or ns 0 0) else
+leaf_in opcode ns =
+    if nat_eq opcode 4 then Unreachable else
+    if nat_eq opcode 5 then Nop else
+    if nat_eq opcode 6 then Br (get_or ns 0 0) else
+    if nat_eq opcode 7 then BrIf (get_or ns 0 0) else
+    if nat_eq opcode 8 then table_in ns else
+    if nat_eq opcode 9 then Return else
+    if nat_eq opcode 10 then CallFunc (get_or ns 0 0) else
+    if nat_eq opcode 11 then CallIndirect (get_or ns 0 0) else
+    if nat_eq opcode 12 then DropTop else
+    if nat_eq opcode 13 then Select else
+    if nat_eq opcode 14 then LocalGet (get_or ns 0 0) else
+    if nat_eq opcode 15 then LocalSet (get_or ns 0 0) else
+    if nat_eq opcode 16 then LocalTee (get_or ns 0 0) else
+    if nat_eq opcode 17 then GlobalGet (get_or ns 0 0) else
+    if nat_eq opcode 18 then GlobalSet (get_or ns 0 0) else
+    if nat_eq opcode 19 then Load (get_or ns 0 0) (get_or ns 1 0) (get_or ns 2 0) else
+    if nat_eq opcode 20 then Store (get_or ns 0 0) (get_or ns 1 0) (get_or ns 2 0) else
+    if nat_eq opcode 21 then MemorySize else
+    if nat_eq opcode 22 then MemoryGrow else
+    if nat_eq opcode 23 then ConstI32 (get_or ns 0 0) else
+    if nat_eq opcode 24 then ConstI64 (get_or ns 0 0) else
+    if nat_eq opcode 25 then ConstF32 (get_or ns 0 0) else
+    if nat_eq opcode 26 then ConstF64 (get_or ns 0 0) else
     Op (get_or ns 0 0)
 
 -- an instruction in front of the sequence read last
@@ -67,8 +67,8 @@ put i [] = []
 put i (rest ∷ more) = Then i rest ∷ more
 
 abbrev put_block : ℕ → Option ValType → List Trees → List Trees
-put_block kind result [] = []
-put_block kind result (body ∷ more) = if nat_eq kind 1 then put (Block result body) more else put (Loop result body) more
+put_block opcode result [] = []
+put_block opcode result (body ∷ more) = if nat_eq opcode 1 then put (Block result body) more else put (Loop result body) more
 
 abbrev put_if : Option ValType → List Trees → List Trees
 put_if result [] = []
@@ -76,12 +76,12 @@ put_if result (on_false ∷ []) = []
 put_if result (on_false ∷ (on_true ∷ more)) = put (If result on_true on_false) more
 
 abbrev read_word : ℕ → List ℕ → List Trees → List Trees
-read_word kind ns read =
-    if nat_eq kind 0 then End ∷ read else
-    if nat_eq kind 3 then put_if (type_in ns) read else
-    if nat_eq kind 1 then put_block 1 (type_in ns) read else
-    if nat_eq kind 2 then put_block 2 (type_in ns) read else
-    put (leaf_in kind ns) read
+read_word opcode ns read =
+    if nat_eq opcode 0 then End ∷ read else
+    if nat_eq opcode 3 then put_if (type_in ns) read else
+    if nat_eq opcode 1 then put_block 1 (type_in ns) read else
+    if nat_eq opcode 2 then put_block 2 (type_in ns) read else
+    put (leaf_in opcode ns) read
 
 abbrev read_words : List Word → List Trees → List Trees
 read_words [] read = read
@@ -139,14 +139,14 @@ numbered_number (Some F64) = refl
 mutual
   read_write : (i : Tree) (ws : List Word) (rest : Trees) (read : List Trees) → read_words (write i ws) (rest ∷ read) ≡ read_words ws (Then i rest ∷ read)
   read_write (Block result body) ws rest read =
-      read_write_all body ((1, number_of result ∷ []) ∷ ws) (rest ∷ read)
+      read_write_trees body ((1, number_of result ∷ []) ∷ ws) (rest ∷ read)
       ∙ ap (λ r. read_words ws (Then (Block r body) rest ∷ read)) (numbered_number result)
   read_write (Loop result body) ws rest read =
-      read_write_all body ((2, number_of result ∷ []) ∷ ws) (rest ∷ read)
+      read_write_trees body ((2, number_of result ∷ []) ∷ ws) (rest ∷ read)
       ∙ ap (λ r. read_words ws (Then (Loop r body) rest ∷ read)) (numbered_number result)
   read_write (If result on_true on_false) ws rest read =
-      read_write_all on_true (write_all on_false ((3, number_of result ∷ []) ∷ ws)) (rest ∷ read)
-      ∙ read_write_all on_false ((3, number_of result ∷ []) ∷ ws) (on_true ∷ (rest ∷ read))
+      read_write_trees on_true (write_all on_false ((3, number_of result ∷ []) ∷ ws)) (rest ∷ read)
+      ∙ read_write_trees on_false ((3, number_of result ∷ []) ∷ ws) (on_true ∷ (rest ∷ read))
       ∙ ap (λ r. read_words ws (Then (If r on_true on_false) rest ∷ read)) (numbered_number result)
   read_write Unreachable ws rest read = refl
   read_write Nop ws rest read = refl
@@ -173,10 +173,10 @@ mutual
   read_write (ConstF64 n) ws rest read = refl
   read_write (Op n) ws rest read = refl
 
-  pub read_write_all : (ts : Trees) (ws : List Word) (read : List Trees) → read_words (write_all ts ws) read ≡ read_words ws (ts ∷ read)
-  read_write_all End ws read = refl
-  read_write_all (Then i rest) ws read = read_write_all rest (write i ws) read ∙ read_write i ws rest read
+  pub read_write_trees : (ts : Trees) (ws : List Word) (read : List Trees) → read_words (write_all ts ws) read ≡ read_words ws (ts ∷ read)
+  read_write_trees End ws read = refl
+  read_write_trees (Then i rest) ws read = read_write_trees rest (write i ws) read ∙ read_write i ws rest read
 
 abbrev pub trees_code : Coded Trees
 trees_code =
-    code_by (List Word) (coded_list (coded× coded_ℕ (coded_list coded_ℕ))) (λ ts. write_all ts []) trees_in (λ ts. ap first_read (read_write_all ts [] []))
+    code_by (List Word) (coded_list (coded× coded_ℕ (coded_list coded_ℕ))) (λ ts. write_all ts []) trees_in (λ ts. ap first_read (read_write_trees ts [] []))

@@ -57,5 +57,5 @@ context_of m locals gives = record {
 }
 
 -- the type of the function with this index, if there is one
-abbrev pub func_type_at : Module → ℕ → Option FuncType
-func_type_at m f = option_and_then (slice_get m.types) (slice_get (funcs_of m) f)
+abbrev pub func_type_of : Module → ℕ → Option FuncType
+func_type_of m f = option_and_then (slice_get m.types) (slice_get (funcs_of m) f)

@@ -8,7 +8,7 @@ use Rattle.wasm_types.specs.declared.modules.ImportDesc.{ImportDesc}
 use Rattle.wasm_types.specs.declared.modules.ImportDesc.TheVariants as desc
 use Rattle.wasm_types.specs.Code.{Tree, Trees, Block, Loop, If, Load, Store, ConstF32, ConstF64, Op, End, Then}
 use Rattle.wasm_types.specs.Modules.{FuncType, Import, Func, GlobalDef, Elem, Segment, Module}
-use Rattle.wasm_types.specs.Accesses.{Access, load_of, store_of}
+use Rattle.wasm_types.specs.Accesses.{Access, load_access, store_access}
 use Rattle.wasm_types.specs.Numeric.{Operator, operator_of}
 
 abbrev pub is_float : ValType → Bool
@@ -34,8 +34,8 @@ abbrev mutual
   has_float (Block result body) = is_float_result result || have_float body
   has_float (Loop result body) = is_float_result result || have_float body
   has_float (If result on_true on_false) = is_float_result result || (have_float on_true || have_float on_false)
-  has_float (Load opcode align offset) = is_float_access (load_of opcode)
-  has_float (Store opcode align offset) = is_float_access (store_of opcode)
+  has_float (Load opcode align offset) = is_float_access (load_access opcode)
+  has_float (Store opcode align offset) = is_float_access (store_access opcode)
   has_float (ConstF32 bits) = true
   has_float (ConstF64 bits) = true
   has_float (Op opcode) = is_float_operator (operator_of opcode)
@@ -51,7 +51,7 @@ has_float_type t = list_any is_float t.params || list_any is_float t.results
 
 -- a global of a float type is imported
 abbrev pub is_float_import : ImportDesc → Bool
-is_float_import (desc.Global kind mutable) = is_float kind
+is_float_import (desc.Global value_type mutable) = is_float value_type
 is_float_import _ = false
 
 -- also where there are 0 locals of a float type
@@ -59,7 +59,7 @@ abbrev pub has_float_func : Func → Bool
 has_float_func f = list_any (λ (run : ℕ × ValType). is_float run.1) f.locals || have_float f.body
 
 abbrev pub has_float_global : GlobalDef → Bool
-has_float_global g = is_float g.kind || have_float g.init
+has_float_global g = is_float g.value_type || have_float g.init
 
 -- a float value type or an instruction on floats stands anywhere in the module
 abbrev pub is_with_floats : Module → Bool

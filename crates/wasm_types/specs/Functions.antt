@@ -15,7 +15,7 @@ abbrev pub described : Module → ImportDesc → Option FuncType
 described m (desc.Func type) = slice_get m.types type
 described m (desc.Table limits) = None
 described m (desc.Memory limits) = None
-described m (desc.Global kind mutable) = None
+described m (desc.Global value_type mutable) = None
 
 abbrev pub imported_type : Module → Option Import → Option FuncType
 imported_type m None = None
@@ -32,11 +32,11 @@ type_of m f =
     then imported_type m (slice_get m.imports f)
     else own_type m (slice_get m.funcs (f - length m.imports))
 
-abbrev pub same_kinds : List ValType → List ValType → Bool
-same_kinds [] [] = true
-same_kinds [] (b ∷ bs) = false
-same_kinds (a ∷ as') [] = false
-same_kinds (a ∷ as') (b ∷ bs) = is_same a b && same_kinds as' bs
+abbrev pub same_types : List ValType → List ValType → Bool
+same_types [] [] = true
+same_types [] (b ∷ bs) = false
+same_types (a ∷ as') [] = false
+same_types (a ∷ as') (b ∷ bs) = is_same a b && same_types as' bs
 
 abbrev pub same_type : FuncType → FuncType → Bool
-same_type a b = same_kinds a.params b.params && same_kinds a.results b.results
+same_type a b = same_types a.params b.params && same_types a.results b.results

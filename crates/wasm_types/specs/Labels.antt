@@ -25,20 +25,20 @@ table_label labels ns default = do
   label ← slice_get labels default
   if list_all (has_label labels label) ns then Some label else None
 
-abbrev pub branch : Labels → ℕ → Stack → Option Stack
-branch labels n s = do
+abbrev pub typed_branch : Labels → ℕ → Stack → Option Stack
+typed_branch labels n s = do
   label ← slice_get labels n
   jump_with label s
 
-abbrev pub branch_if : Labels → ℕ → Stack → Option Stack
-branch_if labels n s = do
+abbrev pub typed_branch_if : Labels → ℕ → Stack → Option Stack
+typed_branch_if labels n s = do
   label ← slice_get labels n
   tested ← pop_type I32 s
   rest ← pop_result label tested
   Some (push_result label rest)
 
-abbrev pub branch_table : Labels → List ℕ → ℕ → Stack → Option Stack
-branch_table labels ns default s = do
+abbrev pub typed_branch_table : Labels → List ℕ → ℕ → Stack → Option Stack
+typed_branch_table labels ns default s = do
   label ← table_label labels ns default
   tested ← pop_type I32 s
   jump_with label tested

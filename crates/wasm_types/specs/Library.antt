@@ -23,25 +23,25 @@ abbrev pub results_of : ℕ → List ValType
 results_of width = if width == 0 then [] else if width == 32 then I32 ∷ [] else I64 ∷ []
 
 -- the type with this signature
-abbrev pub type_of : Signature → FuncType
-type_of s = record {
+abbrev pub signature_type : Signature → FuncType
+signature_type s = record {
   params = replicate s.params (if s.wide_param then I64 else I32);
   results = results_of s.result;
 }
 
 -- the index of a function's type
-abbrev pub imported_type : ImportDesc → Option ℕ
-imported_type (desc.Func t) = Some t
-imported_type _ = None
+abbrev pub imported_type_index : ImportDesc → Option ℕ
+imported_type_index (desc.Func t) = Some t
+imported_type_index _ = None
 
 -- The import is a function of the library, and its type index names exactly the function's type.
 pub record IsOfLibrary (types : List FuncType) (i : Import) : Type 0 where
   pub type_index : ℕ
-  pub is_func : imported_type i.desc ≡ Some type_index
+  pub is_func : imported_type_index i.desc ≡ Some type_index
   pub from_library : i.«module» ≡ codes "liblog"
   pub kind : Kind
   pub named : importable i.name ≡ Some kind
-  pub typed : slice_get types type_index ≡ Some (type_of (row kind).signature)
+  pub typed : slice_get types type_index ≡ Some (signature_type (row kind).signature)
 
 -- the kind of the calls of the function with this index, if it is imported
 abbrev pub kind_at : Module → ℕ → Option Kind

@@ -33,13 +33,13 @@ pub record Func : Type 0 where
 
 -- a global
 pub record GlobalDef : Type 0 where
-  pub kind : ValType
+  pub value_type : ValType
   pub mutable : Bool
   pub init : Trees
 
 -- what code may do with a global
 pub record GlobalType : Type 0 where
-  pub kind : ValType
+  pub value_type : ValType
   pub mutable : Bool
 
 -- an export
@@ -74,7 +74,7 @@ pub record Module : Type 0 where
 
 -- the type of a global
 abbrev pub global_type : GlobalDef → GlobalType
-global_type g = record { kind = g.kind; mutable = g.mutable }
+global_type g = record { value_type = g.value_type; mutable = g.mutable }
 
 -- what contracts see of a function type
 abbrev pub func_type : RustFuncType → FuncType
@@ -90,7 +90,7 @@ func f = record { type_index = f.type_index; locals = f.locals.items; body = tre
 
 -- what contracts see of a global
 abbrev pub global_def : RustGlobalDef → GlobalDef
-global_def g = record { kind = g.kind; mutable = g.mutable; init = trees g.init.items }
+global_def g = record { value_type = g.kind; mutable = g.mutable; init = trees g.init.items }
 
 -- what contracts see of an export
 abbrev pub export : RustExport → Export

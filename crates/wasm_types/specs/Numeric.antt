@@ -8,44 +8,44 @@ pub record Operator : Type 0 where
   pub takes : List ValType
   pub gives : ValType
 
-abbrev pub unary : ValType → ValType → Option Operator
-unary from to = Some (record { takes = from ∷ []; gives = to })
+abbrev pub unary_operator : ValType → ValType → Option Operator
+unary_operator from to = Some (record { takes = from ∷ []; gives = to })
 
-abbrev pub binary : ValType → ValType → Option Operator
-binary from to = Some (record { takes = from ∷ from ∷ []; gives = to })
+abbrev pub binary_operator : ValType → ValType → Option Operator
+binary_operator from to = Some (record { takes = from ∷ from ∷ []; gives = to })
 
 -- by the last opcode of each group
 abbrev pub operator_of : ℕ → Option Operator
 operator_of n =
     if nat_lt n 0x45 then None else
-    if nat_le n 0x45 then unary I32 I32 else
-    if nat_le n 0x4F then binary I32 I32 else
-    if nat_le n 0x50 then unary I64 I32 else
-    if nat_le n 0x5A then binary I64 I32 else
-    if nat_le n 0x60 then binary F32 I32 else
-    if nat_le n 0x66 then binary F64 I32 else
-    if nat_le n 0x69 then unary I32 I32 else
-    if nat_le n 0x78 then binary I32 I32 else
-    if nat_le n 0x7B then unary I64 I64 else
-    if nat_le n 0x8A then binary I64 I64 else
-    if nat_le n 0x91 then unary F32 F32 else
-    if nat_le n 0x98 then binary F32 F32 else
-    if nat_le n 0x9F then unary F64 F64 else
-    if nat_le n 0xA6 then binary F64 F64 else
-    if nat_le n 0xA7 then unary I64 I32 else
-    if nat_le n 0xA9 then unary F32 I32 else
-    if nat_le n 0xAB then unary F64 I32 else
-    if nat_le n 0xAD then unary I32 I64 else
-    if nat_le n 0xAF then unary F32 I64 else
-    if nat_le n 0xB1 then unary F64 I64 else
-    if nat_le n 0xB3 then unary I32 F32 else
-    if nat_le n 0xB5 then unary I64 F32 else
-    if nat_le n 0xB6 then unary F64 F32 else
-    if nat_le n 0xB8 then unary I32 F64 else
-    if nat_le n 0xBA then unary I64 F64 else
-    if nat_le n 0xBB then unary F32 F64 else
-    if nat_le n 0xBC then unary F32 I32 else
-    if nat_le n 0xBD then unary F64 I64 else
-    if nat_le n 0xBE then unary I32 F32 else
-    if nat_le n 0xBF then unary I64 F64 else
+    if nat_le n 0x45 then unary_operator I32 I32 else
+    if nat_le n 0x4F then binary_operator I32 I32 else
+    if nat_le n 0x50 then unary_operator I64 I32 else
+    if nat_le n 0x5A then binary_operator I64 I32 else
+    if nat_le n 0x60 then binary_operator F32 I32 else
+    if nat_le n 0x66 then binary_operator F64 I32 else
+    if nat_le n 0x69 then unary_operator I32 I32 else
+    if nat_le n 0x78 then binary_operator I32 I32 else
+    if nat_le n 0x7B then unary_operator I64 I64 else
+    if nat_le n 0x8A then binary_operator I64 I64 else
+    if nat_le n 0x91 then unary_operator F32 F32 else
+    if nat_le n 0x98 then binary_operator F32 F32 else
+    if nat_le n 0x9F then unary_operator F64 F64 else
+    if nat_le n 0xA6 then binary_operator F64 F64 else
+    if nat_le n 0xA7 then unary_operator I64 I32 else
+    if nat_le n 0xA9 then unary_operator F32 I32 else
+    if nat_le n 0xAB then unary_operator F64 I32 else
+    if nat_le n 0xAD then unary_operator I32 I64 else
+    if nat_le n 0xAF then unary_operator F32 I64 else
+    if nat_le n 0xB1 then unary_operator F64 I64 else
+    if nat_le n 0xB3 then unary_operator I32 F32 else
+    if nat_le n 0xB5 then unary_operator I64 F32 else
+    if nat_le n 0xB6 then unary_operator F64 F32 else
+    if nat_le n 0xB8 then unary_operator I32 F64 else
+    if nat_le n 0xBA then unary_operator I64 F64 else
+    if nat_le n 0xBB then unary_operator F32 F64 else
+    if nat_le n 0xBC then unary_operator F32 I32 else
+    if nat_le n 0xBD then unary_operator F64 I64 else
+    if nat_le n 0xBE then unary_operator I32 F32 else
+    if nat_le n 0xBF then unary_operator I64 F64 else
     None

@@ -12,7 +12,7 @@ use Rattle.wasm_types.specs.declared.modules.ExportDesc.TheVariants.{Func as ToF
 use Rattle.wasm_types.specs.Code.{Trees, Then, End, ConstI32, ConstI64, ConstF32, ConstF64, GlobalGet}
 use Rattle.wasm_types.specs.Modules.{Import, Func, GlobalDef, Export, Elem, Segment, Module}
 use Rattle.wasm_types.specs.Calls.{result_of}
-use Rattle.wasm_types.specs.Context.{expand, context_of, funcs_of, func_type_at}
+use Rattle.wasm_types.specs.Context.{expand, context_of, funcs_of, func_type_of}
 use Rattle.wasm_types.specs.Stack.{is_same}
 use Rattle.wasm_types.specs.Typing.{IsWellTyped}
 
@@ -46,11 +46,11 @@ constant_type _ = None
 
 -- an initial value is one constant of the global's type
 abbrev pub is_initial : GlobalDef → Bool
-is_initial g = option_map_or (is_same g.kind) (constant_type g.init) false
+is_initial g = option_map_or (is_same g.value_type) (constant_type g.init) false
 
 -- a global that an offset may name
 abbrev pub is_fixed : GlobalDef → Bool
-is_fixed g = is_same g.kind I32 && not g.mutable
+is_fixed g = is_same g.value_type I32 && not g.mutable
 
 -- an offset is one constant i32, or an immutable global of this type
 abbrev pub is_offset : List GlobalDef → Trees → Bool
@@ -74,7 +74,7 @@ IsTypedFunc m f =
 
 -- All but the functions' code: few results, tables and memories, limits in order, indices that name
 -- something, distinct names of exports, the type of the start function, constant expressions.
-pub record IsShaped (m : Module) : Type 0 where
+pub record HasShape (m : Module) : Type 0 where
   pub few_results : All (λ t. length t.results ≤ 1) m.types
   pub one_table : length m.tables ≤ 1
   pub one_memory : length m.mems ≤ 1
@@ -84,7 +84,7 @@ pub record IsShaped (m : Module) : Type 0 where
   pub globals : IsTrue (list_all is_initial m.globals)
   pub exports : IsTrue (list_all (λ (e : Export). names_something m e.desc) m.exports)
   pub names : AllPairs ◌≢◌ (map (λ (e : Export). e.name) m.exports)
-  pub start : IfSome m.start (λ f. func_type_at m f ≡ Some (record { params = []; results = [] }))
+  pub start : IfSome m.start (λ f. func_type_of m f ≡ Some (record { params = []; results = [] }))
   pub elems : IsTrue (list_all (is_elem m) m.elems)
   pub segments : IsTrue (list_all (is_segment m) m.segments)
 
@@ -93,5 +93,5 @@ AreTypedFuncs m = All (IsTypedFunc m) m.funcs
 
 -- a module is well typed
 pub record IsTyped (m : Module) : Type 0 where
-  pub shaped : IsShaped m
+  pub shaped : HasShape m
   pub funcs : AreTypedFuncs m

@@ -14,8 +14,8 @@ pub record Stack : Type 0 where
   pub types : List Operand
   pub after_jump : Bool
 
-abbrev pub empty : Stack
-empty = record { types = []; after_jump = false }
+abbrev pub empty_stack : Stack
+empty_stack = record { types = []; after_jump = false }
 
 abbrev pub jumped : Stack
 jumped = record { types = []; after_jump = true }
@@ -78,8 +78,8 @@ common_type (Some t) None = Some (Some t)
 common_type (Some t) (Some u) = if is_same t u then Some (Some t) else None
 
 -- one of two operands below a test
-abbrev pub select : Stack → Option Stack
-select s = do
+abbrev pub typed_select : Stack → Option Stack
+typed_select s = do
   tested ← pop_type I32 s
   second ← pop tested
   first ← pop second.below
@@ -108,7 +108,7 @@ operate params result s = do
   rest ← pop_types params s
   Some (push_result result rest)
 
-abbrev pub drop_top : Stack → Option Stack
-drop_top s = do
+abbrev pub typed_drop_top : Stack → Option Stack
+typed_drop_top s = do
   top ← pop s
   Some top.below

@@ -5,49 +5,49 @@ use Rattle.wasm_types.specs.declared.code.ValType.TheVariants.{I32, I64, F32, F6
 use Rattle.wasm_types.specs.Code.{Tree, Trees, Unreachable, Nop, Block, Loop, If, Br, BrIf, BrTable, Return, CallFunc, CallIndirect, DropTop, Select, LocalGet, LocalSet, LocalTee, GlobalGet, GlobalSet, Load, Store, MemorySize, MemoryGrow, ConstI32, ConstI64, ConstF32, ConstF64, Op, End, Then}
 use Rattle.wasm_types.specs.Context.{Context}
 use Rattle.wasm_types.specs.Maybe.{◌>>=◌}
-use Rattle.wasm_types.specs.Stack.{Stack, empty, jumped, push, select, drop_top, jump_with, is_exactly}
-use Rattle.wasm_types.specs.Labels.{Labels, branch, branch_if, branch_table, block_of, choice_of}
-use Rattle.wasm_types.specs.Accesses.{get_local, set_local, tee_local, get_global, set_global, load, store, memory_size, memory_grow}
-use Rattle.wasm_types.specs.Calls.{call, call_indirect, operator}
+use Rattle.wasm_types.specs.Stack.{Stack, empty_stack, jumped, push, typed_select, typed_drop_top, jump_with, is_exactly}
+use Rattle.wasm_types.specs.Labels.{Labels, typed_branch, typed_branch_if, typed_branch_table, block_of, choice_of}
+use Rattle.wasm_types.specs.Accesses.{typed_local_get, typed_local_set, typed_local_tee, typed_global_get, typed_global_set, typed_load, typed_store, typed_memory_size, typed_memory_grow}
+use Rattle.wasm_types.specs.Calls.{typed_call, typed_call_indirect, typed_operator}
 
 module _ (context : Context) where
   abbrev mutual
     -- the stack after an instruction, if it is well typed from this stack
-    pub after : Tree → Labels → Stack → Option Stack
-    after Unreachable labels s = Some jumped
-    after Nop labels s = Some s
-    after (Block result body) labels s = block_of result (after_all body (result ∷ labels) empty) s
-    after (Loop result body) labels s = block_of result (after_all body (None ∷ labels) empty) s
-    after (If result on_true on_false) labels s =
-        choice_of result (after_all on_true (result ∷ labels) empty) (after_all on_false (result ∷ labels) empty) s
-    after (Br n) labels s = branch labels n s
-    after (BrIf n) labels s = branch_if labels n s
-    after (BrTable ns default) labels s = branch_table labels ns default s
-    after Return labels s = jump_with context.gives s
-    after (CallFunc f) labels s = call context.types context.funcs f s
-    after (CallIndirect t) labels s = call_indirect context.has_table context.types t s
-    after DropTop labels s = drop_top s
-    after Select labels s = select s
-    after (LocalGet x) labels s = get_local context.locals x s
-    after (LocalSet x) labels s = set_local context.locals x s
-    after (LocalTee x) labels s = tee_local context.locals x s
-    after (GlobalGet x) labels s = get_global context.globals x s
-    after (GlobalSet x) labels s = set_global context.globals x s
-    after (Load opcode align offset) labels s = load context.has_memory opcode align s
-    after (Store opcode align offset) labels s = store context.has_memory opcode align s
-    after MemorySize labels s = memory_size context.has_memory s
-    after MemoryGrow labels s = memory_grow context.has_memory s
-    after (ConstI32 bits) labels s = Some (push (Some I32) s)
-    after (ConstI64 bits) labels s = Some (push (Some I64) s)
-    after (ConstF32 bits) labels s = Some (push (Some F32) s)
-    after (ConstF64 bits) labels s = Some (push (Some F64) s)
-    after (Op opcode) labels s = operator opcode s
+    pub typed_instr : Tree → Labels → Stack → Option Stack
+    typed_instr Unreachable labels s = Some jumped
+    typed_instr Nop labels s = Some s
+    typed_instr (Block result body) labels s = block_of result (typed_instrs body (result ∷ labels) empty_stack) s
+    typed_instr (Loop result body) labels s = block_of result (typed_instrs body (None ∷ labels) empty_stack) s
+    typed_instr (If result on_true on_false) labels s =
+        choice_of result (typed_instrs on_true (result ∷ labels) empty_stack) (typed_instrs on_false (result ∷ labels) empty_stack) s
+    typed_instr (Br n) labels s = typed_branch labels n s
+    typed_instr (BrIf n) labels s = typed_branch_if labels n s
+    typed_instr (BrTable ns default) labels s = typed_branch_table labels ns default s
+    typed_instr Return labels s = jump_with context.gives s
+    typed_instr (CallFunc f) labels s = typed_call context.types context.funcs f s
+    typed_instr (CallIndirect t) labels s = typed_call_indirect context.has_table context.types t s
+    typed_instr DropTop labels s = typed_drop_top s
+    typed_instr Select labels s = typed_select s
+    typed_instr (LocalGet x) labels s = typed_local_get context.locals x s
+    typed_instr (LocalSet x) labels s = typed_local_set context.locals x s
+    typed_instr (LocalTee x) labels s = typed_local_tee context.locals x s
+    typed_instr (GlobalGet x) labels s = typed_global_get context.globals x s
+    typed_instr (GlobalSet x) labels s = typed_global_set context.globals x s
+    typed_instr (Load opcode align offset) labels s = typed_load context.has_memory opcode align s
+    typed_instr (Store opcode align offset) labels s = typed_store context.has_memory opcode align s
+    typed_instr MemorySize labels s = typed_memory_size context.has_memory s
+    typed_instr MemoryGrow labels s = typed_memory_grow context.has_memory s
+    typed_instr (ConstI32 bits) labels s = Some (push (Some I32) s)
+    typed_instr (ConstI64 bits) labels s = Some (push (Some I64) s)
+    typed_instr (ConstF32 bits) labels s = Some (push (Some F32) s)
+    typed_instr (ConstF64 bits) labels s = Some (push (Some F64) s)
+    typed_instr (Op opcode) labels s = typed_operator opcode s
 
     -- the stack after these instructions, if they are well typed from this stack
-    pub after_all : Trees → Labels → Stack → Option Stack
-    after_all End labels s = Some s
-    after_all (Then first rest) labels s = after first labels s >>= after_all rest labels
+    pub typed_instrs : Trees → Labels → Stack → Option Stack
+    typed_instrs End labels s = Some s
+    typed_instrs (Then first rest) labels s = typed_instr first labels s >>= typed_instrs rest labels
 
   -- the body of a function leaves exactly the function's result
   abbrev pub IsWellTyped : Trees → Type 0
-  IsWellTyped body = IsSome (after_all body (context.gives ∷ []) empty >>= is_exactly context.gives)
+  IsWellTyped body = IsSome (typed_instrs body (context.gives ∷ []) empty_stack >>= is_exactly context.gives)

@@ -7,7 +7,7 @@ use Rattle.wasm_types.specs.declared.modules.Limits.{Limits}
 use Rattle.wasm_types.specs.declared.modules.ExportDesc.{ExportDesc}
 use Rattle.wasm_types.specs.declared.modules.ExportDesc.TheVariants.{Func as ToFunc}
 use Rattle.wasm_types.specs.Modules.{FuncType, Func, Export, Module}
-use Rattle.wasm_types.specs.Context.{imported_funcs, func_type_at}
+use Rattle.wasm_types.specs.Context.{imported_funcs, func_type_of}
 use Rattle.wasm_types.specs.Floats.{is_with_floats}
 use Rattle.wasm_types.specs.Library.{IsOfLibrary}
 use Rattle.wasm_types.specs.Rules.{IsTyped}
@@ -49,7 +49,7 @@ is_plain t = nat_le (length t.params) 0 && nat_le (length t.results) 0
 
 -- a function of the module itself, with no parameters and no result
 abbrev pub is_entry : Module → ExportDesc → Bool
-is_entry m (ToFunc f) = nat_le (import_count m) f && option_map_or is_plain (func_type_at m f) false
+is_entry m (ToFunc f) = nat_le (import_count m) f && option_map_or is_plain (func_type_of m f) false
 is_entry m _ = false
 
 -- the export names the function that runs

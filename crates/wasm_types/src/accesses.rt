@@ -1,6 +1,6 @@
 // The opcode table: what each load and each store moves.
 ghost use Rattle.std.specs.Prelude.{◌≡◌, ◌≤◌, IfSome, option_map};
-ghost use Rattle.wasm_types.specs.Accesses.{access, load_of, store_of};
+ghost use Rattle.wasm_types.specs.Accesses.{access, load_access, store_access};
 ghost use Rattle.wasm_types.specs.Opcodes.{access_of};
 
 use crate::code::ValType;
@@ -16,8 +16,8 @@ pub struct Access {
 
 /// The load with this opcode.
 #[inline(always)]
-pub fn load_of(opcode: u8) -> Option<Access>
-    ensures access { option_map access_of result ≡ load_of opcode }
+pub fn load_access(opcode: u8) -> Option<Access>
+    ensures access { option_map access_of result ≡ load_access opcode }
     ensures within { IfSome result (λ a. a.exponent ≤ 3) }
 {
     match opcode {
@@ -36,8 +36,8 @@ pub fn load_of(opcode: u8) -> Option<Access>
 
 /// The store with this opcode.
 #[inline(always)]
-pub fn store_of(opcode: u8) -> Option<Access>
-    ensures access { option_map access_of result ≡ store_of opcode }
+pub fn store_access(opcode: u8) -> Option<Access>
+    ensures access { option_map access_of result ≡ store_access opcode }
     ensures within { IfSome result (λ a. a.exponent ≤ 3) }
 {
     match opcode {

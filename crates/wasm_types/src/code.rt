@@ -21,7 +21,7 @@ impl ValType {
     }
 }
 
-/// A value that a program computes with, as its bits. Modules with floats are not run, so there is
+/// A value that a module computes with, as its bits. Modules with floats are not run, so there is
 /// no value of their types.
 #[derive(Clone, Copy, Debug, PartialEq, Eq, Drop)]
 pub enum Value {

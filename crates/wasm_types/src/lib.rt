@@ -9,7 +9,7 @@ mod operators;
 mod traps;
 mod valid;
 
-pub use accesses::{Access, load_of, store_of};
+pub use accesses::{Access, load_access, store_access};
 pub use code::{Instr, ValType, Value};
 pub use library::importable;
 pub use modules::{

@@ -1,6 +1,6 @@
 // The opcode table: what each operator on numbers takes and gives.
 ghost use Rattle.std.specs.Prelude.{◌≡◌, option_map};
-ghost use Rattle.wasm_types.specs.Numeric.{operator_of, unary, binary};
+ghost use Rattle.wasm_types.specs.Numeric.{operator_of, unary_operator, binary_operator};
 ghost use Rattle.wasm_types.specs.Opcodes.{operator};
 
 use crate::code::ValType;
@@ -23,43 +23,43 @@ pub fn operator_of(opcode: u8) -> Option<Operator>
     ensures { option_map operator result ≡ operator_of opcode }
 {
     match opcode {
-        0x45 => unary(I32, I32),
-        0x46..=0x4F => binary(I32, I32),
-        0x50 => unary(I64, I32),
-        0x51..=0x5A => binary(I64, I32),
-        0x5B..=0x60 => binary(F32, I32),
-        0x61..=0x66 => binary(F64, I32),
-        0x67..=0x69 => unary(I32, I32),
-        0x6A..=0x78 => binary(I32, I32),
-        0x79..=0x7B => unary(I64, I64),
-        0x7C..=0x8A => binary(I64, I64),
-        0x8B..=0x91 => unary(F32, F32),
-        0x92..=0x98 => binary(F32, F32),
-        0x99..=0x9F => unary(F64, F64),
-        0xA0..=0xA6 => binary(F64, F64),
-        0xA7 => unary(I64, I32),
-        0xA8..=0xA9 => unary(F32, I32),
-        0xAA..=0xAB => unary(F64, I32),
-        0xAC..=0xAD => unary(I32, I64),
-        0xAE..=0xAF => unary(F32, I64),
-        0xB0..=0xB1 => unary(F64, I64),
-        0xB2..=0xB3 => unary(I32, F32),
-        0xB4..=0xB5 => unary(I64, F32),
-        0xB6 => unary(F64, F32),
-        0xB7..=0xB8 => unary(I32, F64),
-        0xB9..=0xBA => unary(I64, F64),
-        0xBB => unary(F32, F64),
-        0xBC => unary(F32, I32),
-        0xBD => unary(F64, I64),
-        0xBE => unary(I32, F32),
-        0xBF => unary(I64, F64),
+        0x45 => unary_operator(I32, I32),
+        0x46..=0x4F => binary_operator(I32, I32),
+        0x50 => unary_operator(I64, I32),
+        0x51..=0x5A => binary_operator(I64, I32),
+        0x5B..=0x60 => binary_operator(F32, I32),
+        0x61..=0x66 => binary_operator(F64, I32),
+        0x67..=0x69 => unary_operator(I32, I32),
+        0x6A..=0x78 => binary_operator(I32, I32),
+        0x79..=0x7B => unary_operator(I64, I64),
+        0x7C..=0x8A => binary_operator(I64, I64),
+        0x8B..=0x91 => unary_operator(F32, F32),
+        0x92..=0x98 => binary_operator(F32, F32),
+        0x99..=0x9F => unary_operator(F64, F64),
+        0xA0..=0xA6 => binary_operator(F64, F64),
+        0xA7 => unary_operator(I64, I32),
+        0xA8..=0xA9 => unary_operator(F32, I32),
+        0xAA..=0xAB => unary_operator(F64, I32),
+        0xAC..=0xAD => unary_operator(I32, I64),
+        0xAE..=0xAF => unary_operator(F32, I64),
+        0xB0..=0xB1 => unary_operator(F64, I64),
+        0xB2..=0xB3 => unary_operator(I32, F32),
+        0xB4..=0xB5 => unary_operator(I64, F32),
+        0xB6 => unary_operator(F64, F32),
+        0xB7..=0xB8 => unary_operator(I32, F64),
+        0xB9..=0xBA => unary_operator(I64, F64),
+        0xBB => unary_operator(F32, F64),
+        0xBC => unary_operator(F32, I32),
+        0xBD => unary_operator(F64, I64),
+        0xBE => unary_operator(I32, F32),
+        0xBF => unary_operator(I64, F64),
         _ => None,
     }
 }
 
 #[inline(always)]
-fn unary(operand: ValType, gives: ValType) -> Option<Operator>
-    ensures { option_map operator result ≡ unary operand gives }
+fn unary_operator(operand: ValType, gives: ValType) -> Option<Operator>
+    ensures { option_map operator result ≡ unary_operator operand gives }
 {
     Some(Operator {
         is_binary: false,
@@ -69,8 +69,8 @@ fn unary(operand: ValType, gives: ValType) -> Option<Operator>
 }
 
 #[inline(always)]
-fn binary(operand: ValType, gives: ValType) -> Option<Operator>
-    ensures { option_map operator result ≡ binary operand gives }
+fn binary_operator(operand: ValType, gives: ValType) -> Option<Operator>
+    ensures { option_map operator result ≡ binary_operator operand gives }
 {
     Some(Operator {
         is_binary: true,

@@ -47,14 +47,14 @@ impl Model for ValidModule {
 }
 
 /// A valid module as one that is known to be.
-pub fn claim(alloc: Global, checked: Module) -> Result<ValidModule, AllocError>
-    requires { IsValid (module_of checked) }
-    ensures { IfOk result (λ v. v ≡ checked) }
+pub fn claim(alloc: Global, module: Module) -> Result<ValidModule, AllocError>
+    requires { IsValid (module_of «module») }
+    ensures { IfOk result (λ v. v ≡ «module») }
 {
-    let kinds = import_kinds(alloc, &checked.imports)?;
-    let runs = filled_locals(alloc, &checked)?;
+    let kinds = import_kinds(alloc, &module.imports)?;
+    let runs = filled_locals(alloc, &module)?;
     Ok(ValidModule {
-        valid: checked,
+        valid: module,
         kinds,
         runs,
     })
@@ -71,11 +71,11 @@ fn import_kinds(alloc: Global, imports: &[Import]) -> Result<Vec<Option<Kind>>, 
 }
 
 // The runs of locals that are not empty, of each of the module's own functions.
-fn filled_locals(alloc: Global, checked: &Module) -> Result<Vec<Vec<(u32, ValType)>>, AllocError>
-    ensures { IfOk result (λ all. map (λ runs. runs.items) all.items ≡ filled_locals (module_of checked.now)) }
+fn filled_locals(alloc: Global, module: &Module) -> Result<Vec<Vec<(u32, ValType)>>, AllocError>
+    ensures { IfOk result (λ all. map (λ runs. runs.items) all.items ≡ filled_locals (module_of «module».now)) }
 {
     let mut all = Vec::new(alloc);
-    for function in &checked.funcs {
+    for function in &module.funcs {
         all.push(filled(alloc, &function.locals)?)?;
     }
     Ok(all)

@@ -6,26 +6,26 @@ use Rattle.wasm_types.specs.declared.code.ValType.{ValType}
 use Rattle.wasm_types.specs.declared.code.Instr.{Instr, Block, Loop, If}
 use Rattle.wasm_types.specs.Context.{Context}
 use Rattle.wasm_types.specs.Labels.{Labels, block_of, choice_of}
-use Rattle.wasm_types.specs.Stack.{Stack, empty}
-use Rattle.wasm_types.specs.Typing.{after, after_all}
+use Rattle.wasm_types.specs.Stack.{Stack, empty_stack}
+use Rattle.wasm_types.specs.Typing.{typed_instr, typed_instrs}
 
 module _ (context : Context) (labels : Labels) (s : Stack) where
   abbrev from_here : Tree → Option Stack
-  from_here t = after context t labels s
+  from_here t = typed_instr context t labels s
 
   pub after-block : (result : Option ValType) (body : Vec Instr Global) →
-      after context (tree (Block result body)) labels s
-      ≡ block_of result (after_all context (trees body.items) (result ∷ labels) empty) s
+      typed_instr context (tree (Block result body)) labels s
+      ≡ block_of result (typed_instrs context (trees body.items) (result ∷ labels) empty_stack) s
   after-block result body = ap from_here (tree-block result body)
 
   pub after-loop : (result : Option ValType) (body : Vec Instr Global) →
-      after context (tree (Loop result body)) labels s
-      ≡ block_of result (after_all context (trees body.items) (None ∷ labels) empty) s
+      typed_instr context (tree (Loop result body)) labels s
+      ≡ block_of result (typed_instrs context (trees body.items) (None ∷ labels) empty_stack) s
   after-loop result body = ap from_here (tree-loop result body)
 
   pub after-if : (result : Option ValType) (on_true on_false : Vec Instr Global) →
-      after context (tree (If result on_true on_false)) labels s
+      typed_instr context (tree (If result on_true on_false)) labels s
       ≡ choice_of result
-      (after_all context (trees on_true.items) (result ∷ labels) empty)
-      (after_all context (trees on_false.items) (result ∷ labels) empty) s
+      (typed_instrs context (trees on_true.items) (result ∷ labels) empty_stack)
+      (typed_instrs context (trees on_false.items) (result ∷ labels) empty_stack) s
   after-if result on_true on_false = ap from_here (tree-if result on_true on_false)

@@ -4,4 +4,4 @@ use Rattle.wasm_types.specs.declared.modules.GlobalDef.{GlobalDef as RustGlobalD
 
 -- the type of a global of the program's
 abbrev pub global_of : RustGlobalDef → GlobalType
-global_of g = record { kind = g.kind; mutable = g.mutable }
+global_of g = record { value_type = g.kind; mutable = g.mutable }

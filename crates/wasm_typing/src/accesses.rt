@@ -1,6 +1,6 @@
 // Variables and memory.
 ghost use Rattle.std.specs.Prelude.{◌≡◌, map};
-ghost use Rattle.wasm_types.specs.Accesses.{get_local, set_local, tee_local, get_global, set_global, may_access, load, store, memory_size, memory_grow};
+ghost use Rattle.wasm_types.specs.Accesses.{typed_local_get, typed_local_set, typed_local_tee, typed_global_get, typed_global_set, may_access, typed_load, typed_store, typed_memory_size, typed_memory_grow};
 ghost use Rattle.wasm_types.specs.Modules.{global_def, global_type};
 ghost use Rattle.wasm_typing.specs.Steps.{Follows};
 ghost use Rattle.wasm_types.specs.Opcodes.{access_of};
@@ -11,15 +11,15 @@ use crate::operands::Operands;
 use crate::refusal::Refusal;
 use crate::steps::{operate, pop_type, push_type};
 use wasm_types::ValType::I32;
-use wasm_types::{Access, GlobalDef, load_of, store_of};
+use wasm_types::{Access, GlobalDef, load_access, store_access};
 
-pub(crate) fn get_local(
+pub(crate) fn typed_local_get(
     locals: &Locals<'_>,
     index: u32,
     operands: &mut Operands,
 ) -> Result<(), Refusal>
     ensures { Follows
-        (get_local locals.now index operands.old.current)
+        (typed_local_get locals.now index operands.old.current)
         operands.old operands.new result }
 {
     match locals.get(index) {
@@ -28,13 +28,13 @@ pub(crate) fn get_local(
     }
 }
 
-pub(crate) fn set_local(
+pub(crate) fn typed_local_set(
     locals: &Locals<'_>,
     index: u32,
     operands: &mut Operands,
 ) -> Result<(), Refusal>
     ensures { Follows
-        (set_local locals.now index operands.old.current)
+        (typed_local_set locals.now index operands.old.current)
         operands.old operands.new result }
 {
     match locals.get(index) {
@@ -43,13 +43,13 @@ pub(crate) fn set_local(
     }
 }
 
-pub(crate) fn tee_local(
+pub(crate) fn typed_local_tee(
     locals: &Locals<'_>,
     index: u32,
     operands: &mut Operands,
 ) -> Result<(), Refusal>
     ensures { Follows
-        (tee_local locals.now index operands.old.current)
+        (typed_local_tee locals.now index operands.old.current)
         operands.old operands.new result }
 {
     match locals.get(index) {
@@ -61,13 +61,13 @@ pub(crate) fn tee_local(
     }
 }
 
-pub(crate) fn get_global(
+pub(crate) fn typed_global_get(
     globals: &[GlobalDef],
     index: u32,
     operands: &mut Operands,
 ) -> Result<(), Refusal>
     ensures { Follows
-        (get_global (map global_of globals.now) index operands.old.current)
+        (typed_global_get (map global_of globals.now) index operands.old.current)
         operands.old operands.new result }
 {
     match globals.get(index as usize) {
@@ -76,13 +76,13 @@ pub(crate) fn get_global(
     }
 }
 
-pub(crate) fn set_global(
+pub(crate) fn typed_global_set(
     globals: &[GlobalDef],
     index: u32,
     operands: &mut Operands,
 ) -> Result<(), Refusal>
     ensures { Follows
-        (set_global (map global_of globals.now) index operands.old.current)
+        (typed_global_set (map global_of globals.now) index operands.old.current)
         operands.old operands.new result }
 {
     match globals.get(index as usize) {
@@ -91,17 +91,17 @@ pub(crate) fn set_global(
     }
 }
 
-pub(crate) fn load(
+pub(crate) fn typed_load(
     has_memory: bool,
     opcode: u8,
     align: u32,
     operands: &mut Operands,
 ) -> Result<(), Refusal>
     ensures { Follows
-        (load has_memory opcode align operands.old.current)
+        (typed_load has_memory opcode align operands.old.current)
         operands.old operands.new result }
 {
-    match load_of(opcode) {
+    match load_access(opcode) {
         Some(found) => {
             if may_access(has_memory, found, align) {
                 operate(operands, &[I32], Some(found.moved))
@@ -113,17 +113,17 @@ pub(crate) fn load(
     }
 }
 
-pub(crate) fn store(
+pub(crate) fn typed_store(
     has_memory: bool,
     opcode: u8,
     align: u32,
     operands: &mut Operands,
 ) -> Result<(), Refusal>
     ensures { Follows
-        (store has_memory opcode align operands.old.current)
+        (typed_store has_memory opcode align operands.old.current)
         operands.old operands.new result }
 {
-    match store_of(opcode) {
+    match store_access(opcode) {
         Some(found) => {
             if may_access(has_memory, found, align) {
                 operate(operands, &[I32, found.moved], None)
@@ -135,8 +135,8 @@ pub(crate) fn store(
     }
 }
 
-pub(crate) fn memory_size(has_memory: bool, operands: &mut Operands) -> Result<(), Refusal>
-    ensures { Follows (memory_size has_memory operands.old.current) operands.old operands.new result }
+pub(crate) fn typed_memory_size(has_memory: bool, operands: &mut Operands) -> Result<(), Refusal>
+    ensures { Follows (typed_memory_size has_memory operands.old.current) operands.old operands.new result }
 {
     if has_memory {
         push_type(operands, I32)
@@ -145,8 +145,8 @@ pub(crate) fn memory_size(has_memory: bool, operands: &mut Operands) -> Result<(
     }
 }
 
-pub(crate) fn memory_grow(has_memory: bool, operands: &mut Operands) -> Result<(), Refusal>
-    ensures { Follows (memory_grow has_memory operands.old.current) operands.old operands.new result }
+pub(crate) fn typed_memory_grow(has_memory: bool, operands: &mut Operands) -> Result<(), Refusal>
+    ensures { Follows (typed_memory_grow has_memory operands.old.current) operands.old operands.new result }
 {
     if has_memory {
         operate(operands, &[I32], Some(I32))

@@ -3,19 +3,22 @@
 ghost use Rattle.std.specs.Prelude.{◌≡◌, ◌∷◌, reverse, OnOk};
 ghost use Rattle.wasm_types.specs.Code.{tree, trees};
 ghost use Rattle.wasm_types.specs.Labels.{around, block_of};
-ghost use Rattle.wasm_types.specs.Stack.{empty};
-ghost use Rattle.wasm_types.specs.Typing.{after, after_all, IsWellTyped};
+ghost use Rattle.wasm_types.specs.Stack.{empty_stack};
+ghost use Rattle.wasm_types.specs.Typing.{typed_instr, typed_instrs, IsWellTyped};
 ghost use Rattle.wasm_typing.specs.Steps.{Follows, Judges};
 
 use crate::accesses::{
-    get_global, get_local, load, memory_grow, memory_size, set_global, set_local, store, tee_local,
+    typed_global_get, typed_global_set, typed_load, typed_local_get, typed_local_set,
+    typed_local_tee, typed_memory_grow, typed_memory_size, typed_store,
 };
-use crate::calls::{call, call_indirect, operator};
+use crate::calls::{typed_call, typed_call_indirect, typed_operator};
 use crate::context::Context;
-use crate::labels::{Label, branch, branch_if, branch_table};
+use crate::labels::{Label, typed_branch, typed_branch_if, typed_branch_table};
 use crate::operands::Operands;
 use crate::refusal::Refusal;
-use crate::steps::{drop_top, jump_with, pop_result, pop_type, push_result, push_type, select};
+use crate::steps::{
+    jump_with, pop_result, pop_type, push_result, push_type, typed_drop_top, typed_select,
+};
 use std::alloc::Global;
 use wasm_types::{Instr, ValType};
 
@@ -47,7 +50,7 @@ fn check_block(
 ) -> Result<(), Refusal>
     ensures typed { Follows
         (block_of result_type
-        (after_all context.now (trees body.now) (label ∷ reverse labels.old.items) empty)
+        (typed_instrs context.now (trees body.now) (label ∷ reverse labels.old.items) empty_stack)
         operands.old.current)
         operands.old operands.new result }
     ensures labels { OnOk result (labels.new.items ≡ labels.old.items) }
@@ -68,7 +71,7 @@ fn check_inside(
 ) -> Result<(), Refusal>
     ensures typed { Follows
         (around result_type
-        (after_all context.now (trees body.now) (label ∷ reverse labels.old.items) empty)
+        (typed_instrs context.now (trees body.now) (label ∷ reverse labels.old.items) empty_stack)
         operands.old.current)
         operands.old operands.new result }
     ensures labels { OnOk result (labels.new.items ≡ labels.old.items) }
@@ -93,7 +96,7 @@ fn check_all(
     operands: &mut Operands,
 ) -> Result<(), Refusal>
     ensures typed { Follows
-        (after_all context.now (trees body.now) (reverse labels.old.items) operands.old.current)
+        (typed_instrs context.now (trees body.now) (reverse labels.old.items) operands.old.current)
         operands.old operands.new result }
     ensures labels { OnOk result (labels.new.items ≡ labels.old.items) }
 {
@@ -111,7 +114,7 @@ fn check(
     operands: &mut Operands,
 ) -> Result<(), Refusal>
     ensures typed { Follows
-        (after context.now (tree instr.now) (reverse labels.old.items) operands.old.current)
+        (typed_instr context.now (tree instr.now) (reverse labels.old.items) operands.old.current)
         operands.old operands.new result }
     ensures labels { OnOk result (labels.new.items ≡ labels.old.items) }
 {
@@ -128,29 +131,39 @@ fn check(
             check_inside(context, *gives, *gives, on_true, labels, operands)?;
             check_block(context, *gives, *gives, on_false, labels, operands)
         }
-        Instr::Br(depth) => branch(labels, *depth, operands),
-        Instr::BrIf(depth) => branch_if(labels, *depth, operands),
-        Instr::BrTable(depths, last) => branch_table(labels, depths, *last, operands),
+        Instr::Br(depth) => typed_branch(labels, *depth, operands),
+        Instr::BrIf(depth) => typed_branch_if(labels, *depth, operands),
+        Instr::BrTable(depths, last) => typed_branch_table(labels, depths, *last, operands),
         Instr::Return => jump_with(operands, context.gives),
-        Instr::CallFunc(index) => call(context.types, context.funcs, *index, operands),
+        Instr::CallFunc(index) => typed_call(context.types, context.funcs, *index, operands),
         Instr::CallIndirect(index) => {
-            call_indirect(context.has_table, context.types, *index, operands)
+            typed_call_indirect(context.has_table, context.types, *index, operands)
         }
-        Instr::DropTop => drop_top(operands),
-        Instr::Select => select(operands),
-        Instr::LocalGet(index) => get_local(&context.locals, *index, operands),
-        Instr::LocalSet(index) => set_local(&context.locals, *index, operands),
-        Instr::LocalTee(index) => tee_local(&context.locals, *index, operands),
-        Instr::GlobalGet(index) => get_global(context.globals, *index, operands),
-        Instr::GlobalSet(index) => set_global(context.globals, *index, operands),
-        Instr::Load { opcode, align, .. } => load(context.has_memory, *opcode, *align, operands),
-        Instr::Store { opcode, align, .. } => store(context.has_memory, *opcode, *align, operands),
-        Instr::MemorySize => memory_size(context.has_memory, operands),
-        Instr::MemoryGrow => memory_grow(context.has_memory, operands),
+        Instr::DropTop => typed_drop_top(operands),
+        Instr::Select => typed_select(operands),
+        Instr::LocalGet(index) => typed_local_get(&context.locals, *index, operands),
+        Instr::LocalSet(index) => typed_local_set(&context.locals, *index, operands),
+        Instr::LocalTee(index) => typed_local_tee(&context.locals, *index, operands),
+        Instr::GlobalGet(index) => typed_global_get(context.globals, *index, operands),
+        Instr::GlobalSet(index) => typed_global_set(context.globals, *index, operands),
+        Instr::Load { opcode, align, .. } => typed_load(
+            context.has_memory,
+            *opcode,
+            *align,
+            operands,
+        ),
+        Instr::Store { opcode, align, .. } => typed_store(
+            context.has_memory,
+            *opcode,
+            *align,
+            operands,
+        ),
+        Instr::MemorySize => typed_memory_size(context.has_memory, operands),
+        Instr::MemoryGrow => typed_memory_grow(context.has_memory, operands),
         Instr::ConstI32(_) => push_type(operands, ValType::I32),
         Instr::ConstI64(_) => push_type(operands, ValType::I64),
         Instr::ConstF32(_) => push_type(operands, ValType::F32),
         Instr::ConstF64(_) => push_type(operands, ValType::F64),
-        Instr::Op(opcode) => operator(*opcode, operands),
+        Instr::Op(opcode) => typed_operator(*opcode, operands),
     }
 }

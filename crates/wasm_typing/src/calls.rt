@@ -1,6 +1,6 @@
 // Calls and operators.
 ghost use Rattle.std.specs.Prelude.{◌≡◌, map};
-ghost use Rattle.wasm_types.specs.Calls.{call, call_type, call_indirect, operator, result_of};
+ghost use Rattle.wasm_types.specs.Calls.{typed_call, call_type, typed_call_indirect, typed_operator, result_of};
 ghost use Rattle.wasm_types.specs.Modules.{func_type};
 ghost use Rattle.wasm_typing.specs.Steps.{Follows};
 
@@ -10,14 +10,14 @@ use crate::steps::{operate, pop_type};
 use wasm_types::{FuncType, ValType, operator_of};
 
 /// A call of the function with this index.
-pub(crate) fn call(
+pub(crate) fn typed_call(
     types: &[FuncType],
     funcs: &[u32],
     func: u32,
     operands: &mut Operands,
 ) -> Result<(), Refusal>
     ensures { Follows
-        (call (map func_type types.now) funcs.now func operands.old.current)
+        (typed_call (map func_type types.now) funcs.now func operands.old.current)
         operands.old operands.new result }
 {
     match funcs.get(func as usize) {
@@ -27,14 +27,14 @@ pub(crate) fn call(
 }
 
 /// A call through the table.
-pub(crate) fn call_indirect(
+pub(crate) fn typed_call_indirect(
     has_table: bool,
     types: &[FuncType],
     type_index: u32,
     operands: &mut Operands,
 ) -> Result<(), Refusal>
     ensures { Follows
-        (call_indirect has_table (map func_type types.now) type_index operands.old.current)
+        (typed_call_indirect has_table (map func_type types.now) type_index operands.old.current)
         operands.old operands.new result }
 {
     pop_type(operands, ValType::I32)?;
@@ -65,8 +65,8 @@ pub fn result_of(called: &FuncType) -> Option<ValType>
 }
 
 /// An operator by its opcode.
-pub(crate) fn operator(opcode: u8, operands: &mut Operands) -> Result<(), Refusal>
-    ensures { Follows (operator opcode operands.old.current) operands.old operands.new result }
+pub(crate) fn typed_operator(opcode: u8, operands: &mut Operands) -> Result<(), Refusal>
+    ensures { Follows (typed_operator opcode operands.old.current) operands.old operands.new result }
 {
     match operator_of(opcode) {
         None => Err(Refusal::Invalid),

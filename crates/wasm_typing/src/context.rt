@@ -43,20 +43,20 @@ impl<'a> Model for Context<'a> {
 impl<'a> Context<'a> {
     /// The code of a function with these parameters and locals, and this result.
     pub fn new(
-        checked: &'a Module,
+        module: &'a Module,
         type_indices: &'a [u32],
         locals: Locals<'a>,
         gives: Option<ValType>,
     ) -> Context<'a>
-        requires { type_indices.now ≡ funcs_of (module_of checked.now) }
-        ensures { result ≡ context_of (module_of checked.now) locals.entry gives }
+        requires { type_indices.now ≡ funcs_of (module_of «module».now) }
+        ensures { result ≡ context_of (module_of «module».now) locals.entry gives }
     {
         Context {
-            types: &checked.types,
+            types: &module.types,
             funcs: type_indices,
-            globals: &checked.globals,
-            has_table: !checked.tables.is_empty(),
-            has_memory: !checked.mems.is_empty(),
+            globals: &module.globals,
+            has_table: !module.tables.is_empty(),
+            has_memory: !module.mems.is_empty(),
             locals,
             gives,
         }

@@ -1,6 +1,6 @@
 // The labels of the open blocks, the outermost first.
 ghost use Rattle.std.specs.Prelude.{◌≡◌, reverse, slice_get};
-ghost use Rattle.wasm_types.specs.Labels.{is_same_label, table_label, branch, branch_if, branch_table};
+ghost use Rattle.wasm_types.specs.Labels.{is_same_label, table_label, typed_branch, typed_branch_if, typed_branch_table};
 ghost use Rattle.wasm_typing.specs.Steps.{Follows, Finds};
 
 use crate::operands::Operands;
@@ -36,21 +36,25 @@ pub(crate) fn table_label(labels: &[Label], depths: &[u32], last: u32) -> Result
     Ok(label)
 }
 
-pub(crate) fn branch(labels: &[Label], depth: u32, operands: &mut Operands) -> Result<(), Refusal>
-    ensures { Follows
-        (branch (reverse labels.now) depth operands.old.current)
-        operands.old operands.new result }
-{
-    jump_with(operands, label_at(labels, depth)?)
-}
-
-pub(crate) fn branch_if(
+pub(crate) fn typed_branch(
     labels: &[Label],
     depth: u32,
     operands: &mut Operands,
 ) -> Result<(), Refusal>
     ensures { Follows
-        (branch_if (reverse labels.now) depth operands.old.current)
+        (typed_branch (reverse labels.now) depth operands.old.current)
+        operands.old operands.new result }
+{
+    jump_with(operands, label_at(labels, depth)?)
+}
+
+pub(crate) fn typed_branch_if(
+    labels: &[Label],
+    depth: u32,
+    operands: &mut Operands,
+) -> Result<(), Refusal>
+    ensures { Follows
+        (typed_branch_if (reverse labels.now) depth operands.old.current)
         operands.old operands.new result }
 {
     let label = label_at(labels, depth)?;
@@ -59,14 +63,14 @@ pub(crate) fn branch_if(
     push_result(operands, label)
 }
 
-pub(crate) fn branch_table(
+pub(crate) fn typed_branch_table(
     labels: &[Label],
     depths: &[u32],
     last: u32,
     operands: &mut Operands,
 ) -> Result<(), Refusal>
     ensures { Follows
-        (branch_table (reverse labels.now) depths.now last operands.old.current)
+        (typed_branch_table (reverse labels.now) depths.now last operands.old.current)
         operands.old operands.new result }
 {
     let label = table_label(labels, depths, last)?;

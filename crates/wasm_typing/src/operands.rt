@@ -1,6 +1,6 @@
 // The operands' types, as one stack for all open blocks.
 ghost use Rattle.std.specs.Prelude.{◌≡◌, [], ◌∷◌, List, OnOk, MatchOption, ◌&&◌};
-ghost use Rattle.wasm_types.specs.Stack.{empty, jumped, push, pop, has_none, Stack};
+ghost use Rattle.wasm_types.specs.Stack.{empty_stack, jumped, push, pop, has_none, Stack};
 
 use std::alloc::{AllocError, Global};
 use std::marker::Model;
@@ -38,7 +38,7 @@ impl Model for Operands {
 impl Operands {
     /// No operands, and one block.
     pub(crate) fn new(alloc: Global) -> Operands
-        ensures { result ≡ record { current = empty; outer = [] } }
+        ensures { result ≡ record { current = empty_stack; outer = [] } }
     {
         Operands {
             types: Vec::new(alloc),
@@ -91,7 +91,7 @@ impl Operands {
     /// Begins a block.
     pub(crate) fn enter(&mut self) -> Result<(), AllocError>
         ensures { OnOk result
-            (self.new ≡ record { current = empty; outer = self.old.current ∷ self.old.outer }) }
+            (self.new ≡ record { current = empty_stack; outer = self.old.current ∷ self.old.outer }) }
     {
         self.outer.push(self.current)?;
         self.current = Frame {

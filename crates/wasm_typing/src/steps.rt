@@ -1,6 +1,6 @@
 // Steps on the operands of the current block.
 ghost use Rattle.std.specs.Prelude.{◌≡◌, Some};
-ghost use Rattle.wasm_types.specs.Stack.{pop_type, pop_types, pop_result, push_result, push, select, common_type, operate, jump_with, drop_top};
+ghost use Rattle.wasm_types.specs.Stack.{pop_type, pop_types, pop_result, push_result, push, typed_select, common_type, operate, jump_with, typed_drop_top};
 ghost use Rattle.wasm_typing.specs.Steps.{Follows, Finds};
 
 use crate::operands::{Operand, Operands};
@@ -98,8 +98,8 @@ pub(crate) fn jump_with(operands: &mut Operands, label: Option<ValType>) -> Resu
 }
 
 /// An operand of any type.
-pub(crate) fn drop_top(operands: &mut Operands) -> Result<(), Refusal>
-    ensures { Follows (drop_top operands.old.current) operands.old operands.new result }
+pub(crate) fn typed_drop_top(operands: &mut Operands) -> Result<(), Refusal>
+    ensures { Follows (typed_drop_top operands.old.current) operands.old operands.new result }
 {
     match operands.pop() {
         None => Err(Refusal::Invalid),
@@ -108,8 +108,8 @@ pub(crate) fn drop_top(operands: &mut Operands) -> Result<(), Refusal>
 }
 
 /// One of two operands of one type, by a test.
-pub(crate) fn select(operands: &mut Operands) -> Result<(), Refusal>
-    ensures { Follows (select operands.old.current) operands.old operands.new result }
+pub(crate) fn typed_select(operands: &mut Operands) -> Result<(), Refusal>
+    ensures { Follows (typed_select operands.old.current) operands.old operands.new result }
 {
     pop_type(operands, ValType::I32)?;
     let Some(second) = operands.pop() else {

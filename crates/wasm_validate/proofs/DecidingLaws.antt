@@ -13,11 +13,11 @@ use Rattle.wasm_types.specs.declared.code.ValType.{ValType}
 use Rattle.wasm_types.specs.declared.code.ValType.TheVariants.{I32, I64, F32, F64}
 use Rattle.wasm_types.specs.Stack.{is_same}
 use Rattle.wasm_types.specs.Modules.{FuncType, Import, Func, Export, Module}
-use Rattle.wasm_types.specs.Library.{IsOfLibrary, importable, imported_type, type_of}
-use Rattle.wasm_types.specs.Rules.{IsShaped, IsTyped, IsTypedFunc}
+use Rattle.wasm_types.specs.Library.{IsOfLibrary, importable, imported_type_index, signature_type}
+use Rattle.wasm_types.specs.Rules.{HasShape, IsTyped, IsTypedFunc}
 use Rattle.wasm_validate.specs.Shape.{is_linked, is_within_limits}
 use Rattle.wasm_validate.proofs.ShapeLaws.{linked_by, shaped_from, within_by}
-use Rattle.wasm_validate.specs.Deciding.{are_same, is_same_type, is_typed_as, is_of_library, are_of_library, are_distinct, is_shaped, is_typed_body, is_typed_func, is_typed}
+use Rattle.wasm_validate.specs.Deciding.{are_same, is_same_type, is_typed_as, is_of_library, are_of_library, are_distinct, has_shape, is_typed_body, is_typed_func, is_typed}
 
 -- ---- types
 
@@ -60,8 +60,8 @@ is-Decides wanted (Some found) = Decides-like _ (λ e. ap Some (sym e)) (λ e. c
 
 -- ---- imports
 
-typed_as-Decides : (types : List FuncType) (i : Import) (type : FuncType) → Decides (is_typed_as types i type) (IsSomeAnd (imported_type i.desc) (λ t. slice_get types t ≡ Some type))
-typed_as-Decides types i type = some-Decides _ _ (λ t. is-Decides type (slice_get types t)) (imported_type i.desc)
+typed_as-Decides : (types : List FuncType) (i : Import) (type : FuncType) → Decides (is_typed_as types i type) (IsSomeAnd (imported_type_index i.desc) (λ t. slice_get types t ≡ Some type))
+typed_as-Decides types i type = some-Decides _ _ (λ t. is-Decides type (slice_get types t)) (imported_type_index i.desc)
 
 -- what may be absent and is not
 is_there : {A : Type 0} (o : Option A) (P : A → Type 0) → IsSomeAnd o P → (x : A) × (o ≡ Some x) × P x
@@ -78,7 +78,7 @@ of_library-Decides types i =
     let found = is_there _ _ named.2 in
     record { type_index = found.0; is_func = found.1; from_library = h.0; kind = named.0; named = named.1; typed = found.2 })
     (λ l. (l.from_library, from_there _ _ l.kind l.named (from_there _ _ l.type_index l.is_func l.typed)))
-    (Decides-and _ _ (bytes_eq-Decides i.«module» (codes "liblog")) (some-Decides _ _ (λ kind. typed_as-Decides types i (type_of (row kind).signature)) (importable i.name)))
+    (Decides-and _ _ (bytes_eq-Decides i.«module» (codes "liblog")) (some-Decides _ _ (λ kind. typed_as-Decides types i (signature_type (row kind).signature)) (importable i.name)))
 
 pub imports-Decides : (m : Module) → Decides (are_of_library m) (All (IsOfLibrary m.types) m.imports)
 imports-Decides m = Decides-by_and _ _ (list_all (is_of_library m.types)) (of_library-Decides m.types) refl (λ _ _. refl) m.imports
@@ -107,7 +107,7 @@ distinct-Decides names = Decides-like _ (AllPairs-from_IsDistinct bytes_eq-Decid
 itself : (b : Bool) → Decides b (IsTrue b)
 itself b = (λ e. e, λ e. e)
 
-shaped-Decides : (m : Module) → Decides (is_shaped m) (IsShaped m)
+shaped-Decides : (m : Module) → Decides (has_shape m) (HasShape m)
 shaped-Decides m =
     Decides-like _ (λ (within, (linked, names)). shaped_from m within linked names) (λ s. (within_by m s, (linked_by m s, s.names)))
     (Decides-and _ _ (itself (is_within_limits m)) (Decides-and _ _ (itself (is_linked m)) (distinct-Decides (map (λ (e : Export). e.name) m.exports))))

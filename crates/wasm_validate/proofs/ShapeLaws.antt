@@ -10,9 +10,9 @@ use Rattle.std.proofs.lemmas.List.Elements.{All-nil, All-cons, All-head, All-tai
 use Rattle.wasm_types.specs.declared.modules.Module.{Module as RustModule}
 use Rattle.wasm_types.specs.declared.modules.Import.{Import as RustImport}
 use Rattle.wasm_types.specs.declared.modules.Export.{Export as RustExport}
-use Rattle.wasm_types.specs.Context.{func_type_at}
+use Rattle.wasm_types.specs.Context.{func_type_of}
 use Rattle.wasm_types.specs.Modules.{FuncType, Module, Export, elem, export, global_def, module_of, segment}
-use Rattle.wasm_types.specs.Rules.{IsShaped, has_type, is_elem, is_initial, is_segment, names_something}
+use Rattle.wasm_types.specs.Rules.{HasShape, has_type, is_elem, is_initial, is_segment, names_something}
 use Rattle.wasm_types.specs.Valid.{is_plain}
 use Rattle.wasm_validate.proofs.Lists.{list_all_map}
 use Rattle.wasm_validate.specs.Shape.{has_plain_start, is_linked, is_within_limits}
@@ -61,7 +61,7 @@ few_test (t ∷ ts) all = both_true (le-leb (length t.results) 1 (All-head HasFe
 abbrev pub HasOwnNames : Module → Type 0
 HasOwnNames m = AllPairs ◌≢◌ (map (λ (e : Export). e.name) m.exports)
 
-pub shaped_from : (m : Module) → is_within_limits m ≡ true → is_linked m ≡ true → HasOwnNames m → IsShaped m
+pub shaped_from : (m : Module) → is_within_limits m ≡ true → is_linked m ≡ true → HasOwnNames m → HasShape m
 shaped_from m within linked own =
     let a = and_parts _ _ within in
     let b = and_parts _ _ a.1 in
@@ -82,19 +82,19 @@ shaped_from m within linked own =
       globals = f.0;
       exports = g.0;
       names = own;
-      start = start_by m.start (func_type_at m) h.0;
+      start = start_by m.start (func_type_of m) h.0;
       elems = i.0;
       segments = i.1;
     }
 
-pub within_by : (m : Module) → IsShaped m → is_within_limits m ≡ true
+pub within_by : (m : Module) → HasShape m → is_within_limits m ≡ true
 within_by m s =
     both_true (few_test m.types s.few_results) (both_true (le-leb (length m.tables) 1 s.one_table)
     (both_true (le-leb (length m.mems) 1 s.one_memory) (both_true s.tables s.mems)))
 
-pub linked_by : (m : Module) → IsShaped m → is_linked m ≡ true
+pub linked_by : (m : Module) → HasShape m → is_linked m ≡ true
 linked_by m s =
-    both_true s.imports (both_true s.globals (both_true s.exports (both_true (start_test m.start (func_type_at m) s.start) (both_true s.elems s.segments))))
+    both_true s.imports (both_true s.globals (both_true s.exports (both_true (start_test m.start (func_type_of m) s.start) (both_true s.elems s.segments))))
 
 -- where only the data segments are left
 pub last_is : (m : RustModule) {r : Bool}

@@ -2,7 +2,7 @@
 use Rattle.std.specs.Prelude.{Bool, true, false, ◌&&◌, length, nat_le}
 use Rattle.std.specs.List.{list_all}
 use Rattle.std.specs.Option.{option_map_or}
-use Rattle.wasm_types.specs.Context.{func_type_at}
+use Rattle.wasm_types.specs.Context.{func_type_of}
 use Rattle.wasm_types.specs.Modules.{Import, Export, FuncType, Module}
 use Rattle.wasm_types.specs.Rules.{has_type, is_elem, is_initial, is_memory, is_ordered, is_segment, names_something}
 use Rattle.wasm_types.specs.Valid.{is_plain}
@@ -18,7 +18,7 @@ is_within_limits m =
 
 -- the start function has no parameters and no result
 abbrev pub has_plain_start : Module → Bool
-has_plain_start m = option_map_or (λ f. option_map_or is_plain (func_type_at m f) false) m.start true
+has_plain_start m = option_map_or (λ f. option_map_or is_plain (func_type_of m f) false) m.start true
 
 -- indices that name something, and constant expressions
 abbrev pub is_linked : Module → Bool

@@ -19,37 +19,37 @@ use wasm_types::Module;
 use wasm_typing::Refusal;
 
 /// Whether the module is valid, or else the first refusal that holds.
-pub(crate) fn check(alloc: Global, checked: &Module) -> Result<(), Invalid>
+pub(crate) fn check(alloc: Global, module: &Module) -> Result<(), Invalid>
     ensures { MatchResult result
-        (λ _. IsValid (module_of checked.now))
-        (λ e. IsFirst (module_of checked.now) e) }
+        (λ _. IsValid (module_of «module».now))
+        (λ e. IsFirst (module_of «module».now) e) }
 {
-    if is_with_floats(checked) {
+    if is_with_floats(module) {
         return Err(Invalid::HasFloat);
     }
-    if !are_of_library(&checked.types, &checked.imports) {
+    if !are_of_library(&module.types, &module.imports) {
         return Err(Invalid::BadImport);
     }
-    let type_indices = type_indices(alloc, checked)?;
-    match check_typed(alloc, checked, &type_indices) {
+    let type_indices = type_indices(alloc, module)?;
+    match check_typed(alloc, module, &type_indices) {
         Ok(()) => {}
         Err(Refusal::Invalid) => return Err(Invalid::Untyped),
         Err(Refusal::OutOfMemory) => return Err(Invalid::NoMemory),
     }
-    if is_over_limit(checked) {
+    if is_over_limit(module) {
         return Err(Invalid::OverLimit);
     }
-    if has_no_start(checked, &type_indices) {
+    if has_no_start(module, &type_indices) {
         return Err(Invalid::NoStart);
     }
     Ok(())
 }
 
 // Whether the module is well typed.
-fn check_typed(alloc: Global, checked: &Module, type_indices: &[u32]) -> Result<(), Refusal>
-    requires { type_indices.now ≡ funcs_of (module_of checked.now) }
-    ensures { Judges (IsTyped (module_of checked.now)) result }
+fn check_typed(alloc: Global, module: &Module, type_indices: &[u32]) -> Result<(), Refusal>
+    requires { type_indices.now ≡ funcs_of (module_of «module».now) }
+    ensures { Judges (IsTyped (module_of «module».now)) result }
 {
-    check_shape(alloc, checked, type_indices)?;
-    check_functions(alloc, checked, type_indices)
+    check_shape(alloc, module, type_indices)?;
+    check_functions(alloc, module, type_indices)
 }

@@ -9,17 +9,17 @@ ghost use Rattle.wasm_validate.specs.Constants.{constant_of, gives_offset};
 use wasm_types::{GlobalDef, Instr, Module, ValType};
 
 /// Whether each global's first value is one constant of its type.
-pub(crate) fn are_initial(checked: &Module) -> bool
-    ensures { result ≡ list_all (λ g. is_initial (global_def g)) checked.now.globals.items }
+pub(crate) fn are_initial(module: &Module) -> bool
+    ensures { result ≡ list_all (λ g. is_initial (global_def g)) «module».now.globals.items }
 {
-    checked.globals.iter().all(|global| is_initial(global))
+    module.globals.iter().all(|global| is_initial(global))
 }
 
 fn is_initial(global: &GlobalDef) -> bool
     ensures { result ≡ is_initial (global_def global.now) }
 {
     match constant_type(&global.init) {
-        Some(kind) => global.kind == kind,
+        Some(value_type) => global.kind == value_type,
         None => false,
     }
 }

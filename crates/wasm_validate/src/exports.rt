@@ -12,26 +12,26 @@ use std::alloc::{AllocError, Global};
 use wasm_types::{Export, ExportDesc, Module};
 
 /// Whether the index of each export names something.
-pub(crate) fn are_exports(checked: &Module, type_indices: &[u32]) -> bool
-    requires { type_indices.now ≡ funcs_of (module_of checked.now) }
+pub(crate) fn are_exports(module: &Module, type_indices: &[u32]) -> bool
+    requires { type_indices.now ≡ funcs_of (module_of «module».now) }
     ensures { result
-        ≡ list_all (λ e. names_something (module_of checked.now) e.desc) checked.now.exports.items }
+        ≡ list_all (λ e. names_something (module_of «module».now) e.desc) «module».now.exports.items }
 {
-    checked
+    module
         .exports
         .iter()
-        .all(|e| names_something(checked, type_indices, e.desc))
+        .all(|e| names_something(module, type_indices, e.desc))
 }
 
-fn names_something(checked: &Module, type_indices: &[u32], desc: ExportDesc) -> bool
-    requires { type_indices.now ≡ funcs_of (module_of checked.now) }
-    ensures { result ≡ names_something (module_of checked.now) desc }
+fn names_something(module: &Module, type_indices: &[u32], desc: ExportDesc) -> bool
+    requires { type_indices.now ≡ funcs_of (module_of «module».now) }
+    ensures { result ≡ names_something (module_of «module».now) desc }
 {
     match desc {
         ExportDesc::Func(index) => has_index(type_indices.len(), index),
-        ExportDesc::Table(index) => has_index(checked.tables.len(), index),
-        ExportDesc::Memory(index) => has_index(checked.mems.len(), index),
-        ExportDesc::Global(index) => has_index(checked.globals.len(), index),
+        ExportDesc::Table(index) => has_index(module.tables.len(), index),
+        ExportDesc::Memory(index) => has_index(module.mems.len(), index),
+        ExportDesc::Global(index) => has_index(module.globals.len(), index),
     }
 }
 

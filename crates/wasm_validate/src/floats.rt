@@ -1,70 +1,71 @@
 // Where floats stand in a module.
 ghost use Rattle.std.specs.Prelude.{◌≡◌};
 ghost use Rattle.std.specs.List.{list_any};
-ghost use Rattle.wasm_types.specs.Accesses.{load_of, store_of};
+ghost use Rattle.wasm_types.specs.Accesses.{load_access, store_access};
 ghost use Rattle.wasm_types.specs.Code.{tree, trees};
 ghost use Rattle.wasm_types.specs.Floats.{has_float, has_float_func, has_float_global, has_float_type, have_float, is_float, is_float_access, is_float_import, is_float_operator, is_float_result, is_with_floats};
 ghost use Rattle.wasm_types.specs.Modules.{func, func_type, global_def, module_of};
 ghost use Rattle.wasm_types.specs.Numeric.{operator_of};
 
 use wasm_types::{
-    Func, FuncType, GlobalDef, ImportDesc, Instr, Module, ValType, load_of, operator_of, store_of,
+    Func, FuncType, GlobalDef, ImportDesc, Instr, Module, ValType, load_access, operator_of,
+    store_access,
 };
 
 /// Whether a float value type or an instruction on floats stands anywhere in the module.
 #[tactic(auto, using(crate::proofs::Lists::list_any_map))]
-pub(crate) fn is_with_floats(checked: &Module) -> bool
-    ensures { result ≡ is_with_floats (module_of checked.now) }
+pub(crate) fn is_with_floats(module: &Module) -> bool
+    ensures { result ≡ is_with_floats (module_of «module».now) }
 {
-    if in_types(checked) {
+    if in_types(module) {
         return true;
     }
-    if in_imports(checked) {
+    if in_imports(module) {
         return true;
     }
-    if in_funcs(checked) {
+    if in_funcs(module) {
         return true;
     }
-    if in_globals(checked) {
+    if in_globals(module) {
         return true;
     }
-    in_elems(checked) || in_segments(checked)
+    in_elems(module) || in_segments(module)
 }
 
-fn in_types(checked: &Module) -> bool
-    ensures { result ≡ list_any (λ t. has_float_type (func_type t)) checked.now.types.items }
+fn in_types(module: &Module) -> bool
+    ensures { result ≡ list_any (λ t. has_float_type (func_type t)) «module».now.types.items }
 {
-    checked.types.iter().any(|t| has_float_type(t))
+    module.types.iter().any(|t| has_float_type(t))
 }
 
-fn in_imports(checked: &Module) -> bool
-    ensures { result ≡ list_any (λ i. is_float_import i.desc) checked.now.imports.items }
+fn in_imports(module: &Module) -> bool
+    ensures { result ≡ list_any (λ i. is_float_import i.desc) «module».now.imports.items }
 {
-    checked.imports.iter().any(|i| is_float_import(i.desc))
+    module.imports.iter().any(|i| is_float_import(i.desc))
 }
 
-fn in_funcs(checked: &Module) -> bool
-    ensures { result ≡ list_any (λ f. has_float_func (func f)) checked.now.funcs.items }
+fn in_funcs(module: &Module) -> bool
+    ensures { result ≡ list_any (λ f. has_float_func (func f)) «module».now.funcs.items }
 {
-    checked.funcs.iter().any(|f| has_float_func(f))
+    module.funcs.iter().any(|f| has_float_func(f))
 }
 
-fn in_globals(checked: &Module) -> bool
-    ensures { result ≡ list_any (λ g. has_float_global (global_def g)) checked.now.globals.items }
+fn in_globals(module: &Module) -> bool
+    ensures { result ≡ list_any (λ g. has_float_global (global_def g)) «module».now.globals.items }
 {
-    checked.globals.iter().any(|g| has_float_global(g))
+    module.globals.iter().any(|g| has_float_global(g))
 }
 
-fn in_elems(checked: &Module) -> bool
-    ensures { result ≡ list_any (λ e. have_float (trees e.offset.items)) checked.now.elems.items }
+fn in_elems(module: &Module) -> bool
+    ensures { result ≡ list_any (λ e. have_float (trees e.offset.items)) «module».now.elems.items }
 {
-    checked.elems.iter().any(|e| have_float(&e.offset))
+    module.elems.iter().any(|e| have_float(&e.offset))
 }
 
-fn in_segments(checked: &Module) -> bool
-    ensures { result ≡ list_any (λ s. have_float (trees s.offset.items)) checked.now.segments.items }
+fn in_segments(module: &Module) -> bool
+    ensures { result ≡ list_any (λ s. have_float (trees s.offset.items)) «module».now.segments.items }
 {
-    checked.segments.iter().any(|s| have_float(&s.offset))
+    module.segments.iter().any(|s| have_float(&s.offset))
 }
 
 fn has_float_type(t: &FuncType) -> bool
@@ -73,10 +74,10 @@ fn has_float_type(t: &FuncType) -> bool
     any_float(&t.params) || any_float(&t.results)
 }
 
-fn any_float(kinds: &[ValType]) -> bool
-    ensures { result ≡ list_any is_float kinds.now }
+fn any_float(types: &[ValType]) -> bool
+    ensures { result ≡ list_any is_float types.now }
 {
-    kinds.iter().any(|kind| kind.is_float())
+    types.iter().any(|value_type| value_type.is_float())
 }
 
 fn any_float_run(runs: &[(u32, ValType)]) -> bool
@@ -89,7 +90,7 @@ fn is_float_import(desc: ImportDesc) -> bool
     ensures { result ≡ is_float_import desc }
 {
     match desc {
-        ImportDesc::Global(kind, _) => kind.is_float(),
+        ImportDesc::Global(value_type, _) => value_type.is_float(),
         _ => false,
     }
 }
@@ -145,28 +146,28 @@ fn has_float(instr: &Instr) -> bool
     }
 }
 
-fn is_float_result(kind: Option<ValType>) -> bool
-    ensures { result ≡ is_float_result kind }
+fn is_float_result(value_type: Option<ValType>) -> bool
+    ensures { result ≡ is_float_result value_type }
 {
-    match kind {
-        Some(kind) => kind.is_float(),
+    match value_type {
+        Some(value_type) => value_type.is_float(),
         None => false,
     }
 }
 
 fn is_float_load(opcode: u8) -> bool
-    ensures { result ≡ is_float_access (load_of opcode) }
+    ensures { result ≡ is_float_access (load_access opcode) }
 {
-    match load_of(opcode) {
+    match load_access(opcode) {
         Some(found) => found.moved.is_float(),
         None => false,
     }
 }
 
 fn is_float_store(opcode: u8) -> bool
-    ensures { result ≡ is_float_access (store_of opcode) }
+    ensures { result ≡ is_float_access (store_access opcode) }
 {
-    match store_of(opcode) {
+    match store_access(opcode) {
         Some(found) => found.moved.is_float(),
         None => false,
     }

@@ -12,29 +12,29 @@ use wasm_typing::{Context, Locals, Refusal, check_body, result_of};
 /// Whether each function has a type of the module, and code that is well typed.
 pub(crate) fn check_functions(
     alloc: Global,
-    checked: &Module,
+    module: &Module,
     type_indices: &[u32],
 ) -> Result<(), Refusal>
-    requires { type_indices.now ≡ funcs_of (module_of checked.now) }
-    ensures { Judges (AreTypedFuncs (module_of checked.now)) result }
+    requires { type_indices.now ≡ funcs_of (module_of «module».now) }
+    ensures { Judges (AreTypedFuncs (module_of «module».now)) result }
 {
-    for function in &checked.funcs {
-        check_function(alloc, checked, type_indices, function)?;
+    for function in &module.funcs {
+        check_function(alloc, module, type_indices, function)?;
     }
     Ok(())
 }
 
 /// The index of each function's type, the imports first.
-pub(crate) fn type_indices(alloc: Global, checked: &Module) -> Result<Vec<u32>, AllocError>
-    ensures { IfOk result (λ v. v.items ≡ funcs_of (module_of checked.now)) }
+pub(crate) fn type_indices(alloc: Global, module: &Module) -> Result<Vec<u32>, AllocError>
+    ensures { IfOk result (λ v. v.items ≡ funcs_of (module_of «module».now)) }
 {
     let mut type_indices = Vec::new(alloc);
-    for import in &checked.imports {
+    for import in &module.imports {
         if let ImportDesc::Func(type_index) = import.desc {
             type_indices.push(type_index)?;
         }
     }
-    for function in &checked.funcs {
+    for function in &module.funcs {
         type_indices.push(function.type_index)?;
     }
     Ok(type_indices)
@@ -42,18 +42,18 @@ pub(crate) fn type_indices(alloc: Global, checked: &Module) -> Result<Vec<u32>, 
 
 fn check_function(
     alloc: Global,
-    checked: &Module,
+    module: &Module,
     type_indices: &[u32],
     function: &Func,
 ) -> Result<(), Refusal>
-    requires { type_indices.now ≡ funcs_of (module_of checked.now) }
-    ensures { Judges (IsTypedFunc (module_of checked.now) (func function.now)) result }
+    requires { type_indices.now ≡ funcs_of (module_of «module».now) }
+    ensures { Judges (IsTypedFunc (module_of «module».now) (func function.now)) result }
 {
-    let Some(func_type) = type_at(&checked.types, function.type_index) else {
+    let Some(func_type) = type_at(&module.types, function.type_index) else {
         return Err(Refusal::Invalid);
     };
     let locals = Locals::new(alloc, &func_type.params, &function.locals)?;
-    let context = Context::new(checked, type_indices, locals, result_of(func_type));
+    let context = Context::new(module, type_indices, locals, result_of(func_type));
     check_body(alloc, &context, &function.body)
 }
 

@@ -1,7 +1,7 @@
 // Whether imports are functions of the library.
 ghost use Rattle.std.specs.Prelude.{◌≡◌, ◌↔◌, All, IsTrue, codes, map, replicate};
 ghost use Rattle.std.specs.List.{list_all};
-ghost use Rattle.wasm_types.specs.Library.{IsOfLibrary, results_of, type_of};
+ghost use Rattle.wasm_types.specs.Library.{IsOfLibrary, results_of, signature_type};
 ghost use Rattle.wasm_types.specs.Modules.{func_type, import_of, module_of};
 ghost use Rattle.wasm_types.specs.Rules.{has_type};
 ghost use Rattle.wasm_validate.specs.Signatures.{HasTypeUnder};
@@ -23,20 +23,20 @@ pub(crate) fn are_of_library(types: &[FuncType], imports: &[Import]) -> bool
 }
 
 /// Whether each imported function has a type of the module.
-pub(crate) fn have_types(checked: &Module) -> bool
-    ensures { result ≡ list_all (λ i. has_type (module_of checked.now) i.desc) checked.now.imports.items }
+pub(crate) fn have_types(module: &Module) -> bool
+    ensures { result ≡ list_all (λ i. has_type (module_of «module».now) i.desc) «module».now.imports.items }
 {
-    checked
+    module
         .imports
         .iter()
-        .all(|import| has_type(checked, import.desc))
+        .all(|import| has_type(module, import.desc))
 }
 
-fn has_type(checked: &Module, desc: ImportDesc) -> bool
-    ensures { result ≡ has_type (module_of checked.now) desc }
+fn has_type(module: &Module, desc: ImportDesc) -> bool
+    ensures { result ≡ has_type (module_of «module».now) desc }
 {
     match desc {
-        ImportDesc::Func(index) => has_index(checked.types.len(), index),
+        ImportDesc::Func(index) => has_index(module.types.len(), index),
         _ => true,
     }
 }
@@ -72,38 +72,38 @@ fn has_type_under(types: &[FuncType], index: u32, name: &[u8]) -> bool
 }
 
 fn has_signature(found: &FuncType, signature: Signature) -> bool
-    ensures { IsTrue result ↔ (func_type found.now ≡ type_of signature) }
+    ensures { IsTrue result ↔ (func_type found.now ≡ signature_type signature) }
 {
-    let kind = if signature.wide_param {
+    let value_type = if signature.wide_param {
         ValType::I64
     } else {
         ValType::I32
     };
-    are_copies(&found.params, signature.params as usize, kind)
+    are_copies(&found.params, signature.params as usize, value_type)
         && has_results(&found.results, signature.result)
 }
 
 // Whether the list is so many times this type.
-fn are_copies(kinds: &[ValType], count: usize, kind: ValType) -> bool
-    ensures { IsTrue result ↔ (kinds.now ≡ replicate count kind) }
+fn are_copies(types: &[ValType], count: usize, value_type: ValType) -> bool
+    ensures { IsTrue result ↔ (types.now ≡ replicate count value_type) }
 {
-    if kinds.len() != count {
+    if types.len() != count {
         return false;
     }
-    for found in kinds {
-        if *found != kind {
+    for found in types {
+        if *found != value_type {
             return false;
         }
     }
     true
 }
 
-fn has_results(kinds: &[ValType], width: u8) -> bool
-    ensures { IsTrue result ↔ (kinds.now ≡ results_of width) }
+fn has_results(types: &[ValType], width: u8) -> bool
+    ensures { IsTrue result ↔ (types.now ≡ results_of width) }
 {
     match width {
-        0 => kinds.is_empty(),
-        32 => are_copies(kinds, 1, ValType::I32),
-        _ => are_copies(kinds, 1, ValType::I64),
+        0 => types.is_empty(),
+        32 => are_copies(types, 1, ValType::I32),
+        _ => are_copies(types, 1, ValType::I64),
     }
 }

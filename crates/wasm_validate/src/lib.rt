@@ -27,18 +27,18 @@ use std::alloc::Global;
 use wasm_types::{Module, ValidModule, claim};
 
 /// The module as one that is known to be valid, or the first refusal that holds.
-pub fn validate(alloc: Global, checked: Module) -> Result<ValidModule, Invalid>
+pub fn validate(alloc: Global, module: Module) -> Result<ValidModule, Invalid>
     // The module comes back as it is, and only where it is valid.
-    ensures same { IfOk result (λ v. v ≡ checked) }
+    ensures same { IfOk result (λ v. v ≡ «module») }
     ensures valid { IfOk result (λ v. IsValid (module_of v)) }
 
     // A valid module is accepted, unless memory runs out.
-    ensures complete { IsValid (module_of checked) →
-        MatchResult result (λ v. v ≡ checked) (λ e. e ≡ Invalid.NoMemory) }
+    ensures complete { IsValid (module_of «module») →
+        MatchResult result (λ v. v ≡ «module») (λ e. e ≡ Invalid.NoMemory) }
 
     // A refusal comes only where it is the first that holds, and then the module is not valid.
-    ensures refused { IfErr result (λ e. IsFirst (module_of checked) e) }
+    ensures refused { IfErr result (λ e. IsFirst (module_of «module») e) }
 {
-    check(alloc, &checked)?;
-    Ok(claim(alloc, checked)?)
+    check(alloc, &module)?;
+    Ok(claim(alloc, module)?)
 }

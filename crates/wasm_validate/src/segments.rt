@@ -9,39 +9,39 @@ use crate::constants::is_offset;
 use wasm_types::{Elem, Module, Segment};
 
 /// Whether each element segment has a table, an offset and functions that are there.
-pub(crate) fn are_elems(checked: &Module, type_indices: &[u32]) -> bool
-    requires { type_indices.now ≡ funcs_of (module_of checked.now) }
+pub(crate) fn are_elems(module: &Module, type_indices: &[u32]) -> bool
+    requires { type_indices.now ≡ funcs_of (module_of «module».now) }
     ensures { result
-        ≡ list_all (λ e. is_elem (module_of checked.now) (elem e)) checked.now.elems.items }
+        ≡ list_all (λ e. is_elem (module_of «module».now) (elem e)) «module».now.elems.items }
 {
-    checked
+    module
         .elems
         .iter()
-        .all(|e| is_elem(checked, type_indices, e))
+        .all(|e| is_elem(module, type_indices, e))
 }
 
-fn is_elem(checked: &Module, type_indices: &[u32], e: &Elem) -> bool
-    requires { type_indices.now ≡ funcs_of (module_of checked.now) }
-    ensures { result ≡ is_elem (module_of checked.now) (elem e.now) }
+fn is_elem(module: &Module, type_indices: &[u32], e: &Elem) -> bool
+    requires { type_indices.now ≡ funcs_of (module_of «module».now) }
+    ensures { result ≡ is_elem (module_of «module».now) (elem e.now) }
 {
-    if !has_index(checked.tables.len(), e.table) || !is_offset(&checked.globals, &e.offset) {
+    if !has_index(module.tables.len(), e.table) || !is_offset(&module.globals, &e.offset) {
         return false;
     }
     have_indices(type_indices.len(), &e.funcs)
 }
 
 /// Whether each data segment has a memory and an offset that are there.
-pub(crate) fn are_segments(checked: &Module) -> bool
+pub(crate) fn are_segments(module: &Module) -> bool
     ensures { result
-        ≡ list_all (λ s. is_segment (module_of checked.now) (segment s)) checked.now.segments.items }
+        ≡ list_all (λ s. is_segment (module_of «module».now) (segment s)) «module».now.segments.items }
 {
-    checked.segments.iter().all(|s| is_segment(checked, s))
+    module.segments.iter().all(|s| is_segment(module, s))
 }
 
-fn is_segment(checked: &Module, s: &Segment) -> bool
-    ensures { result ≡ is_segment (module_of checked.now) (segment s.now) }
+fn is_segment(module: &Module, s: &Segment) -> bool
+    ensures { result ≡ is_segment (module_of «module».now) (segment s.now) }
 {
-    has_index(checked.mems.len(), s.memory) && is_offset(&checked.globals, &s.offset)
+    has_index(module.mems.len(), s.memory) && is_offset(&module.globals, &s.offset)
 }
 
 // Whether each index is one of so many things.

@@ -2,7 +2,7 @@
 ghost use Rattle.std.specs.Prelude.{◌≡◌};
 ghost use Rattle.wasm_types.specs.Context.{funcs_of};
 ghost use Rattle.wasm_types.specs.Modules.{module_of};
-ghost use Rattle.wasm_types.specs.Rules.{IsShaped};
+ghost use Rattle.wasm_types.specs.Rules.{HasShape};
 ghost use Rattle.wasm_validate.specs.Shape.{is_linked, is_within_limits};
 ghost use Rattle.wasm_typing.specs.Steps.{Judges};
 
@@ -19,19 +19,19 @@ use wasm_typing::Refusal;
 /// Whether the module keeps all rules but those of its functions' code.
 pub(crate) fn check_shape(
     alloc: Global,
-    checked: &Module,
+    module: &Module,
     type_indices: &[u32],
 ) -> Result<(), Refusal>
-    requires { type_indices.now ≡ funcs_of (module_of checked.now) }
-    ensures { Judges (IsShaped (module_of checked.now)) result }
+    requires { type_indices.now ≡ funcs_of (module_of «module».now) }
+    ensures { Judges (HasShape (module_of «module».now)) result }
 {
-    if !is_within_limits(checked) {
+    if !is_within_limits(module) {
         return Err(Refusal::Invalid);
     }
-    if !is_linked(checked, type_indices) {
+    if !is_linked(module, type_indices) {
         return Err(Refusal::Invalid);
     }
-    if have_own_names(alloc, &checked.exports)? {
+    if have_own_names(alloc, &module.exports)? {
         Ok(())
     } else {
         Err(Refusal::Invalid)
@@ -39,40 +39,40 @@ pub(crate) fn check_shape(
 }
 
 #[tactic(auto, using(crate::proofs::Lists::list_all_map))]
-fn is_within_limits(checked: &Module) -> bool
-    ensures { result ≡ is_within_limits (module_of checked.now) }
+fn is_within_limits(module: &Module) -> bool
+    ensures { result ≡ is_within_limits (module_of «module».now) }
 {
-    if !have_few_results(&checked.types) {
+    if !have_few_results(&module.types) {
         return false;
     }
-    if checked.tables.len() > 1 {
+    if module.tables.len() > 1 {
         return false;
     }
-    if checked.mems.len() > 1 {
+    if module.mems.len() > 1 {
         return false;
     }
-    are_tables(&checked.tables) && are_memories(&checked.mems)
+    are_tables(&module.tables) && are_memories(&module.mems)
 }
 
 #[tactic(auto, using(crate::proofs::Lists::list_all_map))]
-fn is_linked(checked: &Module, type_indices: &[u32]) -> bool
-    requires { type_indices.now ≡ funcs_of (module_of checked.now) }
-    ensures { result ≡ is_linked (module_of checked.now) }
+fn is_linked(module: &Module, type_indices: &[u32]) -> bool
+    requires { type_indices.now ≡ funcs_of (module_of «module».now) }
+    ensures { result ≡ is_linked (module_of «module».now) }
 {
-    if !have_types(checked) {
+    if !have_types(module) {
         return false;
     }
-    if !are_initial(checked) {
+    if !are_initial(module) {
         return false;
     }
-    if !are_exports(checked, type_indices) {
+    if !are_exports(module, type_indices) {
         return false;
     }
-    if !is_start(checked, type_indices) {
+    if !is_start(module, type_indices) {
         return false;
     }
-    if !are_elems(checked, type_indices) {
+    if !are_elems(module, type_indices) {
         return false;
     }
-    are_segments(checked)
+    are_segments(module)
 }

@@ -16,16 +16,16 @@ const LOCALS: u32 = 4_096;
 
 /// Whether a memory, a table or a function of the module is too large.
 #[tactic(auto, using(crate::proofs::Lists::list_any_map))]
-pub(crate) fn is_over_limit(checked: &Module) -> bool
-    ensures { result ≡ is_over_limit (module_of checked.now) }
+pub(crate) fn is_over_limit(module: &Module) -> bool
+    ensures { result ≡ is_over_limit (module_of «module».now) }
 {
-    if has_min_over(&checked.mems, PAGES) {
+    if has_min_over(&module.mems, PAGES) {
         return true;
     }
-    if has_min_over(&checked.tables, ELEMENTS) {
+    if has_min_over(&module.tables, ELEMENTS) {
         return true;
     }
-    has_large_func(checked)
+    has_large_func(module)
 }
 
 fn has_min_over(all: &[Limits], bound: u32) -> bool
@@ -34,21 +34,21 @@ fn has_min_over(all: &[Limits], bound: u32) -> bool
     all.iter().any(|limits| bound < limits.min)
 }
 
-fn has_large_func(checked: &Module) -> bool
+fn has_large_func(module: &Module) -> bool
     ensures { result
-        ≡ list_any (λ f. nat_lt 4096 (local_count (module_of checked.now) (func f)))
-        checked.now.funcs.items }
+        ≡ list_any (λ f. nat_lt 4096 (local_count (module_of «module».now) (func f)))
+        «module».now.funcs.items }
 {
-    checked
+    module
         .funcs
         .iter()
-        .any(|function| is_large(checked, function))
+        .any(|function| is_large(module, function))
 }
 
-fn is_large(checked: &Module, function: &Func) -> bool
-    ensures { result ≡ nat_lt 4096 (local_count (module_of checked.now) (func function.now)) }
+fn is_large(module: &Module, function: &Func) -> bool
+    ensures { result ≡ nat_lt 4096 (local_count (module_of «module».now) (func function.now)) }
 {
-    let params = match type_at(&checked.types, function.type_index) {
+    let params = match type_at(&module.types, function.type_index) {
         Some(found) => found.params.len(),
         None => 0,
     };

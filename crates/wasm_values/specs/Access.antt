@@ -7,10 +7,10 @@ use Rattle.wasm_types.specs.declared.code.Value.{Value}
 use Rattle.wasm_types.specs.declared.code.Value.TheVariants.{I32, I64}
 use Rattle.wasm_types.specs.declared.code.ValType.{ValType}
 use Rattle.wasm_types.specs.declared.code.ValType.TheVariants as types
-use Rattle.wasm_types.specs.Accesses.{Access, load_of, store_of}
+use Rattle.wasm_types.specs.Accesses.{Access, load_access, store_access}
 use Rattle.wasm_types.specs.Floats.{is_float}
 use Rattle.wasm_types.specs.Stack.{is_same}
-use Rattle.wasm_values.specs.Values.{kind_of}
+use Rattle.wasm_values.specs.Values.{type_of_value}
 
 -- ---- how many bytes
 
@@ -20,15 +20,15 @@ loaded_width a = if is_float a.moved then None else Some (2 ^ a.exponent)
 
 -- how many bytes a load reads
 unfoldable pub load_width : ℕ → Option ℕ
-load_width op = option_and_then loaded_width (load_of op)
+load_width op = option_and_then loaded_width (load_access op)
 
 -- none where the operand has another type than the store's
 abbrev pub stored_width : ValType → Access → Option ℕ
-stored_width kind a = if is_same kind a.moved then Some (2 ^ a.exponent) else None
+stored_width value_type a = if is_same value_type a.moved then Some (2 ^ a.exponent) else None
 
 -- how many bytes of the operand a store writes
 unfoldable pub store_width : ℕ → Value → Option ℕ
-store_width op v = option_and_then (stored_width (kind_of v)) (store_of op)
+store_width op v = option_and_then (stored_width (type_of_value v)) (store_access op)
 
 -- ---- the operand
 
@@ -63,4 +63,4 @@ loaded_value op n a = operand_of a.moved (widened op a.exponent n)
 
 -- the operand that a load makes of the number that it reads
 unfoldable pub load_value : ℕ → ℕ → Option Value
-load_value op n = option_and_then (loaded_value op n) (load_of op)
+load_value op n = option_and_then (loaded_value op n) (load_access op)

@@ -11,12 +11,12 @@ bits_of None = 0
 bits_of (Some (I32 x)) = x
 bits_of (Some (I64 x)) = x
 
-abbrev pub kind_of : Value → ValType
-kind_of (I32 x) = types.I32
-kind_of (I64 x) = types.I64
+abbrev pub type_of_value : Value → ValType
+type_of_value (I32 x) = types.I32
+type_of_value (I64 x) = types.I64
 
-abbrev pub kinds_of : List Value → List ValType
-kinds_of vs = map kind_of vs
+abbrev pub types_of_values : List Value → List ValType
+types_of_values vs = map type_of_value vs
 
 -- what a local or a global starts as
 abbrev pub zero_of : ValType → Value

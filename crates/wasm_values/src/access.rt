@@ -5,10 +5,10 @@ ghost use Rattle.wasm_num.specs.Operators.{extend_s, wrap};
 ghost use Rattle.guest_memory.specs.LittleEndian.{IsWidth};
 ghost use Rattle.wasm_types.specs.Stack.{is_same};
 ghost use Rattle.wasm_values.specs.Access.{load_value, load_width, store_width};
-ghost use Rattle.wasm_values.specs.Values.{kind_of};
+ghost use Rattle.wasm_values.specs.Values.{type_of_value};
 
 use wasm_num::{i32_wrap_i64, i64_extend_i32_s};
-use wasm_types::{ValType, Value, load_of, store_of};
+use wasm_types::{ValType, Value, load_access, store_access};
 
 /// How many bytes a load reads.
 #[tactic(auto, unfolding(crate::specs::Access::load_width))]
@@ -17,7 +17,7 @@ pub fn load_width(op: u8) -> Option<u32>
     ensures width { result ≡ load_width op }
     ensures named { IfSome result (λ w. IsWidth w) }
 {
-    match load_of(op) {
+    match load_access(op) {
         Some(found) if !found.moved.is_float() => Some(bytes(found.exponent)),
         _ => None,
     }
@@ -53,18 +53,18 @@ pub fn store_width(op: u8, v: Value) -> Option<u32>
     ensures width { result ≡ store_width op v }
     ensures named { IfSome result (λ w. IsWidth w) }
 {
-    match store_of(op) {
-        Some(found) if has_kind(v, found.moved) => Some(bytes(found.exponent)),
+    match store_access(op) {
+        Some(found) if is_of_type(v, found.moved) => Some(bytes(found.exponent)),
         _ => None,
     }
 }
 
 #[inline(always)]
-fn has_kind(v: Value, kind: ValType) -> bool
-    ensures { result ≡ is_same (kind_of v) kind }
+fn is_of_type(v: Value, value_type: ValType) -> bool
+    ensures { result ≡ is_same (type_of_value v) value_type }
 {
     matches!(
-        (v, kind),
+        (v, value_type),
         (Value::I32(_), ValType::I32) | (Value::I64(_), ValType::I64)
     )
 }

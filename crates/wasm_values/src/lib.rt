@@ -1,4 +1,4 @@
-//! The values of a WebAssembly 1.0 program, and what its numeric instructions, loads and stores make of them.
+//! The values of a WebAssembly 1.0 module, and what its numeric instructions, loads and stores make of them.
 #![tactic(auto)]
 
 mod access;

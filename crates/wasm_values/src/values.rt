@@ -17,10 +17,10 @@ pub fn bits(v: Option<Value>) -> u64
 }
 
 /// What a local or a global of this type starts as.
-pub fn zero_of(kind: ValType) -> Value
-    ensures { result ≡ zero_of kind }
+pub fn zero_of(value_type: ValType) -> Value
+    ensures { result ≡ zero_of value_type }
 {
-    match kind {
+    match value_type {
         ValType::I32 | ValType::F32 => Value::I32(0),
         ValType::I64 | ValType::F64 => Value::I64(0),
     }

@@ -5,14 +5,14 @@ use Rattle.std.proofs.lemmas.Bool.Decides.{nat_tests}
 use Rattle.std.proofs.lemmas.Grind.{common_steps}
 use Rattle.std.proofs.lemmas.List.{drop-drop, length-take-le}
 use Rattle.std.specs.Prelude.{slice_get}
-use Rattle.guest_memory.specs.Memory.{Memory, bytes_at, stretch}
+use Rattle.guest_memory.specs.Memory.{Memory, bytes_from, stretch}
 use Rattle.watch_expr.specs.View.{Node, ◌>>=◌, part_at, part_of, piece_at, piece_of}
 
 part_inside : (memory : Memory) (addr len : ℕ) (part : List ℕ) → Some part ≡ part_of memory addr len
-    → (addr + len ≤ length memory.bytes) × (part ≡ bytes_at memory addr (stretch addr len))
+    → (addr + len ≤ length memory.bytes) × (part ≡ bytes_from memory addr (stretch addr len))
 part_inside memory addr len part e = grind (arith, common_steps, nat_tests)
 
-piece_inside : (memory : Memory) (addr len : ℕ) → addr + len ≤ length memory.bytes → Some (bytes_at memory addr len) ≡ piece_of memory addr len
+piece_inside : (memory : Memory) (addr len : ℕ) → addr + len ≤ length memory.bytes → Some (bytes_from memory addr len) ≡ piece_of memory addr len
 piece_inside memory addr len inside = grind (arith, common_steps, nat_tests)
 
 -- a part that is shorter than the range ends with its page, and the rest of 8 bytes at most lies in the next one
@@ -45,7 +45,7 @@ in_memory memory addr count first rest zeros tail is_first is_rest short few =
     let rest_long : length rest ≡ count - n = ap length the_rest ∙ length-bytes memory.bytes (addr + n) (count - n) (count - n) (omega arith) (omega (arith, a.0)) in
     let all : n + length rest ≡ count = omega arith in
     let sum : n + (count - n) ≡ count = omega arith in
-    let whole : first ++ rest ≡ bytes_at memory addr count =
+    let whole : first ++ rest ≡ bytes_from memory addr count =
     ap (λ (x : List ℕ). x ++ rest) the_first ∙ ap (λ (x : List ℕ). take n (drop addr memory.bytes) ++ x) the_rest
     ∙ joined memory.bytes addr n (count - n) ∙ ap (λ (k : ℕ). take k (drop addr memory.bytes)) sum in
     ap (λ (k : ℕ). Some (take k (take n (first ++ zeros) ++ (rest ++ tail)))) (sym all)

@@ -2,7 +2,7 @@
 use Rattle.std.specs.Prelude.{ℕ, ◌+◌, ◌^◌, List, [], ◌∷◌, length, map, Option, Some, None, option_map, Bool, false, ◌&&◌, not, nat_lt, ◌==◌, if◌then◌else◌, ℤ, pos, negsuc, ◌+ℤ◌, ◌-ℤ◌, ◌*ℤ◌, neg_ℤ, int_lt, int_le, int_div, int_rem, fold, count_by}
 use Rattle.std.specs.Int.{w8, w16, w32, w64, int_max, int_min, cast_signed}
 use Rattle.std.specs.List.{range_with_len, reduce}
-use Rattle.guest_memory.specs.LittleEndian.{number_of}
+use Rattle.guest_memory.specs.LittleEndian.{little_endian}
 use Rattle.watch_expr.specs.declared.expr.Agg.{Agg}
 use Rattle.watch_expr.specs.declared.expr.Agg.TheVariants as agg
 use Rattle.watch_expr.specs.declared.expr.Binary.{Binary}
@@ -120,13 +120,13 @@ byte_count width.I64 = 8
 
 -- the value that the bytes stand for, the lowest first
 abbrev pub loaded_value : Width → List ℕ → ℤ
-loaded_value width.U8 bytes = pos (number_of bytes)
-loaded_value width.U16 bytes = pos (number_of bytes)
-loaded_value width.U32 bytes = pos (number_of bytes)
-loaded_value width.I8 bytes = cast_signed w8 (number_of bytes)
-loaded_value width.I16 bytes = cast_signed w16 (number_of bytes)
-loaded_value width.I32 bytes = cast_signed w32 (number_of bytes)
-loaded_value width.I64 bytes = cast_signed w64 (number_of bytes)
+loaded_value width.U8 bytes = pos (little_endian bytes)
+loaded_value width.U16 bytes = pos (little_endian bytes)
+loaded_value width.U32 bytes = pos (little_endian bytes)
+loaded_value width.I8 bytes = cast_signed w8 (little_endian bytes)
+loaded_value width.I16 bytes = cast_signed w16 (little_endian bytes)
+loaded_value width.I32 bytes = cast_signed w32 (little_endian bytes)
+loaded_value width.I64 bytes = cast_signed w64 (little_endian bytes)
 
 -- what a load gives at an address, which may be negative
 abbrev pub load_at : List Node → ℕ → Width → ℤ → Option ℤ

@@ -1,6 +1,6 @@
 // What a load reads of a node's memory.
 ghost use Rattle.std.specs.Prelude.{◌≡◌, ◌+◌, ◌<◌, ◌≤◌, ◌^◌, length, option_and_then, option_map, take};
-ghost use Rattle.guest_memory.specs.Memory.{put as put_over};
+ghost use Rattle.guest_memory.specs.Memory.{put_piece};
 ghost use Rattle.watch_expr.specs.Value.{byte_count, load_at, loaded_value};
 ghost use Rattle.watch_expr.specs.View.{piece_at};
 
@@ -39,7 +39,7 @@ fn piece<V: View>(v: &V, node: u32, addr: u64, count: u64) -> Option<[u8; 8]>
 // Writes the piece from `at` on.
 fn put(bytes: &mut [u8], at: usize, piece: &[u8])
     requires { at + length piece.now ≤ length bytes.old }
-    ensures { bytes.new ≡ put_over bytes.old at piece.now }
+    ensures { bytes.new ≡ put_piece bytes.old at piece.now }
 {
     let end = at + piece.len();
     bytes[at..end].copy_from_slice(piece);

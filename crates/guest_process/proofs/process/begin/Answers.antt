@@ -14,9 +14,9 @@ pub invariant_of-result : goal.invariant_of-result
 invariant_of-result c =
     let m = module_of c.args.«module».now in
     let s = c.in_ok-strand.strand in
-    let program = ap {A = Module} {B = Strand} (λ m. record { program = m; thread = s.thread; call = s.call }) c.in_ok-strand.ensures.program in
-    let call = ap {B = Strand} (λ o. record { program = m; thread = s.thread; call = o }) c.in_ok-strand.ensures.call in
-    let waiting = c.beginning.ensures ∙ ap waits (program ∙ call) in
+    let same_module = ap {A = Module} {B = Strand} (λ m. record { «module» = m; thread = s.thread; call = s.call }) c.in_ok-strand.ensures.same_module in
+    let call = ap {B = Strand} (λ o. record { «module» = m; thread = s.thread; call = o }) c.in_ok-strand.ensures.call in
+    let waiting = c.beginning.ensures ∙ ap waits (same_module ∙ call) in
     let crew = c.in-Ok.ensures.ok ∙ ap (λ crew. with_new_thread crew c.beginning.result) c.new-crew.ensures ∙ ap (with_new_thread empty) waiting in
     let valid = subst (λ r. IsValid (module_of r)) c.module.ensures.same c.module.ensures.valid in
     let p : Parts = record {

@@ -1,6 +1,6 @@
 use Rattle.std.proofs.Common.{◌≡◌, ℕ, length, take, sym, subst, ◌∙◌, arith}
 use Rattle.std.proofs.lemmas.List.{take_all}
-use Rattle.guest_memory.specs.Memory.{bytes_at}
+use Rattle.guest_memory.specs.Memory.{bytes_from}
 use Rattle.lib_calls.proofs.Sames.{agree, other_part, part_differs, same_more, same_part}
 use Rattle.lib_calls.proofs.arguments.stands_at.Goals as goal
 
@@ -20,5 +20,5 @@ pub returns : goal.returns
 returns c =
     let bytes = c.args.bytes.now in
     let all : c.loop-count.count ≡ length bytes = omega (arith, c.loop-count-test.false, c.loop-count.invariant.0) in
-    agree bytes (bytes_at c.args.memory.now c.args.addr (length bytes))
-    (sym (take_all (length bytes) bytes (omega arith)) ∙ subst (λ (n : ℕ). take n bytes ≡ bytes_at c.args.memory.now c.args.addr n) all c.loop-count.invariant.1)
+    agree bytes (bytes_from c.args.memory.now c.args.addr (length bytes))
+    (sym (take_all (length bytes) bytes (omega arith)) ∙ subst (λ (n : ℕ). take n bytes ≡ bytes_from c.args.memory.now c.args.addr n) all c.loop-count.invariant.1)

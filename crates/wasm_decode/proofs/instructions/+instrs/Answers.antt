@@ -2,7 +2,7 @@ use Rattle.std.proofs.Common.{◌≡◌, ◌-◌, ◌∷◌, [], ◌++◌, lengt
 use Rattle.std.proofs.lemmas.Bool.{ne_eqb}
 use Rattle.std.proofs.lemmas.Result.{err_from_is_err_and}
 use Rattle.wasm_types.specs.Code.{tree}
-use Rattle.wasm_decode.specs.Instrs.{is_end, levels_at}
+use Rattle.wasm_decode.specs.Instrs.{is_end_opcode, levels_at}
 use Rattle.wasm_decode.proofs.Steps.{byte_takes}
 use Rattle.wasm_decode.proofs.InstrLoop.{block_made, loop_made, if_made_one, if_made_two, starts, no_levels, no_byte, ended, no_instr, more, shorter}
 use Rattle.wasm_decode.proofs.instructions.+instrs.Goals as goal
@@ -43,7 +43,7 @@ sequence-returns-in_err-opcode t c =
 pub sequence-returns-then-opcode-eq-END : goal.sequence-returns-then-opcode-eq-END
 sequence-returns-then-opcode-eq-END t c =
     let taken = ap length (byte_takes c.loop-instrs.cursor.left c.in_ok-opcode.opcode c.byte.new.cursor.left c.in_ok-opcode.ensures) in
-    let ends : is_end c.in_ok-opcode.opcode ≡ true = elim c.then-opcode-eq-END.branch [
+    let ends : is_end_opcode c.in_ok-opcode.opcode ≡ true = elim c.then-opcode-eq-END.branch [
       | sequence-then-opcode-eq-END-via-then-opcode-eq-END w ↦ rw w.if-opcode-eq-END.true refl
       | sequence-then-opcode-eq-END-via-else-opcode-eq-END+then-opcode-eq-ELSE w ↦ rw w.if-opcode-eq-ELSE.true refl
     ] in
@@ -52,7 +52,7 @@ sequence-returns-then-opcode-eq-END t c =
 pub sequence-returns-in_err-next : goal.sequence-returns-in_err-next
 sequence-returns-in_err-next t c =
     let p = err_from_is_err_and c.from_residual-in_err-next.result c.from_residual-in_err-next.ensures.1 in
-    let goes_on : is_end c.in_ok-opcode.opcode ≡ false = rw (ne_eqb c.in_ok-opcode.opcode 0x0b c.if-opcode-eq-END.false, ne_eqb c.in_ok-opcode.opcode 0x05 c.if-opcode-eq-ELSE.false) refl in
+    let goes_on : is_end_opcode c.in_ok-opcode.opcode ≡ false = rw (ne_eqb c.in_ok-opcode.opcode 0x0b c.if-opcode-eq-END.false, ne_eqb c.in_ok-opcode.opcode 0x05 c.if-opcode-eq-ELSE.false) refl in
     rw (p.1, p.2) (no_instr c.in_err-next.field-0.0 (c.args.levels - 1) _ c.loop-instrs.instrs.items c.loop-instrs.cursor.left c.in_ok-opcode.opcode c.byte.new.cursor.left _ c.in_ok-opcode.ensures goes_on c.in_err-next.ensures c.loop-instrs.invariant.so_far)
 
 pub sequence-loop-instrs-smaller : goal.sequence-loop-instrs-smaller
@@ -63,7 +63,7 @@ pub sequence-loop-instrs-preserved : goal.sequence-loop-instrs-preserved
 sequence-loop-instrs-preserved t c =
     let start = length c.args.cursor.now.left in
     let items = c.loop-instrs.instrs.items in
-    let goes_on : is_end c.in_ok-opcode.opcode ≡ false = rw (ne_eqb c.in_ok-opcode.opcode 0x0b c.if-opcode-eq-END.false, ne_eqb c.in_ok-opcode.opcode 0x05 c.if-opcode-eq-ELSE.false) refl in
+    let goes_on : is_end_opcode c.in_ok-opcode.opcode ≡ false = rw (ne_eqb c.in_ok-opcode.opcode 0x0b c.if-opcode-eq-END.false, ne_eqb c.in_ok-opcode.opcode 0x05 c.if-opcode-eq-ELSE.false) refl in
     let less = shorter c.exact_readers.ensures (c.args.levels - 1) c.loop-instrs.cursor.left c.in_ok-opcode.opcode c.byte.new.cursor.left (tree c.in_ok-next.next) c.instr.new.cursor.left c.in_ok-opcode.ensures c.in_ok-next.ensures in
     let fuel : start - length (items ++ c.in_ok-next.next ∷ []) ≡ start - length items - 1 = omega (arith, length-append items (c.in_ok-next.next ∷ [])) in
     let next = more (c.args.levels - 1) (start - length items) items c.loop-instrs.cursor.left c.in_ok-opcode.opcode c.byte.new.cursor.left c.in_ok-next.next c.instr.new.cursor.left _ (omega (arith, less, c.loop-instrs.invariant.room)) c.in_ok-opcode.ensures goes_on c.in_ok-next.ensures c.loop-instrs.invariant.so_far in

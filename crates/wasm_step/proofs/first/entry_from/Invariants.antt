@@ -6,4 +6,4 @@ use Rattle.wasm_step.proofs.first.entry_from.Given as goal
 
 abbrev pub invariant-loop-export : goal.invariant-loop-export
 invariant-loop-export l =
-    entry_from (module_of l.code) (map export l.code.exports.items) ≡ entry_from (module_of l.code) (map export (drop l.export-index l.code.exports.items))
+    entry_from (module_of l.«module») (map export l.«module».exports.items) ≡ entry_from (module_of l.«module») (map export (drop l.export-index l.«module».exports.items))

@@ -8,8 +8,8 @@ use Rattle.wasm_step.proofs.first.has_plain_type.Goals as goal
 pub returns-in-Some : goal.returns-in-Some
 returns-in-Some c =
     c.is_plain.ensures
-    ∙ sym (ap (λ (o : Option FuncType). option_map_or is_plain o false) (same_lookup (module_of c.args.code.now) c.args.func c.requires.imports ∙ c.in-Some.ensures.some))
+    ∙ sym (ap (λ (o : Option FuncType). option_map_or is_plain o false) (same_lookup (module_of c.args.«module».now) c.args.func c.requires.imports ∙ c.in-Some.ensures.some))
 
 pub returns-in-None : goal.returns-in-None
 returns-in-None c =
-    sym (ap (λ (o : Option FuncType). option_map_or is_plain o false) (same_lookup (module_of c.args.code.now) c.args.func c.requires.imports ∙ c.in-None.ensures.none))
+    sym (ap (λ (o : Option FuncType). option_map_or is_plain o false) (same_lookup (module_of c.args.«module».now) c.args.func c.requires.imports ∙ c.in-None.ensures.none))

@@ -7,15 +7,15 @@ use Rattle.wasm_store.proofs.Declared.{zeros_at}
 use Rattle.wasm_store.proofs.callee.own_func.Goals as goal
 
 module _ (c : goal.In-Some-declared) where
-  own : slice_get (module_of c.args.program.now).funcs c.args.place ≡ Some (func c.in-Some.func.now)
+  own : slice_get (module_of c.args.«module».now).funcs c.args.place ≡ Some (func c.in-Some.func.now)
   own =
-      let items = c.args.program.now.funcs.items in
+      let items = c.args.«module».now.funcs.items in
       let held : slice_get items c.args.place ≡ Some c.in-Some.func.now = grind (arith, common_steps, gets) in
       slice_get-map func items c.args.place ∙ ap (option_map func) held
 
 pub invariant_of-result : goal.invariant_of-result
 invariant_of-result c =
-    zeros_at (slice_get (module_of c.args.program.now).funcs c.args.place) (func c.in-Some.func.now) c.in-Some-declared.declared.now (own c) c.in-Some-declared.ensures.some
+    zeros_at (slice_get (module_of c.args.«module».now).funcs c.args.place) (func c.in-Some.func.now) c.in-Some-declared.declared.now (own c) c.in-Some-declared.ensures.some
 
 pub returns-clause-some : goal.returns-clause-some
 returns-clause-some c = own c

@@ -9,38 +9,38 @@ use Rattle.wasm_types.specs.Modules.{Module, func, func_type, import_of, module_
 use Rattle.wasm_tests.proofs.strands.is_handler.Goals as goal
 
 module _ (c : goal.In-I32-empty) where
-  abbrev code : Module
-  code = module_of c.args.program.now
+  abbrev inner : Module
+  inner = module_of c.args.«module».now
 
-  imports : length code.imports ≡ c.len-imports.result
+  imports : length inner.imports ≡ c.len-imports.result
   imports =
-      let mapped = length-map c.args.program.now.imports.items import_of in
-      let counted : length c.args.program.now.imports.items ≡ c.len-imports.result = grind (arith, common_steps) in
+      let mapped = length-map c.args.«module».now.imports.items import_of in
+      let counted : length c.args.«module».now.imports.items ≡ c.len-imports.result = grind (arith, common_steps) in
       mapped ∙ counted
 
-  behind : length code.imports ≤ c.args.func
+  behind : length inner.imports ≤ c.args.func
   behind = omega (arith, imports, c.if-index-imports.false)
 
-  own : slice_get code.funcs (c.args.func - length code.imports) ≡ Some (func c.in-Some.own.now)
+  own : slice_get inner.funcs (c.args.func - length inner.imports) ≡ Some (func c.in-Some.own.now)
   own =
-      let items = c.args.program.now.funcs.items in
+      let items = c.args.«module».now.funcs.items in
       let held : slice_get items (c.args.func - c.len-imports.result) ≡ Some c.in-Some.own.now = grind (arith, common_steps, gets) in
-      ap (λ n. slice_get code.funcs (c.args.func - n)) imports
+      ap (λ n. slice_get inner.funcs (c.args.func - n)) imports
       ∙ slice_get-map func items (c.args.func - c.len-imports.result) ∙ ap (option_map func) held
 
-  type : slice_get code.types c.in-Some.own.now.type_index ≡ Some (func_type c.in-Some-get.kind.now)
+  type : slice_get inner.types c.in-Some.own.now.type_index ≡ Some (func_type c.in-Some-get.typing.now)
   type =
-      let items = c.args.program.now.types.items in
-      let held : slice_get items c.in-Some.own.now.type_index ≡ Some c.in-Some-get.kind.now = grind (arith, common_steps, gets) in
+      let items = c.args.«module».now.types.items in
+      let held : slice_get items c.in-Some.own.now.type_index ≡ Some c.in-Some-get.typing.now = grind (arith, common_steps, gets) in
       slice_get-map func_type items c.in-Some.own.now.type_index ∙ ap (option_map func_type) held
 
-  before : nat_lt c.args.func (length code.imports) ≡ false
+  before : nat_lt c.args.func (length inner.imports) ≡ false
   before = grind (arith, common_steps, behind)
 
 pub returns-in-I32-empty : goal.returns-in-I32-empty
 returns-in-I32-empty c = λ _. record {
   own = behind c;
   type =
-      ap (λ b. cond b (imported_type (code c) (slice_get (code c).imports c.args.func)) (own_type (code c) (slice_get (code c).funcs (c.args.func - length (code c).imports)))) (before c)
-      ∙ ap (own_type (code c)) (own c) ∙ type c ∙ ap Some (grind (arith, common_steps));
+      ap (λ b. cond b (imported_type (inner c) (slice_get (inner c).imports c.args.func)) (own_type (inner c) (slice_get (inner c).funcs (c.args.func - length (inner c).imports)))) (before c)
+      ∙ ap (own_type (inner c)) (own c) ∙ type c ∙ ap Some (grind (arith, common_steps));
 }

@@ -6,4 +6,4 @@ use Rattle.wasm_validate.proofs.functions.check_functions.Given as goal
 
 abbrev pub invariant-loop-function : goal.invariant-loop-function
 invariant-loop-function l =
-    All (IsSeen (IsTypedFunc (module_of l.checked)) func) (take l.function-index l.checked.funcs.items)
+    All (IsSeen (IsTypedFunc (module_of l.«module»)) func) (take l.function-index l.«module».funcs.items)

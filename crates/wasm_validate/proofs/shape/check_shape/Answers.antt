@@ -11,7 +11,7 @@ returns-then-not-is_linked c = λ shaped. let h = linked_by _ shaped in let n = 
 pub returns-then-branch : goal.returns-then-branch
 returns-then-branch c =
     shaped_from _ (sym c.is_within_limits.ensures ∙ c.if-not-is_within_limits.false) (sym c.is_linked.ensures ∙ c.if-not-is_linked.false)
-    (own_names c.args.checked.now _ c.deref.ensures.value (c.in_ok-have_own_names.ensures.0 c.if-branch.true))
+    (own_names c.args.«module».now _ c.deref.ensures.value (c.in_ok-have_own_names.ensures.0 c.if-branch.true))
 
 pub returns-else-branch : goal.returns-else-branch
-returns-else-branch c = λ shaped. let own = c.in_ok-have_own_names.ensures.1 (own_names_shown c.args.checked.now _ c.deref.ensures.value shaped.names) in let n = c.if-branch.false in cc
+returns-else-branch c = λ shaped. let own = c.in_ok-have_own_names.ensures.1 (own_names_shown c.args.«module».now _ c.deref.ensures.value shaped.names) in let n = c.if-branch.false in cc

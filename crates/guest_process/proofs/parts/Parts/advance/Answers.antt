@@ -10,7 +10,7 @@ use Rattle.guest_process.specs.Kinds.{reply_value}
 use Rattle.guest_process.specs.Seen.{state_of}
 use Rattle.guest_process.specs.Sound.{StandsAtKind}
 use Rattle.guest_process.specs.State.{pending_kind, thread_at, with_thread}
-use Rattle.guest_process.proofs.Advancing.{acted_events, acted_handlers, acted_program, exits, goes, goes_out, is_out, stands_at, still_live, taken_is}
+use Rattle.guest_process.proofs.Advancing.{acted_events, acted_handlers, acted_module, exits, goes, goes_out, is_out, stands_at, still_live, taken_is}
 use Rattle.guest_process.proofs.Legality.{is_answer_of}
 use Rattle.guest_process.proofs.parts.Parts.advance.Goals as goal
 
@@ -60,8 +60,8 @@ go_on-requires-clause-same_module c =
     let S = state_of c.args.self.now in
     let e = entry_of c.args.entry.now in
     let after = c.in_ok-act.ensures.state in
-    let same = sym (acted_program S e (pending_kind S e.thread)) ∙ ap (λ S'. S'.store.program) (sym after) in
-    subst (λ r. module_of r.now ≡ S.store.program) (sym c.in_ok-act.ensures.same_module) c.requires.process.same_module ∙ same
+    let same = sym (acted_module S e (pending_kind S e.thread)) ∙ ap (λ S'. S'.store.«module») (sym after) in
+    subst (λ r. module_of r.now ≡ S.store.«module») (sym c.in_ok-act.ensures.same_module) c.requires.process.same_module ∙ same
 
 pub go_on-requires-clause-same : goal.go_on-requires-clause-same
 go_on-requires-clause-same c =
@@ -71,8 +71,8 @@ go_on-requires-clause-same c =
     let after = c.in_ok-act.ensures.state in
     let at = taken_is S e (pending_kind S e.thread) w c.requires.legal (ap (λ S'. thread_at S' e.thread) (sym after) ∙ sym c.take.ensures.value ∙ c.in-Some.is) in
     (stands_at S e.thread w c.requires.process.sound.threads at).same_module
-    ∙ sym (acted_program S e (pending_kind S e.thread))
-    ∙ ap (λ S'. S'.store.program) (sym after)
+    ∙ sym (acted_module S e (pending_kind S e.thread))
+    ∙ ap (λ S'. S'.store.«module») (sym after)
 
 pub go_on-requires-clause-stands : goal.go_on-requires-clause-stands
 go_on-requires-clause-stands c =
@@ -91,7 +91,7 @@ go_on-requires-clause-handlers c = λ signal func h.
     let after = c.in_ok-act.ensures.state in
     let o = pending_kind S e.thread in
     let is = acted_handlers S e o c.requires.process.sound.handlers signal func (ap (λ S'. handler S'.handlers signal) (sym after) ∙ h) in
-    subst (λ m. IsHandler m func) (sym (acted_program S e o) ∙ ap (λ S'. S'.store.program) (sym after)) is
+    subst (λ m. IsHandler m func) (sym (acted_module S e o) ∙ ap (λ S'. S'.store.«module») (sym after)) is
 
 pub returns-clause-state : goal.returns-clause-state
 returns-clause-state c =
@@ -103,6 +103,6 @@ returns-clause-state c =
     let at = taken_is S e (pending_kind S e.thread) w c.requires.legal (ap (λ S'. thread_at S' e.thread) (sym after) ∙ sym c.take.ensures.value ∙ c.in-Some.is) in
     let ends = sym c.ends_process.ensures ∙ c.if-ends_process.false in
     c.in_ok-go_on.ensures.state
-    ∙ ap (λ crew. after_running (counted (record S' { crew = crew }) e.clock) e.thread (with_handler_frame S'.store.program (answered w.strand (reply_value w.kind e.reply)) e.signal (handler S'.handlers e.signal))) c.in-Some.ensures.some
+    ∙ ap (λ crew. after_running (counted (record S' { crew = crew }) e.clock) e.thread (with_handler_frame S'.store.«module» (answered w.strand (reply_value w.kind e.reply)) e.signal (handler S'.handlers e.signal))) c.in-Some.ensures.some
     ∙ ap (λ S'. goes_out w.kind S' e.thread w.strand e.reply e.signal e.clock) after
     ∙ goes S e w c.requires.process.fits c.requires.legal at ends

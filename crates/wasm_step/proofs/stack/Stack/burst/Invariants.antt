@@ -1,7 +1,7 @@
 use Rattle.std.proofs.Common.{◌≡◌, ◌+◌, ◌*◌}
 use Rattle.wasm_types.specs.Modules.{module_of}
 use Rattle.wasm_step.specs.Burst.{burst}
-use Rattle.wasm_step.specs.Quick.{Within}
+use Rattle.wasm_step.specs.Limits.{Within}
 use Rattle.wasm_step.specs.Thread.{depth}
 use Rattle.wasm_step.proofs.stack.Stack.burst.Given as goal
 
@@ -9,7 +9,7 @@ abbrev pub invariant-steps : goal.invariant-steps
 invariant-steps l = record {
   same : burst l.left l.self l.store ≡ burst 10000000 l.fn.self l.fn.store;
   within : Within l.self;
-  program : module_of l.program ≡ l.store.program;
+  same_module : module_of l.«module» ≡ l.store.«module»;
 }
 
 abbrev pub decreases-steps : goal.decreases-steps

@@ -11,7 +11,7 @@ returns-in-Some-I32 c =
     let g = c.args.store.now in
     let t : c.args.self.now ≡ with_operand c.pop.new.self (I32 c.in-Some-I32.i) = search (rules, c.in-Some-I32.ensures.some, c.in-Some-I32.field-0-is, c.in-Some-I32.i-is) in
     let same =
-    ap (λ e. limited (call_element g.program c.args.kind e c.pop.new.self)) c.element.ensures
-    ∙ ap (λ (t : Thread). limited (call_indirect c.args.kind g t)) (sym t)
+    ap (λ e. limited (call_element g.«module» c.args.type_index e c.pop.new.self)) c.element.ensures
+    ∙ ap (λ (t : Thread). limited (call_indirect c.args.type_index g t)) (sym t)
     in
-    subst (λ (x : After). IfOk c.call_element.result (λ a. after_of a c.call_element.new.self ≡ x)) same (subst (λ (m : Module). IfOk c.call_element.result (λ a. after_of a c.call_element.new.self ≡ limited (call_element m c.args.kind c.element.result c.pop.new.self))) c.requires c.call_element.ensures)
+    subst (λ (x : After). IfOk c.call_element.result (λ a. after_of a c.call_element.new.self ≡ x)) same (subst (λ (m : Module). IfOk c.call_element.result (λ a. after_of a c.call_element.new.self ≡ limited (call_element m c.args.type_index c.element.result c.pop.new.self))) c.requires c.call_element.ensures)

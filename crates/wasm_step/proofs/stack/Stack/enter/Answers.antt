@@ -6,7 +6,7 @@ use Rattle.wasm_values.specs.Values.{zeros}
 use Rattle.wasm_step.specs.Thread.{Thread, called_with, arguments, entered}
 use Rattle.wasm_step.specs.declared.stack.Held.{Held}
 use Rattle.wasm_step.specs.declared.stack.Stack.TheInside.{Inside}
-use Rattle.wasm_step.specs.View.{IsSound, thread_of}
+use Rattle.wasm_step.specs.View.{IsStack, thread_of}
 use Rattle.wasm_step.proofs.Views.{IsSound-operands, keeps_without, without_view, arguments_view, entered_sound, entered_view, emptied}
 use Rattle.wasm_step.proofs.stack.Stack.enter.Goals as goal
 use Rattle.wasm_step.proofs.stack.Stack.enter.Goals.{After-len-self-inside, then-declared-gt0+in_ok-append_zeros, else-declared-gt0}
@@ -79,7 +79,7 @@ module _ (c : After-len-self-inside) where
   abbrev cut : Inside
   cut = record before { room = 0; operands = c.truncate.new.self }
 
-  cut_sound : IsSound cut
+  cut_sound : IsStack cut
   cut_sound =
       let empty = emptied before c.self.invariant in
       IsSound-operands (record before { room = 0 }) c.truncate.new.self empty (omega (arith, c.truncate.ensures.capacity, ap (λ (r : Inside). r.operands.cap) grown.0)) (keeps_without (record before { room = 0 }) c.args.n empty enough c.truncate.new.self.items kept)
@@ -101,8 +101,8 @@ module _ (c : After-len-self-inside) where
   now_is : now ≡ record cut { here = here; locals = joined.locals; callers = c.push_to.new.items }
   now_is = ap (λ (r : Inside). record r { here = here; operands = c.truncate.new.self; callers = c.push_to.new.items }) grown.0
 
-  sound : IsSound now
-  sound = subst IsSound (sym now_is) (entered_sound cut here joined.locals c.push_to.new.items _ cut_sound refl floor refl labels locals grown.1 waits)
+  sound : IsStack now
+  sound = subst IsStack (sym now_is) (entered_sound cut here joined.locals c.push_to.new.items _ cut_sound refl floor refl labels locals grown.1 waits)
 
   view : called_with (arguments c.args.n c.args.self.now) c.args.n c.args.self.now c.args.index c.args.callee c.args.gives ≡ Some (thread_of now)
   view =

@@ -14,7 +14,7 @@ returns-in_default c = record {
       stopped_step c.settle.result c.settle.new.self c.args.store.now k c.in_default.not-Going
       ∙ sym (burst_done (suc k) c.args.self.now c.args.store.now _ (settle_halts c.settle.result c.args.self.now c.settle.new.self c.settle.ensures c.in_default.not-Going));
   within = λ e. absurd (c.in_default.not-Going e);
-  program = refl;
+  same_module = refl;
 }
 
 pub returns-in_default-fetch-clause-ran : goal.returns-in_default-fetch-clause-ran

@@ -3,7 +3,7 @@ use Rattle.std.proofs.lemmas.List.{length-reverse}
 use Rattle.std.specs.Prelude.{reverse}
 use Rattle.wasm_step.specs.Thread.{is_within}
 use Rattle.wasm_step.specs.View.{thread_of}
-use Rattle.wasm_step.proofs.Quicks.{within_is}
+use Rattle.wasm_step.proofs.InPlace.{within_is}
 use Rattle.wasm_step.proofs.Views.{length_of_frames, size_view}
 use Rattle.wasm_step.proofs.stack.Stack.is_within.Goals as goal
 

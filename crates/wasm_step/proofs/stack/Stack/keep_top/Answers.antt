@@ -1,11 +1,11 @@
 use Rattle.std.proofs.Common.{◌-◌, ap, sym, ◌∙◌, take, arith}
 use Rattle.wasm_step.specs.Thread.{Thread, with_operand}
-use Rattle.wasm_step.specs.View.{IsSound, thread_of}
+use Rattle.wasm_step.specs.View.{IsStack, thread_of}
 use Rattle.wasm_step.proofs.Views.{IsSound-operands, keeps_cleared, keeps_pushed, cleared_view, pushed_view, stack_top}
 use Rattle.wasm_step.proofs.stack.Stack.keep_top.Goals as goal
 
 module _ (c : goal.After-push_reserved) where
-  none_sound : IsSound (record c.self.inside { operands = c.truncate.new.self })
+  none_sound : IsStack (record c.self.inside { operands = c.truncate.new.self })
   none_sound =
       IsSound-operands c.self.inside c.truncate.new.self c.self.invariant (omega (arith, c.truncate.ensures.capacity)) (keeps_cleared c.self.inside _ c.self.invariant c.truncate.ensures.items)
 

@@ -2,7 +2,7 @@ use Rattle.std.proofs.Common.{◌≡◌, ◌-◌, ◌<◌, ◌≤◌, Some, sym,
 use Rattle.std.proofs.lemmas.List.{length-reverse}
 use Rattle.wasm_step.specs.Reduce.{Goes, on_top, resumed}
 use Rattle.wasm_step.specs.Thread.{Thread, left}
-use Rattle.wasm_step.specs.View.{IsSound, thread_of}
+use Rattle.wasm_step.specs.View.{IsStack, thread_of}
 use Rattle.wasm_step.specs.declared.stack.Stack.TheInside.{Inside}
 use Rattle.wasm_step.proofs.Views.{IsLeft, IsSound-operands, floor_low, keeps_pushed, left_sound, left_view, pushed_view, stack_top}
 use Rattle.wasm_step.proofs.stack.Stack.leave_with_top.Goals as goal
@@ -25,7 +25,7 @@ module _ (c : goal.After-self-1) where
   is_left : IsLeft c.self.inside c.truncate.new.self.items c.truncate-in-Some.new.self.items c.truncate-in-Some-2.new.self.items c.pop.new.self.items c.in-Some.held
   is_left = record { caller = c.in-Some.ensures.items; ops_is = c.truncate.ensures.items; labels_is = c.truncate-in-Some.ensures.items; locals_is = c.truncate-in-Some-2.ensures.items }
 
-  below_sound : IsSound below
+  below_sound : IsStack below
   below_sound = left_sound c.self.inside c.truncate.new.self c.truncate-in-Some.new.self c.truncate-in-Some-2.new.self c.pop.new.self c.in-Some.held c.self.invariant is_left (omega (arith, c.truncate.ensures.capacity))
 
 pub invariant_of-self : goal.invariant_of-self

@@ -2,9 +2,9 @@ use Rattle.std.proofs.Common.{◌-◌, ◌<◌, refl, sym, ap, ◌∙◌, subst,
 use Rattle.wasm_types.specs.Code.{tree, trees}
 use Rattle.wasm_step.specs.declared.stack.Held.{Held}
 use Rattle.wasm_step.specs.declared.stack.Label.{Label}
-use Rattle.wasm_step.specs.Quick.{Within, entered_by}
-use Rattle.wasm_step.specs.Thread.{Thread, size}
-use Rattle.wasm_step.specs.View.{opened_by}
+use Rattle.wasm_step.specs.Limits.{Within}
+use Rattle.wasm_step.specs.View.{entered_by, opened_by}
+use Rattle.wasm_step.specs.Thread.{Thread, size_of_thread}
 use Rattle.wasm_step.proofs.LevelEnds.{within_opened}
 use Rattle.wasm_step.proofs.Views.{opened_view, size_view}
 use Rattle.wasm_step.proofs.stack.Stack.open_within.Goals as goal
@@ -14,8 +14,8 @@ returns-clause-within c =
     let s = c.self.inside in
     let t = c.args.self.now in
     let o = opened_by (tree c.args.opener.now) t.todo in
-    let whole = ap size (sym c.self.view_is) ∙ size_view s c.self.invariant in
-    let fewer : size t < 16384 = omega (arith, whole, c.len.ensures, s.operands.ok.0, c.self.invariant.room.limit) in
+    let whole = ap size_of_thread (sym c.self.view_is) ∙ size_view s c.self.invariant in
+    let fewer : size_of_thread t < 16384 = omega (arith, whole, c.len.ensures, s.operands.ok.0, c.self.invariant.room.limit) in
     let now : Held = record s.here { todo = c.args.body; floor = c.len-self-inside.result } in
     let label : Label = record { opener = c.args.opener; todo = s.here.todo; floor = s.here.floor } in
     let view = opened_view s now c.push_reserved.new.self label c.self.invariant (c.len-self-inside.ensures ∙ s.operands.ok.0) refl c.push_reserved.ensures.items refl (s.room - 1) in

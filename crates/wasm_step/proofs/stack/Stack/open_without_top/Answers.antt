@@ -3,9 +3,9 @@ use Rattle.std.proofs.lemmas.List.{length-reverse, length-take-le}
 use Rattle.wasm_types.specs.Code.{tree, trees}
 use Rattle.wasm_step.specs.declared.stack.Held.{Held}
 use Rattle.wasm_step.specs.declared.stack.Stack.TheInside.{Inside}
-use Rattle.wasm_step.specs.Quick.{Within, entered_by}
-use Rattle.wasm_step.specs.Thread.{Thread, size, without}
-use Rattle.wasm_step.specs.View.{IsSound, opened_by, thread_of}
+use Rattle.wasm_step.specs.Limits.{Within}
+use Rattle.wasm_step.specs.View.{entered_by, IsStack, opened_by, thread_of}
+use Rattle.wasm_step.specs.Thread.{Thread, size_of_thread, without}
 use Rattle.wasm_step.proofs.Accesses.{within_without}
 use Rattle.wasm_step.proofs.LevelEnds.{within_opened}
 use Rattle.wasm_step.proofs.Views.{IsSound-operands, keeps_without, opened_sound, opened_view, without_view}
@@ -28,7 +28,7 @@ module _ (c : goal.After-self-2-1) where
   less : Inside
   less = record c.self.inside { operands = c.truncate.new.self }
 
-  less_sound : IsSound less
+  less_sound : IsStack less
   unfolding less
   less_sound =
       let s = c.self.inside in
@@ -65,5 +65,5 @@ unfolding now less
 returns-clause-within c =
     let t = without 1 c.args.self.now in
     let o = opened_by (tree c.args.opener.now) t.todo in
-    let fewer : size t < 16384 = omega (arith, c.requires.within.size, c.requires.some, length-drop 1 c.args.self.now.stack) in
+    let fewer : size_of_thread t < 16384 = omega (arith, c.requires.within.size, c.requires.some, length-drop 1 c.args.self.now.stack) in
     subst (λ (t : Thread). Within t) (sym (view c)) (within_opened t o.gives (trees c.args.body.now) o.target o.carries o.loops (within_without 1 c.args.self.now c.requires.within) fewer)

@@ -1,8 +1,8 @@
 use Rattle.std.proofs.Common.{◌≡◌, ◌<◌, sym, ap, ◌∙◌, subst, arith}
-use Rattle.wasm_step.specs.Quick.{Within}
-use Rattle.wasm_step.specs.Thread.{Thread, size, with_operand}
+use Rattle.wasm_step.specs.Limits.{Within}
+use Rattle.wasm_step.specs.Thread.{Thread, size_of_thread, with_operand}
 use Rattle.wasm_step.specs.View.{thread_of}
-use Rattle.wasm_step.proofs.Quicks.{within_pushed}
+use Rattle.wasm_step.proofs.InPlace.{within_pushed}
 use Rattle.wasm_step.proofs.Views.{IsSound-operands, keeps_pushed, pushed_view, size_view}
 use Rattle.wasm_step.proofs.stack.Stack.push_within.Goals as goal
 
@@ -22,6 +22,6 @@ returns-clause-pushed c = λ _. view c
 pub returns-clause-within : goal.returns-clause-within
 returns-clause-within c =
     let s = c.self.inside in
-    let whole = ap size (sym c.self.view_is) ∙ size_view s c.self.invariant in
-    let fewer : size c.args.self.now < 16384 = omega (arith, whole, s.operands.ok.0, c.self.invariant.room.limit) in
+    let whole = ap size_of_thread (sym c.self.view_is) ∙ size_view s c.self.invariant in
+    let fewer : size_of_thread c.args.self.now < 16384 = omega (arith, whole, s.operands.ok.0, c.self.invariant.room.limit) in
     subst (λ (t : Thread). Within t) (sym (view c)) (within_pushed c.args.self.now c.args.v c.requires fewer)

@@ -1,6 +1,6 @@
 use Rattle.std.proofs.Common.{◌+◌, ◌≤◌, ◌∷◌, length, drop, ap, ◌∙◌, arith}
 use Rattle.wasm_step.specs.Thread.{Thread}
-use Rattle.wasm_step.proofs.Quicks.{put_two_sound, put_two_view}
+use Rattle.wasm_step.proofs.InPlace.{put_two_sound, put_two_view}
 use Rattle.wasm_step.proofs.stack.Stack.put_two.Goals as goal
 
 module _ (c : goal.After-push_reserved-2) where

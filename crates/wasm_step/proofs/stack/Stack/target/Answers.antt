@@ -2,13 +2,13 @@ use Rattle.std.proofs.Common.{◌≡◌, ◌-◌, ap, sym, ◌∙◌, arith}
 use Rattle.wasm_types.specs.Code.{tree, trees}
 use Rattle.wasm_types.specs.CodeLaws.{tree-loop}
 use Rattle.wasm_step.specs.Thread.{Thread}
-use Rattle.wasm_step.specs.View.{Opened, opened_by, innermost, around}
+use Rattle.wasm_step.specs.View.{Opened, opened_by, innermost, frame_labels}
 use Rattle.wasm_step.proofs.Views.{innermost_top, opens_none}
 use Rattle.wasm_step.proofs.stack.Stack.target.Goals as goal
 use Rattle.wasm_step.proofs.stack.Stack.target.Goals.{After-index}
 
 module _ (c : After-index) where
-  opened : innermost c.self.inside.here.gives (around c.self.inside.here c.self.inside.labels.items) ≡ opened_by (tree c.index.result.now.opener.now) (trees c.index.result.now.todo.now)
+  opened : innermost c.self.inside.here.gives (frame_labels c.self.inside.here c.self.inside.labels.items) ≡ opened_by (tree c.index.result.now.opener.now) (trees c.index.result.now.todo.now)
   opened =
       let s = c.self.inside in
       let height = c.len-2.ensures ∙ s.labels.ok.0 in

@@ -10,7 +10,7 @@ some_there n = grind (arith, nat_tests)
 
 pub returns : goal.returns
 returns c =
-    let m = c.args.checked.now in
+    let m = c.args.«module».now in
     let globals : map global_of c.deref-2.result.now ≡ map global_type (map global_def m.globals.items) =
     ap (map global_of) c.deref-2.ensures.value ∙ sym (map-map global_type global_def m.globals.items) in
     let tables : not c.is_empty.result ≡ nat_lt 0 (length m.tables.items) =

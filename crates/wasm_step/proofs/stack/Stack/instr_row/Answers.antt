@@ -3,7 +3,7 @@ use Rattle.std.proofs.lemmas.Result.{IfOk-weaker}
 use Rattle.wasm_step.specs.Reduce.{Both, Goes, limited}
 use Rattle.wasm_step.specs.Thread.{Thread}
 use Rattle.wasm_step.proofs.LevelEnds.{row_enters, row_chooses}
-use Rattle.wasm_step.proofs.stack.Stack.row.Goals as goal
+use Rattle.wasm_step.proofs.stack.Stack.instr_row.Goals as goal
 
 pub returns-in_ok-open-in-Block-clause-after : goal.returns-in_ok-open-in-Block-clause-after
 returns-in_ok-open-in-Block-clause-after c =

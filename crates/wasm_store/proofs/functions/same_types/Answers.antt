@@ -2,14 +2,14 @@ use Rattle.std.proofs.Common.{◌≡◌, Bool, true, false, List, [], ◌∷◌,
 use Rattle.std.specs.Prelude.{◌&&◌}
 use Rattle.wasm_types.specs.declared.code.ValType.{ValType}
 use Rattle.wasm_types.specs.Stack.{is_same}
-use Rattle.wasm_types.specs.Functions.{same_kinds}
-use Rattle.wasm_store.proofs.functions.same_kinds.Goals as goal
+use Rattle.wasm_types.specs.Functions.{same_types}
+use Rattle.wasm_store.proofs.functions.same_types.Goals as goal
 
 and_false : (b : Bool) → false ≡ b && false
 and_false true = refl
 and_false false = refl
 
-other_length : (a b : List ValType) → (length a ≡ length b → ⊥) → false ≡ same_kinds a b
+other_length : (a b : List ValType) → (length a ≡ length b → ⊥) → false ≡ same_types a b
 other_length [] [] h = absurd (h refl)
 other_length [] (y ∷ b) h = refl
 other_length (x ∷ a) [] h = refl

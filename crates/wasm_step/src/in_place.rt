@@ -2,8 +2,8 @@
 // thread, nothing is done.
 ghost use Rattle.std.specs.Prelude.{◌≡◌, IfOk, IsTrue, OnOk, false};
 ghost use Rattle.wasm_types.specs.Code.{tree};
-ghost use Rattle.wasm_step.specs.Quick.{Within};
-ghost use Rattle.wasm_step.specs.Reduce.{Goes, got, keep, local_get, numeric, row};
+ghost use Rattle.wasm_step.specs.Limits.{Within};
+ghost use Rattle.wasm_step.specs.Reduce.{Goes, got, instr_row, keep, local_get, numeric};
 
 use crate::stack::Stack;
 use std::alloc::AllocError;
@@ -13,7 +13,7 @@ use wasm_values::{changed, combined};
 
 impl<'m> Stack<'m> {
     #[inline(always)]
-    fn quick_got(&mut self, value: Option<Value>) -> bool
+    fn got_in_place(&mut self, value: Option<Value>) -> bool
         requires { Within self.old }
         ensures goes { IsTrue result → Goes self.new ≡ got value self.old }
         ensures within { Within self.new }
@@ -26,7 +26,7 @@ impl<'m> Stack<'m> {
     }
 
     #[inline(always)]
-    fn quick_local_get(&mut self, x: usize) -> bool
+    fn local_get_in_place(&mut self, x: usize) -> bool
         requires { Within self.old }
         ensures goes { IsTrue result → Goes self.new ≡ local_get x self.old }
         ensures within { Within self.new }
@@ -39,9 +39,9 @@ impl<'m> Stack<'m> {
         self.push_within(v)
     }
 
-    #[tactic(auto, using(crate::proofs::Quicks::changed_by, crate::proofs::Quicks::within_one))]
+    #[tactic(auto, using(crate::proofs::InPlace::changed_by, crate::proofs::InPlace::within_one))]
     #[inline(always)]
-    fn quick_unary(&mut self, op: u8) -> bool
+    fn unary_in_place(&mut self, op: u8) -> bool
         requires { Within self.old }
         ensures goes { IsTrue result → Goes self.new ≡ numeric op self.old }
         ensures within { Within self.new }
@@ -56,48 +56,52 @@ impl<'m> Stack<'m> {
         }
     }
 
-    #[tactic(auto, using(crate::proofs::Quicks::combined_by, crate::proofs::Quicks::within_two))]
+    #[tactic(auto, using(crate::proofs::InPlace::combined_by, crate::proofs::InPlace::within_two))]
     #[inline(always)]
-    fn quick_numeric(&mut self, op: u8) -> bool
+    fn numeric_in_place(&mut self, op: u8) -> bool
         requires { Within self.old }
         ensures goes { IsTrue result → Goes self.new ≡ numeric op self.old }
         ensures within { Within self.new }
         ensures same { result ≡ false → self.new ≡ self.old }
     {
         let Some((x, y)) = self.two() else {
-            return self.quick_unary(op);
+            return self.unary_in_place(op);
         };
         match combined(op, x, y) {
             Some(v) => self.put_two(v),
-            None => self.quick_unary(op),
+            None => self.unary_in_place(op),
         }
     }
 
     /// One instruction, unless it is none of these or cannot go on so.
     #[inline(always)]
-    pub fn quick_row(&mut self, store: &mut Store<'m>, instr: &'m Instr) -> Result<bool, AllocError>
+    pub fn row_in_place(
+        &mut self,
+        store: &mut Store<'m>,
+        instr: &'m Instr,
+    ) -> Result<bool, AllocError>
         requires { Within self.old }
-        ensures goes { IfOk result (λ went. IsTrue went → row (tree instr.now) self.old store.old ≡ keep store.new (Goes self.new)) }
+        ensures goes { IfOk result (λ went. IsTrue went → instr_row (tree instr.now) self.old store.old ≡ keep store.new (Goes self.new)) }
         ensures within { OnOk result (Within self.new) }
         ensures same { IfOk result (λ went. went ≡ false → self.new ≡ self.old) }
         ensures store { IfOk result (λ went. went ≡ false → store.new ≡ store.old) }
     {
         match instr {
-            Instr::LocalGet(x) => Ok(self.quick_local_get(*x as usize)),
+            Instr::LocalGet(x) => Ok(self.local_get_in_place(*x as usize)),
             Instr::LocalSet(x) => Ok(self.local_set(*x)),
             Instr::LocalTee(x) => Ok(self.local_tee(*x)),
             Instr::ConstI32(bits) => Ok(self.push_within(Value::I32(*bits))),
             Instr::ConstI64(bits) => Ok(self.push_within(Value::I64(*bits))),
-            Instr::Op(op) => Ok(self.quick_numeric(*op)),
+            Instr::Op(op) => Ok(self.numeric_in_place(*op)),
             Instr::DropTop => Ok(self.drop_top()),
             Instr::Select => Ok(self.select()),
             Instr::Block(_, body) | Instr::Loop(_, body) => Ok(self.open_within(instr, body)),
-            Instr::If(_, on_true, on_false) => Ok(self.quick_choose(instr, on_true, on_false)),
-            Instr::BrIf(n) => Ok(self.quick_branch_if(*n)),
-            Instr::GlobalGet(x) => Ok(self.quick_got(store.global(*x))),
+            Instr::If(_, on_true, on_false) => Ok(self.choose_in_place(instr, on_true, on_false)),
+            Instr::BrIf(n) => Ok(self.branch_if_in_place(*n)),
+            Instr::GlobalGet(x) => Ok(self.got_in_place(store.global(*x))),
             Instr::GlobalSet(x) => Ok(self.global_set(store, *x)),
-            Instr::Load { opcode, offset, .. } => Ok(self.quick_load(store, *opcode, *offset)),
-            Instr::Store { opcode, offset, .. } => self.quick_write(store, *opcode, *offset),
+            Instr::Load { opcode, offset, .. } => Ok(self.load_in_place(store, *opcode, *offset)),
+            Instr::Store { opcode, offset, .. } => self.write_in_place(store, *opcode, *offset),
             _ => Ok(false),
         }
     }

@@ -1,6 +1,0 @@
-use Rattle.std.proofs.Common.{◌≡◌, drop, length}
-use Rattle.wasm_types.specs.Functions.{same_kinds}
-use Rattle.wasm_store.proofs.functions.same_kinds.Given as goal
-
-abbrev pub invariant-loop-i : goal.invariant-loop-i
-invariant-loop-i l = record { same : same_kinds l.a l.b ≡ same_kinds (drop l.i l.a) (drop l.i l.b); long : length l.a ≡ length l.b }
