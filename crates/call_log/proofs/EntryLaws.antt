@@ -13,7 +13,7 @@ use Rattle.lib_calls.specs.Kinds.{has_outgoing, has_incoming, has_tag}
 use Rattle.call_log.specs.Kind.{is_kind}
 use Rattle.lib_calls.specs.declared.entry.Entry.{Entry}
 use Rattle.lib_calls.specs.Entry.{IsShaped}
-use Rattle.call_log.specs.Entry.{BeginsNoEntry, body, encoding, argument_bytes, string_if, tag_if}
+use Rattle.call_log.specs.Entry.{BeginsNoEntry, body_bytes, encoding, argument_bytes, string_if, tag_if}
 use Rattle.call_log.specs.Reading.{read_entry, body_at, call_at, string_if_at, tag_if_at}
 use Rattle.call_log.specs.Log.{entry_at, entry_in}
 use Rattle.call_log.proofs.Sizes.{length-body_lt}
@@ -112,8 +112,8 @@ steps_from bytes e read =
 
 module _ (readers : ExactReaders) where
   -- the readers read what was written, whatever follows
-  pub body_at-body : (e : Entry) → IsShaped e → body_at (body e) ≡ Some e
-  unfolding body
+  pub body_at-body : (e : Entry) → IsShaped e → body_at (body_bytes e) ≡ Some e
+  unfolding body_bytes
   body_at-body e shaped =
       let tag : List ℕ = tag_if (has_tag e.call.kind) e.tag ++ [] in
       let incoming : List ℕ = string_if (has_incoming e.call.kind) e.incoming ++ tag in
@@ -147,8 +147,8 @@ module _ (readers : ExactReaders) where
       body_at-from e.call.kind (to_le_bytes w64 e.clock ++ thread) e read
 
   -- and what they read is an entry that is all of the bytes
-  shaped_from : (bytes : List ℕ) (e : Entry) → AreBytes bytes → Steps e.call.kind bytes e → IsShaped e × (bytes ≡ body e)
-  unfolding body
+  shaped_from : (bytes : List ℕ) (e : Entry) → AreBytes bytes → Steps e.call.kind bytes e → IsShaped e × (bytes ≡ body_bytes e)
+  unfolding body_bytes
   shaped_from bytes e are h =
       let are_1 = bytes_after (number_field readers w64) bytes e.clock h.after_clock are h.clock in
       let are_2 = bytes_after (number_field readers w16) h.after_clock e.thread h.after_thread are_1 h.thread in
@@ -178,7 +178,7 @@ module _ (readers : ExactReaders) where
         incoming = incoming.0;
         tag = tag.0;
       } in
-      let spelled : bytes ≡ body e =
+      let spelled : bytes ≡ body_bytes e =
       clock.1 ∙ onto (to_le_bytes w64 e.clock) (
       thread.1 ∙ onto (to_le_bytes w16 e.thread) (
       number.1 ∙ onto (e.call.kind ∷ []) (
@@ -189,7 +189,7 @@ module _ (readers : ExactReaders) where
       incoming.1 ∙ onto (string_if (has_incoming e.call.kind) e.incoming) tag.1))))))) in
       (shaped, spelled)
 
-  body_at-found : (bytes : List ℕ) (e : Entry) → AreBytes bytes → body_at bytes ≡ Some e → IsShaped e × (bytes ≡ body e)
+  body_at-found : (bytes : List ℕ) (e : Entry) → AreBytes bytes → body_at bytes ≡ Some e → IsShaped e × (bytes ≡ body_bytes e)
   body_at-found bytes e are found =
       let steps = steps_from bytes e found in
       let at : Steps steps.0 bytes e = steps.1 in
@@ -206,18 +206,18 @@ module _ (readers : ExactReaders) where
   pub read_entry-encoding : (e : Entry) (rest : List ℕ) → IsShaped e → read_entry (encoding e ++ rest) ≡ Some (e, rest)
   unfolding encoding
   read_entry-encoding e rest shaped =
-      ap read_entry (append_assoc (to_le_bytes w32 (length (body e))) (body e) rest)
-      ∙ read_entry-from _ (body e ++ rest) (body e) rest (length (body e)) e
-      ((number_field readers w32).again (length (body e)) (body e ++ rest) (length-body_lt e shaped))
-      ((readers.piece (length (body e))).again (body e) (body e) rest (refl, refl))
+      ap read_entry (append_assoc (to_le_bytes w32 (length (body_bytes e))) (body_bytes e) rest)
+      ∙ read_entry-from _ (body_bytes e ++ rest) (body_bytes e) rest (length (body_bytes e)) e
+      ((number_field readers w32).again (length (body_bytes e)) (body_bytes e ++ rest) (length-body_lt e shaped))
+      ((readers.piece (length (body_bytes e))).again (body_bytes e) (body_bytes e) rest (refl, refl))
       (body_at-body e shaped)
 
-  encoding_from : (bytes after within rest : List ℕ) (n : ℕ) (e : Entry) → bytes ≡ to_le_bytes w32 n ++ after → after ≡ within ++ rest → length within ≡ n → within ≡ body e → bytes ≡ encoding e ++ rest
+  encoding_from : (bytes after within rest : List ℕ) (n : ℕ) (e : Entry) → bytes ≡ to_le_bytes w32 n ++ after → after ≡ within ++ rest → length within ≡ n → within ≡ body_bytes e → bytes ≡ encoding e ++ rest
   unfolding encoding
   encoding_from bytes after within rest n e front then size is =
       front ∙ onto (to_le_bytes w32 n) (then ∙ ap (λ (t : List ℕ). t ++ rest) is)
-      ∙ ap (λ (k : ℕ). to_le_bytes w32 k ++ (body e ++ rest)) (sym size ∙ ap length is)
-      ∙ sym (append_assoc (to_le_bytes w32 (length (body e))) (body e) rest)
+      ∙ ap (λ (k : ℕ). to_le_bytes w32 k ++ (body_bytes e ++ rest)) (sym size ∙ ap length is)
+      ∙ sym (append_assoc (to_le_bytes w32 (length (body_bytes e))) (body_bytes e) rest)
 
   -- and what they read is an entry that stands there
   pub read_entry-found : (bytes : List ℕ) (e : Entry) (rest : List ℕ) → AreBytes bytes → read_entry bytes ≡ Some (e, rest) → IsShaped e × (bytes ≡ encoding e ++ rest)

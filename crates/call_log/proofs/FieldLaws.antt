@@ -12,7 +12,7 @@ use Rattle.lib_calls.specs.declared.entry.Call.{Call}
 use Rattle.lib_calls.specs.Kinds.{argument_count}
 use Rattle.lib_calls.specs.Entry.{IsNumberIf, IsStringIf, IsTagIf, HasArguments}
 use Rattle.call_log.specs.Entry.{number_if, string_if, flagged, tag_if, argument_bytes}
-use Rattle.call_log.specs.Reading.{number_if_at, call_at, string_at, string_if_at, tag_at, flagged_at, tag_if_at}
+use Rattle.call_log.specs.Reading.{number_if_at, call_at, string_at, string_if_at, tag_fields_at, flagged_at, tag_if_at}
 
 -- bytes in front of others are in range where all are
 pub front_in_range : (front rest : List ℕ) → AreBytes (front ++ rest) → AreBytes front
@@ -104,7 +104,7 @@ absent_field x = record {
 module _ (readers : ExactReaders) where
   -- a number, the lowest byte first
   pub number_field : (w : Width) → ReadsBack (λ n. n < 256 ^ byte_len w) (to_le_bytes w) (le_at w)
-  number_field w = record { again = readers.written w; found = readers.rewritten w }
+  number_field w = record { again = readers.reads_written w; found = readers.rewritten w }
 
   pub number_if_field : (has : Bool) → ReadsBack (IsNumberIf has) (number_if has) (number_if_at has)
   number_if_field true = number_field w64
@@ -145,8 +145,8 @@ module _ (readers : ExactReaders) where
 
   -- ---- tags
 
-  tag_at-from : (bytes after rest : List ℕ) (tag : Tag) → le_at w32 bytes ≡ Some (tag.sender, after) → le_at w64 after ≡ Some (tag.clock, rest) → tag_at bytes ≡ Some (tag, rest)
-  unfolding tag_at
+  tag_at-from : (bytes after rest : List ℕ) (tag : Tag) → le_at w32 bytes ≡ Some (tag.sender, after) → le_at w64 after ≡ Some (tag.clock, rest) → tag_fields_at bytes ≡ Some (tag, rest)
+  unfolding tag_fields_at
   tag_at-from bytes after rest tag sender clock = next _ _ (tag.sender, after) _ sender (next _ _ (tag.clock, rest) _ clock refl)
 
   abbrev pub tag_bytes : Tag → List ℕ
@@ -155,8 +155,8 @@ module _ (readers : ExactReaders) where
   abbrev pub TagFits : Tag → Type 0
   TagFits tag = (tag.sender < 2 ^ 32) × (tag.clock < 2 ^ 64)
 
-  tag_found : (bytes : List ℕ) (tag : Tag) (rest : List ℕ) → AreBytes bytes → tag_at bytes ≡ Some (tag, rest) → TagFits tag × (bytes ≡ tag_bytes tag ++ rest)
-  unfolding tag_at
+  tag_found : (bytes : List ℕ) (tag : Tag) (rest : List ℕ) → AreBytes bytes → tag_fields_at bytes ≡ Some (tag, rest) → TagFits tag × (bytes ≡ tag_bytes tag ++ rest)
+  unfolding tag_fields_at
   tag_found bytes tag rest are e =
       let sender = bind_some _ _ _ e in
       let clock = bind_some _ _ _ sender.2 in
@@ -166,10 +166,10 @@ module _ (readers : ExactReaders) where
       subst (λ (x : Tag × List ℕ). TagFits x.0 × (bytes ≡ tag_bytes x.0 ++ x.1)) (same_Some (made, clock.0.1) (tag, rest) clock.2)
       ((first.0, second.0), first.1 ∙ ap (λ (t : List ℕ). to_le_bytes w32 sender.0.0 ++ t) second.1 ∙ sym (append_assoc (to_le_bytes w32 sender.0.0) (to_le_bytes w64 clock.0.0) clock.0.1))
 
-  pub tag_field : ReadsBack TagFits tag_bytes tag_at
+  pub tag_field : ReadsBack TagFits tag_bytes tag_fields_at
   tag_field = record {
     again = λ tag rest fits.
-        ap tag_at (append_assoc (to_le_bytes w32 tag.sender) (to_le_bytes w64 tag.clock) rest)
+        ap tag_fields_at (append_assoc (to_le_bytes w32 tag.sender) (to_le_bytes w64 tag.clock) rest)
         ∙ tag_at-from (to_le_bytes w32 tag.sender ++ (to_le_bytes w64 tag.clock ++ rest)) (to_le_bytes w64 tag.clock ++ rest) rest tag ((number_field w32).again tag.sender _ fits.0) ((number_field w64).again tag.clock rest fits.1);
     found = tag_found;
   }

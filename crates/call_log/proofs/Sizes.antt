@@ -13,7 +13,7 @@ use Rattle.std.specs.Option.{option_map_or}
 use Rattle.lib_calls.specs.Kinds.{argument_count, has_outgoing, has_incoming, has_tag}
 use Rattle.lib_calls.specs.declared.entry.Entry.{Entry}
 use Rattle.lib_calls.specs.Entry.{IsStringIf, IsShaped}
-use Rattle.call_log.specs.Entry.{body, encoding, argument_bytes, number_if, string_if, tag_if}
+use Rattle.call_log.specs.Entry.{body_bytes, encoding, argument_bytes, number_if, string_if, tag_if}
 
 abbrev total_length : List (List ℕ) → ℕ
 total_length [] = 0
@@ -65,8 +65,8 @@ one_string : (kind : ℕ) → cond (has_outgoing kind) 2147483652 0 + cond (has_
 unfolding has_outgoing has_incoming
 one_string kind = grind (arith, nat_tests)
 
-length-body : (e : Entry) → length (body e) ≡ 8 + (2 + (1 + (1 + (length (argument_bytes e.call) + (8 + (length (string_if (has_outgoing e.call.kind) e.outgoing) + (length (string_if (has_incoming e.call.kind) e.incoming) + (length (tag_if (has_tag e.call.kind) e.tag) + 0))))))))
-unfolding body
+length-body : (e : Entry) → length (body_bytes e) ≡ 8 + (2 + (1 + (1 + (length (argument_bytes e.call) + (8 + (length (string_if (has_outgoing e.call.kind) e.outgoing) + (length (string_if (has_incoming e.call.kind) e.incoming) + (length (tag_if (has_tag e.call.kind) e.tag) + 0))))))))
+unfolding body_bytes
 length-body e = length-concat (
     to_le_bytes w64 e.clock ∷ to_le_bytes w16 e.thread ∷ (e.call.kind ∷ []) ∷ (e.signal ∷ []) ∷ argument_bytes e.call ∷ to_le_bytes w64 e.reply
     ∷ string_if (has_outgoing e.call.kind) e.outgoing ∷ string_if (has_incoming e.call.kind) e.incoming ∷ tag_if (has_tag e.call.kind) e.tag ∷ [])
@@ -74,7 +74,7 @@ length-body e = length-concat (
 body_fits : (n a o i t x y : ℕ) → a ≤ 24 → o ≤ x → i ≤ y → x + y ≤ 2147483652 → t ≤ 13 → n ≡ 8 + (2 + (1 + (1 + (a + (8 + (o + (i + (t + 0)))))))) → n < 2 ^ 32
 body_fits n a o i t x y p q r s u e = omega arith
 
-pub length-body_lt : (e : Entry) → IsShaped e → length (body e) < 2 ^ 32
+pub length-body_lt : (e : Entry) → IsShaped e → length (body_bytes e) < 2 ^ 32
 length-body_lt e shaped =
     body_fits _ _ _ _ _ _ _ (omega (arith, length-argument_bytes e.call, argument_count_le e.call.kind)) (length-string_if _ e.outgoing shaped.outgoing) (length-string_if _ e.incoming shaped.incoming) (one_string e.call.kind) (length-tag_if _ e.tag) (length-body e)
 
@@ -84,7 +84,7 @@ at_least_24 n m a o i t p q = omega arith
 -- an entry has at least 24 bytes
 pub length-encoding : (e : Entry) → 24 ≤ length (encoding e)
 unfolding encoding
-length-encoding e = at_least_24 _ _ _ _ _ _ (length-append (to_le_bytes w32 (length (body e))) (body e)) (length-body e)
+length-encoding e = at_least_24 _ _ _ _ _ _ (length-append (to_le_bytes w32 (length (body_bytes e))) (body_bytes e)) (length-body e)
 
 summed : (n m a c o i t : ℕ) → n ≡ 4 + m → m ≡ 8 + (2 + (1 + (1 + (a + (8 + (o + (i + (t + 0)))))))) → a ≡ 8 * c → n ≡ 24 + 8 * c + o + i + t
 summed n m a c o i t p q r = omega arith
@@ -92,12 +92,12 @@ summed n m a c o i t p q r = omega arith
 -- the sizes of the fields, and 24 bytes for those that each entry has
 pub encoding_size : (e : Entry) → length (encoding e) ≡ 24 + 8 * argument_count e.call.kind + length (string_if (has_outgoing e.call.kind) e.outgoing) + length (string_if (has_incoming e.call.kind) e.incoming) + length (tag_if (has_tag e.call.kind) e.tag)
 unfolding encoding
-encoding_size e = summed _ _ _ _ _ _ _ (length-append (to_le_bytes w32 (length (body e))) (body e)) (length-body e) (length-argument_bytes e.call)
+encoding_size e = summed _ _ _ _ _ _ _ (length-append (to_le_bytes w32 (length (body_bytes e))) (body_bytes e)) (length-body e) (length-argument_bytes e.call)
 
 without_length : (n m : ℕ) → n ≡ 4 + m → m < 2 ^ 32 → (4 ≤ n) × (n - 4 ≡ m) × (n - 4 < 2 ^ 32)
 without_length n m e small = (omega arith, omega arith, omega arith)
 
 -- the length that stands in front of a body
-pub body_size : (e : Entry) (n : ℕ) → n ≡ length (encoding e) → IsShaped e → (4 ≤ n) × (n - 4 ≡ length (body e)) × (n - 4 < 2 ^ 32)
+pub body_size : (e : Entry) (n : ℕ) → n ≡ length (encoding e) → IsShaped e → (4 ≤ n) × (n - 4 ≡ length (body_bytes e)) × (n - 4 < 2 ^ 32)
 unfolding encoding
-body_size e n size shaped = without_length n (length (body e)) (size ∙ length-append (to_le_bytes w32 (length (body e))) (body e)) (length-body_lt e shaped)
+body_size e n size shaped = without_length n (length (body_bytes e)) (size ∙ length-append (to_le_bytes w32 (length (body_bytes e))) (body_bytes e)) (length-body_lt e shaped)

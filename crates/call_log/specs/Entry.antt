@@ -36,8 +36,8 @@ argument_bytes call = concat (
     ∷ [])
 
 -- the fields of an entry, one after the other
-unfoldable pub body : Entry → List ℕ
-body e = concat (
+unfoldable pub body_bytes : Entry → List ℕ
+body_bytes e = concat (
     to_le_bytes w64 e.clock
     ∷ to_le_bytes w16 e.thread
     ∷ (e.call.kind ∷ [])
@@ -51,7 +51,7 @@ body e = concat (
 
 -- the length of the body in 4 bytes, and then the body
 unfoldable pub encoding : Entry → List ℕ
-encoding e = to_le_bytes w32 (length (body e)) ++ body e
+encoding e = to_le_bytes w32 (length (body_bytes e)) ++ body_bytes e
 
 -- entries, one after the other
 abbrev pub encodings : List Entry → List ℕ
@@ -59,7 +59,7 @@ encodings entries = flat_map encoding entries
 
 -- the bytes of an entry in front of its arguments
 unfoldable pub front_bytes : Entry → List ℕ
-front_bytes e = concat (to_le_bytes w32 (length (body e)) ∷ to_le_bytes w64 e.clock ∷ to_le_bytes w16 e.thread ∷ (e.call.kind ∷ e.signal ∷ []) ∷ [])
+front_bytes e = concat (to_le_bytes w32 (length (body_bytes e)) ∷ to_le_bytes w64 e.clock ∷ to_le_bytes w16 e.thread ∷ (e.call.kind ∷ e.signal ∷ []) ∷ [])
 
 -- those behind its arguments and in front of its tag
 unfoldable pub reply_bytes : Entry → List ℕ

@@ -27,4 +27,4 @@ pub record ExactLogs : Type 0 where
   pub heads : FindsHeads
   pub entries : FindsEntries
   pub all : FindsAll
-  pub written : HoldsWritten
+  pub holds_written : HoldsWritten

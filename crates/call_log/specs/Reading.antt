@@ -47,8 +47,8 @@ abbrev pub string_if_at : Bool → List ℕ → Option (List ℕ × List ℕ)
 string_if_at has bytes = if has then string_at bytes else Some ([], bytes)
 
 -- a tag
-unfoldable pub tag_at : List ℕ → Option (Tag × List ℕ)
-tag_at bytes = do
+unfoldable pub tag_fields_at : List ℕ → Option (Tag × List ℕ)
+tag_fields_at bytes = do
   sender ← le_at w32 bytes
   clock ← le_at w64 sender.1
   Some (record { sender = sender.0; clock = clock.0 }, clock.1)
@@ -58,7 +58,7 @@ unfoldable pub flagged_at : List ℕ → Option (Option Tag × List ℕ)
 flagged_at bytes = do
   flag ← byte_at bytes
   if flag.0 == 0 then Some (None, flag.1) else
-      (if flag.0 == 1 then tag_at flag.1 >>= (λ tag. Some (Some tag.0, tag.1)) else None)
+      (if flag.0 == 1 then tag_fields_at flag.1 >>= (λ tag. Some (Some tag.0, tag.1)) else None)
 
 -- the same, where the kind may have a tag
 abbrev pub tag_if_at : Bool → List ℕ → Option (Option Tag × List ℕ)

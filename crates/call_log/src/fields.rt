@@ -2,7 +2,7 @@
 ghost use Rattle.std.specs.Prelude.{◌≡◌, option_map};
 ghost use Rattle.lib_calls.specs.Kinds.{argument_count as argument_count_of, has_incoming as has_incoming_of, has_outgoing as has_outgoing_of, has_tag as has_tag_of};
 ghost use Rattle.call_log.specs.Kind.{is_kind as is_kind_of};
-ghost use Rattle.call_log.specs.Reading.{Gives, call_at, flagged_at, number_if_at, string_at, string_if_at, tag_at, tag_if_at};
+ghost use Rattle.call_log.specs.Reading.{Gives, call_at, flagged_at, number_if_at, string_at, string_if_at, tag_fields_at, tag_if_at};
 
 use fri_bytes::Cursor;
 use lamport_tag::Tag;
@@ -110,9 +110,9 @@ fn read_flagged(cursor: &mut Cursor<'_>) -> Option<Option<Tag>>
 }
 
 // The sender and the clock of a tag.
-#[tactic(auto, unfolding(crate::specs::Reading::tag_at))]
+#[tactic(auto, unfolding(crate::specs::Reading::tag_fields_at))]
 fn read_tag(cursor: &mut Cursor<'_>) -> Option<Tag>
-    ensures { Gives result cursor.new (tag_at cursor.old.left) }
+    ensures { Gives result cursor.new (tag_fields_at cursor.old.left) }
 {
     let sender = cursor.u32_le()?;
     let clock = cursor.u64_le()?;

@@ -2,7 +2,7 @@
 ghost use Rattle.std.specs.Prelude.{◌≡◌, ◌^◌, ◌<◌, ◌≤◌, ◌++◌, length, map, take, Some, OnOk, OnErr};
 ghost use Rattle.std.specs.List.{concat};
 ghost use Rattle.lib_calls.specs.Entry.{IsStringIf, IsTagIf, entry_of, IsShaped};
-ghost use Rattle.call_log.specs.Entry.{argument_bytes, body, encoding, flagged as flagged_of, front_bytes, number_if, reply_bytes, string_if, tag_if};
+ghost use Rattle.call_log.specs.Entry.{argument_bytes, body_bytes, encoding, flagged as flagged_of, front_bytes, number_if, reply_bytes, string_if, tag_if};
 ghost use Rattle.call_log.specs.Head.{IsHead, head_bytes, head_of};
 
 use crate::fields::{argument_count, has_incoming, has_outgoing, has_tag};
@@ -71,7 +71,7 @@ fn put_front(out: &mut Vec<u8>, entry: &EntryView<'_>) -> Result<(), AllocError>
 // The length of the body, and the fields in front of the arguments.
 #[tactic(auto, unfolding(crate::specs::Entry::front_bytes))]
 fn front(size: u32, entry: &EntryView<'_>) -> [u8; 16]
-    requires { size ≡ length (body (entry_of entry.now)) }
+    requires { size ≡ length (body_bytes (entry_of entry.now)) }
     ensures { result ≡ front_bytes (entry_of entry.now) }
 {
     let [s0, s1, s2, s3] = size.to_le_bytes();

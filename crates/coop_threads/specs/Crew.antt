@@ -8,7 +8,7 @@ use Rattle.coop_threads.specs.declared.spawn_error.SpawnError.{SpawnError}
 use Rattle.coop_threads.specs.declared.spawn_error.SpawnError.TheVariants.{Full, NoMemory}
 use Rattle.coop_threads.specs.declared.slot.Slot.{Slot}
 use Rattle.coop_threads.specs.declared.slot.Slot.TheVariants.{Kept, Lent, Over}
-use Rattle.coop_threads.specs.Locks.{Holders, locked}
+use Rattle.coop_threads.specs.Locks.{Holders, holders_after}
 
 -- the threads that were made, in order, and who holds each lock that is held
 pub record Crew (T : Type 0) : Type 0 where
@@ -17,19 +17,19 @@ pub record Crew (T : Type 0) : Type 0 where
 
 -- what is stored of a thread
 abbrev pub stored : {T : Type 0} → Slot T → Option (Option T)
-stored (Kept t) = Some (Some t)
+stored (Kept value) = Some (Some value)
 stored Lent = Some None
 stored Over = None
 
 -- the thread of which this is stored
 abbrev pub slot_of : {T : Type 0} → Option (Option T) → Slot T
-slot_of (Some (Some t)) = Kept t
+slot_of (Some (Some value)) = Kept value
 slot_of (Some None) = Lent
 slot_of None = Over
 
 -- nothing of a thread is lost by that
 pub slot_of-stored : {T : Type 0} (slot : Slot T) → slot_of (stored slot) ≡ slot
-slot_of-stored (Kept t) = refl
+slot_of-stored (Kept value) = refl
 slot_of-stored Lent = refl
 slot_of-stored Over = refl
 
@@ -54,46 +54,46 @@ module _ {T : Type 0} where
 
   -- the value of a thread that is here
   abbrev pub value_of : Slot T → Option T
-  value_of (Kept t) = Some t
+  value_of (Kept value) = Some value
   value_of Lent = None
   value_of Over = None
 
   -- the value of a live thread
   abbrev pub live_at : Crew T → ℕ → Option T
-  live_at crew n = option_and_then value_of (slice_get crew.threads n)
+  live_at crew thread = option_and_then value_of (slice_get crew.threads thread)
 
   -- how a thread stands
   abbrev pub status_of : Option (Slot T) → Status
   status_of None = Unknown
-  status_of (Some (Kept t)) = Live
+  status_of (Some (Kept value)) = Live
   status_of (Some Lent) = Taken
   status_of (Some Over) = Ended
 
-  -- the value of thread n was taken out
+  -- the value of the thread was taken out
   abbrev pub IsTaken : Crew T → ℕ → Type 0
-  IsTaken crew n = slice_get crew.threads n ≡ Some Lent
+  IsTaken crew thread = slice_get crew.threads thread ≡ Some Lent
 
   -- one more thread, which is live
-  abbrev pub with_new_thread : Crew T → T → Crew T
-  with_new_thread crew t = record crew { threads = crew.threads ++ Kept t ∷ [] }
+  abbrev pub with_live : Crew T → T → Crew T
+  with_live crew value = record crew { threads = crew.threads ++ Kept value ∷ [] }
 
   -- the value that comes back where no thread was made
   abbrev pub returned : SpawnError T → T
-  returned (Full t) = t
-  returned (NoMemory t) = t
+  returned (Full value) = value
+  returned (NoMemory value) = value
 
-  -- thread n stands so, and all else is as it was
-  abbrev pub with_thread : Crew T → ℕ → Slot T → Crew T
-  with_thread crew n slot = record crew { threads = slice_set crew.threads n slot }
+  -- the thread stands so, and all else is as it was
+  abbrev pub with_slot : Crew T → ℕ → Slot T → Crew T
+  with_slot crew thread slot = record crew { threads = slice_set crew.threads thread slot }
 
   -- the thread that holds a lock
   abbrev pub holder_of : Crew T → ℕ → Option ℕ
-  holder_of crew m = map.get crew.holders m
+  holder_of crew lock = map.get crew.holders lock
 
-  -- thread n asked for the lock m
-  abbrev pub with_lock : Crew T → ℕ → ℕ → Crew T
-  with_lock crew m n = record crew { holders = locked crew.holders m n (map.get crew.holders m) }
+  -- the thread asked for the lock
+  abbrev pub after_lock : Crew T → ℕ → ℕ → Crew T
+  after_lock crew lock thread = record crew { holders = holders_after crew.holders lock thread (map.get crew.holders lock) }
 
-  -- the lock m is free
-  abbrev pub without_lock : Crew T → ℕ → Crew T
-  without_lock crew m = record crew { holders = map.remove crew.holders m }
+  -- the lock is free
+  abbrev pub after_unlock : Crew T → ℕ → Crew T
+  after_unlock crew lock = record crew { holders = map.remove crew.holders lock }

@@ -11,10 +11,10 @@ Holders = map.FinMap nat_cmp ℕ
 
 -- what a thread finds that asks for a lock with this holder
 abbrev pub grip_of : Option ℕ → ℕ → Grip
-grip_of None n = Got
-grip_of (Some holder) n = if holder == n then Already else Held holder
+grip_of None thread = Got
+grip_of (Some holder) thread = if holder == thread then Already else Held holder
 
--- the holders after a thread asked for the lock m with this holder
-abbrev pub locked : Holders → ℕ → ℕ → Option ℕ → Holders
-locked holders m n None = map.insert holders m n
-locked holders m n (Some holder) = holders
+-- the holders after a thread asked for the lock with this holder
+abbrev pub holders_after : Holders → ℕ → ℕ → Option ℕ → Holders
+holders_after holders lock thread None = map.insert holders lock thread
+holders_after holders lock thread (Some holder) = holders

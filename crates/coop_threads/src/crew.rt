@@ -4,7 +4,7 @@ ghost use Rattle.std.specs.Option.{option_copied};
 ghost use Rattle.std.specs.Bool.{OnTrue, OnFalse};
 ghost use Rattle.coop_threads.specs.declared.slot.Slot.TheVariants.{Kept, Lent, Over};
 ghost use Rattle.coop_threads.specs.Locks.{grip_of};
-ghost use Rattle.coop_threads.specs.Crew.{empty, holder_of, IsTaken, live_at, returned, status_of, with_lock, with_new_thread, with_thread, without_lock};
+ghost use Rattle.coop_threads.specs.Crew.{empty, holder_of, IsTaken, live_at, returned, status_of, after_lock, with_live, with_slot, after_unlock};
 
 use crate::copy_out::CopyOut;
 use crate::grip::Grip;
@@ -51,83 +51,83 @@ impl<T> Crew<T> {
     }
 
     /// Makes a live thread, and gives its number. `Full` comes before want of memory is looked at.
-    pub fn spawn(&mut self, t: T) -> Result<u16, SpawnError<T>>
-        ensures number { IfOk result (λ n. n ≡ length self.old.threads) }
-        ensures ok { OnOk result (self.new ≡ with_new_thread self.old t) }
-        ensures full { (result ≡ Err (SpawnError.Full t)) ↔ (length self.old.threads ≡ 64) }
-        ensures returned { IfErr result (λ e. returned e ≡ t) }
+    pub fn spawn(&mut self, value: T) -> Result<u16, SpawnError<T>>
+        ensures number { IfOk result (λ thread. thread ≡ length self.old.threads) }
+        ensures ok { OnOk result (self.new ≡ with_live self.old value) }
+        ensures full { (result ≡ Err (SpawnError.Full value)) ↔ (length self.old.threads ≡ 64) }
+        ensures returned { IfErr result (λ e. returned e ≡ value) }
         ensures err { OnErr result (self.new ≡ self.old) }
     {
         if self.threads.len() >= LIMIT {
-            return Err(SpawnError::Full(t));
+            return Err(SpawnError::Full(value));
         }
         let number = self.threads.len() as u16;
-        match self.threads.push(Slot::Kept(t)) {
+        match self.threads.push(Slot::Kept(value)) {
             Ok(()) => Ok(number),
             Err(error) => match error.value {
-                Slot::Kept(t) => Err(SpawnError::NoMemory(t)),
+                Slot::Kept(value) => Err(SpawnError::NoMemory(value)),
                 Slot::Lent | Slot::Over => unreachable!(),
             },
         }
     }
 
     /// Takes out the value of a live thread. It takes no memory, nor do `put` and `end`.
-    pub fn take(&mut self, n: u16) -> Option<T>
-        ensures value { result ≡ live_at self.old n }
-        ensures some { OnSome result (self.new ≡ with_thread self.old n Lent) }
+    pub fn take(&mut self, thread: u16) -> Option<T>
+        ensures value { result ≡ live_at self.old thread }
+        ensures some { OnSome result (self.new ≡ with_slot self.old thread Lent) }
         ensures none { IfNone result (self.new ≡ self.old) }
     {
-        if self.status(n) != Status::Live {
+        if self.status(thread) != Status::Live {
             return None;
         }
-        match mem::replace(&mut self.threads[n as usize], Slot::Lent) {
-            Slot::Kept(t) => Some(t),
+        match mem::replace(&mut self.threads[thread as usize], Slot::Lent) {
+            Slot::Kept(value) => Some(value),
             Slot::Lent | Slot::Over => unreachable!(),
         }
     }
 
     /// Gives a thread whose value was taken out a value again, with which it goes on.
-    pub fn put(&mut self, n: u16, t: T)
-        requires { IsTaken self.old n }
-        ensures { self.new ≡ with_thread self.old n (Kept t) }
+    pub fn put(&mut self, thread: u16, value: T)
+        requires { IsTaken self.old thread }
+        ensures { self.new ≡ with_slot self.old thread (Kept value) }
     {
-        self.replace(n, Slot::Kept(t));
+        self.replace(thread, Slot::Kept(value));
     }
 
     /// Ends a thread whose value was taken out. The locks that it holds stay held.
-    pub fn end(&mut self, n: u16)
-        requires { IsTaken self.old n }
-        ensures { self.new ≡ with_thread self.old n Over }
+    pub fn end(&mut self, thread: u16)
+        requires { IsTaken self.old thread }
+        ensures { self.new ≡ with_slot self.old thread Over }
     {
-        self.replace(n, Slot::Over);
+        self.replace(thread, Slot::Over);
     }
 
     // Puts another slot in the place of a thread whose value was taken out.
-    fn replace(&mut self, n: u16, slot: Slot<T>)
-        requires { IsTaken self.old n }
-        ensures { self.new ≡ with_thread self.old n slot }
+    fn replace(&mut self, thread: u16, slot: Slot<T>)
+        requires { IsTaken self.old thread }
+        ensures { self.new ≡ with_slot self.old thread slot }
     {
-        match mem::replace(&mut self.threads[n as usize], slot) {
+        match mem::replace(&mut self.threads[thread as usize], slot) {
             Slot::Lent => {}
             Slot::Kept(_) | Slot::Over => unreachable!(),
         }
     }
 
     /// The value of a live thread.
-    pub fn get(&self, n: u16) -> Option<&T>
-        ensures { option_copied result ≡ live_at self.now n }
+    pub fn get(&self, thread: u16) -> Option<&T>
+        ensures { option_copied result ≡ live_at self.now thread }
     {
-        match self.threads.get(n as usize)? {
-            Slot::Kept(t) => Some(t),
+        match self.threads.get(thread as usize)? {
+            Slot::Kept(value) => Some(value),
             Slot::Lent | Slot::Over => None,
         }
     }
 
     /// How a thread stands.
-    pub fn status(&self, n: u16) -> Status
-        ensures { result ≡ status_of (slice_get self.now.threads n) }
+    pub fn status(&self, thread: u16) -> Status
+        ensures { result ≡ status_of (slice_get self.now.threads thread) }
     {
-        match self.threads.get(n as usize) {
+        match self.threads.get(thread as usize) {
             None => Status::Unknown,
             Some(Slot::Kept(_)) => Status::Live,
             Some(Slot::Lent) => Status::Taken,
@@ -143,30 +143,30 @@ impl<T> Crew<T> {
         self.threads.len() as u16
     }
 
-    /// Thread n asks for the lock m. Memory is wanted only where the lock is free.
-    pub fn lock(&mut self, m: u32, n: u16) -> Result<Grip, AllocError>
-        ensures grip { IfOk result (λ grip. grip ≡ grip_of (holder_of self.old m) n) }
-        ensures ok { OnOk result (self.new ≡ with_lock self.old m n) }
+    /// The thread asks for the lock. Memory is wanted only where the lock is free.
+    pub fn lock(&mut self, lock: u32, thread: u16) -> Result<Grip, AllocError>
+        ensures grip { IfOk result (λ grip. grip ≡ grip_of (holder_of self.old lock) thread) }
+        ensures ok { OnOk result (self.new ≡ after_lock self.old lock thread) }
         ensures err { OnErr result (self.new ≡ self.old) }
-        ensures wanting { OnErr result (holder_of self.old m ≡ None) }
+        ensures wanting { OnErr result (holder_of self.old lock ≡ None) }
     {
-        self.locks.lock(m, n)
+        self.locks.lock(lock, thread)
     }
 
-    /// Thread n gives the lock m back: whether it held it. It takes no memory.
-    pub fn unlock(&mut self, m: u32, n: u16) -> bool
-        ensures held { IsTrue result ↔ (holder_of self.old m ≡ Some n) }
-        ensures freed { OnTrue result (self.new ≡ without_lock self.old m) }
+    /// The thread gives the lock back: whether it held it. It takes no memory.
+    pub fn unlock(&mut self, lock: u32, thread: u16) -> bool
+        ensures held { IsTrue result ↔ (holder_of self.old lock ≡ Some thread) }
+        ensures freed { OnTrue result (self.new ≡ after_unlock self.old lock) }
         ensures kept { OnFalse result (self.new ≡ self.old) }
     {
-        self.locks.unlock(m, n)
+        self.locks.unlock(lock, thread)
     }
 
-    /// The thread that holds the lock m.
-    pub fn holder(&self, m: u32) -> Option<u16>
-        ensures { result ≡ holder_of self.now m }
+    /// The thread that holds the lock.
+    pub fn holder(&self, lock: u32) -> Option<u16>
+        ensures { result ≡ holder_of self.now lock }
     {
-        self.locks.holder(m)
+        self.locks.holder(lock)
     }
 }
 

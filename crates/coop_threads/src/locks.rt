@@ -2,7 +2,7 @@
 ghost use Rattle.std.specs.Prelude.{◌≡◌, ◌↔◌, IfOk, OnOk, OnErr, Some, None, IsTrue};
 ghost use Rattle.std.specs.Bool.{OnTrue, OnFalse};
 ghost use Rattle.std.specs.FinMap as map;
-ghost use Rattle.coop_threads.specs.Locks.{grip_of, locked};
+ghost use Rattle.coop_threads.specs.Locks.{grip_of, holders_after};
 
 use crate::grip::Grip;
 use std::alloc::{AllocError, Global};
@@ -37,39 +37,39 @@ impl Locks {
         }
     }
 
-    pub(crate) fn holder(&self, m: u32) -> Option<u16>
-        ensures { result ≡ map.get self.now m }
+    pub(crate) fn holder(&self, lock: u32) -> Option<u16>
+        ensures { result ≡ map.get self.now lock }
     {
-        self.holders.get(&m).copied()
+        self.holders.get(&lock).copied()
     }
 
-    // Thread n asks for the lock m.
-    pub(crate) fn lock(&mut self, m: u32, n: u16) -> Result<Grip, AllocError>
-        ensures grip { IfOk result (λ grip. grip ≡ grip_of (map.get self.old m) n) }
-        ensures ok { OnOk result (self.new ≡ locked self.old m n (map.get self.old m)) }
+    // The thread asks for the lock.
+    pub(crate) fn lock(&mut self, lock: u32, thread: u16) -> Result<Grip, AllocError>
+        ensures grip { IfOk result (λ grip. grip ≡ grip_of (map.get self.old lock) thread) }
+        ensures ok { OnOk result (self.new ≡ holders_after self.old lock thread (map.get self.old lock)) }
         ensures err { OnErr result (self.new ≡ self.old) }
-        ensures wanting { OnErr result (map.get self.old m ≡ None) }
+        ensures wanting { OnErr result (map.get self.old lock ≡ None) }
     {
-        match self.holder(m) {
-            Some(holder) if holder == n => Ok(Grip::Already),
+        match self.holder(lock) {
+            Some(holder) if holder == thread => Ok(Grip::Already),
             Some(holder) => Ok(Grip::Held(holder)),
             None => {
-                self.holders.insert(m, n)?;
+                self.holders.insert(lock, thread)?;
                 Ok(Grip::Got)
             }
         }
     }
 
-    // Thread n gives the lock m back, where it holds it.
-    pub(crate) fn unlock(&mut self, m: u32, n: u16) -> bool
-        ensures held { IsTrue result ↔ (map.get self.old m ≡ Some n) }
-        ensures freed { OnTrue result (self.new ≡ map.remove self.old m) }
+    // The thread gives the lock back, where it holds it.
+    pub(crate) fn unlock(&mut self, lock: u32, thread: u16) -> bool
+        ensures held { IsTrue result ↔ (map.get self.old lock ≡ Some thread) }
+        ensures freed { OnTrue result (self.new ≡ map.remove self.old lock) }
         ensures kept { OnFalse result (self.new ≡ self.old) }
     {
-        if self.holder(m) != Some(n) {
+        if self.holder(lock) != Some(thread) {
             return false;
         }
-        self.holders.remove(&m);
+        self.holders.remove(&lock);
         true
     }
 

@@ -1,38 +1,38 @@
 -- A choice runs one of its parts, and sets what both set.
 use Rattle.std.proofs.Common.{◌≡◌, List, Bool, true, false, cond, ap, sym, ◌∙◌}
 use Rattle.std.specs.Global.{Vec}
-use Rattle.watch_expr.specs.Tree.{tree}
+use Rattle.watch_expr.specs.Expression.{expression_of}
 use Rattle.watch_expr.specs.View.{Node}
 use Rattle.watch_expr.specs.declared.expr.Expr.{Expr}
 use Rattle.embed_cmds.proofs.Mentioned.{mention_all_append}
 use Rattle.embed_cmds.specs.Faulty.{set_by, set_names}
-use Rattle.embed_cmds.specs.Running.{Run, after, after_all, holds, value_in}
-use Rattle.embed_cmds.specs.Tree.{If, Statement, statement, statements}
-use Rattle.embed_cmds.specs.TreeLaws.{statement-if}
+use Rattle.embed_cmds.specs.Running.{ProgramState, after_statement, after_statements, holds, value_in}
+use Rattle.embed_cmds.specs.Tree.{If, Statement, statement_of, statements}
+use Rattle.embed_cmds.specs.TreeLaws.{statement_of-if}
 use Rattle.embed_cmds.specs.Variables.{Variable, mention_all}
 use Rattle.embed_cmds.specs.declared.program.Stmt.{Stmt}
 use Rattle.embed_cmds.specs.declared.program.Stmt.TheVariants as stmt
 
 module _ (s : Stmt) (x : Expr) (a b : Vec Stmt) (is : s ≡ stmt.If x a b) where
-  choice_is : statement s ≡ If (tree x) (statements a.items) (statements b.items)
-  choice_is = ap statement is ∙ statement-if x a b
+  choice_is : statement_of s ≡ If (expression_of x) (statements a.items) (statements b.items)
+  choice_is = ap statement_of is ∙ statement_of-if x a b
 
-  module _ (nodes : List Node) (r : Run) where
-    chosen : (which : Bool) → holds (value_in nodes r.variables (tree x)) ≡ which → after nodes r (statement s) ≡ cond which (after_all nodes r (statements a.items)) (after_all nodes r (statements b.items))
+  module _ (nodes : List Node) (r : ProgramState) where
+    chosen : (which : Bool) → holds (value_in nodes r.variables (expression_of x)) ≡ which → after_statement nodes r (statement_of s) ≡ cond which (after_statements nodes r (statements a.items)) (after_statements nodes r (statements b.items))
     chosen which test =
-        ap (after nodes r) choice_is
-        ∙ ap (λ (w : Bool). cond w (after_all nodes r (statements a.items)) (after_all nodes r (statements b.items))) test
+        ap (after_statement nodes r) choice_is
+        ∙ ap (λ (w : Bool). cond w (after_statements nodes r (statements a.items)) (after_statements nodes r (statements b.items))) test
 
     -- the first is run where the value holds
-    pub runs_first : (xs : List Stmt) → xs ≡ a.items → holds (value_in nodes r.variables (tree x)) ≡ true → after_all nodes r (statements xs) ≡ after nodes r (statement s)
-    runs_first xs same test = ap (λ (ys : List Stmt). after_all nodes r (statements ys)) same ∙ sym (chosen true test)
+    pub runs_first : (xs : List Stmt) → xs ≡ a.items → holds (value_in nodes r.variables (expression_of x)) ≡ true → after_statements nodes r (statements xs) ≡ after_statement nodes r (statement_of s)
+    runs_first xs same test = ap (λ (ys : List Stmt). after_statements nodes r (statements ys)) same ∙ sym (chosen true test)
 
     -- and the second where it doesn't
-    pub runs_second : (xs : List Stmt) → xs ≡ b.items → holds (value_in nodes r.variables (tree x)) ≡ false → after_all nodes r (statements xs) ≡ after nodes r (statement s)
-    runs_second xs same test = ap (λ (ys : List Stmt). after_all nodes r (statements ys)) same ∙ sym (chosen false test)
+    pub runs_second : (xs : List Stmt) → xs ≡ b.items → holds (value_in nodes r.variables (expression_of x)) ≡ false → after_statements nodes r (statements xs) ≡ after_statement nodes r (statement_of s)
+    runs_second xs same test = ap (λ (ys : List Stmt). after_statements nodes r (statements ys)) same ∙ sym (chosen false test)
 
   -- what both parts set is mentioned, the first part's in front
-  pub mentions_both : (vs between : List Variable) (xs ys : List Stmt) → xs ≡ a.items → ys ≡ b.items → between ≡ mention_all vs (set_names (statements xs)) → mention_all between (set_names (statements ys)) ≡ mention_all vs (set_by (statement s))
+  pub mentions_both : (vs between : List Variable) (xs ys : List Stmt) → xs ≡ a.items → ys ≡ b.items → between ≡ mention_all vs (set_names (statements xs)) → mention_all between (set_names (statements ys)) ≡ mention_all vs (set_by (statement_of s))
   mentions_both vs between xs ys first second first_done =
       ap (λ (zs : List Stmt). mention_all between (set_names (statements zs))) second
       ∙ ap (λ (us : List Variable). mention_all us (set_names (statements b.items))) (first_done ∙ ap (λ (zs : List Stmt). mention_all vs (set_names (statements zs))) first)

@@ -4,7 +4,7 @@ use Rattle.std.proofs.lemmas.List.{length-append}
 use Rattle.watch_expr.specs.Grammar.{IsExpr}
 use Rattle.watch_expr.specs.Laws.{ExactReading, NoneApart, is_apart}
 use Rattle.watch_expr.specs.Spelling.{is_word}
-use Rattle.watch_expr.specs.Tree.{Tree}
+use Rattle.watch_expr.specs.Expression.{Expression}
 use Rattle.embed_cmds.specs.declared.keyword.Keyword.{Keyword}
 use Rattle.embed_cmds.specs.declared.keyword.Keyword.TheVariants as keyword
 use Rattle.embed_cmds.specs.Grammar.{IsItems, IsStatement, IsProgram, last, more, set, say, stop, if_alone, if_else}
@@ -55,7 +55,7 @@ module _ (names : List (List ℕ)) (inside : Left → Read Statements) where
   said : (k : Keyword) (ts : Left) → statement inside names (keyword_text k ∷ ts) ≡ statement_by inside names k ts
   said k ts = ap (λ (o : Option Keyword). then_reads (or_stays o (keyword_text k ∷ ts) ts) (statement_by inside names)) (keyword_again k)
 
-  if_reads : (ts us vs rest : Left) (x : Tree) (p q : Statements) → expression names ts ≡ Ok (x, us) → part inside us ≡ Ok (p, vs) → else_part inside vs ≡ Ok (q, rest) → if_statement inside names ts ≡ Ok (If x p q, rest)
+  if_reads : (ts us vs rest : Left) (x : Expression) (p q : Statements) → expression names ts ≡ Ok (x, us) → part inside us ≡ Ok (p, vs) → else_part inside vs ≡ Ok (q, rest) → if_statement inside names ts ≡ Ok (If x p q, rest)
   if_reads ts us vs rest x p q e f g =
       then_is (expression names ts) x us _ e
       ∙ then_is (part inside us) p vs (λ p us. then_reads (else_part inside us) (λ q left. Ok (If x p q, left))) f
@@ -81,7 +81,7 @@ module _ (exact : ExactReading) (apart : NoneApart) (names : List (List ℕ)) wh
   ReadsTo n inside = (b rest : Left) (p : Statements) → IsProgram names b p → length b ≤ n → ProgramEnd rest → inside (b ++ rest) ≡ Ok (p, rest)
 
   module _ (inside : Left → Read Statements) (n : ℕ) (reads : ReadsTo n inside) where
-    set_reads : (name : List ℕ) (a rest : Left) (x : Tree) → is_word name ≡ true → IsExpr names a x → StatementEnd rest → statement_by inside names keyword.Set (codes "$" ∷ name ∷ (a ++ rest)) ≡ Ok (Set name x, rest)
+    set_reads : (name : List ℕ) (a rest : Left) (x : Expression) → is_word name ≡ true → IsExpr names a x → StatementEnd rest → statement_by inside names keyword.Set (codes "$" ∷ name ∷ (a ++ rest)) ≡ Ok (Set name x, rest)
     set_reads name a rest x w h e = rw w (then_is (expression names (a ++ rest)) x rest (λ x left. Ok (Set name x, left)) (expression_reads exact apart names a rest x h (no_expression rest e)))
 
     say_reads : (a rest : Left) (is : List Item) → IsItems names a is → StatementEnd rest → statement_by inside names keyword.Say (a ++ rest) ≡ Ok (Say is, rest)
@@ -90,7 +90,7 @@ module _ (exact : ExactReading) (apart : NoneApart) (names : List (List ℕ)) wh
     braces_read : (b rest : Left) (p : Statements) → IsProgram names b p → length b ≤ n → part inside (codes "{" ∷ (b ++ codes "}" ∷ rest)) ≡ Ok (p, rest)
     braces_read b rest p h le = part_reads inside b rest p (reads b (codes "}" ∷ rest) p h le brace)
 
-    choice_reads : (a b us rest : Left) (x : Tree) (p q : Statements) → IsExpr names a x → IsProgram names b p → length b ≤ n → else_part inside us ≡ Ok (q, rest) → if_statement inside names (a ++ codes "{" ∷ (b ++ codes "}" ∷ us)) ≡ Ok (If x p q, rest)
+    choice_reads : (a b us rest : Left) (x : Expression) (p q : Statements) → IsExpr names a x → IsProgram names b p → length b ≤ n → else_part inside us ≡ Ok (q, rest) → if_statement inside names (a ++ codes "{" ∷ (b ++ codes "}" ∷ us)) ≡ Ok (If x p q, rest)
     choice_reads a b us rest x p q h k le e =
         let first = codes "{" ∷ (b ++ codes "}" ∷ us) in
         if_reads names inside (a ++ first) first us rest x p q (expression_reads exact apart names a first x h refl) (braces_read b us p k le) e

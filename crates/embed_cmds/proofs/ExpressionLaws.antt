@@ -3,12 +3,12 @@ use Rattle.std.proofs.Common.{◌≡◌, ℕ, zero, suc, ◌+◌, ◌<◌, ◌�
 use Rattle.std.specs.List.{list_all}
 use Rattle.std.proofs.lemmas.Bool.{and_parts, both_ways, not-true}
 use Rattle.std.proofs.lemmas.List.{length-append, length_push, length-take-le, take-append-drop, take_at, drop_at}
-use Rattle.watch_expr.specs.Computed.{tree_of, begins_some, viable}
-use Rattle.watch_expr.specs.Grammar.{IsExpr, Begins, Takes, higher, number}
+use Rattle.watch_expr.specs.Computed.{expression_spelled, begins_some, viable}
+use Rattle.watch_expr.specs.Grammar.{IsExpr, BeginsExpr, TakesExpr, higher, number}
 use Rattle.watch_expr.specs.Laws.{ExactReading, NoneApart, is_apart}
 use Rattle.watch_expr.specs.Spelling.{number_of}
-use Rattle.watch_expr.specs.Tree.{Tree, Number}
-use Rattle.embed_cmds.specs.Reading.{Left, tree_or, expression_in, expression}
+use Rattle.watch_expr.specs.Expression.{Expression, Number}
+use Rattle.embed_cmds.specs.Reading.{Left, expression_or, expression_in, expression}
 use Rattle.embed_cmds.proofs.Splits.{SameHead, empty_too, headed_too, outcome, Spelled, Split, SpellsSome}
 
 zero_is : number_of (codes "0") ≡ Some 0
@@ -52,32 +52,32 @@ module _ (exact : ExactReading) (names : List (List ℕ)) where
       let both = goes (begins_some names (before ++ t ∷ [])) (viable names (before ++ t ∷ []) ts) n e in
       rw both.0 (ap suc (viable_local (before ++ t ∷ []) ts other n both.1 h))
 
-  viable_begins : (before ts : Left) (n : ℕ) → viable names before ts ≡ n → Begins names before → Begins names (before ++ take n ts)
-  viable_begins before ts zero e h = subst (Begins names) (sym (append-nil before)) h
-  viable_begins before [] (suc n) e h = subst (Begins names) (sym (append-nil before)) h
+  viable_begins : (before ts : Left) (n : ℕ) → viable names before ts ≡ n → BeginsExpr names before → BeginsExpr names (before ++ take n ts)
+  viable_begins before ts zero e h = subst (BeginsExpr names) (sym (append-nil before)) h
+  viable_begins before [] (suc n) e h = subst (BeginsExpr names) (sym (append-nil before)) h
   viable_begins before (t ∷ ts) (suc n) e h =
       let both = goes (begins_some names (before ++ t ∷ [])) (viable names (before ++ t ∷ []) ts) n e in
-      let first = (exact.begun names (before ++ t ∷ [])).0 both.0 in
-      subst (Begins names) (append_assoc before (t ∷ []) (take n ts)) (viable_begins (before ++ t ∷ []) ts n both.1 first)
+      let first = (exact.begins names (before ++ t ∷ [])).0 both.0 in
+      subst (BeginsExpr names) (append_assoc before (t ∷ []) (take n ts)) (viable_begins (before ++ t ∷ []) ts n both.1 first)
 
-  none_begins : Begins names []
+  none_begins : BeginsExpr names []
   none_begins = let some = some_expression names in record { rest = some.0; whole = some.1; spelled = some.2 }
 
   -- ---- reading one
 
-  tree_outcome : (o : Option Tree) (left : Left) → tree_or left o ≡ outcome o left
+  tree_outcome : (o : Option Expression) (left : Left) → expression_or left o ≡ outcome o left
   tree_outcome None left = refl
   tree_outcome (Some x) left = refl
 
-  spelled_so : (front : Left) (o : Option Tree) → tree_of names front ≡ o → Begins names front → Spelled (IsExpr names) o front
+  spelled_so : (front : Left) (o : Option Expression) → expression_spelled names front ≡ o → BeginsExpr names front → Spelled (IsExpr names) o front
   spelled_so front None e h = (h.rest, h.whole, h.spelled)
-  spelled_so front (Some x) e h = (exact.trees names front x).0 e
+  spelled_so front (Some x) e h = (exact.expressions names front x).0 e
 
-  expression_in_is : (front left : Left) (n : ℕ) → length front ≡ n → expression_in names (front ++ left) n ≡ outcome (tree_of names front) left
+  expression_in_is : (front left : Left) (n : ℕ) → length front ≡ n → expression_in names (front ++ left) n ≡ outcome (expression_spelled names front) left
   expression_in_is front left n e =
-      ap (λ (us : Left). tree_or us (tree_of names (take n (front ++ left)))) (drop_at front left n e)
-      ∙ ap (λ (us : Left). tree_or left (tree_of names us)) (take_at front left n e)
-      ∙ tree_outcome (tree_of names front) left
+      ap (λ (us : Left). expression_or us (expression_spelled names (take n (front ++ left)))) (drop_at front left n e)
+      ∙ ap (λ (us : Left). expression_or left (expression_spelled names us)) (take_at front left n e)
+      ∙ tree_outcome (expression_spelled names front) left
 
   pub expression_split : (ts : Left) → Split (expression names) (IsExpr names) ts
   expression_split ts =
@@ -86,9 +86,9 @@ module _ (exact : ExactReading) (names : List (List ℕ)) where
       record {
         front = take n ts;
         left = drop n ts;
-        got = tree_of names (take n ts);
+        got = expression_spelled names (take n ts);
         parts = sym (take-append-drop n ts);
-        spelled = spelled_so (take n ts) (tree_of names (take n ts)) refl (viable_begins [] ts n refl none_begins);
+        spelled = spelled_so (take n ts) (expression_spelled names (take n ts)) refl (viable_begins [] ts n refl none_begins);
         local = λ other same.
             ap (expression_in names (take n ts ++ other)) (viable_local [] ts other n refl same)
             ∙ expression_in_is (take n ts) other n (length-take-le n ts within);
@@ -104,24 +104,24 @@ passes_at test [] t r e = (and_parts (test t) (list_all test r) e).0
 passes_at test (u ∷ a) t r e = passes_at test a t r (and_parts (test u) (list_all test (a ++ t ∷ r)) e).1
 
 module _ (exact : ExactReading) (apart : NoneApart) (names : List (List ℕ)) where
-  begins_no_more : (a : Left) (t : List ℕ) (r : Left) → is_apart t ≡ true → Begins names (take (length a + 1) (a ++ t ∷ r)) → ⊥
+  begins_no_more : (a : Left) (t : List ℕ) (r : Left) → is_apart t ≡ true → BeginsExpr names (take (length a + 1) (a ++ t ∷ r)) → ⊥
   begins_no_more a t r e b =
       let spelled : IsExpr names (a ++ t ∷ b.rest) b.whole = subst (λ (us : Left). IsExpr names us b.whole) (ap (λ (us : Left). us ++ b.rest) (one_more a t r) ∙ append_assoc a (t ∷ []) b.rest) b.spelled in
       both_ways (is_apart t) (not-true (is_apart t) (passes_at (λ u. not (is_apart u)) a t b.rest (apart names (a ++ t ∷ b.rest) b.whole spelled))) e
 
-  longest : (a rest : Left) → EndsWith is_apart rest → length a < length (a ++ rest) → Begins names (take (length a + 1) (a ++ rest)) → ⊥
+  longest : (a rest : Left) → EndsWith is_apart rest → length a < length (a ++ rest) → BeginsExpr names (take (length a + 1) (a ++ rest)) → ⊥
   longest a [] e lt b = absurd (omega (arith, length-append a []))
   longest a (t ∷ r) e lt b = begins_no_more a t r e b
 
-  takes : (a rest : Left) (x : Tree) → IsExpr names a x → EndsWith is_apart rest → Takes names (a ++ rest) (length a)
+  takes : (a rest : Left) (x : Expression) → IsExpr names a x → EndsWith is_apart rest → TakesExpr names (a ++ rest) (length a)
   takes a rest x h e = record {
     within = omega (arith, length-append a rest);
-    begins = subst (Begins names) (sym (take_at a rest (length a) refl)) (record { rest = []; whole = x; spelled = subst (λ (us : Left). IsExpr names us x) (sym (append-nil a)) h });
+    begins = subst (BeginsExpr names) (sym (take_at a rest (length a) refl)) (record { rest = []; whole = x; spelled = subst (λ (us : Left). IsExpr names us x) (sym (append-nil a)) h });
     longest = longest a rest e;
   }
 
-  pub expression_reads : (a rest : Left) (x : Tree) → IsExpr names a x → EndsWith is_apart rest → expression names (a ++ rest) ≡ Ok (x, rest)
+  pub expression_reads : (a rest : Left) (x : Expression) → IsExpr names a x → EndsWith is_apart rest → expression names (a ++ rest) ≡ Ok (x, rest)
   expression_reads a rest x h e =
       ap (expression_in names (a ++ rest)) (exact.viable names (a ++ rest) (length a) (takes a rest x h e))
       ∙ expression_in_is exact names a rest (length a) refl
-      ∙ ap (λ (o : Option Tree). outcome o rest) ((exact.trees names a x).1 h)
+      ∙ ap (λ (o : Option Expression). outcome o rest) ((exact.expressions names a x).1 h)

@@ -4,8 +4,8 @@ use Rattle.std.specs.List.{list_all}
 use Rattle.std.proofs.lemmas.Bool.{and_parts, cases_Bool, not-true, or_parts}
 use Rattle.watch_expr.specs.Grammar.{IsExpr}
 use Rattle.watch_expr.specs.Laws.{ExactReading, NoneApart, is_apart}
-use Rattle.watch_expr.specs.Computed.{tree_of}
-use Rattle.watch_expr.specs.Tree.{Tree}
+use Rattle.watch_expr.specs.Computed.{expression_spelled}
+use Rattle.watch_expr.specs.Expression.{Expression}
 use Rattle.embed_cmds.specs.Grammar.{IsItem, words, value}
 use Rattle.embed_cmds.specs.Reading.{Left, Read, then_reads, before_quote, string_of, expression, item}
 use Rattle.embed_cmds.specs.Tree.{Item, Words, Value}
@@ -64,8 +64,8 @@ no_string_too [] other h same = empty_too BeginsNoString tt other same
 no_string_too (t ∷ ts) [] h same = absurd same
 no_string_too (t ∷ ts) (u ∷ us) h same = ap string_of (sym same) ∙ h
 
-no_tree : (names : List (List ℕ)) → tree_of names [] ≡ None
-unfolding tree_of
+no_tree : (names : List (List ℕ)) → expression_spelled names [] ≡ None
+unfolding expression_spelled
 no_tree names = refl
 
 item_value : (names : List (List ℕ)) (ts : Left) → BeginsNoString ts → item names ts ≡ then_reads (expression names ts) (λ x left. Ok (Value x, left))
@@ -109,19 +109,19 @@ module _ (exact : ExactReading) (names : List (List ℕ)) where
 -- ---- what is spelled is read
 
 module _ (exact : ExactReading) (names : List (List ℕ)) where
-  none_spelled : (x : Tree) → IsExpr names [] x → ⊥
-  none_spelled x h = let none : ◌≡◌ {A = Option Tree} None (Some x) = sym (no_tree names) ∙ (exact.trees names [] x).1 h in cc
+  none_spelled : (x : Expression) → IsExpr names [] x → ⊥
+  none_spelled x h = let none : ◌≡◌ {A = Option Expression} None (Some x) = sym (no_tree names) ∙ (exact.expressions names [] x).1 h in cc
 
   pub item_takes : {a : Left} {i : Item} → IsItem names a i → 1 ≤ length a
   item_takes (words body) = omega arith
   item_takes (value {a} {x} h) = some_taken a x h
     where
-      some_taken : (a : Left) (x : Tree) → IsExpr names a x → 1 ≤ length a
+      some_taken : (a : Left) (x : Expression) → IsExpr names a x → 1 ≤ length a
       some_taken [] x h = absurd (none_spelled x h)
       some_taken (t ∷ a) x h = omega arith
 
 module _ (exact : ExactReading) (apart : NoneApart) (names : List (List ℕ)) where
-  expression_begins : (a rest : Left) (x : Tree) → IsExpr names a x → BeginsNoString (a ++ rest)
+  expression_begins : (a rest : Left) (x : Expression) → IsExpr names a x → BeginsNoString (a ++ rest)
   expression_begins [] rest x h = absurd (none_spelled exact names x h)
   expression_begins (t ∷ a) rest x h = no_string t (and_parts (not (is_apart t)) (list_all (λ u. not (is_apart u)) a) (apart names (t ∷ a) x h)).0
 
@@ -129,4 +129,4 @@ module _ (exact : ExactReading) (apart : NoneApart) (names : List (List ℕ)) wh
   item_reads a rest i (words body) e = rw (before_again body) refl
   item_reads a rest i (value {x} h) e =
       item_value names (a ++ rest) (expression_begins a rest x h)
-      ∙ ap (λ (r : Read Tree). then_reads r (λ x left. Ok (Value x, left))) (expression_reads exact apart names a rest x h e)
+      ∙ ap (λ (r : Read Expression). then_reads r (λ x left. Ok (Value x, left))) (expression_reads exact apart names a rest x h e)

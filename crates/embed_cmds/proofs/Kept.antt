@@ -7,7 +7,7 @@ use Rattle.std.specs.Option.{option_flatten}
 use Rattle.std.specs.Prelude.{bytes_eq}
 use Rattle.indexmap.specs.IndexMap.{insert_entry}
 use Rattle.embed_cmds.specs.Kept.{variable, variables_of}
-use Rattle.embed_cmds.specs.Variables.{Variable, is_mentioned, value_of, with_value}
+use Rattle.embed_cmds.specs.Variables.{Variable, is_mentioned, variable_value, with_value}
 
 -- the key is this name
 abbrev named : List ℕ → Vec ℕ → Bool
@@ -35,11 +35,11 @@ flat_or : (b : Bool) (v : Option ℤ) (o : Option (Option ℤ)) (w : Option ℤ)
 flat_or true v o w h = refl
 flat_or false v o w h = h
 
-pub found_value : (name : List ℕ) (es : Entries) → option_flatten (lookup (named name) es) ≡ value_of (variables_of es) name
+pub found_value : (name : List ℕ) (es : Entries) → option_flatten (lookup (named name) es) ≡ variable_value (variables_of es) name
 found_value name [] = refl
 found_value name (e ∷ es) =
     ap (λ (b : Bool). option_flatten (cond b (Some e.1) (lookup (named name) es))) (turned name e.0)
-    ∙ flat_or (bytes_eq e.0.items name) e.1 (lookup (named name) es) (value_of (variables_of es) name) (found_value name es)
+    ∙ flat_or (bytes_eq e.0.items name) e.1 (lookup (named name) es) (variable_value (variables_of es) name) (found_value name es)
 
 -- either of two entries in front, and those behind it
 seen_or : (b : Bool) (e f : Vec ℕ × Option ℤ) (es fs : Entries) (vs : List Variable) → variables_of fs ≡ vs → variables_of (cond b (f ∷ es) (e ∷ fs)) ≡ cond b (variable f ∷ variables_of es) (variable e ∷ vs)

@@ -2,7 +2,7 @@
 use Rattle.std.proofs.Common.{◌≡◌, ℕ, zero, suc, ◌<◌, ◌≤◌, List, [], ◌∷◌, length, Option, Some, None, Ok, bytes_eq, codes, if◌then◌else◌, inl, inr, refl, ap, ◌∙◌, arith}
 use Rattle.std.proofs.lemmas.Bool.{cases_Bool}
 use Rattle.watch_expr.specs.Laws.{ExactReading}
-use Rattle.watch_expr.specs.Tree.{Tree}
+use Rattle.watch_expr.specs.Expression.{Expression}
 use Rattle.embed_cmds.specs.declared.keyword.Keyword.{Keyword}
 use Rattle.embed_cmds.specs.declared.keyword.Keyword.TheVariants as keyword
 use Rattle.embed_cmds.specs.Grammar.{IsProgram}
@@ -35,7 +35,7 @@ after_else inside other (t ∷ ts) h = ap (λ (r : Read Statements). if bytes_eq
 
 module _ (exact : ExactReading) (names : List (List ℕ)) where
   module _ (inside other : Left → Read Statements) (splits : (ts : Left) → Split inside (IsProgram names) ts) where
-    both_parts : (x : Tree) (ts : Left) → AgreeBelow (length ts) inside other → then_reads (part inside ts) (λ p us. then_reads (else_part inside us) (λ q left. Ok (If x p q, left))) ≡ then_reads (part other ts) (λ p us. then_reads (else_part other us) (λ q left. Ok (If x p q, left)))
+    both_parts : (x : Expression) (ts : Left) → AgreeBelow (length ts) inside other → then_reads (part inside ts) (λ p us. then_reads (else_part inside us) (λ q left. Ok (If x p q, left))) ≡ then_reads (part other ts) (λ p us. then_reads (else_part other us) (λ q left. Ok (If x p q, left)))
     both_parts x ts h =
         let chosen : Statements → Statements → Left → Read Statement = λ p q left. Ok (If x p q, left) in
         then_same (part inside ts) (λ p us. then_reads (else_part inside us) (chosen p)) (λ p us. then_reads (else_part other us) (chosen p))

@@ -2,7 +2,7 @@
 use Rattle.std.proofs.Common.{◌≡◌, ◌↔◌, ◌⊎◌, ℕ, ◌+◌, ◌≤◌, List, [], ◌∷◌, ◌++◌, length, Option, Some, None, Result, Ok, Err, inl, inr, refl, sym, ap, ◌∙◌, subst, append_assoc, append-nil, arith}
 use Rattle.watch_expr.specs.Laws.{ExactReading, NoneApart}
 use Rattle.embed_cmds.specs.Grammar.{IsProgram, BeginsProgram, GoesOnWithNone, StopsAt}
-use Rattle.embed_cmds.specs.Reading.{Left, Read, program_in, whole, program_of}
+use Rattle.embed_cmds.specs.Reading.{Left, Read, program_in, whole_program, program_of}
 use Rattle.embed_cmds.specs.Tree.{Statements}
 use Rattle.embed_cmds.proofs.Splits.{outcome, Spelled, same_outcome, split_at, local_of}
 use Rattle.embed_cmds.proofs.StatementLaws.{program_split}
@@ -11,12 +11,12 @@ use Rattle.embed_cmds.proofs.Completeness.{nothing, program_reads}
 
 -- ---- what a whole program is
 
-whole_read : (r : Read Statements) (p : Statements) → whole r ≡ Ok p → r ≡ outcome (Some p) []
+whole_read : (r : Read Statements) (p : Statements) → whole_program r ≡ Ok p → r ≡ outcome (Some p) []
 whole_read (Ok (body, [])) p e = let same : body ≡ p = cc in ap (λ (q : Statements). Ok (q, [])) same
 whole_read (Ok (body, t ∷ left)) p e = absurd cc
 whole_read (Err left) p e = absurd cc
 
-stopped : (r : Read Statements) (left : Left) → whole r ≡ Err left → (got : Option Statements) × (r ≡ outcome got left)
+stopped : (r : Read Statements) (left : Left) → whole_program r ≡ Err left → (got : Option Statements) × (r ≡ outcome got left)
 stopped (Ok (body, [])) left e = absurd cc
 stopped (Ok (body, t ∷ more)) left e = let same : t ∷ more ≡ left = cc in (Some body, ap (λ (us : Left). Ok (body, us)) same)
 stopped (Err more) left e = (None, cc)
@@ -85,7 +85,7 @@ module _ (exact : ExactReading) (apart : NoneApart) (names : List (List ℕ)) wh
 
   spelled : (ts : Left) (p : Statements) → IsProgram names ts p → program_of names ts ≡ Ok p
   unfolding program_of
-  spelled ts p h = ap whole (reads_alone (length ts) ts p h (omega arith))
+  spelled ts p h = ap whole_program (reads_alone (length ts) ts p h (omega arith))
 
   -- what goes on at the token at which reading stopped would be read as a whole
   goes_on_with_none : (ts front left : Left) (got : Option Statements) → ts ≡ front ++ left → program_in (length ts) names ts ≡ outcome got left → program_of names ts ≡ Err left → GoesOnWithNone names front left

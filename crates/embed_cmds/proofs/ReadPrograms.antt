@@ -6,8 +6,8 @@ use Rattle.watch_expr.specs.declared.error.ExprError.{ExprError}
 use Rattle.watch_expr.specs.declared.error.ExprError.TheVariants.{Syntax, NoNode, TooDeep, Nested, NoMemory}
 use Rattle.watch_expr.specs.Lexing.{Lexed, texts}
 use Rattle.embed_cmds.specs.declared.program.Stmt.{Stmt}
-use Rattle.embed_cmds.specs.Parsing.{Parsed, ReadAs}
-use Rattle.embed_cmds.specs.Reading.{Left, program_in, program_of, whole}
+use Rattle.embed_cmds.specs.Parsing.{ParsedProgram, ReadAs}
+use Rattle.embed_cmds.specs.Reading.{Left, program_in, program_of, whole_program}
 use Rattle.embed_cmds.specs.Tree.{Statements, statements}
 
 -- as many levels as tokens
@@ -15,18 +15,18 @@ levels_are : (line : Lexed) (from count levels : ℕ) → count ≡ length line.
 levels_are line from count levels e is = omega (arith, length-drop from (texts line), length-map line.tokens (λ t. t.text))
 
 -- reading stopped
-pub stopped : (names : List (List ℕ)) (line : Lexed) (from count levels : ℕ) (e : ExprError) → count ≡ length line.tokens → levels ≡ count - from → ReadAs (λ (v : Vec Stmt). statements v.items) line (program_in levels names (drop from (texts line))) (Err e) → Parsed names line from (Err e)
+pub stopped : (names : List (List ℕ)) (line : Lexed) (from count levels : ℕ) (e : ExprError) → count ≡ length line.tokens → levels ≡ count - from → ReadAs (λ (v : Vec Stmt). statements v.items) line (program_in levels names (drop from (texts line))) (Err e) → ParsedProgram names line from (Err e)
 unfolding program_of
 stopped names line from count levels (Syntax column) counted is h =
     let ts = drop from (texts line) in
     let enough : length ts ≡ levels = sym (levels_are line from count levels counted is) in
-    (h.0, ap (λ (n : ℕ). whole (program_in n names ts)) enough ∙ ap whole h.1, h.2)
+    (h.0, ap (λ (n : ℕ). whole_program (program_in n names ts)) enough ∙ ap whole_program h.1, h.2)
 stopped names line from count levels NoMemory counted is h = tt
 stopped names line from count levels NoNode counted is h = absurd h
 stopped names line from count levels TooDeep counted is h = h
 stopped names line from count levels Nested counted is h = absurd h
 
-whole_less : (body : Statements) (left : Left) → 0 < length left → whole (Ok (body, left)) ≡ Err left
+whole_less : (body : Statements) (left : Left) → 0 < length left → whole_program (Ok (body, left)) ≡ Err left
 whole_less body [] some = absurd (omega arith)
 whole_less body (t ∷ left) some = refl
 
@@ -37,7 +37,7 @@ read_less names line from count levels next body counted is e there =
     let ts = drop from (texts line) in
     let enough : length ts ≡ levels = sym (levels_are line from count levels counted is) in
     let some : 0 < length (drop next (texts line)) = omega (arith, length-drop next (texts line), length-map line.tokens (λ t. t.text)) in
-    ap (λ (n : ℕ). whole (program_in n names ts)) enough ∙ (ap whole e ∙ whole_less body (drop next (texts line)) some)
+    ap (λ (n : ℕ). whole_program (program_in n names ts)) enough ∙ (ap whole_program e ∙ whole_less body (drop next (texts line)) some)
 
 -- none is left
 pub read_all : (names : List (List ℕ)) (line : Lexed) (from count levels next : ℕ) (body : Statements) → count ≡ length line.tokens → levels ≡ count - from → program_in levels names (drop from (texts line)) ≡ Ok (body, drop next (texts line)) → length line.tokens ≤ next → program_of names (drop from (texts line)) ≡ Ok body
@@ -46,4 +46,4 @@ read_all names line from count levels next body counted is e end =
     let ts = drop from (texts line) in
     let enough : length ts ≡ levels = sym (levels_are line from count levels counted is) in
     let none : drop next (texts line) ≡ [] = drop_all next (texts line) (omega (arith, length-map line.tokens (λ t. t.text))) in
-    ap (λ (n : ℕ). whole (program_in n names ts)) enough ∙ (ap whole e ∙ ap (λ (left : Left). whole (Ok (body, left))) none)
+    ap (λ (n : ℕ). whole_program (program_in n names ts)) enough ∙ (ap whole_program e ∙ ap (λ (left : Left). whole_program (Ok (body, left))) none)

@@ -4,18 +4,17 @@ use Rattle.std.specs.Global.{Vec}
 use Rattle.std.specs.Option.{option_and_then}
 use Rattle.watch_expr.specs.declared.error.ExprError.{ExprError}
 use Rattle.watch_expr.specs.declared.error.ExprError.TheVariants.{Syntax, NoNode, TooDeep, Nested, NoMemory}
-use Rattle.watch_expr.specs.Computed.{tree_of}
+use Rattle.watch_expr.specs.Computed.{expression_spelled}
 use Rattle.watch_expr.specs.Lexing.{Lexed, texts}
-use Rattle.watch_expr.specs.Tree.{Tree, tree}
+use Rattle.watch_expr.specs.Expression.{Expression, expression_of}
 use Rattle.watch_expr.specs.declared.expr.Expr.{Expr}
 use Rattle.std.specs.Result.{is_ok}
 use Rattle.embed_cmds.specs.declared.program.Stmt.TheVariants as stmt
-use Rattle.embed_cmds.specs.TreeLaws.{statement-if}
+use Rattle.embed_cmds.specs.TreeLaws.{statement_of-if}
 use Rattle.embed_cmds.specs.declared.program.Stmt.{Stmt}
 use Rattle.embed_cmds.specs.Parsing.{ReadAs}
 use Rattle.embed_cmds.specs.Reading.{Left, Read, behind, else_part, expression, if_statement, item, part, program_in, separated, statement, string_of, string_or_value, then_reads}
-use Rattle.embed_cmds.specs.Tree.{Item, Words, Value, Statement, Statements, End, Then, sequence, statements}
-use Rattle.embed_cmds.specs.Tree.{statement as statement_of}
+use Rattle.embed_cmds.specs.Tree.{Item, Words, Value, Statement, Statements, End, Then, sequence, statement_of, statements}
 use Rattle.embed_cmds.proofs.ReadTokens.{at_end, at_token, drop_one, first_is}
 
 -- where a first step is refused, so is the whole
@@ -35,11 +34,11 @@ pub item_words : (names ts : List (List ℕ)) (n : ℕ) (body : List ℕ) → op
 item_words names ts n body h = words_at names ts n body (slice_get ts n) refl h
 
 -- the value of what was read
-abbrev pub as_value : Tree → Left → Read Item
+abbrev pub as_value : Expression → Left → Read Item
 as_value x left = Ok (Value x, left)
 
 nothing_read : (names : List (List ℕ)) → then_reads (expression names []) as_value ≡ Err []
-unfolding tree_of
+unfolding expression_spelled
 nothing_read names = refl
 
 value_at : (names ts : List (List ℕ)) (n : ℕ) (t : Option (List ℕ)) → slice_get ts n ≡ t → option_and_then string_of t ≡ None → item names (drop n ts) ≡ then_reads (expression names (drop n ts)) as_value
@@ -78,9 +77,9 @@ sequence_as line wanted whole (Err e) is h =
     refused_first (λ (v : Vec Stmt). map {A = Stmt} statement_of v.items) (λ (v : Vec Stmt). statements v.items) line wanted as_sequence whole e is h
 
 -- a choice was read
-pub choice_read : (inside : Left → Read Statements) (names : List (List ℕ)) (ts behind_test behind_true left : Left) (x : Expr) (on_true on_false : Vec Stmt) → expression names ts ≡ Ok (tree x, behind_test) → part inside behind_test ≡ Ok (statements on_true.items, behind_true) → else_part inside behind_true ≡ Ok (statements on_false.items, left) → if_statement inside names ts ≡ Ok (statement_of (stmt.If x on_true on_false), left)
+pub choice_read : (inside : Left → Read Statements) (names : List (List ℕ)) (ts behind_test behind_true left : Left) (x : Expr) (on_true on_false : Vec Stmt) → expression names ts ≡ Ok (expression_of x, behind_test) → part inside behind_test ≡ Ok (statements on_true.items, behind_true) → else_part inside behind_true ≡ Ok (statements on_false.items, left) → if_statement inside names ts ≡ Ok (statement_of (stmt.If x on_true on_false), left)
 choice_read inside names ts behind_test behind_true left x on_true on_false test first second =
-    rw (test, first, second) (ap (λ (s : Statement). Ok (s, left)) (sym (statement-if x on_true on_false)))
+    rw (test, first, second) (ap (λ (s : Statement). Ok (s, left)) (sym (statement_of-if x on_true on_false)))
 
 -- a part where a test holds, and else none
 abbrev part_if : Bool → Read Statements → Left → Read Statements

@@ -5,7 +5,7 @@ use Rattle.std.proofs.lemmas.Bool.{cases_Bool}
 use Rattle.watch_expr.specs.Grammar.{IsExpr}
 use Rattle.watch_expr.specs.Laws.{ExactReading}
 use Rattle.watch_expr.specs.Spelling.{is_word}
-use Rattle.watch_expr.specs.Tree.{Tree}
+use Rattle.watch_expr.specs.Expression.{Expression}
 use Rattle.embed_cmds.specs.declared.keyword.Keyword.{Keyword}
 use Rattle.embed_cmds.specs.declared.keyword.Keyword.TheVariants as keyword
 use Rattle.embed_cmds.specs.Grammar.{IsItem, IsItems, IsStatement, IsProgram, last, more, set, say, stop, if_alone, if_else}
@@ -107,30 +107,30 @@ module _ (names : List (List ℕ)) where
   -- ---- choices
 
   -- what stands behind the first part
-  data ElseBehind (x : Tree) (p : Statements) : Left → Statement → Type 0 where
+  data ElseBehind (x : Expression) (p : Statements) : Left → Statement → Type 0 where
     chosen : {c : Left} {q : Statements} → IsElse c q → ElseBehind x p c (If x p q)
 
   -- what stands behind the expression
-  data PartsBehind (x : Tree) : Left → Statement → Type 0 where
+  data PartsBehind (x : Expression) : Left → Statement → Type 0 where
     both : {b c : Left} {p q : Statements} → IsPart b p → IsElse c q → PartsBehind x (b ++ c) (If x p q)
 
-  behind_part : (x : Tree) (b back : Left) (p : Statements) (s : Statement) → IsPart b p → ElseBehind x p back s → PartsBehind x (b ++ back) s
+  behind_part : (x : Expression) (b back : Left) (p : Statements) (s : Statement) → IsPart b p → ElseBehind x p back s → PartsBehind x (b ++ back) s
   behind_part x b back p s h (chosen k) = both h k
 
   -- the keyword and what stands behind it
   abbrev StatementBehind : Keyword → Left → Statement → Type 0
   StatementBehind k back s = IsStatement names (keyword_text k ∷ back) s
 
-  choice_of : (a : Left) (x : Tree) (b c : Left) (p q : Statements) → IsExpr names a x → IsPart b p → IsElse c q → StatementBehind keyword.If (a ++ (b ++ c)) (If x p q)
+  choice_of : (a : Left) (x : Expression) (b c : Left) (p q : Statements) → IsExpr names a x → IsPart b p → IsElse c q → StatementBehind keyword.If (a ++ (b ++ c)) (If x p q)
   choice_of a x b c p q h (braces {b = inner} k) alone =
       subst (λ (us : Left). StatementBehind keyword.If (a ++ us) (If x p End)) (sym (append-nil (codes "{" ∷ (inner ++ codes "}" ∷ [])))) (if_alone h k)
   choice_of a x b c p q h (braces {b = inner} k) (otherwise (braces {b = second} l)) =
       subst (λ (us : Left). StatementBehind keyword.If (a ++ codes "{" ∷ us) (If x p q)) (sym (append_assoc inner (codes "}" ∷ []) (codes "else" ∷ codes "{" ∷ (second ++ codes "}" ∷ [])))) (if_else h k l)
 
-  behind_expression : (a back : Left) (x : Tree) (s : Statement) → IsExpr names a x → PartsBehind x back s → StatementBehind keyword.If (a ++ back) s
+  behind_expression : (a back : Left) (x : Expression) (s : Statement) → IsExpr names a x → PartsBehind x back s → StatementBehind keyword.If (a ++ back) s
   behind_expression a back x s h (both {b} {c} {p} {q} k l) = choice_of a x b c p q h k l
 
-  some_parts : (x : Tree) → SpellsSome (PartsBehind x)
+  some_parts : (x : Expression) → SpellsSome (PartsBehind x)
   some_parts x = let some = some_part in (_, _, both some.2 alone)
 
   module _ (exact : ExactReading) (inside : Left → Read Statements) (splits : (ts : Left) → Split inside (IsProgram names) ts) where
@@ -144,7 +144,7 @@ module _ (names : List (List ℕ)) where
 
   -- a variable's name and what stands behind it
   data SetBehind (name : List ℕ) : Left → Statement → Type 0 where
-    to : {a : Left} {x : Tree} → IsExpr names a x → SetBehind name a (Set name x)
+    to : {a : Left} {x : Expression} → IsExpr names a x → SetBehind name a (Set name x)
 
   abbrev NameBehind : Left → Statement → Type 0
   NameBehind back s = StatementBehind keyword.Set (codes "$" ∷ back) s

@@ -3,17 +3,17 @@
 use Rattle.std.specs.Prelude.{◌≡◌, ℕ, List, [], ◌∷◌, nat_eq, if◌then◌else◌, refl}
 use Rattle.std.proofs.Common.{ap, ◌∙◌, ◌⊎◌, inl, inr}
 use Rattle.std.specs.Coded.{Coded, code_by, coded×, coded⊎, coded_ℕ, coded_list}
-use Rattle.watch_expr.specs.Coding.{tree_code}
-use Rattle.watch_expr.specs.Tree.{Tree}
+use Rattle.watch_expr.specs.Coding.{expression_code}
+use Rattle.watch_expr.specs.Expression.{Expression}
 use Rattle.embed_cmds.specs.Tree.{Item, Words, Value, Statement, Set, Say, Stop, If, Statements, End, Then}
 
 -- ---- items
 
-abbrev of_item : Item → List ℕ ⊎ Tree
+abbrev of_item : Item → List ℕ ⊎ Expression
 of_item (Words bytes) = inl bytes
 of_item (Value x) = inr x
 
-abbrev item_in : List ℕ ⊎ Tree → Item
+abbrev item_in : List ℕ ⊎ Expression → Item
 item_in (inl bytes) = Words bytes
 item_in (inr x) = Value x
 
@@ -22,23 +22,23 @@ item_back (Words bytes) = refl
 item_back (Value x) = refl
 
 abbrev item_code : Coded Item
-item_code = code_by (List ℕ ⊎ Tree) (coded⊎ (coded_list coded_ℕ) tree_code) of_item item_in item_back
+item_code = code_by (List ℕ ⊎ Expression) (coded⊎ (coded_list coded_ℕ) expression_code) of_item item_in item_back
 
 -- ---- words
 
 -- of a statement that is set, of one that is said, of a choice, or the number of what has no part
 abbrev Word : Type 0
-Word = (List ℕ × Tree) ⊎ (List Item ⊎ (Tree ⊎ ℕ))
+Word = (List ℕ × Expression) ⊎ (List Item ⊎ (Expression ⊎ ℕ))
 
 abbrev word_code : Coded Word
-word_code = coded⊎ (coded× (coded_list coded_ℕ) tree_code) (coded⊎ (coded_list item_code) (coded⊎ tree_code coded_ℕ))
+word_code = coded⊎ (coded× (coded_list coded_ℕ) expression_code) (coded⊎ (coded_list item_code) (coded⊎ expression_code coded_ℕ))
 
 -- a statement in front of the sequence read last
 abbrev put : Statement → List Statements → List Statements
 put s [] = []
 put s (rest ∷ more) = Then s rest ∷ more
 
-abbrev put_if : Tree → List Statements → List Statements
+abbrev put_if : Expression → List Statements → List Statements
 put_if x [] = []
 put_if x (on_false ∷ []) = []
 put_if x (on_false ∷ (on_true ∷ more)) = put (If x on_true on_false) more
@@ -78,12 +78,12 @@ mutual
   read_write (Say items) ws rest read = refl
   read_write Stop ws rest read = refl
   read_write (If x on_true on_false) ws rest read =
-      read_write_all on_true (write_all on_false (inr (inr (inl x)) ∷ ws)) (rest ∷ read)
-      ∙ read_write_all on_false (inr (inr (inl x)) ∷ ws) (on_true ∷ (rest ∷ read))
+      read_write_statements on_true (write_all on_false (inr (inr (inl x)) ∷ ws)) (rest ∷ read)
+      ∙ read_write_statements on_false (inr (inr (inl x)) ∷ ws) (on_true ∷ (rest ∷ read))
 
-  pub read_write_all : (p : Statements) (ws : List Word) (read : List Statements) → read_words (write_all p ws) read ≡ read_words ws (p ∷ read)
-  read_write_all End ws read = refl
-  read_write_all (Then first rest) ws read = read_write_all rest (write first ws) read ∙ read_write first ws rest read
+  pub read_write_statements : (p : Statements) (ws : List Word) (read : List Statements) → read_words (write_all p ws) read ≡ read_words ws (p ∷ read)
+  read_write_statements End ws read = refl
+  read_write_statements (Then first rest) ws read = read_write_statements rest (write first ws) read ∙ read_write first ws rest read
 
 abbrev pub statements_code : Coded Statements
-statements_code = code_by (List Word) (coded_list word_code) (λ p. write_all p []) statements_in (λ p. ap first_read (read_write_all p [] []))
+statements_code = code_by (List Word) (coded_list word_code) (λ p. write_all p []) statements_in (λ p. ap first_read (read_write_statements p [] []))

@@ -2,13 +2,13 @@
 use Rattle.std.specs.Prelude.{◌≡◌, ℕ, true, codes, List, [], ◌∷◌, ◌++◌}
 use Rattle.watch_expr.specs.Grammar.{IsExpr}
 use Rattle.watch_expr.specs.Spelling.{is_word}
-use Rattle.watch_expr.specs.Tree.{Tree}
+use Rattle.watch_expr.specs.Expression.{Expression}
 use Rattle.embed_cmds.specs.Tree.{Item, Words, Value, Statement, Set, Say, Stop, If, Statements, End, Then}
 
 -- with these names of nodes, the tokens spell the item: a string in its quotes, or an expression
 pub data IsItem (names : List (List ℕ)) : List (List ℕ) → Item → Type 0 where
   words : (body : List ℕ) → IsItem names ((34 ∷ (body ++ 34 ∷ [])) ∷ []) (Words body)
-  value : {a : List (List ℕ)} {x : Tree} → IsExpr names a x → IsItem names a (Value x)
+  value : {a : List (List ℕ)} {x : Expression} → IsExpr names a x → IsItem names a (Value x)
 
 -- items with commas between them
 pub data IsItems (names : List (List ℕ)) : List (List ℕ) → List Item → Type 0 where
@@ -17,11 +17,11 @@ pub data IsItems (names : List (List ℕ)) : List (List ℕ) → List Item → T
 
 mutual
   pub data IsStatement (names : List (List ℕ)) : List (List ℕ) → Statement → Type 0 where
-    set : {a : List (List ℕ)} {x : Tree} (name : List ℕ) → is_word name ≡ true → IsExpr names a x → IsStatement names (codes "set" ∷ codes "$" ∷ name ∷ a) (Set name x)
+    set : {a : List (List ℕ)} {x : Expression} (name : List ℕ) → is_word name ≡ true → IsExpr names a x → IsStatement names (codes "set" ∷ codes "$" ∷ name ∷ a) (Set name x)
     say : {a : List (List ℕ)} {items : List Item} → IsItems names a items → IsStatement names (codes "say" ∷ a) (Say items)
     stop : IsStatement names (codes "stop" ∷ []) Stop
-    if_alone : {a b : List (List ℕ)} {x : Tree} {p : Statements} → IsExpr names a x → IsProgram names b p → IsStatement names (codes "if" ∷ (a ++ codes "{" ∷ (b ++ codes "}" ∷ []))) (If x p End)
-    if_else : {a b c : List (List ℕ)} {x : Tree} {p q : Statements} → IsExpr names a x → IsProgram names b p → IsProgram names c q → IsStatement names (codes "if" ∷ (a ++ codes "{" ∷ (b ++ codes "}" ∷ codes "else" ∷ codes "{" ∷ (c ++ codes "}" ∷ [])))) (If x p q)
+    if_alone : {a b : List (List ℕ)} {x : Expression} {p : Statements} → IsExpr names a x → IsProgram names b p → IsStatement names (codes "if" ∷ (a ++ codes "{" ∷ (b ++ codes "}" ∷ []))) (If x p End)
+    if_else : {a b c : List (List ℕ)} {x : Expression} {p q : Statements} → IsExpr names a x → IsProgram names b p → IsProgram names c q → IsStatement names (codes "if" ∷ (a ++ codes "{" ∷ (b ++ codes "}" ∷ codes "else" ∷ codes "{" ∷ (c ++ codes "}" ∷ [])))) (If x p q)
 
   -- statements with semicolons between them
   pub data IsProgram (names : List (List ℕ)) : List (List ℕ) → Statements → Type 0 where

@@ -32,10 +32,10 @@ GoesAs line wanted (Err Nested) = ⊥
 
 -- What parsing all tokens from one on gives, but for memory: the program that they spell, unless something is wrong with
 -- it; or the column of the first token that no program could have there.
-abbrev pub Parsed : List (List ℕ) → Lexed → ℕ → Result Program ExprError → Type 0
-Parsed names line from (Ok p) = (program_of names (drop from (texts line)) ≡ Ok (body p)) × (nests (body p) ≡ false) × (lacks (body p) ≡ false)
-Parsed names line from (Err (Syntax column)) = (left : Left) × (program_of names (drop from (texts line)) ≡ Err left) × (column ≡ column_of line left)
-Parsed names line from (Err Nested) = (p : Statements) × (program_of names (drop from (texts line)) ≡ Ok p) × (nests p ≡ true)
-Parsed names line from (Err NoNode) = (p : Statements) × (program_of names (drop from (texts line)) ≡ Ok p) × (nests p ≡ false) × (lacks p ≡ true)
-Parsed names line from (Err TooDeep) = ⊥
-Parsed names line from (Err NoMemory) = Unit {0}
+abbrev pub ParsedProgram : List (List ℕ) → Lexed → ℕ → Result Program ExprError → Type 0
+ParsedProgram names line from (Ok p) = (program_of names (drop from (texts line)) ≡ Ok (body p)) × (nests (body p) ≡ false) × (lacks (body p) ≡ false)
+ParsedProgram names line from (Err (Syntax column)) = (left : Left) × (program_of names (drop from (texts line)) ≡ Err left) × (column ≡ column_of line left)
+ParsedProgram names line from (Err Nested) = (p : Statements) × (program_of names (drop from (texts line)) ≡ Ok p) × (nests p ≡ true)
+ParsedProgram names line from (Err NoNode) = (p : Statements) × (program_of names (drop from (texts line)) ≡ Ok p) × (nests p ≡ false) × (lacks p ≡ true)
+ParsedProgram names line from (Err TooDeep) = ⊥
+ParsedProgram names line from (Err NoMemory) = Unit {0}

@@ -1,9 +1,9 @@
 -- What the tokens of a program spell, as a function that computes. The tokens are read from the first one on.
 use Rattle.std.specs.Prelude.{ℕ, zero, suc, ◌==◌, List, [], ◌∷◌, length, take, drop, codes, bytes_eq, Option, Some, None, option_map, Result, Ok, Err, if◌then◌else◌}
 use Rattle.std.specs.List.{find}
-use Rattle.watch_expr.specs.Computed.{tree_of, viable}
+use Rattle.watch_expr.specs.Computed.{expression_spelled, viable}
 use Rattle.watch_expr.specs.Spelling.{is_word}
-use Rattle.watch_expr.specs.Tree.{Tree}
+use Rattle.watch_expr.specs.Expression.{Expression}
 use Rattle.embed_cmds.specs.declared.keyword.Keyword.{Keyword}
 use Rattle.embed_cmds.specs.declared.keyword.Keyword.TheVariants as keyword
 use Rattle.embed_cmds.specs.Tree.{Item, Words, Value, Statement, Set, Say, Stop, If, Statements, End, sequence}
@@ -69,16 +69,16 @@ keyword_of text = find (λ k. bytes_eq (keyword_text k) text) keywords
 
 -- ---- expressions, and lists of what is read
 
-abbrev pub tree_or : Left → Option Tree → Read Tree
-tree_or left None = Err left
-tree_or left (Some x) = Ok (x, left)
+abbrev pub expression_or : Left → Option Expression → Read Expression
+expression_or left None = Err left
+expression_or left (Some x) = Ok (x, left)
 
 -- so many tokens
-abbrev pub expression_in : List (List ℕ) → Left → ℕ → Read Tree
-expression_in names ts n = tree_or (drop n ts) (tree_of names (take n ts))
+abbrev pub expression_in : List (List ℕ) → Left → ℕ → Read Expression
+expression_in names ts n = expression_or (drop n ts) (expression_spelled names (take n ts))
 
 -- an expression, of as many tokens as begin one
-abbrev pub expression : List (List ℕ) → Left → Read Tree
+abbrev pub expression : List (List ℕ) → Left → Read Expression
 expression names ts = expression_in names ts (viable names [] ts)
 
 abbrev pub then_more : {A : Type 0} → List ℕ → (Left → Read (List A)) → A → Left → Read (List A)
@@ -145,12 +145,12 @@ abbrev pub program_in : ℕ → List (List ℕ) → Left → Read Statements
 program_in zero names ts = Err ts
 program_in (suc levels) names ts = then_reads (separated (codes ";") (statement (program_in levels names) names) ts) (λ list left. Ok (sequence list, left))
 
-abbrev pub whole : Read Statements → Result Statements Left
-whole (Ok (body, [])) = Ok body
-whole (Ok (body, t ∷ left)) = Err (t ∷ left)
-whole (Err left) = Err left
+abbrev pub whole_program : Read Statements → Result Statements Left
+whole_program (Ok (body, [])) = Ok body
+whole_program (Ok (body, t ∷ left)) = Err (t ∷ left)
+whole_program (Err left) = Err left
 
 -- the program that the tokens spell, over nodes with these names, or the tokens from the first one on that no program
 -- could have there
 unfoldable pub program_of : List (List ℕ) → List (List ℕ) → Result Statements Left
-program_of names ts = whole (program_in (length ts) names ts)
+program_of names ts = whole_program (program_in (length ts) names ts)

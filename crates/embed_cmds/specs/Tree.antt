@@ -1,6 +1,6 @@
 -- Programs as contracts see them: trees, with lists where the program has vectors.
 use Rattle.std.specs.Prelude.{ℕ, List, [], ◌∷◌, map}
-use Rattle.watch_expr.specs.Tree.{Tree, tree}
+use Rattle.watch_expr.specs.Expression.{Expression, expression_of}
 use Rattle.embed_cmds.specs.declared.program.Program.{Program}
 use Rattle.embed_cmds.specs.declared.program.SayItem.{SayItem}
 use Rattle.embed_cmds.specs.declared.program.SayItem.TheVariants as said
@@ -10,15 +10,15 @@ use Rattle.embed_cmds.specs.declared.program.Stmt as stmt
 -- what a line says: the bytes of a string, or a value
 pub data Item : Type 0 where
   Words : (bytes : List ℕ) → Item
-  Value : (x : Tree) → Item
+  Value : (x : Expression) → Item
 
 mutual
   -- a statement with those inside it
   pub data Statement : Type 0 where
-    Set : (name : List ℕ) → (x : Tree) → Statement
+    Set : (name : List ℕ) → (x : Expression) → Statement
     Say : (items : List Item) → Statement
     Stop : Statement
-    If : (x : Tree) → (on_true on_false : Statements) → Statement
+    If : (x : Expression) → (on_true on_false : Statements) → Statement
 
   -- statements, one after the other
   pub data Statements : Type 0 where
@@ -30,27 +30,27 @@ abbrev pub sequence : List Statement → Statements
 sequence [] = End
 sequence (first ∷ rest) = Then first (sequence rest)
 
-abbrev pub item : SayItem → Item
-item (said.Words bytes) = Words bytes
-item (said.Value x) = Value (tree x)
+abbrev pub item_of : SayItem → Item
+item_of (said.Words bytes) = Words bytes
+item_of (said.Value x) = Value (expression_of x)
 
 abbrev mutual
   -- the statement that the value in memory is
-  pub statement : Stmt → Statement
-  statement (stmt.Set name x) = Set name (tree x)
-  statement (stmt.Say items) = Say (map {A = SayItem} item items.items)
-  statement stmt.Stop = Stop
-  statement (stmt.If' x n on_true m on_false) = If (tree x) (statements_of_row on_true) (statements_of_row on_false)
+  pub statement_of : Stmt → Statement
+  statement_of (stmt.Set name x) = Set name (expression_of x)
+  statement_of (stmt.Say items) = Say (map {A = SayItem} item_of items.items)
+  statement_of stmt.Stop = Stop
+  statement_of (stmt.If' x n on_true m on_false) = If (expression_of x) (statements_of_row on_true) (statements_of_row on_false)
 
   -- the statements of the elements of a vector inside a statement
   pub statements_of_row : {m : _} → Row_of-Stmt m → Statements
   statements_of_row end_of-Stmt = End
-  statements_of_row (more_of-Stmt first rest) = Then (statement first) (statements_of_row rest)
+  statements_of_row (more_of-Stmt first rest) = Then (statement_of first) (statements_of_row rest)
 
 -- the statements of a list
 abbrev pub statements : List Stmt → Statements
 statements [] = End
-statements (first ∷ rest) = Then (statement first) (statements rest)
+statements (first ∷ rest) = Then (statement_of first) (statements rest)
 
 -- the statements of a program
 abbrev pub body : Program → Statements

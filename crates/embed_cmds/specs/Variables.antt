@@ -10,9 +10,9 @@ abbrev pub is_mentioned : List Variable → List ℕ → Bool
 is_mentioned variables name = list_any (λ v. bytes_eq v.0 name) variables
 
 -- the value of a variable, which is undef where it was never set
-abbrev pub value_of : List Variable → List ℕ → Option ℤ
-value_of [] name = None
-value_of (v ∷ variables) name = if bytes_eq v.0 name then v.1 else value_of variables name
+abbrev pub variable_value : List Variable → List ℕ → Option ℤ
+variable_value [] name = None
+variable_value (v ∷ variables) name = if bytes_eq v.0 name then v.1 else variable_value variables name
 
 -- with this value of a variable, which comes last where it was not mentioned before
 abbrev pub with_value : List Variable → List ℕ → Option ℤ → List Variable

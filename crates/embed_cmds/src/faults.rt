@@ -2,9 +2,9 @@
 ghost use Rattle.std.specs.Prelude.{◌≡◌, ◌||◌, false, map};
 ghost use Rattle.std.specs.List.{list_any};
 ghost use Rattle.watch_expr.specs.Faulty.{is_nested, lacks_node};
-ghost use Rattle.watch_expr.specs.Tree.{tree};
+ghost use Rattle.watch_expr.specs.Expression.{expression_of};
 ghost use Rattle.embed_cmds.specs.Faulty.{lacks, lacks_item, lacks_one, nests, nests_item, nests_one};
-ghost use Rattle.embed_cmds.specs.Tree.{body, item as item_of, statement, statements};
+ghost use Rattle.embed_cmds.specs.Tree.{body, item_of, statement_of, statements};
 
 use crate::program::{Program, SayItem, Stmt};
 use watch_expr::{Expr, find_faults};
@@ -44,7 +44,7 @@ impl ProgramFaults {
 }
 
 fn faults_of_value(x: &Expr) -> ProgramFaults
-    ensures { result ≡ record { nested = is_nested (tree x.now); no_node = lacks_node false (tree x.now) } }
+    ensures { result ≡ record { nested = is_nested (expression_of x.now); no_node = lacks_node false (expression_of x.now) } }
 {
     let faults = find_faults(x);
     ProgramFaults {
@@ -89,8 +89,8 @@ fn faults_of_all(stmts: &[Stmt]) -> ProgramFaults
 /// The faults of a statement with those inside it.
 #[cycle(faults)]
 fn faults_of_one(stmt: &Stmt) -> ProgramFaults
-    ensures nested { result.nested ≡ nests_one (statement stmt.now) }
-    ensures no_node { result.no_node ≡ lacks_one (statement stmt.now) }
+    ensures nested { result.nested ≡ nests_one (statement_of stmt.now) }
+    ensures no_node { result.no_node ≡ lacks_one (statement_of stmt.now) }
 {
     match stmt {
         Stmt::Set(_, x) => faults_of_value(x),

@@ -1,9 +1,9 @@
 // Reads a program, statement by statement.
 ghost use Rattle.std.specs.Prelude.{◌≡◌, ◌≤◌, ◌<◌, ◌^◌, IfOk, codes, drop, length, map};
 ghost use Rattle.watch_expr.specs.Lexing.{texts};
-ghost use Rattle.embed_cmds.specs.Parsing.{Parsed, ReadAs};
+ghost use Rattle.embed_cmds.specs.Parsing.{ParsedProgram, ReadAs};
 ghost use Rattle.embed_cmds.specs.Reading.{else_part, if_statement, item as item_in, part, program_in, say_statement, separated, set_statement, statement as statement_in, statement_by};
-ghost use Rattle.embed_cmds.specs.Tree.{item as item_of, statement as statement_of, statements};
+ghost use Rattle.embed_cmds.specs.Tree.{item_of, statement_of, statements};
 
 use crate::faults::program_faults;
 use crate::keyword::Keyword;
@@ -24,7 +24,7 @@ pub fn parse_program(
     names: &[Bytes],
 ) -> Result<Program, ExprError>
     requires { length names.now < 2 ^ 32 }
-    ensures { Parsed names.now tokens.now from result }
+    ensures { ParsedProgram names.now tokens.now from result }
 {
     let levels = tokens.count().saturating_sub(from);
     let (stmts, next) = read_program(alloc, tokens, from, names, levels)?;

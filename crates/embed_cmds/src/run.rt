@@ -1,8 +1,8 @@
 // What programs do.
 ghost use Rattle.std.specs.Prelude.{◌≡◌, ◌++◌, false, map, IfOk, OnOk};
-ghost use Rattle.watch_expr.specs.Tree.{tree};
-ghost use Rattle.embed_cmds.specs.Running.{after, after_all, holds, item_text, line_text, value_in, value_word};
-ghost use Rattle.embed_cmds.specs.Tree.{body, item, statement, statements};
+ghost use Rattle.watch_expr.specs.Expression.{expression_of};
+ghost use Rattle.embed_cmds.specs.Running.{after_statement, after_statements, holds, said_item, said_line, value_in, value_word};
+ghost use Rattle.embed_cmds.specs.Tree.{body, item_of, statement_of, statements};
 ghost use Rattle.embed_cmds.specs.Variables.{with_value};
 
 use crate::program::{Program, SayItem, Stmt};
@@ -31,7 +31,7 @@ pub fn run_program<V: View>(
     vars: &mut Vars,
     out: &mut Text,
 ) -> Result<bool, AllocError>
-    ensures { IfOk result (λ stopped. after_all (V.nodes v.now) (record { variables = vars.old; text = out.old; stopped = false }) (body p.now) ≡ record { variables = vars.new; text = out.new; stopped = stopped }) }
+    ensures { IfOk result (λ stopped. after_statements (V.nodes v.now) (record { variables = vars.old; text = out.old; stopped = false }) (body p.now) ≡ record { variables = vars.new; text = out.new; stopped = stopped }) }
 {
     run_all(alloc, &p.stmts, v, vars, out)
 }
@@ -44,7 +44,7 @@ fn run_all<V: View>(
     vars: &mut Vars,
     out: &mut Text,
 ) -> Result<bool, AllocError>
-    ensures { IfOk result (λ stopped. after_all (V.nodes v.now) (record { variables = vars.old; text = out.old; stopped = false }) (statements stmts.now) ≡ record { variables = vars.new; text = out.new; stopped = stopped }) }
+    ensures { IfOk result (λ stopped. after_statements (V.nodes v.now) (record { variables = vars.old; text = out.old; stopped = false }) (statements stmts.now) ≡ record { variables = vars.new; text = out.new; stopped = stopped }) }
 {
     for stmt in stmts {
         if run(alloc, stmt, v, vars, out)? {
@@ -62,7 +62,7 @@ fn run<V: View>(
     vars: &mut Vars,
     out: &mut Text,
 ) -> Result<bool, AllocError>
-    ensures { IfOk result (λ stopped. after (V.nodes v.now) (record { variables = vars.old; text = out.old; stopped = false }) (statement stmt.now) ≡ record { variables = vars.new; text = out.new; stopped = stopped }) }
+    ensures { IfOk result (λ stopped. after_statement (V.nodes v.now) (record { variables = vars.old; text = out.old; stopped = false }) (statement_of stmt.now) ≡ record { variables = vars.new; text = out.new; stopped = stopped }) }
 {
     match stmt {
         Stmt::Set(name, x) => {
@@ -91,7 +91,7 @@ fn set<V: View>(
     v: &V,
     vars: &mut Vars,
 ) -> Result<(), AllocError>
-    ensures { OnOk result (vars.new ≡ with_value vars.old name.now (value_in (V.nodes v.now) vars.old (tree x.now))) }
+    ensures { OnOk result (vars.new ≡ with_value vars.old name.now (value_in (V.nodes v.now) vars.old (expression_of x.now))) }
 {
     let value = eval(x, v, vars);
     vars.set(alloc, name.as_slice(), value)
@@ -99,7 +99,7 @@ fn set<V: View>(
 
 // A line, with its end.
 fn say<V: View>(items: &[SayItem], v: &V, vars: &Vars, out: &mut Text) -> Result<(), AllocError>
-    ensures { OnOk result (out.new ≡ out.old ++ line_text (V.nodes v.now) vars.now (map item items.now)) }
+    ensures { OnOk result (out.new ≡ out.old ++ said_line (V.nodes v.now) vars.now (map item_of items.now)) }
 {
     for item in items {
         push_item(item, v, vars, out)?;
@@ -108,7 +108,7 @@ fn say<V: View>(items: &[SayItem], v: &V, vars: &Vars, out: &mut Text) -> Result
 }
 
 fn push_item<V: View>(said: &SayItem, v: &V, vars: &Vars, out: &mut Text) -> Result<(), AllocError>
-    ensures { OnOk result (out.new ≡ out.old ++ item_text (V.nodes v.now) vars.now (item said.now)) }
+    ensures { OnOk result (out.new ≡ out.old ++ said_item (V.nodes v.now) vars.now (item_of said.now)) }
 {
     match said {
         SayItem::Words(bytes) => out.push_bytes(bytes.as_slice()),

@@ -3,7 +3,7 @@ ghost use Rattle.std.specs.Prelude.{◌≡◌, ◌≤◌, ◌<◌, ◌^◌, IfOk
 ghost use Rattle.std.specs.Option.{option_and_then};
 ghost use Rattle.std.specs.Result.{is_ok};
 ghost use Rattle.watch_expr.specs.Lexing.{texts};
-ghost use Rattle.watch_expr.specs.Tree.{tree};
+ghost use Rattle.watch_expr.specs.Expression.{expression_of};
 ghost use Rattle.embed_cmds.specs.Parsing.{GoesAs, ReadAs};
 ghost use Rattle.embed_cmds.specs.Reading.{before_quote as before_quote_of, behind, expression, keyword_of, string_of, token_as, word_of};
 
@@ -106,7 +106,7 @@ pub(crate) fn read_expression(
     names: &[Bytes],
 ) -> Result<(Expr, usize), ExprError>
     requires { length names.now < 2 ^ 32 }
-    ensures read { ReadAs tree tokens.now (expression names.now (drop at (texts tokens.now))) result }
+    ensures read { ReadAs expression_of tokens.now (expression names.now (drop at (texts tokens.now))) result }
     ensures onward { IfOk result (λ r. at ≤ r.1) }
 {
     exact_reading();

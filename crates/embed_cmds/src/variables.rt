@@ -1,8 +1,8 @@
 // The variables of a session.
 ghost use Rattle.std.specs.Prelude.{◌≡◌, [], length, nat_le, slice_get, option_map, IfOk, OnOk, if◌then◌else◌};
 ghost use Rattle.embed_cmds.specs.Faulty.{set_by, set_names};
-ghost use Rattle.embed_cmds.specs.Tree.{body, statement, statements};
-ghost use Rattle.embed_cmds.specs.Variables.{is_mentioned, mention, mention_all, value_of, with_value};
+ghost use Rattle.embed_cmds.specs.Tree.{body, statement_of, statements};
+ghost use Rattle.embed_cmds.specs.Variables.{is_mentioned, mention, mention_all, variable_value, with_value};
 
 use crate::program::{Program, Stmt};
 use indexmap::IndexMap;
@@ -103,7 +103,7 @@ impl Vars {
 }
 
 impl Scope for Vars {
-    ghost variables = { value_of };
+    ghost variables = { variable_value };
 
     fn value(&self, name: &[u8]) -> Option<i64> {
         *self.values.get(name)?
@@ -122,7 +122,7 @@ fn mention_statements(alloc: Global, stmts: &[Stmt], vars: &mut Vars) -> Result<
 
 #[cycle(mention)]
 fn mention_statement(alloc: Global, stmt: &Stmt, vars: &mut Vars) -> Result<(), AllocError>
-    ensures { OnOk result (vars.new ≡ mention_all vars.old (set_by (statement stmt.now))) }
+    ensures { OnOk result (vars.new ≡ mention_all vars.old (set_by (statement_of stmt.now))) }
 {
     match stmt {
         Stmt::Set(name, _) => vars.mention(alloc, name.as_slice()),

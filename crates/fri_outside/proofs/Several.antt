@@ -7,12 +7,12 @@ use Rattle.std.proofs.lemmas.Option.{same_Some, slice_get_within, get_or_from_sl
 use Rattle.std.specs.Ordering.{nat_cmp, eq_by_cmp}
 use Rattle.std.specs.Cmp.Lexicographic.{slice_cmp, nat_list_cmp_total}
 use Rattle.std.specs.FinMap.{insert, get, get-insert, same_map, slice_cmp-IsAntisymmetric, nat_cmp-IsAntisymmetric}
-use Rattle.fri_outside.specs.Outside.{Store, bytes_at, with_file, with_piece}
+use Rattle.fri_outside.specs.Outside.{Folder, bytes_at, with_file, with_piece}
 use Rattle.fri_outside.specs.Several.{with_files, grown, AreApart, AreFronts, Adds, IsLeft, ChangesOnly}
 use Rattle.fri_outside.proofs.Stored.{is_same, get_set, with_piece-with_file}
 
 -- one more file behind the others
-pub more_made : (told : Option Store) (files : List (List ℕ × List ℕ)) (name bytes : List ℕ) → with_file name bytes (with_files files told) ≡ with_files (files ++ (name, bytes) ∷ []) told
+pub more_made : (told : Option Folder) (files : List (List ℕ × List ℕ)) (name bytes : List ℕ) → with_file name bytes (with_files files told) ≡ with_files (files ++ (name, bytes) ∷ []) told
 more_made told [] name bytes = refl
 more_made told (file ∷ files) name bytes = more_made (with_file file.0 file.1 told) files name bytes
 
@@ -25,7 +25,7 @@ differs q name apart =
     ] refl
 
 -- a file that was made leaves the other names
-get_other : (s : Store) (name bytes q : List ℕ) → q ≢ name → get (insert s name bytes) q ≡ get s q
+get_other : (s : Folder) (name bytes q : List ℕ) → q ≢ name → get (insert s name bytes) q ≡ get s q
 get_other s name bytes q apart = get-insert nat_list_cmp_total s name bytes q ∙ ap (λ b. cond b (Some bytes) (get s q)) (differs q name apart)
 
 cond_swapped : {A : Type 0} (a b : Bool) (x y z : A) → (a ≡ true → b ≡ true → ⊥) → cond a x (cond b y z) ≡ cond b y (cond a x z)
@@ -34,7 +34,7 @@ cond_swapped true false x y z apart = refl
 cond_swapped false b x y z apart = refl
 
 -- files of two names are made in either order
-insert_swapped : (s : Store) (a b x y : List ℕ) → a ≢ b → insert (insert s a x) b y ≡ insert (insert s b y) a x
+insert_swapped : (s : Folder) (a b x y : List ℕ) → a ≢ b → insert (insert s a x) b y ≡ insert (insert s b y) a x
 insert_swapped s a b x y apart = same_map nat_list_cmp_total (slice_cmp-IsAntisymmetric nat_cmp-IsAntisymmetric) _ _ (λ q.
     get-insert nat_list_cmp_total (insert s a x) b y q
     ∙ ap (cond (eq_by_cmp (slice_cmp nat_cmp) q b) (Some y)) (get-insert nat_list_cmp_total s a x q)
@@ -44,13 +44,13 @@ insert_swapped s a b x y apart = same_map nat_list_cmp_total (slice_cmp-IsAntisy
     ∙ sym (get-insert nat_list_cmp_total (insert s b y) a x q))
 
 -- a piece goes behind a file's bytes before or after another file is made
-piece_first : (told : Option Store) (name piece other bytes : List ℕ) → other ≢ name → with_piece name piece (with_file other bytes told) ≡ with_file other bytes (with_piece name piece told)
+piece_first : (told : Option Folder) (name piece other bytes : List ℕ) → other ≢ name → with_piece name piece (with_file other bytes told) ≡ with_file other bytes (with_piece name piece told)
 piece_first None name piece other bytes apart = refl
 piece_first (Some s) name piece other bytes apart = ap Some (
     ap (λ o. insert (insert s other bytes) name (unwrap_or o [] ++ piece)) (get_other s other bytes name (λ same. apart (sym same)))
     ∙ insert_swapped s other name bytes (bytes_at s name ++ piece) apart)
 
-piece_before : (told : Option Store) (files : List (List ℕ × List ℕ)) (name piece : List ℕ)
+piece_before : (told : Option Folder) (files : List (List ℕ × List ℕ)) (name piece : List ℕ)
     → ((place : ℕ) (other bytes : List ℕ) → slice_get files place ≡ Some (other, bytes) → other ≢ name)
     → with_piece name piece (with_files files told) ≡ with_files files (with_piece name piece told)
 piece_before told [] name piece apart = refl
@@ -69,7 +69,7 @@ apart_behind : (file : List ℕ × List ℕ) (files : List (List ℕ × List ℕ
 apart_behind file files apart i j d before within = apart (suc i) (suc j) d (omega arith) (omega arith)
 
 -- a piece behind the bytes of one file
-pub piece_grows : (told : Option Store) (files : List (List ℕ × List ℕ)) (place : ℕ) (name bytes piece : List ℕ) → AreApart files → slice_get files place ≡ Some (name, bytes)
+pub piece_grows : (told : Option Folder) (files : List (List ℕ × List ℕ)) (place : ℕ) (name bytes piece : List ℕ) → AreApart files → slice_get files place ≡ Some (name, bytes)
     → with_piece name piece (with_files files told) ≡ with_files (grown files place piece) told
 piece_grows told [] place name bytes piece apart at = cc
 piece_grows told (file ∷ files) zero name bytes piece apart at =
@@ -104,8 +104,8 @@ not_behind file files apart (k, within, at) =
     let inside = rw length-map at within in
     apart 0 (suc k) file (omega arith) (omega arith) (sym at ∙ get_or-map (λ (f : List ℕ × List ℕ). f.0) files k file)
 
--- files that are apart stand in the store that they made
-adds_one : (old new : Store) (file : List ℕ × List ℕ) (files : List (List ℕ × List ℕ)) → AreApart (file ∷ files) → Adds files (insert old file.0 file.1) new → Adds (file ∷ files) old new
+-- files that are apart stand in the folder that they made
+adds_one : (old new : Folder) (file : List ℕ × List ℕ) (files : List (List ℕ × List ℕ)) → AreApart (file ∷ files) → Adds files (insert old file.0 file.1) new → Adds (file ∷ files) old new
 adds_one old new file files apart rest = record { held = held; others = others } where
   held : (place : ℕ) (name bytes : List ℕ) → slice_get (file ∷ files) place ≡ Some (name, bytes) → get new name ≡ Some bytes
   held zero name bytes at = subst (λ (f : List ℕ × List ℕ). get new f.0 ≡ Some f.1) (same_Some _ _ at)
@@ -116,19 +116,19 @@ adds_one old new file files apart rest = record { held = held; others = others }
   others name out = rest.others name (λ among. out (suc among.0, omega (arith, among.1), among.2))
       ∙ get_other old file.0 file.1 name (λ same. out (0, omega arith, sym same))
 
-pub apart_stand : (store : Store) (files : List (List ℕ × List ℕ)) → AreApart files → (new : Store) × (with_files files (Some store) ≡ Some new) × Adds files store new
-apart_stand store [] apart = (store, refl, record { held = λ place name bytes at. cc; others = λ name out. refl })
-apart_stand store (file ∷ files) apart =
-    let rest = apart_stand (insert store file.0 file.1) files (apart_behind file files apart) in
-    (rest.0, rest.1, adds_one store rest.0 file files apart rest.2)
+pub apart_stand : (folder : Folder) (files : List (List ℕ × List ℕ)) → AreApart files → (new : Folder) × (with_files files (Some folder) ≡ Some new) × Adds files folder new
+apart_stand folder [] apart = (folder, refl, record { held = λ place name bytes at. cc; others = λ name out. refl })
+apart_stand folder (file ∷ files) apart =
+    let rest = apart_stand (insert folder file.0 file.1) files (apart_behind file files apart) in
+    (rest.0, rest.1, adds_one folder rest.0 file files apart rest.2)
 
 -- each name is as before, or is one of the files that were made
-IsMade : Store → List (List ℕ × List ℕ) → Store → List ℕ → Type 0
+IsMade : Folder → List (List ℕ × List ℕ) → Folder → List ℕ → Type 0
 IsMade old files new q =
     (get new q ≡ get old q)
     ⊎ ((place : ℕ) × ((bytes : List ℕ) × (slice_get files place ≡ Some (q, bytes)) × (get new q ≡ Some bytes)))
 
-first_made : (old new : Store) (file : List ℕ × List ℕ) (files : List (List ℕ × List ℕ)) (q : List ℕ) → get new q ≡ get (insert old file.0 file.1) q → IsMade old (file ∷ files) new q
+first_made : (old new : Folder) (file : List ℕ × List ℕ) (files : List (List ℕ × List ℕ)) (q : List ℕ) → get new q ≡ get (insert old file.0 file.1) q → IsMade old (file ∷ files) new q
 unfolding IsMade
 first_made old new file files q same =
     elim (eq_by_cmp (slice_cmp nat_cmp) q file.0) as (λ b. eq_by_cmp (slice_cmp nat_cmp) q file.0 ≡ b → IsMade old (file ∷ files) new q) [
@@ -143,20 +143,20 @@ first_made old new file files q same =
       | false ↦ λ untied. inl (same ∙ get-insert nat_list_cmp_total old file.0 file.1 q ∙ ap (λ b. cond b (Some file.1) (get old q)) untied)
     ] refl
 
-one_made : (old new : Store) (file : List ℕ × List ℕ) (files : List (List ℕ × List ℕ)) (q : List ℕ) → IsMade (insert old file.0 file.1) files new q → IsMade old (file ∷ files) new q
+one_made : (old new : Folder) (file : List ℕ × List ℕ) (files : List (List ℕ × List ℕ)) (q : List ℕ) → IsMade (insert old file.0 file.1) files new q → IsMade old (file ∷ files) new q
 unfolding IsMade
 one_made old new file files q (inl same) = first_made old new file files q same
 one_made old new file files q (inr (place, (bytes, at, has))) = inr (suc place, (bytes, at, has))
 
-each_made : (store : Store) (files : List (List ℕ × List ℕ)) → (new : Store) × (with_files files (Some store) ≡ Some new) × ((q : List ℕ) → IsMade store files new q)
+each_made : (folder : Folder) (files : List (List ℕ × List ℕ)) → (new : Folder) × (with_files files (Some folder) ≡ Some new) × ((q : List ℕ) → IsMade folder files new q)
 unfolding IsMade
-each_made store [] = (store, refl, λ q. inl refl)
-each_made store (file ∷ files) =
-    let rest = each_made (insert store file.0 file.1) files in
-    (rest.0, rest.1, λ q. one_made store rest.0 file files q (rest.2 q))
+each_made folder [] = (folder, refl, λ q. inl refl)
+each_made folder (file ∷ files) =
+    let rest = each_made (insert folder file.0 file.1) files in
+    (rest.0, rest.1, λ q. one_made folder rest.0 file files q (rest.2 q))
 
 -- what is made of files in part is some of the front of each
-part_left : (old new : Store) (files whole : List (List ℕ × List ℕ)) (q : List ℕ) → AreFronts files whole → IsMade old files new q → IsLeft old whole new q
+part_left : (old new : Folder) (files whole : List (List ℕ × List ℕ)) (q : List ℕ) → AreFronts files whole → IsMade old files new q → IsLeft old whole new q
 unfolding IsMade
 part_left old new files whole q fronts (inl same) = inl same
 part_left old new files whole q fronts (inr (place, (bytes, at, has))) =
@@ -167,7 +167,7 @@ part_left old new files whole q fronts (inr (place, (bytes, at, has))) =
       (length bytes, has ∙ ap Some (sym (take-append_seam bytes front.0))),
     )
 
-pub fronts_left : (told : Option Store) (files whole : List (List ℕ × List ℕ)) → AreFronts files whole → ChangesOnly told whole (with_files files told)
+pub fronts_left : (told : Option Folder) (files whole : List (List ℕ × List ℕ)) → AreFronts files whole → ChangesOnly told whole (with_files files told)
 fronts_left told files whole fronts = record {
   each = λ old is_told.
       let made = each_made old files in

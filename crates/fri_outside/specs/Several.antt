@@ -1,10 +1,10 @@
 -- Several files of one call: what makes them all, and what stands where the call was stopped.
 use Rattle.std.specs.Prelude.{◌≡◌, ◌≢◌, ◌⊎◌, ℕ, zero, suc, List, [], ◌∷◌, ◌++◌, map, take, slice_get, Option, Some, AllPairs, Contains}
 use Rattle.std.specs.FinMap.{get}
-use Rattle.fri_outside.specs.Outside.{Store, WhenTold, with_file}
+use Rattle.fri_outside.specs.Outside.{Folder, WhenTold, with_file}
 
--- the store with these files made, the first of them first
-abbrev pub with_files : List (List ℕ × List ℕ) → Option Store → Option Store
+-- the folder with these files made, the first of them first
+abbrev pub with_files : List (List ℕ × List ℕ) → Option Folder → Option Folder
 with_files [] told = told
 with_files (file ∷ files) told = with_files files (with_file file.0 file.1 told)
 
@@ -24,22 +24,22 @@ AreFronts files whole =
     (place : ℕ) (name bytes : List ℕ) → slice_get files place ≡ Some (name, bytes)
     → (more : List ℕ) × (slice_get whole place ≡ Some (name, bytes ++ more))
 
--- the new store has each of these files, and under every other name what the old one has
-pub record Adds (files : List (List ℕ × List ℕ)) (old new : Store) : Type 0 where
+-- the new folder has each of these files, and under every other name what the old one has
+pub record Adds (files : List (List ℕ × List ℕ)) (old new : Folder) : Type 0 where
   pub held : (place : ℕ) (name bytes : List ℕ) → slice_get files place ≡ Some (name, bytes) → get new name ≡ Some bytes
   pub others : (name : List ℕ) → (Contains (map (λ file. file.0) files) name → ⊥) → get new name ≡ get old name
 
 -- a name is as before, or is one of these files and has some of its front
-abbrev pub IsLeft : Store → List (List ℕ × List ℕ) → Store → List ℕ → Type 0
+abbrev pub IsLeft : Folder → List (List ℕ × List ℕ) → Folder → List ℕ → Type 0
 IsLeft old files new name =
     (get new name ≡ get old name)
     ⊎ ((bytes : List ℕ) × Contains files (name, bytes) × ((n : ℕ) × (get new name ≡ Some (take n bytes))))
 
 -- each of these files is as before or has some of its front, and no other name changes
-pub record ChangesOnly (before : Option Store) (files : List (List ℕ × List ℕ)) (after : Option Store) : Type 0 where
-  pub each : WhenTold before (λ old. (new : Store) × (after ≡ Some new) × ((name : List ℕ) → IsLeft old files new name))
+pub record ChangesOnly (before : Option Folder) (files : List (List ℕ × List ℕ)) (after : Option Folder) : Type 0 where
+  pub each : WhenTold before (λ old. (new : Folder) × (after ≡ Some new) × ((name : List ℕ) → IsLeft old files new name))
 
 -- no name but these changes
-pub record OthersStay (names : Store → List (List ℕ)) (before after : Option Store) : Type 0 where
-  pub each : WhenTold before (λ old. (new : Store) × (after ≡ Some new)
+pub record OthersStay (names : Folder → List (List ℕ)) (before after : Option Folder) : Type 0 where
+  pub each : WhenTold before (λ old. (new : Folder) × (after ≡ Some new)
       × ((name : List ℕ) → (Contains (names old) name → ⊥) → get new name ≡ get old name))

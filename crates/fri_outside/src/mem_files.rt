@@ -30,7 +30,7 @@ impl Model for MemFiles {
     ghost coded = { files_code };
 
     ghost view = { λ files. record {
-      store = files.shelf;
+      folder = files.shelf;
       plan = files.plan;
       counts = record { reads = files.read_faults; writes = files.write_faults; misses = files.misses };
     } };
@@ -40,7 +40,7 @@ impl MemFiles {
     /// No files, of which no call fails.
     pub fn new(alloc: Global) -> Self
         ensures { result ≡ record {
-          store = empty;
+          folder = empty;
           plan = no_failures;
           counts = record { reads = 0; writes = 0; misses = 0 };
         } }
@@ -57,7 +57,7 @@ impl MemFiles {
 
     /// Sets the bytes of a name. It counts as no call.
     pub fn put(&mut self, name: &str, bytes: &[u8]) -> Result<(), AllocError>
-        ensures ok { OnOk result (self.new ≡ record self.old { store = insert self.old.store name.now bytes.now }) }
+        ensures ok { OnOk result (self.new ≡ record self.old { folder = insert self.old.folder name.now bytes.now }) }
         ensures err { OnErr result (self.new ≡ self.old) }
     {
         let bytes = Vec::from_slice(self.alloc, bytes)?;
@@ -66,7 +66,7 @@ impl MemFiles {
 
     /// The bytes of a name, where it is there.
     pub fn bytes(&self, name: &str) -> Option<&[u8]>
-        ensures { option_copied result ≡ get self.now.store name.now }
+        ensures { option_copied result ≡ get self.now.folder name.now }
     {
         self.shelf.get(name)
     }
@@ -82,16 +82,16 @@ impl MemFiles {
 }
 
 impl Files for MemFiles {
-    ghost told = { λ files. Some files.store };
+    ghost told = { λ files. Some files.folder };
 
     ghost counts = { λ files. files.counts };
 
     /// Answers `Failed` where the call is to fail, before the name is looked at.
     fn read(&mut self, alloc: Global, name: &str, limit: usize) -> Result<Vec<u8>, FileError>
         ensures answer { MatchResult result
-            (λ bytes. found self.old.store name.now limit ≡ Held bytes.items)
-            (SaysOf (found self.old.store name.now limit)) }
-        ensures same { self.new.store ≡ self.old.store }
+            (λ bytes. found self.old.folder name.now limit ≡ Held bytes.items)
+            (SaysOf (found self.old.folder name.now limit)) }
+        ensures same { self.new.folder ≡ self.old.folder }
 
         ensures fails { IsErrOf result FileError.Failed ↔ IsDue self.old.plan }
         ensures called { self.new.plan ≡ after_call self.old.plan }
@@ -118,8 +118,8 @@ impl Files for MemFiles {
 
     /// A call that is to fail changes no file.
     fn create(&mut self, name: &str) -> Result<(), WriteError>
-        ensures ok { OnOk result (self.new.store ≡ insert self.old.store name.now []) }
-        ensures err { OnErr result (self.new.store ≡ self.old.store) }
+        ensures ok { OnOk result (self.new.folder ≡ insert self.old.folder name.now []) }
+        ensures err { OnErr result (self.new.folder ≡ self.old.folder) }
 
         ensures fails { IsErrOf result WriteError.Failed ↔ IsDue self.old.plan }
         ensures called { self.new.plan ≡ after_call self.old.plan }
@@ -138,9 +138,9 @@ impl Files for MemFiles {
     /// A call that is to fail writes the first half of the piece, rounded down, or answers `NoMemory`
     /// where there is no room for that.
     fn append(&mut self, name: &str, piece: &[u8]) -> Result<(), WriteError>
-        ensures ok { OnOk result (self.new.store ≡ appended name.now piece.now self.old.store) }
-        ensures failed { IsErrOf result WriteError.Failed → self.new.store ≡ appended name.now (half piece.now) self.old.store }
-        ensures no_memory { IsErrOf result WriteError.NoMemory → self.new.store ≡ self.old.store }
+        ensures ok { OnOk result (self.new.folder ≡ appended name.now piece.now self.old.folder) }
+        ensures failed { IsErrOf result WriteError.Failed → self.new.folder ≡ appended name.now (half piece.now) self.old.folder }
+        ensures no_memory { IsErrOf result WriteError.NoMemory → self.new.folder ≡ self.old.folder }
 
         ensures fails { IsErrOf result WriteError.Failed → IsDue self.old.plan }
         ensures passes { OnOk result (¬ IsDue self.old.plan) }

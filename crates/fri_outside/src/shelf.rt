@@ -1,4 +1,4 @@
-// The files in memory, seen as the store that they stand for.
+// The files in memory, seen as the folder that they stand for.
 ghost use Rattle.std.specs.Prelude.{◌≡◌, OnOk, OnErr};
 ghost use Rattle.std.specs.Option.{option_copied};
 ghost use Rattle.std.specs.FinMap.{empty, get, insert};
@@ -14,14 +14,14 @@ pub(crate) struct Shelf {
 }
 
 impl Model for Shelf {
-    ghost use Rattle.fri_outside.specs.Outside.{Store};
-    ghost use Rattle.fri_outside.specs.Memory.{store_code, store_of};
+    ghost use Rattle.fri_outside.specs.Outside.{Folder};
+    ghost use Rattle.fri_outside.specs.Memory.{folder_code, folder_of};
 
-    ghost Value = { Store };
+    ghost Value = { Folder };
 
-    ghost coded = { store_code };
+    ghost coded = { folder_code };
 
-    ghost view = { λ shelf. store_of shelf.files.entries };
+    ghost view = { λ shelf. folder_of shelf.files.entries };
 }
 
 impl Shelf {

@@ -7,7 +7,7 @@ use Rattle.fri_text.specs.Decimal.{decimal_of, signed_of}
 use Rattle.fri_text.specs.Hex.{IsHexWord, hex_of, hex_word}
 
 -- What is written of a number or of bytes is a word of them.
-pub record ReadBack : Type 0 where
+pub record WordsReadBack : Type 0 where
   pub number : (n : ℕ) → n < 2 ^ 64 → decimal_of (decimal n) ≡ Some n
   pub signed : (z : ℤ) → FitsSigned w64 z → signed_of (signed_decimal z) ≡ Some z
   pub bytes : (bytes : List ℕ) → AreBytes bytes → hex_of (hex_word bytes) ≡ Some bytes

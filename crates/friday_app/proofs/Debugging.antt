@@ -1,6 +1,6 @@
 -- What `debug` comes to, from what it read and what its session said.
 use Rattle.std.proofs.Common.{◌≡◌, ◌∙◌, ℕ, Bool, true, false, cond, List, [], Option, Some, None, option_map, Result, Ok, Err, IfSome, refl, sym, ap, subst, inr}
-use Rattle.fri_outside.specs.Outside.{Store, WhenTold}
+use Rattle.fri_outside.specs.Outside.{Folder, WhenTold}
 use Rattle.fri_outside.specs.Several.{with_files}
 use Rattle.fri_text.specs.Line.{lines_of}
 use Rattle.proc_replay.specs.Replaying.{Replaying}
@@ -36,9 +36,9 @@ stops_as begun left o refusal.ReadFault is here = tt
 stops_as begun left o refusal.WriteFault is here = tt
 stops_as begun left o refusal.NoMemory is here = tt
 
-refused_stops : (pairs : List Pair) (told : Option Store) (left : Option (List ℕ)) (e : Refusal) → NoneOpened pairs told e → (o : CommandOutcome) → expected (Some (Debug pairs)) told left ≡ Some o → StopsAs o e
+refused_stops : (pairs : List Pair) (told : Option Folder) (left : Option (List ℕ)) (e : Refusal) → NoneOpened pairs told e → (o : CommandOutcome) → expected (Some (Debug pairs)) told left ≡ Some o → StopsAs o e
 refused_stops pairs None left e stops o here = cc
-refused_stops pairs (Some store) left e stops o here = stops_as (replays_of_pairs store pairs) left o e (stops store refl) here
+refused_stops pairs (Some folder) left e stops o here = stops_as (replays_of_pairs folder pairs) left o e (stops folder refl) here
 
 -- a refusal is never the end of a session
 refused_not_done : (e : Refusal) (answer : Status) → IfSome (status_and_text (Err e)) (λ a. IsAnswerStatus answer → answer ≡ a.0) → FaultStatus (Err e) answer → answer ≡ ends.Done → ⊥
@@ -77,10 +77,10 @@ spoken_by : (start : List Replaying) (left : Option (List ℕ)) (o : CommandOutc
 spoken_by start None o here = cc
 spoken_by start (Some input) o here = record { input = input; told = refl; outcome = sym (same_Some _ _ here) }
 
-is_spoken : (pairs : List Pair) (told : Option Store) (left : Option (List ℕ)) (start : List Replaying) → WasOpened pairs told start → (o : CommandOutcome) → expected (Some (Debug pairs)) told left ≡ Some o → IsSpoken start left o
+is_spoken : (pairs : List Pair) (told : Option Folder) (left : Option (List ℕ)) (start : List Replaying) → WasOpened pairs told start → (o : CommandOutcome) → expected (Some (Debug pairs)) told left ≡ Some o → IsSpoken start left o
 is_spoken pairs None left start opens o here = cc
-is_spoken pairs (Some store) left start opens o here =
-    spoken_by start left o (sym (ap (λ (r : Result (List Replaying) Stop). opened_outcome r left) (opens store refl)) ∙ here)
+is_spoken pairs (Some folder) left start opens o here =
+    spoken_by start left o (sym (ap (λ (r : Result (List Replaying) Stop). opened_outcome r left) (opens folder refl)) ∙ here)
 
 -- by whether the input is too large
 abbrev pub spoken_if : Bool → List ℕ → List ℕ → CommandOutcome

@@ -3,7 +3,7 @@ use Rattle.std.proofs.Common.{◌≡◌, ◌≢◌, ◌⊎◌, ◌++◌, ℕ, Li
 use Rattle.std.specs.Io.KnownBytes.{append_known}
 use Rattle.std.proofs.lemmas.Grind.{common_steps}
 use Rattle.std.proofs.lemmas.Option.{same_Some}
-use Rattle.fri_outside.specs.Outside.{Store, Counts, Rose, WhenTold}
+use Rattle.fri_outside.specs.Outside.{Folder, Counts, Rose, WhenTold}
 use Rattle.fri_outside.specs.Several.{with_files, OthersStay}
 use Rattle.friday_app.specs.declared.status.Status.{Status}
 use Rattle.friday_app.specs.declared.status.Status.TheVariants as ends
@@ -54,13 +54,13 @@ text_ends (Err refusal.NoMemory) answer outcome before after is prints silent fa
     prints_none answer _ before after (λ h. subst IsAnswerStatus fault h) silent
 
 -- the files, where none of them was made and none was to be made
-pub none_left : (answer : Status) (outcome : CommandOutcome) (before after : Option Store) → writes_of outcome ≡ [] → after ≡ before → LeavesFiles answer (writes_of outcome) before after
+pub none_left : (answer : Status) (outcome : CommandOutcome) (before after : Option Folder) → writes_of outcome ≡ [] → after ≡ before → LeavesFiles answer (writes_of outcome) before after
 none_left answer outcome before after none same = record {
   whole = λ _. same ∙ ap (λ w. with_files w before) (sym none);
   part = same_changes before after (writes_of outcome) same;
 }
 
-files_end : (ended : Result Answer Refusal) (answer : Status) (files : List (List ℕ × List ℕ)) (before after : Option Store)
+files_end : (ended : Result Answer Refusal) (answer : Status) (files : List (List ℕ × List ℕ)) (before after : Option Folder)
     → Makes ended files before after
     → FaultStatus ended answer
     → LeavesFiles answer files before after
@@ -132,7 +132,7 @@ absent_ends (Err refusal.WriteFault) answer before after answers prints fault is
 absent_ends (Err refusal.NoMemory) answer before after answers prints fault is = let e = sym is ∙ fault in cc
 
 -- a text is printed where all files were made, and none where some were not
-last_ends : (ended : Result Answer Refusal) (files : List (List ℕ × List ℕ)) (printed printed_after : Option (List ℕ)) (before after : Option Store)
+last_ends : (ended : Result Answer Refusal) (files : List (List ℕ × List ℕ)) (printed printed_after : Option (List ℕ)) (before after : Option Folder)
     → Makes ended files before after
     → IfNone (status_and_text ended) (printed_after ≡ printed)
     → PrintsLast files printed printed_after before after
@@ -162,12 +162,12 @@ reads_end (Err refusal.NoMemory) answer old new other fault cause is = let e = s
 -- ---- an input that is as it was
 
 -- no session was held
-pub unread_input : (pairs : List Pair) (told : Option Store) (left after : Option (List ℕ)) (answer : Status) (faults faults_after : ℕ) → (answer ≡ ends.Done → ⊥) → Untouched left after faults faults_after
+pub unread_input : (pairs : List Pair) (told : Option Folder) (left after : Option (List ℕ)) (answer : Status) (faults faults_after : ℕ) → (answer ≡ ends.Done → ⊥) → Untouched left after faults faults_after
     → KeepsInput (Some (Debug pairs)) told left after answer (Untouched left after faults faults_after)
 unread_input pairs told left after answer faults faults_after going untouched = inl (untouched, going)
 
 -- a batch does not read it
-pub batch_input : (b : Batch) (told : Option Store) (left after : Option (List ℕ)) (answer : Status) (faults faults_after : ℕ) → Untouched left after faults faults_after
+pub batch_input : (b : Batch) (told : Option Folder) (left after : Option (List ℕ)) (answer : Status) (faults faults_after : ℕ) → Untouched left after faults faults_after
     → KeepsInput (Some (batch_of b)) told left after answer (Untouched left after faults faults_after)
 batch_input (batch.Record images schedule_file) told left after answer faults faults_after untouched = untouched
 batch_input (batch.Replay images pairs) told left after answer faults faults_after untouched = untouched
@@ -270,7 +270,7 @@ run_stopped agree command old new same silent untouched = record {
   write_fault = λ is. absurd cc;
   out_fault = λ o e is. absurd cc;
 } where
-  untouched_moment : RecordingsAgree → (command : Option Command) (told after : Option Store) → after ≡ told → WhenTold told (λ before. KeepsMoment command before after)
+  untouched_moment : RecordingsAgree → (command : Option Command) (told after : Option Folder) → after ≡ told → WhenTold told (λ before. KeepsMoment command before after)
   untouched_moment agree None told after same before is = tt
   untouched_moment agree (Some (Record images schedule_name)) told after same before is = moment_before agree told after images schedule_name same before is
   untouched_moment agree (Some (Replay images pairs)) told after same before is = tt
@@ -279,7 +279,7 @@ run_stopped agree command old new same silent untouched = record {
   no_memory_not_done : ends.NoMemory ≡ ends.Done → ⊥
   no_memory_not_done e = cc
 
-  untouched_input : (command : Option Command) (told : Option Store) (left after : Option (List ℕ)) → Untouched left after old.input_faults new.input_faults
+  untouched_input : (command : Option Command) (told : Option Folder) (left after : Option (List ℕ)) → Untouched left after old.input_faults new.input_faults
       → KeepsInput command told left after ends.NoMemory (Untouched left after old.input_faults new.input_faults)
   untouched_input None told left after same = same
   untouched_input (Some (Record images schedule_name)) told left after same = same

@@ -2,7 +2,7 @@
 use Rattle.std.proofs.Common.{◌≡◌, ◌<◌, ◌++◌, ℕ, Bool, true, false, cond, List, [], ◌∷◌, append-nil, Option, Some, None, Result, Ok, Err, length, refl, sym, ap, subst, ◌∙◌, arith}
 use Rattle.std.specs.Prelude.{is_none}
 use Rattle.fri_outside.specs.Laws.{KeepsFiles}
-use Rattle.fri_outside.specs.Outside.{Store}
+use Rattle.fri_outside.specs.Outside.{Folder}
 use Rattle.fri_outside.specs.Several.{ChangesOnly, with_files}
 use Rattle.guest_process.specs.State.{State}
 use Rattle.wasm_types.specs.Modules.{Module}
@@ -68,7 +68,7 @@ same_text images group done summary told =
     ∙ ap (λ (acted : ℕ). summary_text (summary_lines group done.steps 0 group.names) acted summary.idle) told.acted
     ∙ ap (λ (idle : ℕ). summary_text (summary_lines group done.steps 0 group.names) (length done.steps) idle) told.idle
 
-pub done_tells : (images : Bool) (name : List ℕ) (schedule : Schedule) (states : Result (List State) ℕ) (summary : Summary) (text : List ℕ) (before after : Option Store) → RecordAnswers schedule images states (Ok summary) before after
+pub done_tells : (images : Bool) (name : List ℕ) (schedule : Schedule) (states : Result (List State) ℕ) (summary : Summary) (text : List ℕ) (before after : Option Folder) → RecordAnswers schedule images states (Ok summary) before after
     → text ≡ summary_text summary.lines.items summary.acted summary.idle → TellsOutcome (group_outcome images name schedule states) (Ok (answered.Done text))
 done_tells images name schedule states summary text before after (first, is, done) printed =
     let group = group_of schedule first in
@@ -79,19 +79,19 @@ done_tells images name schedule states summary text before after (first, is, don
       refl,
     )
 
-pub done_makes : (images : Bool) (name : List ℕ) (schedule : Schedule) (states : Result (List State) ℕ) (summary : Summary) (before after : Option Store) → RecordAnswers schedule images states (Ok summary) before after
+pub done_makes : (images : Bool) (name : List ℕ) (schedule : Schedule) (states : Result (List State) ℕ) (summary : Summary) (before after : Option Folder) → RecordAnswers schedule images states (Ok summary) before after
     → after ≡ with_files (writes_of (group_outcome images name schedule states)) before
 done_makes images name schedule states summary before after (first, is, done) =
     done.files ∙ ap (λ (files : List (List ℕ × List ℕ)). with_files files before) (writes_at images name schedule states first is)
 
 -- the same where there was no memory for the text
-pub done_changes : (images : Bool) (name : List ℕ) (schedule : Schedule) (states : Result (List State) ℕ) (summary : Summary) (before after : Option Store) → RecordAnswers schedule images states (Ok summary) before after
+pub done_changes : (images : Bool) (name : List ℕ) (schedule : Schedule) (states : Result (List State) ℕ) (summary : Summary) (before after : Option Folder) → RecordAnswers schedule images states (Ok summary) before after
     → ChangesOnly before (writes_of (group_outcome images name schedule states)) after
 done_changes images name schedule states summary before after answers = all_changes _ before after (done_makes images name schedule states summary before after answers)
 
 -- ---- it was not
 
-full_tells : (images : Bool) (name : List ℕ) (schedule : Schedule) (states : Result (List State) ℕ) (item : ℕ) (file : List ℕ) (before after : Option Store) → RecordAnswers schedule images states (Err (errors.LogFull item)) before after → file ≡ name
+full_tells : (images : Bool) (name : List ℕ) (schedule : Schedule) (states : Result (List State) ℕ) (item : ℕ) (file : List ℕ) (before after : Option Folder) → RecordAnswers schedule images states (Err (errors.LogFull item)) before after → file ≡ name
     → (done : _) × (group_outcome images name schedule states ≡ Err (Refuses file (reason.LogFull item) done)) × (done.text ≡ [])
 full_tells images name schedule states item file before after (first, is, full) named =
     let group = group_of schedule first in
@@ -102,7 +102,7 @@ full_tells images name schedule states item file before after (first, is, full) 
       refl,
     )
 
-pub error_tells : (images : Bool) (name : List ℕ) (schedule : Schedule) (states : Result (List State) ℕ) (error : RecordError) (e : Refusal) (before after : Option Store) → RecordAnswers schedule images states (Err error) before after → RefusesAs name schedule error e
+pub error_tells : (images : Bool) (name : List ℕ) (schedule : Schedule) (states : Result (List State) ℕ) (error : RecordError) (e : Refusal) (before after : Option Folder) → RecordAnswers schedule images states (Err error) before after → RefusesAs name schedule error e
     → TellsOutcome (group_outcome images name schedule states) (Err e)
 error_tells images name schedule states (errors.BadSegment p) (refusal.Refused file why) before after answers (named, is) =
     (nothing_done, rw (named, is) (ap (group_outcome images name schedule) answers.0), refl)
@@ -115,20 +115,20 @@ error_tells images name schedule states (errors.LogFull item) other before after
 error_tells images name schedule states errors.WriteFault e before after answers is = subst (λ (r : Refusal). TellsOutcome (group_outcome images name schedule states) (Err r)) (sym is) tt
 error_tells images name schedule states errors.NoMemory e before after answers is = subst (λ (r : Refusal). TellsOutcome (group_outcome images name schedule states) (Err r)) (sym is) tt
 
-where_changes : KeepsFiles → (images : Bool) (name : List ℕ) (schedule : Schedule) (states : Result (List State) ℕ) (before after : Option Store) → StoppedWhere schedule images states before after
+where_changes : KeepsFiles → (images : Bool) (name : List ℕ) (schedule : Schedule) (states : Result (List State) ℕ) (before after : Option Folder) → StoppedWhere schedule images states before after
     → ChangesOnly before (writes_of (group_outcome images name schedule states)) after
 where_changes keeps images name schedule (Err p) before after same = same_changes before after _ same
 where_changes keeps images name schedule (Ok first) before after stopped =
     subst (λ (files : List (List ℕ × List ℕ)). ChangesOnly before files after) (sym (group_writes images name schedule first))
     (stopped_changes keeps (group_of schedule first) (run_of schedule first).steps (images_of images (group_of schedule first) (run_of schedule first)) before after stopped)
 
-full_makes : (images : Bool) (name : List ℕ) (schedule : Schedule) (states : Result (List State) ℕ) (item : ℕ) (before after : Option Store) → RecordAnswers schedule images states (Err (errors.LogFull item)) before after
+full_makes : (images : Bool) (name : List ℕ) (schedule : Schedule) (states : Result (List State) ℕ) (item : ℕ) (before after : Option Folder) → RecordAnswers schedule images states (Err (errors.LogFull item)) before after
     → after ≡ with_files (writes_of (group_outcome images name schedule states)) before
 full_makes images name schedule states item before after (first, is, full) =
     full.files ∙ ap (λ (files : List (List ℕ × List ℕ)). with_files files before)
     (full_writes images (group_of schedule first) (run_of schedule first) item full.full ∙ writes_at images name schedule states first is)
 
-pub error_makes : KeepsFiles → (images : Bool) (name : List ℕ) (schedule : Schedule) (states : Result (List State) ℕ) (error : RecordError) (e : Refusal) (before after : Option Store) → RecordAnswers schedule images states (Err error) before after → RefusesAs name schedule error e
+pub error_makes : KeepsFiles → (images : Bool) (name : List ℕ) (schedule : Schedule) (states : Result (List State) ℕ) (error : RecordError) (e : Refusal) (before after : Option Folder) → RecordAnswers schedule images states (Err error) before after → RefusesAs name schedule error e
     → Makes (Err e) (writes_of (group_outcome images name schedule states)) before after
 error_makes keeps images name schedule states (errors.BadSegment p) (refusal.Refused file why) before after answers named =
     answers.1 ∙ ap (λ (files : List (List ℕ × List ℕ)). with_files files before) (sym (ap writes_of (ap (group_outcome images name schedule) answers.0)))
@@ -144,7 +144,7 @@ error_makes keeps images name schedule states errors.NoMemory e before after ans
 
 -- ---- whatever it answers, the files are those of a moment of the run
 
-at_first : (images : Bool) (schedule : Schedule) (states : Result (List State) ℕ) (first : List State) (before after : Option Store) → states ≡ Ok first
+at_first : (images : Bool) (schedule : Schedule) (states : Result (List State) ℕ) (first : List State) (before after : Option Folder) → states ≡ Ok first
     → IsStopped (group_of schedule first) (run_of schedule first).steps (images_of images (group_of schedule first) (run_of schedule first)) before after → StoppedWhere schedule images states before after
 at_first images schedule states first before after is stopped = subst (λ (s : Result (List State) ℕ). StoppedWhere schedule images s before after) (sym is) stopped
 
@@ -153,7 +153,7 @@ whole_part : (files : List (List ℕ × List ℕ)) → files ≡ made_in_part fi
 whole_part [] = refl
 whole_part (file ∷ files) = ap (λ (rest : List (List ℕ × List ℕ)). file ∷ rest) (whole_part files)
 
-pub answer_stops : (images : Bool) (schedule : Schedule) (states : Result (List State) ℕ) (result : Result Summary RecordError) (before after : Option Store) → RecordAnswers schedule images states result before after → StoppedWhere schedule images states before after
+pub answer_stops : (images : Bool) (schedule : Schedule) (states : Result (List State) ℕ) (result : Result Summary RecordError) (before after : Option Folder) → RecordAnswers schedule images states result before after → StoppedWhere schedule images states before after
 answer_stops images schedule states (Ok summary) before after (first, is, done) =
     let files = images_of images (group_of schedule first) (run_of schedule first) in
     at_first images schedule states first before after is
@@ -164,7 +164,7 @@ answer_stops images schedule states (Err errors.WriteFault) before after stopped
 answer_stops images schedule states (Err errors.NoMemory) before after stopped = stopped
 
 -- a process that does not begin is one of the schedule's
-pub refuses_within : (images : Bool) (schedule : Schedule) (modules : List Module) (error : RecordError) (before after : Option Store) → RecordAnswers schedule images (first_states schedule modules) (Err error) before after → length modules ≡ length schedule.processes
+pub refuses_within : (images : Bool) (schedule : Schedule) (modules : List Module) (error : RecordError) (before after : Option Folder) → RecordAnswers schedule images (first_states schedule modules) (Err error) before after → length modules ≡ length schedule.processes
     → (p : ℕ) → error ≡ errors.BadSegment p → p < length schedule.processes
 refuses_within images schedule modules error before after answers many p is =
     let refused = subst (λ (e : RecordError). RecordAnswers schedule images (first_states schedule modules) (Err e) before after) is answers in

@@ -3,7 +3,7 @@ use Rattle.std.proofs.Common.{◌≡◌, ◌∙◌, ◌+◌, ◌++◌, ℕ, zero
 use Rattle.std.specs.Prelude.{All}
 use Rattle.std.proofs.lemmas.Option.{get_or_from_slice_get, same_Some, slice_get_within}
 use Rattle.fri_outside.specs.Laws.{KeepsFiles}
-use Rattle.fri_outside.specs.Outside.{Store}
+use Rattle.fri_outside.specs.Outside.{Folder}
 use Rattle.fri_outside.specs.Several.{AreFronts, ChangesOnly, with_files}
 use Rattle.fri_outside.specs.declared.files.WriteError.{WriteError}
 use Rattle.fri_outside.specs.declared.files.WriteError.TheVariants as writing
@@ -92,7 +92,7 @@ images_before (s ∷ start) (suc node) = ap (λ (files : List (List ℕ × List 
 -- ---- what was made
 
 -- the two files of a node, too
-pub one_made : (start : List Replaying) (node : ℕ) (files : List (List ℕ × List ℕ)) (before mid after : Option Store) → AreOwn start node files → mid ≡ with_files (images_in (take node start)) before
+pub one_made : (start : List Replaying) (node : ℕ) (files : List (List ℕ × List ℕ)) (before mid after : Option Folder) → AreOwn start node files → mid ≡ with_files (images_in (take node start)) before
     → after ≡ with_files files mid → after ≡ with_files (images_in (take (node + 1) start)) before
 one_made start node files before mid after a so_far made =
     let first = images_in (take node start) in
@@ -105,16 +105,16 @@ no_fronts : (files : List (List ℕ × List ℕ)) → AreFronts [] files
 no_fronts files place name bytes at = cc
 
 -- those of the first nodes alone
-pub first_made : KeepsFiles → (start : List Replaying) (node : ℕ) (before mid : Option Store) → mid ≡ with_files (images_in (take node start)) before → ChangesOnly before (images_in start) mid
+pub first_made : KeepsFiles → (start : List Replaying) (node : ℕ) (before mid : Option Folder) → mid ≡ with_files (images_in (take node start)) before → ChangesOnly before (images_in start) mid
 first_made keeps start node before mid so_far =
     let first = images_in (take node start) in
     let rest = images_in (drop node start) in
     let made : mid ≡ with_files (first ++ []) before = so_far ∙ ap (λ (files : List (List ℕ × List ℕ)). with_files files before) (sym (append-nil first)) in
-    subst (λ (t : Option Store). ChangesOnly before (images_in start) t) (sym made)
+    subst (λ (t : Option Folder). ChangesOnly before (images_in start) t) (sym made)
     (keeps.left before (first ++ []) (images_in start)
     (subst (AreFronts (first ++ [])) (sym (images_before start node)) (fronts_behind first [] rest (no_fronts rest))))
 
-part_of_own : KeepsFiles → (start : List Replaying) (node : ℕ) (r : Replaying) (before mid after : Option Store) → slice_get start node ≡ Some r → mid ≡ with_files (images_in (take node start)) before
+part_of_own : KeepsFiles → (start : List Replaying) (node : ℕ) (r : Replaying) (before mid after : Option Folder) → slice_get start node ≡ Some r → mid ≡ with_files (images_in (take node start)) before
     → AreMadeInPart (files_of r) mid after → ChangesOnly before (images_in start) after
 part_of_own keeps start node r before mid after is so_far (inl same) = first_made keeps start node before after (same ∙ so_far)
 part_of_own keeps start node r before mid after is so_far (inr (n, m, made)) =
@@ -122,18 +122,18 @@ part_of_own keeps start node r before mid after is so_far (inr (n, m, made)) =
     let part = made_in_part (files_of r) n m in
     let rest = images_in (drop (suc node) start) in
     let all : after ≡ with_files (first ++ part) before = made ∙ ap (with_files part) so_far ∙ sym (with_more first part before) in
-    subst (λ (t : Option Store). ChangesOnly before (images_in start) t) (sym all)
+    subst (λ (t : Option Folder). ChangesOnly before (images_in start) t) (sym all)
     (keeps.left before (first ++ part) (images_in start)
     (subst (AreFronts (first ++ part)) (sym (images_around start node r is))
     (fronts_behind first part (files_of r ++ rest) (fronts_of_more part (files_of r) rest (part_fronts (files_of r) n m)))))
 
 -- and a part of the next one's
-pub part_made : KeepsFiles → (start : List Replaying) (node : ℕ) (files : List (List ℕ × List ℕ)) (before mid after : Option Store) → AreOwn start node files → mid ≡ with_files (images_in (take node start)) before
+pub part_made : KeepsFiles → (start : List Replaying) (node : ℕ) (files : List (List ℕ × List ℕ)) (before mid after : Option Folder) → AreOwn start node files → mid ≡ with_files (images_in (take node start)) before
     → AreMadeInPart files mid after → ChangesOnly before (images_in start) after
 part_made keeps start node files before mid after a so_far part =
     part_of_own keeps start node a.replay before mid after a.is so_far (subst (λ (f : List (List ℕ × List ℕ)). AreMadeInPart f mid after) a.own part)
 
 -- a failed write makes some of them
-pub failed_makes : (error : WriteError) (files : List (List ℕ × List ℕ)) (before after : Option Store) → ChangesOnly before files after → MakesAll (Err (write_refusal error)) files before after
+pub failed_makes : (error : WriteError) (files : List (List ℕ × List ℕ)) (before after : Option Folder) → ChangesOnly before files after → MakesAll (Err (write_refusal error)) files before after
 failed_makes writing.Failed files before after changes = changes
 failed_makes writing.NoMemory files before after changes = changes

@@ -1,6 +1,6 @@
 -- The pairs that were read, and those that are still to come.
 use Rattle.std.proofs.Common.{◌≡◌, ◌∙◌, ℕ, List, [], ◌∷◌, ◌++◌, Option, Some, None, Result, Ok, ap, map, refl, subst, sym}
-use Rattle.fri_outside.specs.Outside.{Store, WhenTold}
+use Rattle.fri_outside.specs.Outside.{Folder, WhenTold}
 use Rattle.wasm_types.specs.Modules.{Module, module_of as shown}
 use Rattle.call_log.specs.declared.head.LogHead.{LogHead}
 use Rattle.call_log.specs.Head.{Head, IsHead, head_of}
@@ -44,25 +44,25 @@ is_loaded x pair bytes log head named held found in_range is count process name 
 }
 
 -- from the module on
-module_read : (store : Store) (ls : List Loaded) (pair : Pair) (m : Module) → module_in store pair.module_name ≡ Ok m
-    → loaded_pair store ls pair ≡ and_then (log_in store pair.log_name) (λ log. unless_clash pair.log_name (read_as pair m log) (clash ls log.0))
-module_read store ls pair m is =
-    ap (λ (r : Result Module Stop). and_then r (λ m. and_then (log_in store pair.log_name) (λ log. unless_clash pair.log_name (read_as pair m log) (clash ls log.0)))) is
+module_read : (folder : Folder) (ls : List Loaded) (pair : Pair) (m : Module) → module_in folder pair.module_name ≡ Ok m
+    → loaded_pair folder ls pair ≡ and_then (log_in folder pair.log_name) (λ log. unless_clash pair.log_name (read_as pair m log) (clash ls log.0))
+module_read folder ls pair m is =
+    ap (λ (r : Result Module Stop). and_then r (λ m. and_then (log_in folder pair.log_name) (λ log. unless_clash pair.log_name (read_as pair m log) (clash ls log.0)))) is
 
-log_is : (store : Store) (name bytes : List ℕ) (log : Head × List ℕ) → file_of store name most_log ≡ Ok bytes → log_or_bad_head name (head_at bytes) ≡ Ok log → log_in store name ≡ Ok log
-log_is store name bytes log read head = ap (λ (r : Result (List ℕ) Stop). and_then r (λ bytes. log_or_bad_head name (head_at bytes))) read ∙ head
+log_is : (folder : Folder) (name bytes : List ℕ) (log : Head × List ℕ) → file_of folder name most_log ≡ Ok bytes → log_or_bad_head name (head_at bytes) ≡ Ok log → log_in folder name ≡ Ok log
+log_is folder name bytes log read head = ap (λ (r : Result (List ℕ) Stop). and_then r (λ bytes. log_or_bad_head name (head_at bytes))) read ∙ head
 
 -- a pair whose files stand, and whose log does not clash
-pub pair_stands : (store : Store) (ls : List Loaded) (pair : Pair) (m : Module) (log : Head × List ℕ) → module_in store pair.module_name ≡ Ok m → log_in store pair.log_name ≡ Ok log → clash ls log.0 ≡ None
-    → loaded_pair store ls pair ≡ Ok (read_as pair m log)
-pair_stands store ls pair m log is stands none =
-    module_read store ls pair m is
+pub pair_stands : (folder : Folder) (ls : List Loaded) (pair : Pair) (m : Module) (log : Head × List ℕ) → module_in folder pair.module_name ≡ Ok m → log_in folder pair.log_name ≡ Ok log → clash ls log.0 ≡ None
+    → loaded_pair folder ls pair ≡ Ok (read_as pair m log)
+pair_stands folder ls pair m log is stands none =
+    module_read folder ls pair m is
     ∙ ap (λ (r : Result (Head × List ℕ) Stop). and_then r (λ log. unless_clash pair.log_name (read_as pair m log) (clash ls log.0))) stands
     ∙ ap (unless_clash pair.log_name (read_as pair m log)) none
 
-pub pair_read : (store : Store) (ls : List Loaded) (pair : Pair) (m : Module) (bytes : List ℕ) (log : Head × List ℕ) → module_in store pair.module_name ≡ Ok m → file_of store pair.log_name most_log ≡ Ok bytes
-    → log_or_bad_head pair.log_name (head_at bytes) ≡ Ok log → clash ls log.0 ≡ None → loaded_pair store ls pair ≡ Ok (read_as pair m log)
-pair_read store ls pair m bytes log is read head none = pair_stands store ls pair m log is (log_is store pair.log_name bytes log read head) none
+pub pair_read : (folder : Folder) (ls : List Loaded) (pair : Pair) (m : Module) (bytes : List ℕ) (log : Head × List ℕ) → module_in folder pair.module_name ≡ Ok m → file_of folder pair.log_name most_log ≡ Ok bytes
+    → log_or_bad_head pair.log_name (head_at bytes) ≡ Ok log → clash ls log.0 ≡ None → loaded_pair folder ls pair ≡ Ok (read_as pair m log)
+pair_read folder ls pair m bytes log is read head none = pair_stands folder ls pair m log is (log_is folder pair.log_name bytes log read head) none
 
 -- ---- pair after pair
 
@@ -73,63 +73,63 @@ loaded_more [] (k ∷ ls) x l all one = absurd all
 loaded_more (y ∷ xs) [] x l all one = absurd all
 
 -- some pairs hold this, and what is wanted of all is what comes of the others behind them
-pub record SoFar (store : Store) (pairs left : List PairOfWords) (xs : List LoadedFiles) : Type 0 where
+pub record SoFar (folder : Folder) (pairs left : List PairOfWords) (xs : List LoadedFiles) : Type 0 where
   pub held : List Loaded
   pub are : AreLoaded xs held
-  pub wanted : loaded_pairs store [] (map pair_of pairs) ≡ loaded_pairs store held (map pair_of left)
+  pub wanted : loaded_pairs folder [] (map pair_of pairs) ≡ loaded_pairs folder held (map pair_of left)
 
 -- the pairs before some others were read
-pub record AreRead (told : Option Store) (pairs left : List PairOfWords) (xs : List LoadedFiles) : Type 0 where
-  pub so_far : WhenTold told (λ store. SoFar store pairs left xs)
+pub record AreRead (told : Option Folder) (pairs left : List PairOfWords) (xs : List LoadedFiles) : Type 0 where
+  pub so_far : WhenTold told (λ folder. SoFar folder pairs left xs)
   pub held : List Loaded
   pub are : AreLoaded xs held
   pub apart : AreOneGroup xs
 
-pub none_read : (told : Option Store) (pairs : List PairOfWords) → AreRead told pairs pairs []
+pub none_read : (told : Option Folder) (pairs : List PairOfWords) → AreRead told pairs pairs []
 none_read told pairs = record {
-  so_far = λ store is. record { held = []; are = tt; wanted = refl };
+  so_far = λ folder is. record { held = []; are = tt; wanted = refl };
   held = [];
   are = tt;
   apart = tt;
 }
 
 -- what reading a further pair gives
-abbrev pub Reads : Store → PairOfWords → List LoadedFiles → LoadedFiles → Type 0
-Reads store pair xs x = (ls : List Loaded) → AreLoaded xs ls → (is : Loaded) × ((loaded_pair store ls (pair_of pair) ≡ Ok is) × IsLoaded x is)
+abbrev pub Reads : Folder → PairOfWords → List LoadedFiles → LoadedFiles → Type 0
+Reads folder pair xs x = (ls : List Loaded) → AreLoaded xs ls → (is : Loaded) × ((loaded_pair folder ls (pair_of pair) ≡ Ok is) × IsLoaded x is)
 
 abbrev pub FitsBehind : List LoadedFiles → LoadedFiles → Type 0
 FitsBehind xs x = (ls : List Loaded) → AreLoaded xs ls → (is : Loaded) × (IsLoaded x is × (clash ls is.head ≡ None))
 
-so_far_more : (store : Store) (pairs left : List PairOfWords) (pair : PairOfWords) (xs : List LoadedFiles) (x : LoadedFiles) → SoFar store pairs (pair ∷ left) xs → Reads store pair xs x → SoFar store pairs left (xs ++ x ∷ [])
-so_far_more store pairs left pair xs x so reads =
+so_far_more : (folder : Folder) (pairs left : List PairOfWords) (pair : PairOfWords) (xs : List LoadedFiles) (x : LoadedFiles) → SoFar folder pairs (pair ∷ left) xs → Reads folder pair xs x → SoFar folder pairs left (xs ++ x ∷ [])
+so_far_more folder pairs left pair xs x so reads =
     let one = reads so.held so.are in
     record {
       held = so.held ++ one.0 ∷ [];
       are = loaded_more xs so.held x one.0 so.are one.1.1;
-      wanted = so.wanted ∙ ap (λ (r : Result Loaded Stop). and_then r (λ l. loaded_pairs store (so.held ++ l ∷ []) (map pair_of left))) one.1.0;
+      wanted = so.wanted ∙ ap (λ (r : Result Loaded Stop). and_then r (λ l. loaded_pairs folder (so.held ++ l ∷ []) (map pair_of left))) one.1.0;
     }
 
-pub one_read : (told : Option Store) (pairs before left : List PairOfWords) (pair : PairOfWords) (xs after : List LoadedFiles) (x : LoadedFiles) → AreRead told pairs before xs → before ≡ pair ∷ left
-    → WhenTold told (λ store. Reads store pair xs x) → FitsBehind xs x → after ≡ xs ++ x ∷ [] → AreRead told pairs left after
+pub one_read : (told : Option Folder) (pairs before left : List PairOfWords) (pair : PairOfWords) (xs after : List LoadedFiles) (x : LoadedFiles) → AreRead told pairs before xs → before ≡ pair ∷ left
+    → WhenTold told (λ folder. Reads folder pair xs x) → FitsBehind xs x → after ≡ xs ++ x ∷ [] → AreRead told pairs left after
 one_read told pairs before left pair xs after x read next reads fits pushed =
     let one = fits read.held read.are in
     subst (AreRead told pairs left) (sym pushed) (record {
-      so_far = λ store is. so_far_more store pairs left pair xs x (subst (λ (ps : List PairOfWords). SoFar store pairs ps xs) next (read.so_far store is)) (reads store is);
+      so_far = λ folder is. so_far_more folder pairs left pair xs x (subst (λ (ps : List PairOfWords). SoFar folder pairs ps xs) next (read.so_far folder is)) (reads folder is);
       held = read.held ++ one.0 ∷ [];
       are = loaded_more xs read.held x one.0 read.are one.1.0;
       apart = apart_more xs read.held x one.0 read.are one.1.0 read.apart one.1.1;
     })
 
 -- a pair was refused
-pub reading_stops : (told : Option Store) (pairs before left : List PairOfWords) (pair : PairOfWords) (xs : List LoadedFiles) (e : Refusal) → AreRead told pairs before xs → before ≡ pair ∷ left
-    → WhenTold told (λ store. (ls : List Loaded) → AreLoaded xs ls → StopsAs (loaded_pair store ls (pair_of pair)) e) → WhenTold told (λ store. StopsAs (loaded_pairs store [] (map pair_of pairs)) e)
-reading_stops told pairs before left pair xs e read next stops store is =
-    let so = read.so_far store is in
-    subst (λ (r : Result (List Loaded) Stop). StopsAs r e) (sym (so.wanted ∙ ap (λ (ps : List PairOfWords). loaded_pairs store so.held (map pair_of ps)) next))
-    (stops_then (loaded_pair store so.held (pair_of pair)) _ e (stops store is so.held so.are))
+pub reading_stops : (told : Option Folder) (pairs before left : List PairOfWords) (pair : PairOfWords) (xs : List LoadedFiles) (e : Refusal) → AreRead told pairs before xs → before ≡ pair ∷ left
+    → WhenTold told (λ folder. (ls : List Loaded) → AreLoaded xs ls → StopsAs (loaded_pair folder ls (pair_of pair)) e) → WhenTold told (λ folder. StopsAs (loaded_pairs folder [] (map pair_of pairs)) e)
+reading_stops told pairs before left pair xs e read next stops folder is =
+    let so = read.so_far folder is in
+    subst (λ (r : Result (List Loaded) Stop). StopsAs r e) (sym (so.wanted ∙ ap (λ (ps : List PairOfWords). loaded_pairs folder so.held (map pair_of ps)) next))
+    (stops_then (loaded_pair folder so.held (pair_of pair)) _ e (stops folder is so.held so.are))
 
-pub all_read : (told : Option Store) (pairs left : List PairOfWords) (xs : List LoadedFiles) → AreRead told pairs left xs → left ≡ []
-    → WhenTold told (λ store. (ls : List Loaded) × ((loaded_pairs store [] (map pair_of pairs) ≡ Ok ls) × AreLoaded xs ls))
-all_read told pairs left xs read none store is =
-    let so = read.so_far store is in
-    (so.held, (so.wanted ∙ ap (λ (ps : List PairOfWords). loaded_pairs store so.held (map pair_of ps)) none, so.are))
+pub all_read : (told : Option Folder) (pairs left : List PairOfWords) (xs : List LoadedFiles) → AreRead told pairs left xs → left ≡ []
+    → WhenTold told (λ folder. (ls : List Loaded) × ((loaded_pairs folder [] (map pair_of pairs) ≡ Ok ls) × AreLoaded xs ls))
+all_read told pairs left xs read none folder is =
+    let so = read.so_far folder is in
+    (so.held, (so.wanted ∙ ap (λ (ps : List PairOfWords). loaded_pairs folder so.held (map pair_of ps)) none, so.are))

@@ -8,7 +8,7 @@ use Rattle.std.specs.declared.cmp.Ordering.{Ordering}
 use Rattle.std.specs.declared.cmp.Ordering.TheVariants.{Less, Equal, Greater}
 use Rattle.std.specs.Cmp.Lexicographic.{slice_cmp, nat_list_cmp_total}
 use Rattle.std.specs.FinMap.{insert, get, get-insert, slice_cmp-IsAntisymmetric, nat_cmp-IsAntisymmetric}
-use Rattle.fri_outside.specs.Outside.{Counts, NoneFell, Store, WhenTold, with_file}
+use Rattle.fri_outside.specs.Outside.{Counts, NoneFell, Folder, WhenTold, with_file}
 use Rattle.fri_outside.specs.Several.{with_files, IsLeft, ChangesOnly, OthersStay}
 use Rattle.friday_app.specs.declared.refusal.Answer.{Answer}
 use Rattle.friday_app.specs.declared.refusal.Answer.TheVariants as answered
@@ -20,7 +20,7 @@ use Rattle.friday_app.specs.Outcome.{CommandOutcome, nothing_done, writes_of}
 use Rattle.friday_app.specs.Call.{DivergesOnlyIn, Makes, StopsAs, TellsOutcome}
 
 -- what did not change at all changed these files only
-pub same_changes : (before after : Option Store) (files : List (List ℕ × List ℕ)) → after ≡ before → ChangesOnly before files after
+pub same_changes : (before after : Option Folder) (files : List (List ℕ × List ℕ)) → after ≡ before → ChangesOnly before files after
 same_changes before after files e = record { each = λ old told. (old, e ∙ told, λ name. inl refl) }
 
 equal_from_is_eq : (r : Ordering) → is_eq r ≡ true → r ≡ Equal
@@ -33,7 +33,7 @@ is_same : (q name : List ℕ) → eq_by_cmp (slice_cmp nat_cmp) q name ≡ true 
 is_same q name tied = slice_cmp-IsAntisymmetric nat_cmp-IsAntisymmetric q name (equal_from_is_eq _ tied)
 
 -- a file that was set to some of its front: that name has it, and the others are as before
-is_left : (old : Store) (name bytes : List ℕ) (n : ℕ) (q : List ℕ) → IsLeft old ((name, bytes) ∷ []) (insert old name (take n bytes)) q
+is_left : (old : Folder) (name bytes : List ℕ) (n : ℕ) (q : List ℕ) → IsLeft old ((name, bytes) ∷ []) (insert old name (take n bytes)) q
 is_left old name bytes n q =
     elim (eq_by_cmp (slice_cmp nat_cmp) q name) as (λ b. eq_by_cmp (slice_cmp nat_cmp) q name ≡ b → IsLeft old ((name, bytes) ∷ []) (insert old name (take n bytes)) q) [
       | true ↦ λ tied. let same : q ≡ name = is_same q name tied in
@@ -45,8 +45,8 @@ first_of_one : (k : ℕ) (x y : List ℕ × List ℕ) → k < 1 → slice_index_
 first_of_one zero x y h e = e
 first_of_one (suc k) x y h e = absurd (omega arith)
 
--- a name in a store with one file more
-more_left : (old now new : Store) (file : List ℕ × List ℕ) (files : List (List ℕ × List ℕ)) (q : List ℕ) → now ≡ insert old file.0 file.1 → IsLeft now files new q → IsLeft old (file ∷ files) new q
+-- a name in a folder with one file more
+more_left : (old now new : Folder) (file : List ℕ × List ℕ) (files : List (List ℕ × List ℕ)) (q : List ℕ) → now ≡ insert old file.0 file.1 → IsLeft now files new q → IsLeft old (file ∷ files) new q
 more_left old now new file files q is (inl same) = one_more (is_left old file.0 file.1 (length file.1) q) where
   here : get new q ≡ get (insert old file.0 (take (length file.1) file.1)) q
   here = same ∙ ap (λ s. get s q) is ∙ ap (λ b. get (insert old file.0 b) q) (sym (take-length file.1))
@@ -57,7 +57,7 @@ more_left old now new file files q is (inl same) = one_more (is_left old file.0 
 more_left old now new file files q is (inr (bytes, (k, inside, at), n)) = inr (bytes, (suc k, omega arith, at), n)
 
 -- files that are made are made in part
-pub all_changes : (files : List (List ℕ × List ℕ)) (before after : Option Store) → after ≡ with_files files before → ChangesOnly before files after
+pub all_changes : (files : List (List ℕ × List ℕ)) (before after : Option Folder) → after ≡ with_files files before → ChangesOnly before files after
 all_changes [] before after e = same_changes before after [] e
 all_changes (file ∷ files) before after e = record {
   each = λ old told.
@@ -66,11 +66,11 @@ all_changes (file ∷ files) before after e = record {
 }
 
 -- where nothing changed, the others stayed
-pub same_others : (names : Store → List (List ℕ)) (before after : Option Store) → after ≡ before → OthersStay names before after
+pub same_others : (names : Folder → List (List ℕ)) (before after : Option Folder) → after ≡ before → OthersStay names before after
 same_others names before after e = record { each = λ old told. (old, e ∙ told, λ name out. refl) }
 
 -- whatever a command comes to, it changed only the files that it was to make
-pub makes_changes : (ended : Result Answer Refusal) (files : List (List ℕ × List ℕ)) (before after : Option Store) → Makes ended files before after → ChangesOnly before files after
+pub makes_changes : (ended : Result Answer Refusal) (files : List (List ℕ × List ℕ)) (before after : Option Folder) → Makes ended files before after → ChangesOnly before files after
 makes_changes (Ok answer) files before after makes = all_changes files before after makes
 makes_changes (Err (refusal.Refused file why)) files before after makes = all_changes files before after makes
 makes_changes (Err (refusal.Absent file)) files before after makes = all_changes files before after makes
@@ -95,21 +95,21 @@ name_among files file (k, inside, at) = (k, rw length-map inside, at_name files 
   at_name (x ∷ files) (suc k) file e = at_name files k file e
 
 -- where these files alone changed, no other name did
-pub changes_others : (files : Store → List (List ℕ × List ℕ)) (before after : Option Store) → ((store : Store) → before ≡ Some store → ChangesOnly before (files store) after) → OthersStay (λ store. map (λ f. f.0) (files store)) before after
+pub changes_others : (files : Folder → List (List ℕ × List ℕ)) (before after : Option Folder) → ((folder : Folder) → before ≡ Some folder → ChangesOnly before (files folder) after) → OthersStay (λ folder. map (λ f. f.0) (files folder)) before after
 changes_others files before after changes = record {
   each = λ old told.
       let c = (changes old told).each old told in
       (c.0, c.1, λ name out. stays old c.0 name out (c.2 name));
 } where
-  stays : (old new : Store) (name : List ℕ) → (Contains (map (λ f. f.0) (files old)) name → ⊥) → IsLeft old (files old) new name → get new name ≡ get old name
+  stays : (old new : Folder) (name : List ℕ) → (Contains (map (λ f. f.0) (files old)) name → ⊥) → IsLeft old (files old) new name → get new name ≡ get old name
   stays old new name out (inl same) = same
   stays old new name out (inr (bytes, among, part)) = absurd (out (name_among (files old) (name, bytes) among))
 
 -- whatever it comes to, the names of the files that it was to make alone changed
-pub makes_others : (f : Store → CommandOutcome) (before after : Option Store) (ended : Result Answer Refusal) → ((o : CommandOutcome) → option_map f before ≡ Some o → Makes ended (writes_of o) before after)
-    → OthersStay (λ store. map (λ file. file.0) (writes_of (f store))) before after
+pub makes_others : (f : Folder → CommandOutcome) (before after : Option Folder) (ended : Result Answer Refusal) → ((o : CommandOutcome) → option_map f before ≡ Some o → Makes ended (writes_of o) before after)
+    → OthersStay (λ folder. map (λ file. file.0) (writes_of (f folder))) before after
 makes_others f before after ended makes =
-    changes_others (λ store. writes_of (f store)) before after (λ store is. makes_changes ended _ before after (makes (f store) (ap (option_map f) is)))
+    changes_others (λ folder. writes_of (f folder)) before after (λ folder is. makes_changes ended _ before after (makes (f folder) (ap (option_map f) is)))
 
 -- a refusal that a command stops at tells its outcome, and no file was to be made
 pub stops_tell : (o : CommandOutcome) (e : Refusal) → StopsAs o e → TellsOutcome o (Err e)
@@ -119,17 +119,17 @@ stops_tell o refusal.ReadFault is = tt
 stops_tell o refusal.WriteFault is = tt
 stops_tell o refusal.NoMemory is = tt
 
-pub stops_make : (o : CommandOutcome) (e : Refusal) (before after : Option Store) → StopsAs o e → after ≡ before → Makes (Err e) (writes_of o) before after
+pub stops_make : (o : CommandOutcome) (e : Refusal) (before after : Option Folder) → StopsAs o e → after ≡ before → Makes (Err e) (writes_of o) before after
 stops_make o (refusal.Refused file why) before after is same = same ∙ sym (ap (λ f. with_files f before) (ap writes_of is))
 stops_make o (refusal.Absent file) before after is same = same ∙ sym (ap (λ f. with_files f before) (ap writes_of is))
 stops_make o refusal.ReadFault before after is same = same_changes before after (writes_of o) same
 stops_make o refusal.WriteFault before after is same = same_changes before after (writes_of o) same
 stops_make o refusal.NoMemory before after is same = same_changes before after (writes_of o) same
 
--- the outcome of a command over a store that is told
-pub outcome_at : (f : Store → CommandOutcome) (told : Option Store) (o : CommandOutcome) → option_map f told ≡ Some o → (store : Store) × (told ≡ Some store) × (o ≡ f store)
+-- the outcome of a command over a folder that is told
+pub outcome_at : (f : Folder → CommandOutcome) (told : Option Folder) (o : CommandOutcome) → option_map f told ≡ Some o → (folder : Folder) × (told ≡ Some folder) × (o ≡ f folder)
 outcome_at f None o e = cc
-outcome_at f (Some store) o e = (store, refl, sym (same_Some _ _ e))
+outcome_at f (Some folder) o e = (folder, refl, sym (same_Some _ _ e))
 
 -- what never tells a divergence tells none in any command
 pub never_diverges : (command : Option Command) (result : Result Answer Refusal) → DivergesOnlyIn None result → DivergesOnlyIn command result
@@ -138,20 +138,20 @@ never_diverges command (Ok (answered.Diverged text)) h = absurd h
 never_diverges command (Err refusal) h = tt
 
 -- a command that is a recording leaves it where it comes to an answer
-pub keeps_recording : {command : Command} {images : Bool} {schedule_name : List ℕ} (before after : Option Store) → command ≡ Record images schedule_name
+pub keeps_recording : {command : Command} {images : Bool} {schedule_name : List ℕ} (before after : Option Folder) → command ≡ Record images schedule_name
     → WhenTold before (λ old. WhenTold after (LeavesRecording schedule_name old))
     → WhenTold before (λ old. WhenTold after (KeepsRecording (Some command) old))
 keeps_recording before after is leaves old told new here = subst (λ (k : Command). KeepsRecording (Some k) old new) (sym is) (leaves old told new here)
 
 -- and at any time that of a moment of its run
-pub keeps_moment : {command : Command} {images : Bool} {schedule_name : List ℕ} (before after : Option Store) → command ≡ Record images schedule_name
+pub keeps_moment : {command : Command} {images : Bool} {schedule_name : List ℕ} (before after : Option Folder) → command ≡ Record images schedule_name
     → WhenTold before (λ old. LeavesMoment images schedule_name old after) → WhenTold before (λ old. KeepsMoment (Some command) old after)
 keeps_moment before after is leaves old told = subst (λ (k : Command). KeepsMoment (Some k) old after) (sym is) (leaves old told)
 
 -- and a replay has none to leave
-pub no_recording : {command : Command} {images : Bool} {pairs : List Pair} (before after : Option Store) → command ≡ Replay images pairs
+pub no_recording : {command : Command} {images : Bool} {pairs : List Pair} (before after : Option Folder) → command ≡ Replay images pairs
     → WhenTold before (λ old. WhenTold after (KeepsRecording (Some command) old))
 no_recording before after is old told new here = subst (λ (k : Command). KeepsRecording (Some k) old new) (sym is) tt
 
-pub no_moment : {command : Command} {images : Bool} {pairs : List Pair} (before after : Option Store) → command ≡ Replay images pairs → WhenTold before (λ old. KeepsMoment (Some command) old after)
+pub no_moment : {command : Command} {images : Bool} {pairs : List Pair} (before after : Option Folder) → command ≡ Replay images pairs → WhenTold before (λ old. KeepsMoment (Some command) old after)
 no_moment before after is old told = subst (λ (k : Command). KeepsMoment (Some k) old after) (sym is) tt

@@ -2,7 +2,7 @@
 use Rattle.std.proofs.Common.{◌≡◌, ◌⊎◌, ◌<◌, ◌+◌, ℕ, zero, suc, List, [], ◌∷◌, ◌++◌, length, drop, Bool, true, false, cond, Option, Some, None, Result, Ok, Err, refl, sym, ap, subst, ◌∙◌, inl, inr, arith, append_assoc, append-nil}
 use Rattle.std.specs.Prelude.{All, option_and_then}
 use Rattle.std.proofs.lemmas.List.{length-append}
-use Rattle.fri_outside.specs.Outside.{Store, WhenTold}
+use Rattle.fri_outside.specs.Outside.{Folder, WhenTold}
 use Rattle.wasm_types.specs.Floats.{is_with_floats}
 use Rattle.wasm_types.specs.Modules.{Module}
 use Rattle.wasm_types.specs.Valid.{IsValid, has_no_start, is_over_limit}
@@ -64,9 +64,9 @@ passed : (name : List ℕ) (m given : Module) (why : Option Reason) → module_u
 passed name m given None is = (refl, ap (value_or m) is)
 passed name m given (Some why) is = cc
 
-pub module_valid : ExactFault → (store : Store) (name : List ℕ) (m : Module) → module_in store name ≡ Ok m → IsValid m
-module_valid exact store name m is =
-    let bytes = follows (file_of store name most_module) _ m is in
+pub module_valid : ExactFault → (folder : Folder) (name : List ℕ) (m : Module) → module_in folder name ≡ Ok m → IsValid m
+module_valid exact folder name m is =
+    let bytes = follows (file_of folder name most_module) _ m is in
     let spelled = follows (spelled_module name (module_of_bytes bytes.given)) (valid_module name) m bytes.comes in
     let p = passed name spelled.given m (fault_of spelled.given) spelled.comes in
     subst IsValid p.1 ((exact.none spelled.given).0 (no_fault_found spelled.given p.0))
@@ -85,15 +85,15 @@ valid_too m ms valid rest (suc k) d below = rest k d (omega (arith, below))
 no_module : All IsValid []
 no_module k d below = absurd (omega (arith, below))
 
-pub modules_valid : ExactFault → (store : Store) (lines : List ProcessLine) (ms : List Module) → modules_of store lines ≡ Ok ms → AreModules lines ms
-modules_valid exact store [] ms is = subst (AreModules []) (ap (value_or []) is) (record { count = refl; valid = no_module })
-modules_valid exact store (line ∷ lines) ms is =
-    let first = follows (module_in store line.«module») _ ms is in
-    let rest = follows (modules_of store lines) _ ms first.comes in
-    let known = modules_valid exact store lines rest.given rest.is_given in
+pub modules_valid : ExactFault → (folder : Folder) (lines : List ProcessLine) (ms : List Module) → modules_of folder lines ≡ Ok ms → AreModules lines ms
+modules_valid exact folder [] ms is = subst (AreModules []) (ap (value_or []) is) (record { count = refl; valid = no_module })
+modules_valid exact folder (line ∷ lines) ms is =
+    let first = follows (module_in folder line.«module») _ ms is in
+    let rest = follows (modules_of folder lines) _ ms first.comes in
+    let known = modules_valid exact folder lines rest.given rest.is_given in
     subst (AreModules (line ∷ lines)) (ap (value_or []) rest.comes) (record {
       count = ap suc known.count;
-      valid = valid_too first.given rest.given (module_valid exact store line.«module» first.given first.is_given) known.valid;
+      valid = valid_too first.given rest.given (module_valid exact folder line.«module» first.given first.is_given) known.valid;
     })
 
 -- ---- how they begin
@@ -129,39 +129,39 @@ with_one ms m (Ok later) = ap (λ (all : List Module). Ok all) (sym (append_asso
 with_one ms m (Err stop) = refl
 
 -- one module more
-pub one_further : (store : Store) (ms : List Module) (line : ProcessLine) (lines : List ProcessLine) (m : Module) → module_in store line.«module» ≡ Ok m
-    → prefixed ms (modules_of store (line ∷ lines)) ≡ prefixed (ms ++ m ∷ []) (modules_of store lines)
-one_further store ms line lines m is =
-    ap (λ (r : Result Module Stop). prefixed ms (and_then r (λ m. and_then (modules_of store lines) (λ later. Ok (m ∷ later))))) is
-    ∙ with_one ms m (modules_of store lines)
+pub one_further : (folder : Folder) (ms : List Module) (line : ProcessLine) (lines : List ProcessLine) (m : Module) → module_in folder line.«module» ≡ Ok m
+    → prefixed ms (modules_of folder (line ∷ lines)) ≡ prefixed (ms ++ m ∷ []) (modules_of folder lines)
+one_further folder ms line lines m is =
+    ap (λ (r : Result Module Stop). prefixed ms (and_then r (λ m. and_then (modules_of folder lines) (λ later. Ok (m ∷ later))))) is
+    ∙ with_one ms m (modules_of folder lines)
 
 -- a module at which there is a stop
-pub one_stops : (store : Store) (ms : List Module) (line : ProcessLine) (lines : List ProcessLine) (e : Refusal) → StopsAs (module_in store line.«module») e → StopsAs (prefixed ms (modules_of store (line ∷ lines))) e
-one_stops store ms line lines e stops = stops_then (modules_of store (line ∷ lines)) _ e (stops_then (module_in store line.«module») _ e stops)
+pub one_stops : (folder : Folder) (ms : List Module) (line : ProcessLine) (lines : List ProcessLine) (e : Refusal) → StopsAs (module_in folder line.«module») e → StopsAs (prefixed ms (modules_of folder (line ∷ lines))) e
+one_stops folder ms line lines e stops = stops_then (modules_of folder (line ∷ lines)) _ e (stops_then (module_in folder line.«module») _ e stops)
 
 -- so many of the modules were taken
-pub record AreTaken (told : Option Store) (lines : List ProcessLine) (index : ℕ) (ms : List Module) : Type 0 where
+pub record AreTaken (told : Option Folder) (lines : List ProcessLine) (index : ℕ) (ms : List Module) : Type 0 where
   pub count : length ms ≡ index
-  pub so_far : WhenTold told (λ store. modules_of store lines ≡ prefixed ms (modules_of store (drop index lines)))
+  pub so_far : WhenTold told (λ folder. modules_of folder lines ≡ prefixed ms (modules_of folder (drop index lines)))
 
-pub none_taken : (told : Option Store) (lines : List ProcessLine) → AreTaken told lines 0 []
-none_taken told lines = record { count = refl; so_far = λ store is. none_before (modules_of store lines) }
+pub none_taken : (told : Option Folder) (lines : List ProcessLine) → AreTaken told lines 0 []
+none_taken told lines = record { count = refl; so_far = λ folder is. none_before (modules_of folder lines) }
 
-pub one_taken : (told : Option Store) (lines : List ProcessLine) (index : ℕ) (ms : List Module) (line : ProcessLine) (m : Module) → AreTaken told lines index ms → drop index lines ≡ line ∷ drop (index + 1) lines
-    → WhenTold told (λ store. module_in store line.«module» ≡ Ok m) → AreTaken told lines (index + 1) (ms ++ m ∷ [])
+pub one_taken : (told : Option Folder) (lines : List ProcessLine) (index : ℕ) (ms : List Module) (line : ProcessLine) (m : Module) → AreTaken told lines index ms → drop index lines ≡ line ∷ drop (index + 1) lines
+    → WhenTold told (λ folder. module_in folder line.«module» ≡ Ok m) → AreTaken told lines (index + 1) (ms ++ m ∷ [])
 one_taken told lines index ms line m taken next found = record {
   count = length-append ms (m ∷ []) ∙ ap (λ (n : ℕ). n + 1) taken.count;
-  so_far = λ store is.
-      taken.so_far store is ∙ ap (λ (rest : List ProcessLine). prefixed ms (modules_of store rest)) next
-      ∙ one_further store ms line (drop (index + 1) lines) m (found store is);
+  so_far = λ folder is.
+      taken.so_far folder is ∙ ap (λ (rest : List ProcessLine). prefixed ms (modules_of folder rest)) next
+      ∙ one_further folder ms line (drop (index + 1) lines) m (found folder is);
 }
 
-pub taking_stops : (told : Option Store) (lines : List ProcessLine) (index : ℕ) (ms : List Module) (line : ProcessLine) (e : Refusal) → AreTaken told lines index ms → drop index lines ≡ line ∷ drop (index + 1) lines
-    → WhenTold told (λ store. StopsAs (module_in store line.«module») e) → WhenTold told (λ store. StopsAs (modules_of store lines) e)
-taking_stops told lines index ms line e taken next stops store is =
-    subst (λ (r : Result (List Module) Stop). StopsAs r e) (sym (taken.so_far store is ∙ ap (λ (rest : List ProcessLine). prefixed ms (modules_of store rest)) next))
-    (one_stops store ms line (drop (index + 1) lines) e (stops store is))
+pub taking_stops : (told : Option Folder) (lines : List ProcessLine) (index : ℕ) (ms : List Module) (line : ProcessLine) (e : Refusal) → AreTaken told lines index ms → drop index lines ≡ line ∷ drop (index + 1) lines
+    → WhenTold told (λ folder. StopsAs (module_in folder line.«module») e) → WhenTold told (λ folder. StopsAs (modules_of folder lines) e)
+taking_stops told lines index ms line e taken next stops folder is =
+    subst (λ (r : Result (List Module) Stop). StopsAs r e) (sym (taken.so_far folder is ∙ ap (λ (rest : List ProcessLine). prefixed ms (modules_of folder rest)) next))
+    (one_stops folder ms line (drop (index + 1) lines) e (stops folder is))
 
-pub all_taken : (told : Option Store) (lines : List ProcessLine) (index : ℕ) (ms : List Module) → AreTaken told lines index ms → drop index lines ≡ [] → WhenTold told (λ store. modules_of store lines ≡ Ok ms)
-all_taken told lines index ms taken none store is =
-    taken.so_far store is ∙ ap (λ (rest : List ProcessLine). prefixed ms (modules_of store rest)) none ∙ ap (λ (all : List Module). Ok all) (append-nil ms)
+pub all_taken : (told : Option Folder) (lines : List ProcessLine) (index : ℕ) (ms : List Module) → AreTaken told lines index ms → drop index lines ≡ [] → WhenTold told (λ folder. modules_of folder lines ≡ Ok ms)
+all_taken told lines index ms taken none folder is =
+    taken.so_far folder is ∙ ap (λ (rest : List ProcessLine). prefixed ms (modules_of folder rest)) none ∙ ap (λ (all : List Module). Ok all) (append-nil ms)

@@ -1,7 +1,7 @@
--- The recording of the files that a store holds: there is one, and its logs agree with it.
+-- The recording of the files that a folder holds: there is one, and its logs agree with it.
 use Rattle.std.proofs.Common.{◌≡◌, ◌++◌, ℕ, Bool, List, Option, Some, option_map, Result, Ok, Err, refl, sym, ap, subst, ◌∙◌}
 use Rattle.fri_outside.specs.Laws.{KeepsFiles}
-use Rattle.fri_outside.specs.Outside.{Store, WhenTold}
+use Rattle.fri_outside.specs.Outside.{Folder, WhenTold}
 use Rattle.fri_outside.specs.Several.{with_files}
 use Rattle.wasm_types.specs.Modules.{Module}
 use Rattle.wasm_validate.specs.Fault.{ExactFault}
@@ -36,17 +36,17 @@ read_by name (Ok s) schedule is = ap (λ (s : Schedule). Ok s) (same_Ok (schedul
 read_by name (Err (BadLineAt line)) schedule is = cc
 read_by name (Err TooManyRuns) schedule is = cc
 
-pub schedule_formed : GivesSchedules → (store : Store) (name : List ℕ) (schedule : Schedule) → schedule_in store name ≡ Ok schedule → IsWellFormed schedule
-schedule_formed gives store name schedule is =
-    let bytes = follows (file_of store name most_schedule) _ schedule is in
+pub schedule_formed : GivesSchedules → (folder : Folder) (name : List ℕ) (schedule : Schedule) → schedule_in folder name ≡ Ok schedule → IsWellFormed schedule
+schedule_formed gives folder name schedule is =
+    let bytes = follows (file_of folder name most_schedule) _ schedule is in
     ((gives bytes.given schedule).0 (read_by name (schedule_of bytes.given) schedule bytes.comes)).0.formed
 
 -- ---- its logs agree with it
 
 pub recordings_agree_so : ExactFault → GivesSchedules → Beginning → Agreement → Delivery → RecordingsAgree
-recordings_agree_so exact gives beginning agreement delivery store name r =
-    let modules = modules_valid exact store r.schedule.processes r.modules r.found in
-    let begun = beginning r.schedule r.modules r.first (schedule_formed gives store name r.schedule r.spelled) modules.count modules.valid r.begins in
+recordings_agree_so exact gives beginning agreement delivery folder name r =
+    let modules = modules_valid exact folder r.schedule.processes r.modules r.found in
+    let begun = beginning r.schedule r.modules r.first (schedule_formed gives folder name r.schedule r.spelled) modules.count modules.valid r.begins in
     record {
       logs = agreement (group_in r) r.schedule.items begun.0 begun.1;
       datagrams = delivery (group_in r) r.schedule.items begun.0 begun.1;
@@ -54,29 +54,29 @@ recordings_agree_so exact gives beginning agreement delivery store name r =
 
 -- ---- it is the one that was gathered
 
-record IsOne (schedule : Schedule) (modules : List Module) {store : Store} {name : List ℕ} (r : IsRecordable store name) : Type 0 where
+record IsOne (schedule : Schedule) (modules : List Module) {folder : Folder} {name : List ℕ} (r : IsRecordable folder name) : Type 0 where
   schedules : schedule ≡ r.schedule
   modules_same : modules ≡ r.modules
 
-pub gathers_it : {store : Store} {name : List ℕ} (r : IsRecordable store name) → Gathers store name r.schedule r.modules
+pub gathers_it : {folder : Folder} {name : List ℕ} (r : IsRecordable folder name) → Gathers folder name r.schedule r.modules
 gathers_it r = record { spelled = r.spelled; found = r.found }
 
-one_recording : {store : Store} {name : List ℕ} (schedule : Schedule) (modules : List Module) → Gathers store name schedule modules → (r : IsRecordable store name) → IsOne schedule modules r
-one_recording {store} {name} schedule modules g r =
-    let schedules : schedule ≡ r.schedule = same_Ok (schedule_in store name) schedule r.schedule g.spelled r.spelled in
+one_recording : {folder : Folder} {name : List ℕ} (schedule : Schedule) (modules : List Module) → Gathers folder name schedule modules → (r : IsRecordable folder name) → IsOne schedule modules r
+one_recording {folder} {name} schedule modules g r =
+    let schedules : schedule ≡ r.schedule = same_Ok (schedule_in folder name) schedule r.schedule g.spelled r.spelled in
     record {
       schedules = schedules;
-      modules_same = same_Ok (modules_of store r.schedule.processes) modules r.modules (ap (λ (s : Schedule). modules_of store s.processes) (sym schedules) ∙ g.found) r.found;
+      modules_same = same_Ok (modules_of folder r.schedule.processes) modules r.modules (ap (λ (s : Schedule). modules_of folder s.processes) (sym schedules) ∙ g.found) r.found;
     }
 
 -- ---- what stands of it
 
 -- before anything was made
-pub moment_before : RecordingsAgree → (told after : Option Store) (images : Bool) (name : List ℕ) → after ≡ told → WhenTold told (λ before. LeavesMoment images name before after)
+pub moment_before : RecordingsAgree → (told after : Option Folder) (images : Bool) (name : List ℕ) → after ≡ told → WhenTold told (λ before. LeavesMoment images name before after)
 moment_before agree told after images name same before is r = (InHeads 0 (λ p. 0) (same ∙ is), agree before name r)
 
 -- where the recording was stopped or came to its end
-pub moment_then : RecordingsAgree → (told middle after : Option Store) (images : Bool) (name : List ℕ) (schedule : Schedule) (modules : List Module) → WhenTold told (λ store. Gathers store name schedule modules)
+pub moment_then : RecordingsAgree → (told middle after : Option Folder) (images : Bool) (name : List ℕ) (schedule : Schedule) (modules : List Module) → WhenTold told (λ folder. Gathers folder name schedule modules)
     → middle ≡ told → StoppedWhere schedule images (first_states schedule modules) middle after → WhenTold told (λ before. LeavesMoment images name before after)
 moment_then agree told middle after images name schedule modules gathers same stopped before is r = (here, agree before name r) where
   one : IsOne schedule modules r
@@ -86,10 +86,10 @@ moment_then agree told middle after images name schedule modules gathers same st
   here = subst (λ (s : Result (List State) ℕ). StoppedWhere r.schedule images s (Some before) after) r.begins
       (subst (λ (m : List Module). StoppedWhere r.schedule images (first_states r.schedule m) (Some before) after) one.modules_same
       (subst (λ (s : Schedule). StoppedWhere s images (first_states s modules) (Some before) after) one.schedules
-      (subst (λ (t : Option Store). StoppedWhere schedule images (first_states schedule modules) t after) (same ∙ is) stopped)))
+      (subst (λ (t : Option Folder). StoppedWhere schedule images (first_states schedule modules) t after) (same ∙ is) stopped)))
 
 -- at an answer the files of the outcome are made
-made_at_end : (result : Result Answer Refusal) (files : List (List ℕ × List ℕ)) (before after : Option Store) → IsAnswerResult result → Makes result files before after → after ≡ with_files files before
+made_at_end : (result : Result Answer Refusal) (files : List (List ℕ × List ℕ)) (before after : Option Folder) → IsAnswerResult result → Makes result files before after → after ≡ with_files files before
 made_at_end (Ok answer) files before after end makes = makes
 made_at_end (Err (refusal.Refused file why)) files before after end makes = makes
 made_at_end (Err (refusal.Absent file)) files before after end makes = makes
@@ -98,12 +98,12 @@ made_at_end (Err refusal.WriteFault) files before after end makes = absurd end
 made_at_end (Err refusal.NoMemory) files before after end makes = absurd end
 
 -- those of a recording are its logs, and behind them the images that were asked for
-recording_writes : {store : Store} {name : List ℕ} (images : Bool) (r : IsRecordable store name) → writes_of (record_outcome images name store) ≡ logs (group_in r) (steps_in r) ++ images_of images (group_in r) (run_in r)
-recording_writes {store} {name} images r =
-    ap writes_of (gathered store images name r.schedule r.modules (gathers_it r) ∙ ap (group_outcome images name r.schedule) r.begins)
+recording_writes : {folder : Folder} {name : List ℕ} (images : Bool) (r : IsRecordable folder name) → writes_of (record_outcome images name folder) ≡ logs (group_in r) (steps_in r) ++ images_of images (group_in r) (run_in r)
+recording_writes {folder} {name} images r =
+    ap writes_of (gathered folder images name r.schedule r.modules (gathers_it r) ∙ ap (group_outcome images name r.schedule) r.begins)
     ∙ group_writes images name r.schedule r.first
 
-pub recording_left : KeepsFiles → GivesSchedules → RecordingsAgree → (told after : Option Store) (images : Bool) (name : List ℕ) (result : Result Answer Refusal)
+pub recording_left : KeepsFiles → GivesSchedules → RecordingsAgree → (told after : Option Folder) (images : Bool) (name : List ℕ) (result : Result Answer Refusal)
     → ((o : CommandOutcome) → option_map (record_outcome images name) told ≡ Some o → Makes result (writes_of o) told after) → IsAnswerResult result
     → WhenTold told (λ before. WhenTold after (LeavesRecording name before))
 recording_left keeps gives agree told after images name result makes end before is now here r =

@@ -1,6 +1,6 @@
 -- What `replay` comes to, from what it read and made.
 use Rattle.std.proofs.Common.{◌≡◌, ◌∙◌, ℕ, Bool, List, [], Option, Some, option_map, Ok, Err, Result, ap, subst, sym}
-use Rattle.fri_outside.specs.Outside.{Store, WhenTold}
+use Rattle.fri_outside.specs.Outside.{Folder, WhenTold}
 use Rattle.proc_replay.specs.Replaying.{Replaying}
 use Rattle.friday_app.specs.declared.pairs.Loaded.{Loaded as LoadedFiles}
 use Rattle.group_state.specs.declared.report.Report.{Report}
@@ -26,45 +26,45 @@ use Rattle.friday_app.proofs.Made.{outcome_at}
 -- ---- the files were refused
 
 -- no group of replays was opened
-abbrev pub NoneOpened : List Pair → Option Store → Refusal → Type 0
-NoneOpened pairs told e = WhenTold told (λ store. StopsAs (replays_of_pairs store pairs) e)
+abbrev pub NoneOpened : List Pair → Option Folder → Refusal → Type 0
+NoneOpened pairs told e = WhenTold told (λ folder. StopsAs (replays_of_pairs folder pairs) e)
 
 -- since some pair could not be read
-pub unread_stops : (pairs : List Pair) (told : Option Store) (e : Refusal) → WhenTold told (λ store. StopsAs (loaded_pairs store [] pairs) e) → NoneOpened pairs told e
-unread_stops pairs told e stops store is = stops_then (loaded_pairs store [] pairs) _ e (stops store is)
+pub unread_stops : (pairs : List Pair) (told : Option Folder) (e : Refusal) → WhenTold told (λ folder. StopsAs (loaded_pairs folder [] pairs) e) → NoneOpened pairs told e
+unread_stops pairs told e stops folder is = stops_then (loaded_pairs folder [] pairs) _ e (stops folder is)
 
-pub load_stops : (images : Bool) (pairs : List Pair) (told : Option Store) (e : Refusal) → WhenTold told (λ store. StopsAs (loaded_pairs store [] pairs) e) → WhenTold told (λ store. StopsAs (replay_outcome images pairs store) e)
-load_stops images pairs told e stops store is = stops_then (replays_of_pairs store pairs) _ e (unread_stops pairs told e stops store is)
+pub load_stops : (images : Bool) (pairs : List Pair) (told : Option Folder) (e : Refusal) → WhenTold told (λ folder. StopsAs (loaded_pairs folder [] pairs) e) → WhenTold told (λ folder. StopsAs (replay_outcome images pairs folder) e)
+load_stops images pairs told e stops folder is = stops_then (replays_of_pairs folder pairs) _ e (unread_stops pairs told e stops folder is)
 
 -- the pairs were read
-abbrev pub WereLoaded : List Pair → Option Store → List LoadedFiles → Type 0
-WereLoaded pairs told all = WhenTold told (λ store. (ls : List Loaded) × ((loaded_pairs store [] pairs ≡ Ok ls) × AreLoaded all ls))
+abbrev pub WereLoaded : List Pair → Option Folder → List LoadedFiles → Type 0
+WereLoaded pairs told all = WhenTold told (λ folder. (ls : List Loaded) × ((loaded_pairs folder [] pairs ≡ Ok ls) × AreLoaded all ls))
 
 -- and a process did not begin
-pub unbegun_stops : (pairs : List Pair) (told : Option Store) (all shown : List LoadedFiles) (e : Refusal) → WereLoaded pairs told all → shown ≡ all → ((ls : List Loaded) → AreLoaded shown ls → StopsAs (replays_of ls) e)
+pub unbegun_stops : (pairs : List Pair) (told : Option Folder) (all shown : List LoadedFiles) (e : Refusal) → WereLoaded pairs told all → shown ≡ all → ((ls : List Loaded) → AreLoaded shown ls → StopsAs (replays_of ls) e)
     → NoneOpened pairs told e
-unbegun_stops pairs told all shown e loaded same stops store is =
-    let l = loaded store is in
+unbegun_stops pairs told all shown e loaded same stops folder is =
+    let l = loaded folder is in
     subst (λ (r : Result (List Loaded) Stop). StopsAs (and_then r (λ ls. and_then (replays_of ls) (λ rs. Ok (sort_replays [] rs)))) e) (sym l.1.0)
     (stops_then (replays_of l.0) _ e (stops l.0 (subst (λ (all : List LoadedFiles). AreLoaded all l.0) (sym same) l.1.1)))
 
-pub begin_stops : (images : Bool) (pairs : List Pair) (told : Option Store) (all shown : List LoadedFiles) (e : Refusal) → WereLoaded pairs told all → shown ≡ all → ((ls : List Loaded) → AreLoaded shown ls → StopsAs (replays_of ls) e)
-    → WhenTold told (λ store. StopsAs (replay_outcome images pairs store) e)
-begin_stops images pairs told all shown e loaded same stops store is =
-    stops_then (replays_of_pairs store pairs) _ e (unbegun_stops pairs told all shown e loaded same stops store is)
+pub begin_stops : (images : Bool) (pairs : List Pair) (told : Option Folder) (all shown : List LoadedFiles) (e : Refusal) → WereLoaded pairs told all → shown ≡ all → ((ls : List Loaded) → AreLoaded shown ls → StopsAs (replays_of ls) e)
+    → WhenTold told (λ folder. StopsAs (replay_outcome images pairs folder) e)
+begin_stops images pairs told all shown e loaded same stops folder is =
+    stops_then (replays_of_pairs folder pairs) _ e (unbegun_stops pairs told all shown e loaded same stops folder is)
 
 -- ---- the replays began
 
-pub begun_opens : (pairs : List Pair) (told : Option Store) (all shown : List LoadedFiles) (start : List Replaying) → WereLoaded pairs told all → shown ≡ all
+pub begun_opens : (pairs : List Pair) (told : Option Folder) (all shown : List LoadedFiles) (start : List Replaying) → WereLoaded pairs told all → shown ≡ all
     → ((ls : List Loaded) → AreLoaded shown ls → (rs : List Replaying) × ((replays_of ls ≡ Ok rs) × (start ≡ sort_replays [] rs))) → WasOpened pairs told start
-begun_opens pairs told all shown start loaded same begun store is =
-    let l = loaded store is in
+begun_opens pairs told all shown start loaded same begun folder is =
+    let l = loaded folder is in
     let b = begun l.0 (subst (λ (all : List LoadedFiles). AreLoaded all l.0) (sym same) l.1.1) in
     ap (λ (r : Result (List Loaded) Stop). and_then r (λ ls. and_then (replays_of ls) (λ rs. Ok (sort_replays [] rs)))) l.1.0
     ∙ ap (λ (r : Result (List Replaying) Stop). and_then r (λ rs. Ok (sort_replays [] rs))) b.1.0
     ∙ ap (λ (rs : List Replaying). Ok rs) (sym b.1.1)
 
-pub opened_works : (images : Bool) (pairs : List Pair) (told : Option Store) (start : List Replaying) → WasOpened pairs told start
+pub opened_works : (images : Bool) (pairs : List Pair) (told : Option Folder) (start : List Replaying) → WasOpened pairs told start
     → (o : CommandOutcome) → option_map (replay_outcome images pairs) told ≡ Some o → o ≡ Ok (replay_work images start)
 opened_works images pairs told start opens o is =
     let h = outcome_at (replay_outcome images pairs) told o is in
@@ -73,13 +73,13 @@ opened_works images pairs told start opens o is =
 -- ---- what is made
 
 -- the images were made, and whatever comes then
-pub replay_makes : (images : Bool) (pairs : List Pair) (told after : Option Store) (start : List Replaying) (result : Result Answer Refusal) → WasOpened pairs told start
+pub replay_makes : (images : Bool) (pairs : List Pair) (told after : Option Folder) (start : List Replaying) (result : Result Answer Refusal) → WasOpened pairs told start
     → Makes result (images_if images start) told after → (o : CommandOutcome) → option_map (replay_outcome images pairs) told ≡ Some o → Makes result (writes_of o) told after
 replay_makes images pairs told after start result opens makes o here =
     subst (λ (o : CommandOutcome). Makes result (writes_of o) told after) (sym (opened_works images pairs told start opens o here)) makes
 
 -- they were not all made
-pub some_made : (e : Refusal) (files : List (List ℕ × List ℕ)) (before after : Option Store) → MakesAll (Err e) files before after → Makes (Err e) files before after
+pub some_made : (e : Refusal) (files : List (List ℕ × List ℕ)) (before after : Option Folder) → MakesAll (Err e) files before after → Makes (Err e) files before after
 some_made (refusal.Refused file why) files before after made = absurd made
 some_made (refusal.Absent file) files before after made = absurd made
 some_made refusal.ReadFault files before after made = absurd made
@@ -94,7 +94,7 @@ says_of images start o (answered.Done text) is says = (replay_work images start,
 says_of images start o (answered.Diverged text) is says = (replay_work images start, is, says.0, says.1)
 
 -- the report was printed
-pub report_tells : (images : Bool) (pairs : List Pair) (told : Option Store) (start : List Replaying) (report : Report) (answer : Answer) → WasOpened pairs told start → IsReport start report
+pub report_tells : (images : Bool) (pairs : List Pair) (told : Option Folder) (start : List Replaying) (report : Report) (answer : Answer) → WasOpened pairs told start → IsReport start report
     → Says (report_text report.lines.items (counts_in report)) (diverges report.lines.items) answer
     → (o : CommandOutcome) → option_map (replay_outcome images pairs) told ≡ Some o → TellsOutcome o (Ok answer)
 report_tells images pairs told start report answer opens is says o here =

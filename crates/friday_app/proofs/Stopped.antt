@@ -1,5 +1,5 @@
 -- The files of a recording that was stopped are first parts of those of its whole run, whose logs stand in the
--- store that it leaves.
+-- folder that it leaves.
 use Rattle.std.proofs.Common.{◌≡◌, ◌≢◌, ◌&&◌, Contains, cond, inl, inr, ◌<◌, ◌+◌, ◌==◌, ℕ, zero, suc, List, [], ◌∷◌, ◌++◌, Bool, true, false, length, map, take, drop, slice_get, slice_index_or, Option, Some, refl, sym, ap, subst, ◌∙◌, arith, append_assoc, append-nil}
 use Rattle.std.specs.Prelude.{AllPairs, codes, is_none}
 use Rattle.std.specs.FinMap.{get}
@@ -8,7 +8,7 @@ use Rattle.std.proofs.lemmas.Grind.{flat_map-append}
 use Rattle.std.proofs.lemmas.List.{append_cancel_right, length-map, take-append-drop}
 use Rattle.std.proofs.lemmas.Option.{same_Some}
 use Rattle.fri_outside.specs.Laws.{KeepsFiles}
-use Rattle.fri_outside.specs.Outside.{Store, with_file}
+use Rattle.fri_outside.specs.Outside.{Folder, with_file}
 use Rattle.fri_outside.specs.Several.{AreApart, AreFronts, ChangesOnly, IsLeft, grown, with_files}
 use Rattle.call_log.specs.Entry.{encoding, encodings}
 use Rattle.call_log.specs.Head.{head_bytes}
@@ -30,18 +30,18 @@ use Rattle.friday_app.proofs.Made.{all_changes}
 IsGrown : List ℕ → List ℕ → Type 0
 IsGrown whole part = (more : List ℕ) × (whole ≡ part ++ more)
 
-one_more : (a : Act) (h : History) (p : ℕ) → (more : List Entry) × (world.entries (a ∷ h) p ≡ world.entries h p ++ more)
+one_more : (a : Act) (h : History) (p : ℕ) → (more : List Entry) × (world.process_entries (a ∷ h) p ≡ world.process_entries h p ++ more)
 one_more (world.Event q e) h p =
-    elim (q == p) as (λ b. (more : List Entry) × (world.put_last_if b (world.entries h p) e ≡ world.entries h p ++ more)) [
+    elim (q == p) as (λ b. (more : List Entry) × (world.put_last_if b (world.process_entries h p) e ≡ world.process_entries h p ++ more)) [
       | true ↦ (e ∷ [], refl)
-      | false ↦ ([], sym (append-nil (world.entries h p)))
+      | false ↦ ([], sym (append-nil (world.process_entries h p)))
     ]
-one_more (world.Deliver q n) h p = ([], sym (append-nil (world.entries h p)))
-one_more (world.Inject q bytes) h p = ([], sym (append-nil (world.entries h p)))
-one_more (world.Clock q time) h p = ([], sym (append-nil (world.entries h p)))
-one_more (world.Random q bytes) h p = ([], sym (append-nil (world.entries h p)))
-one_more (world.Signal q signal) h p = ([], sym (append-nil (world.entries h p)))
-one_more (world.Kill q) h p = ([], sym (append-nil (world.entries h p)))
+one_more (world.Deliver q n) h p = ([], sym (append-nil (world.process_entries h p)))
+one_more (world.Inject q bytes) h p = ([], sym (append-nil (world.process_entries h p)))
+one_more (world.Clock q time) h p = ([], sym (append-nil (world.process_entries h p)))
+one_more (world.Random q bytes) h p = ([], sym (append-nil (world.process_entries h p)))
+one_more (world.Signal q signal) h p = ([], sym (append-nil (world.process_entries h p)))
+one_more (world.Kill q) h p = ([], sym (append-nil (world.process_entries h p)))
 
 -- a log with some entries more
 log_with : (head : List ℕ) (es more : List Entry) → head ++ encodings (es ++ more) ≡ (head ++ encodings es) ++ encodings more
@@ -163,7 +163,7 @@ part_fronts (file ∷ files) (suc n) m zero name bytes at = ([], at ∙ ap (a_fi
 part_fronts (file ∷ files) (suc n) m (suc place) name bytes at = part_fronts files n m place name bytes at
 
 -- where a recording was stopped, each log and image is as before or has some of its front, and no other file changes
-pub stopped_changes : KeepsFiles → (group : Group) (steps : List Step) (images : List (List ℕ × List ℕ)) (before after : Option Store) → IsStopped group steps images before after
+pub stopped_changes : KeepsFiles → (group : Group) (steps : List Step) (images : List (List ℕ × List ℕ)) (before after : Option Folder) → IsStopped group steps images before after
     → ChangesOnly before (logs group steps ++ images) after
 stopped_changes keeps group steps images before after (InHeads many cut is) =
     subst (ChangesOnly before (logs group steps ++ images)) (sym is)
@@ -220,7 +220,7 @@ logs_apart lines q bytes apart i j d before within same =
 -- ---- images behind the logs
 
 -- some files are made behind the others
-pub with_more : (files more : List (List ℕ × List ℕ)) (told : Option Store) → with_files (files ++ more) told ≡ with_files more (with_files files told)
+pub with_more : (files more : List (List ℕ × List ℕ)) (told : Option Folder) → with_files (files ++ more) told ≡ with_files more (with_files files told)
 with_more [] more told = refl
 with_more (file ∷ files) more told = with_more files more (with_file file.0 file.1 told)
 
@@ -259,12 +259,12 @@ images_are_no_logs asked group done name bytes among = no_log (among_if (asked &
   no_log : Contains (images group done.steps) (log_name name, bytes) → ⊥
   no_log (k, inside, at) = image_is_no_log group done.steps 0 group.names name bytes k inside at
 
-kept_behind : (old new : Store) (more : List (List ℕ × List ℕ)) (name : List ℕ) → ((bytes : List ℕ) → Contains more (name, bytes) → ⊥) → IsLeft old more new name → get new name ≡ get old name
+kept_behind : (old new : Folder) (more : List (List ℕ × List ℕ)) (name : List ℕ) → ((bytes : List ℕ) → Contains more (name, bytes) → ⊥) → IsLeft old more new name → get new name ≡ get old name
 kept_behind old new more name others (inl same) = same
 kept_behind old new more name others (inr (bytes, among, part)) = absurd (others bytes among)
 
--- the logs that were made stand in the store, whatever was made behind them under other names
-pub logs_stand : KeepsFiles → (group : Group) (steps : List Step) (more : List (List ℕ × List ℕ)) (before after : Store) → AreApart (logs group steps)
+-- the logs that were made stand in the folder, whatever was made behind them under other names
+pub logs_stand : KeepsFiles → (group : Group) (steps : List Step) (more : List (List ℕ × List ℕ)) (before after : Folder) → AreApart (logs group steps)
     → ((name bytes : List ℕ) → Contains more (log_name name, bytes) → ⊥) → with_files (logs group steps ++ more) (Some before) ≡ Some after → LeavesLogs group steps after
 logs_stand keeps group steps more before after apart others made p below =
     let stands = keeps.stands before (logs group steps) apart in
@@ -273,5 +273,5 @@ logs_stand keeps group steps more before after apart others made p below =
     let here = file_at 0 group.names (log_of group steps) p below ∙ ap (λ (k : ℕ). a_file name (log_of group steps k)) whole in
     let behind : with_files more (Some stands.0) ≡ Some after = ap (with_files more) (sym stands.1) ∙ sym (with_more (logs group steps) more (Some before)) ∙ made in
     let changes = (all_changes more (Some stands.0) (Some after) (sym behind)).each stands.0 refl in
-    ap (λ (s : Store). get s name) (same_Some _ _ changes.1) ∙ kept_behind stands.0 changes.0 more name (others (slice_index_or group.names p [])) (changes.2 name)
+    ap (λ (s : Folder). get s name) (same_Some _ _ changes.1) ∙ kept_behind stands.0 changes.0 more name (others (slice_index_or group.names p [])) (changes.2 name)
     ∙ stands.2.held p _ _ here

@@ -1,7 +1,7 @@
 -- The logs that a recording leaves tell what was recorded, wherever it was stopped.
 use Rattle.std.specs.Prelude.{◌≡◌, ℕ, ◌<◌, Bool, IsTrue, List, ◌∷◌, ◌++◌, Option, Some, None, Ok}
 use Rattle.std.specs.FinMap.{get}
-use Rattle.fri_outside.specs.Outside.{Store}
+use Rattle.fri_outside.specs.Outside.{Folder}
 use Rattle.lib_calls.specs.Traffic.{is_taken}
 use Rattle.wasm_types.specs.Modules.{Module}
 use Rattle.guest_process.specs.Live.{Event}
@@ -17,26 +17,26 @@ use Rattle.friday_app.specs.Command.{Command, Debug, Record, Replay}
 use Rattle.friday_app.specs.Expected.{modules_of, schedule_in}
 
 -- the files spell a schedule and modules with which its processes begin
-pub record IsRecordable (store : Store) (schedule_name : List ℕ) : Type 0 where
+pub record IsRecordable (folder : Folder) (schedule_name : List ℕ) : Type 0 where
   pub schedule : Schedule
-  pub spelled : schedule_in store schedule_name ≡ Ok schedule
+  pub spelled : schedule_in folder schedule_name ≡ Ok schedule
   pub modules : List Module
-  pub found : modules_of store schedule.processes ≡ Ok modules
+  pub found : modules_of folder schedule.processes ≡ Ok modules
   pub first : List State
   pub begins : first_states schedule modules ≡ Ok first
 
 -- its group, and its run
-abbrev pub group_in : {store : Store} {schedule_name : List ℕ} → IsRecordable store schedule_name → Group
+abbrev pub group_in : {folder : Folder} {schedule_name : List ℕ} → IsRecordable folder schedule_name → Group
 group_in r = group_of r.schedule r.first
 
-abbrev pub run_in : {store : Store} {schedule_name : List ℕ} → IsRecordable store schedule_name → Progress
+abbrev pub run_in : {folder : Folder} {schedule_name : List ℕ} → IsRecordable folder schedule_name → Progress
 run_in r = run (group_in r) r.schedule.items
 
-abbrev pub steps_in : {store : Store} {schedule_name : List ℕ} → IsRecordable store schedule_name → List Step
+abbrev pub steps_in : {folder : Folder} {schedule_name : List ℕ} → IsRecordable folder schedule_name → List Step
 steps_in r = (run_in r).steps
 
 -- each process has its log afterwards
-abbrev pub LeavesLogs : Group → List Step → Store → Type 0
+abbrev pub LeavesLogs : Group → List Step → Folder → Type 0
 LeavesLogs group steps after = (p : ℕ) → p < size group → get after (log_name (name_of group p)) ≡ Some (log_of group steps p)
 
 -- at each moment of the run the logs tell its events, and each datagram that was taken came first in the
@@ -48,15 +48,15 @@ pub record LogsAgree (group : Group) (steps : List Step) : Type 0 where
 
 -- so it is with each recording
 abbrev pub RecordingsAgree : Type 0
-RecordingsAgree = (store : Store) (schedule_name : List ℕ) (r : IsRecordable store schedule_name) → LogsAgree (group_in r) (steps_in r)
+RecordingsAgree = (folder : Folder) (schedule_name : List ℕ) (r : IsRecordable folder schedule_name) → LogsAgree (group_in r) (steps_in r)
 
 -- where the files can be recorded, the logs that an answer leaves are those of the whole run, which agree with it
-abbrev pub LeavesRecording : List ℕ → Store → Store → Type 0
+abbrev pub LeavesRecording : List ℕ → Folder → Folder → Type 0
 LeavesRecording schedule_name before after =
     (r : IsRecordable before schedule_name) → LeavesLogs (group_in r) (steps_in r) after × LogsAgree (group_in r) (steps_in r)
 
 -- a command that records leaves its recording
-abbrev pub KeepsRecording : Option Command → Store → Store → Type 0
+abbrev pub KeepsRecording : Option Command → Folder → Folder → Type 0
 KeepsRecording None before after = Unit {0}
 KeepsRecording (Some (Record images schedule_name)) before after = LeavesRecording schedule_name before after
 KeepsRecording (Some (Replay images pairs)) before after = Unit {0}
@@ -64,12 +64,12 @@ KeepsRecording (Some (Debug pairs)) before after = Unit {0}
 
 -- wherever it is stopped, the logs are those of a moment of its run, but for a first part of the next entry; or the
 -- whole logs stand, and some of the images that were asked for
-abbrev pub LeavesMoment : Bool → List ℕ → Store → Option Store → Type 0
+abbrev pub LeavesMoment : Bool → List ℕ → Folder → Option Folder → Type 0
 LeavesMoment images schedule_name before after =
     (r : IsRecordable before schedule_name)
     → IsStopped (group_in r) (steps_in r) (images_of images (group_in r) (run_in r)) (Some before) after × LogsAgree (group_in r) (steps_in r)
 
-abbrev pub KeepsMoment : Option Command → Store → Option Store → Type 0
+abbrev pub KeepsMoment : Option Command → Folder → Option Folder → Type 0
 KeepsMoment None before after = Unit {0}
 KeepsMoment (Some (Record images schedule_name)) before after = LeavesMoment images schedule_name before after
 KeepsMoment (Some (Replay images pairs)) before after = Unit {0}

@@ -1,7 +1,7 @@
 -- What a call says of its status, of what it printed, and of the files after it.
 use Rattle.std.specs.Prelude.{◌≡◌, ◌≢◌, ◌⊎◌, ℕ, List, [], ◌++◌, string_bytes, Option, Some, None, take, IfSome, IfNone, Result, Ok, Err, true, false}
 use Rattle.std.specs.Io.KnownBytes.{append_known}
-use Rattle.fri_outside.specs.Outside.{Store, Counts, Rose}
+use Rattle.fri_outside.specs.Outside.{Folder, Counts, Rose}
 use Rattle.fri_outside.specs.Several.{with_files, ChangesOnly}
 use Rattle.fri_outside.specs.declared.files.WriteError.{WriteError}
 use Rattle.fri_outside.specs.declared.files.WriteError.TheVariants as writing
@@ -29,7 +29,7 @@ pub record Prints (answer : Status) (text : List ℕ) (before after : Option (Li
   pub part : (n : ℕ) × (after ≡ append_known before (take n text))
 
 -- after an answer the files of the work are made; at any status they alone change, each to some of its front
-pub record LeavesFiles (answer : Status) (files : List (List ℕ × List ℕ)) (before after : Option Store) : Type 0 where
+pub record LeavesFiles (answer : Status) (files : List (List ℕ × List ℕ)) (before after : Option Folder) : Type 0 where
   pub whole : IsAnswerStatus answer → after ≡ with_files files before
   pub part : ChangesOnly before files after
 
@@ -56,7 +56,7 @@ abbrev pub PrintsAbsent : Option (List ℕ) → Option (List ℕ) → Type 0
 PrintsAbsent before after = (file : List ℕ) × (after ≡ append_known before (absent_line file))
 
 -- nothing was printed, or all files that were to be made were made before
-abbrev pub PrintsLast : List (List ℕ × List ℕ) → Option (List ℕ) → Option (List ℕ) → Option Store → Option Store → Type 0
+abbrev pub PrintsLast : List (List ℕ × List ℕ) → Option (List ℕ) → Option (List ℕ) → Option Folder → Option Folder → Type 0
 PrintsLast files printed printed_after before after = (printed_after ≡ printed) ⊎ (after ≡ with_files files before)
 
 -- A COMMAND'S RESULT, before its text is written
@@ -117,14 +117,14 @@ Raises old new refusal.ReadFault = Rose old.reads new.reads
 Raises old new refusal.WriteFault = Rose old.writes new.writes
 Raises old new refusal.NoMemory = Unit {0}
 
--- no file changed where a command found no file or could not read, whatever the store
-abbrev pub Keeps : Result Answer Refusal → Option Store → Option Store → Type 0
+-- no file changed where a command found no file or could not read, whatever the folder
+abbrev pub Keeps : Result Answer Refusal → Option Folder → Option Folder → Type 0
 Keeps (Err (refusal.Absent file)) before after = after ≡ before
 Keeps (Err refusal.ReadFault) before after = after ≡ before
 Keeps result before after = Unit {0}
 
 -- the files that were to be made are made at an answer, and some of them in part where a write or memory failed
-abbrev pub Makes : Result Answer Refusal → List (List ℕ × List ℕ) → Option Store → Option Store → Type 0
+abbrev pub Makes : Result Answer Refusal → List (List ℕ × List ℕ) → Option Folder → Option Folder → Type 0
 Makes (Ok answer) files before after = after ≡ with_files files before
 Makes (Err (refusal.Refused file why)) files before after = after ≡ with_files files before
 Makes (Err (refusal.Absent file)) files before after = after ≡ with_files files before

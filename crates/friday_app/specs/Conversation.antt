@@ -1,7 +1,7 @@
 -- What is said of the input of a session, and of what is answered before more of it is asked for.
 use Rattle.std.specs.Prelude.{◌≡◌, ◌≢◌, ◌⊎◌, ◌≤◌, ℕ, ◌+◌, List, ◌++◌, length, Option, Some, None, true, false}
 use Rattle.std.specs.Io.KnownBytes.{append_known}
-use Rattle.fri_outside.specs.Outside.{Store, Rose, WhenTold}
+use Rattle.fri_outside.specs.Outside.{Folder, Rose, WhenTold}
 use Rattle.proc_replay.specs.Replaying.{Replaying}
 use Rattle.friday_shell.specs.Session.{ends, opening, session_text, whole_lines}
 use Rattle.friday_app.specs.declared.refusal.Reason.TheVariants as reason
@@ -80,18 +80,18 @@ pub record Untouched (left_before left_after : Option (List ℕ)) (faults_before
   pub faults : faults_after ≡ faults_before
 
 -- a session read an input. It began over the replays of these pairs
-abbrev pub ReadsOpened : List Pair → Option Store → Option (List ℕ) → Option (List ℕ) → Status → Type 0
+abbrev pub ReadsOpened : List Pair → Option Folder → Option (List ℕ) → Option (List ℕ) → Status → Type 0
 ReadsOpened pairs told left after answer = (start : List Replaying) × (WasOpened pairs told start × WhenTold left (λ input. HasRead start input after answer))
 
 -- only a session reads the input, and without one `debug` is not done
-abbrev pub KeepsInput : Option Command → Option Store → Option (List ℕ) → Option (List ℕ) → Status → Type 0 → Type 0
+abbrev pub KeepsInput : Option Command → Option Folder → Option (List ℕ) → Option (List ℕ) → Status → Type 0 → Type 0
 KeepsInput None told left after answer untouched = untouched
 KeepsInput (Some (Record images schedule_name)) told left after answer untouched = untouched
 KeepsInput (Some (Replay images pairs)) told left after answer untouched = untouched
 KeepsInput (Some (Debug pairs)) told left after answer untouched = (untouched × (answer ≢ status.Done)) ⊎ ReadsOpened pairs told left after answer
 
 -- where a read of the input failed, and none of a file, the session had begun, and all that was taken was answered
-abbrev pub AnswersFirst : Option Command → Option Store → Option (List ℕ) → Option (List ℕ) → Option (List ℕ) → Option (List ℕ) → Type 0
+abbrev pub AnswersFirst : Option Command → Option Folder → Option (List ℕ) → Option (List ℕ) → Option (List ℕ) → Option (List ℕ) → Type 0
 AnswersFirst None told left after printed printed_after = ⊥
 AnswersFirst (Some (Record images schedule_name)) told left after printed printed_after = ⊥
 AnswersFirst (Some (Replay images pairs)) told left after printed printed_after = ⊥
@@ -99,7 +99,7 @@ AnswersFirst (Some (Debug pairs)) told left after printed printed_after =
     (start : List Replaying) × (WasOpened pairs told start × WhenTold left (λ input. HasAnswered start input after printed printed_after))
 
 -- this file is the input of `debug`, and it is too large
-abbrev pub IsLargeInput : Option Command → Option Store → Option (List ℕ) → List ℕ → Type 0
+abbrev pub IsLargeInput : Option Command → Option Folder → Option (List ℕ) → List ℕ → Type 0
 IsLargeInput None told left file = ⊥
 IsLargeInput (Some (Record images schedule_name)) told left file = ⊥
 IsLargeInput (Some (Replay images pairs)) told left file = ⊥

@@ -1,6 +1,6 @@
 -- What `debug` comes to.
 use Rattle.std.specs.Prelude.{ℕ, ◌&&◌, Bool, false, not, nat_lt, List, [], length, take, codes, Option, Some, option_map, Result, Ok, Err, if◌then◌else◌}
-use Rattle.fri_outside.specs.Outside.{Store}
+use Rattle.fri_outside.specs.Outside.{Folder}
 use Rattle.fri_text.specs.Line.{lines_of}
 use Rattle.proc_replay.specs.Replaying.{Replaying}
 use Rattle.friday_shell.specs.Session.{ends, opening, session_text, whole_lines}
@@ -37,5 +37,5 @@ abbrev pub opened_outcome : Result (List Replaying) Stop → Option (List ℕ) �
 opened_outcome (Err stop) left = Some (Err stop)
 opened_outcome (Ok start) left = option_map (session_outcome start) left
 
-abbrev pub debug_outcome : List Pair → Option (List ℕ) → Store → Option CommandOutcome
-debug_outcome pairs left store = opened_outcome (replays_of_pairs store pairs) left
+abbrev pub debug_outcome : List Pair → Option (List ℕ) → Folder → Option CommandOutcome
+debug_outcome pairs left folder = opened_outcome (replays_of_pairs folder pairs) left

@@ -1,7 +1,7 @@
 -- What each command comes to, given the files and the input.
 use Rattle.std.specs.List.{slice_index_or}
 use Rattle.std.specs.Prelude.{ℕ, List, [], ◌∷◌, Bool, Option, Some, None, map, option_map, option_and_then, Result, Ok, Err}
-use Rattle.fri_outside.specs.Outside.{Store}
+use Rattle.fri_outside.specs.Outside.{Folder}
 use Rattle.wasm_types.specs.Modules.{Module}
 use Rattle.schedule_text.specs.declared.process.ProcessLine.{ProcessLine}
 use Rattle.schedule_text.specs.Reading.{Refusal, BadLineAt, TooManyRuns, schedule_of}
@@ -21,8 +21,8 @@ use Rattle.friday_app.specs.Report.{replay_work}
 
 -- THE COMMANDS, each with its refusals in their order
 
-abbrev pub replay_outcome : Bool → List Pair → Store → CommandOutcome
-replay_outcome images pairs store = and_then (replays_of_pairs store pairs) (λ start. Ok (replay_work images start))
+abbrev pub replay_outcome : Bool → List Pair → Folder → CommandOutcome
+replay_outcome images pairs folder = and_then (replays_of_pairs folder pairs) (λ start. Ok (replay_work images start))
 
 -- the schedule of a schedule file
 abbrev pub schedule_or_refusal : List ℕ → Result Schedule Refusal → Result Schedule Stop
@@ -30,13 +30,13 @@ schedule_or_refusal name (Ok schedule) = Ok schedule
 schedule_or_refusal name (Err (BadLineAt line)) = Err (refuses_at_once name (reason.BadLine line))
 schedule_or_refusal name (Err TooManyRuns) = Err (refuses_at_once name reason.TooMany)
 
-abbrev pub schedule_in : Store → List ℕ → Result Schedule Stop
-schedule_in store name = and_then (file_of store name most_schedule) (λ bytes. schedule_or_refusal name (schedule_of bytes))
+abbrev pub schedule_in : Folder → List ℕ → Result Schedule Stop
+schedule_in folder name = and_then (file_of folder name most_schedule) (λ bytes. schedule_or_refusal name (schedule_of bytes))
 
 -- the modules of these processes, in their order
-abbrev pub modules_of : Store → List ProcessLine → Result (List Module) Stop
-modules_of store [] = Ok []
-modules_of store (line ∷ lines) = and_then (module_in store line.«module») (λ m. and_then (modules_of store lines) (λ ms. Ok (m ∷ ms)))
+abbrev pub modules_of : Folder → List ProcessLine → Result (List Module) Stop
+modules_of folder [] = Ok []
+modules_of folder (line ∷ lines) = and_then (module_in folder line.«module») (λ m. and_then (modules_of folder lines) (λ ms. Ok (m ∷ ms)))
 
 -- the file of the module of process p
 abbrev pub module_name : Schedule → ℕ → List ℕ
@@ -53,21 +53,21 @@ group_outcome images schedule_name schedule states =
     and_then (states_or_bad_segment schedule states) (λ first.
     run_outcome images schedule_name (group_of schedule first) (run (group_of schedule first) schedule.items))
 
-abbrev pub record_outcome : Bool → List ℕ → Store → CommandOutcome
-record_outcome images schedule_name store =
-    and_then (schedule_in store schedule_name) (λ schedule.
-    and_then (modules_of store schedule.processes) (λ modules. group_outcome images schedule_name schedule (first_states schedule modules)))
+abbrev pub record_outcome : Bool → List ℕ → Folder → CommandOutcome
+record_outcome images schedule_name folder =
+    and_then (schedule_in folder schedule_name) (λ schedule.
+    and_then (modules_of folder schedule.processes) (λ modules. group_outcome images schedule_name schedule (first_states schedule modules)))
 
--- the outcome, as far as the store and the input tell what it depends on
-abbrev pub expected : Option Command → Option Store → Option (List ℕ) → Option CommandOutcome
+-- the outcome, as far as the folder and the input tell what it depends on
+abbrev pub expected : Option Command → Option Folder → Option (List ℕ) → Option CommandOutcome
 expected None told left = Some (Err NotACommand)
 expected (Some (Record images schedule_name)) told left = option_map (record_outcome images schedule_name) told
 expected (Some (Replay images pairs)) told left = option_map (replay_outcome images pairs) told
 expected (Some (Debug pairs)) told left = option_and_then (debug_outcome pairs left) told
 
 -- the names that a command may write, given the files
-abbrev pub written_by : Option Command → Store → List (List ℕ)
-written_by None store = []
-written_by (Some (Record images schedule_name)) store = written_names (record_outcome images schedule_name store)
-written_by (Some (Replay images pairs)) store = written_names (replay_outcome images pairs store)
-written_by (Some (Debug pairs)) store = []
+abbrev pub written_by : Option Command → Folder → List (List ℕ)
+written_by None folder = []
+written_by (Some (Record images schedule_name)) folder = written_names (record_outcome images schedule_name folder)
+written_by (Some (Replay images pairs)) folder = written_names (replay_outcome images pairs folder)
+written_by (Some (Debug pairs)) folder = []

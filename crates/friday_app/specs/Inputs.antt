@@ -1,6 +1,6 @@
 -- What is read of the files: modules, first states and logs.
 use Rattle.std.specs.Prelude.{ℕ, List, Option, Some, None, Result, Ok, Err}
-use Rattle.fri_outside.specs.Outside.{Store}
+use Rattle.fri_outside.specs.Outside.{Folder}
 use Rattle.wasm_types.specs.Modules.{Module}
 use Rattle.wasm_decode.specs.Sections.{module_of_bytes}
 use Rattle.call_log.specs.Head.{Head}
@@ -27,8 +27,8 @@ module_unless_refused name m (Some why) = Err (refuses_at_once name why)
 abbrev pub valid_module : List ℕ → Module → Result Module Stop
 valid_module name m = module_unless_refused name m (fault_of m)
 
-abbrev pub module_in : Store → List ℕ → Result Module Stop
-module_in store name = and_then (file_of store name most_module) (λ bytes. and_then (spelled_module name (module_of_bytes bytes)) (valid_module name))
+abbrev pub module_in : Folder → List ℕ → Result Module Stop
+module_in folder name = and_then (file_of folder name most_module) (λ bytes. and_then (spelled_module name (module_of_bytes bytes)) (valid_module name))
 
 -- the first state of a process of a module, whose file has this name
 abbrev pub state_or_bad_segment : List ℕ → Option State → Result State Stop
@@ -43,5 +43,5 @@ abbrev pub log_or_bad_head : List ℕ → Option (Head × List ℕ) → Result (
 log_or_bad_head name None = Err (refuses_at_once name reason.BadHead)
 log_or_bad_head name (Some log) = Ok log
 
-abbrev pub log_in : Store → List ℕ → Result (Head × List ℕ) Stop
-log_in store name = and_then (file_of store name most_log) (λ bytes. log_or_bad_head name (head_at bytes))
+abbrev pub log_in : Folder → List ℕ → Result (Head × List ℕ) Stop
+log_in folder name = and_then (file_of folder name most_log) (λ bytes. log_or_bad_head name (head_at bytes))

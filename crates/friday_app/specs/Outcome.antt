@@ -1,6 +1,6 @@
 -- What a command comes to: the work that it does, or the stop at which it ends.
 use Rattle.std.specs.Prelude.{ℕ, List, [], ◌++◌, Bool, false, map, decimal, codes, Result, Ok, Err, if◌then◌else◌}
-use Rattle.fri_outside.specs.Outside.{Store, Found, Missing, Over, Held, found}
+use Rattle.fri_outside.specs.Outside.{Folder, Found, Missing, Over, Held, found}
 use Rattle.friday_app.specs.declared.status.Status.{Status}
 use Rattle.friday_app.specs.declared.status.Status.TheVariants as status
 use Rattle.friday_app.specs.declared.refusal.Reason.{Reason}
@@ -40,8 +40,8 @@ bytes_or_stop name Missing = Err (Lacks name)
 bytes_or_stop name Over = Err (refuses_at_once name reason.TooLarge)
 bytes_or_stop name (Held bytes) = Ok bytes
 
-abbrev pub file_of : Store → List ℕ → ℕ → Result (List ℕ) Stop
-file_of store name limit = bytes_or_stop name (found store name limit)
+abbrev pub file_of : Folder → List ℕ → ℕ → Result (List ℕ) Stop
+file_of folder name limit = bytes_or_stop name (found folder name limit)
 
 -- why a file is refused, as it is printed
 abbrev pub reason_text : Reason → List ℕ

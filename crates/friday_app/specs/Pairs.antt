@@ -1,7 +1,7 @@
 -- The modules and logs of a group, as they are read, and the replays of the logs.
 use Rattle.std.specs.Prelude.{◌≡◌, ℕ, List, [], ◌∷◌, ◌++◌, ◌==◌, Bool, false, not, nat_lt, bytes_eq, Option, Some, None, Result, Ok, Err, if◌then◌else◌}
 use Rattle.std.specs.List.{list_any}
-use Rattle.fri_outside.specs.Outside.{Store, WhenTold}
+use Rattle.fri_outside.specs.Outside.{Folder, WhenTold}
 use Rattle.wasm_types.specs.Modules.{Module}
 use Rattle.call_log.specs.Head.{Head}
 use Rattle.proc_replay.specs.Replaying.{Replaying}
@@ -46,14 +46,14 @@ unless_clash log_name l (Some why) = Err (refuses_at_once log_name why)
 -- ---- the files, pair after pair
 
 -- the module's, then the log's, then the log against the pairs before it
-abbrev pub loaded_pair : Store → List Loaded → Pair → Result Loaded Stop
-loaded_pair store earlier pair =
-    and_then (module_in store pair.module_name) (λ m. and_then (log_in store pair.log_name) (λ log.
+abbrev pub loaded_pair : Folder → List Loaded → Pair → Result Loaded Stop
+loaded_pair folder earlier pair =
+    and_then (module_in folder pair.module_name) (λ m. and_then (log_in folder pair.log_name) (λ log.
     unless_clash pair.log_name (record { module_name = pair.module_name; «module» = m; head = log.0; left = log.1 }) (clash earlier log.0)))
 
-abbrev pub loaded_pairs : Store → List Loaded → List Pair → Result (List Loaded) Stop
-loaded_pairs store earlier [] = Ok earlier
-loaded_pairs store earlier (pair ∷ pairs) = and_then (loaded_pair store earlier pair) (λ l. loaded_pairs store (earlier ++ l ∷ []) pairs)
+abbrev pub loaded_pairs : Folder → List Loaded → List Pair → Result (List Loaded) Stop
+loaded_pairs folder earlier [] = Ok earlier
+loaded_pairs folder earlier (pair ∷ pairs) = and_then (loaded_pair folder earlier pair) (λ l. loaded_pairs folder (earlier ++ l ∷ []) pairs)
 
 -- ---- the replays
 
@@ -79,9 +79,9 @@ sort_replays sorted (r ∷ rs) = sort_replays (insert_replay r sorted) rs
 
 -- the replays of the logs of some pairs, in order of their processes' numbers. No process begins before all
 -- files are read
-abbrev pub replays_of_pairs : Store → List Pair → Result (List Replaying) Stop
-replays_of_pairs store pairs = and_then (loaded_pairs store [] pairs) (λ ls. and_then (replays_of ls) (λ rs. Ok (sort_replays [] rs)))
+abbrev pub replays_of_pairs : Folder → List Pair → Result (List Replaying) Stop
+replays_of_pairs folder pairs = and_then (loaded_pairs folder [] pairs) (λ ls. and_then (replays_of ls) (λ rs. Ok (sort_replays [] rs)))
 
--- they are these, as far as the store tells its files
-abbrev pub WasOpened : List Pair → Option Store → List Replaying → Type 0
-WasOpened pairs told start = WhenTold told (λ store. replays_of_pairs store pairs ≡ Ok start)
+-- they are these, as far as the folder tells its files
+abbrev pub WasOpened : List Pair → Option Folder → List Replaying → Type 0
+WasOpened pairs told start = WhenTold told (λ folder. replays_of_pairs folder pairs ≡ Ok start)

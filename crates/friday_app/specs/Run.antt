@@ -1,6 +1,6 @@
 -- What a whole run of a command says.
 use Rattle.std.specs.Prelude.{◌≡◌, ◌⊎◌, ℕ, List, Option, Some, Ok}
-use Rattle.fri_outside.specs.Outside.{Store, WhenTold, Counts, Rose}
+use Rattle.fri_outside.specs.Outside.{Folder, WhenTold, Counts, Rose}
 use Rattle.fri_outside.specs.Several.{with_files, OthersStay}
 use Rattle.friday_app.specs.declared.status.Status.{Status}
 use Rattle.friday_app.specs.declared.status.Status.TheVariants as ends
@@ -11,13 +11,13 @@ use Rattle.friday_app.specs.Agreement.{KeepsMoment, KeepsRecording}
 use Rattle.friday_app.specs.Call.{IsAnswerStatus, IsExactUsage, IsIdle, Prints, PrintsAbsent, PrintsLast, PrintsRefusal, LeavesFiles}
 use Rattle.friday_app.specs.Conversation.{AnswersFirst, IsLargeInput, KeepsInput, Untouched}
 
--- what is said of the outcome of these words, as far as the store and the input tell it
-abbrev pub Expects : List (List ℕ) → Option Store → Option (List ℕ) → (CommandOutcome → Type 0) → Type 0
+-- what is said of the outcome of these words, as far as the folder and the input tell it
+abbrev pub Expects : List (List ℕ) → Option Folder → Option (List ℕ) → (CommandOutcome → Type 0) → Type 0
 Expects words told left P = WhenTold (expected (command_of words) told left) P
 
 -- what is handed in, as far as it tells
 pub record Outside : Type 0 where
-  pub told : Option Store
+  pub told : Option Folder
   pub counts : Counts
   pub left : Option (List ℕ)
   pub input_faults : ℕ
@@ -25,7 +25,7 @@ pub record Outside : Type 0 where
   pub out_faults : ℕ
 
 -- all of it at one moment
-abbrev pub outside : Option Store → Counts → Option (List ℕ) → ℕ → Option (List ℕ) → ℕ → Outside
+abbrev pub outside : Option Folder → Counts → Option (List ℕ) → ℕ → Option (List ℕ) → ℕ → Outside
 outside told counts left input_faults taken out_faults = record {
   told = told;
   counts = counts;
@@ -43,7 +43,7 @@ pub record NoFault (old new : Outside) : Type 0 where
   pub out : Rose old.out_faults new.out_faults → ⊥
 
 -- the command has work to do, and the status is that of the work, or want of memory
-pub record Works (command : Option Command) (told : Option Store) (left : Option (List ℕ)) (answer : Status) : Type 0 where
+pub record Works (command : Option Command) (told : Option Folder) (left : Option (List ℕ)) (answer : Status) : Type 0 where
   pub work : Work
   pub is_expected : expected command told left ≡ Some (Ok work)
   pub status : (answer ≡ outcome_status (Ok work)) ⊎ (answer ≡ ends.NoMemory)

@@ -1,7 +1,7 @@
 -- What the values of the code stand for.
 use Rattle.std.specs.List.{AllByRecursion}
 use Rattle.std.specs.Prelude.{⊤, ◌≡◌, ◌≢◌, ℕ, List, [], ◌∷◌, map, Bool, true, false, Option, Some, Result, Ok, Err}
-use Rattle.fri_outside.specs.Outside.{Store}
+use Rattle.fri_outside.specs.Outside.{Folder}
 use Rattle.fri_outside.specs.Several.{ChangesOnly, with_files}
 use Rattle.wasm_types.specs.Modules.{Module, module_of}
 use Rattle.schedule_text.specs.Schedule.{Schedule}
@@ -53,7 +53,7 @@ Says text diverged (answered.Done said) = (said ≡ text) × (diverged ≡ false
 Says text diverged (answered.Diverged said) = (said ≡ text) × (diverged ≡ true)
 
 -- the files were to be made, and some are made in part where a write or memory failed
-abbrev pub MakesAll : Result ⊤ Refusal → List (List ℕ × List ℕ) → Option Store → Option Store → Type 0
+abbrev pub MakesAll : Result ⊤ Refusal → List (List ℕ × List ℕ) → Option Folder → Option Folder → Type 0
 MakesAll (Ok _) files before after = after ≡ with_files files before
 MakesAll (Err refusal.WriteFault) files before after = ChangesOnly before files after
 MakesAll (Err refusal.NoMemory) files before after = ChangesOnly before files after
@@ -62,9 +62,9 @@ MakesAll (Err (refusal.Refused file why)) files before after = ⊥
 MakesAll (Err (refusal.Absent file)) files before after = ⊥
 
 -- the schedule of a schedule file, and the modules of its processes
-pub record Gathers (store : Store) (schedule_name : List ℕ) (schedule : Schedule) (modules : List Module) : Type 0 where
-  pub spelled : schedule_in store schedule_name ≡ Ok schedule
-  pub found : modules_of store schedule.processes ≡ Ok modules
+pub record Gathers (folder : Folder) (schedule_name : List ℕ) (schedule : Schedule) (modules : List Module) : Type 0 where
+  pub spelled : schedule_in folder schedule_name ≡ Ok schedule
+  pub found : modules_of folder schedule.processes ≡ Ok modules
 
 -- what a recording that was not done comes to: the refusal of a module or of the schedule, a fault, or want of
 -- memory, which may also come in the place of a refusal

@@ -38,8 +38,8 @@ pub fn take_file<F: Files>(
     files: &mut F,
 ) -> Result<Vec<u8>, Refusal>
     ensures within { IfOk result (λ bytes. vec_len bytes ≤ limit) }
-    ensures answer { WhenTold (F.told files.old) (λ store. MatchResult result
-        (λ bytes. file_of store name.now limit ≡ Ok bytes.items) (StopsAs (file_of store name.now limit))) }
+    ensures answer { WhenTold (F.told files.old) (λ folder. MatchResult result
+        (λ bytes. file_of folder name.now limit ≡ Ok bytes.items) (StopsAs (file_of folder name.now limit))) }
     ensures same { F.told files.new ≡ F.told files.old }
     ensures counts { NoneFell (F.counts files.old) (F.counts files.new) }
     ensures cause { IfErr result (Raises (F.counts files.old) (F.counts files.new)) }
@@ -104,8 +104,8 @@ pub fn take_module<F: Files>(
     name: &str,
     files: &mut F,
 ) -> Result<ValidModule, Refusal>
-    ensures answer { WhenTold (F.told files.old) (λ store. MatchResult result
-        (λ m. module_in store name.now ≡ Ok (shown m)) (StopsAs (module_in store name.now))) }
+    ensures answer { WhenTold (F.told files.old) (λ folder. MatchResult result
+        (λ m. module_in folder name.now ≡ Ok (shown m)) (StopsAs (module_in folder name.now))) }
     ensures same { F.told files.new ≡ F.told files.old }
     ensures counts { NoneFell (F.counts files.old) (F.counts files.new) }
     ensures cause { IfErr result (Raises (F.counts files.old) (F.counts files.new)) }
@@ -121,8 +121,8 @@ fn take_module_of<F: Files>(
     files: &mut F,
 ) -> Result<ValidModule, Refusal>
     requires { IsProcess line.now }
-    ensures answer { WhenTold (F.told files.old) (λ store. MatchResult result
-        (λ m. module_in store line.now.«module» ≡ Ok (shown m)) (StopsAs (module_in store line.now.«module»))) }
+    ensures answer { WhenTold (F.told files.old) (λ folder. MatchResult result
+        (λ m. module_in folder line.now.«module» ≡ Ok (shown m)) (StopsAs (module_in folder line.now.«module»))) }
     ensures same { F.told files.new ≡ F.told files.old }
     ensures counts { NoneFell (F.counts files.old) (F.counts files.new) }
     ensures cause { IfErr result (Raises (F.counts files.old) (F.counts files.new)) }
@@ -138,8 +138,8 @@ pub fn take_modules<F: Files>(
     files: &mut F,
 ) -> Result<Vec<ValidModule>, Refusal>
     requires { All IsProcess lines.now }
-    ensures answer { WhenTold (F.told files.old) (λ store. MatchResult result
-        (λ modules. modules_of store lines.now ≡ Ok (map shown modules.items)) (StopsAs (modules_of store lines.now))) }
+    ensures answer { WhenTold (F.told files.old) (λ folder. MatchResult result
+        (λ modules. modules_of folder lines.now ≡ Ok (map shown modules.items)) (StopsAs (modules_of folder lines.now))) }
     ensures count { IfOk result (λ modules. length modules.items ≡ length lines.now) }
     ensures same { F.told files.new ≡ F.told files.old }
     ensures counts { NoneFell (F.counts files.old) (F.counts files.new) }
@@ -183,8 +183,8 @@ pub fn take_schedule<F: Files>(
     files: &mut F,
 ) -> Result<Schedule, Refusal>
     ensures in_range { IfOk result IsSchedule }
-    ensures answer { WhenTold (F.told files.old) (λ store. MatchResult result
-        (λ schedule. schedule_in store name.now ≡ Ok schedule) (StopsAs (schedule_in store name.now))) }
+    ensures answer { WhenTold (F.told files.old) (λ folder. MatchResult result
+        (λ schedule. schedule_in folder name.now ≡ Ok schedule) (StopsAs (schedule_in folder name.now))) }
     ensures same { F.told files.new ≡ F.told files.old }
     ensures counts { NoneFell (F.counts files.old) (F.counts files.new) }
     ensures cause { IfErr result (Raises (F.counts files.old) (F.counts files.new)) }
@@ -202,8 +202,8 @@ pub fn take_schedule<F: Files>(
 
 /// The bytes of a log file.
 pub fn take_log<F: Files>(alloc: Global, name: &str, files: &mut F) -> Result<Vec<u8>, Refusal>
-    ensures answer { WhenTold (F.told files.old) (λ store. MatchResult result
-        (λ bytes. file_of store name.now most_log ≡ Ok bytes.items) (StopsAs (file_of store name.now most_log))) }
+    ensures answer { WhenTold (F.told files.old) (λ folder. MatchResult result
+        (λ bytes. file_of folder name.now most_log ≡ Ok bytes.items) (StopsAs (file_of folder name.now most_log))) }
     ensures same { F.told files.new ≡ F.told files.old }
     ensures counts { NoneFell (F.counts files.old) (F.counts files.new) }
     ensures cause { IfErr result (Raises (F.counts files.old) (F.counts files.new)) }

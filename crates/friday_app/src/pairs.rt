@@ -79,9 +79,9 @@ fn load<'a, F: Files>(
     earlier: &[Loaded<'a>],
     files: &mut F,
 ) -> Result<Loaded<'a>, Refusal>
-    ensures answer { WhenTold (F.told files.old) (λ store. (ls : List LoadedOf) → AreLoaded earlier.now ls → MatchResult result
-        (λ l. (is : LoadedOf) × ((loaded_pair store ls (pair_of pair.entry) ≡ Ok is) × IsLoaded l is))
-        (StopsAs (loaded_pair store ls (pair_of pair.entry)))) }
+    ensures answer { WhenTold (F.told files.old) (λ folder. (ls : List LoadedOf) → AreLoaded earlier.now ls → MatchResult result
+        (λ l. (is : LoadedOf) × ((loaded_pair folder ls (pair_of pair.entry) ≡ Ok is) × IsLoaded l is))
+        (StopsAs (loaded_pair folder ls (pair_of pair.entry)))) }
     ensures fits { IfOk result (λ l. (ls : List LoadedOf) → AreLoaded earlier.now ls
         → (is : LoadedOf) × (IsLoaded l is × (clash ls is.head ≡ None))) }
     ensures same { F.told files.new ≡ F.told files.old }
@@ -112,9 +112,9 @@ pub(crate) fn load_all<'a, F: Files>(
     pairs: &[Pair<'a>],
     files: &mut F,
 ) -> Result<Vec<Loaded<'a>>, Refusal>
-    ensures answer { WhenTold (F.told files.old) (λ store. MatchResult result
-        (λ all. (ls : List LoadedOf) × ((loaded_pairs store [] (map pair_of pairs.now) ≡ Ok ls) × AreLoaded all.items ls))
-        (StopsAs (loaded_pairs store [] (map pair_of pairs.now)))) }
+    ensures answer { WhenTold (F.told files.old) (λ folder. MatchResult result
+        (λ all. (ls : List LoadedOf) × ((loaded_pairs folder [] (map pair_of pairs.now) ≡ Ok ls) × AreLoaded all.items ls))
+        (StopsAs (loaded_pairs folder [] (map pair_of pairs.now)))) }
     ensures loaded { IfOk result (λ all. (ls : List LoadedOf) × AreLoaded all.items ls) }
     ensures apart { IfOk result (λ all. AreOneGroup all.items) }
     ensures same { F.told files.new ≡ F.told files.old }

@@ -60,9 +60,9 @@ struct Inputs {
 
 // Reads what a recording needs. No file has changed.
 fn gather<F: Files>(alloc: Global, schedule_file: &str, files: &mut F) -> Result<Inputs, Refusal>
-    ensures answer { WhenTold (F.told files.old) (λ store. MatchResult result
-        (λ inputs. Gathers store schedule_file.now inputs.schedule (map shown inputs.modules.items))
-        (λ e. (images : Bool) → StopsAs (record_outcome images schedule_file.now store) e)) }
+    ensures answer { WhenTold (F.told files.old) (λ folder. MatchResult result
+        (λ inputs. Gathers folder schedule_file.now inputs.schedule (map shown inputs.modules.items))
+        (λ e. (images : Bool) → StopsAs (record_outcome images schedule_file.now folder) e)) }
     ensures count { IfOk result (λ inputs. length inputs.modules.items ≡ length inputs.schedule.processes) }
     ensures same { F.told files.new ≡ F.told files.old }
     ensures counts { NoneFell (F.counts files.old) (F.counts files.new) }
@@ -113,7 +113,7 @@ pub fn record<F: Files>(
     ensures tells { WhenTold (option_map (record_outcome images schedule_file.now) (F.told files.old)) (λ outcome. TellsOutcome outcome result) }
     ensures makes { WhenTold (option_map (record_outcome images schedule_file.now) (F.told files.old)) (λ outcome.
         Makes result (writes_of outcome) (F.told files.old) (F.told files.new)) }
-    ensures others { OthersStay (λ store. written_names (record_outcome images schedule_file.now store)) (F.told files.old) (F.told files.new) }
+    ensures others { OthersStay (λ folder. written_names (record_outcome images schedule_file.now folder)) (F.told files.old) (F.told files.new) }
     ensures keeps { Keeps result (F.told files.old) (F.told files.new) }
     ensures done { DivergesOnlyIn None result }
     ensures recorded { IsAnswerResult result → WhenTold (F.told files.old) (λ before. WhenTold (F.told files.new) (LeavesRecording schedule_file.now before)) }

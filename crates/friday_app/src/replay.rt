@@ -79,7 +79,7 @@ pub fn replay<F: Files>(
     ensures tells { WhenTold (option_map (replay_outcome images (map pair_of pairs.now)) (F.told files.old)) (λ outcome. TellsOutcome outcome result) }
     ensures makes { WhenTold (option_map (replay_outcome images (map pair_of pairs.now)) (F.told files.old)) (λ outcome.
         Makes result (writes_of outcome) (F.told files.old) (F.told files.new)) }
-    ensures others { OthersStay (λ store. written_names (replay_outcome images (map pair_of pairs.now) store)) (F.told files.old) (F.told files.new) }
+    ensures others { OthersStay (λ folder. written_names (replay_outcome images (map pair_of pairs.now) folder)) (F.told files.old) (F.told files.new) }
     ensures keeps { Keeps result (F.told files.old) (F.told files.new) }
     ensures counts { NoneFell (F.counts files.old) (F.counts files.new) }
     ensures cause { IfErr result (Raises (F.counts files.old) (F.counts files.new)) }

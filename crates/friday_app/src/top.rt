@@ -100,7 +100,7 @@ pub fn friday<F: Files, S: Source, K: Sink>(
     ensures moment { WhenTold (F.told files.old) (λ before. KeepsMoment (command_of (map string_bytes words.now)) before (F.told files.new)) }
 
     // Valid words, files and input, and no fault: the work is done, unless memory runs out.
-    ensures complete { WhenTold (F.told files.old) (λ store. IsValidCall (command_of (map string_bytes words.now)) store (S.left input.old)
+    ensures complete { WhenTold (F.told files.old) (λ folder. IsValidCall (command_of (map string_bytes words.now)) folder (S.left input.old)
         → NoFault (outside (F.told files.old) (F.counts files.old) (S.left input.old) (S.faults input.old) (K.taken out.old) (K.faults out.old))
         (outside (F.told files.new) (F.counts files.new) (S.left input.new) (S.faults input.new) (K.taken out.new) (K.faults out.new))
         → Works (command_of (map string_bytes words.now)) (F.told files.old) (S.left input.old) result) }

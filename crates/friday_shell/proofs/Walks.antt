@@ -12,7 +12,7 @@ use Rattle.group_state.specs.Moves.{Moves, event_of, last_event_of}
 use Rattle.group_state.specs.Place.{Place, events}
 use Rattle.group_state.specs.Seen.{nodes_at}
 use Rattle.proc_replay.specs.Replaying.{Replaying}
-use Rattle.embed_cmds.specs.Running.{Run}
+use Rattle.embed_cmds.specs.Running.{ProgramState}
 use Rattle.embed_cmds.specs.Variables.{Variable}
 use Rattle.friday_shell.specs.declared.points.Point.{Point as Held}
 use Rattle.friday_shell.specs.Firing.{is_due_at, firing_line, place_at}
@@ -32,7 +32,7 @@ line_is : (start : List Replaying) (k n : ℕ) (t : Trigger) → line_by (readin
 line_is start k n (Watch x) = refl
 line_is start k n (Break of_node kind) = refl
 
-treat_is : (start : List Replaying) (k : ℕ) (r : Run) (p : Point)
+treat_is : (start : List Replaying) (k : ℕ) (r : ProgramState) (p : Point)
     → treat_by (reading start k p.trigger) (reading start (suc k) p.trigger) (last_event_of (place_at start (suc k))) (nodes_at (place_at start (suc k))) r p ≡ treat start (suc k) r p
 treat_is start k r p =
     let t = p.trigger in
@@ -41,7 +41,7 @@ treat_is start k r p =
     ∙ ap (λ (line : List ℕ). cond (is_due_at start (suc k) t) (fired nodes r line p.program) r) (line_is start k p.number t)
 
 -- what one point does, by what was read
-pub treated : (start : List Replaying) (at : ℕ) (r new : Run) (p : Point) (before now : Option ℤ) → 0 < at
+pub treated : (start : List Replaying) (at : ℕ) (r new : ProgramState) (p : Point) (before now : Option ℤ) → 0 < at
     → before ≡ reading start (at - 1) p.trigger → now ≡ reading start at p.trigger
     → new ≡ treat_by before now (last_event_of (place_at start at)) (nodes_at (place_at start at)) r p
     → new ≡ treat start at r p
@@ -68,12 +68,12 @@ read_at start k n points p values value is within here =
     ap (λ (vs : List (Option ℤ)). get_or vs n value) is ∙ among start k n points p value within here
 
 -- one point more was treated, of those that are still to come
-pub treated_more : (start : List Replaying) (at n : ℕ) (points : List Held) (p : Held) (r new whole : Run) → n < length points → get_or points n p ≡ p
+pub treated_more : (start : List Replaying) (at n : ℕ) (points : List Held) (p : Held) (r new whole : ProgramState) → n < length points → get_or points n p ≡ p
     → new ≡ treat start at r (point p) → treat_all start at r (map {A = Held} point (drop n points)) ≡ whole
     → treat_all start at new (map {A = Held} point (drop (n + 1) points)) ≡ whole
 treated_more start at n points p r new whole within here did so_far =
     let rest = drop (n + 1) points in
-    ap (λ (q : Run). treat_all start at q (map {A = Held} point rest)) did
+    ap (λ (q : ProgramState). treat_all start at q (map {A = Held} point rest)) did
     ∙ ap (λ (q : Held). treat_all start at (treat start at r (point q)) (map {A = Held} point rest)) (sym here)
     ∙ ap (λ (ps : List Held). treat_all start at r (map {A = Held} point ps)) (sym (drop_more points n p within))
     ∙ so_far
@@ -110,16 +110,16 @@ step start ps at end variables said before =
 
 -- ---- after all points of a position were treated
 
-pub stops_here : (rest : List Variable → List ℕ → Walk) (at : ℕ) (said : List ℕ) (r : Run) → r.stopped ≡ true → walk_on rest at said r ≡ walk_ended at r.variables (said ++ r.text)
+pub stops_here : (rest : List Variable → List ℕ → Walk) (at : ℕ) (said : List ℕ) (r : ProgramState) → r.stopped ≡ true → walk_on rest at said r ≡ walk_ended at r.variables (said ++ r.text)
 stops_here rest at said r stops =
     ap (λ (b : Bool). cond b (walk_ended at r.variables (said ++ r.text)) (cond (nat_le most_lines (lines_in (said ++ r.text))) (walk_ended at r.variables ((said ++ r.text) ++ codes "paused\n")) (rest r.variables (said ++ r.text)))) stops
 
-not_stopped : (rest : List Variable → List ℕ → Walk) (at : ℕ) (said : List ℕ) (r : Run) → r.stopped ≡ false
+not_stopped : (rest : List Variable → List ℕ → Walk) (at : ℕ) (said : List ℕ) (r : ProgramState) → r.stopped ≡ false
     → walk_on rest at said r ≡ cond (nat_le most_lines (lines_in (said ++ r.text))) (walk_ended at r.variables ((said ++ r.text) ++ codes "paused\n")) (rest r.variables (said ++ r.text))
 not_stopped rest at said r goes =
     ap (λ (b : Bool). cond b (walk_ended at r.variables (said ++ r.text)) (cond (nat_le most_lines (lines_in (said ++ r.text))) (walk_ended at r.variables ((said ++ r.text) ++ codes "paused\n")) (rest r.variables (said ++ r.text)))) goes
 
-pub pauses_here : (rest : List Variable → List ℕ → Walk) (at : ℕ) (said : List ℕ) (r : Run) → r.stopped ≡ false → most_lines ≤ lines_in (said ++ r.text)
+pub pauses_here : (rest : List Variable → List ℕ → Walk) (at : ℕ) (said : List ℕ) (r : ProgramState) → r.stopped ≡ false → most_lines ≤ lines_in (said ++ r.text)
     → walk_on rest at said r ≡ walk_ended at r.variables ((said ++ r.text) ++ codes "paused\n")
 pauses_here rest at said r goes many =
     not_stopped rest at said r goes
@@ -128,7 +128,7 @@ pauses_here rest at said r goes many =
 few_lines : (n : ℕ) → n < most_lines → nat_le most_lines n ≡ false
 few_lines n few = elim (leb_tells most_lines n) [ inl t ↦ absurd (omega (arith, t.1, few)) | inr f ↦ f.0 ]
 
-pub rests_here : (rest : List Variable → List ℕ → Walk) (at : ℕ) (said : List ℕ) (r : Run) → r.stopped ≡ false → lines_in (said ++ r.text) < most_lines
+pub rests_here : (rest : List Variable → List ℕ → Walk) (at : ℕ) (said : List ℕ) (r : ProgramState) → r.stopped ≡ false → lines_in (said ++ r.text) < most_lines
     → walk_on rest at said r ≡ rest r.variables (said ++ r.text)
 rests_here rest at said r goes few =
     not_stopped rest at said r goes

@@ -7,7 +7,7 @@ use Rattle.proc_replay.specs.Replaying.{Replaying}
 use Rattle.guest_process.specs.State.{State}
 use Rattle.watch_expr.specs.Computed.{cut}
 use Rattle.watch_expr.specs.Lexing.{Lexed, Placed, column_at, is_blank, is_too_deep, texts}
-use Rattle.watch_expr.specs.View.{piece_at}
+use Rattle.watch_expr.specs.View.{bytes_of_node}
 use Rattle.group_state.specs.Place.{Place, events, states}
 use Rattle.group_state.specs.Seen.{nodes_at}
 use Rattle.embed_cmds.specs.Faulty.{set_names}
@@ -15,13 +15,13 @@ use Rattle.embed_cmds.specs.Running.{value_in, value_word}
 use Rattle.embed_cmds.specs.Tree.{Statements}
 use Rattle.embed_cmds.specs.Variables.{Variable, is_mentioned, mention_all, with_value}
 use Rattle.friday_shell.specs.Firing.{place_at}
-use Rattle.friday_shell.specs.Lines.{At, Break, Command, Continue, Delete, Do, Events, Everywhere, Goto, ListPoints, ListVariables, Mem, Print, Quit, Scope, SetTo, Step, Threads, Watch, command_of, has_nested, names_none, watches_variable}
+use Rattle.friday_shell.specs.Lines.{At, Break, LineCommand, Continue, Delete, Do, Events, Everywhere, Goto, ListPoints, ListVariables, Mem, Print, Quit, Scope, SetTo, Step, Threads, Watch, command_spelled, has_nested, names_none, watches_variable}
 use Rattle.friday_shell.specs.Points.{Point, SessionState, Trigger, has_point, place_of_point, with_point, with_program, without_point}
 use Rattle.friday_shell.specs.Points.{Break as OnCall, Watch as OnChange}
 use Rattle.friday_shell.specs.declared.refusal.Refusal.{Refusal}
 use Rattle.friday_shell.specs.declared.refusal.Refusal.TheVariants as refusal
 use Rattle.friday_shell.specs.Refusals.{refusal_line}
-use Rattle.friday_shell.specs.Texts.{last_lines, name_of, position_line, process_lines}
+use Rattle.friday_shell.specs.Texts.{last_lines, node_name, position_line, process_lines}
 use Rattle.friday_shell.specs.Walking.{Walk, walk_from}
 
 -- the text, the session after it, and whether the session ends
@@ -58,7 +58,7 @@ piece_text (Some bytes) = hex_word bytes ++ codes "\n"
 -- of a node that no process is, nothing is said: such a line is refused
 abbrev pub memory_text : Place → Option ℕ → ℕ → ℕ → List ℕ
 memory_text place None addr len = []
-memory_text place (Some n) addr len = piece_text (piece_at (nodes_at place) n addr len)
+memory_text place (Some n) addr len = piece_text (bytes_of_node (nodes_at place) n addr len)
 
 abbrev pub text_of_state : List ℕ → Option State → List ℕ
 text_of_state name None = []
@@ -66,7 +66,7 @@ text_of_state name (Some S) = process_lines name S
 
 abbrev pub threads_of : Place → Option ℕ → List ℕ
 threads_of place None = []
-threads_of place (Some n) = text_of_state (name_of place.start n) (slice_get (states place.start place.at) n)
+threads_of place (Some n) = text_of_state (node_name place.start n) (slice_get (states place.start place.at) n)
 
 -- how many points may be held at once
 abbrev pub most_points : ℕ
@@ -129,7 +129,7 @@ breaks_at state text kind (At None) = says state []
 breaks_at state text kind (At (Some n)) = adds state text (OnCall (Some n) kind)
 
 -- what a command answers, whose line without outer blanks is this
-abbrev pub command_answer : SessionState → List ℕ → Command → LineAnswer
+abbrev pub command_answer : SessionState → List ℕ → LineCommand → LineAnswer
 command_answer state line (Goto k) = if nat_le k (length (events state.place.start)) then arrives state [] k else refuses state refusal.NoPosition
 command_answer state line (Step n) = arrives state [] (min (state.place.at + n) (length (events state.place.start)))
 command_answer state line (Print x) = says state (value_text (value_in (nodes_at state.place) state.variables x))
@@ -163,25 +163,25 @@ abbrev pub trimmed : List ℕ → List ℕ
 trimmed line = without_end_blanks (without_front_blanks line)
 
 -- a command of the grammar, unless something is wrong with it
-abbrev pub command_answer_or_refusal : SessionState → List ℕ → Command → LineAnswer
+abbrev pub command_answer_or_refusal : SessionState → List ℕ → LineCommand → LineAnswer
 command_answer_or_refusal state line command =
     if has_nested command then refuses state refusal.Nested
     else if names_none command then refuses state refusal.NoNode
     else if watches_variable command then refuses state refusal.NamesVariable
     else command_answer state line command
 
-abbrev pub by_command : SessionState → List ℕ → Lexed → Result Command ℕ → LineAnswer
+abbrev pub by_command : SessionState → List ℕ → Lexed → Result LineCommand ℕ → LineAnswer
 by_command state line tokens (Err n) = refuses state (refusal.Syntax (column_at tokens n))
 by_command state line tokens (Ok command) = command_answer_or_refusal state (trimmed line) command
 
 -- the names of the processes
-abbrev pub names_of : List Replaying → List (List ℕ)
-names_of start = map (λ r. r.head.name) start
+abbrev pub node_names : List Replaying → List (List ℕ)
+node_names start = map (λ r. r.head.name) start
 
 abbrev pub by_tokens : SessionState → List ℕ → Lexed → LineAnswer
 by_tokens state line tokens =
     if is_too_deep (texts tokens) then refuses state refusal.TooDeep
-    else by_command state line tokens (command_of (names_of state.place.start) (texts tokens))
+    else by_command state line tokens (command_spelled (node_names state.place.start) (texts tokens))
 
 abbrev pub by_cut : SessionState → List ℕ → Result (List Placed) ℕ → LineAnswer
 by_cut state line (Err column) = refuses state (refusal.Syntax column)

@@ -8,7 +8,7 @@ use Rattle.proc_replay.specs.Replaying.{Replaying}
 use Rattle.group_state.specs.Moves.{last_event_of}
 use Rattle.group_state.specs.Place.{Place}
 use Rattle.group_state.specs.Seen.{nodes_at}
-use Rattle.watch_expr.specs.Tree.{Tree}
+use Rattle.watch_expr.specs.Expression.{Expression}
 use Rattle.watch_expr.specs.Value.{equal, value}
 use Rattle.embed_cmds.specs.Running.{value_word}
 use Rattle.friday_shell.specs.Points.{Break, Trigger, Watch}
@@ -23,7 +23,7 @@ place_at start k = record { start = start; at = k }
 -- ---- watchpoints
 
 -- the value of an expression at position k
-abbrev pub value_at_position : List Replaying → Tree → ℕ → Option ℤ
+abbrev pub value_at_position : List Replaying → Expression → ℕ → Option ℤ
 value_at_position start x k = value (nodes_at (place_at start k)) no_variable x
 
 -- `undef` is equal to itself alone
@@ -34,7 +34,7 @@ is_same_value (Some a) None = false
 is_same_value (Some a) (Some b) = equal a b
 
 -- the value at position k, from 1, is another one than at the position before
-abbrev pub fires : List Replaying → Tree → ℕ → Bool
+abbrev pub fires : List Replaying → Expression → ℕ → Bool
 fires start x zero = false
 fires start x (suc k) = not (is_same_value (value_at_position start x k) (value_at_position start x (suc k)))
 
@@ -59,7 +59,7 @@ is_due_at start k (Watch x) = fires start x k
 is_due_at start k (Break of_node kind) = breaks start of_node kind k
 
 -- the value at position k, and that at the position before
-abbrev pub change_text : List Replaying → Tree → ℕ → List ℕ
+abbrev pub change_text : List Replaying → Expression → ℕ → List ℕ
 change_text start x zero = []
 change_text start x (suc k) = value_word (value_at_position start x k) ++ (codes " -> " ++ value_word (value_at_position start x (suc k)))
 

@@ -1,14 +1,14 @@
 -- The commands that lines spell.
 use Rattle.std.specs.Prelude.{ℕ, ◌+◌, ◌-◌, Bool, false, ◌&&◌, nat_le, is_none, List, [], ◌∷◌, length, drop, codes, bytes_eq, position, slice_get, Option, Some, None, option_and_then, option_map, Result, Ok, Err, if◌then◌else◌}
 use Rattle.std.specs.List.{find}
-use Rattle.watch_expr.specs.Computed.{tree_of, viable}
+use Rattle.watch_expr.specs.Computed.{expression_spelled, viable}
 use Rattle.call_table.specs.Table.{kind_named}
 use Rattle.call_table.specs.declared.kind.Kind.{Kind}
 use Rattle.watch_expr.specs.Faulty.{is_nested, lacks_node, names_variable}
 use Rattle.watch_expr.specs.Spelling.{is_word, number_of}
-use Rattle.watch_expr.specs.Tree.{Tree}
+use Rattle.watch_expr.specs.Expression.{Expression}
 use Rattle.embed_cmds.specs.Faulty.{lacks, nests}
-use Rattle.embed_cmds.specs.Reading.{program_of}
+use Rattle.embed_cmds.specs.Reading.{program_of, word_of}
 use Rattle.embed_cmds.specs.Tree.{Statements}
 use Rattle.friday_shell.specs.declared.command.Verb.{Verb}
 use Rattle.friday_shell.specs.declared.command.Verb.TheVariants as verb
@@ -19,22 +19,22 @@ pub data Scope : Type 0 where
   At : (node : Option ℕ) → Scope
 
 -- a command. A node is given by its number, or none where no process has the name
-pub data Command : Type 0 where
-  Goto : (position : ℕ) → Command
-  Step : (count : ℕ) → Command
-  Print : (tree : Tree) → Command
-  Mem : (node : Option ℕ) → (addr len : ℕ) → Command
-  Threads : (node : Option ℕ) → Command
-  Events : (count : ℕ) → Command
-  Watch : (tree : Tree) → Command
-  Break : (scope : Scope) → (kind : Kind) → Command
-  Delete : (number : ℕ) → Command
-  Do : (number : ℕ) → (program : Statements) → Command
-  ListPoints : Command
-  SetTo : (name : List ℕ) → (tree : Tree) → Command
-  ListVariables : Command
-  Continue : Command
-  Quit : Command
+pub data LineCommand : Type 0 where
+  Goto : (position : ℕ) → LineCommand
+  Step : (count : ℕ) → LineCommand
+  Print : (x : Expression) → LineCommand
+  Mem : (node : Option ℕ) → (addr len : ℕ) → LineCommand
+  Threads : (node : Option ℕ) → LineCommand
+  Events : (count : ℕ) → LineCommand
+  Watch : (x : Expression) → LineCommand
+  Break : (scope : Scope) → (kind : Kind) → LineCommand
+  Delete : (number : ℕ) → LineCommand
+  Do : (number : ℕ) → (program : Statements) → LineCommand
+  ListPoints : LineCommand
+  SetTo : (name : List ℕ) → (x : Expression) → LineCommand
+  ListVariables : LineCommand
+  Continue : LineCommand
+  Quit : LineCommand
 
 -- ---- one token
 
@@ -64,12 +64,12 @@ unfoldable pub verb_of : List ℕ → Option Verb
 verb_of text = find (λ v. bytes_eq (verb_word v) text) verbs
 
 -- a number from the one to the other
-abbrev pub number_within : ℕ → ℕ → Option ℕ → Option ℕ
-number_within least most None = None
-number_within least most (Some n) = if nat_le least n && nat_le n most then Some n else None
+abbrev pub number_in_range : ℕ → ℕ → Option ℕ → Option ℕ
+number_in_range least most None = None
+number_in_range least most (Some n) = if nat_le least n && nat_le n most then Some n else None
 
 abbrev pub number_from : ℕ → ℕ → List ℕ → Option ℕ
-number_from least most text = number_within least most (number_of text)
+number_from least most text = number_in_range least most (number_of text)
 
 -- a word that names a node, and which one, if there is one with the name
 abbrev pub node_named : List (List ℕ) → List ℕ → Option (Option ℕ)
@@ -78,10 +78,6 @@ node_named names text = if is_word text then Some (position (λ name. bytes_eq n
 -- a star, or a word that names a node
 abbrev pub scope_named : List (List ℕ) → List ℕ → Option Scope
 scope_named names text = if bytes_eq text (codes "*") then Some Everywhere else option_map At (node_named names text)
-
--- a word that names a variable
-abbrev pub word_of : List ℕ → Option (List ℕ)
-word_of text = if is_word text then Some text else None
 
 -- this sign
 abbrev pub sign_of : List ℕ → List ℕ → Option (List ℕ)
@@ -95,32 +91,32 @@ or_at n None = Err n
 or_at n (Some a) = Ok a
 
 -- the token with this number, as what it is to be
-abbrev pub token_as : {A : Type 0} → (List ℕ → Option A) → List (List ℕ) → ℕ → Result A ℕ
-token_as meaning texts n = or_at n (option_and_then meaning (slice_get texts n))
+abbrev pub token_at : {A : Type 0} → (List ℕ → Option A) → List (List ℕ) → ℕ → Result A ℕ
+token_at meaning texts n = or_at n (option_and_then meaning (slice_get texts n))
 
-abbrev pub then_reads : {A B : Type 0} → Result A ℕ → (A → Result B ℕ) → Result B ℕ
-then_reads (Ok a) next = next a
-then_reads (Err n) next = Err n
+abbrev pub then_takes : {A B : Type 0} → Result A ℕ → (A → Result B ℕ) → Result B ℕ
+then_takes (Ok a) next = next a
+then_takes (Err n) next = Err n
 
 -- no token has this number
-abbrev pub ends_at : List (List ℕ) → ℕ → Command → Result Command ℕ
+abbrev pub ends_at : List (List ℕ) → ℕ → LineCommand → Result LineCommand ℕ
 ends_at texts n command = if nat_le (length texts) n then Ok command else Err n
 
 -- a dollar and a word, which name a variable
 abbrev pub variable_at : List (List ℕ) → ℕ → Result (List ℕ) ℕ
-variable_at texts n = then_reads (token_as (sign_of (codes "$")) texts n) (λ _. token_as word_of texts (n + 1))
+variable_at texts n = then_takes (token_at (sign_of (codes "$")) texts n) (λ _. token_at word_of texts (n + 1))
 
 -- the greatest number that a token is
 abbrev pub most_number : ℕ
 most_number = 9223372036854775807
 
-abbrev pub tree_or : ℕ → Option Tree → Result Tree ℕ
-tree_or n None = Err n
-tree_or n (Some x) = Ok x
+abbrev pub expression_or_at : ℕ → Option Expression → Result Expression ℕ
+expression_or_at n None = Err n
+expression_or_at n (Some x) = Ok x
 
 -- all tokens from this one on are an expression
-abbrev pub expression_from : List (List ℕ) → List (List ℕ) → ℕ → Result Tree ℕ
-expression_from names texts from = tree_or (from + viable names [] (drop from texts)) (tree_of names (drop from texts))
+abbrev pub expression_from : List (List ℕ) → List (List ℕ) → ℕ → Result Expression ℕ
+expression_from names texts from = expression_or_at (from + viable names [] (drop from texts)) (expression_spelled names (drop from texts))
 
 -- where a program was read or not, of all these tokens
 abbrev pub located : List (List ℕ) → Result Statements (List (List ℕ)) → Result Statements ℕ
@@ -133,37 +129,37 @@ program_from names texts from = located texts (program_of names (drop from texts
 
 -- a count that may be left out
 abbrev pub count_or : ℕ → ℕ → ℕ → List (List ℕ) → Result ℕ ℕ
-count_or least most absent texts = if nat_le (length texts) 1 then Ok absent else token_as (number_from least most) texts 1
+count_or least most absent texts = if nat_le (length texts) 1 then Ok absent else token_at (number_from least most) texts 1
 
-abbrev pub command_by : List (List ℕ) → List (List ℕ) → Verb → Result Command ℕ
-command_by names texts verb.Goto = then_reads (token_as (number_from 0 most_number) texts 1) (λ k. ends_at texts 2 (Goto k))
-command_by names texts verb.Step = then_reads (count_or 0 most_number 1 texts) (λ n. ends_at texts 2 (Step n))
-command_by names texts verb.Print = then_reads (expression_from names texts 1) (λ x. Ok (Print x))
-command_by names texts verb.Mem =
-    then_reads (token_as (node_named names) texts 1) (λ node. then_reads (token_as (number_from 0 most_number) texts 2) (λ addr.
-    then_reads (token_as (number_from 1 256) texts 3) (λ len. ends_at texts 4 (Mem node addr len))))
-command_by names texts verb.Threads = then_reads (token_as (node_named names) texts 1) (λ node. ends_at texts 2 (Threads node))
-command_by names texts verb.Events = then_reads (count_or 1 1000 10 texts) (λ n. ends_at texts 2 (Events n))
-command_by names texts verb.Watch = then_reads (expression_from names texts 1) (λ x. Ok (Watch x))
-command_by names texts verb.Break =
-    then_reads (token_as (scope_named names) texts 1) (λ scope. then_reads (token_as kind_named texts 2) (λ kind. ends_at texts 3 (Break scope kind)))
-command_by names texts verb.Delete = then_reads (token_as (number_from 0 most_number) texts 1) (λ n. ends_at texts 2 (Delete n))
-command_by names texts verb.Do = then_reads (token_as (number_from 0 most_number) texts 1) (λ n. then_reads (program_from names texts 2) (λ p. Ok (Do n p)))
-command_by names texts verb.List = ends_at texts 1 ListPoints
-command_by names texts verb.Set =
-    then_reads (variable_at texts 1) (λ name. then_reads (expression_from names texts 3) (λ x. Ok (SetTo name x)))
-command_by names texts verb.Vars = ends_at texts 1 ListVariables
-command_by names texts verb.Continue = ends_at texts 1 Continue
-command_by names texts verb.Quit = ends_at texts 1 Quit
+abbrev pub command_of_verb : List (List ℕ) → List (List ℕ) → Verb → Result LineCommand ℕ
+command_of_verb names texts verb.Goto = then_takes (token_at (number_from 0 most_number) texts 1) (λ k. ends_at texts 2 (Goto k))
+command_of_verb names texts verb.Step = then_takes (count_or 0 most_number 1 texts) (λ n. ends_at texts 2 (Step n))
+command_of_verb names texts verb.Print = then_takes (expression_from names texts 1) (λ x. Ok (Print x))
+command_of_verb names texts verb.Mem =
+    then_takes (token_at (node_named names) texts 1) (λ node. then_takes (token_at (number_from 0 most_number) texts 2) (λ addr.
+    then_takes (token_at (number_from 1 256) texts 3) (λ len. ends_at texts 4 (Mem node addr len))))
+command_of_verb names texts verb.Threads = then_takes (token_at (node_named names) texts 1) (λ node. ends_at texts 2 (Threads node))
+command_of_verb names texts verb.Events = then_takes (count_or 1 1000 10 texts) (λ n. ends_at texts 2 (Events n))
+command_of_verb names texts verb.Watch = then_takes (expression_from names texts 1) (λ x. Ok (Watch x))
+command_of_verb names texts verb.Break =
+    then_takes (token_at (scope_named names) texts 1) (λ scope. then_takes (token_at kind_named texts 2) (λ kind. ends_at texts 3 (Break scope kind)))
+command_of_verb names texts verb.Delete = then_takes (token_at (number_from 0 most_number) texts 1) (λ n. ends_at texts 2 (Delete n))
+command_of_verb names texts verb.Do = then_takes (token_at (number_from 0 most_number) texts 1) (λ n. then_takes (program_from names texts 2) (λ p. Ok (Do n p)))
+command_of_verb names texts verb.List = ends_at texts 1 ListPoints
+command_of_verb names texts verb.Set =
+    then_takes (variable_at texts 1) (λ name. then_takes (expression_from names texts 3) (λ x. Ok (SetTo name x)))
+command_of_verb names texts verb.Vars = ends_at texts 1 ListVariables
+command_of_verb names texts verb.Continue = ends_at texts 1 Continue
+command_of_verb names texts verb.Quit = ends_at texts 1 Quit
 
 -- the command that the tokens spell, over a group whose processes have these names
-abbrev pub command_of : List (List ℕ) → List (List ℕ) → Result Command ℕ
-command_of names texts = then_reads (token_as verb_of texts 0) (command_by names texts)
+abbrev pub command_spelled : List (List ℕ) → List (List ℕ) → Result LineCommand ℕ
+command_spelled names texts = then_takes (token_at verb_of texts 0) (command_of_verb names texts)
 
 -- ---- what is wrong with a command that is of the grammar
 
 -- an aggregate stands in an aggregate
-abbrev pub has_nested : Command → Bool
+abbrev pub has_nested : LineCommand → Bool
 has_nested (Print x) = is_nested x
 has_nested (Watch x) = is_nested x
 has_nested (Break scope kind) = false
@@ -185,7 +181,7 @@ scopes_none Everywhere = false
 scopes_none (At node) = is_none node
 
 -- it names no node where it is to name one
-abbrev pub names_none : Command → Bool
+abbrev pub names_none : LineCommand → Bool
 names_none (Print x) = lacks_node false x
 names_none (Watch x) = lacks_node false x
 names_none (Break scope kind) = scopes_none scope
@@ -203,7 +199,7 @@ names_none (Events n) = false
 names_none Quit = false
 
 -- a watchpoint names a variable
-abbrev pub watches_variable : Command → Bool
+abbrev pub watches_variable : LineCommand → Bool
 watches_variable (Watch x) = names_variable x
 watches_variable (Print x) = false
 watches_variable (Break scope kind) = false

@@ -3,13 +3,13 @@ use Rattle.std.specs.Prelude.{ℕ, zero, suc, ◌+◌, ◌==◌, Bool, not, List
 use Rattle.std.specs.List.{list_any}
 use Rattle.call_table.specs.declared.kind.Kind.{Kind}
 use Rattle.group_state.specs.Place.{Place}
-use Rattle.watch_expr.specs.Tree.{Tree}
+use Rattle.watch_expr.specs.Expression.{Expression}
 use Rattle.embed_cmds.specs.Tree.{Statements}
 use Rattle.embed_cmds.specs.Variables.{Variable}
 
 -- an expression whose value changes, or an event of a kind of call, of the node with this number or of any
 pub data Trigger : Type 0 where
-  Watch : (tree : Tree) → Trigger
+  Watch : (x : Expression) → Trigger
   Break : (of_node : Option ℕ) → (kind : Kind) → Trigger
 
 pub record Point : Type 0 where

@@ -4,7 +4,7 @@ use Rattle.lib_calls.specs.declared.entry.Entry.{Entry}
 use Rattle.group_order.specs.Order.{NodeEvent}
 use Rattle.proc_replay.specs.Replaying.{Replaying}
 use Rattle.watch_expr.specs.View.{Node}
-use Rattle.embed_cmds.specs.Running.{Run, value_word}
+use Rattle.embed_cmds.specs.Running.{ProgramState, value_word}
 use Rattle.friday_shell.specs.Firing.{is_of, is_same_value, value_at_position}
 use Rattle.friday_shell.specs.Points.{Break, Point, Trigger, Watch}
 use Rattle.friday_shell.specs.Walking.{fired}
@@ -33,5 +33,5 @@ line_by before now number (Watch x) = codes "watch " ++ (decimal number ++ (code
 line_by before now number (Break of_node kind) = codes "break " ++ (decimal number ++ codes "\n")
 
 -- what it then does, over these nodes
-abbrev pub treat_by : Option ℤ → Option ℤ → Option (NodeEvent Entry) → List Node → Run → Point → Run
+abbrev pub treat_by : Option ℤ → Option ℤ → Option (NodeEvent Entry) → List Node → ProgramState → Point → ProgramState
 treat_by before now event nodes r p = if is_due_by before now event p.trigger then fired nodes r (line_by before now p.number p.trigger) p.program else r

@@ -4,9 +4,9 @@ use Rattle.watch_expr.specs.declared.error.ExprError.{ExprError}
 use Rattle.watch_expr.specs.declared.error.ExprError.TheVariants.{Syntax, NoNode, TooDeep, Nested, NoMemory}
 use Rattle.watch_expr.specs.Computed.{cut}
 use Rattle.watch_expr.specs.Lexing.{Lexed, column_at}
-use Rattle.watch_expr.specs.Tree.{tree}
+use Rattle.watch_expr.specs.Expression.{expression_of}
 use Rattle.group_state.specs.Place.{Place}
-use Rattle.embed_cmds.specs.Running.{Run}
+use Rattle.embed_cmds.specs.Running.{ProgramState}
 use Rattle.embed_cmds.specs.Tree.{body}
 use Rattle.embed_cmds.specs.Variables.{Variable}
 use Rattle.friday_shell.specs.declared.command.Command.{Command as Spelled}
@@ -21,13 +21,13 @@ use Rattle.friday_shell.specs.declared.state.State.{State as Stands}
 use Rattle.friday_shell.specs.declared.turn.Turn.{Turn}
 use Rattle.friday_shell.specs.declared.session.Go.{Go}
 use Rattle.friday_shell.specs.declared.session.Go.TheVariants as go
-use Rattle.friday_shell.specs.Lines.{At, Break, Command, Continue, Delete, Do, Events, Everywhere, Goto, ListPoints, ListVariables, Mem, Print, Quit, Scope, SetTo, Step, Threads, Watch, has_nested, names_none}
+use Rattle.friday_shell.specs.Lines.{At, Break, LineCommand, Continue, Delete, Do, Events, Everywhere, Goto, ListPoints, ListVariables, Mem, Print, Quit, Scope, SetTo, Step, Threads, Watch, has_nested, names_none}
 use Rattle.friday_shell.specs.Points.{Point, SessionState, Trigger}
 use Rattle.friday_shell.specs.Points.{Break as OnCall, Watch as OnChange}
 use Rattle.friday_shell.specs.declared.line.Line.{Line}
 use Rattle.friday_shell.specs.declared.line.Line.TheVariants as line
 use Rattle.friday_shell.specs.declared.refusal.Refusal.TheVariants as refusal
-use Rattle.friday_shell.specs.Answer.{LineAnswer, answer, by_cut, command_answer, command_answer_or_refusal, names_of, refuses, says, trimmed}
+use Rattle.friday_shell.specs.Answer.{LineAnswer, answer, by_cut, command_answer, command_answer_or_refusal, node_names, refuses, says, trimmed}
 use Rattle.friday_shell.specs.Firing.{place_at}
 use Rattle.friday_shell.specs.Texts.{position_line}
 use Rattle.friday_shell.specs.Walking.{walk_from}
@@ -36,19 +36,19 @@ abbrev pub scope : ScopeSpelled → Scope
 scope scopes.Everywhere = Everywhere
 scope (scopes.At n) = At n
 
-abbrev pub command : Spelled → Command
+abbrev pub command : Spelled → LineCommand
 command (spelled.Goto position) = Goto position
 command (spelled.Step count) = Step count
-command (spelled.Print x) = Print (tree x)
+command (spelled.Print x) = Print (expression_of x)
 command (spelled.Mem node addr len) = Mem node addr len
 command (spelled.Threads node) = Threads node
 command (spelled.Events count) = Events count
-command (spelled.Watch x) = Watch (tree x)
+command (spelled.Watch x) = Watch (expression_of x)
 command (spelled.Break place kind) = Break (scope place) kind
 command (spelled.Delete n) = Delete n
 command (spelled.Do n p) = Do n (body p)
 command spelled.List = ListPoints
-command (spelled.Set name x) = SetTo name (tree x)
+command (spelled.Set name x) = SetTo name (expression_of x)
 command spelled.Vars = ListVariables
 command spelled.Continue = Continue
 command spelled.Quit = Quit
@@ -56,7 +56,7 @@ command spelled.Quit = Quit
 -- ---- points
 
 abbrev pub trigger : HeldTrigger → Trigger
-trigger (held.Watch x) = OnChange (tree x)
+trigger (held.Watch x) = OnChange (expression_of x)
 trigger (held.Break of_node kind) = OnCall of_node kind
 
 abbrev pub point : Held → Point
@@ -76,7 +76,7 @@ pub record Performs (answered : LineAnswer) (new : SessionState) (text : List �
   pub state : new ≡ answered.state
 
 -- what points did so far at a position
-abbrev pub run_so_far : Turn → Run
+abbrev pub run_so_far : Turn → ProgramState
 run_so_far t = record { variables = t.variables; text = t.text; stopped = t.stops }
 
 -- a walk from a place came to where it comes
@@ -98,11 +98,11 @@ ReadsAs shown line wanted (Err Nested) = ⊥
 
 -- the command that was read of tokens, or why none was: the column of the token that none has there, or what is wrong with
 -- the one that they spell; or want of memory
-abbrev pub ReadsCommand : Lexed → Result Command ℕ → Result Spelled ExprError → Type 0
+abbrev pub ReadsCommand : Lexed → Result LineCommand ℕ → Result Spelled ExprError → Type 0
 ReadsCommand line wanted (Ok c) = wanted ≡ Ok (command c)
 ReadsCommand line wanted (Err (Syntax column)) = (n : ℕ) × (wanted ≡ Err n) × (column ≡ column_at line n)
-ReadsCommand line wanted (Err Nested) = (c : Command) × (wanted ≡ Ok c) × (has_nested c ≡ true)
-ReadsCommand line wanted (Err NoNode) = (c : Command) × (wanted ≡ Ok c) × (has_nested c ≡ false) × (names_none c ≡ true)
+ReadsCommand line wanted (Err Nested) = (c : LineCommand) × (wanted ≡ Ok c) × (has_nested c ≡ true)
+ReadsCommand line wanted (Err NoNode) = (c : LineCommand) × (wanted ≡ Ok c) × (has_nested c ≡ false) × (names_none c ≡ true)
 ReadsCommand line wanted (Err TooDeep) = ⊥
 ReadsCommand line wanted (Err NoMemory) = Unit {0}
 
@@ -124,11 +124,11 @@ answer_to state bytes (line.Does c) = command_answer state bytes (command c)
 
 -- what a line is, over a group whose processes have these names
 abbrev pub IsLine : List (List ℕ) → List ℕ → Line → Type 0
-IsLine names bytes line = (state : SessionState) → names_of state.place.start ≡ names → answer state bytes ≡ answer_to state (trimmed bytes) line
+IsLine names bytes line = (state : SessionState) → node_names state.place.start ≡ names → answer state bytes ≡ answer_to state (trimmed bytes) line
 
 -- the tokens of a line answer this, over a group whose processes have these names
 abbrev pub TokensAnswer : List (List ℕ) → List ℕ → (SessionState → LineAnswer) → Type 0
-TokensAnswer names bytes says = (state : SessionState) → names_of state.place.start ≡ names → by_cut state bytes (cut bytes) ≡ says state
+TokensAnswer names bytes says = (state : SessionState) → node_names state.place.start ≡ names → by_cut state bytes (cut bytes) ≡ says state
 
 -- the command that a line's tokens spell, or why they spell none; or want of memory
 abbrev pub SpellsCommand : List (List ℕ) → List ℕ → Result Spelled ExprError → Type 0

@@ -54,17 +54,17 @@ reply_text e = reply_of_kind (kind_numbered e.call.kind) e.reply
 
 -- the signal that was delivered, where one was
 abbrev pub signal_text : ℕ → List ℕ
-signal_text s = if s == 0 then [] else codes " ! " ++ decimal s
+signal_text signal = if signal == 0 then [] else codes " ! " ++ decimal signal
 
 -- ---- events and positions
 
 -- the name of a node's process
-abbrev pub name_of : List Replaying → ℕ → List ℕ
-name_of start node = slice_index_or (map (λ r. r.head.name) start) node []
+abbrev pub node_name : List Replaying → ℕ → List ℕ
+node_name start node = slice_index_or (map (λ r. r.head.name) start) node []
 
 -- the clock, the name of the process and the thread
 abbrev pub stamp_text : List Replaying → NodeEvent Entry → List ℕ
-stamp_text start e = decimal e.entry.clock ++ (codes " " ++ (name_of start e.node ++ (codes " " ++ decimal e.entry.thread)))
+stamp_text start e = decimal e.entry.clock ++ (codes " " ++ (node_name start e.node ++ (codes " " ++ decimal e.entry.thread)))
 
 -- these and the call; then the reply and the signal
 abbrev pub event_text : List Replaying → NodeEvent Entry → List ℕ

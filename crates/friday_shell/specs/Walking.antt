@@ -5,7 +5,7 @@ use Rattle.proc_replay.specs.Replaying.{Replaying}
 use Rattle.group_state.specs.Place.{Place, events}
 use Rattle.group_state.specs.Seen.{nodes_at}
 use Rattle.watch_expr.specs.View.{Node}
-use Rattle.embed_cmds.specs.Running.{Run, after_all}
+use Rattle.embed_cmds.specs.Running.{ProgramState, after_statements}
 use Rattle.embed_cmds.specs.Tree.{Statements}
 use Rattle.embed_cmds.specs.Variables.{Variable}
 use Rattle.friday_shell.specs.Firing.{is_due_at, firing_line, place_at}
@@ -13,25 +13,25 @@ use Rattle.friday_shell.specs.Points.{Point}
 
 -- ---- at one position
 
-abbrev pub with_stop : Run → Bool → Run
+abbrev pub with_stop : ProgramState → Bool → ProgramState
 with_stop r stopped = record { variables = r.variables; text = r.text; stopped = stopped }
 
 -- a program ran this way, where it was asked to stop before, or not
-abbrev pub with_earlier_stop : Bool → Run → Run
+abbrev pub with_earlier_stop : Bool → ProgramState → ProgramState
 with_earlier_stop asked r = with_stop r (asked || r.stopped)
 
 -- Without a program a point says its line and asks to stop. With one it runs it, and asks to stop where the program did.
-abbrev pub fired : List Node → Run → List ℕ → Option Statements → Run
+abbrev pub fired : List Node → ProgramState → List ℕ → Option Statements → ProgramState
 fired nodes r line None = record { variables = r.variables; text = r.text ++ line; stopped = true }
-fired nodes r line (Some body) = with_earlier_stop r.stopped (after_all nodes (with_stop r false) body)
+fired nodes r line (Some body) = with_earlier_stop r.stopped (after_statements nodes (with_stop r false) body)
 
 -- what a point does at position k, if it fires there
-abbrev pub treat : List Replaying → ℕ → Run → Point → Run
+abbrev pub treat : List Replaying → ℕ → ProgramState → Point → ProgramState
 treat start k r p =
     if is_due_at start k p.trigger then fired (nodes_at (place_at start k)) r (firing_line start k p.number p.trigger) p.program else r
 
 -- what points do at position k, one after the other
-abbrev pub treat_all : List Replaying → ℕ → Run → List Point → Run
+abbrev pub treat_all : List Replaying → ℕ → ProgramState → List Point → ProgramState
 treat_all start k r [] = r
 treat_all start k r (p ∷ points) = treat_all start k (treat start k r p) points
 
@@ -55,14 +55,14 @@ lines_in text = count_by is_line_feed text
 
 -- After all points of a position were treated: where none asked to stop, and no more was said than may be, the rest of the
 -- walk follows.
-abbrev pub walk_on : (List Variable → List ℕ → Walk) → ℕ → List ℕ → Run → Walk
+abbrev pub walk_on : (List Variable → List ℕ → Walk) → ℕ → List ℕ → ProgramState → Walk
 walk_on rest at said r =
     if r.stopped then walk_ended at r.variables (said ++ r.text)
     else if nat_le most_lines (lines_in (said ++ r.text)) then walk_ended at r.variables ((said ++ r.text) ++ codes "paused\n")
     else rest r.variables (said ++ r.text)
 
 -- nothing said, and not asked to stop
-abbrev pub quiet : List Variable → Run
+abbrev pub quiet : List Variable → ProgramState
 quiet variables = record { variables = variables; text = []; stopped = false }
 
 -- the walk over so many positions behind this one, which has said this

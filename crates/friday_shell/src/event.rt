@@ -3,7 +3,7 @@ ghost use Rattle.std.specs.Prelude.{◌≡◌, ◌++◌, OnOk, decimal, true};
 ghost use Rattle.lib_calls.specs.Entry.{entry_of};
 ghost use Rattle.guest_process.specs.State.{is_running, thread_at};
 ghost use Rattle.group_state.specs.Moves.{event_of};
-ghost use Rattle.friday_shell.specs.Texts.{arguments_text, call_text, event_line, event_text, name_of, position_line, process_lines, reply_text, signal_text, signed_text, stamp_text, standing_text, thread_lines, threads_text};
+ghost use Rattle.friday_shell.specs.Texts.{arguments_text, call_text, event_line, event_text, node_name, position_line, process_lines, reply_text, signal_text, signed_text, stamp_text, standing_text, thread_lines, threads_text};
 
 use crate::end::push_end;
 use fri_text::Text;
@@ -76,7 +76,7 @@ fn push_signal(text: &mut Text, signal: u8) -> Result<(), AllocError>
 
 // The name of a node's process.
 fn push_name(text: &mut Text, group: &Group<'_, '_>, node: u32) -> Result<(), AllocError>
-    ensures { OnOk result (text.new ≡ text.old ++ name_of group.now.start node) }
+    ensures { OnOk result (text.new ≡ text.old ++ node_name group.now.start node) }
 {
     match group.node_name(node) {
         Some(name) => text.push_bytes(name),
@@ -188,7 +188,7 @@ pub(crate) fn push_process(
     node: u32,
     process: &Process<'_>,
 ) -> Result<(), AllocError>
-    ensures { OnOk result (text.new ≡ text.old ++ process_lines (name_of group.now.start node) process.now) }
+    ensures { OnOk result (text.new ≡ text.old ++ process_lines (node_name group.now.start node) process.now) }
 {
     push_name(text, group, node)?;
     text.push_str(" ")?;

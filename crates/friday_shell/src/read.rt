@@ -1,10 +1,10 @@
 // What single tokens of a command are, and the expression behind its verb.
 ghost use Rattle.std.specs.Prelude.{◌≡◌, ◌<◌, ◌^◌, IfSome, bytes_eq, length, option_map, position};
 ghost use Rattle.call_table.specs.Table.{kind_named};
-ghost use Rattle.friday_shell.specs.Lines.{count_or, ends_at, expression_from, node_named, number_from, scope_named, token_as, variable_at};
+ghost use Rattle.friday_shell.specs.Lines.{count_or, ends_at, expression_from, node_named, number_from, scope_named, token_at, variable_at};
 ghost use Rattle.friday_shell.specs.Seen.{ReadsAs, ReadsCommand, command, scope};
 ghost use Rattle.watch_expr.specs.Lexing.{texts};
-ghost use Rattle.watch_expr.specs.Tree.{tree};
+ghost use Rattle.watch_expr.specs.Expression.{expression_of};
 
 use crate::command::{Command, Scope};
 use fri_bytes::Bytes;
@@ -19,7 +19,7 @@ pub(crate) fn read_number(
     least: u64,
     most: u64,
 ) -> Result<u64, ExprError>
-    ensures { ReadsAs (λ v. v) tokens.now (token_as (number_from least most) (texts tokens.now) n) result }
+    ensures { ReadsAs (λ v. v) tokens.now (token_at (number_from least most) (texts tokens.now) n) result }
 {
     match tokens.number(n) {
         Some(number) if least <= number && number <= most => Ok(number),
@@ -50,7 +50,7 @@ pub(crate) fn read_node(
     names: &[Bytes],
 ) -> Result<Option<u32>, ExprError>
     requires { length names.now < 2 ^ 32 }
-    ensures { ReadsAs (λ v. v) tokens.now (token_as (node_named names.now) (texts tokens.now) n) result }
+    ensures { ReadsAs (λ v. v) tokens.now (token_at (node_named names.now) (texts tokens.now) n) result }
 {
     match tokens.text(n) {
         Some(text) if is_word(text) => Ok(place_of(text, names)),
@@ -61,7 +61,7 @@ pub(crate) fn read_node(
 /// Which nodes token n is for: a star is for all, and a word for the one that it names.
 pub(crate) fn read_scope(tokens: &Tokens<'_>, n: usize, names: &[Bytes]) -> Result<Scope, ExprError>
     requires { length names.now < 2 ^ 32 }
-    ensures { ReadsAs scope tokens.now (token_as (scope_named names.now) (texts tokens.now) n) result }
+    ensures { ReadsAs scope tokens.now (token_at (scope_named names.now) (texts tokens.now) n) result }
 {
     let place = tokens.text(n).and_then(|text| scope_named(text, names));
     place.ok_or(ExprError::Syntax(tokens.column(n)))
@@ -82,7 +82,7 @@ fn scope_named(text: &[u8], names: &[Bytes]) -> Option<Scope>
 
 /// The kind of call that token n names.
 pub(crate) fn read_kind(tokens: &Tokens<'_>, n: usize) -> Result<Kind, ExprError>
-    ensures { ReadsAs (λ v. v) tokens.now (token_as kind_named (texts tokens.now) n) result }
+    ensures { ReadsAs (λ v. v) tokens.now (token_at kind_named (texts tokens.now) n) result }
 {
     let kind = tokens.text(n).and_then(Kind::from_name);
     kind.ok_or(ExprError::Syntax(tokens.column(n)))
@@ -129,7 +129,7 @@ pub(crate) fn read_expression(
     names: &[Bytes],
 ) -> Result<Expr, ExprError>
     requires { length names.now < 2 ^ 32 }
-    ensures { ReadsAs tree tokens.now (expression_from names.now (texts tokens.now) from) result }
+    ensures { ReadsAs expression_of tokens.now (expression_from names.now (texts tokens.now) from) result }
 {
     exact_reading();
     let (expression, next) = parse(alloc, tokens, from, names)?;

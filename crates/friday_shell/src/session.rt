@@ -1,7 +1,7 @@
 // A session of the debugger.
 ghost use Rattle.std.specs.Prelude.{◌≡◌, ℕ, ◌≤◌, IfOk, List, codes, length, true};
 ghost use Rattle.std.specs.Result.{IsOk};
-ghost use Rattle.friday_shell.specs.Answer.{answer, command_answer, is_silent, names_of};
+ghost use Rattle.friday_shell.specs.Answer.{answer, command_answer, is_silent, node_names};
 ghost use Rattle.friday_shell.specs.Points.{SessionState};
 ghost use Rattle.friday_shell.specs.Seen.{IsLineAnswer, command, is_quit};
 ghost use Rattle.friday_shell.specs.Session.{opening};
@@ -37,20 +37,20 @@ impl<'m, 'a> Model for Session<'m, 'a> {
     ghost use Rattle.std.specs.Prelude.{◌≡◌};
     ghost use Rattle.std.specs.Coded.{codes};
     ghost use Rattle.guest_process.specs.Coding.{crew_code, trees_code};
-    ghost use Rattle.watch_expr.specs.Coding.{tree_code};
+    ghost use Rattle.watch_expr.specs.Coding.{expression_code};
     ghost use Rattle.embed_cmds.specs.Coding.{statements_code};
     ghost use Rattle.friday_shell.specs.Points.{SessionState};
 
     ghost Value = { SessionState };
 
-    ghost coded = { Prim.hlevel (codes, trees_code, crew_code, tree_code, statements_code) };
+    ghost coded = { Prim.hlevel (codes, trees_code, crew_code, expression_code, statements_code) };
 
-    ghost use Rattle.friday_shell.specs.Answer.{names_of};
+    ghost use Rattle.friday_shell.specs.Answer.{node_names};
     ghost use Rattle.friday_shell.specs.Seen.{session_state};
 
     ghost view = { λ s. session_state s.state };
 
-    ghost invariant = { λ s. s.names.items ≡ names_of s.state.group.start };
+    ghost invariant = { λ s. s.names.items ≡ node_names s.state.group.start };
 }
 
 impl<'m, 'a> Session<'m, 'a> {
@@ -60,7 +60,7 @@ impl<'m, 'a> Session<'m, 'a> {
         ensures session { IfOk result (λ begun. begun.0 ≡ opening group.entry.start) }
         ensures text { IfOk result (λ begun. begun.1 ≡ codes "at 0\n") }
     {
-        let names = names_of(alloc, &group)?;
+        let names = node_names(alloc, &group)?;
         let mut text = Text::new(alloc);
         text.push_str("at 0\n")?;
         let state = State {
@@ -115,8 +115,8 @@ fn go_after(spelled: &Command) -> Go
 }
 
 // The names of a group's processes.
-fn names_of(alloc: Global, group: &Group<'_, '_>) -> Result<Vec<Bytes>, AllocError>
-    ensures { IfOk result (λ names. names.items ≡ names_of group.now.start) }
+fn node_names(alloc: Global, group: &Group<'_, '_>) -> Result<Vec<Bytes>, AllocError>
+    ensures { IfOk result (λ names. names.items ≡ node_names group.now.start) }
 {
     let mut names = Vec::new(alloc);
     for node in 0..group.nodes() {

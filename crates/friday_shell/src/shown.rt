@@ -3,7 +3,7 @@ ghost use Rattle.std.specs.Prelude.{◌≡◌, IfOk};
 ghost use Rattle.friday_shell.specs.Answer.{memory_text, threads_of, value_text};
 ghost use Rattle.embed_cmds.specs.Running.{value_in};
 ghost use Rattle.group_state.specs.Seen.{nodes_at};
-ghost use Rattle.watch_expr.specs.Tree.{tree};
+ghost use Rattle.watch_expr.specs.Expression.{expression_of};
 
 use crate::event::push_process;
 use crate::state::State;
@@ -20,7 +20,7 @@ pub(crate) fn print(
     state: &State<'_, '_>,
     expression: &Expr,
 ) -> Result<Text, AllocError>
-    ensures { IfOk result (λ text. text ≡ value_text (value_in (nodes_at state.now.group) state.now.kept.variables (tree expression.now))) }
+    ensures { IfOk result (λ text. text ≡ value_text (value_in (nodes_at state.now.group) state.now.kept.variables (expression_of expression.now))) }
 {
     let value = eval(expression, &state.group, &state.kept.variables);
     let mut text = Text::new(alloc);

@@ -4,7 +4,7 @@ ghost use Rattle.std.specs.List.{flat_map};
 ghost use Rattle.friday_shell.specs.Answer.{command_answer, variable_text};
 ghost use Rattle.friday_shell.specs.Lines.{SetTo};
 ghost use Rattle.friday_shell.specs.Seen.{Performs, session_state};
-ghost use Rattle.watch_expr.specs.Tree.{tree};
+ghost use Rattle.watch_expr.specs.Expression.{expression_of};
 
 use crate::refusal::{Refusal, refused};
 use crate::state::State;
@@ -25,7 +25,7 @@ pub(crate) fn set<'m, 'a>(
     expression: &Expr,
 ) -> Result<(State<'m, 'a>, Text), AllocError>
     ensures answer { IfOk result (λ done.
-        Performs (command_answer (session_state state.entry) [] (SetTo name.now (tree expression.now))) (session_state done.0) done.1) }
+        Performs (command_answer (session_state state.entry) [] (SetTo name.now (expression_of expression.now))) (session_state done.0) done.1) }
     ensures group { IfOk result (λ done. done.0.group ≡ state.entry.group) }
 {
     let variables = &state.kept.variables;

@@ -1,6 +1,6 @@
 // Which command the tokens of a line spell: the verb in front, and what stands behind each verb.
 ghost use Rattle.std.specs.Prelude.{◌≡◌, ◌<◌, ◌^◌, length};
-ghost use Rattle.friday_shell.specs.Lines.{command_by, command_of, token_as, verb_of};
+ghost use Rattle.friday_shell.specs.Lines.{command_of_verb, command_spelled, token_at, verb_of};
 ghost use Rattle.friday_shell.specs.declared.command.Verb.TheVariants as verb;
 ghost use Rattle.friday_shell.specs.Seen.{ReadsAs, ReadsCommand};
 ghost use Rattle.watch_expr.specs.Lexing.{texts};
@@ -70,7 +70,7 @@ pub(crate) fn read_command(
     names: &[Bytes],
 ) -> Result<Command, ExprError>
     requires { length names.now < 2 ^ 32 }
-    ensures { ReadsCommand tokens.now (command_of names.now (texts tokens.now)) result }
+    ensures { ReadsCommand tokens.now (command_spelled names.now (texts tokens.now)) result }
 {
     let verb = read_verb(tokens)?;
     read_behind(alloc, verb, tokens, names)
@@ -84,7 +84,7 @@ fn read_behind(
     names: &[Bytes],
 ) -> Result<Command, ExprError>
     requires { length names.now < 2 ^ 32 }
-    ensures { ReadsCommand tokens.now (command_by names.now (texts tokens.now) verb) result }
+    ensures { ReadsCommand tokens.now (command_of_verb names.now (texts tokens.now) verb) result }
 {
     match verb {
         Verb::Goto => {
@@ -123,7 +123,7 @@ fn read_behind(
 // A node, an address and a length.
 fn read_mem(tokens: &Tokens<'_>, names: &[Bytes]) -> Result<Command, ExprError>
     requires { length names.now < 2 ^ 32 }
-    ensures { ReadsCommand tokens.now (command_by names.now (texts tokens.now) verb.Mem) result }
+    ensures { ReadsCommand tokens.now (command_of_verb names.now (texts tokens.now) verb.Mem) result }
 {
     let node = read_node(tokens, 1, names)?;
     let addr = read_number(tokens, 2, 0, MOST_NUMBER)?;
@@ -134,7 +134,7 @@ fn read_mem(tokens: &Tokens<'_>, names: &[Bytes]) -> Result<Command, ExprError>
 // Which nodes, and the kind of call.
 fn read_break(tokens: &Tokens<'_>, names: &[Bytes]) -> Result<Command, ExprError>
     requires { length names.now < 2 ^ 32 }
-    ensures { ReadsCommand tokens.now (command_by names.now (texts tokens.now) verb.Break) result }
+    ensures { ReadsCommand tokens.now (command_of_verb names.now (texts tokens.now) verb.Break) result }
 {
     let place = read_scope(tokens, 1, names)?;
     let kind = read_kind(tokens, 2)?;
@@ -144,7 +144,7 @@ fn read_break(tokens: &Tokens<'_>, names: &[Bytes]) -> Result<Command, ExprError
 // The number of a point, and a program.
 fn read_do(alloc: Global, tokens: &Tokens<'_>, names: &[Bytes]) -> Result<Command, ExprError>
     requires { length names.now < 2 ^ 32 }
-    ensures { ReadsCommand tokens.now (command_by names.now (texts tokens.now) verb.Do) result }
+    ensures { ReadsCommand tokens.now (command_of_verb names.now (texts tokens.now) verb.Do) result }
 {
     let number = read_number(tokens, 1, 0, MOST_NUMBER)?;
     let program = parse_program(alloc, tokens, 2, names)?;
@@ -154,7 +154,7 @@ fn read_do(alloc: Global, tokens: &Tokens<'_>, names: &[Bytes]) -> Result<Comman
 // A variable, and an expression.
 fn read_set(alloc: Global, tokens: &Tokens<'_>, names: &[Bytes]) -> Result<Command, ExprError>
     requires { length names.now < 2 ^ 32 }
-    ensures { ReadsCommand tokens.now (command_by names.now (texts tokens.now) verb.Set) result }
+    ensures { ReadsCommand tokens.now (command_of_verb names.now (texts tokens.now) verb.Set) result }
 {
     let name = read_variable(alloc, tokens, 1)?;
     let value = read_expression(alloc, tokens, 3, names)?;
@@ -163,7 +163,7 @@ fn read_set(alloc: Global, tokens: &Tokens<'_>, names: &[Bytes]) -> Result<Comma
 
 // The verb in front.
 fn read_verb(tokens: &Tokens<'_>) -> Result<Verb, ExprError>
-    ensures { ReadsAs (λ v. v) tokens.now (token_as verb_of (texts tokens.now) 0) result }
+    ensures { ReadsAs (λ v. v) tokens.now (token_at verb_of (texts tokens.now) 0) result }
 {
     let verb = tokens.text(0).and_then(named_verb);
     verb.ok_or(ExprError::Syntax(tokens.column(0)))

@@ -10,7 +10,7 @@ use Rattle.fri_text.specs.Name.{is_name}
 use Rattle.call_table.specs.Table.{kind_numbered}
 use Rattle.lib_calls.specs.declared.entry.Entry.{Entry}
 use Rattle.lib_calls.specs.Entry.{IsShaped}
-use Rattle.call_log.specs.Entry.{body, encoding, encodings}
+use Rattle.call_log.specs.Entry.{body_bytes, encoding, encodings}
 use Rattle.call_log.specs.Head.{head_bytes}
 use Rattle.call_log.specs.Laws.{ExactLogs}
 use Rattle.call_log.specs.Limits.{most_log}
@@ -68,7 +68,7 @@ state-at (e ∷ es) S (suc n) s at = state-at es (next S e) n s at
 
 some_bytes : (e : Entry) → 1 ≤ length (encoding e)
 unfolding encoding
-some_bytes e = omega (arith, length-append (to_le_bytes w32 (length (body e))) (body e))
+some_bytes e = omega (arith, length-append (to_le_bytes w32 (length (body_bytes e))) (body_bytes e))
 
 many_bytes : (es : List Entry) → length es ≤ length (encodings es)
 many_bytes [] = omega arith
@@ -253,7 +253,7 @@ keeps laws group begun (Did act ∷ early) run p within = act_keeps group early 
 log_tells : ExactLogs → (group : Group) → IsBegun group → (steps : List Step) (p : ℕ) → p < size group → KeepsAfter group steps p → TellsEvents group steps p
 log_tells logs group begun steps p within k =
     let es = entries steps p in
-    let held = (logs.all (encodings es) es []).0 (logs.written es k.logged) in
+    let held = (logs.all (encodings es) es []).0 (logs.holds_written es k.logged) in
     let named : is_name (slice_index_or group.names p []) ≡ true = All-get_or (λ name. IsTrue (is_name name)) group.names p [] within begun.names in
     record {
       first = k.first;

@@ -3,7 +3,7 @@ use Rattle.std.proofs.Common.{◌≡◌, ℕ, Bool, List, [], length, slice_inde
 use Rattle.std.specs.Prelude.{All, IsTrue, Result, Ok, Err, is_some}
 use Rattle.std.proofs.lemmas.Option.{slice_get-get_or}
 use Rattle.std.proofs.lemmas.List.{length-map}
-use Rattle.fri_outside.specs.Outside.{Store}
+use Rattle.fri_outside.specs.Outside.{Folder}
 use Rattle.fri_outside.specs.Several.{with_files}
 use Rattle.schedule_text.specs.declared.process.ProcessLine.{ProcessLine}
 use Rattle.schedule_text.specs.Schedule.{IsInRange, IsSchedule, Schedule}
@@ -23,38 +23,38 @@ use Rattle.group_record.proofs.Going.{stopped_before, stopped_in, stopped_on}
 use Rattle.group_record.proofs.Imaging.{files_behind}
 
 -- what was stopped before the images
-stops_in : (asked : Bool) (schedule : Schedule) (first : List State) (before after : Option Store) → IsStopped (group_of schedule first) (run (group_of schedule first) schedule.items).steps [] before after
+stops_in : (asked : Bool) (schedule : Schedule) (first : List State) (before after : Option Folder) → IsStopped (group_of schedule first) (run (group_of schedule first) schedule.items).steps [] before after
     → StoppedWhere schedule asked (Ok first) before after
 stops_in asked schedule first before after h =
     let group = group_of schedule first in
     let done = run group schedule.items in
     stopped_before group done.steps (images_of asked group done) before after h
 
-stops_where : (asked : Bool) (schedule : Schedule) (begun : Result (List State) ℕ) (before after : Option Store) → StopsAtHead schedule begun before after → StoppedWhere schedule asked begun before after
+stops_where : (asked : Bool) (schedule : Schedule) (begun : Result (List State) ℕ) (before after : Option Folder) → StopsAtHead schedule begun before after → StoppedWhere schedule asked begun before after
 stops_where asked schedule (Err p) before after h = h
 stops_where asked schedule (Ok first) before after h =
     let steps = (run (group_of schedule first) schedule.items).steps in
     stops_in asked schedule first before after (stopped_on (group_of schedule first) [] steps before after (steps, sym (append-nil steps)) h)
 
 -- the group did not begin
-pub begin_fails : (asked : Bool) (schedule : Schedule) (begun : Result (List State) ℕ) (error : RecordError) (before after : Option Store) → GroupBegins schedule begun (Err error) before after → RecordAnswers schedule asked begun (Err error) before after
+pub begin_fails : (asked : Bool) (schedule : Schedule) (begun : Result (List State) ℕ) (error : RecordError) (before after : Option Folder) → GroupBegins schedule begun (Err error) before after → RecordAnswers schedule asked begun (Err error) before after
 begin_fails asked schedule begun (errors.BadSegment p) before after h = h
 begin_fails asked schedule begun (errors.LogFull item) before after h = absurd h
 begin_fails asked schedule begun errors.WriteFault before after h = stops_where asked schedule begun before after h
 begin_fails asked schedule begun errors.NoMemory before after h = stops_where asked schedule begun before after h
 
 -- it has begun
-pub under_way : (schedule : Schedule) (begun : Result (List State) ℕ) (recorder : Recorder) (before now : Option Store) → GroupBegins schedule begun (Ok recorder) before now → UnderWay recorder now
+pub under_way : (schedule : Schedule) (begun : Result (List State) ℕ) (recorder : Recorder) (before now : Option Folder) → GroupBegins schedule begun (Ok recorder) before now → UnderWay recorder now
 under_way schedule begun recorder before now b = record { group = group_of schedule b.0; done = nothing_yet; before = before; keeps = b.2; files = b.3 }
 
-pub items_fit : (schedule : Schedule) (begun : Result (List State) ℕ) (recorder : Recorder) (before now : Option Store) → IsSchedule schedule → GroupBegins schedule begun (Ok recorder) before now
+pub items_fit : (schedule : Schedule) (begun : Result (List State) ℕ) (recorder : Recorder) (before now : Option Folder) → IsSchedule schedule → GroupBegins schedule begun (Ok recorder) before now
     → All (IsInRange (length recorder.members.items)) schedule.items
 items_fit schedule begun recorder before now fits b =
     let count : length recorder.members.items ≡ length schedule.processes = b.2.count ∙ length-map schedule.processes (λ (line : ProcessLine). line.name) in
     subst (λ n. All (IsInRange n) schedule.items) (sym count) fits.formed.items
 
 -- it was not done to its end
-pub run_fails : (asked : Bool) (schedule : Schedule) (begun : Result (List State) ℕ) (recorder last : Recorder) (error : RecordError) (before now after : Option Store) → GroupBegins schedule begun (Ok recorder) before now
+pub run_fails : (asked : Bool) (schedule : Schedule) (begun : Result (List State) ℕ) (recorder last : Recorder) (error : RecordError) (before now after : Option Folder) → GroupBegins schedule begun (Ok recorder) before now
     → Does (λ group. after_items group 1 schedule.items) recorder (Err error) last now after → RecordAnswers schedule asked begun (Err error) before after
 run_fails asked schedule begun recorder last (errors.BadSegment p) before now after b does = absurd (does (group_of schedule b.0) nothing_yet before b.2 b.3)
 run_fails asked schedule begun recorder last (errors.LogFull item) before now after b does =
@@ -66,14 +66,14 @@ run_fails asked schedule begun recorder last errors.NoMemory before now after b 
     subst (λ x. StoppedWhere schedule asked x before after) (sym b.1) (stops_in asked schedule b.0 before after (does (group_of schedule b.0) nothing_yet before b.2 b.3))
 
 -- all was done, and there was no memory to say so
-pub saying_fails : (asked : Bool) (schedule : Schedule) (begun : Result (List State) ℕ) (recorder last : Recorder) (before now after : Option Store) → GroupBegins schedule begun (Ok recorder) before now
+pub saying_fails : (asked : Bool) (schedule : Schedule) (begun : Result (List State) ℕ) (recorder last : Recorder) (before now after : Option Folder) → GroupBegins schedule begun (Ok recorder) before now
     → Does (λ group. after_items group 1 schedule.items) recorder (Ok tt) last now after → StoppedWhere schedule asked begun before after
 saying_fails asked schedule begun recorder last before now after b does =
     let h = does (group_of schedule b.0) nothing_yet before b.2 b.3 in
     subst (λ x. StoppedWhere schedule asked x before after) (sym b.1) (Between (run (group_of schedule b.0) schedule.items).steps ([], refl) h.1)
 
 -- the images were not all made
-pub images_fail : (asked : Bool) (schedule : Schedule) (begun : Result (List State) ℕ) (recorder last : Recorder) (error : RecordError) (before now middle after : Option Store) → GroupBegins schedule begun (Ok recorder) before now
+pub images_fail : (asked : Bool) (schedule : Schedule) (begun : Result (List State) ℕ) (recorder last : Recorder) (error : RecordError) (before now middle after : Option Folder) → GroupBegins schedule begun (Ok recorder) before now
     → Does (λ group. after_items group 1 schedule.items) recorder (Ok tt) last now middle → MakesImages asked schedule.processes last (Err error) middle after → RecordAnswers schedule asked begun (Err error) before after
 images_fail asked schedule begun recorder last error before now middle after b does makes = by_error error (makes group done h.0 refl)
   where
@@ -96,7 +96,7 @@ images_fail asked schedule begun recorder last error before now middle after b d
     by_error errors.NoMemory made = stopped made
 
 -- all was done and said
-pub run_done : (asked : Bool) (schedule : Schedule) (begun : Result (List State) ℕ) (recorder last : Recorder) (said : Summary) (before now middle after : Option Store) → GroupBegins schedule begun (Ok recorder) before now
+pub run_done : (asked : Bool) (schedule : Schedule) (begun : Result (List State) ℕ) (recorder last : Recorder) (said : Summary) (before now middle after : Option Folder) → GroupBegins schedule begun (Ok recorder) before now
     → Does (λ group. after_items group 1 schedule.items) recorder (Ok tt) last now middle → Sums schedule.processes last said → MakesImages asked schedule.processes last (Ok tt) middle after
     → RecordAnswers schedule asked begun (Ok said) before after
 run_done asked schedule begun recorder last said before now middle after b does sums makes =
@@ -114,7 +114,7 @@ run_done asked schedule begun recorder last said before now middle after b does 
 
 -- ---- what is said of it
 
-pub last_keeps : (schedule : Schedule) (begun : Result (List State) ℕ) (recorder last : Recorder) (before now after : Option Store) → (b : GroupBegins schedule begun (Ok recorder) before now)
+pub last_keeps : (schedule : Schedule) (begun : Result (List State) ℕ) (recorder last : Recorder) (before now after : Option Folder) → (b : GroupBegins schedule begun (Ok recorder) before now)
     → Does (λ group. after_items group 1 schedule.items) recorder (Ok tt) last now after → KeepsUp (group_of schedule b.0) (run (group_of schedule b.0) schedule.items) last
 last_keeps schedule begun recorder last before now after b does = (does (group_of schedule b.0) nothing_yet before b.2 b.3).0
 

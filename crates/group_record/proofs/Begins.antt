@@ -7,7 +7,7 @@ use Rattle.std.proofs.lemmas.Bool.{and_parts}
 use Rattle.std.proofs.lemmas.Bool.Decides.{nat_tests}
 use Rattle.std.proofs.lemmas.List.{length-map}
 use Rattle.std.proofs.lemmas.Option.{get_or_from_slice_get, slice_get_within}
-use Rattle.fri_outside.specs.Outside.{Store}
+use Rattle.fri_outside.specs.Outside.{Folder}
 use Rattle.fri_outside.specs.Several.{with_files}
 use Rattle.fri_text.specs.Name.{is_name, is_name_byte}
 use Rattle.call_log.specs.Head.{Head, head_bytes}
@@ -30,12 +30,12 @@ use Rattle.group_record.proofs.Recording.{some_there}
 use Rattle.group_record.proofs.Starting.{name_at}
 
 -- no file has changed
-pub nothing_made : (schedule : Schedule) (begun : Result (List State) ℕ) (told : Option Store) → StopsAtHead schedule begun told told
+pub nothing_made : (schedule : Schedule) (begun : Result (List State) ℕ) (told : Option Folder) → StopsAtHead schedule begun told told
 nothing_made schedule (Ok first) told = InHeads 0 (λ p. 0) refl
 nothing_made schedule (Err p) told = refl
 
 -- not all processes began
-pub members_fail : {T : Type 0} (items : T → List Member) (names : List (List ℕ)) (schedule : Schedule) (begun : Result (List State) ℕ) (error : RecordError) (told : Option Store) → BeginsAll items names begun (Err error)
+pub members_fail : {T : Type 0} (items : T → List Member) (names : List (List ℕ)) (schedule : Schedule) (begun : Result (List State) ℕ) (error : RecordError) (told : Option Folder) → BeginsAll items names begun (Err error)
     → GroupBegins schedule begun (Err error) told told
 members_fail items names schedule begun (errors.BadSegment p) told h = (h, refl)
 members_fail items names schedule begun (errors.LogFull item) told h = h
@@ -43,7 +43,7 @@ members_fail items names schedule begun errors.WriteFault told h = absurd h
 members_fail items names schedule begun errors.NoMemory told h = nothing_made schedule begun told
 
 -- not all logs were made
-pub logs_fail : (schedule : Schedule) (begun : Result (List State) ℕ) (first : List State) (bytes : ℕ → List ℕ) (error : RecordError) (before after : Option Store) → begun ≡ Ok first
+pub logs_fail : (schedule : Schedule) (begun : Result (List State) ℕ) (first : List State) (bytes : ℕ → List ℕ) (error : RecordError) (before after : Option Folder) → begun ≡ Ok first
     → MakeAll (group_of schedule first) bytes (Err error) before after → GroupBegins schedule begun (Err error) before after
 logs_fail schedule begun first bytes (errors.BadSegment p) before after is h = absurd h
 logs_fail schedule begun first bytes (errors.LogFull item) before after is h = h
@@ -135,5 +135,5 @@ recorder_begun asked schedule first members recorder fits started new = record {
   idle = new.idle;
 }
 
-pub files_begun : (schedule : Schedule) (first : List State) (before now : Option Store) → MakeAll (group_of schedule first) (heads (group_of schedule first)) (Ok tt) before now → FilesOf (group_of schedule first) nothing_yet before now
+pub files_begun : (schedule : Schedule) (first : List State) (before now : Option Folder) → MakeAll (group_of schedule first) (heads (group_of schedule first)) (Ok tt) before now → FilesOf (group_of schedule first) nothing_yet before now
 files_begun schedule first before now is = is ∙ ap (λ fs. with_files fs before) (heads_are_logs (group_of schedule first))

@@ -11,7 +11,7 @@ use Rattle.group_world.specs.World.{World}
 use Rattle.group_record.specs.declared.error.RecordError.{RecordError}
 use Rattle.group_record.specs.declared.member.Member.{Member}
 use Rattle.group_record.specs.declared.recorder.Recorder.{Recorder}
-use Rattle.group_record.specs.Recorded.{HasCountsFor, Kept, acted_on, counted, counted_of}
+use Rattle.group_record.specs.Recorded.{HasCountsFor, Kept, acted_on, total_count, counted_of}
 
 -- ---- what is counted of items
 
@@ -42,13 +42,13 @@ pub few_first : (items : List Item) (i : ℕ) (this : Item) (r : Recorder) → i
 few_first items i this r inside at few = omega (arith, few, from_next items i this inside, ap counted_of at)
 
 pub few_next : (items : List Item) (i : ℕ) (this : Item) (old new : Recorder) → i < length items → this ≡ slice_index_or items i this → HasCountsFor (sum_by counted_of (drop i items)) old
-    → counted new ≡ counted old + counted_of this → HasCountsFor (sum_by counted_of (drop (i + 1) items)) new
+    → total_count new ≡ total_count old + counted_of this → HasCountsFor (sum_by counted_of (drop (i + 1) items)) new
 few_next items i this old new inside at few made = omega (arith, few, made, from_next items i this inside, ap counted_of at)
 
 -- ---- what was counted
 
 -- an event
-pub counted_kept : (result : Result ⊤ RecordError) (old new : Recorder) (p : ℕ) (m : Member) (e : Entry) → OnOk result (Kept old p m e new) → OnOk result (counted new ≡ counted old + 1)
+pub counted_kept : (result : Result ⊤ RecordError) (old new : Recorder) (p : ℕ) (m : Member) (e : Entry) → OnOk result (Kept old p m e new) → OnOk result (total_count new ≡ total_count old + 1)
 counted_kept (Ok _) old new p m e kept = omega (arith, kept.acted, kept.idle)
 counted_kept (Err error) old new p m e kept = kept
 
@@ -56,9 +56,9 @@ counted_kept (Err error) old new p m e kept = kept
 pub few_other : (r : Recorder) (i : Item) → counted_of i ≡ 1 → HasCountsFor (counted_of i) r → HasCountsFor 1 r
 few_other r i one few = subst (λ (n : ℕ). HasCountsFor n r) one few
 
-counted_act : (acts : Bool) (w : World) (old new : Recorder) → new ≡ acted_on acts w old → counted new ≡ counted old + 1
-counted_act true w old new is = ap counted is ∙ omega arith
-counted_act false w old new is = ap counted is ∙ omega arith
+counted_act : (acts : Bool) (w : World) (old new : Recorder) → new ≡ acted_on acts w old → total_count new ≡ total_count old + 1
+counted_act true w old new is = ap total_count is ∙ omega arith
+counted_act false w old new is = ap total_count is ∙ omega arith
 
-pub counted_other : (acts : Bool) (w : World) (old new : Recorder) (i : Item) → counted_of i ≡ 1 → new ≡ acted_on acts w old → counted new ≡ counted old + counted_of i
-counted_other acts w old new i one is = counted_act acts w old new is ∙ ap (λ (n : ℕ). counted old + n) (sym one)
+pub counted_other : (acts : Bool) (w : World) (old new : Recorder) (i : Item) → counted_of i ≡ 1 → new ≡ acted_on acts w old → total_count new ≡ total_count old + counted_of i
+counted_other acts w old new i one is = counted_act acts w old new is ∙ ap (λ (n : ℕ). total_count old + n) (sym one)

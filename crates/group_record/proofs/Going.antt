@@ -2,7 +2,7 @@
 use Rattle.std.proofs.Common.{◌≡◌, ℕ, zero, suc, ◌++◌, Bool, true, false, cond, List, [], ◌∷◌, Option, Some, None, inl, inr, refl, ap, sym, subst, ◌∙◌, append_assoc}
 use Rattle.std.specs.Prelude.{is_some, Err}
 use Rattle.std.specs.Int.{w64, cast_unsigned}
-use Rattle.fri_outside.specs.Outside.{Store}
+use Rattle.fri_outside.specs.Outside.{Folder}
 use Rattle.fri_outside.specs.Several.{with_files}
 use Rattle.schedule_text.specs.declared.item.Item.{Item}
 use Rattle.schedule_text.specs.declared.item.Item.TheVariants as item
@@ -88,7 +88,7 @@ items_lead group number (i ∷ items) done =
 
 -- ---- where it was stopped
 
-pub stopped_on : (group : Group) (early late : List Step) (before after : Option Store) → IsMoment early late → IsStopped group early [] before after → IsStopped group late [] before after
+pub stopped_on : (group : Group) (early late : List Step) (before after : Option Folder) → IsMoment early late → IsStopped group early [] before after → IsStopped group late [] before after
 stopped_on group early late before after on (InHeads many cut is) = InHeads many cut is
 stopped_on group early late before after on (Between steps front is) = Between steps (front_on steps early late front on) is
 stopped_on group early late before after on (InEntry steps later p n e split is) =
@@ -96,21 +96,21 @@ stopped_on group early late before after on (InEntry steps later p n e split is)
 stopped_on group early late before after on (InImages n m is) = Between early on (is ∙ ap (λ fs. with_files fs before) (behind_none (logs group early) n m))
 
 -- so it is where images are asked for
-pub stopped_before : (group : Group) (steps : List Step) (images : List (List ℕ × List ℕ)) (before after : Option Store) → IsStopped group steps [] before after → IsStopped group steps images before after
+pub stopped_before : (group : Group) (steps : List Step) (images : List (List ℕ × List ℕ)) (before after : Option Folder) → IsStopped group steps [] before after → IsStopped group steps images before after
 stopped_before group steps images before after (InHeads many cut is) = InHeads many cut is
 stopped_before group steps images before after (Between early front is) = Between early front is
 stopped_before group steps images before after (InEntry early later p n e split is) = InEntry early later p n e split is
 stopped_before group steps images before after (InImages n m is) = Between steps ([], refl) (is ∙ ap (λ fs. with_files fs before) (behind_none (logs group steps) n m))
 
 -- or where one was not made
-pub stopped_in : (group : Group) (steps : List Step) (images : List (List ℕ × List ℕ)) (before now after : Option Store) → now ≡ with_files (logs group steps) before → AreMadeInPart images now after
+pub stopped_in : (group : Group) (steps : List Step) (images : List (List ℕ × List ℕ)) (before now after : Option Folder) → now ≡ with_files (logs group steps) before → AreMadeInPart images now after
     → IsStopped group steps images before after
 stopped_in group steps images before now after written (inl same) = Between steps ([], refl) (same ∙ written)
 stopped_in group steps images before now after written (inr (n, m, is)) =
     InImages n m (is ∙ ap (with_files (made_in_part images n m)) written ∙ sym (files_behind (logs group steps) (made_in_part images n m) before))
 
 -- what is answered at one moment is answered of the whole
-pub comes_on : (group : Group) (early late : Progress) (error : RecordError) (r : Recorder) (before after : Option Store) → LeadsTo early late
+pub comes_on : (group : Group) (early late : Progress) (error : RecordError) (r : Recorder) (before after : Option Folder) → LeadsTo early late
     → Comes group early (Err error) r before after → Comes group late (Err error) r before after
 comes_on group early late (errors.BadSegment p) r before after leads h = h
 comes_on group early late (errors.LogFull number) r before after leads h =

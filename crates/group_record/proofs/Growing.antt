@@ -6,11 +6,11 @@ use Rattle.std.proofs.lemmas.Bool.{eq-eqb}
 use Rattle.std.proofs.lemmas.Bool.Decides.{nat_tests}
 use Rattle.std.proofs.lemmas.List.{append_cancel_right}
 use Rattle.std.proofs.lemmas.Option.{slice_get-get_or}
-use Rattle.fri_outside.specs.Outside.{Store, with_piece}
+use Rattle.fri_outside.specs.Outside.{Folder, with_piece}
 use Rattle.fri_outside.specs.Several.{AreApart, grown, with_files}
 use Rattle.fri_outside.specs.Laws.{KeepsFiles}
 use Rattle.lib_calls.specs.declared.entry.Entry.{Entry}
-use Rattle.call_log.specs.Entry.{body, encoding, encodings}
+use Rattle.call_log.specs.Entry.{body_bytes, encoding, encodings}
 use Rattle.call_log.specs.Head.{head_bytes}
 use Rattle.guest_process.specs.Live.{Event}
 use Rattle.group_world.specs.History.{put_last_if}
@@ -89,7 +89,7 @@ file_of group bytes p within =
     ∙ ap Some (file_in group bytes p within)
 
 -- a piece that is written behind a log
-pub piece_written : KeepsFiles → (group : Group) (bytes : ℕ → List ℕ) (p : ℕ) (name piece : List ℕ) (before now : Option Store) → AllPairs (λ name other. name ≢ other) group.names → p < size group
+pub piece_written : KeepsFiles → (group : Group) (bytes : ℕ → List ℕ) (p : ℕ) (name piece : List ℕ) (before now : Option Folder) → AllPairs (λ name other. name ≢ other) group.names → p < size group
     → name ≡ log_name (name_of group p) → now ≡ with_files (files_of group bytes) before → with_piece name piece now ≡ with_files (grown (files_of group bytes) p piece) before
 piece_written keeps group bytes p name piece before now apart within named is =
     ap (λ n. with_piece n piece now) named
@@ -117,7 +117,7 @@ logs_grown group steps p e =
 -- a log has no more entries than bytes
 body_there : (e : Entry) → 1 ≤ length (encoding e)
 unfolding encoding
-body_there e = omega (arith, length-append (to_le_bytes w32 (length (body e))) (body e))
+body_there e = omega (arith, length-append (to_le_bytes w32 (length (body_bytes e))) (body_bytes e))
 
 pub entries_few : (es : List Entry) → length es ≤ length (encodings es)
 entries_few [] = omega arith

@@ -3,7 +3,7 @@ use Rattle.std.proofs.Common.{◌≡◌, ◌⊎◌, ℕ, zero, suc, ◌+◌, ◌
 use Rattle.std.specs.Prelude.{is_none, map, Err}
 use Rattle.std.proofs.lemmas.List.{length-map, take_all}
 use Rattle.std.proofs.lemmas.Option.{slice_get-get_or}
-use Rattle.fri_outside.specs.Outside.{Store, with_file, with_piece}
+use Rattle.fri_outside.specs.Outside.{Folder, with_file, with_piece}
 use Rattle.fri_outside.specs.Several.{with_files}
 use Rattle.fri_outside.specs.Laws.{KeepsFiles}
 use Rattle.fri_outside.specs.declared.files.WriteError.{WriteError}
@@ -23,24 +23,24 @@ use Rattle.group_record.proofs.Starting.{name_at}
 -- ---- one file
 
 -- it was made, and its bytes were put behind
-file_made : KeepsFiles → (name file bytes : List ℕ) (before now after : Option Store) → file ≡ name → now ≡ with_file file [] before → after ≡ with_piece file bytes now → after ≡ with_file name bytes before
+file_made : KeepsFiles → (name file bytes : List ℕ) (before now after : Option Folder) → file ≡ name → now ≡ with_file file [] before → after ≡ with_piece file bytes now → after ≡ with_file name bytes before
 file_made keeps name file bytes before now after named made is =
     is ∙ ap (with_piece file bytes) made ∙ keeps.behind before file [] bytes ∙ ap (λ n. with_file n bytes before) named
 
 -- it was not made
-pub create_part : (name file bytes : List ℕ) (before after : Option Store) → file ≡ name → (after ≡ before) ⊎ (after ≡ with_file file [] before) → AreMadeInPart ((name, bytes) ∷ []) before after
+pub create_part : (name file bytes : List ℕ) (before after : Option Folder) → file ≡ name → (after ≡ before) ⊎ (after ≡ with_file file [] before) → AreMadeInPart ((name, bytes) ∷ []) before after
 create_part name file bytes before after named (inl same) = inl same
 create_part name file bytes before after named (inr made) = inr (0, 0, made ∙ ap (λ n. with_file n [] before) named)
 
 -- its bytes were not put behind
-pub append_part : KeepsFiles → (name file bytes : List ℕ) (before now after : Option Store) → file ≡ name → now ≡ with_file file [] before
+pub append_part : KeepsFiles → (name file bytes : List ℕ) (before now after : Option Folder) → file ≡ name → now ≡ with_file file [] before
     → (after ≡ now) ⊎ ((n : ℕ) × (after ≡ with_piece file (take n bytes) now)) → AreMadeInPart ((name, bytes) ∷ []) before after
 append_part keeps name file bytes before now after named made (inl same) = inr (0, 0, same ∙ made ∙ ap (λ n. with_file n [] before) named)
 append_part keeps name file bytes before now after named made (inr (n, is)) = inr (0, n, file_made keeps name file (take n bytes) before now after named made is)
 
 -- ---- several files
 
-pub files_behind : (xs ys : List (List ℕ × List ℕ)) (told : Option Store) → with_files (xs ++ ys) told ≡ with_files ys (with_files xs told)
+pub files_behind : (xs ys : List (List ℕ × List ℕ)) (told : Option Folder) → with_files (xs ++ ys) told ≡ with_files ys (with_files xs told)
 files_behind [] ys told = refl
 files_behind (x ∷ xs) ys told = files_behind xs ys (with_file x.0 x.1 told)
 
@@ -59,7 +59,7 @@ whole_cut x (y ∷ xs) ys =
     let rest = whole_cut y xs ys in
     (suc rest.0, rest.1, ap (λ fs. x ∷ fs) rest.2)
 
-whole_part : (xs ys : List (List ℕ × List ℕ)) (before after : Option Store) → after ≡ with_files xs before → AreMadeInPart (xs ++ ys) before after
+whole_part : (xs ys : List (List ℕ × List ℕ)) (before after : Option Folder) → after ≡ with_files xs before → AreMadeInPart (xs ++ ys) before after
 whole_part [] ys before after is = inl is
 whole_part (x ∷ xs) ys before after is =
     let cut = whole_cut x xs ys in
@@ -75,7 +75,7 @@ front_cut x (y ∷ xs) ys (suc n) m =
     let rest = front_cut y xs ys n m in
     (suc rest.0, rest.1, ap (λ fs. x ∷ fs) rest.2)
 
-front_part : (xs ys : List (List ℕ × List ℕ)) (before after : Option Store) → AreMadeInPart xs before after → AreMadeInPart (xs ++ ys) before after
+front_part : (xs ys : List (List ℕ × List ℕ)) (before after : Option Folder) → AreMadeInPart xs before after → AreMadeInPart (xs ++ ys) before after
 front_part xs ys before after (inl same) = inl same
 front_part [] ys before after (inr (n, m, is)) = inl (is ∙ ap (λ fs. with_files fs before) (no_part n m))
 front_part (x ∷ xs) ys before after (inr (n, m, is)) =
@@ -89,7 +89,7 @@ behind_cut (x ∷ xs) ys n m =
     let rest = behind_cut xs ys n m in
     (suc rest.0, ap (λ fs. x ∷ fs) rest.1)
 
-behind_part : (xs ys : List (List ℕ × List ℕ)) (before now after : Option Store) → now ≡ with_files xs before → AreMadeInPart ys now after → AreMadeInPart (xs ++ ys) before after
+behind_part : (xs ys : List (List ℕ × List ℕ)) (before now after : Option Folder) → now ≡ with_files xs before → AreMadeInPart ys now after → AreMadeInPart (xs ++ ys) before after
 behind_part xs ys before now after made (inl same) = whole_part xs ys before after (same ∙ made)
 behind_part xs ys before now after made (inr (n, m, is)) =
     let cut = behind_cut xs ys n m in
@@ -97,16 +97,16 @@ behind_part xs ys before now after made (inr (n, m, is)) =
 
 -- ---- the two files of an image
 
-pub first_fails : (one other : List ℕ × List ℕ) (before after : Option Store) → AreMadeInPart (one ∷ []) before after → AreMadeInPart (one ∷ other ∷ []) before after
+pub first_fails : (one other : List ℕ × List ℕ) (before after : Option Folder) → AreMadeInPart (one ∷ []) before after → AreMadeInPart (one ∷ other ∷ []) before after
 first_fails one other before after part = front_part (one ∷ []) (other ∷ []) before after part
 
-pub second_fails : (one other : List ℕ × List ℕ) (before now after : Option Store) → now ≡ with_file one.0 one.1 before → AreMadeInPart (other ∷ []) now after → AreMadeInPart (one ∷ other ∷ []) before after
+pub second_fails : (one other : List ℕ × List ℕ) (before now after : Option Folder) → now ≡ with_file one.0 one.1 before → AreMadeInPart (other ∷ []) now after → AreMadeInPart (one ∷ other ∷ []) before after
 second_fails one other before now after first part = behind_part (one ∷ []) (other ∷ []) before now after first part
 
 -- ---- the images of a group
 
 -- those of the processes before p were made
-pub record ImagesTo (group : Group) (steps : List Step) (p : ℕ) (before now : Option Store) : Type 0 where
+pub record ImagesTo (group : Group) (steps : List Step) (p : ℕ) (before now : Option Folder) : Type 0 where
   pub front : List (List ℕ × List ℕ)
   pub rest : images group steps ≡ front ++ images_from group steps p (drop p group.names)
   pub made : now ≡ with_files front before
@@ -122,7 +122,7 @@ images_here group steps p name within named =
     ∙ ap (λ n. image_at group steps p n ++ images_from group steps (suc p) (drop (suc p) group.names)) (sym named)
     ∙ ap (λ n. image_at group steps p name ++ images_from group steps n (drop n group.names)) (sym (add-one p))
 
-pub image_made : (group : Group) (steps : List Step) (p : ℕ) (name : List ℕ) (before now after : Option Store) → p < size group → name ≡ slice_index_or group.names p []
+pub image_made : (group : Group) (steps : List Step) (p : ℕ) (name : List ℕ) (before now after : Option Folder) → p < size group → name ≡ slice_index_or group.names p []
     → ImagesTo group steps p before now → after ≡ with_files (image_at group steps p name) now → ImagesTo group steps (p + 1) before after
 image_made group steps p name before now after within named so_far is = record {
   front = so_far.front ++ image_at group steps p name;
@@ -131,7 +131,7 @@ image_made group steps p name before now after within named so_far is = record {
   made = is ∙ ap (with_files (image_at group steps p name)) so_far.made ∙ sym (files_behind so_far.front (image_at group steps p name) before);
 }
 
-pub image_fails : (group : Group) (steps : List Step) (p : ℕ) (name : List ℕ) (before now after : Option Store) → p < size group → name ≡ slice_index_or group.names p []
+pub image_fails : (group : Group) (steps : List Step) (p : ℕ) (name : List ℕ) (before now after : Option Folder) → p < size group → name ≡ slice_index_or group.names p []
     → ImagesTo group steps p before now → AreMadeInPart (image_at group steps p name) now after → AreMadeInPart (images group steps) before after
 image_fails group steps p name before now after within named so_far part =
     let others = images_from group steps (p + 1) (drop (p + 1) group.names) in
@@ -161,7 +161,7 @@ asked_images : (asked : Bool) (group : Group) (done : Progress) → asked ≡ tr
 asked_images asked group done is room =
     ap (λ asked. images_of asked group done) is ∙ ap (λ full. cond (is_none full) (images group done.steps) []) room
 
-pub asked_fails : (asked : Bool) (group : Group) (done : Progress) (error : WriteError) (before after : Option Store) → asked ≡ true → done.full ≡ None → AreMadeInPart (images group done.steps) before after
+pub asked_fails : (asked : Bool) (group : Group) (done : Progress) (error : WriteError) (before after : Option Folder) → asked ≡ true → done.full ≡ None → AreMadeInPart (images group done.steps) before after
     → MakesFiles (images_of asked group done) (Err (error_of error)) before after
 asked_fails asked group done writing.Failed before after is room part = subst (λ fs. AreMadeInPart fs before after) (sym (asked_images asked group done is room)) part
 asked_fails asked group done writing.NoMemory before after is room part = subst (λ fs. AreMadeInPart fs before after) (sym (asked_images asked group done is room)) part

@@ -5,7 +5,7 @@ use Rattle.std.proofs.lemmas.Bool.{eq-eqb}
 use Rattle.std.proofs.lemmas.Bool.Decides.{nat_tests}
 use Rattle.std.proofs.lemmas.List.Elements.{All-push}
 use Rattle.std.proofs.lemmas.Option.{same_Some, slice_get-map}
-use Rattle.fri_outside.specs.Outside.{Store, with_piece}
+use Rattle.fri_outside.specs.Outside.{Folder, with_piece}
 use Rattle.fri_outside.specs.Several.{grown, with_files}
 use Rattle.fri_outside.specs.Laws.{KeepsFiles}
 use Rattle.lib_calls.specs.declared.entry.Entry.{Entry}
@@ -195,7 +195,7 @@ event_keeps counting group done old new p thread m entry keeps within k t room m
 -- ---- one try
 
 -- it is idle
-pub try_idle : Counting → (group : Group) (done : Progress) (before now : Option Store) (old new : Recorder) (number p thread : ℕ) (m : Member) → KeepsUp group done old → FilesOf group done before now → p < size group
+pub try_idle : Counting → (group : Group) (done : Progress) (before now : Option Folder) (old new : Recorder) (number p thread : ℕ) (m : Member) → KeepsUp group done old → FilesOf group done before now → p < size group
     → (k : IsMember group done.steps p m) → live k.state thread (env_of old.world p) ≡ None → new ≡ record old { idle = old.idle + 1 } → Comes group (attempt group number p thread done) (Ok tt) new before now
 try_idle counting group done before now old new number p thread m keeps files within k none is =
     let next : attempt group number p thread done ≡ idled done = attempt_is counting group done old number p thread k.state keeps within k.after ∙ ap (λ o. had group number p o done) none in
@@ -227,7 +227,7 @@ no_room counting group done old number p thread m entry keeps within k t over =
     (full_test (length (log_of group done.steps p ++ encoding t.event.entry)) most_log (subst (λ n. most_log < n) (log_size group done.steps p m entry t.event k t.same) over))
 
 -- the files with the entry more
-entry_written : KeepsFiles → (group : Group) (done : Progress) (before now after : Option Store) (old : Recorder) (p : ℕ) (m : Member) (entry : Entry) (e : Event) → KeepsUp group done old → FilesOf group done before now → p < size group
+entry_written : KeepsFiles → (group : Group) (done : Progress) (before now after : Option Folder) (old : Recorder) (p : ℕ) (m : Member) (entry : Entry) (e : Event) → KeepsUp group done old → FilesOf group done before now → p < size group
     → IsMember group done.steps p m → entry ≡ e.entry → after ≡ with_piece (string_bytes m.log) (encoding entry) now → after ≡ with_files (logs group (Had p e ∷ done.steps)) before
 entry_written files_keep group done before now after old p m entry e keeps files within k same is =
     is ∙ piece_written files_keep group (log_of group done.steps) p (string_bytes m.log) (encoding entry) before now keeps.apart within k.log files
@@ -235,11 +235,11 @@ entry_written files_keep group done before now after old p m entry e keeps files
     ∙ ap (λ fs. with_files fs before) (logs_grown group done.steps p e)
 
 -- memory was wanting before the files were touched
-pub memory_stops : (group : Group) (done next : Progress) (r : Recorder) (before now : Option Store) → LeadsTo done next → FilesOf group done before now → Comes group next (Err errors.NoMemory) r before now
+pub memory_stops : (group : Group) (done next : Progress) (r : Recorder) (before now : Option Folder) → LeadsTo done next → FilesOf group done before now → Comes group next (Err errors.NoMemory) r before now
 memory_stops group done next r before now leads files = Between done.steps leads.front files
 
 -- a write that failed
-fault_stops : KeepsFiles → (group : Group) (done : Progress) (before now after : Option Store) (old : Recorder) (p : ℕ) (m : Member) (entry : Entry) (e : Event) → KeepsUp group done old → FilesOf group done before now → p < size group
+fault_stops : KeepsFiles → (group : Group) (done : Progress) (before now after : Option Folder) (old : Recorder) (p : ℕ) (m : Member) (entry : Entry) (e : Event) → KeepsUp group done old → FilesOf group done before now → p < size group
     → IsMember group done.steps p m → entry ≡ e.entry → IsCut (string_bytes m.log) (encoding entry) now after → IsStopped group (Had p e ∷ done.steps) [] before after
 fault_stops files_keep group done before now after old p m entry e keeps files within k same (inl none) = Between done.steps (Had p e ∷ [], refl) (none ∙ files)
 fault_stops files_keep group done before now after old p m entry e keeps files within k same (inr (n, is)) =
@@ -248,7 +248,7 @@ fault_stops files_keep group done before now after old p m entry e keeps files w
     ∙ ap (λ e. with_files (grown (logs group done.steps) p (take n (encoding e))) before) same)
 
 -- what comes of a try that has an event
-pub try_event : Counting → KeepsFiles → (group : Group) (done : Progress) (before now after : Option Store) (old : Recorder) (result : Result ⊤ RecordError) (new : Recorder) (number p thread : ℕ) (m : Member) (entry : Entry)
+pub try_event : Counting → KeepsFiles → (group : Group) (done : Progress) (before now after : Option Folder) (old : Recorder) (result : Result ⊤ RecordError) (new : Recorder) (number p thread : ℕ) (m : Member) (entry : Entry)
     → KeepsUp group done old → FilesOf group done before now → p < size group → (k : IsMember group done.steps p m) → IsLiveEntry k.state thread (env_of old.world p) entry
     → Writes m number (encoding entry) result now after → OnOk result (Kept old p m entry new) → Comes group (attempt group number p thread done) result new before after
 try_event counting files_keep group done before now after old (Ok _) new number p thread m entry keeps files within k t writes made =
@@ -396,7 +396,7 @@ item_keeps counting group done old new number (item.Kill p) keeps fits other is 
     kills counting group done old new p (is_spared old.members.items old.world p) keeps (omega (arith, fits, keeps.count)) refl is
 
 -- so it is done, and no file has changed
-logs_stay : (group : Group) (done next : Progress) (before now : Option Store) → logs group next.steps ≡ logs group done.steps → FilesOf group done before now → FilesOf group next before now
+logs_stay : (group : Group) (done next : Progress) (before now : Option Folder) → logs group next.steps ≡ logs group done.steps → FilesOf group done before now → FilesOf group next before now
 logs_stay group done next before now same files = files ∙ ap (λ fs. with_files fs before) (sym same)
 
 same_logs : (group : Group) (done : Progress) (acts : Bool) (act : Act) → logs group (Did act ∷ done.steps) ≡ logs group done.steps → logs group (with_step_if acts (Did act) done).steps ≡ logs group done.steps
@@ -423,7 +423,7 @@ does_logs group number (item.Random p bytes) done other = refl
 does_logs group number (item.Signal p s) done other = refl
 does_logs group number (item.Kill p) done other = acted_logs group done (can_be_killed group done.steps p) (world.Kill p) tt
 
-pub item_comes : Counting → (group : Group) (done : Progress) (before now : Option Store) (old new : Recorder) (number : ℕ) (i : Item) → KeepsUp group done old → FilesOf group done before now
+pub item_comes : Counting → (group : Group) (done : Progress) (before now : Option Folder) (old new : Recorder) (number : ℕ) (i : Item) → KeepsUp group done old → FilesOf group done before now
     → IsInRange (length old.members.items) i → IsOther i → new ≡ acted_on (acts old.members.items old.world i) (after_act old.members.items old.world i) old
     → Comes group (after_item group number i done) (Ok tt) new before now
 item_comes counting group done before now old new number i keeps files fits other is =
@@ -439,13 +439,13 @@ acted_prints false w old new is = ap (λ (r : Recorder). length r.prints) is
 
 -- ---- what a write says of the whole
 
-pub stops_of : (m other : Member) (number : ℕ) (e same : Entry) (error : RecordError) (before after : Option Store) → m ≡ other → e ≡ same
+pub stops_of : (m other : Member) (number : ℕ) (e same : Entry) (error : RecordError) (before after : Option Folder) → m ≡ other → e ≡ same
     → Writes m number (encoding e) (Err error) before after → Writes other number (encoding same) (Err error) before after
 stops_of m other number e same error before after is told h =
     subst (λ (m : Member). Writes m number (encoding same) (Err error) before after) is
     (subst (λ (e : Entry). Writes m number (encoding e) (Err error) before after) told h)
 
-pub written_of : (m other : Member) (e same : Entry) (before after : Option Store) → m ≡ other → e ≡ same
+pub written_of : (m other : Member) (e same : Entry) (before after : Option Folder) → m ≡ other → e ≡ same
     → LogHasRoom m (encoding e) × (after ≡ with_piece (string_bytes m.log) (encoding e) before) → LogHasRoom other (encoding same) × (after ≡ with_piece (string_bytes other.log) (encoding same) before)
 written_of m other e same before after is told h =
     subst (λ (m : Member). LogHasRoom m (encoding same) × (after ≡ with_piece (string_bytes m.log) (encoding same) before)) is

@@ -124,27 +124,27 @@ in_both true true all some e x within here =
 in_both true false all some e x within here = Contains-append_left all (e ∷ []) x (within here)
 in_both false sends_it all some e x within here = within here
 
-sends_told : (count : ℕ) (h : History) (q : ℕ) (x : Entry) → Contains (sends count h q) x → Contains (world.entries h q) x
+sends_told : (count : ℕ) (h : History) (q : ℕ) (x : Entry) → Contains (sends count h q) x → Contains (world.process_entries h q) x
 sends_told count [] q x here = here
 sends_told count (world.Event r e ∷ h) q x here =
-    in_both (r == q) (is_sent count e) (world.entries h q) (sends count h q) e x (sends_told count h q x) here
+    in_both (r == q) (is_sent count e) (world.process_entries h q) (sends count h q) e x (sends_told count h q x) here
 sends_told count (_ ∷ h) q x here = sends_told count h q x here
 
 put_after : (test : Bool) (es : List Entry) (e x : Entry) → Contains es x → Contains (put_last_if test es e) x
 put_after true es e x here = Contains-append_left es (e ∷ []) x here
 put_after false es e x here = here
 
-one_act : (act : Act) (h : History) (q : ℕ) (x : Entry) → Contains (world.entries h q) x → Contains (world.entries (act ∷ h) q) x
-one_act (world.Event r e) h q x here = put_after (r == q) (world.entries h q) e x here
+one_act : (act : Act) (h : History) (q : ℕ) (x : Entry) → Contains (world.process_entries h q) x → Contains (world.process_entries (act ∷ h) q) x
+one_act (world.Event r e) h q x here = put_after (r == q) (world.process_entries h q) e x here
 one_act _ h q x here = here
 
-entries_grow : (later earlier h : History) (act : Act) → h ≡ later ++ act ∷ earlier → (q : ℕ) (x : Entry) → Contains (world.entries earlier q) x → Contains (world.entries h q) x
-entries_grow [] earlier h act is q x here = subst (λ (h : History). Contains (world.entries h q) x) (sym is) (one_act act earlier q x here)
+entries_grow : (later earlier h : History) (act : Act) → h ≡ later ++ act ∷ earlier → (q : ℕ) (x : Entry) → Contains (world.process_entries earlier q) x → Contains (world.process_entries h q) x
+entries_grow [] earlier h act is q x here = subst (λ (h : History). Contains (world.process_entries h q) x) (sym is) (one_act act earlier q x here)
 entries_grow (a ∷ later) earlier h act is q x here =
-    subst (λ (h : History). Contains (world.entries h q) x) (sym is)
+    subst (λ (h : History). Contains (world.process_entries h q) x) (sym is)
     (one_act a (later ++ act ∷ earlier) q x (entries_grow later earlier (later ++ act ∷ earlier) act refl q x here))
 
-pub is_told : (count : ℕ) (h : History) (p number : ℕ) (bytes : List ℕ) (e : Entry) (giver : Giver count h p number bytes) (q n : ℕ) (s : IsSend count giver.earlier q n p e) → Contains (world.entries h q) s.sent
+pub is_told : (count : ℕ) (h : History) (p number : ℕ) (bytes : List ℕ) (e : Entry) (giver : Giver count h p number bytes) (q n : ℕ) (s : IsSend count giver.earlier q n p e) → Contains (world.process_entries h q) s.sent
 is_told count h p number bytes e giver q n s =
     entries_grow giver.later giver.earlier h giver.act giver.split q s.sent
     (sends_told count giver.earlier q s.sent (contains_nth n (sends count giver.earlier q) s.sent s.is))

@@ -1,6 +1,6 @@
 -- What a recording answers.
 use Rattle.std.specs.Prelude.{◌≡◌, ℕ, suc, Bool, List, [], ◌∷◌, ◌++◌, length, map, Option, Some, None, Result, Ok, Err}
-use Rattle.fri_outside.specs.Outside.{Counts, Rose, Store}
+use Rattle.fri_outside.specs.Outside.{Counts, Rose, Folder}
 use Rattle.fri_outside.specs.Several.{with_files}
 use Rattle.fri_outside.specs.declared.files.WriteError.{WriteError}
 use Rattle.fri_outside.specs.declared.files.WriteError.TheVariants as writing
@@ -72,27 +72,27 @@ pub record IsSummary (group : Group) (done : Progress) (summary : Summary) : Typ
 -- ---- the answers
 
 -- the whole run was recorded, and the images that were asked for were written
-pub record IsDone (asked : Bool) (group : Group) (done : Progress) (said : Summary) (before after : Option Store) : Type 0 where
+pub record IsDone (asked : Bool) (group : Group) (done : Progress) (said : Summary) (before after : Option Folder) : Type 0 where
   pub room : done.full ≡ None
   pub summary : IsSummary group done said
   pub files : after ≡ with_files (logs group done.steps ++ images_of asked group done) before
 
 -- the run was recorded up to an event of this item for which a log had no room
-pub record IsFull (group : Group) (done : Progress) (item : ℕ) (before after : Option Store) : Type 0 where
+pub record IsFull (group : Group) (done : Progress) (item : ℕ) (before after : Option Folder) : Type 0 where
   pub full : done.full ≡ Some item
   pub files : after ≡ with_files (logs group done.steps) before
 
 -- the recording of this run was stopped
-abbrev pub StoppedIn : Bool → Group → Progress → Option Store → Option Store → Type 0
+abbrev pub StoppedIn : Bool → Group → Progress → Option Folder → Option Folder → Type 0
 StoppedIn asked group done before after = IsStopped group done.steps (images_of asked group done) before after
 
 -- the recording of a group whose first states are these was stopped
-abbrev pub StoppedWhere : Schedule → Bool → Result (List State) ℕ → Option Store → Option Store → Type 0
+abbrev pub StoppedWhere : Schedule → Bool → Result (List State) ℕ → Option Folder → Option Folder → Type 0
 StoppedWhere schedule asked (Err p) before after = after ≡ before
 StoppedWhere schedule asked (Ok first) before after = StoppedIn asked (group_of schedule first) (run (group_of schedule first) schedule.items) before after
 
 -- what a recording answers, with images or without, and how it leaves the files
-abbrev pub RecordAnswers : Schedule → Bool → Result (List State) ℕ → Result Summary RecordError → Option Store → Option Store → Type 0
+abbrev pub RecordAnswers : Schedule → Bool → Result (List State) ℕ → Result Summary RecordError → Option Folder → Option Folder → Type 0
 RecordAnswers schedule asked begun (Ok summary) before after =
     (first : List State) × (begun ≡ Ok first) × IsDone asked (group_of schedule first) (run (group_of schedule first) schedule.items) summary before after
 RecordAnswers schedule asked begun (Err (errors.BadSegment p)) before after = (begun ≡ Err p) × (after ≡ before)

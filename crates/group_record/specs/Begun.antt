@@ -1,7 +1,7 @@
 -- How the recording of a group begins.
 use Rattle.std.specs.Prelude.{◌≡◌, ◌≢◌, ℕ, Bool, replicate, List, [], length, AllPairs, Option, Some, Result, Ok, Err, slice_get, string_bytes, ⊤}
 use Rattle.std.specs.List.{slice_index_or}
-use Rattle.fri_outside.specs.Outside.{Store}
+use Rattle.fri_outside.specs.Outside.{Folder}
 use Rattle.fri_outside.specs.Several.{with_files}
 use Rattle.call_log.specs.Head.{head_bytes}
 use Rattle.schedule_text.specs.Schedule.{Schedule}
@@ -53,7 +53,7 @@ pub record HaveHeads (group : Group) (members : List Member) : Type 0 where
   pub heads : (p : ℕ) (m : Member) → slice_get members p ≡ Some m → m.head.items ≡ head_bytes (head_of_log group p)
 
 -- the files were to have these bytes, or why they don't
-abbrev pub MakeAll : Group → (ℕ → List ℕ) → Result ⊤ RecordError → Option Store → Option Store → Type 0
+abbrev pub MakeAll : Group → (ℕ → List ℕ) → Result ⊤ RecordError → Option Folder → Option Folder → Type 0
 MakeAll group bytes (Ok _) before after = after ≡ with_files (files_of group bytes) before
 MakeAll group bytes (Err (errors.BadSegment p)) before after = ⊥
 MakeAll group bytes (Err (errors.LogFull item)) before after = ⊥
@@ -67,28 +67,28 @@ abbrev pub heads : Group → ℕ → List ℕ
 heads group p = head_bytes (head_of_log group p)
 
 -- files with no bytes were to be made
-abbrev pub CreatesLogs : List Member → Result ⊤ RecordError → Option Store → Option Store → Type 0
+abbrev pub CreatesLogs : List Member → Result ⊤ RecordError → Option Folder → Option Folder → Type 0
 CreatesLogs members result before after = (group : Group) → HaveHeads group members → MakeAll group no_bytes result before after
 
 -- where they are there, the heads were to be written
-abbrev pub WritesHeads : List Member → Result ⊤ RecordError → Option Store → Option Store → Type 0
+abbrev pub WritesHeads : List Member → Result ⊤ RecordError → Option Folder → Option Folder → Type 0
 WritesHeads members result old new =
-    (group : Group) (before : Option Store) → HaveHeads group members → old ≡ with_files (files_of group no_bytes) before
+    (group : Group) (before : Option Folder) → HaveHeads group members → old ≡ with_files (files_of group no_bytes) before
     → MakeAll group (heads group) result before new
 
 -- both were to be done
-abbrev pub BeginsLogs : List Member → Result ⊤ RecordError → Option Store → Option Store → Type 0
+abbrev pub BeginsLogs : List Member → Result ⊤ RecordError → Option Folder → Option Folder → Type 0
 BeginsLogs members result before after = (group : Group) → HaveHeads group members → MakeAll group (heads group) result before after
 
 -- ---- the whole beginning
 
 -- the beginning of a group whose first states are these was stopped
-abbrev pub StopsAtHead : Schedule → Result (List State) ℕ → Option Store → Option Store → Type 0
+abbrev pub StopsAtHead : Schedule → Result (List State) ℕ → Option Folder → Option Folder → Type 0
 StopsAtHead schedule (Err p) before after = after ≡ before
 StopsAtHead schedule (Ok first) before after = IsStopped (group_of schedule first) [] [] before after
 
 -- the group has begun, or why it has not
-abbrev pub GroupBegins : Schedule → Result (List State) ℕ → Result Recorder RecordError → Option Store → Option Store → Type 0
+abbrev pub GroupBegins : Schedule → Result (List State) ℕ → Result Recorder RecordError → Option Folder → Option Folder → Type 0
 GroupBegins schedule begun (Ok recorder) before after = (first : List State) × (begun ≡ Ok first)
     × KeepsUp (group_of schedule first) nothing_yet recorder × FilesOf (group_of schedule first) nothing_yet before after
 GroupBegins schedule begun (Err (errors.BadSegment p)) before after = (begun ≡ Err p) × (after ≡ before)

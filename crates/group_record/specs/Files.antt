@@ -1,6 +1,6 @@
 -- How the files stand where a recording was stopped.
 use Rattle.std.specs.Prelude.{◌≡◌, ℕ, List, ◌∷◌, ◌++◌, take, Option}
-use Rattle.fri_outside.specs.Outside.{Store}
+use Rattle.fri_outside.specs.Outside.{Folder}
 use Rattle.fri_outside.specs.Several.{grown, with_files}
 use Rattle.call_log.specs.Entry.{encoding}
 use Rattle.call_log.specs.Head.{head_bytes}
@@ -17,7 +17,7 @@ heads_cut group cut p = take (cut p) (head_bytes (head_of_log group p))
 -- logs are there, each with a first part of its head; or all logs are those of the steps up to that moment,
 -- and behind the log of the process of the next event there may be a first part of that event's entry; or the
 -- logs are those of all steps, and the first of the images are there, and of the next one a first part
-pub data IsStopped (group : Group) (steps : List Step) (images : List (List ℕ × List ℕ)) (before after : Option Store) : Type 0 where
+pub data IsStopped (group : Group) (steps : List Step) (images : List (List ℕ × List ℕ)) (before after : Option Folder) : Type 0 where
   InHeads : (many : ℕ) → (cut : ℕ → ℕ) → after ≡ with_files (take many (files_of group (heads_cut group cut))) before
       → IsStopped group steps images before after
   Between : (early : List Step) → IsMoment early steps → after ≡ with_files (logs group early) before → IsStopped group steps images before after

@@ -1,6 +1,6 @@
 -- The images of a group's processes: what each has in its memory, and what it printed.
 use Rattle.std.specs.Prelude.{◌≡◌, ◌⊎◌, ℕ, suc, Bool, ◌&&◌, is_none, List, [], ◌∷◌, ◌++◌, codes, drop, map, take, Option, Some, None, if◌then◌else◌}
-use Rattle.fri_outside.specs.Outside.{Store}
+use Rattle.fri_outside.specs.Outside.{Folder}
 use Rattle.fri_outside.specs.Several.{with_files}
 use Rattle.lib_calls.specs.Traffic.{prints}
 use Rattle.guest_process.specs.State.{State}
@@ -46,5 +46,5 @@ abbrev pub made_in_part : List (List ℕ × List ℕ) → ℕ → ℕ → List (
 made_in_part files n m = take n files ++ map (λ file. (file.0, take m file.1)) (take 1 (drop n files))
 
 -- none of these files was begun, or such a part of them was made
-abbrev pub AreMadeInPart : List (List ℕ × List ℕ) → Option Store → Option Store → Type 0
+abbrev pub AreMadeInPart : List (List ℕ × List ℕ) → Option Folder → Option Folder → Type 0
 AreMadeInPart files before after = (after ≡ before) ⊎ ((n m : ℕ) × (after ≡ with_files (made_in_part files n m) before))

@@ -1,6 +1,6 @@
 -- What a process with its log does by itself.
 use Rattle.std.specs.Prelude.{◌≡◌, ◌⊎◌, ⊤, ℕ, ◌+◌, ◌<◌, ◌≤◌, ◌^◌, List, length, take, Option, Some, None, option_map, Result, Ok, Err, string_bytes}
-use Rattle.fri_outside.specs.Outside.{Store, with_piece}
+use Rattle.fri_outside.specs.Outside.{Folder, with_piece}
 use Rattle.lib_calls.specs.declared.entry.Entry.{Entry}
 use Rattle.call_log.specs.Entry.{encoding}
 use Rattle.call_log.specs.Head.{head_bytes}
@@ -43,7 +43,7 @@ abbrev pub kept : Member → Entry → Member
 kept m e = record m { size = m.size + length (encoding e); process = option_map (λ S. next S e) m.process }
 
 -- behind a file there may be a first part of these bytes
-abbrev pub IsCut : List ℕ → List ℕ → Option Store → Option Store → Type 0
+abbrev pub IsCut : List ℕ → List ℕ → Option Folder → Option Folder → Type 0
 IsCut name bytes before after = (after ≡ before) ⊎ ((n : ℕ) × (after ≡ with_piece name (take n bytes) before))
 
 -- the log has room for these bytes
@@ -51,7 +51,7 @@ abbrev pub LogHasRoom : Member → List ℕ → Type 0
 LogHasRoom m bytes = m.size + length bytes ≤ most_log
 
 -- these bytes were written behind the log, in the item with this number, or why they were not
-abbrev pub Writes : Member → ℕ → List ℕ → Result ⊤ RecordError → Option Store → Option Store → Type 0
+abbrev pub Writes : Member → ℕ → List ℕ → Result ⊤ RecordError → Option Folder → Option Folder → Type 0
 Writes m number bytes (Ok _) before after = LogHasRoom m bytes × (after ≡ with_piece (string_bytes m.log) bytes before)
 Writes m number bytes (Err (errors.BadSegment p)) before after = ⊥
 Writes m number bytes (Err (errors.LogFull item)) before after = (item ≡ number) × (most_log < m.size + length bytes) × (after ≡ before)

@@ -1,7 +1,7 @@
 -- What a recorder has done so far, and what it says of what it does next.
 use Rattle.std.specs.Prelude.{◌≡◌, ◌≢◌, ℕ, ◌+◌, ◌++◌, ◌<◌, ◌≤◌, ◌^◌, [], ⊤, Bool, true, false, ◌&&◌, not, is_some, option_and_then, if◌then◌else◌, IsTrue, All, AllPairs, List, length, map, Option, Some, None, Result, Ok, Err, slice_get, slice_set, string_bytes}
 use Rattle.std.specs.List.{slice_index_or}
-use Rattle.fri_outside.specs.Outside.{Store}
+use Rattle.fri_outside.specs.Outside.{Folder}
 use Rattle.fri_outside.specs.Several.{with_files}
 use Rattle.lib_calls.specs.declared.entry.Entry.{Entry}
 use Rattle.lib_calls.specs.Traffic.{drawn, is_taken, printed, prints}
@@ -34,8 +34,8 @@ use Rattle.group_record.specs.Answer.{IsSummary}
 -- ---- the counts
 
 -- how many tries and items a recorder has counted
-abbrev pub counted : Recorder → ℕ
-counted r = r.acted + r.idle
+abbrev pub total_count : Recorder → ℕ
+total_count r = r.acted + r.idle
 
 -- how many it counts of an item: each try of a run, and one of any other
 abbrev pub counted_of : Item → ℕ
@@ -44,7 +44,7 @@ counted_of _ = 1
 
 -- its counts have room for so many more
 abbrev pub HasCountsFor : ℕ → Recorder → Type 0
-HasCountsFor n r = counted r + n < 2 ^ 64
+HasCountsFor n r = total_count r + n < 2 ^ 64
 
 -- ---- one event
 
@@ -135,19 +135,19 @@ pub record KeepsUp (group : Group) (done : Progress) (recorder : Recorder) : Typ
   pub idle : recorder.idle ≡ done.idle
 
 -- the files are those of these steps
-abbrev pub FilesOf : Group → Progress → Option Store → Option Store → Type 0
+abbrev pub FilesOf : Group → Progress → Option Folder → Option Folder → Type 0
 FilesOf group done before after = after ≡ with_files (logs group done.steps) before
 
 -- a recorder has come as far as some run, and so have the files
-pub record UnderWay (recorder : Recorder) (told : Option Store) : Type 0 where
+pub record UnderWay (recorder : Recorder) (told : Option Folder) : Type 0 where
   pub group : Group
   pub done : Progress
-  pub before : Option Store
+  pub before : Option Folder
   pub keeps : KeepsUp group done recorder
   pub files : FilesOf group done before told
 
 -- a recorder that was to come as far as this has done so, or why not
-abbrev pub Comes : Group → Progress → Result ⊤ RecordError → Recorder → Option Store → Option Store → Type 0
+abbrev pub Comes : Group → Progress → Result ⊤ RecordError → Recorder → Option Folder → Option Folder → Type 0
 Comes group next (Ok _) recorder before after = KeepsUp group next recorder × FilesOf group next before after
 Comes group next (Err (errors.BadSegment p)) recorder before after = ⊥
 Comes group next (Err (errors.LogFull item)) recorder before after = (next.full ≡ Some item) × FilesOf group next before after
@@ -155,9 +155,9 @@ Comes group next (Err errors.WriteFault) recorder before after = IsStopped group
 Comes group next (Err errors.NoMemory) recorder before after = IsStopped group next.steps [] before after
 
 -- wherever the recorder stood, it is to come as far as what comes next there
-abbrev pub Does : (Group → Progress → Progress) → Recorder → Result ⊤ RecordError → Recorder → Option Store → Option Store → Type 0
+abbrev pub Does : (Group → Progress → Progress) → Recorder → Result ⊤ RecordError → Recorder → Option Folder → Option Folder → Type 0
 Does next old result new told now =
-    (group : Group) (done : Progress) (before : Option Store) → KeepsUp group done old → FilesOf group done before told
+    (group : Group) (done : Progress) (before : Option Folder) → KeepsUp group done old → FilesOf group done before told
     → Comes group (next group done) result new before now
 
 -- for how many of so many processes it keeps what they print: for all where images are asked for, else for none
@@ -167,7 +167,7 @@ kept_for asked count = if asked then count else 0
 -- ---- the images
 
 -- files were to be made, or why they were not
-abbrev pub MakesFiles : List (List ℕ × List ℕ) → Result ⊤ RecordError → Option Store → Option Store → Type 0
+abbrev pub MakesFiles : List (List ℕ × List ℕ) → Result ⊤ RecordError → Option Folder → Option Folder → Type 0
 MakesFiles files (Ok _) before after = after ≡ with_files files before
 MakesFiles files (Err (errors.BadSegment p)) before after = ⊥
 MakesFiles files (Err (errors.LogFull item)) before after = ⊥
@@ -175,7 +175,7 @@ MakesFiles files (Err errors.WriteFault) before after = AreMadeInPart files befo
 MakesFiles files (Err errors.NoMemory) before after = AreMadeInPart files before after
 
 -- the images of the group up to where the recorder stands were to be made, if they were asked for
-abbrev pub MakesImages : Bool → List ProcessLine → Recorder → Result ⊤ RecordError → Option Store → Option Store → Type 0
+abbrev pub MakesImages : Bool → List ProcessLine → Recorder → Result ⊤ RecordError → Option Folder → Option Folder → Type 0
 MakesImages asked lines recorder result before after =
     (group : Group) (done : Progress) → KeepsUp group done recorder → group.names ≡ map (λ line. line.name) lines
     → MakesFiles (images_of asked group done) result before after

@@ -40,7 +40,7 @@ history steps = map act_of steps
 
 -- the entries of a process's events, in their order
 abbrev pub entries : List Step → ℕ → List Entry
-entries steps p = world.entries (history steps) p
+entries steps p = world.process_entries (history steps) p
 
 -- the states after them
 abbrev pub process_states : List Step → ℕ → List State

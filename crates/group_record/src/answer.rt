@@ -3,7 +3,7 @@ ghost use Rattle.std.specs.Prelude.{◌≡◌, ◌<◌, IfOk, option_map, IfSome
 ghost use Rattle.call_table.specs.Table.{kind_numbered};
 ghost use Rattle.guest_process.specs.Answers.{replies};
 ghost use Rattle.guest_process.specs.Live.{cut_datagram};
-ghost use Rattle.group_world.specs.World.{size, surroundings_of};
+ghost use Rattle.group_world.specs.World.{process_count, surroundings_of};
 ghost use Rattle.group_record.specs.Around.{answer_by, drawn_of, env_of, seen, waking_at, world_answer};
 
 use fri_bytes::Bytes;
@@ -51,8 +51,8 @@ pub(crate) fn answer_now(
     world: &World,
     p: u32,
 ) -> Result<Option<Answer>, AllocError>
-    requires { p < size world.now }
-    ensures { IfOk result (λ found. found ≡ answer_by need call.now (size world.now) (env_of world.now p)) }
+    requires { p < process_count world.now }
+    ensures { IfOk result (λ found. found ≡ answer_by need call.now (process_count world.now) (env_of world.now p)) }
 {
     match need {
         Need::Fixed(reply) => Ok(Some(Answer::plain(alloc, reply))),
@@ -68,8 +68,8 @@ fn from_world(
     world: &World,
     p: u32,
 ) -> Result<Option<Answer>, AllocError>
-    requires { p < size world.now }
-    ensures { IfOk result (λ found. found ≡ world_answer (kind_numbered call.now.kind) call.now (size world.now) (env_of world.now p)) }
+    requires { p < process_count world.now }
+    ensures { IfOk result (λ found. found ≡ world_answer (kind_numbered call.now.kind) call.now (process_count world.now) (env_of world.now p)) }
 {
     match Kind::from_number(call.kind) {
         Some(Kind::Now) => Ok(Some(Answer::plain(alloc, world.time(p)))),

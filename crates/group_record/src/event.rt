@@ -1,6 +1,6 @@
 // The event of a try, as its entry tells it.
 ghost use Rattle.std.specs.Prelude.{◌≡◌, ◌<◌, ◌^◌, IfOk};
-ghost use Rattle.group_world.specs.World.{size};
+ghost use Rattle.group_world.specs.World.{process_count};
 ghost use Rattle.group_record.specs.Around.{env_of};
 ghost use Rattle.group_record.specs.Recorded.{IsEntryOf};
 
@@ -20,8 +20,8 @@ pub(crate) fn live_entry(
     world: &World,
     p: u32,
 ) -> Result<Option<Entry>, AllocError>
-    requires process { p < size world.now }
-    requires group { process.now.count ≡ size world.now }
+    requires process { p < process_count world.now }
+    requires group { process.now.count ≡ process_count world.now }
     requires few { process.now.events < 2 ^ 61 }
     ensures { IfOk result (IsEntryOf process.now thread (env_of world.now p)) }
 {

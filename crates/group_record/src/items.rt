@@ -2,7 +2,7 @@
 ghost use Rattle.std.specs.Prelude.{◌≡◌, ◌<◌, ◌&&◌, not, IfOk, OnOk, length, if◌then◌else◌};
 ghost use Rattle.schedule_text.specs.Schedule.{IsInRange};
 ghost use Rattle.group_world.specs.History.{Kill};
-ghost use Rattle.group_world.specs.World.{size, surroundings_of, with_act};
+ghost use Rattle.group_world.specs.World.{process_count, surroundings_of, with_act};
 ghost use Rattle.group_record.specs.Run.{is_running_process};
 ghost use Rattle.group_record.specs.Recorded.{acts, after_act, is_spared};
 
@@ -18,7 +18,7 @@ pub(crate) fn act(
     members: &[Member<'_>],
     world: &mut World,
 ) -> Result<bool, AllocError>
-    requires around { size world.old ≡ length members.now }
+    requires around { process_count world.old ≡ length members.now }
     requires in_range { IsInRange (length members.now) item.now }
     ensures acts { IfOk result (λ acted. acted ≡ acts members.now world.old item.now) }
     ensures world { OnOk result (world.new ≡ after_act members.now world.old item.now) }
@@ -48,7 +48,7 @@ pub(crate) fn act(
 
 // Kills process p, where it runs and was not killed.
 fn kill(p: u32, members: &[Member<'_>], world: &mut World) -> bool
-    requires around { p < size world.old }
+    requires around { p < process_count world.old }
     requires process { p < length members.now }
     ensures acts { result ≡ is_spared members.now world.old p }
     ensures world { world.new ≡ (if is_spared members.now world.old p then with_act world.old (Kill p) else world.old) }

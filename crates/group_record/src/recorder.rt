@@ -6,10 +6,10 @@ ghost use Rattle.lib_calls.specs.Entry.{IsShaped};
 ghost use Rattle.lib_calls.specs.Traffic.{drawn as drawn_of, is_taken as is_taken_of};
 ghost use Rattle.lossy_net.specs.Network.{mailbox_of};
 ghost use Rattle.schedule_text.specs.Schedule.{IsInRange};
-ghost use Rattle.group_world.specs.World.{size, surroundings_of};
+ghost use Rattle.group_world.specs.World.{process_count, surroundings_of};
 ghost use Rattle.group_record.specs.declared.member.Member.{Member as MemberOf};
 ghost use Rattle.group_record.specs.Run.{after_item, after_items, attempt, attempts};
-ghost use Rattle.group_record.specs.Recorded.{Does, HasCountsFor, Kept, UnderWay, acted_on, acts, after_act, counted, counted_of};
+ghost use Rattle.group_record.specs.Recorded.{Does, HasCountsFor, Kept, UnderWay, acted_on, acts, after_act, total_count, counted_of};
 ghost use Rattle.group_record.specs.Members.{CanKeep, Writes};
 ghost use Rattle.group_record.specs.Answer.{HasWriteCause};
 
@@ -71,7 +71,7 @@ impl<'m> Recorder<'m> {
         requires in_range { IsInRange (length self.old.members.items) item.now }
         requires few { HasCountsFor (counted_of item.now) self.old }
         ensures comes { Does (λ group. after_item group number item.now) self.old result self.new (F.told files.old) (F.told files.new) }
-        ensures counted { OnOk result (counted self.new ≡ counted self.old + counted_of item.now) }
+        ensures counted { OnOk result (total_count self.new ≡ total_count self.old + counted_of item.now) }
         ensures prints { OnOk result (length self.new.prints ≡ length self.old.prints) }
         ensures counts { NoneFell (F.counts files.old) (F.counts files.new) }
         ensures cause { HasWriteCause (F.counts files.old) (F.counts files.new) result }
@@ -100,7 +100,7 @@ impl<'m> Recorder<'m> {
         requires process { p < length self.old.members.items }
         requires few { HasCountsFor times self.old }
         ensures comes { Does (λ group. attempts group number p thread times) self.old result self.new (F.told files.old) (F.told files.new) }
-        ensures counted { OnOk result (counted self.new ≡ counted self.old + times) }
+        ensures counted { OnOk result (total_count self.new ≡ total_count self.old + times) }
         ensures prints { OnOk result (length self.new.prints ≡ length self.old.prints) }
         ensures counts { NoneFell (F.counts files.old) (F.counts files.new) }
         ensures cause { HasWriteCause (F.counts files.old) (F.counts files.new) result }
@@ -123,7 +123,7 @@ impl<'m> Recorder<'m> {
         requires process { p < length self.old.members.items }
         requires few { HasCountsFor 1 self.old }
         ensures comes { Does (λ group. attempt group number p thread) self.old result self.new (F.told files.old) (F.told files.new) }
-        ensures counted { OnOk result (counted self.new ≡ counted self.old + 1) }
+        ensures counted { OnOk result (total_count self.new ≡ total_count self.old + 1) }
         ensures prints { OnOk result (length self.new.prints ≡ length self.old.prints) }
         ensures counts { NoneFell (F.counts files.old) (F.counts files.new) }
         ensures cause { HasWriteCause (F.counts files.old) (F.counts files.new) result }
@@ -151,7 +151,7 @@ impl<'m> Recorder<'m> {
         files: &mut F,
     ) -> Result<(), RecordError>
         requires process { p < length self.old.members.items }
-        requires around { p < size self.old.world }
+        requires around { p < process_count self.old.world }
         requires shape { IsShaped entry.now }
         requires event { (m : MemberOf) → slice_get self.old.members.items p ≡ Some m → CanKeep m entry.now }
         requires datagram { IsTrue (is_taken_of entry.now) → 1 ≤ length (mailbox_of self.old.world.net p) }
@@ -174,7 +174,7 @@ impl<'m> Recorder<'m> {
 
     // Does an item that is not `run`.
     fn act(&mut self, item: &Item) -> Result<(), AllocError>
-        requires around { size self.old.world ≡ length self.old.members.items }
+        requires around { process_count self.old.world ≡ length self.old.members.items }
         requires in_range { IsInRange (length self.old.members.items) item.now }
         requires few { HasCountsFor 1 self.old }
         ensures { OnOk result (self.new ≡ acted_on (acts self.old.members.items self.old.world item.now)

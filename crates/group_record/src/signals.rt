@@ -3,7 +3,7 @@ ghost use Rattle.std.specs.Prelude.{◌≡◌, ◌<◌, ◌≤◌};
 ghost use Rattle.call_table.specs.Table.{kind_numbered};
 ghost use Rattle.lib_calls.specs.Answer.{Answer};
 ghost use Rattle.guest_process.specs.Live.{lowest};
-ghost use Rattle.group_world.specs.World.{has_pending, size};
+ghost use Rattle.group_world.specs.World.{has_pending, process_count};
 ghost use Rattle.group_record.specs.Around.{is_ready as is_ready_of, kind_ends_process, signal_with};
 
 use group_world::World;
@@ -19,7 +19,7 @@ pub(crate) fn signal_after(
     world: &World,
     p: u32,
 ) -> u8
-    requires { p < size world.now }
+    requires { p < process_count world.now }
     ensures { (a : Answer) → result ≡ signal_with process.now thread a (kind_numbered call.now.kind) (has_pending world.now p) }
 {
     if ends_process(call) {
@@ -37,7 +37,7 @@ fn ends_process(call: &Call) -> bool
 
 // The lowest signal that is pending and has a handler after the answer, or 0. At most events none is pending.
 fn lowest_ready(process: &Process<'_>, thread: u16, world: &World, p: u32) -> u8
-    requires { p < size world.now }
+    requires { p < process_count world.now }
     ensures { (a : Answer) → result ≡ lowest (is_ready_of process.now thread a (has_pending world.now p)) 31 1 }
 {
     if world.has_no_signal(p) {
@@ -53,7 +53,7 @@ fn lowest_ready(process: &Process<'_>, thread: u16, world: &World, p: u32) -> u8
 
 // Whether the signal is pending and has a handler after the answer.
 fn is_ready(process: &Process<'_>, thread: u16, world: &World, p: u32, s: u8) -> bool
-    requires process { p < size world.now }
+    requires process { p < process_count world.now }
     requires first { 1 ≤ s }
     requires last { s ≤ 31 }
     ensures { (a : Answer) → result ≡ is_ready_of process.now thread a (has_pending world.now p) s }

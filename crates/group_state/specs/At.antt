@@ -13,11 +13,11 @@ abbrev pub parts_from : ℕ → List Replaying → List (NodeEvent Entry) → Li
 parts_from node [] es = []
 parts_from node (r ∷ rs) es = turns r (node_event_count node es) ∷ parts_from (suc node) rs es
 
-abbrev pub place_of : Inside → Place
-place_of g = record { start = g.first.items; at = g.at }
+abbrev pub place_of_group : Inside → Place
+place_of_group g = record { start = g.first.items; at = g.at }
 
 -- the parts had the turns of the events before the position, and the heads are theirs
-pub record IsSound (g : Inside) : Type 0 where
+pub record IsSoundGroup (g : Inside) : Type 0 where
   pub parts : AreParts g.first.items
   pub fits : PartsFit g.first.items
   pub stand : g.parts.items ≡ parts_from 0 g.first.items (take g.at (events g.first.items))

@@ -26,16 +26,16 @@ pub struct Group<'m, 'a> {
 impl<'m, 'a> Model for Group<'m, 'a> {
     ghost use Rattle.std.specs.Coded.{codes};
     ghost use Rattle.guest_process.specs.Coding.{crew_code, trees_code};
-    ghost use Rattle.group_state.specs.At.{IsSound, place_of};
+    ghost use Rattle.group_state.specs.At.{IsSoundGroup, place_of_group};
     ghost use Rattle.group_state.specs.Place.{Place};
 
     ghost Value = { Place };
 
     ghost coded = { Prim.hlevel (codes, trees_code, crew_code) };
 
-    ghost view = { place_of };
+    ghost view = { place_of_group };
 
-    ghost invariant = { IsSound };
+    ghost invariant = { IsSoundGroup };
 }
 
 impl<'m, 'a> Group<'m, 'a> {

@@ -8,7 +8,7 @@ use Rattle.lib_calls.specs.Traffic.{drawn, is_sent, is_taken}
 use Rattle.lossy_net.specs.Network.{Traffic, no_traffic, nth_of, sent_by, traffic_of, with_delivered}
 use Rattle.group_world.specs.History.{Act, Event, Deliver, Inject, Clock, Random, Signal, Kill, History, addressed, given, is_killed, is_pending, mailbox, nth, one_if, pool, put_last_if, sends, supplied, taken_count, time, used_count}
 use Rattle.group_world.specs.Laws.{CanBe, CanFollow, Counting, IsCounted, sent_as}
-use Rattle.group_world.specs.World.{Surroundings, World, after_entry, has_pending, is_signal, new_world, no_surroundings, sent_if, size, surroundings_of, took_if, with_act, without_signal, world_after}
+use Rattle.group_world.specs.World.{Surroundings, World, after_entry, has_pending, is_signal, new_world, no_surroundings, sent_if, process_count, surroundings_of, took_if, with_act, without_signal, world_after}
 use Rattle.group_world.proofs.Lists.{put_last_is}
 use Rattle.group_world.proofs.NetLaws.{length-sent_if, length-took_if, length-with_delivered, nth_of-map, traffic_of-delivered, traffic_of-event, traffic_of-new, traffic_of-waiting}
 
@@ -16,7 +16,7 @@ use Rattle.group_world.proofs.NetLaws.{length-sent_if, length-took_if, length-wi
 
 length-after : (w : World) (a : Act) → length (with_act w a).net ≡ length w.net
 length-after w (Event p e) =
-    length-sent_if (took_if (is_taken e) w.net p) p e (is_sent (size w) e) ∙ length-took_if w.net p (is_taken e)
+    length-sent_if (took_if (is_taken e) w.net p) p e (is_sent (process_count w) e) ∙ length-took_if w.net p (is_taken e)
 length-after w (Deliver p n) = length-with_delivered w.net (nth_of (sent_by w.net p) n)
 length-after w (Inject p bytes) = length-set w.net p _
 length-after w (Clock p value) = refl

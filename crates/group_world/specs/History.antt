@@ -25,10 +25,10 @@ put_last_if true xs x = xs ++ x ∷ []
 put_last_if false xs x = xs
 
 -- the entries of a process's events, in their order
-abbrev pub entries : History → ℕ → List Entry
-entries [] p = []
-entries (Event q e ∷ h) p = put_last_if (q == p) (entries h p) e
-entries (_ ∷ h) p = entries h p
+abbrev pub process_entries : History → ℕ → List Entry
+process_entries [] p = []
+process_entries (Event q e ∷ h) p = put_last_if (q == p) (process_entries h p) e
+process_entries (_ ∷ h) p = process_entries h p
 
 -- ---- datagrams
 
@@ -103,10 +103,10 @@ time (_ ∷ h) p = time h p
 -- whether a signal is pending at a process: it came after the last event of the process that delivered it, or
 -- came at all where there is no such event
 abbrev pub is_pending : History → ℕ → ℕ → Bool
-is_pending [] p s = false
-is_pending (Signal q n ∷ h) p s = if (q == p) && (n == s) then true else is_pending h p s
-is_pending (Event q e ∷ h) p s = if (q == p) && (e.signal == s) then false else is_pending h p s
-is_pending (_ ∷ h) p s = is_pending h p s
+is_pending [] p signal = false
+is_pending (Signal q n ∷ h) p signal = if (q == p) && (n == signal) then true else is_pending h p signal
+is_pending (Event q e ∷ h) p signal = if (q == p) && (e.signal == signal) then false else is_pending h p signal
+is_pending (_ ∷ h) p signal = is_pending h p signal
 
 -- whether a process was killed
 abbrev pub is_killed : History → ℕ → Bool

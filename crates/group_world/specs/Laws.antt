@@ -21,7 +21,7 @@ CanFollow count h (Deliver p n) = p < count
 CanFollow count h (Inject p bytes) = p < count
 CanFollow count h (Clock p value) = p < count
 CanFollow count h (Random p bytes) = p < count
-CanFollow count h (Signal p s) = (p < count) × (1 ≤ s) × (s ≤ 31)
+CanFollow count h (Signal p signal) = (p < count) × (1 ≤ signal) × (signal ≤ 31)
 CanFollow count h (Kill p) = p < count
 
 -- each act is one that can follow those before it
@@ -41,7 +41,7 @@ pub record IsCounted (count : ℕ) (h : History) (w : World) (p : ℕ) : Type 0 
   pub mailbox : mailbox_of w.net p ≡ mailbox count h p
   pub pool : (surroundings_of w p).pool ≡ pool h p
   pub time : (surroundings_of w p).time ≡ time h p
-  pub pending : (s : ℕ) → 1 ≤ s → s ≤ 31 → has_pending w p s ≡ is_pending h p s
+  pub pending : (signal : ℕ) → 1 ≤ signal → signal ≤ 31 → has_pending w p signal ≡ is_pending h p signal
   pub killed : (surroundings_of w p).killed ≡ is_killed h p
 
 -- the size of the world stays, and what is kept around each process is what is counted

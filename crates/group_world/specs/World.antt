@@ -4,7 +4,7 @@ use Rattle.std.specs.List.{slice_index_or}
 use Rattle.lib_calls.specs.declared.entry.Entry.{Entry}
 use Rattle.lib_calls.specs.Traffic.{drawn, is_sent, is_taken}
 use Rattle.lossy_net.specs.Network.{Traffic, no_traffic, nth_of, sent_by, with_delivered, with_sent, with_waiting, without_front}
-use Rattle.signal_points.specs.Signals.{is_pending, none_pending, with_pending}
+use Rattle.signal_points.specs.Signals.{is_pending_in, none_pending, with_pending}
 use Rattle.group_world.specs.History.{Act, Event, Deliver, Inject, Clock, Random, Signal, Kill, History, datagram}
 
 -- what stands around one process beside its datagrams: the random bytes that are left, the wall time as the
@@ -27,8 +27,8 @@ abbrev pub new_world : ℕ → World
 new_world count = record { net = replicate count no_traffic; surroundings = replicate count no_surroundings }
 
 -- how many processes the group has
-abbrev pub size : World → ℕ
-size w = length w.net
+abbrev pub process_count : World → ℕ
+process_count w = length w.net
 
 abbrev pub surroundings_of : World → ℕ → Surroundings
 surroundings_of w p = slice_index_or w.surroundings p no_surroundings
@@ -38,7 +38,7 @@ with_surroundings w p place = record w { surroundings = slice_set w.surroundings
 
 -- whether a signal is pending at process p
 abbrev pub has_pending : World → ℕ → ℕ → Bool
-has_pending w p s = is_pending (surroundings_of w p).pending s
+has_pending w p signal = is_pending_in (surroundings_of w p).pending signal
 
 -- ---- an event
 
@@ -53,11 +53,11 @@ drew place n = record place { pool = drop n place.pool }
 
 -- signals are numbered from 1 to 31, and another number is none
 abbrev pub is_signal : ℕ → Bool
-is_signal s = nat_le 1 s && nat_le s 31
+is_signal signal = nat_le 1 signal && nat_le signal 31
 
 -- the signal, if it is one, is pending no longer
 abbrev pub without_signal : List Bool → ℕ → List Bool
-without_signal pending s = if is_signal s then with_pending pending s false else pending
+without_signal pending signal = if is_signal signal then with_pending pending signal false else pending
 
 -- random bytes that the event took are gone, and a signal that it delivered is pending no longer
 abbrev pub after_entry : Surroundings → Entry → Surroundings
@@ -66,7 +66,7 @@ after_entry place e = record (drew place (drawn e)) { pending = without_signal p
 -- a datagram that the event took is gone, and one that it sent is kept
 abbrev pub after_event : World → ℕ → Entry → World
 after_event w p e = record {
-  net = sent_if (is_sent (size w) e) (took_if (is_taken e) w.net p) p e;
+  net = sent_if (is_sent (process_count w) e) (took_if (is_taken e) w.net p) p e;
   surroundings = slice_set w.surroundings p (after_entry (surroundings_of w p) e);
 }
 
@@ -78,7 +78,7 @@ with_act w (Deliver p n) = record w { net = with_delivered w.net (nth_of (sent_b
 with_act w (Inject p bytes) = record w { net = with_waiting w.net p bytes }
 with_act w (Clock p time) = with_surroundings w p (record (surroundings_of w p) { time = time })
 with_act w (Random p bytes) = with_surroundings w p (record (surroundings_of w p) { pool = (surroundings_of w p).pool ++ bytes })
-with_act w (Signal p s) = with_surroundings w p (record (surroundings_of w p) { pending = with_pending (surroundings_of w p).pending s true })
+with_act w (Signal p signal) = with_surroundings w p (record (surroundings_of w p) { pending = with_pending (surroundings_of w p).pending signal true })
 with_act w (Kill p) = with_surroundings w p (record (surroundings_of w p) { killed = true })
 
 -- the world of a group of `count` after these acts

@@ -2,7 +2,7 @@
 ghost use Rattle.std.specs.Prelude.{◌≡◌, ◌↔◌, ℕ, ◌++◌, ◌≤◌, length, true, false, IsTrue, OnOk, OnErr};
 ghost use Rattle.lib_calls.specs.Entry.{entry_of};
 ghost use Rattle.lib_calls.specs.Traffic.{drawn as drawn_of};
-ghost use Rattle.signal_points.specs.Signals.{is_pending as is_pending_in, with_pending};
+ghost use Rattle.signal_points.specs.Signals.{is_pending_in, with_pending};
 ghost use Rattle.group_world.specs.World.{after_entry, no_surroundings};
 
 use lib_calls::{EntryView, drawn};
@@ -63,26 +63,26 @@ impl Surroundings {
     }
 
     /// Makes the signal pending.
-    pub(crate) fn raise(&mut self, s: u8)
-        requires first { 1 ≤ s }
-        requires last { s ≤ 31 }
-        ensures { self.new ≡ record self.old { pending = with_pending self.old.pending s true } }
+    pub(crate) fn raise(&mut self, signal: u8)
+        requires first { 1 ≤ signal }
+        requires last { signal ≤ 31 }
+        ensures { self.new ≡ record self.old { pending = with_pending self.old.pending signal true } }
     {
-        self.pending.raise(s);
+        self.pending.raise(signal);
     }
 
     /// Whether the signal is pending.
-    pub(crate) fn is_pending(&self, s: u8) -> bool
-        requires first { 1 ≤ s }
-        requires last { s ≤ 31 }
-        ensures { result ≡ is_pending_in self.now.pending s }
+    pub(crate) fn is_pending(&self, signal: u8) -> bool
+        requires first { 1 ≤ signal }
+        requires last { signal ≤ 31 }
+        ensures { result ≡ is_pending_in self.now.pending signal }
     {
-        self.pending.has(s)
+        self.pending.has(signal)
     }
 
     /// Whether no signal is pending.
     pub(crate) fn has_no_signal(&self) -> bool
-        ensures { IsTrue result ↔ ((s : ℕ) → is_pending_in self.now.pending s ≡ false) }
+        ensures { IsTrue result ↔ ((signal : ℕ) → is_pending_in self.now.pending signal ≡ false) }
     {
         self.pending.is_empty()
     }

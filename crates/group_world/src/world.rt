@@ -4,7 +4,7 @@ ghost use Rattle.lib_calls.specs.Entry.{entry_of};
 ghost use Rattle.lib_calls.specs.Traffic.{drawn as drawn_of, is_sent as is_sent_of, is_taken as is_taken_of};
 ghost use Rattle.lossy_net.specs.Network.{front_of, mailbox_of, nth_of, sent_by};
 ghost use Rattle.group_world.specs.History.{Event, Deliver, Inject, Clock, Random, Signal, Kill, datagram as datagram_of};
-ghost use Rattle.group_world.specs.World.{has_pending, new_world, sent_if, size, surroundings_of, took_if, with_act};
+ghost use Rattle.group_world.specs.World.{has_pending, new_world, sent_if, process_count, surroundings_of, took_if, with_act};
 
 use crate::surroundings::Surroundings;
 use fri_bytes::Bytes;
@@ -56,7 +56,7 @@ impl World {
     /// The first datagram in the mailbox of `p`, as its tag, if it has one, and its payload; None where
     /// the mailbox is empty.
     pub fn front(&self, p: u32) -> Option<Front<'_>>
-        requires { p < size self.now }
+        requires { p < process_count self.now }
         ensures { option_map (λ front. (front.tag, front.payload.now)) result ≡ front_of self.now.net p }
     {
         self.net.front(p)
@@ -64,7 +64,7 @@ impl World {
 
     /// The random bytes that are left for `p`.
     pub fn pool(&self, p: u32) -> &[u8]
-        requires { p < size self.now }
+        requires { p < process_count self.now }
         ensures { result.now ≡ (surroundings_of self.now p).pool }
     {
         self.surroundings[p as usize].pool()
@@ -72,33 +72,33 @@ impl World {
 
     /// The wall time of `p`, as the bits of a signed number.
     pub fn time(&self, p: u32) -> u64
-        requires { p < size self.now }
+        requires { p < process_count self.now }
         ensures { result ≡ (surroundings_of self.now p).time }
     {
         self.surroundings[p as usize].time
     }
 
     /// Whether the signal is pending at `p`.
-    pub fn is_pending(&self, p: u32, s: u8) -> bool
-        requires process { p < size self.now }
-        requires first { 1 ≤ s }
-        requires last { s ≤ 31 }
-        ensures { result ≡ has_pending self.now p s }
+    pub fn is_pending(&self, p: u32, signal: u8) -> bool
+        requires process { p < process_count self.now }
+        requires first { 1 ≤ signal }
+        requires last { signal ≤ 31 }
+        ensures { result ≡ has_pending self.now p signal }
     {
-        self.surroundings[p as usize].is_pending(s)
+        self.surroundings[p as usize].is_pending(signal)
     }
 
     /// Whether no signal is pending at `p`.
     pub fn has_no_signal(&self, p: u32) -> bool
-        requires { p < size self.now }
-        ensures { IsTrue result ↔ ((s : ℕ) → has_pending self.now p s ≡ false) }
+        requires { p < process_count self.now }
+        ensures { IsTrue result ↔ ((signal : ℕ) → has_pending self.now p signal ≡ false) }
     {
         self.surroundings[p as usize].has_no_signal()
     }
 
     /// Whether `p` was killed.
     pub fn is_killed(&self, p: u32) -> bool
-        requires { p < size self.now }
+        requires { p < process_count self.now }
         ensures { result ≡ (surroundings_of self.now p).killed }
     {
         self.surroundings[p as usize].killed
@@ -107,13 +107,13 @@ impl World {
     /// An event of `p`: what it took is gone, what it sent into the group is kept, and the signal that it
     /// delivered is pending no longer.
     pub fn event(&mut self, p: u32, entry: &EntryView<'_>) -> Result<(), AllocError>
-        requires process { p < size self.old }
+        requires process { p < process_count self.old }
         requires datagram { IsTrue (is_taken_of (entry_of entry.now)) → 1 ≤ length (mailbox_of self.old.net p) }
         requires bytes { drawn_of (entry_of entry.now) ≤ length (surroundings_of self.old p).pool }
         ensures ok { OnOk result (self.new ≡ with_act self.old (Event p (entry_of entry.now))) }
         ensures err { OnErr result (self.new ≡ self.old) }
-        ensures memory { OnErr result (IsTrue (is_sent_of (size self.old) (entry_of entry.now))) }
-        ensures size { size self.new ≡ size self.old }
+        ensures memory { OnErr result (IsTrue (is_sent_of (process_count self.old) (entry_of entry.now))) }
+        ensures size { process_count self.new ≡ process_count self.old }
     {
         self.keep_sent(p, entry)?;
         self.let_go_taken(p, entry);
@@ -124,12 +124,12 @@ impl World {
     // Keeps the datagram that the event sent into the group, if it sent one.
     #[tactic(auto, using(crate::proofs::EventLaws::sent_within))]
     fn keep_sent(&mut self, p: u32, entry: &EntryView<'_>) -> Result<(), AllocError>
-        requires { p < size self.old }
+        requires { p < process_count self.old }
         ensures ok { OnOk result (self.new ≡ record self.old {
-          net = sent_if (is_sent_of (size self.old) (entry_of entry.now)) self.old.net p (entry_of entry.now);
+          net = sent_if (is_sent_of (process_count self.old) (entry_of entry.now)) self.old.net p (entry_of entry.now);
         }) }
         ensures err { OnErr result (self.new ≡ self.old) }
-        ensures memory { OnErr result (IsTrue (is_sent_of (size self.old) (entry_of entry.now))) }
+        ensures memory { OnErr result (IsTrue (is_sent_of (process_count self.old) (entry_of entry.now))) }
     {
         if !is_sent(entry, self.count) {
             return Ok(());
@@ -140,7 +140,7 @@ impl World {
 
     // Lets the datagram go that the event took, if it took one.
     fn let_go_taken(&mut self, p: u32, entry: &EntryView<'_>)
-        requires process { p < size self.old }
+        requires process { p < process_count self.old }
         requires datagram { IsTrue (is_taken_of (entry_of entry.now)) → 1 ≤ length (mailbox_of self.old.net p) }
         ensures { self.new ≡ record self.old { net = took_if (is_taken_of (entry_of entry.now)) self.old.net p } }
     {
@@ -152,22 +152,22 @@ impl World {
     /// Puts the nth datagram that `p` sent, from 1, at the end of its receiver's mailbox. False where
     /// there is no such datagram.
     pub fn deliver(&mut self, p: u32, n: u64) -> Result<bool, AllocError>
-        requires { p < size self.old }
+        requires { p < process_count self.old }
         ensures found { IfOk result (λ found. found ≡ is_some (nth_of (sent_by self.old.net p) n)) }
         ensures ok { OnOk result (self.new ≡ with_act self.old (Deliver p n)) }
         ensures err { OnErr result (self.new ≡ self.old) }
         ensures memory { OnErr result (IsTrue (is_some (nth_of (sent_by self.old.net p) n))) }
-        ensures size { size self.new ≡ size self.old }
+        ensures size { process_count self.new ≡ process_count self.old }
     {
         self.net.deliver(p, n)
     }
 
     /// Puts bytes from outside at the end of the mailbox of `p`.
     pub fn inject(&mut self, p: u32, bytes: &[u8]) -> Result<(), AllocError>
-        requires { p < size self.old }
+        requires { p < process_count self.old }
         ensures ok { OnOk result (self.new ≡ with_act self.old (Inject p bytes.now)) }
         ensures err { OnErr result (self.new ≡ self.old) }
-        ensures size { size self.new ≡ size self.old }
+        ensures size { process_count self.new ≡ process_count self.old }
     {
         let bytes = Bytes::from_slice(self.alloc, bytes)?;
         self.net.inject(p, bytes)
@@ -175,40 +175,40 @@ impl World {
 
     /// Puts random bytes behind those that are left for `p`.
     pub fn add_random(&mut self, p: u32, bytes: &[u8]) -> Result<(), AllocError>
-        requires { p < size self.old }
+        requires { p < process_count self.old }
         ensures ok { OnOk result (self.new ≡ with_act self.old (Random p bytes.now)) }
         ensures err { OnErr result (self.new ≡ self.old) }
         ensures memory { OnErr result (1 ≤ length bytes.now) }
-        ensures size { size self.new ≡ size self.old }
+        ensures size { process_count self.new ≡ process_count self.old }
     {
         self.surroundings[p as usize].add(bytes)
     }
 
     /// Sets the wall time of `p`, given as the bits of a signed number.
     pub fn set_time(&mut self, p: u32, time: u64)
-        requires { p < size self.old }
+        requires { p < process_count self.old }
         ensures value { self.new ≡ with_act self.old (Clock p time) }
-        ensures size { size self.new ≡ size self.old }
+        ensures size { process_count self.new ≡ process_count self.old }
     {
         self.surroundings[p as usize].time = time;
     }
 
     /// Makes the signal pending at `p`.
-    pub fn raise(&mut self, p: u32, s: u8)
-        requires process { p < size self.old }
-        requires first { 1 ≤ s }
-        requires last { s ≤ 31 }
-        ensures value { self.new ≡ with_act self.old (Signal p s) }
-        ensures size { size self.new ≡ size self.old }
+    pub fn raise(&mut self, p: u32, signal: u8)
+        requires process { p < process_count self.old }
+        requires first { 1 ≤ signal }
+        requires last { signal ≤ 31 }
+        ensures value { self.new ≡ with_act self.old (Signal p signal) }
+        ensures size { process_count self.new ≡ process_count self.old }
     {
-        self.surroundings[p as usize].raise(s);
+        self.surroundings[p as usize].raise(signal);
     }
 
     /// Notes that `p` was killed.
     pub fn kill(&mut self, p: u32)
-        requires { p < size self.old }
+        requires { p < process_count self.old }
         ensures value { self.new ≡ with_act self.old (Kill p) }
-        ensures size { size self.new ≡ size self.old }
+        ensures size { process_count self.new ≡ process_count self.old }
     {
         self.surroundings[p as usize].killed = true;
     }

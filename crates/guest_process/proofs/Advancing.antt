@@ -2,7 +2,7 @@
 use Rattle.std.proofs.Common.{◌≡◌, ℕ, zero, suc, true, false, cond, List, [], ◌∷◌, ◌++◌, Option, Some, None, refl, ap, sym, subst, ◌∙◌}
 use Rattle.std.specs.Prelude.{◌%◌, ◌^◌, slice_get, slice_set, option_and_then, option_map}
 use Rattle.std.specs.Int.{w32, cast_signed}
-use Rattle.coop_threads.specs.Crew.{Crew, IsTaken, live_at, status_of, value_of as value_in, with_thread as crew_with}
+use Rattle.coop_threads.specs.Crew.{Crew, IsTaken, live_at, status_of, value_of as value_in, with_slot}
 use Rattle.coop_threads.specs.declared.slot.Slot.{Slot}
 use Rattle.coop_threads.specs.declared.slot.Slot.TheVariants.{Kept, Lent, Over}
 use Rattle.coop_threads.specs.declared.status.Status.TheVariants.{Taken}
@@ -32,7 +32,7 @@ use Rattle.guest_process.specs.GoesOn.{after_running, budget, counted, finished_
 use Rattle.guest_process.specs.Kinds.{ends_process, reply_value}
 use Rattle.guest_process.specs.Legal.{reason, reason_at}
 use Rattle.guest_process.specs.Next.{next, next_at}
-use Rattle.guest_process.specs.Seen.{IsProcess, state_of}
+use Rattle.guest_process.specs.Seen.{IsOfModule, state_of}
 use Rattle.guest_process.specs.Sound.{IsSound, IsStanding}
 use Rattle.guest_process.specs.Start.{beginning}
 use Rattle.guest_process.specs.State.{State, is_running, pending_kind as kind_of, thread_at, with_thread}
@@ -63,7 +63,7 @@ live_is S e h none = by_thread (thread_at S e.thread) none (unless_none (is_runn
 pub stands_at : (S : State) (t : ℕ) (w : Waiting) → Each (IsStanding S.store.«module») S.crew.threads → thread_at S t ≡ Some w → IsStanding S.store.«module» w
 stands_at S t w f at = live_has (IsStanding S.store.«module») S.crew.threads t f w at
 
-pub is_out : (crew : Crew Waiting) (t : ℕ) (w : Waiting) → live_at crew t ≡ Some w → IsTaken (crew_with crew t Lent) t
+pub is_out : (crew : Crew Waiting) (t : ℕ) (w : Waiting) → live_at crew t ≡ Some w → IsTaken (with_slot crew t Lent) t
 is_out crew t w at = by_slots crew.threads t at
   where
     by_slots : (slots : List (Slot Waiting)) (t : ℕ) → option_and_then value_in (slice_get slots t) ≡ Some w → slice_get (slice_set slots t Lent) t ≡ Some Lent
@@ -185,7 +185,7 @@ goes S e w s legal at h =
 
 -- ---- the parts after a legal entry's event are those of a process
 
-pub process_kept : KeepsModule → (p q : Parts) (e : Entry) → IsProcess p → reason (state_of p) e ≡ None → state_of q ≡ next (state_of p) e → q.«module» ≡ p.«module» → Suits q.store → IsProcess q
+pub process_kept : KeepsModule → (p q : Parts) (e : Entry) → IsOfModule p → reason (state_of p) e ≡ None → state_of q ≡ next (state_of p) e → q.«module» ≡ p.«module» → Suits q.store → IsOfModule q
 process_kept keeps p q e is h state same_module suits = record {
   suits = suits;
   same_module = ap (λ r. module_of r.now) same_module ∙ is.same_module ∙ sym (ap (λ S. S.store.«module») state ∙ next_module keeps (state_of p) e is.sound);

@@ -8,7 +8,7 @@ use Rattle.std.proofs.lemmas.List.{length-set}
 use Rattle.call_table.specs.Table.{kind_numbered}
 use Rattle.call_table.specs.declared.kind.Kind.TheVariants.{Spawn, Lock, Unlock}
 use Rattle.coop_threads.specs.Crew.{holder_of}
-use Rattle.coop_threads.specs.Locks.{Holders, locked}
+use Rattle.coop_threads.specs.Locks.{Holders, holders_after}
 use Rattle.coop_threads.specs.declared.slot.Slot.{Slot}
 use Rattle.coop_threads.specs.declared.slot.Slot.TheVariants.{Kept, Over}
 use Rattle.lib_calls.specs.Answer.{answer_of}
@@ -132,7 +132,7 @@ lock_taken S e w m kind call free = by_test (m == narrow w.call.a0) refl
   where
     held : holder_of (with_lock S (narrow w.call.a0) e.thread).crew m ≡ cond (m == narrow w.call.a0) (Some e.thread) (holder_of S.crew m)
     held =
-        ap (λ o. map.get (locked S.crew.holders (narrow w.call.a0) e.thread o) m) free
+        ap (λ o. map.get (holders_after S.crew.holders (narrow w.call.a0) e.thread o) m) free
         ∙ get_insert S.crew.holders (narrow w.call.a0) e.thread m
 
     by_test : (b : Bool) → (m == narrow w.call.a0) ≡ b → LockAfter S e m (with_lock S (narrow w.call.a0) e.thread)

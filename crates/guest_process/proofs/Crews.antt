@@ -3,7 +3,7 @@ use Rattle.std.proofs.Common.{◌≡◌, ℕ, ◌≤◌, zero, suc, Bool, true, 
 use Rattle.std.specs.Prelude.{◌==◌, slice_get}
 use Rattle.std.proofs.lemmas.Bool.{eq-eqb, eqb-true}
 use Rattle.coop_threads.specs.Crew.{holder_of, status_of}
-use Rattle.coop_threads.specs.Locks.{grip_of, locked as holders_after}
+use Rattle.coop_threads.specs.Locks.{grip_of, holders_after}
 use Rattle.coop_threads.specs.declared.grip.Grip.TheVariants.{Already, Held}
 use Rattle.coop_threads.specs.declared.slot.Slot.{Slot}
 use Rattle.coop_threads.specs.declared.status.Status.TheVariants.{Unknown}

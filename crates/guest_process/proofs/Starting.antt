@@ -3,7 +3,7 @@ use Rattle.std.proofs.Common.{◌≡◌, ℕ, zero, suc, true, false, cond, ◌<
 use Rattle.std.specs.Prelude.{All, ◌==◌, length, replicate}
 use Rattle.std.specs.List.{list_all, slice_index_or}
 use Rattle.std.proofs.lemmas.Option.{same_Some}
-use Rattle.coop_threads.specs.Crew.{empty, with_new_thread}
+use Rattle.coop_threads.specs.Crew.{empty, with_live}
 use Rattle.wasm_types.specs.Modules.{Module, module_of}
 use Rattle.wasm_types.specs.Library.{IsOfLibrary}
 use Rattle.wasm_types.specs.Valid.{IsValid}
@@ -15,7 +15,7 @@ use Rattle.wasm_step.specs.Thread.{Thread}
 use Rattle.signal_points.specs.Signals.{handler_of, no_handlers}
 use Rattle.guest_process.specs.GoesOn.{handler}
 use Rattle.guest_process.specs.Fits.{StateFits}
-use Rattle.guest_process.specs.Seen.{IsProcess, state_of}
+use Rattle.guest_process.specs.Seen.{IsOfModule, state_of}
 use Rattle.guest_process.specs.Sound.{IsSound, IsStanding}
 use Rattle.guest_process.specs.Start.{beginning, begun, begun_with}
 use Rattle.guest_process.specs.declared.parts.Parts.{Parts}
@@ -69,13 +69,13 @@ started m who count S valid low few h = by_store (first_store m) refl (first_thr
     by_store (Some g) e (Some thread) h =
         subst (λ S. StateFits S × IsSound S) (same_Some _ _ h) (begun_holds m who count g thread low few e valid)
 
-begun_process : (p : Parts) (thread : Thread) → p.who < p.count → p.count ≤ 16 → first_store (module_of p.«module».now) ≡ Some p.store → IsValid (module_of p.«module».now) → Suits p.store → state_of p ≡ begun (module_of p.«module».now) p.who p.count p.store thread → IsProcess p
+begun_process : (p : Parts) (thread : Thread) → p.who < p.count → p.count ≤ 16 → first_store (module_of p.«module».now) ≡ Some p.store → IsValid (module_of p.«module».now) → Suits p.store → state_of p ≡ begun (module_of p.«module».now) p.who p.count p.store thread → IsOfModule p
 begun_process p thread low few store valid suits state =
     let m = module_of p.«module».now in
     let holds = begun_holds m p.who p.count p.store thread low few store valid in
     record { same_module = sym (store_module m p.store store); suits = suits; fits = subst StateFits (sym state) holds.0; sound = subst IsSound (sym state) holds.1 }
 
 -- the parts with which the code begins are those of a process
-pub is_process : (p : Parts) (thread : Thread) → p.who < p.count → p.count ≤ 16 → first_store (module_of p.«module».now) ≡ Some p.store → IsValid (module_of p.«module».now) → Suits p.store → p.crew ≡ with_new_thread empty (beginning (module_of p.«module».now) thread) → p.handlers ≡ no_handlers → p.clock ≡ 0 → p.events ≡ 0 → p.end ≡ Running → IsProcess p
+pub is_process : (p : Parts) (thread : Thread) → p.who < p.count → p.count ≤ 16 → first_store (module_of p.«module».now) ≡ Some p.store → IsValid (module_of p.«module».now) → Suits p.store → p.crew ≡ with_live empty (beginning (module_of p.«module».now) thread) → p.handlers ≡ no_handlers → p.clock ≡ 0 → p.events ≡ 0 → p.end ≡ Running → IsOfModule p
 is_process p thread low few store valid suits crew handlers clock events end =
     begun_process p thread low few store valid suits (rw (crew, handlers, clock, events, end) refl)

@@ -13,7 +13,7 @@ use Rattle.lamport_tag.specs.Tag.{next_clock_of, payload_behind, read_datagram, 
 use Rattle.lib_calls.specs.declared.entry.Call.{Call}
 use Rattle.lib_calls.specs.declared.entry.Entry.{Entry}
 use Rattle.lib_calls.specs.Answer.{Answer, answer_of}
-use Rattle.lib_calls.specs.Effects.{filled, is_good, minus_two, outgoing_of, received, takes_counted}
+use Rattle.lib_calls.specs.Effects.{with_incoming, is_good, minus_two, outgoing_of, received, takes_counted}
 use Rattle.guest_process.specs.declared.waiting.Waiting.{Waiting}
 use Rattle.guest_process.specs.Answers.{Need, Fixed, Blocked, World, after_need, effects, is_drawn, is_due, is_empty, is_payload, brings_nothing, is_possible, takes_datagram, need, replies, with_answer}
 use Rattle.guest_process.specs.GoesOn.{goes_on, handler}
@@ -84,7 +84,7 @@ drawn_is c a h =
 random_gives : (S : State) (c : Call) (a : Answer) → kind_numbered c.kind ≡ Some Random → is_good c S.store.memory ≡ true → is_drawn c a ≡ true → Some (fills S c (random_answer c a.incoming)) ≡ gives (with_answer S c a) a
 random_gives S c a e good h =
     let put = good_written Random S c a e good in
-    ap (gives (with_memory S (filled c a S.store.memory))) (drawn_is c a h) ∙ ap (λ S'. gives S' a) (sym put)
+    ap (gives (with_memory S (with_incoming c a S.store.memory))) (drawn_is c a h) ∙ ap (λ S'. gives S' a) (sym put)
 
 -- ---- datagrams
 

@@ -92,12 +92,12 @@ abbrev pub handler_named : Store → ℕ → Option (Option ℕ)
 handler_named store number = if number == removal then Some None else option_map (λ func. Some func) (handler_at store number)
 
 -- signals are numbered from 1 to 31
-abbrev pub is_signal : ℕ → Bool
-is_signal signal = nat_le 1 signal && nat_le signal 31
+abbrev pub is_signal_number : ℕ → Bool
+is_signal_number signal = nat_le 1 signal && nat_le signal 31
 
 -- the handler, or none, that a call gives a signal with this number, where there is that signal
 abbrev pub handler_given : State → ℕ → ℕ → Option (Option ℕ)
-handler_given S signal number = if is_signal signal then handler_named S.store number else None
+handler_given S signal number = if is_signal_number signal then handler_named S.store number else None
 
 abbrev pub handles : State → ℕ → Option (Option ℕ) → Need
 handles S signal None = Fixed minus_one S

@@ -7,7 +7,7 @@ use Rattle.lamport_tag.specs.Tag.{next_clock_of, read_datagram}
 use Rattle.lib_calls.specs.declared.entry.Call.{Call}
 use Rattle.lib_calls.specs.declared.entry.Entry.{Entry}
 use Rattle.lib_calls.specs.Answer.{Answer}
-use Rattle.lib_calls.specs.Effects.{filled, minus_two, outgoing_of, received}
+use Rattle.lib_calls.specs.Effects.{with_incoming, minus_two, outgoing_of, received}
 use Rattle.guest_process.specs.declared.waiting.Waiting.{Waiting}
 use Rattle.guest_process.specs.Answers.{Need, Fixed, Blocked, World, need, replies, is_due}
 use Rattle.guest_process.specs.GoesOn.{goes_on, handler}
@@ -35,7 +35,7 @@ random_answer c bytes = record { reply = c.a1; incoming = bytes; tag = None }
 
 -- what came in stands where the call named it
 abbrev pub fills : State → Call → Answer → Answered
-fills S c a = record { answer = a; after = with_memory S (filled c a S.store.memory) }
+fills S c a = record { answer = a; after = with_memory S (with_incoming c a S.store.memory) }
 
 -- the answer that takes a datagram with this tag, or none, and this payload, of which at most so many
 -- bytes come in

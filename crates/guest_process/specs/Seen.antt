@@ -26,7 +26,7 @@ state_of p = record {
 }
 
 -- what holds of each process of a valid module
-pub record IsProcess (p : Parts) : Type 0 where
+pub record IsOfModule (p : Parts) : Type 0 where
   pub same_module : module_of p.«module».now ≡ p.store.«module»
   pub suits : Suits p.store
   pub fits : StateFits (state_of p)

@@ -2,7 +2,7 @@
 use Rattle.std.specs.Prelude.{ℕ, Option, Some, None}
 use Rattle.call_table.specs.Table.{row}
 use Rattle.call_table.specs.declared.kind.Kind.TheVariants.{Begin}
-use Rattle.coop_threads.specs.Crew.{empty, with_new_thread}
+use Rattle.coop_threads.specs.Crew.{empty, with_live}
 use Rattle.lib_calls.specs.declared.entry.Call.{Call}
 use Rattle.signal_points.specs.Signals.{no_handlers}
 use Rattle.wasm_types.specs.Modules.{Module}
@@ -32,7 +32,7 @@ begun m who count store thread = record {
   who = who;
   count = count;
   store = store;
-  crew = with_new_thread empty (beginning m thread);
+  crew = with_live empty (beginning m thread);
   handlers = no_handlers;
   clock = 0;
   events = 0;

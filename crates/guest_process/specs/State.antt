@@ -1,7 +1,7 @@
 -- The state of a process.
 use Rattle.std.specs.Prelude.{ℕ, Bool, true, false, List, Option, option_map}
 use Rattle.call_table.specs.declared.kind.Kind.{Kind}
-use Rattle.coop_threads.specs.Crew.{Crew, live_at, with_lock as crew_with_lock, with_new_thread as crew_with_new, with_thread as crew_with, without_lock as crew_without_lock}
+use Rattle.coop_threads.specs.Crew.{Crew, live_at, after_lock, with_live, with_slot, after_unlock}
 use Rattle.coop_threads.specs.declared.slot.Slot.{Slot}
 use Rattle.guest_memory.specs.Memory.{Memory}
 use Rattle.wasm_step.specs.Store.{Store}
@@ -32,19 +32,19 @@ pending_kind S t = option_map (λ w. w.kind) (thread_at S t)
 
 -- thread t stands so
 abbrev pub with_thread : State → ℕ → Slot Waiting → State
-with_thread S t slot = record S { crew = crew_with S.crew t slot }
+with_thread S t slot = record S { crew = with_slot S.crew t slot }
 
 -- one more thread, which stands so
 abbrev pub with_new_thread : State → Waiting → State
-with_new_thread S w = record S { crew = crew_with_new S.crew w }
+with_new_thread S w = record S { crew = with_live S.crew w }
 
 -- thread t asked for the lock m
 abbrev pub with_lock : State → ℕ → ℕ → State
-with_lock S m t = record S { crew = crew_with_lock S.crew m t }
+with_lock S m t = record S { crew = after_lock S.crew m t }
 
 -- the lock m is free
 abbrev pub without_lock : State → ℕ → State
-without_lock S m = record S { crew = crew_without_lock S.crew m }
+without_lock S m = record S { crew = after_unlock S.crew m }
 
 -- the handlers are these
 abbrev pub with_handlers : State → List (Option ℕ) → State

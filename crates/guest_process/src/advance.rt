@@ -12,7 +12,7 @@ ghost use Rattle.guest_process.specs.Answers.{with_answer};
 ghost use Rattle.guest_process.specs.GoesOn.{after_burst, budget, handler as handler_of};
 ghost use Rattle.guest_process.specs.Legal.{reason};
 ghost use Rattle.guest_process.specs.Next.{acted_by, gone_on, next};
-ghost use Rattle.guest_process.specs.Seen.{IsProcess, state_of};
+ghost use Rattle.guest_process.specs.Seen.{IsOfModule, state_of};
 ghost use Rattle.guest_process.specs.Sound.{StandsAtKind};
 ghost use Rattle.guest_process.specs.State.{pending_kind};
 
@@ -29,7 +29,7 @@ use wasm_types::Trap;
 impl<'m> Parts<'m> {
     /// Makes the event of a legal entry.
     pub(crate) fn advance(&mut self, entry: &EntryView<'_>) -> Result<(), AllocError>
-        requires process { IsProcess self.old }
+        requires process { IsOfModule self.old }
         requires legal { reason (state_of self.old) (entry_of entry.now) ≡ None }
         requires few { self.old.events < 2 ^ 61 }
         ensures state { OnOk result (state_of self.new ≡ next (state_of self.old) (entry_of entry.now)) }

@@ -1,6 +1,6 @@
 // How calls set the handlers of signals.
 ghost use Rattle.std.specs.Prelude.{◌≡◌, IfSome, IsTrue};
-ghost use Rattle.guest_process.specs.Answers.{after_need, handled, handler_given, handler_named, is_signal};
+ghost use Rattle.guest_process.specs.Answers.{after_need, handled, handler_given, handler_named, is_signal_number};
 ghost use Rattle.guest_process.specs.Seen.{plain, state_of};
 
 use crate::need::Need;
@@ -46,7 +46,7 @@ impl<'m> Parts<'m> {
     // The handler, or none, that a call gives a signal with this number, where there is that signal.
     fn handler_given(&self, signal: u32, number: u32) -> Option<Option<u32>>
         ensures given { result ≡ handler_given (state_of self.now) signal number }
-        ensures signal { IfSome result (λ _. IsTrue (is_signal signal)) }
+        ensures signal { IfSome result (λ _. IsTrue (is_signal_number signal)) }
     {
         if 1 <= signal && signal <= 31 {
             self.handler_named(number)

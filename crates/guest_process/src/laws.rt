@@ -2,7 +2,7 @@
 ghost use Rattle.guest_process.specs.Crews.{LockKept, OnlySpawnAdds, OtherThreadsStay};
 ghost use Rattle.guest_process.specs.OneEvent.{IsKept, IsKeptSound, IsStarted, OneEvent, Possible, Rises};
 
-use lamport_tag::{cut_short, read_back};
+use lamport_tag::{cut_short, tags_read_back};
 use wasm_step::never_stuck;
 
 /// An event that the world let a process have has the shape of its kind and is legal where it comes,
@@ -11,7 +11,7 @@ pub fn one_event()
     ensures { OneEvent }
 {
     cut_short();
-    read_back();
+    tags_read_back();
 }
 
 /// A legal entry with the shape of its kind is the event of a try of its thread in some world, so that
@@ -19,7 +19,7 @@ pub fn one_event()
 pub fn possible()
     ensures { Possible }
 {
-    read_back();
+    tags_read_back();
 }
 
 /// With a legal event the clock of a process rises, also above that of the datagram that the event took,

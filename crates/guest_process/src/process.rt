@@ -41,7 +41,7 @@ impl<'m> Model for Process<'m> {
     ghost use Rattle.std.specs.Coded.{codes};
     ghost use Rattle.wasm_types.specs.Coding.{trees_code};
     ghost use Rattle.coop_threads.specs.Crew.{crew_code};
-    ghost use Rattle.guest_process.specs.Seen.{IsProcess, state_of};
+    ghost use Rattle.guest_process.specs.Seen.{IsOfModule, state_of};
     ghost use Rattle.guest_process.specs.State.{State};
 
     ghost Value = { State };
@@ -50,7 +50,7 @@ impl<'m> Model for Process<'m> {
 
     ghost view = { λ p. state_of p.parts.value };
 
-    ghost invariant = { λ p. IsProcess p.parts.value };
+    ghost invariant = { λ p. IsOfModule p.parts.value };
 }
 
 impl<'m> Process<'m> {
@@ -118,12 +118,12 @@ impl<'m> Process<'m> {
     }
 
     /// Whether a signal has a handler once the pending call of the thread is answered, however it is.
-    pub fn handles_after(&self, thread: u16, s: u8) -> bool
-        ensures { (a : Answer) → result ≡ is_some (handler_of (answered_at self.now thread a (thread_at self.now thread)).handlers s) }
+    pub fn handles_after(&self, thread: u16, signal: u8) -> bool
+        ensures { (a : Answer) → result ≡ is_some (handler_of (answered_at self.now thread a (thread_at self.now thread)).handlers signal) }
     {
         match self.parts.crew.get(thread) {
-            Some(waiting) => handler(&self.parts.handlers_after(waiting), s).is_some(),
-            None => handler(&self.parts.handlers, s).is_some(),
+            Some(waiting) => handler(&self.parts.handlers_after(waiting), signal).is_some(),
+            None => handler(&self.parts.handlers, signal).is_some(),
         }
     }
 

@@ -11,7 +11,7 @@ pub fn cut_short()
 
 /// A tag that is found is one that a process of the group can have sent, and such a tag is found again
 /// in front of what follows it.
-pub fn read_back()
+pub fn tags_read_back()
     ensures sent { IsFromGroup }
     ensures again { IsReadBack }
 {}

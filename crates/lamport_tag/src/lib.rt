@@ -7,7 +7,7 @@ ghost use Rattle.lamport_tag.specs.Tag.{IsTagged, IsUntagged, clock_of, next_clo
 mod laws;
 
 use byteorder::{ByteOrder, LittleEndian};
-pub use laws::{cut_short, read_back};
+pub use laws::{cut_short, tags_read_back};
 
 const MAGIC: [u8; 4] = [0xD7, b'L', b'O', b'G'];
 

@@ -79,8 +79,8 @@ sender_of None = 2 ^ 32 - 1
 sender_of (Some tag) = tag.sender
 
 -- the bytes that came in stand where the call named them
-abbrev pub filled : Call → Answer → Memory → Memory
-filled call a memory = with_bytes memory call.a0 a.incoming
+abbrev pub with_incoming : Call → Answer → Memory → Memory
+with_incoming call a memory = with_bytes memory call.a0 a.incoming
 
 -- these of the bytes that came in, and then these of the sender's, stand where the call named them
 abbrev pub taken : Call → List ℕ → List ℕ → Memory → Memory
@@ -92,7 +92,7 @@ received call a memory = taken call a.incoming (to_le_bytes w32 (sender_of a.tag
 
 -- the memory after the answer to a call with good arguments; an empty try_recv writes nothing
 abbrev pub put_in : Kind → Call → Answer → Memory → Memory
-put_in Random call a memory = filled call a memory
+put_in Random call a memory = with_incoming call a memory
 put_in Recv call a memory = received call a memory
 put_in TryRecv call a memory = if a.reply == minus_two then memory else received call a memory
 put_in _ call a memory = memory

@@ -3,7 +3,7 @@ ghost use Rattle.std.specs.Prelude.{◌≡◌, ◌+◌, ◌≤◌, length, OnOk,
 ghost use Rattle.guest_memory.specs.Memory.{WritesPrefix, with_bytes};
 ghost use Rattle.lib_calls.specs.Answer.{answer_of};
 ghost use Rattle.lib_calls.specs.Entry.{entry_of};
-ghost use Rattle.lib_calls.specs.Effects.{WritesPart, brings, filled, has_good, is_answer, put_in, received, sender_of as sender_number, written};
+ghost use Rattle.lib_calls.specs.Effects.{WritesPart, brings, with_incoming, has_good, is_answer, put_in, received, sender_of as sender_number, written};
 
 use crate::arguments::good_arguments;
 use crate::entry::EntryView;
@@ -56,7 +56,7 @@ fn write_answer(kind: Kind, entry: &EntryView<'_>, memory: &mut Memory) -> Resul
 // Writes the bytes that came in.
 fn put_bytes(entry: &EntryView<'_>, memory: &mut Memory) -> Result<(), AllocError>
     requires { entry.now.call.a0 + length entry.now.incoming.now ≤ length memory.old.bytes }
-    ensures ok { OnOk result (memory.new ≡ filled entry.now.call (answer_of (entry_of entry.now)) memory.old) }
+    ensures ok { OnOk result (memory.new ≡ with_incoming entry.now.call (answer_of (entry_of entry.now)) memory.old) }
     ensures err { OnErr result (WritesPart entry.now.call (answer_of (entry_of entry.now)) memory.old memory.new) }
     ensures max { memory.new.max ≡ memory.old.max }
 {

@@ -9,17 +9,17 @@ use Rattle.std.proofs.lemmas.List.{get_or-drop, length-drop}
 use Rattle.std.proofs.lemmas.List.Quantifiers.{position-Some}
 use Rattle.std.proofs.lemmas.List.Sums.{prefix_len-le-length}
 use Rattle.std.proofs.lemmas.Option.{cond_some}
-use Rattle.schedule_text.specs.Fields.{is_blank, fields_of}
+use Rattle.schedule_text.specs.Fields.{is_separator, fields_of}
 
 one_more : (k : ℕ) → 1 + k ≡ suc k
 one_more k = omega arith
 
 -- blanks in front change no field
-skip : (line : List ℕ) (n : ℕ) → n ≡ position_or_len (λ b. not (is_blank b)) line → fields_of (drop n line) ≡ fields_of line
+skip : (line : List ℕ) (n : ℕ) → n ≡ position_or_len (λ b. not (is_separator b)) line → fields_of (drop n line) ≡ fields_of line
 skip [] n e = rw e refl
 skip (b ∷ line) n e =
-    elim (cases_Bool (is_blank b)) [
-      | inl blank ↦ let k : ℕ = position_or_len (λ b. not (is_blank b)) line in
+    elim (cases_Bool (is_separator b)) [
+      | inl blank ↦ let k : ℕ = position_or_len (λ b. not (is_separator b)) line in
           let more : n ≡ suc k = (e ∙ rw blank (one_more k)) in
           rw (more, blank) (skip line k refl)
       | inr other ↦ let none : n ≡ 0 = (e ∙ rw other refl) in rw none refl
@@ -28,18 +28,18 @@ skip (b ∷ line) n e =
 -- the parts of a line: what stands before the first blank, and others
 record IsCut (line : List ℕ) : Type 0 where
   parts : List (List ℕ)
-  cut : slice_split is_blank line ≡ take (position_or_len is_blank line) line ∷ parts
-  fields : filter (λ part. ltb 0 (length part)) parts ≡ fields_of (drop (position_or_len is_blank line) line)
+  cut : slice_split is_separator line ≡ take (position_or_len is_separator line) line ∷ parts
+  fields : filter (λ part. ltb 0 (length part)) parts ≡ fields_of (drop (position_or_len is_separator line) line)
 
 -- every line is cut so
 cut_of : (line : List ℕ) → IsCut line
 cut_of [] = record { parts = []; cut = refl; fields = refl }
 cut_of (b ∷ line) =
-    elim (cases_Bool (is_blank b)) [
-      | inl blank ↦ record { parts = slice_split is_blank line; cut = rw blank refl; fields = rw blank (rw blank refl) }
+    elim (cases_Bool (is_separator b)) [
+      | inl blank ↦ record { parts = slice_split is_separator line; cut = rw blank refl; fields = rw blank (rw blank refl) }
       | inr other ↦
           let r = cut_of line in
-          let k : ℕ = position_or_len is_blank line in
+          let k : ℕ = position_or_len is_separator line in
           record { parts = r.parts; cut = rw (other, one_more k, r.cut) refl; fields = rw (other, one_more k) r.fields }
     ]
 
@@ -48,14 +48,14 @@ long : (b k : ℕ) (line : List ℕ) → ltb 0 (length (take (suc k) (b ∷ line
 long b k line = lt-ltb 0 (length (take (suc k) (b ∷ line))) (omega arith)
 
 -- a line that begins with no blank begins with its first field
-first : (b : ℕ) (line : List ℕ) → is_blank b ≡ false → fields_of (b ∷ line) ≡ take (position_or_len is_blank (b ∷ line)) (b ∷ line) ∷ fields_of (drop (position_or_len is_blank (b ∷ line)) (b ∷ line))
+first : (b : ℕ) (line : List ℕ) → is_separator b ≡ false → fields_of (b ∷ line) ≡ take (position_or_len is_separator (b ∷ line)) (b ∷ line) ∷ fields_of (drop (position_or_len is_separator (b ∷ line)) (b ∷ line))
 first b line other =
     let r = cut_of (b ∷ line) in
-    let kept : ltb 0 (length (take (position_or_len is_blank (b ∷ line)) (b ∷ line))) ≡ true = rw (other, one_more (position_or_len is_blank line)) (long b (position_or_len is_blank line) line) in
+    let kept : ltb 0 (length (take (position_or_len is_separator (b ∷ line)) (b ∷ line))) ≡ true = rw (other, one_more (position_or_len is_separator line)) (long b (position_or_len is_separator line) line) in
     rw (r.cut, kept, r.fields) refl
 
 -- the same of the rest of a line, where its first byte is no blank
-first_of : (rest : List ℕ) → 0 < length rest → is_blank (get_or rest 0 0) ≡ false → fields_of rest ≡ take (position_or_len is_blank rest) rest ∷ fields_of (drop (position_or_len is_blank rest) rest)
+first_of : (rest : List ℕ) → 0 < length rest → is_separator (get_or rest 0 0) ≡ false → fields_of rest ≡ take (position_or_len is_separator rest) rest ∷ fields_of (drop (position_or_len is_separator rest) rest)
 first_of [] some other = absurd (omega arith)
 first_of (b ∷ line) some other = first b line other
 
@@ -64,17 +64,17 @@ unwrap_or-cond : (n most : ℕ) → n ≤ most → unwrap_or (cond (ltb n most) 
 unwrap_or-cond n most h = grind arith
 
 -- the place of the first blank, or the length
-end_is : (rest : List ℕ) (end : ℕ) (found : Option ℕ) → found ≡ position is_blank rest → end ≡ unwrap_or found (length rest) → end ≡ position_or_len is_blank rest
-end_is rest end found e f = f ∙ ap (λ (o : Option ℕ). unwrap_or o (length rest)) e ∙ unwrap_or-cond (position_or_len is_blank rest) (length rest) (prefix_len-le-length _ rest)
+end_is : (rest : List ℕ) (end : ℕ) (found : Option ℕ) → found ≡ position is_separator rest → end ≡ unwrap_or found (length rest) → end ≡ position_or_len is_separator rest
+end_is rest end found e f = f ∙ ap (λ (o : Option ℕ). unwrap_or o (length rest)) e ∙ unwrap_or-cond (position_or_len is_separator rest) (length rest) (prefix_len-le-length _ rest)
 
 -- the rest of a line from a place on has as many bytes as are left
 whole : (line : List ℕ) (start : ℕ) → take (length line - start) (drop start line) ≡ drop start line
 whole line start = ap (λ (n : ℕ). take n (drop start line)) (sym (length-drop start line)) ∙ take-length (drop start line)
 
 -- no byte but blanks, no field
-pub no_field : (line : List ℕ) → position (λ b. not (is_blank b)) line ≡ None → fields_of line ≡ []
+pub no_field : (line : List ℕ) → position (λ b. not (is_separator b)) line ≡ None → fields_of line ≡ []
 no_field line none =
-    let n : ℕ = position_or_len (λ b. not (is_blank b)) line in
+    let n : ℕ = position_or_len (λ b. not (is_separator b)) line in
     let far : length line ≤ n = elim (cases_lt n (length line)) [ inl lt ↦ absurd (let t = lt-ltb n (length line) lt in let e : Some n ≡ None = (sym (rw t refl) ∙ none) in cc) | inr ge ↦ ge ] in
     sym (skip line n refl) ∙ ap fields_of (drop_of_length-le line far)
 
@@ -88,14 +88,14 @@ not_false false e = refl
 
 -- The rest of the line from its first byte that is no blank, up to the next blank, is its first field.
 pub next_is : (line rest field after : List ℕ) (start end : ℕ) (begins ends : Option ℕ)
-    → begins ≡ position (λ b. not (is_blank b)) line → begins ≡ Some start → rest ≡ take (length line - start) (drop start line)
-    → ends ≡ position is_blank rest → end ≡ unwrap_or ends (length rest) → field ≡ take end rest → after ≡ drop end rest
+    → begins ≡ position (λ b. not (is_separator b)) line → begins ≡ Some start → rest ≡ take (length line - start) (drop start line)
+    → ends ≡ position is_separator rest → end ≡ unwrap_or ends (length rest) → field ≡ take end rest → after ≡ drop end rest
     → fields_of line ≡ field ∷ fields_of after
 next_is line rest field after start end begins ends begins_is some rest_is ends_is end_is_ field_is after_is =
-    let found = position-Some (λ b. not (is_blank b)) line start 0 (sym begins_is ∙ some) in
+    let found = position-Some (λ b. not (is_separator b)) line start 0 (sym begins_is ∙ some) in
     let from : rest ≡ drop start line = rest_is ∙ whole line start in
-    let place : start ≡ position_or_len (λ b. not (is_blank b)) line = position_is (λ b. not (is_blank b)) line start (sym begins_is ∙ some) in
+    let place : start ≡ position_or_len (λ b. not (is_separator b)) line = position_is (λ b. not (is_separator b)) line start (sym begins_is ∙ some) in
     let begin : get_or rest 0 0 ≡ get_or line start 0 = ap (λ (l : List ℕ). get_or l 0 0) from ∙ get_or-drop start line 0 0 ∙ ap (λ (k : ℕ). get_or line k 0) (let e : start + 0 ≡ start = omega arith in e) in
-    let cut = first_of rest (omega (arith, ap length from, length-drop start line, found.0)) (ap is_blank begin ∙ not_false (is_blank (get_or line start 0)) found.1) in
+    let cut = first_of rest (omega (arith, ap length from, length-drop start line, found.0)) (ap is_separator begin ∙ not_false (is_separator (get_or line start 0)) found.1) in
     let stop = end_is rest end ends ends_is end_is_ in
     sym (skip line start place) ∙ ap fields_of (sym from) ∙ cut ∙ rw (← stop, ← field_is, ← after_is) refl

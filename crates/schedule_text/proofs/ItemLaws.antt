@@ -15,7 +15,7 @@ use Rattle.schedule_text.specs.Limits.{most_thread, most_datagram, most_signal}
 use Rattle.schedule_text.specs.declared.process.ProcessLine.{ProcessLine}
 use Rattle.schedule_text.specs.Fields.{field_at, last_of, is_comment}
 use Rattle.schedule_text.specs.Grammar.{IsNumber, IsSignedNumber, IsHeader, IsHex, IsProcessLine, IsRun, IsPair, IsItemLine}
-use Rattle.schedule_text.specs.Reading.{number_of, positive_of, process_number_of, times_of, is_header, process_line_of, run_of, pair_of, deliver_of, bytes_of, inject_of, clock_of, random_of, signal_of, kill_of, item_of}
+use Rattle.schedule_text.specs.Reading.{number_up_to, positive_of, process_number_of, times_of, is_header, process_line_of, run_item, pair_in, deliver_item, bytes_in, inject_item, clock_item, random_item, signal_item, kill_item, item_by}
 use Rattle.schedule_text.specs.Schedule.{IsInRange, IsProcess, is_module_name}
 use Rattle.schedule_text.proofs.WordLaws.{bind_some, map_some, kept, field_takes, last_takes, number_takes, number_again, positive_takes, positive_again, hex_takes, process_takes, process_again, value_takes, value_again, times_takes, times_again}
 
@@ -44,13 +44,13 @@ record HasRun (processes : ℕ) (fields : List (List ℕ)) (item : Item) : Type 
   times_are : times_of rest ≡ Some times
 
 -- what was read, field by field
-run_parts : (processes : ℕ) (fields : List (List ℕ)) (item : Item) → run_of processes fields ≡ Some item → HasRun processes fields item
-unfolding run_of
+run_parts : (processes : ℕ) (fields : List (List ℕ)) (item : Item) → run_item processes fields ≡ Some item → HasRun processes fields item
+unfolding run_item
 run_parts processes fields item e =
     let p = bind_some (field_at fields) _ item e in
     let process = bind_some (process_number_of processes p.0.0) _ item p.2 in
     let t = bind_some (field_at p.0.1) _ item process.2 in
-    let thread = bind_some (number_of most_thread t.0.0) _ item t.2 in
+    let thread = bind_some (number_up_to most_thread t.0.0) _ item t.2 in
     let times = bind_some (times_of t.0.1) _ item thread.2 in
     record {
       p = p.0.0;
@@ -81,7 +81,7 @@ run_written processes p t rest process thread times is_process is_thread e =
     ]
 
 -- what is read behind `run` is written so and in range
-run_takes : (processes : ℕ) (word : List ℕ) (fields : List (List ℕ)) (item : Item) → word ≡ codes "run" → run_of processes fields ≡ Some item → IsItemLine (word ∷ fields) item × IsInRange processes item
+run_takes : (processes : ℕ) (word : List ℕ) (fields : List (List ℕ)) (item : Item) → word ≡ codes "run" → run_item processes fields ≡ Some item → IsItemLine (word ∷ fields) item × IsInRange processes item
 run_takes processes word fields item is e =
     let h = run_parts processes fields item e in
     let w = run_written processes h.p h.t h.rest h.process h.thread h.times h.process_is h.thread_is h.times_are in
@@ -95,8 +95,8 @@ record HasPair (processes : ℕ) (fields : List (List ℕ)) (pair : ℕ × List 
   process_is : IsNumber p pair.0 × (pair.0 < processes)
 
 -- what was read of them
-pair_parts : (processes : ℕ) (fields : List (List ℕ)) (pair : ℕ × List ℕ) → pair_of processes fields ≡ Some pair → HasPair processes fields pair
-unfolding pair_of
+pair_parts : (processes : ℕ) (fields : List (List ℕ)) (pair : ℕ × List ℕ) → pair_in processes fields ≡ Some pair → HasPair processes fields pair
+unfolding pair_in
 pair_parts processes fields pair e =
     let p = bind_some (field_at fields) _ pair e in
     let process = bind_some (process_number_of processes p.0.0) _ pair p.2 in
@@ -109,16 +109,16 @@ pair_parts processes fields pair e =
     })
 
 -- they are written so behind the word
-pair_takes : (name : List ℕ) (processes : ℕ) (word : List ℕ) (fields : List (List ℕ)) (pair : ℕ × List ℕ) (IsLast : List ℕ → Type 0) → word ≡ name → pair_of processes fields ≡ Some pair → IsLast pair.1 → IsPair name (word ∷ fields) pair.0 IsLast × (pair.0 < processes)
+pair_takes : (name : List ℕ) (processes : ℕ) (word : List ℕ) (fields : List (List ℕ)) (pair : ℕ × List ℕ) (IsLast : List ℕ → Type 0) → word ≡ name → pair_in processes fields ≡ Some pair → IsLast pair.1 → IsPair name (word ∷ fields) pair.0 IsLast × (pair.0 < processes)
 pair_takes name processes word fields pair IsLast is e last =
     let h = pair_parts processes fields pair e in
     (subst (λ (fs : List (List ℕ)). IsPair name (word ∷ fs) pair.0 IsLast) (sym h.fields_are) (is, h.process_is.0, last), h.process_is.1)
 
 -- what is read behind `deliver` is written so and in range
-deliver_takes : (processes : ℕ) (word : List ℕ) (fields : List (List ℕ)) (item : Item) → word ≡ codes "deliver" → deliver_of processes fields ≡ Some item → IsItemLine (word ∷ fields) item × IsInRange processes item
-unfolding deliver_of
+deliver_takes : (processes : ℕ) (word : List ℕ) (fields : List (List ℕ)) (item : Item) → word ≡ codes "deliver" → deliver_item processes fields ≡ Some item → IsItemLine (word ∷ fields) item × IsInRange processes item
+unfolding deliver_item
 deliver_takes processes word fields item is e =
-    let pair = bind_some (pair_of processes fields) _ item e in
+    let pair = bind_some (pair_in processes fields) _ item e in
     let number = bind_some (positive_of most_datagram pair.0.1) _ item pair.2 in
     let item_is : Deliver pair.0.0 number.0 ≡ item = (let there = number.2 in cc) in
     let written = positive_takes most_datagram pair.0.1 number.0 number.1 in
@@ -126,10 +126,10 @@ deliver_takes processes word fields item is e =
     subst (λ (i : Item). IsItemLine (word ∷ fields) i × IsInRange processes i) item_is (line.0, (line.1, written.1, written.2))
 
 -- what is read behind `clock` is written so and in range
-clock_takes : (processes : ℕ) (word : List ℕ) (fields : List (List ℕ)) (item : Item) → word ≡ codes "clock" → clock_of processes fields ≡ Some item → IsItemLine (word ∷ fields) item × IsInRange processes item
-unfolding clock_of
+clock_takes : (processes : ℕ) (word : List ℕ) (fields : List (List ℕ)) (item : Item) → word ≡ codes "clock" → clock_item processes fields ≡ Some item → IsItemLine (word ∷ fields) item × IsInRange processes item
+unfolding clock_item
 clock_takes processes word fields item is e =
-    let pair = bind_some (pair_of processes fields) _ item e in
+    let pair = bind_some (pair_in processes fields) _ item e in
     let value = bind_some (result_ok (within_i64 (signed_of pair.0.1))) _ item pair.2 in
     let item_is : Clock pair.0.0 value.0 ≡ item = (let there = value.2 in cc) in
     let written = value_takes pair.0.1 value.0 value.1 in
@@ -137,36 +137,36 @@ clock_takes processes word fields item is e =
     subst (λ (i : Item). IsItemLine (word ∷ fields) i × IsInRange processes i) item_is (line.0, (line.1, written.1))
 
 -- what is read as P and HEX is written so and in range
-bytes_takes : (name : List ℕ) (processes : ℕ) (word : List ℕ) (fields : List (List ℕ)) (x : ℕ × List ℕ) → word ≡ name → bytes_of processes fields ≡ Some x → IsPair name (word ∷ fields) x.0 (λ h. IsHex h x.1) × (x.0 < processes) × AreBytes x.1
-unfolding bytes_of
+bytes_takes : (name : List ℕ) (processes : ℕ) (word : List ℕ) (fields : List (List ℕ)) (x : ℕ × List ℕ) → word ≡ name → bytes_in processes fields ≡ Some x → IsPair name (word ∷ fields) x.0 (λ h. IsHex h x.1) × (x.0 < processes) × AreBytes x.1
+unfolding bytes_in
 bytes_takes name processes word fields x is e =
-    let pair = bind_some (pair_of processes fields) _ x e in
+    let pair = bind_some (pair_in processes fields) _ x e in
     let bytes = bind_some (hex_of pair.0.1) _ x pair.2 in
     let same : ◌≡◌ {A = ℕ × List ℕ} (pair.0.0, bytes.0) x = (let there = bytes.2 in cc) in
     let line = pair_takes name processes word fields pair.0 (λ h. IsHex h bytes.0) is pair.1 bytes.1 in
     subst (λ (y : ℕ × List ℕ). IsPair name (word ∷ fields) y.0 (λ h. IsHex h y.1) × (y.0 < processes) × AreBytes y.1) same (line.0, line.1, hex_takes pair.0.1 bytes.0 bytes.1)
 
 -- what is read behind `inject` is written so and in range
-inject_takes : (processes : ℕ) (word : List ℕ) (fields : List (List ℕ)) (item : Item) → word ≡ codes "inject" → inject_of processes fields ≡ Some item → IsItemLine (word ∷ fields) item × IsInRange processes item
-unfolding inject_of
+inject_takes : (processes : ℕ) (word : List ℕ) (fields : List (List ℕ)) (item : Item) → word ≡ codes "inject" → inject_item processes fields ≡ Some item → IsItemLine (word ∷ fields) item × IsInRange processes item
+unfolding inject_item
 inject_takes processes word fields item is e =
-    let found = map_some (λ (x : ℕ × List ℕ). Inject x.0 x.1) (bytes_of processes fields) item e in
+    let found = map_some (λ (x : ℕ × List ℕ). Inject x.0 x.1) (bytes_in processes fields) item e in
     let written = bytes_takes (codes "inject") processes word fields found.0 is found.1 in
     subst (λ (i : Item). IsItemLine (word ∷ fields) i × IsInRange processes i) found.2 (written.0, (written.1, written.2))
 
 -- what is read behind `random` is written so and in range
-random_takes : (processes : ℕ) (word : List ℕ) (fields : List (List ℕ)) (item : Item) → word ≡ codes "random" → random_of processes fields ≡ Some item → IsItemLine (word ∷ fields) item × IsInRange processes item
-unfolding random_of
+random_takes : (processes : ℕ) (word : List ℕ) (fields : List (List ℕ)) (item : Item) → word ≡ codes "random" → random_item processes fields ≡ Some item → IsItemLine (word ∷ fields) item × IsInRange processes item
+unfolding random_item
 random_takes processes word fields item is e =
-    let found = map_some (λ (x : ℕ × List ℕ). Random x.0 x.1) (bytes_of processes fields) item e in
+    let found = map_some (λ (x : ℕ × List ℕ). Random x.0 x.1) (bytes_in processes fields) item e in
     let written = bytes_takes (codes "random") processes word fields found.0 is found.1 in
     subst (λ (i : Item). IsItemLine (word ∷ fields) i × IsInRange processes i) found.2 (written.0, (written.1, written.2))
 
 -- what is read behind `signal` is written so and in range
-signal_takes : (processes : ℕ) (word : List ℕ) (fields : List (List ℕ)) (item : Item) → word ≡ codes "signal" → signal_of processes fields ≡ Some item → IsItemLine (word ∷ fields) item × IsInRange processes item
-unfolding signal_of
+signal_takes : (processes : ℕ) (word : List ℕ) (fields : List (List ℕ)) (item : Item) → word ≡ codes "signal" → signal_item processes fields ≡ Some item → IsItemLine (word ∷ fields) item × IsInRange processes item
+unfolding signal_item
 signal_takes processes word fields item is e =
-    let pair = bind_some (pair_of processes fields) _ item e in
+    let pair = bind_some (pair_in processes fields) _ item e in
     let number = bind_some (positive_of most_signal pair.0.1) _ item pair.2 in
     let item_is : Signal pair.0.0 number.0 ≡ item = (let there = number.2 in cc) in
     let written = positive_takes most_signal pair.0.1 number.0 number.1 in
@@ -174,8 +174,8 @@ signal_takes processes word fields item is e =
     subst (λ (i : Item). IsItemLine (word ∷ fields) i × IsInRange processes i) item_is (line.0, (line.1, written.1, written.2))
 
 -- what is read behind `kill` is written so and in range
-kill_takes : (processes : ℕ) (word : List ℕ) (fields : List (List ℕ)) (item : Item) → word ≡ codes "kill" → kill_of processes fields ≡ Some item → IsItemLine (word ∷ fields) item × IsInRange processes item
-unfolding kill_of
+kill_takes : (processes : ℕ) (word : List ℕ) (fields : List (List ℕ)) (item : Item) → word ≡ codes "kill" → kill_item processes fields ≡ Some item → IsItemLine (word ∷ fields) item × IsInRange processes item
+unfolding kill_item
 kill_takes processes word fields item is e =
     let p = bind_some (last_of fields) _ item e in
     let process = bind_some (process_number_of processes p.0) _ item p.2 in
@@ -185,7 +185,7 @@ kill_takes processes word fields item is e =
     (subst (λ (fs : List (List ℕ)). IsItemLine (word ∷ fs) (Kill process.0)) (sym (last_takes fields p.0 p.1)) (is, written.0), written.1)
 
 -- the same of the words that are tried last
-later_takes : (processes : ℕ) (word : List ℕ) (fields : List (List ℕ)) (item : Item) → cond (bytes_eq word (codes "clock")) (clock_of processes fields) (cond (bytes_eq word (codes "random")) (random_of processes fields) (cond (bytes_eq word (codes "signal")) (signal_of processes fields) (cond (bytes_eq word (codes "kill")) (kill_of processes fields) None))) ≡ Some item → IsItemLine (word ∷ fields) item × IsInRange processes item
+later_takes : (processes : ℕ) (word : List ℕ) (fields : List (List ℕ)) (item : Item) → cond (bytes_eq word (codes "clock")) (clock_item processes fields) (cond (bytes_eq word (codes "random")) (random_item processes fields) (cond (bytes_eq word (codes "signal")) (signal_item processes fields) (cond (bytes_eq word (codes "kill")) (kill_item processes fields) None))) ≡ Some item → IsItemLine (word ∷ fields) item × IsInRange processes item
 later_takes processes word fields item e =
     elim (cases_Bool (bytes_eq word (codes "clock"))) [
       | inl clock ↦ clock_takes processes word fields item (is_word word (codes "clock") clock) (rw clock at e)
@@ -198,15 +198,15 @@ later_takes processes word fields item e =
                 elim (cases_Bool (bytes_eq word (codes "signal"))) [
                   | inl signal ↦ signal_takes processes word fields item (is_word word (codes "signal") signal) (rw signal at e)
                   | inr no_signal ↦
-                      let some = kept (bytes_eq word (codes "kill")) (kill_of processes fields) item (rw no_signal at e) in
+                      let some = kept (bytes_eq word (codes "kill")) (kill_item processes fields) item (rw no_signal at e) in
                       kill_takes processes word fields item (is_word word (codes "kill") some.0) some.1
                 ]
           ]
     ]
 
 -- what is read as an item is written so and in range
-pub item_takes : (processes : ℕ) (word : List ℕ) (fields : List (List ℕ)) (item : Item) → item_of processes word fields ≡ Some item → IsItemLine (word ∷ fields) item × IsInRange processes item
-unfolding item_of
+pub item_takes : (processes : ℕ) (word : List ℕ) (fields : List (List ℕ)) (item : Item) → item_by processes word fields ≡ Some item → IsItemLine (word ∷ fields) item × IsInRange processes item
+unfolding item_by
 item_takes processes word fields item e =
     elim (cases_Bool (bytes_eq word (codes "run"))) [
       | inl run ↦ run_takes processes word fields item (is_word word (codes "run") run) (rw run at e)
@@ -224,14 +224,14 @@ item_takes processes word fields item e =
     ]
 
 -- the fields of a run item in range are read
-run_again : (processes : ℕ) (p t : List ℕ) (rest : List (List ℕ)) (process thread times : ℕ) → IsNumber p process → process < processes → IsNumber t thread → thread ≤ most_thread → times_of rest ≡ Some times → run_of processes (p ∷ t ∷ rest) ≡ Some (Run process thread times)
-unfolding run_of
+run_again : (processes : ℕ) (p t : List ℕ) (rest : List (List ℕ)) (process thread times : ℕ) → IsNumber p process → process < processes → IsNumber t thread → thread ≤ most_thread → times_of rest ≡ Some times → run_item processes (p ∷ t ∷ rest) ≡ Some (Run process thread times)
+unfolding run_item
 run_again processes p t rest process thread times is_process below is_thread small tries =
     rw (process_again processes p process is_process below, number_again most_thread t thread is_thread small, tries) refl
 
 -- a line whose first word is `run` is read as a run item
-run_line : (processes : ℕ) (word : List ℕ) (fields : List (List ℕ)) (item : Item) → word ≡ codes "run" → run_of processes fields ≡ Some item → item_of processes word fields ≡ Some item
-unfolding item_of
+run_line : (processes : ℕ) (word : List ℕ) (fields : List (List ℕ)) (item : Item) → word ≡ codes "run" → run_item processes fields ≡ Some item → item_by processes word fields ≡ Some item
+unfolding item_by
 run_line processes word fields item is e = rw is e
 
 -- the fields of P and one more, behind the word of an item
@@ -251,50 +251,50 @@ writes_pair name word (p ∷ last ∷ []) process IsLast line = record { p = p; 
 writes_pair name word (p ∷ last ∷ more ∷ fields) process IsLast line = absurd line
 
 -- it is read
-pair_again : (processes : ℕ) (name word : List ℕ) (fields : List (List ℕ)) (process : ℕ) (IsLast : List ℕ → Type 0) (h : WritesPair name word fields process IsLast) → process < processes → pair_of processes fields ≡ Some (process, h.last)
-unfolding pair_of
+pair_again : (processes : ℕ) (name word : List ℕ) (fields : List (List ℕ)) (process : ℕ) (IsLast : List ℕ → Type 0) (h : WritesPair name word fields process IsLast) → process < processes → pair_in processes fields ≡ Some (process, h.last)
+unfolding pair_in
 pair_again processes name word fields process IsLast h below = rw (h.fields_are, process_again processes h.p process h.process_is below) refl
 
 -- P and HEX are read
-bytes_again : (processes : ℕ) (name word : List ℕ) (fields : List (List ℕ)) (process : ℕ) (bytes : List ℕ) → WritesPair name word fields process (λ h. IsHex h bytes) → process < processes → bytes_of processes fields ≡ Some (process, bytes)
-unfolding bytes_of
+bytes_again : (processes : ℕ) (name word : List ℕ) (fields : List (List ℕ)) (process : ℕ) (bytes : List ℕ) → WritesPair name word fields process (λ h. IsHex h bytes) → process < processes → bytes_in processes fields ≡ Some (process, bytes)
+unfolding bytes_in
 bytes_again processes name word fields process bytes h below = rw (pair_again processes name word fields process _ h below, h.last_is) refl
 
 -- a deliver item in range is read
-deliver_line : (processes : ℕ) (word : List ℕ) (fields : List (List ℕ)) (process number : ℕ) → WritesPair (codes "deliver") word fields process (λ n. IsNumber n number) → IsInRange processes (Deliver process number) → item_of processes word fields ≡ Some (Deliver process number)
-unfolding item_of deliver_of
+deliver_line : (processes : ℕ) (word : List ℕ) (fields : List (List ℕ)) (process number : ℕ) → WritesPair (codes "deliver") word fields process (λ n. IsNumber n number) → IsInRange processes (Deliver process number) → item_by processes word fields ≡ Some (Deliver process number)
+unfolding item_by deliver_item
 deliver_line processes word fields process number h range =
     rw (h.word_is, pair_again processes _ word fields process _ h range.0, positive_again most_datagram h.last number h.last_is range.1 range.2) refl
 
 -- an inject item in range is read
-inject_line : (processes : ℕ) (word : List ℕ) (fields : List (List ℕ)) (process : ℕ) (bytes : List ℕ) → WritesPair (codes "inject") word fields process (λ h. IsHex h bytes) → IsInRange processes (Inject process bytes) → item_of processes word fields ≡ Some (Inject process bytes)
-unfolding item_of inject_of
+inject_line : (processes : ℕ) (word : List ℕ) (fields : List (List ℕ)) (process : ℕ) (bytes : List ℕ) → WritesPair (codes "inject") word fields process (λ h. IsHex h bytes) → IsInRange processes (Inject process bytes) → item_by processes word fields ≡ Some (Inject process bytes)
+unfolding item_by inject_item
 inject_line processes word fields process bytes h range = rw (h.word_is, bytes_again processes _ word fields process bytes h range.0) refl
 
 -- a clock item in range is read
-clock_line : (processes : ℕ) (word : List ℕ) (fields : List (List ℕ)) (process : ℕ) (value : ℤ) → WritesPair (codes "clock") word fields process (λ v. IsSignedNumber v value) → IsInRange processes (Clock process value) → item_of processes word fields ≡ Some (Clock process value)
-unfolding item_of clock_of
+clock_line : (processes : ℕ) (word : List ℕ) (fields : List (List ℕ)) (process : ℕ) (value : ℤ) → WritesPair (codes "clock") word fields process (λ v. IsSignedNumber v value) → IsInRange processes (Clock process value) → item_by processes word fields ≡ Some (Clock process value)
+unfolding item_by clock_item
 clock_line processes word fields process value h range =
     rw (h.word_is, pair_again processes _ word fields process _ h range.0, value_again h.last value h.last_is range.1) refl
 
 -- a random item in range is read
-random_line : (processes : ℕ) (word : List ℕ) (fields : List (List ℕ)) (process : ℕ) (bytes : List ℕ) → WritesPair (codes "random") word fields process (λ h. IsHex h bytes) → IsInRange processes (Random process bytes) → item_of processes word fields ≡ Some (Random process bytes)
-unfolding item_of random_of
+random_line : (processes : ℕ) (word : List ℕ) (fields : List (List ℕ)) (process : ℕ) (bytes : List ℕ) → WritesPair (codes "random") word fields process (λ h. IsHex h bytes) → IsInRange processes (Random process bytes) → item_by processes word fields ≡ Some (Random process bytes)
+unfolding item_by random_item
 random_line processes word fields process bytes h range = rw (h.word_is, bytes_again processes _ word fields process bytes h range.0) refl
 
 -- a signal item in range is read
-signal_line : (processes : ℕ) (word : List ℕ) (fields : List (List ℕ)) (process number : ℕ) → WritesPair (codes "signal") word fields process (λ n. IsNumber n number) → IsInRange processes (Signal process number) → item_of processes word fields ≡ Some (Signal process number)
-unfolding item_of signal_of
+signal_line : (processes : ℕ) (word : List ℕ) (fields : List (List ℕ)) (process number : ℕ) → WritesPair (codes "signal") word fields process (λ n. IsNumber n number) → IsInRange processes (Signal process number) → item_by processes word fields ≡ Some (Signal process number)
+unfolding item_by signal_item
 signal_line processes word fields process number h range =
     rw (h.word_is, pair_again processes _ word fields process _ h range.0, positive_again most_signal h.last number h.last_is range.1 range.2) refl
 
 -- a kill item in range is read
-kill_line : (processes : ℕ) (word p : List ℕ) (process : ℕ) → word ≡ codes "kill" → IsNumber p process → process < processes → item_of processes word (p ∷ []) ≡ Some (Kill process)
-unfolding item_of kill_of
+kill_line : (processes : ℕ) (word p : List ℕ) (process : ℕ) → word ≡ codes "kill" → IsNumber p process → process < processes → item_by processes word (p ∷ []) ≡ Some (Kill process)
+unfolding item_by kill_item
 kill_line processes word p process is is_process below = rw (is, process_again processes p process is_process below) refl
 
 -- what is written as an item and is in range is read
-pub item_again : (processes : ℕ) (word : List ℕ) (fields : List (List ℕ)) (item : Item) → IsItemLine (word ∷ fields) item → IsInRange processes item → item_of processes word fields ≡ Some item
+pub item_again : (processes : ℕ) (word : List ℕ) (fields : List (List ℕ)) (item : Item) → IsItemLine (word ∷ fields) item → IsInRange processes item → item_by processes word fields ≡ Some item
 item_again processes word [] (Run process thread times) line range = absurd line
 item_again processes word (p ∷ []) (Run process thread times) line range = absurd line
 item_again processes word (p ∷ t ∷ []) (Run process thread times) line range =

@@ -12,7 +12,7 @@ use Rattle.schedule_text.specs.Limits.{most_processes}
 use Rattle.schedule_text.specs.declared.process.ProcessLine.{ProcessLine}
 use Rattle.schedule_text.specs.Fields.{fields_of, is_comment, is_passed_over}
 use Rattle.schedule_text.specs.Grammar.{IsHeader, IsProcessLine, IsItemLine, lines_kept}
-use Rattle.schedule_text.specs.Reading.{Part, nothing, is_header, process_line_of, item_of, with_process, with_item, with_fields, with_line_of, with_line}
+use Rattle.schedule_text.specs.Reading.{Part, nothing, is_header, process_line_of, item_by, with_process, with_item, with_fields, with_line_of, with_line}
 use Rattle.schedule_text.specs.Schedule.{IsInRange, IsProcess}
 use Rattle.schedule_text.proofs.ItemLaws.{is_word, same_word, item_takes, process_line_takes, header_takes}
 use Rattle.schedule_text.proofs.WordLaws.{bind_some, map_some, kept, passed}
@@ -114,7 +114,7 @@ process_step part word fields next begun is e =
 item_step : (part : Part) (word : List ℕ) (fields : List (List ℕ)) (next : Part) → part.has_header ≡ true → with_item part word fields ≡ Some next → Step part (word ∷ fields) next
 unfolding with_item
 item_step part word fields next begun e =
-    let i = map_some (λ (i : Item). record part { items = part.items ++ i ∷ [] }) (item_of (length part.processes) word fields) next e in
+    let i = map_some (λ (i : Item). record part { items = part.items ++ i ∷ [] }) (item_by (length part.processes) word fields) next e in
     let written = item_takes (length part.processes) word fields i.0 i.1 in
     subst (Step part (word ∷ fields)) i.2 (item i.0 begun written.0 written.1)
 

@@ -13,13 +13,13 @@ use Rattle.std.proofs.lemmas.List.Sums.{AllPass-from_list_all}
 use Rattle.hex.specs.Hex.{is_hex_digit}
 use Rattle.fri_text.specs.Decimal.{is_decimal, decimal_of}
 use Rattle.fri_text.specs.Hex.{hex_word}
-use Rattle.fri_text.specs.Laws.{ReadBack, ExactHex}
+use Rattle.fri_text.specs.Laws.{WordsReadBack, ExactHex}
 use Rattle.fri_text.specs.Line.{is_line_feed, pieces_of, lines_of}
 use Rattle.fri_text.specs.Name.{is_name, is_name_byte}
 use Rattle.schedule_text.specs.declared.item.Item.{Item}
 use Rattle.schedule_text.specs.declared.item.Item.TheVariants.{Run, Deliver, Inject, Clock, Random, Signal, Kill}
 use Rattle.schedule_text.specs.declared.process.ProcessLine.{ProcessLine}
-use Rattle.schedule_text.specs.Fields.{is_blank, fields_of, is_comment}
+use Rattle.schedule_text.specs.Fields.{is_separator, fields_of, is_comment}
 use Rattle.schedule_text.specs.Grammar.{IsNumber, IsSignedNumber, IsHex, IsProcessLine, IsRun, IsItemLine, lines_kept, Spells}
 use Rattle.schedule_text.specs.Limits.{most_processes}
 use Rattle.schedule_text.specs.Reading.{schedule_of}
@@ -37,7 +37,7 @@ pub record IsField (word : List ℕ) : Type 0 where
   pub visible : AllPass is_visible word
 
 -- a visible byte is no blank
-not_blank : (b : ℕ) → is_visible b ≡ true → is_blank b ≡ false
+not_blank : (b : ℕ) → is_visible b ≡ true → is_separator b ≡ false
 not_blank b e = grind arith
 
 -- neither a visible byte nor a space is a line feed or a carriage return
@@ -54,18 +54,18 @@ keep_part : (part : List ℕ) (parts : List (List ℕ)) → 0 < length part → 
 keep_part part parts some = rw (lt-ltb 0 (length part) some) refl
 
 -- no byte of a field is a blank
-no_blank : (word : List ℕ) → IsField word → All (λ b. is_blank b ≡ false) word
-no_blank word h = All-weaker (λ b. is_visible b ≡ true) (λ b. is_blank b ≡ false) not_blank word h.visible
+no_blank : (word : List ℕ) → IsField word → All (λ b. is_separator b ≡ false) word
+no_blank word h = All-weaker (λ b. is_visible b ≡ true) (λ b. is_separator b ≡ false) not_blank word h.visible
 
 -- what a space joins is cut there again
 fields_of-joined : (field : List ℕ) (fields : List (List ℕ)) → All IsField (field ∷ fields) → fields_of (join_with_byte 32 (field ∷ fields)) ≡ field ∷ fields
 fields_of-joined field [] h =
     let first = All-head IsField field [] h in
-    ap (filter (λ p. ltb 0 (length p))) (slice_split_none is_blank field (no_blank field first)) ∙ keep_part field [] first.some
+    ap (filter (λ p. ltb 0 (length p))) (slice_split_none is_separator field (no_blank field first)) ∙ keep_part field [] first.some
 fields_of-joined field (next ∷ fields) h =
     let first = All-head IsField field (next ∷ fields) h in
-    ap (filter (λ p. ltb 0 (length p))) (slice_split_at is_blank field 32 (join_with_byte 32 (next ∷ fields)) (no_blank field first) refl)
-    ∙ keep_part field (slice_split is_blank (join_with_byte 32 (next ∷ fields))) first.some
+    ap (filter (λ p. ltb 0 (length p))) (slice_split_at is_separator field 32 (join_with_byte 32 (next ∷ fields)) (no_blank field first) refl)
+    ∙ keep_part field (slice_split is_separator (join_with_byte 32 (next ∷ fields))) first.some
     ∙ ap (λ (fs : List (List ℕ)). field ∷ fs) (fields_of-joined next fields (All-tail IsField field (next ∷ fields) h))
 
 -- ---- the lines of a text
@@ -245,7 +245,7 @@ times_other n e = rw e refl
 keyword : (word : List ℕ) → ltb 0 (length word) ≡ true → list_all is_visible word ≡ true → is_comment word ≡ false → IsKeyword word
 keyword word some visible no_comment = record { field = record { some = ltb-true 0 (length word) some; visible = AllPass-from_list_all is_visible word visible }; no_comment = no_comment }
 
-module _ (words : ReadBack) (hex : ExactHex) where
+module _ (words : WordsReadBack) (hex : ExactHex) where
   -- a hexadecimal word is a field
   hex_field : (word bytes : List ℕ) → IsHex word bytes → IsField word
   hex_field word bytes is =

@@ -15,7 +15,7 @@ use Rattle.fri_text.specs.declared.error.TextError.TheVariants.{TooGreat}
 use Rattle.schedule_text.specs.Limits.{most_runs}
 use Rattle.schedule_text.specs.Fields.{field_at, last_of}
 use Rattle.schedule_text.specs.Grammar.{IsNumber, IsSignedNumber, IsHex}
-use Rattle.schedule_text.specs.Reading.{◌>>=◌, number_of, positive_of, process_number_of, times_of}
+use Rattle.schedule_text.specs.Reading.{◌>>=◌, number_up_to, positive_of, process_number_of, times_of}
 
 -- ---- steps that give something
 
@@ -62,17 +62,17 @@ up_to_takes most (Some m) n e =
     ]
 
 -- what is read as a number is written so, and not above the limit
-pub number_takes : (most : ℕ) (word : List ℕ) (n : ℕ) → number_of most word ≡ Some n → IsNumber word n × (n ≤ most)
+pub number_takes : (most : ℕ) (word : List ℕ) (n : ℕ) → number_up_to most word ≡ Some n → IsNumber word n × (n ≤ most)
 number_takes most word n e = up_to_takes most (decimal_of word) n e
 
 -- a number that isn't above the limit is read
-pub number_again : (most : ℕ) (word : List ℕ) (n : ℕ) → IsNumber word n → n ≤ most → number_of most word ≡ Some n
+pub number_again : (most : ℕ) (word : List ℕ) (n : ℕ) → IsNumber word n → n ≤ most → number_up_to most word ≡ Some n
 number_again most word n is small = ap (λ (o : Option ℕ). result_ok (up_to most o)) is ∙ rw (le-leb n most small) refl
 
 -- what is read as a number from 1 on is written so, and in range
 pub positive_takes : (most : ℕ) (word : List ℕ) (n : ℕ) → positive_of most word ≡ Some n → IsNumber word n × (1 ≤ n) × (n ≤ most)
 positive_takes most word n e =
-    let some = bind_some (number_of most word) (λ (k : ℕ). cond (eqb k 0) None (Some k)) n e in
+    let some = bind_some (number_up_to most word) (λ (k : ℕ). cond (eqb k 0) None (Some k)) n e in
     let positive = passed (eqb some.0 0) (Some some.0) n some.2 in
     let same : some.0 ≡ n = (let there = positive.1 in cc) in
     let number = number_takes most word some.0 some.1 in

@@ -3,12 +3,12 @@ use Rattle.std.specs.Prelude.{◌≡◌, ℕ, Bool, true, ◌||◌, ◌==◌, na
 use Rattle.std.specs.List.{slice_split, starts_with}
 
 -- a space or a tab
-abbrev pub is_blank : ℕ → Bool
-is_blank b = (b == 32) || (b == 9)
+abbrev pub is_separator : ℕ → Bool
+is_separator b = (b == 32) || (b == 9)
 
 -- the fields of a line: it is cut at each blank, and the parts without a byte are left out
 abbrev pub fields_of : List ℕ → List (List ℕ)
-fields_of line = filter (λ part. nat_lt 0 (length part)) (slice_split is_blank line)
+fields_of line = filter (λ part. nat_lt 0 (length part)) (slice_split is_separator line)
 
 -- the first field and those after it
 abbrev pub field_at : List (List ℕ) → Option (List ℕ × List (List ℕ))

@@ -6,22 +6,22 @@ use Rattle.schedule_text.specs.Reading.{Refusal, BadLineAt, TooManyRuns, Part, s
 use Rattle.schedule_text.specs.Schedule.{Schedule}
 
 -- the error is this refusal, or want of memory, which may come at any time
-abbrev pub Fails : ScheduleError → Result Schedule Refusal → Type 0
-Fails (errors.BadLine n) outcome = outcome ≡ Err (BadLineAt n)
-Fails errors.TooMany outcome = outcome ≡ Err TooManyRuns
-Fails errors.NoMemory outcome = Unit {0}
+abbrev pub FailsAs : ScheduleError → Result Schedule Refusal → Type 0
+FailsAs (errors.BadLine n) outcome = outcome ≡ Err (BadLineAt n)
+FailsAs errors.TooMany outcome = outcome ≡ Err TooManyRuns
+FailsAs errors.NoMemory outcome = Unit {0}
 
 -- the answer is this outcome, but for want of memory
 abbrev pub Answers : Result Schedule ScheduleError → Result Schedule Refusal → Type 0
 Answers (Ok s) outcome = outcome ≡ Ok s
-Answers (Err e) outcome = Fails e outcome
+Answers (Err e) outcome = FailsAs e outcome
 
 -- the end was tested: the outcome is the schedule of what has come, or this refusal
 abbrev pub Ends : Result (Unit {0}) ScheduleError → Part → Result Schedule Refusal → Type 0
 Ends (Ok x) part outcome = outcome ≡ Ok (schedule_part part)
-Ends (Err e) part outcome = Fails e outcome
+Ends (Err e) part outcome = FailsAs e outcome
 
 -- the lines were read: the outcome is the schedule of what has come, or this refusal
-abbrev pub Reads : Result Part ScheduleError → Result Schedule Refusal → Type 0
-Reads (Ok part) outcome = outcome ≡ Ok (schedule_part part)
-Reads (Err e) outcome = Fails e outcome
+abbrev pub ReadsLines : Result Part ScheduleError → Result Schedule Refusal → Type 0
+ReadsLines (Ok part) outcome = outcome ≡ Ok (schedule_part part)
+ReadsLines (Err e) outcome = FailsAs e outcome

@@ -30,16 +30,16 @@ pub data Refusal : Type 0 where
 -- ---- numbers
 
 -- the number that a word writes, where it is at most `most`
-abbrev pub number_of : ℕ → List ℕ → Option ℕ
-number_of most word = result_ok (up_to most (decimal_of word))
+abbrev pub number_up_to : ℕ → List ℕ → Option ℕ
+number_up_to most word = result_ok (up_to most (decimal_of word))
 
 -- the same from 1 on
 abbrev pub positive_of : ℕ → List ℕ → Option ℕ
-positive_of most word = number_of most word >>= λ n. if n == 0 then None else Some n
+positive_of most word = number_up_to most word >>= λ n. if n == 0 then None else Some n
 
 -- the number of a process, of which there are so many
 abbrev pub process_number_of : ℕ → List ℕ → Option ℕ
-process_number_of processes word = if processes == 0 then None else number_of (processes - 1) word
+process_number_of processes word = if processes == 0 then None else number_up_to (processes - 1) word
 
 -- the fields after P and T: how often is tried
 abbrev pub times_of : List (List ℕ) → Option ℕ
@@ -62,76 +62,76 @@ process_line_of fields = do
   if is_name name.0 && is_module_name file then Some (record { name = name.0; «module» = file }) else None
 
 -- the item of the fields after `run`
-unfoldable pub run_of : ℕ → List (List ℕ) → Option Item
-run_of processes fields = do
+unfoldable pub run_item : ℕ → List (List ℕ) → Option Item
+run_item processes fields = do
   p ← field_at fields
   process ← process_number_of processes p.0
   t ← field_at p.1
-  thread ← number_of most_thread t.0
+  thread ← number_up_to most_thread t.0
   times ← times_of t.1
   Some (Run process thread times)
 
 -- the process of the fields P and one more, which is the last, and that field
-unfoldable pub pair_of : ℕ → List (List ℕ) → Option (ℕ × List ℕ)
-pair_of processes fields = do
+unfoldable pub pair_in : ℕ → List (List ℕ) → Option (ℕ × List ℕ)
+pair_in processes fields = do
   p ← field_at fields
   process ← process_number_of processes p.0
   last ← last_of p.1
   Some (process, last)
 
 -- the item of the fields after `deliver`
-unfoldable pub deliver_of : ℕ → List (List ℕ) → Option Item
-deliver_of processes fields = do
-  pair ← pair_of processes fields
+unfoldable pub deliver_item : ℕ → List (List ℕ) → Option Item
+deliver_item processes fields = do
+  pair ← pair_in processes fields
   number ← positive_of most_datagram pair.1
   Some (Deliver pair.0 number)
 
 -- the process and the bytes of the fields P and HEX
-unfoldable pub bytes_of : ℕ → List (List ℕ) → Option (ℕ × List ℕ)
-bytes_of processes fields = do
-  pair ← pair_of processes fields
+unfoldable pub bytes_in : ℕ → List (List ℕ) → Option (ℕ × List ℕ)
+bytes_in processes fields = do
+  pair ← pair_in processes fields
   bytes ← hex_of pair.1
   Some (pair.0, bytes)
 
 -- the item of the fields after `inject`
-unfoldable pub inject_of : ℕ → List (List ℕ) → Option Item
-inject_of processes fields = option_map (λ x. Inject x.0 x.1) (bytes_of processes fields)
+unfoldable pub inject_item : ℕ → List (List ℕ) → Option Item
+inject_item processes fields = option_map (λ x. Inject x.0 x.1) (bytes_in processes fields)
 
 -- the item of the fields after `clock`
-unfoldable pub clock_of : ℕ → List (List ℕ) → Option Item
-clock_of processes fields = do
-  pair ← pair_of processes fields
+unfoldable pub clock_item : ℕ → List (List ℕ) → Option Item
+clock_item processes fields = do
+  pair ← pair_in processes fields
   value ← result_ok (within_i64 (signed_of pair.1))
   Some (Clock pair.0 value)
 
 -- the item of the fields after `random`
-unfoldable pub random_of : ℕ → List (List ℕ) → Option Item
-random_of processes fields = option_map (λ x. Random x.0 x.1) (bytes_of processes fields)
+unfoldable pub random_item : ℕ → List (List ℕ) → Option Item
+random_item processes fields = option_map (λ x. Random x.0 x.1) (bytes_in processes fields)
 
 -- the item of the fields after `signal`
-unfoldable pub signal_of : ℕ → List (List ℕ) → Option Item
-signal_of processes fields = do
-  pair ← pair_of processes fields
+unfoldable pub signal_item : ℕ → List (List ℕ) → Option Item
+signal_item processes fields = do
+  pair ← pair_in processes fields
   number ← positive_of most_signal pair.1
   Some (Signal pair.0 number)
 
 -- the item of the fields after `kill`
-unfoldable pub kill_of : ℕ → List (List ℕ) → Option Item
-kill_of processes fields = do
+unfoldable pub kill_item : ℕ → List (List ℕ) → Option Item
+kill_item processes fields = do
   p ← last_of fields
   process ← process_number_of processes p
   Some (Kill process)
 
 -- the item of a line, by its first word
-unfoldable pub item_of : ℕ → List ℕ → List (List ℕ) → Option Item
-item_of processes word fields =
-    if bytes_eq word (codes "run") then run_of processes fields else
-    (if bytes_eq word (codes "deliver") then deliver_of processes fields else
-    (if bytes_eq word (codes "inject") then inject_of processes fields else
-    (if bytes_eq word (codes "clock") then clock_of processes fields else
-    (if bytes_eq word (codes "random") then random_of processes fields else
-    (if bytes_eq word (codes "signal") then signal_of processes fields else
-    (if bytes_eq word (codes "kill") then kill_of processes fields else None))))))
+unfoldable pub item_by : ℕ → List ℕ → List (List ℕ) → Option Item
+item_by processes word fields =
+    if bytes_eq word (codes "run") then run_item processes fields else
+    (if bytes_eq word (codes "deliver") then deliver_item processes fields else
+    (if bytes_eq word (codes "inject") then inject_item processes fields else
+    (if bytes_eq word (codes "clock") then clock_item processes fields else
+    (if bytes_eq word (codes "random") then random_item processes fields else
+    (if bytes_eq word (codes "signal") then signal_item processes fields else
+    (if bytes_eq word (codes "kill") then kill_item processes fields else None))))))
 
 -- ---- lines
 
@@ -154,7 +154,7 @@ with_process part fields =
 
 -- one more item
 unfoldable pub with_item : Part → List ℕ → List (List ℕ) → Option Part
-with_item part word fields = option_map (λ item. record part { items = part.items ++ item ∷ [] }) (item_of (length part.processes) word fields)
+with_item part word fields = option_map (λ item. record part { items = part.items ++ item ∷ [] }) (item_by (length part.processes) word fields)
 
 -- one more line that isn't passed over
 unfoldable pub with_fields : Part → List ℕ → List (List ℕ) → Option Part
@@ -172,10 +172,10 @@ unfoldable pub with_line : Part → List ℕ → Option Part
 with_line part line = with_line_of part (fields_of line)
 
 -- A line was taken, and is allowed where something comes of it. Memory may run out at any time.
-abbrev pub Takes : Result Bool AllocError → Part → Option Part → Type 0
-Takes (Ok true) new found = found ≡ Some new
-Takes (Ok false) new found = found ≡ None
-Takes (Err e) new found = Unit {0}
+abbrev pub TakesLine : Result Bool AllocError → Part → Option Part → Type 0
+TakesLine (Ok true) new found = found ≡ Some new
+TakesLine (Ok false) new found = found ≡ None
+TakesLine (Err e) new found = Unit {0}
 
 -- ---- the whole
 

@@ -5,7 +5,7 @@ ghost use Rattle.std.specs.Str.{bytes_eq};
 ghost use Rattle.schedule_text.specs.Limits.{most_runs};
 ghost use Rattle.schedule_text.specs.Outcome.{Ends};
 ghost use Rattle.schedule_text.specs.Schedule.{IsSchedule, run_count};
-ghost use Rattle.schedule_text.specs.Reading.{Takes, nothing, schedule_part, whole_of, is_header as is_header_line};
+ghost use Rattle.schedule_text.specs.Reading.{TakesLine, nothing, schedule_part, whole_of, is_header as is_header_line};
 ghost use Rattle.schedule_text.specs.Reading.{with_line, with_fields, with_process, with_item};
 
 use crate::error::ScheduleError;
@@ -52,7 +52,7 @@ impl Draft {
     /// Takes the next line, and says whether it is allowed here.
     #[tactic(auto, unfolding(crate::specs::Reading::with_line))]
     pub(crate) fn take_line(&mut self, alloc: Global, line: &[u8]) -> Result<bool, AllocError>
-        ensures { Takes result self.new (with_line self.old line.now) }
+        ensures { TakesLine result self.new (with_line self.old line.now) }
     {
         let mut fields = Fields::new(line);
         match fields.next_field() {
@@ -70,7 +70,7 @@ impl Draft {
         word: &[u8],
         fields: &mut Fields,
     ) -> Result<bool, AllocError>
-        ensures { Takes result self.new (with_fields self.old word.now fields.old) }
+        ensures { TakesLine result self.new (with_fields self.old word.now fields.old) }
     {
         if !self.has_header {
             self.has_header = is_header(word, fields);
@@ -86,7 +86,7 @@ impl Draft {
     /// Takes a line with these fields after the word `process`.
     #[tactic(auto, unfolding(crate::specs::Reading::with_process))]
     fn take_process(&mut self, alloc: Global, fields: &mut Fields) -> Result<bool, AllocError>
-        ensures { Takes result self.new (with_process self.old fields.old) }
+        ensures { TakesLine result self.new (with_process self.old fields.old) }
     {
         if !self.items.is_empty() || self.processes.len() >= MOST_PROCESSES {
             return Ok(false);
@@ -109,7 +109,7 @@ impl Draft {
         word: &[u8],
         fields: &mut Fields,
     ) -> Result<bool, AllocError>
-        ensures { Takes result self.new (with_item self.old word.now fields.old) }
+        ensures { TakesLine result self.new (with_item self.old word.now fields.old) }
     {
         let Some(item) = read_item(alloc, word, self.processes.len() as u32, fields)? else {
             return Ok(false);

@@ -1,6 +1,6 @@
 // The fields of a line.
 ghost use Rattle.std.specs.Prelude.{◌≡◌, not, position, option_map};
-ghost use Rattle.schedule_text.specs.Fields.{is_blank, fields_of, last_of, TakesField};
+ghost use Rattle.schedule_text.specs.Fields.{is_separator, fields_of, last_of, TakesField};
 
 use std::marker::Model;
 
@@ -53,14 +53,14 @@ impl<'a> Fields<'a> {
 
 /// The place of the first byte that is no blank.
 fn field_start(bytes: &[u8]) -> Option<usize>
-    ensures { result ≡ position (λ b. not (is_blank b)) bytes.now }
+    ensures { result ≡ position (λ b. not (is_separator b)) bytes.now }
 {
     bytes.iter().position(|b| *b != b' ' && *b != b'\t')
 }
 
 /// The place of the first blank.
 fn blank_at(bytes: &[u8]) -> Option<usize>
-    ensures { result ≡ position is_blank bytes.now }
+    ensures { result ≡ position is_separator bytes.now }
 {
     bytes.iter().position(|b| *b == b' ' || *b == b'\t')
 }

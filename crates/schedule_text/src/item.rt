@@ -1,7 +1,7 @@
 // The items of a schedule.
 ghost use Rattle.std.specs.Prelude.{◌≡◌, IfOk, option_map};
 ghost use Rattle.schedule_text.specs.Schedule.{tries as item_tries};
-ghost use Rattle.schedule_text.specs.Reading.{item_of, run_of, pair_of, deliver_of, bytes_of, inject_of, clock_of, random_of, signal_of, kill_of};
+ghost use Rattle.schedule_text.specs.Reading.{item_by, run_item, pair_in, deliver_item, bytes_in, inject_item, clock_item, random_item, signal_item, kill_item};
 
 use crate::fields::Fields;
 use crate::limits::{MOST_DATAGRAM, MOST_SIGNAL, MOST_THREAD};
@@ -66,14 +66,14 @@ impl Item {
 
 /// The item of a line with this first word and these fields after it, where there are so many
 /// processes.
-#[tactic(auto, unfolding(crate::specs::Reading::item_of))]
+#[tactic(auto, unfolding(crate::specs::Reading::item_by))]
 pub(crate) fn read_item(
     alloc: Global,
     word: &[u8],
     processes: u32,
     fields: &mut Fields,
 ) -> Result<Option<Item>, AllocError>
-    ensures { IfOk result (λ item. item ≡ item_of processes word.now fields.old) }
+    ensures { IfOk result (λ item. item ≡ item_by processes word.now fields.old) }
 {
     if word == b"run".as_slice() {
         Ok(read_run(processes, fields))
@@ -95,9 +95,9 @@ pub(crate) fn read_item(
 }
 
 /// `run P T` and `run P T N`.
-#[tactic(auto, unfolding(crate::specs::Reading::run_of))]
+#[tactic(auto, unfolding(crate::specs::Reading::run_item))]
 fn read_run(processes: u32, fields: &mut Fields) -> Option<Item>
-    ensures { result ≡ run_of processes fields.old }
+    ensures { result ≡ run_item processes fields.old }
 {
     let process = process_number(fields.next_field()?, processes)?;
     let thread = number(fields.next_field()?, u32::from(MOST_THREAD))? as u16;
@@ -110,9 +110,9 @@ fn read_run(processes: u32, fields: &mut Fields) -> Option<Item>
 }
 
 /// The process P and the one field after it.
-#[tactic(auto, unfolding(crate::specs::Reading::pair_of))]
+#[tactic(auto, unfolding(crate::specs::Reading::pair_in))]
 fn read_pair<'a>(processes: u32, fields: &mut Fields<'a>) -> Option<(u32, &'a [u8])>
-    ensures { option_map (λ x. (x.0, x.1.now)) result ≡ pair_of processes fields.old }
+    ensures { option_map (λ x. (x.0, x.1.now)) result ≡ pair_in processes fields.old }
 {
     let process = process_number(fields.next_field()?, processes)?;
     let last = fields.last_field()?;
@@ -120,9 +120,9 @@ fn read_pair<'a>(processes: u32, fields: &mut Fields<'a>) -> Option<(u32, &'a [u
 }
 
 /// `deliver P N`.
-#[tactic(auto, unfolding(crate::specs::Reading::deliver_of))]
+#[tactic(auto, unfolding(crate::specs::Reading::deliver_item))]
 fn read_deliver(processes: u32, fields: &mut Fields) -> Option<Item>
-    ensures { result ≡ deliver_of processes fields.old }
+    ensures { result ≡ deliver_item processes fields.old }
 {
     let (process, word) = read_pair(processes, fields)?;
     let number = positive(word, MOST_DATAGRAM)?;
@@ -130,13 +130,13 @@ fn read_deliver(processes: u32, fields: &mut Fields) -> Option<Item>
 }
 
 /// The process P and the bytes of the one field after it.
-#[tactic(auto, unfolding(crate::specs::Reading::bytes_of))]
+#[tactic(auto, unfolding(crate::specs::Reading::bytes_in))]
 fn read_bytes(
     alloc: Global,
     processes: u32,
     fields: &mut Fields,
 ) -> Result<Option<(u32, Bytes)>, AllocError>
-    ensures { IfOk result (λ found. found ≡ bytes_of processes fields.old) }
+    ensures { IfOk result (λ found. found ≡ bytes_in processes fields.old) }
 {
     let Some((process, word)) = read_pair(processes, fields) else {
         return Ok(None);
@@ -148,13 +148,13 @@ fn read_bytes(
 }
 
 /// `inject P HEX`.
-#[tactic(auto, unfolding(crate::specs::Reading::inject_of))]
+#[tactic(auto, unfolding(crate::specs::Reading::inject_item))]
 fn read_inject(
     alloc: Global,
     processes: u32,
     fields: &mut Fields,
 ) -> Result<Option<Item>, AllocError>
-    ensures { IfOk result (λ item. item ≡ inject_of processes fields.old) }
+    ensures { IfOk result (λ item. item ≡ inject_item processes fields.old) }
 {
     match read_bytes(alloc, processes, fields)? {
         Some((process, bytes)) => Ok(Some(Item::Inject { process, bytes })),
@@ -163,9 +163,9 @@ fn read_inject(
 }
 
 /// `clock P V`.
-#[tactic(auto, unfolding(crate::specs::Reading::clock_of))]
+#[tactic(auto, unfolding(crate::specs::Reading::clock_item))]
 fn read_clock(processes: u32, fields: &mut Fields) -> Option<Item>
-    ensures { result ≡ clock_of processes fields.old }
+    ensures { result ≡ clock_item processes fields.old }
 {
     let (process, word) = read_pair(processes, fields)?;
     let value = read_signed(word).ok()?;
@@ -173,13 +173,13 @@ fn read_clock(processes: u32, fields: &mut Fields) -> Option<Item>
 }
 
 /// `random P HEX`.
-#[tactic(auto, unfolding(crate::specs::Reading::random_of))]
+#[tactic(auto, unfolding(crate::specs::Reading::random_item))]
 fn read_random(
     alloc: Global,
     processes: u32,
     fields: &mut Fields,
 ) -> Result<Option<Item>, AllocError>
-    ensures { IfOk result (λ item. item ≡ random_of processes fields.old) }
+    ensures { IfOk result (λ item. item ≡ random_item processes fields.old) }
 {
     match read_bytes(alloc, processes, fields)? {
         Some((process, bytes)) => Ok(Some(Item::Random { process, bytes })),
@@ -188,9 +188,9 @@ fn read_random(
 }
 
 /// `signal P S`.
-#[tactic(auto, unfolding(crate::specs::Reading::signal_of))]
+#[tactic(auto, unfolding(crate::specs::Reading::signal_item))]
 fn read_signal(processes: u32, fields: &mut Fields) -> Option<Item>
-    ensures { result ≡ signal_of processes fields.old }
+    ensures { result ≡ signal_item processes fields.old }
 {
     let (process, word) = read_pair(processes, fields)?;
     let signal = positive(word, u64::from(MOST_SIGNAL))? as u8;
@@ -198,9 +198,9 @@ fn read_signal(processes: u32, fields: &mut Fields) -> Option<Item>
 }
 
 /// `kill P`.
-#[tactic(auto, unfolding(crate::specs::Reading::kill_of))]
+#[tactic(auto, unfolding(crate::specs::Reading::kill_item))]
 fn read_kill(processes: u32, fields: &mut Fields) -> Option<Item>
-    ensures { result ≡ kill_of processes fields.old }
+    ensures { result ≡ kill_item processes fields.old }
 {
     let process = process_number(fields.last_field()?, processes)?;
     Some(Item::Kill { process })

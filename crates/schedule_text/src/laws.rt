@@ -1,7 +1,7 @@
 // What holds of the grammar, whatever the bytes are. These calls do nothing.
 ghost use Rattle.schedule_text.specs.Laws.{SpellOne, SpellOrBad, NeverBoth, OneBadLine, GivesSchedules, RefusesMore, NamesBadLine, TextSpells, TextIsRead};
 
-use fri_text::{exact_hex, read_back};
+use fri_text::{exact_hex, words_read_back};
 
 /// Bytes spell at most one schedule.
 pub fn one_schedule()
@@ -27,6 +27,6 @@ pub fn written_is_read()
     ensures spells { TextSpells }
     ensures read { TextIsRead }
 {
-    read_back();
+    words_read_back();
     exact_hex();
 }

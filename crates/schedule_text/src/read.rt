@@ -2,7 +2,7 @@
 ghost use Rattle.std.specs.Prelude.{◌≡◌, ℕ, ◌<◌, ◌≤◌, IfOk, IsErrOf, Ok, Err};
 ghost use Rattle.schedule_text.specs.Grammar.{Spells, BadAt};
 ghost use Rattle.schedule_text.specs.Limits.{most_runs};
-ghost use Rattle.schedule_text.specs.Outcome.{Answers, Reads};
+ghost use Rattle.schedule_text.specs.Outcome.{Answers, ReadsLines};
 ghost use Rattle.schedule_text.specs.Reading.{schedule_of, BadLineAt, TooManyRuns};
 ghost use Rattle.schedule_text.specs.Schedule.{Schedule as Seen, IsSchedule, run_count};
 
@@ -42,7 +42,7 @@ fn read_whole(alloc: Global, bytes: &[u8]) -> Result<Schedule, ScheduleError>
 
 /// What comes of all lines.
 fn read_lines(alloc: Global, bytes: &[u8]) -> Result<Draft, ScheduleError>
-    ensures { Reads result (schedule_of bytes.now) }
+    ensures { ReadsLines result (schedule_of bytes.now) }
 {
     let mut draft = Draft::new(alloc);
     let mut lines = Cursor::new(bytes);

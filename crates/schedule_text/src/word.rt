@@ -1,7 +1,7 @@
 // The numbers and names that the fields of a line write.
 ghost use Rattle.std.specs.Prelude.{◌≡◌, ◌≤◌, IfOk, IfSome};
 ghost use Rattle.std.specs.List.{list_all};
-ghost use Rattle.schedule_text.specs.Reading.{number_of, positive_of, process_number_of, times_of};
+ghost use Rattle.schedule_text.specs.Reading.{number_up_to, positive_of, process_number_of, times_of};
 ghost use Rattle.schedule_text.specs.Schedule.{is_module_name as is_module_word, is_visible};
 ghost use Rattle.fri_text.specs.Hex.{hex_of};
 
@@ -13,7 +13,7 @@ use std::alloc::{AllocError, Global};
 
 /// The number that the word writes, where it is at most `most`.
 pub(crate) fn number(word: &[u8], most: u32) -> Option<u32>
-    ensures value { result ≡ number_of most word.now }
+    ensures value { result ≡ number_up_to most word.now }
     ensures bound { IfSome result (λ n. n ≤ most) }
 {
     let number = read_decimal(word, u64::from(most)).ok()?;

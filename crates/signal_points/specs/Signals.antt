@@ -16,8 +16,8 @@ abbrev pub no_handlers : List (Option ℕ)
 no_handlers = replicate 32 None
 
 -- the signal is pending
-abbrev pub is_pending : List Bool → ℕ → Bool
-is_pending pending signal = slice_index_or pending signal false
+abbrev pub is_pending_in : List Bool → ℕ → Bool
+is_pending_in pending signal = slice_index_or pending signal false
 
 -- some signal is pending
 abbrev pub any_pending : List Bool → Bool

@@ -34,22 +34,22 @@ impl Handlers {
     }
 
     /// Sets the signal's handler, or removes it.
-    pub fn set(&mut self, s: u8, f: Option<u32>)
-        requires first { 1 ≤ s }
-        requires last { s ≤ 31 }
-        ensures value { self.new ≡ with_handler self.old s f }
-        ensures handler { handler_of self.new s ≡ f }
-        ensures others { (q : ℕ) → q ≢ s → handler_of self.new q ≡ handler_of self.old q }
+    pub fn set(&mut self, signal: u8, f: Option<u32>)
+        requires first { 1 ≤ signal }
+        requires last { signal ≤ 31 }
+        ensures value { self.new ≡ with_handler self.old signal f }
+        ensures handler { handler_of self.new signal ≡ f }
+        ensures others { (q : ℕ) → q ≢ signal → handler_of self.new q ≡ handler_of self.old q }
     {
-        self.functions[s as usize] = f;
+        self.functions[signal as usize] = f;
     }
 
     /// The signal's handler. Any other number has none.
-    pub fn get(&self, s: u8) -> Option<u32>
-        ensures value { result ≡ handler_of self.now s }
-        ensures zero { s ≡ 0 → result ≡ None }
-        ensures past { 32 ≤ s → result ≡ None }
+    pub fn get(&self, signal: u8) -> Option<u32>
+        ensures value { result ≡ handler_of self.now signal }
+        ensures zero { signal ≡ 0 → result ≡ None }
+        ensures past { 32 ≤ signal → result ≡ None }
     {
-        self.functions.get(usize::from(s)).copied().flatten()
+        self.functions.get(usize::from(signal)).copied().flatten()
     }
 }

@@ -1,6 +1,6 @@
 // Which signals are pending.
 ghost use Rattle.std.specs.Prelude.{◌≡◌, ◌≢◌, ◌↔◌, ℕ, ◌≤◌, true, false, IsTrue};
-ghost use Rattle.signal_points.specs.Signals.{any_pending, is_pending, none_pending, with_pending};
+ghost use Rattle.signal_points.specs.Signals.{any_pending, is_pending_in, none_pending, with_pending};
 
 use std::marker::Model;
 
@@ -39,41 +39,41 @@ impl Pending {
     }
 
     /// Adds the signal.
-    pub fn raise(&mut self, s: u8)
-        requires first { 1 ≤ s }
-        requires last { s ≤ 31 }
-        ensures value { self.new ≡ with_pending self.old s true }
-        ensures signal { is_pending self.new s ≡ true }
-        ensures others { (q : ℕ) → q ≢ s → is_pending self.new q ≡ is_pending self.old q }
+    pub fn raise(&mut self, signal: u8)
+        requires first { 1 ≤ signal }
+        requires last { signal ≤ 31 }
+        ensures value { self.new ≡ with_pending self.old signal true }
+        ensures signal { is_pending_in self.new signal ≡ true }
+        ensures others { (q : ℕ) → q ≢ signal → is_pending_in self.new q ≡ is_pending_in self.old q }
     {
-        self.signals[s as usize] = true;
+        self.signals[signal as usize] = true;
         self.any = true;
     }
 
     /// Removes the signal.
-    pub fn clear(&mut self, s: u8)
-        requires first { 1 ≤ s }
-        requires last { s ≤ 31 }
-        ensures value { self.new ≡ with_pending self.old s false }
-        ensures signal { is_pending self.new s ≡ false }
-        ensures others { (q : ℕ) → q ≢ s → is_pending self.new q ≡ is_pending self.old q }
+    pub fn clear(&mut self, signal: u8)
+        requires first { 1 ≤ signal }
+        requires last { signal ≤ 31 }
+        ensures value { self.new ≡ with_pending self.old signal false }
+        ensures signal { is_pending_in self.new signal ≡ false }
+        ensures others { (q : ℕ) → q ≢ signal → is_pending_in self.new q ≡ is_pending_in self.old q }
     {
-        self.signals[s as usize] = false;
+        self.signals[signal as usize] = false;
         self.any = has_any(&self.signals);
     }
 
     /// Whether the signal is in the set.
-    pub fn has(&self, s: u8) -> bool
-        requires first { 1 ≤ s }
-        requires last { s ≤ 31 }
-        ensures { result ≡ is_pending self.now s }
+    pub fn has(&self, signal: u8) -> bool
+        requires first { 1 ≤ signal }
+        requires last { signal ≤ 31 }
+        ensures { result ≡ is_pending_in self.now signal }
     {
-        self.signals[s as usize]
+        self.signals[signal as usize]
     }
 
     /// Whether no signal is in the set.
     pub fn is_empty(&self) -> bool
-        ensures { IsTrue result ↔ ((s : ℕ) → is_pending self.now s ≡ false) }
+        ensures { IsTrue result ↔ ((signal : ℕ) → is_pending_in self.now signal ≡ false) }
     {
         !self.any
     }

@@ -14,7 +14,7 @@ use Rattle.watch_expr.specs.declared.expr.Agg.TheVariants as agg
 use Rattle.watch_expr.specs.declared.expr.Width.{Width}
 use Rattle.watch_expr.specs.declared.expr.Width.TheVariants as width
 use Rattle.watch_expr.specs.declared.word.PlaceWord.TheVariants as place
-use Rattle.watch_expr.specs.Tree.{Tree}
+use Rattle.watch_expr.specs.Expression.{Expression}
 use Rattle.watch_expr.specs.Spelling.{is_word_byte, is_word, number_of, at_most, binary_sign, unary_sign, agg_word, place_word}
 use Rattle.watch_expr.specs.Grammar.{IsAt, higher, two, one, number, variable, brackets, over, load, global, clock, events, size}
 use Rattle.watch_expr.specs.Laws.{is_apart, NoneApart}
@@ -130,7 +130,7 @@ joined (t ∷ a) b h k =
     in_front t (a ++ b) p.0 (joined a b p.1 k)
 
 module _ (names : List (List ℕ)) where
-  all_in : {k : ℕ} {ts : List (List ℕ)} {x : Tree} → IsAt names k ts x → AllIn ts
+  all_in : {k : ℕ} {ts : List (List ℕ)} {x : Expression} → IsAt names k ts x → AllIn ts
   all_in (higher h) = all_in h
   all_in (two {a} {b} op p q) = joined a (binary_sign op ∷ b) (all_in p) (in_front (binary_sign op) b (binary_apart op) (all_in q))
   all_in (one {a} op p) = in_front (unary_sign op) a (unary_apart op) (all_in p)

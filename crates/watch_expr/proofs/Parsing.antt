@@ -8,10 +8,10 @@ use Rattle.watch_expr.specs.declared.stack.Frame.{Frame}
 use Rattle.watch_expr.specs.declared.stack.Mode.{Mode}
 use Rattle.watch_expr.specs.declared.stack.Step.{Step}
 use Rattle.watch_expr.specs.declared.stack.Step.TheVariants as stepped
-use Rattle.watch_expr.specs.Tree.{Tree, tree}
+use Rattle.watch_expr.specs.Expression.{Expression, expression_of}
 use Rattle.watch_expr.specs.Lexing.{Lexed, texts}
-use Rattle.watch_expr.specs.Grammar.{IsExpr, Takes, Parsed}
-use Rattle.watch_expr.specs.Machine.{State, Want, step, steps, whole, state, Finishes, Steps}
+use Rattle.watch_expr.specs.Grammar.{IsExpr, TakesExpr, ParsedExpr}
+use Rattle.watch_expr.specs.Machine.{MachineState, Want, step, steps, whole, state, Finishes, Steps}
 use Rattle.watch_expr.proofs.Reading.{Stands, steps_append, steps_keep, stands_begins, whole_says, whole_again, begins_reads}
 
 -- ---- lists
@@ -43,7 +43,7 @@ taken-more ts from at t le e =
 past : (ts : List (List ℕ)) (from at : ℕ) → from ≤ at → slice_get ts at ≡ None → at - from < length (drop from ts) → ⊥
 past ts from at le e lt = missing ts at e (omega (arith, length-drop from ts))
 
-finishes_as : (line : Lexed) (a b : State) (at : ℕ) (result : Result (Expr × ℕ) ExprError) → whole a ≡ whole b → Finishes line a at result → Finishes line b at result
+finishes_as : (line : Lexed) (a b : MachineState) (at : ℕ) (result : Result (Expr × ℕ) ExprError) → whole a ≡ whole b → Finishes line a at result → Finishes line b at result
 finishes_as line a b at (Ok r) e f = (sym e ∙ f.0, f.1)
 finishes_as line a b at (Err (Syntax column)) e f = (sym e ∙ f.0, f.1)
 finishes_as line a b at (Err NoNode) e f = f
@@ -53,17 +53,17 @@ finishes_as line a b at (Err NoMemory) e f = tt
 
 module _ (names : List (List ℕ)) where
   -- the tokens from one number on and below another led to the state
-  pub record Reached (ts : List (List ℕ)) (from at : ℕ) (st : State) : Type 0 where
+  pub record Reached (ts : List (List ℕ)) (from at : ℕ) (st : MachineState) : Type 0 where
     pub below : from ≤ at
     pub within : at - from ≤ length (drop from ts)
     pub reads : steps names (Some (Want [])) (take (at - from) (drop from ts)) ≡ Some st
 
   -- and the next one, if any, goes on with no expression
-  pub record Stops (ts : List (List ℕ)) (from at : ℕ) (st : State) : Type 0 where
+  pub record Stops (ts : List (List ℕ)) (from at : ℕ) (st : MachineState) : Type 0 where
     pub reached : Reached ts from at st
     pub refused : at - from < length (drop from ts) → steps names (Some (Want [])) (take (at - from + 1) (drop from ts)) ≡ None
 
-  takes : (ts : List (List ℕ)) (from at : ℕ) (st : State) → Stops ts from at st → Takes names (drop from ts) (at - from)
+  takes : (ts : List (List ℕ)) (from at : ℕ) (st : MachineState) → Stops ts from at st → TakesExpr names (drop from ts) (at - from)
   takes ts from at st h =
       let stands : Stands names (Want []) [] = refl in
       record {
@@ -71,25 +71,25 @@ module _ (names : List (List ℕ)) where
         begins = stands_begins names st _ (steps_keep names (Want []) [] _ st stands h.reached.reads);
         longest = λ lt b.
             let r = begins_reads names _ b in
-            let e : ◌≡◌ {A = Option State} (Some r.0) None = sym r.1 ∙ h.refused lt in absurd cc;
+            let e : ◌≡◌ {A = Option MachineState} (Some r.0) None = sym r.1 ∙ h.refused lt in absurd cc;
       }
 
-  spelled : (ts : List (List ℕ)) (from at : ℕ) (st : State) (x : Tree) → Stops ts from at st → whole st ≡ Some x → IsExpr names (take (at - from) (drop from ts)) x
+  spelled : (ts : List (List ℕ)) (from at : ℕ) (st : MachineState) (x : Expression) → Stops ts from at st → whole st ≡ Some x → IsExpr names (take (at - from) (drop from ts)) x
   spelled ts from at st x h w =
       let stands : Stands names (Want []) [] = refl in
       whole_says names st _ x (steps_keep names (Want []) [] _ st stands h.reached.reads) w
 
-  none : (ts : List (List ℕ)) (from at : ℕ) (st : State) → Stops ts from at st → whole st ≡ None → (x : Tree) → IsExpr names (take (at - from) (drop from ts)) x → ⊥
+  none : (ts : List (List ℕ)) (from at : ℕ) (st : MachineState) → Stops ts from at st → whole st ≡ None → (x : Expression) → IsExpr names (take (at - from) (drop from ts)) x → ⊥
   none ts from at st h w x s =
       let again = whole_again names _ x s in
-      let same : ◌≡◌ {A = Option State} (Some again.0) (Some st) = sym again.1 ∙ h.reached.reads in
+      let same : ◌≡◌ {A = Option MachineState} (Some again.0) (Some st) = sym again.1 ∙ h.reached.reads in
       let i : again.0 ≡ st = cc in
-      let e : ◌≡◌ {A = Option Tree} (Some x) None = sym again.2 ∙ ap whole i ∙ w in cc
+      let e : ◌≡◌ {A = Option Expression} (Some x) None = sym again.2 ∙ ap whole i ∙ w in cc
 
-  pub parsed : (line : Lexed) (from at : ℕ) (st : State) (result : Result (Expr × ℕ) ExprError) → Stops (texts line) from at st → Finishes line st at result → Parsed names line from result
+  pub parsed : (line : Lexed) (from at : ℕ) (st : MachineState) (result : Result (Expr × ℕ) ExprError) → Stops (texts line) from at st → Finishes line st at result → ParsedExpr names line from result
   parsed line from at st (Ok r) h f =
       let ts = texts line in
-      subst (λ (n : ℕ). (from ≤ n) × Takes names (drop from ts) (n - from) × IsExpr names (take (n - from) (drop from ts)) (tree r.0)) (sym f.1) (h.reached.below, takes ts from at st h, spelled ts from at st (tree r.0) h f.0)
+      subst (λ (n : ℕ). (from ≤ n) × TakesExpr names (drop from ts) (n - from) × IsExpr names (take (n - from) (drop from ts)) (expression_of r.0)) (sym f.1) (h.reached.below, takes ts from at st h, spelled ts from at st (expression_of r.0) h f.0)
   parsed line from at st (Err (Syntax column)) h f = (at, f.1, h.reached.below, takes (texts line) from at st h, none (texts line) from at st h f.0)
   parsed line from at st (Err NoNode) h f = f
   parsed line from at st (Err TooDeep) h f = f
@@ -98,7 +98,7 @@ module _ (names : List (List ℕ)) where
 
   -- ---- the loop
 
-  only : (o : Option State) → steps names o [] ≡ o
+  only : (o : Option MachineState) → steps names o [] ≡ o
   only None = refl
   only (Some st) = refl
 
@@ -112,15 +112,15 @@ module _ (names : List (List ℕ)) where
         reads = ap (λ (n : ℕ). steps names (Some (Want [])) (take n (drop from ts))) zero_long;
       }
 
-  reads_more : (ts : List (List ℕ)) (from at : ℕ) (t : List ℕ) (st : State) → Reached ts from at st → slice_get ts at ≡ Some t → steps names (Some (Want [])) (take (at - from + 1) (drop from ts)) ≡ step names st t
+  reads_more : (ts : List (List ℕ)) (from at : ℕ) (t : List ℕ) (st : MachineState) → Reached ts from at st → slice_get ts at ≡ Some t → steps names (Some (Want [])) (take (at - from + 1) (drop from ts)) ≡ step names st t
   reads_more ts from at t st h e =
       ap (steps names (Some (Want []))) (taken-more ts from at t h.below e)
       ∙ steps_append names (Some (Want [])) (take (at - from) (drop from ts)) (t ∷ [])
-      ∙ ap (λ (o : Option State). steps names o (t ∷ [])) h.reads
+      ∙ ap (λ (o : Option MachineState). steps names o (t ∷ [])) h.reads
       ∙ only (step names st t)
 
   -- the token was taken
-  pub went_on : (ts : List (List ℕ)) (from at : ℕ) (t : List ℕ) (old : State) (fs : List Frame) (r : Step) (m : Mode) → Reached ts from at old → slice_get ts at ≡ Some t → r ≡ stepped.Next m → Steps names old t fs r → Reached ts from (at + 1) (state fs m)
+  pub went_on : (ts : List (List ℕ)) (from at : ℕ) (t : List ℕ) (old : MachineState) (fs : List Frame) (r : Step) (m : Mode) → Reached ts from at old → slice_get ts at ≡ Some t → r ≡ stepped.Next m → Steps names old t fs r → Reached ts from (at + 1) (state fs m)
   went_on ts from at t old fs r m h e is s =
       let next : step names old t ≡ Some (state fs m) = subst (λ (q : Step). Steps names old t fs q) is s in
       let place : at + 1 - from ≡ at - from + 1 = omega (arith, h.below) in
@@ -131,12 +131,12 @@ module _ (names : List (List ℕ)) where
       }
 
   -- and here it was not
-  pub stopped : (line : Lexed) (from at : ℕ) (t : List ℕ) (old : State) (fs : List Frame) (r : Step) (m : Mode) (result : Result (Expr × ℕ) ExprError) → Reached (texts line) from at old → slice_get (texts line) at ≡ Some t → r ≡ stepped.Refused m → Steps names old t fs r → Finishes line (state fs m) at result → Parsed names line from result
+  pub stopped : (line : Lexed) (from at : ℕ) (t : List ℕ) (old : MachineState) (fs : List Frame) (r : Step) (m : Mode) (result : Result (Expr × ℕ) ExprError) → Reached (texts line) from at old → slice_get (texts line) at ≡ Some t → r ≡ stepped.Refused m → Steps names old t fs r → Finishes line (state fs m) at result → ParsedExpr names line from result
   stopped line from at t old fs r m result h e is s f =
       let both : (step names old t ≡ None) × (whole (state fs m) ≡ whole old) = subst (λ (q : Step). Steps names old t fs q) is s in
       parsed line from at old result (record { reached = h; refused = λ lt. reads_more (texts line) from at t old h e ∙ both.0 }) (finishes_as line (state fs m) old at result both.1 f)
 
   -- all tokens were read
-  pub all_taken : (line : Lexed) (from at : ℕ) (st : State) (result : Result (Expr × ℕ) ExprError) → Reached (texts line) from at st → slice_get (texts line) at ≡ None → Finishes line st at result → Parsed names line from result
+  pub all_taken : (line : Lexed) (from at : ℕ) (st : MachineState) (result : Result (Expr × ℕ) ExprError) → Reached (texts line) from at st → slice_get (texts line) at ≡ None → Finishes line st at result → ParsedExpr names line from result
   all_taken line from at st result h e f =
       parsed line from at st result (record { reached = h; refused = λ lt. absurd (past (texts line) from at h.below e lt) }) f

@@ -6,7 +6,7 @@ use Rattle.std.proofs.lemmas.Grind.{common_steps}
 use Rattle.std.proofs.lemmas.List.{drop-drop, length-take-le}
 use Rattle.std.specs.Prelude.{slice_get}
 use Rattle.guest_memory.specs.Memory.{Memory, bytes_from, stretch}
-use Rattle.watch_expr.specs.View.{Node, ◌>>=◌, part_at, part_of, piece_at, piece_of}
+use Rattle.watch_expr.specs.View.{Node, ◌>>=◌, part_at, part_of, bytes_of_node, piece_of}
 
 part_inside : (memory : Memory) (addr len : ℕ) (part : List ℕ) → Some part ≡ part_of memory addr len
     → (addr + len ≤ length memory.bytes) × (part ≡ bytes_from memory addr (stretch addr len))
@@ -62,5 +62,5 @@ at_node (Some s) addr count first rest zeros tail is_first is_rest short few = i
 pub two_parts : (nodes : List Node) (node addr count : ℕ) (first rest zeros tail : List ℕ)
     → Some first ≡ part_at nodes node addr count → Some rest ≡ part_at nodes node (addr + length first) (count - length first)
     → length first < count → count ≤ 8
-    → Some (take count (take (length first) (first ++ zeros) ++ (rest ++ tail))) ≡ piece_at nodes node addr count
+    → Some (take count (take (length first) (first ++ zeros) ++ (rest ++ tail))) ≡ bytes_of_node nodes node addr count
 two_parts nodes node addr count first rest zeros tail is_first is_rest short few = at_node (slice_get nodes node) addr count first rest zeros tail is_first is_rest short few

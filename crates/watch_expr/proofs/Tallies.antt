@@ -8,9 +8,9 @@ use Rattle.watch_expr.specs.declared.expr.Agg.{Agg}
 use Rattle.watch_expr.specs.declared.expr.Agg.TheVariants as agg
 use Rattle.watch_expr.specs.declared.value.tally.Tally.{Tally}
 use Rattle.watch_expr.specs.declared.value.tally.Tally.TheVariants.{Sum, Min, Max, Count}
-use Rattle.watch_expr.specs.Tree.{Tree, Over}
-use Rattle.watch_expr.specs.Value.{Setting, all_of, is_zero, over, value_at}
-use Rattle.watch_expr.specs.ValueTally.{IsWithin, added, start, total}
+use Rattle.watch_expr.specs.Expression.{Expression, Over}
+use Rattle.watch_expr.specs.Value.{Setting, all_numbers, is_zero, over, value_at}
+use Rattle.watch_expr.specs.ValueTally.{IsWithin, added, empty_tally, total}
 use Rattle.watch_expr.specs.View.{◌>>=◌}
 
 -- ---- a whole list of values
@@ -31,7 +31,7 @@ counts : (n : ℕ) (ws : List ℤ) → fold added (Count n) ws ≡ Count (fold (
 counts n [] = refl
 counts n (w ∷ ws) = counts (n + cond (not (is_zero w)) 1 0) ws
 
-total_says : (a : Agg) (ws : List ℤ) → total (fold added (start a) ws) ≡ over a ws
+total_says : (a : Agg) (ws : List ℤ) → total (fold added (empty_tally a) ws) ≡ over a ws
 total_says agg.Sum ws = ap total (sums (pos 0) ws)
 total_says agg.Min [] = refl
 total_says agg.Min (w ∷ ws) = ap total (leasts w ws)
@@ -42,8 +42,8 @@ total_says agg.Count ws = ap total (counts 0 ws)
 -- ---- the nodes from one on
 
 -- what becomes of a tally with the values from the node k on
-abbrev pub ending : Setting → Tree → Tally → ℕ → ℕ → Option ℤ
-ending s x tally k n = all_of (map (λ node. value_at s (Some node) x) (range_with_len k (n - k))) >>= λ ws. total (fold added tally ws)
+abbrev pub ending : Setting → Expression → Tally → ℕ → ℕ → Option ℤ
+ending s x tally k n = all_numbers (map (λ node. value_at s (Some node) x) (range_with_len k (n - k))) >>= λ ws. total (fold added tally ws)
 
 range_next : (k n : ℕ) → k < n → range_with_len k (n - k) ≡ k ∷ range_with_len (k + 1) (n - (k + 1))
 range_next k n lt = let e : n - k ≡ suc (n - (k + 1)) = omega arith in ap (range_with_len k) e
@@ -53,32 +53,32 @@ front : (tally : Tally) (a : ℤ) (o : Option (List ℤ))
 front tally a None = refl
 front tally a (Some ws) = refl
 
-ending_some : (s : Setting) (x : Tree) (tally : Tally) (k n : ℕ) (a : ℤ) → k < n → value_at s (Some k) x ≡ Some a
+ending_some : (s : Setting) (x : Expression) (tally : Tally) (k n : ℕ) (a : ℤ) → k < n → value_at s (Some k) x ≡ Some a
     → ending s x tally k n ≡ ending s x (added tally a) (k + 1) n
 ending_some s x tally k n a lt e =
-    let rest = all_of (map (λ node. value_at s (Some node) x) (range_with_len (k + 1) (n - (k + 1)))) in
-    ap (λ (ks : List ℕ). all_of (map (λ node. value_at s (Some node) x) ks) >>= λ ws. total (fold added tally ws)) (range_next k n lt)
-    ∙ ap (λ (o : Option ℤ). all_of (o ∷ map (λ node. value_at s (Some node) x) (range_with_len (k + 1) (n - (k + 1)))) >>= λ ws. total (fold added tally ws)) e
+    let rest = all_numbers (map (λ node. value_at s (Some node) x) (range_with_len (k + 1) (n - (k + 1)))) in
+    ap (λ (ks : List ℕ). all_numbers (map (λ node. value_at s (Some node) x) ks) >>= λ ws. total (fold added tally ws)) (range_next k n lt)
+    ∙ ap (λ (o : Option ℤ). all_numbers (o ∷ map (λ node. value_at s (Some node) x) (range_with_len (k + 1) (n - (k + 1)))) >>= λ ws. total (fold added tally ws)) e
     ∙ front tally a rest
 
-ending_none : (s : Setting) (x : Tree) (tally : Tally) (k n : ℕ) → k < n → value_at s (Some k) x ≡ None → ending s x tally k n ≡ None
+ending_none : (s : Setting) (x : Expression) (tally : Tally) (k n : ℕ) → k < n → value_at s (Some k) x ≡ None → ending s x tally k n ≡ None
 ending_none s x tally k n lt e =
-    ap (λ (ks : List ℕ). all_of (map (λ node. value_at s (Some node) x) ks) >>= λ ws. total (fold added tally ws)) (range_next k n lt)
-    ∙ ap (λ (o : Option ℤ). all_of (o ∷ map (λ node. value_at s (Some node) x) (range_with_len (k + 1) (n - (k + 1)))) >>= λ ws. total (fold added tally ws)) e
+    ap (λ (ks : List ℕ). all_numbers (map (λ node. value_at s (Some node) x) ks) >>= λ ws. total (fold added tally ws)) (range_next k n lt)
+    ∙ ap (λ (o : Option ℤ). all_numbers (o ∷ map (λ node. value_at s (Some node) x) (range_with_len (k + 1) (n - (k + 1)))) >>= λ ws. total (fold added tally ws)) e
 
-ending_all : (s : Setting) (x : Tree) (tally : Tally) (k n : ℕ) → n ≤ k → ending s x tally k n ≡ total tally
+ending_all : (s : Setting) (x : Expression) (tally : Tally) (k n : ℕ) → n ≤ k → ending s x tally k n ≡ total tally
 ending_all s x tally k n le =
     let e : n - k ≡ 0 = omega arith in
-    ap (λ (m : ℕ). all_of (map (λ node. value_at s (Some node) x) (range_with_len k m)) >>= λ ws. total (fold added tally ws)) e
+    ap (λ (m : ℕ). all_numbers (map (λ node. value_at s (Some node) x) (range_with_len k m)) >>= λ ws. total (fold added tally ws)) e
 
-begun : (a : Agg) (o : Option (List ℤ)) → ◌≡◌ {A = Option ℤ} (o >>= λ ws. total (fold added (start a) ws)) (o >>= over a)
+begun : (a : Agg) (o : Option (List ℤ)) → ◌≡◌ {A = Option ℤ} (o >>= λ ws. total (fold added (empty_tally a) ws)) (o >>= over a)
 begun a None = refl
 begun a (Some ws) = total_says a ws
 
-ending_first : (s : Setting) (x : Tree) (a : Agg) (each : Option ℕ) → ending s x (start a) 0 (length s.nodes) ≡ value_at s each (Over a x)
+ending_first : (s : Setting) (x : Expression) (a : Agg) (each : Option ℕ) → ending s x (empty_tally a) 0 (length s.nodes) ≡ value_at s each (Over a x)
 ending_first s x a each =
     let z : length s.nodes - 0 ≡ length s.nodes = omega arith in
-    ap (λ (m : ℕ). all_of (map (λ node. value_at s (Some node) x) (range_with_len 0 m)) >>= λ ws. total (fold added (start a) ws)) z ∙ begun a _
+    ap (λ (m : ℕ). all_numbers (map (λ node. value_at s (Some node) x) (range_with_len 0 m)) >>= λ ws. total (fold added (empty_tally a) ws)) z ∙ begun a _
 
 -- ---- how far a tally can have come
 
@@ -91,27 +91,27 @@ within_more (Count m) k a fit within = grind arith
 -- ---- the loop over the nodes
 
 -- the tally at node k comes to the aggregate's value
-pub record IsOnTheWay (s : Setting) (x : Tree) (first tally : Tally) (k : ℕ) : Type 0 where
+pub record IsOnTheWay (s : Setting) (x : Expression) (first tally : Tally) (k : ℕ) : Type 0 where
   pub within : IsWithin tally k
   pub so_far : ending s x tally k (length s.nodes) ≡ ending s x first 0 (length s.nodes)
 
-pub ends_none : (s : Setting) (x y : Tree) (a : Agg) (each : Option ℕ) (first tally : Tally) (k : ℕ)
-    → first ≡ start a → IsOnTheWay s x first tally k → k < length s.nodes → y ≡ x → None ≡ value_at s (Some k) y → None ≡ value_at s each (Over a x)
+pub ends_none : (s : Setting) (x y : Expression) (a : Agg) (each : Option ℕ) (first tally : Tally) (k : ℕ)
+    → first ≡ empty_tally a → IsOnTheWay s x first tally k → k < length s.nodes → y ≡ x → None ≡ value_at s (Some k) y → None ≡ value_at s each (Over a x)
 ends_none s x y a each first tally k begins way lt same none =
-    sym (ending_none s x tally k (length s.nodes) lt (sym (none ∙ ap (λ (t : Tree). value_at s (Some k) t) same))) ∙ way.so_far
+    sym (ending_none s x tally k (length s.nodes) lt (sym (none ∙ ap (λ (t : Expression). value_at s (Some k) t) same))) ∙ way.so_far
     ∙ ap (λ (t : Tally). ending s x t 0 (length s.nodes)) begins ∙ ending_first s x a each
 
-pub ends_all : (s : Setting) (x : Tree) (a : Agg) (each : Option ℕ) (first tally : Tally) (k : ℕ)
-    → first ≡ start a → IsOnTheWay s x first tally k → length s.nodes ≤ k → total tally ≡ value_at s each (Over a x)
+pub ends_all : (s : Setting) (x : Expression) (a : Agg) (each : Option ℕ) (first tally : Tally) (k : ℕ)
+    → first ≡ empty_tally a → IsOnTheWay s x first tally k → length s.nodes ≤ k → total tally ≡ value_at s each (Over a x)
 ends_all s x a each first tally k begins way le =
     sym (ending_all s x tally k (length s.nodes) le) ∙ way.so_far
     ∙ ap (λ (t : Tally). ending s x t 0 (length s.nodes)) begins ∙ ending_first s x a each
 
-pub goes_on : (s : Setting) (x y : Tree) (first tally next : Tally) (k : ℕ) (z : ℤ)
+pub goes_on : (s : Setting) (x y : Expression) (first tally next : Tally) (k : ℕ) (z : ℤ)
     → IsOnTheWay s x first tally k → k < length s.nodes → FitsSigned w64 z → y ≡ x → Some z ≡ value_at s (Some k) y
     → next ≡ added tally (to_z w64 (of_z w64 z)) → IsOnTheWay s x first next (k + 1)
 goes_on s x y first tally next k z way lt fit at some is =
-    let here = sym (some ∙ ap (λ (t : Tree). value_at s (Some k) t) at) in
+    let here = sym (some ∙ ap (λ (t : Expression). value_at s (Some k) t) at) in
     let same : next ≡ added tally z = is ∙ ap (added tally) (to_z-of_z w64 z fit) in
     record {
       within = rw same (within_more tally k z fit way.within);

@@ -15,7 +15,7 @@ use Rattle.watch_expr.specs.declared.word.PlaceWord.TheVariants as place
 use Rattle.watch_expr.specs.declared.stack.Half.TheVariants as half
 use Rattle.watch_expr.specs.declared.stack.Opening.{Opening}
 use Rattle.watch_expr.specs.declared.stack.Opening.TheVariants as opening
-use Rattle.watch_expr.specs.Machine.{Pending, Front, Inside, Want, Part, step, closing, closed_by}
+use Rattle.watch_expr.specs.Machine.{Pending, Front, Inside, Want, Part, step, closing, is_closed_with}
 use Rattle.watch_expr.specs.Spelling.{number_of, binary_sign, binaries, binary_of, unary_sign, unaries, unary_of, agg_word, aggs, agg_of, place_word, places, place_of}
 
 -- ---- what is found passes the test
@@ -111,7 +111,7 @@ module _ (names : List (List ℕ)) (s : List Pending) where
 -- ---- signs that close
 
 -- what closes is no operator
-pub closing_again : (o : Opening) → (binary_of (closing o) ≡ None) × (closed_by o (closing o) ≡ true)
+pub closing_again : (o : Opening) → (binary_of (closing o) ≡ None) × (is_closed_with o (closing o) ≡ true)
 unfolding binary_of
 closing_again opening.Bracket = (refl, refl)
 closing_again (opening.Call a) = (refl, refl)

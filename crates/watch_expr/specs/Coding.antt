@@ -13,7 +13,7 @@ use Rattle.watch_expr.specs.declared.expr.Unary.{Unary}
 use Rattle.watch_expr.specs.declared.expr.Unary.TheVariants as unary
 use Rattle.watch_expr.specs.declared.expr.Width.{Width}
 use Rattle.watch_expr.specs.declared.expr.Width.TheVariants as width
-use Rattle.watch_expr.specs.Tree.{Tree, Number, Var, One, Two, Over, Load, Global, Clock, Events, Size}
+use Rattle.watch_expr.specs.Expression.{Expression, Number, Var, One, Two, Over, Load, Global, Clock, Events, Size}
 
 abbrev Word : Type 0
 Word = ℕ × List ℕ
@@ -145,7 +145,7 @@ rest_in (n ∷ ns) = ns
 -- ---- words
 
 -- an expression with none inside it, by its kind
-abbrev leaf_in : ℕ → List ℕ → Tree
+abbrev leaf_in : ℕ → List ℕ → Expression
 leaf_in kind ns =
     if nat_eq kind 0 then Number (first_in ns) else
     if nat_eq kind 1 then Var ns else
@@ -155,7 +155,7 @@ leaf_in kind ns =
     Size (node_in ns)
 
 -- an expression over the one read last, by its kind
-abbrev over_last : ℕ → List ℕ → List Tree → List Tree
+abbrev over_last : ℕ → List ℕ → List Expression → List Expression
 over_last kind ns [] = []
 over_last kind ns (x ∷ more) =
     if nat_eq kind 6 then One (unary_in (first_in ns)) x ∷ more else
@@ -163,12 +163,12 @@ over_last kind ns (x ∷ more) =
     Load (node_in (rest_in ns)) (width_in (first_in ns)) x ∷ more
 
 -- an operator between the two read last
-abbrev between : List ℕ → List Tree → List Tree
+abbrev between : List ℕ → List Expression → List Expression
 between ns [] = []
 between ns (y ∷ []) = []
 between ns (y ∷ (x ∷ more)) = Two (binary_in (first_in ns)) x y ∷ more
 
-abbrev read_word : ℕ → List ℕ → List Tree → List Tree
+abbrev read_word : ℕ → List ℕ → List Expression → List Expression
 read_word kind ns read =
     if nat_eq kind 6 then over_last 6 ns read else
     if nat_eq kind 7 then over_last 7 ns read else
@@ -176,19 +176,19 @@ read_word kind ns read =
     if nat_eq kind 9 then between ns read else
     leaf_in kind ns ∷ read
 
-abbrev read_words : List Word → List Tree → List Tree
+abbrev read_words : List Word → List Expression → List Expression
 read_words [] read = read
 read_words (w ∷ ws) read = read_words ws (read_word w.0 w.1 read)
 
-abbrev first_read : List Tree → Tree
+abbrev first_read : List Expression → Expression
 first_read [] = Number 0
 first_read (x ∷ more) = x
 
-abbrev tree_in : List Word → Tree
+abbrev tree_in : List Word → Expression
 tree_in ws = first_read (read_words ws [])
 
 -- an expression's words, in front of others
-abbrev write : Tree → List Word → List Word
+abbrev write : Expression → List Word → List Word
 write (Number n) ws = (0, n ∷ []) ∷ ws
 write (Var name) ws = (1, name) ∷ ws
 write (One op x) ws = write x ((6, of_unary op ∷ []) ∷ ws)
@@ -200,7 +200,7 @@ write (Clock name) ws = (3, of_node name) ∷ ws
 write (Events name) ws = (4, of_node name) ∷ ws
 write (Size name) ws = (5, of_node name) ∷ ws
 
-pub read_write : (x : Tree) (ws : List Word) (read : List Tree) → read_words (write x ws) read ≡ read_words ws (x ∷ read)
+pub read_write : (x : Expression) (ws : List Word) (read : List Expression) → read_words (write x ws) read ≡ read_words ws (x ∷ read)
 read_write (Number n) ws read = refl
 read_write (Var name) ws read = refl
 read_write (One op x) ws read =
@@ -219,5 +219,5 @@ read_write (Clock name) ws read = ap (λ m. read_words ws (Clock m ∷ read)) (n
 read_write (Events name) ws read = ap (λ m. read_words ws (Events m ∷ read)) (node_back name)
 read_write (Size name) ws read = ap (λ m. read_words ws (Size m ∷ read)) (node_back name)
 
-abbrev pub tree_code : Coded Tree
-tree_code = code_by (List Word) (coded_list (coded× coded_ℕ (coded_list coded_ℕ))) (λ x. write x []) tree_in (λ x. ap first_read (read_write x [] []))
+abbrev pub expression_code : Coded Expression
+expression_code = code_by (List Word) (coded_list (coded× coded_ℕ (coded_list coded_ℕ))) (λ x. write x []) tree_in (λ x. ap first_read (read_write x [] []))

@@ -2,8 +2,8 @@
 use Rattle.std.specs.Prelude.{ℕ, zero, suc, ◌+◌, Bool, if◌then◌else◌, List, [], ◌∷◌, ◌++◌, length, take, drop, Option, Some, None, Result, Ok, Err, is_some}
 use Rattle.watch_expr.specs.Front.{front}
 use Rattle.watch_expr.specs.Lexing.{Placed, is_blank}
-use Rattle.watch_expr.specs.Machine.{State, Want, steps, whole}
-use Rattle.watch_expr.specs.Tree.{Tree}
+use Rattle.watch_expr.specs.Machine.{MachineState, Want, steps, whole}
+use Rattle.watch_expr.specs.Expression.{Expression}
 
 -- this token in front of those that follow it
 abbrev pub onto : Placed → Result (List Placed) ℕ → Result (List Placed) ℕ
@@ -28,13 +28,13 @@ cut_from (suc most) column (b ∷ bytes) =
 unfoldable pub cut : List ℕ → Result (List Placed) ℕ
 cut line = cut_from (length line) 1 line
 
-abbrev pub whole_if : Option State → Option Tree
+abbrev pub whole_if : Option MachineState → Option Expression
 whole_if None = None
 whole_if (Some st) = whole st
 
 -- the expression that the tokens spell, if they spell one
-unfoldable pub tree_of : List (List ℕ) → List (List ℕ) → Option Tree
-tree_of names ts = whole_if (steps names (Some (Want [])) ts)
+unfoldable pub expression_spelled : List (List ℕ) → List (List ℕ) → Option Expression
+expression_spelled names ts = whole_if (steps names (Some (Want [])) ts)
 
 -- whether the tokens begin some expression
 unfoldable pub begins_some : List (List ℕ) → List (List ℕ) → Bool

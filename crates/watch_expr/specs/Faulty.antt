@@ -2,10 +2,10 @@
 use Rattle.std.specs.Prelude.{Bool, true, false, not, ◌||◌, Some, None}
 use Rattle.watch_expr.specs.declared.expr.NodeName.{NodeName}
 use Rattle.watch_expr.specs.declared.expr.NodeName.TheVariants.{Named, Each}
-use Rattle.watch_expr.specs.Tree.{Tree, Number, Var, One, Two, Over, Load, Global, Clock, Events, Size}
+use Rattle.watch_expr.specs.Expression.{Expression, Number, Var, One, Two, Over, Load, Global, Clock, Events, Size}
 
 -- an aggregate stands in it
-abbrev pub has_aggregate : Tree → Bool
+abbrev pub has_aggregate : Expression → Bool
 has_aggregate (Number n) = false
 has_aggregate (Var name) = false
 has_aggregate (One op x) = has_aggregate x
@@ -18,7 +18,7 @@ has_aggregate (Events node) = false
 has_aggregate (Size node) = false
 
 -- an aggregate stands in an aggregate
-abbrev pub is_nested : Tree → Bool
+abbrev pub is_nested : Expression → Bool
 is_nested (Number n) = false
 is_nested (Var name) = false
 is_nested (One op x) = is_nested x
@@ -37,7 +37,7 @@ is_unnamed inside (Named (Some n)) = false
 is_unnamed inside Each = not inside
 
 -- in an aggregate, or outside, a name of it is that of no node
-abbrev pub lacks_node : Bool → Tree → Bool
+abbrev pub lacks_node : Bool → Expression → Bool
 lacks_node inside (Number n) = false
 lacks_node inside (Var name) = false
 lacks_node inside (One op x) = lacks_node inside x
@@ -50,7 +50,7 @@ lacks_node inside (Events node) = is_unnamed inside node
 lacks_node inside (Size node) = is_unnamed inside node
 
 -- a variable is named
-abbrev pub names_variable : Tree → Bool
+abbrev pub names_variable : Expression → Bool
 names_variable (Number n) = false
 names_variable (Var name) = true
 names_variable (One op x) = names_variable x

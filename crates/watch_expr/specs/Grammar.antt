@@ -11,7 +11,7 @@ use Rattle.watch_expr.specs.declared.expr.Expr.{Expr}
 use Rattle.watch_expr.specs.declared.word.PlaceWord.TheVariants as place
 use Rattle.watch_expr.specs.Lexing.{Lexed, texts, column_at}
 use Rattle.watch_expr.specs.Spelling.{is_word, number_of, node_of, binary_sign, unary_sign, agg_word, place_word}
-use Rattle.watch_expr.specs.Tree.{Tree, Number, Var, One, Two, Over, Load, Global, Clock, Events, Size, tree}
+use Rattle.watch_expr.specs.Expression.{Expression, Number, Var, One, Two, Over, Load, Global, Clock, Events, Size, expression_of}
 
 -- The levels of expressions: or, and, comparison, sum, product, sign in front, and operand. What is spelled at a
 -- level is spelled at each lower one.
@@ -22,74 +22,74 @@ abbrev pub FIRST : ℕ
 FIRST = 6
 
 -- the level of an operator
-abbrev pub level : Binary → ℕ
-level binary.Or = 0
-level binary.And = 1
-level binary.Eq = 2
-level binary.Ne = 2
-level binary.Lt = 2
-level binary.Le = 2
-level binary.Gt = 2
-level binary.Ge = 2
-level binary.Add = 3
-level binary.Sub = 3
-level binary.Mul = 4
-level binary.Div = 4
-level binary.Rem = 4
+abbrev pub operator_level : Binary → ℕ
+operator_level binary.Or = 0
+operator_level binary.And = 1
+operator_level binary.Eq = 2
+operator_level binary.Ne = 2
+operator_level binary.Lt = 2
+operator_level binary.Le = 2
+operator_level binary.Gt = 2
+operator_level binary.Ge = 2
+operator_level binary.Add = 3
+operator_level binary.Sub = 3
+operator_level binary.Mul = 4
+operator_level binary.Div = 4
+operator_level binary.Rem = 4
 
 -- the level of what stands to the left of an operator: comparisons don't chain, and the others group from the left
-abbrev pub left : Binary → ℕ
-left binary.Or = 0
-left binary.And = 1
-left binary.Eq = 3
-left binary.Ne = 3
-left binary.Lt = 3
-left binary.Le = 3
-left binary.Gt = 3
-left binary.Ge = 3
-left binary.Add = 3
-left binary.Sub = 3
-left binary.Mul = 4
-left binary.Div = 4
-left binary.Rem = 4
+abbrev pub left_level : Binary → ℕ
+left_level binary.Or = 0
+left_level binary.And = 1
+left_level binary.Eq = 3
+left_level binary.Ne = 3
+left_level binary.Lt = 3
+left_level binary.Le = 3
+left_level binary.Gt = 3
+left_level binary.Ge = 3
+left_level binary.Add = 3
+left_level binary.Sub = 3
+left_level binary.Mul = 4
+left_level binary.Div = 4
+left_level binary.Rem = 4
 
 -- With these names of nodes, the tokens spell the expression at this level.
-pub data IsAt (names : List (List ℕ)) : ℕ → List (List ℕ) → Tree → Type 0 where
-  higher : {k : ℕ} {ts : List (List ℕ)} {x : Tree} → IsAt names (suc k) ts x → IsAt names k ts x
-  two : {a b : List (List ℕ)} {x y : Tree} (op : Binary) → IsAt names (left op) a x → IsAt names (suc (level op)) b y → IsAt names (level op) (a ++ binary_sign op ∷ b) (Two op x y)
-  one : {a : List (List ℕ)} {x : Tree} (op : Unary) → IsAt names UNARY a x → IsAt names UNARY (unary_sign op ∷ a) (One op x)
+pub data IsAt (names : List (List ℕ)) : ℕ → List (List ℕ) → Expression → Type 0 where
+  higher : {k : ℕ} {ts : List (List ℕ)} {x : Expression} → IsAt names (suc k) ts x → IsAt names k ts x
+  two : {a b : List (List ℕ)} {x y : Expression} (op : Binary) → IsAt names (left_level op) a x → IsAt names (suc (operator_level op)) b y → IsAt names (operator_level op) (a ++ binary_sign op ∷ b) (Two op x y)
+  one : {a : List (List ℕ)} {x : Expression} (op : Unary) → IsAt names UNARY a x → IsAt names UNARY (unary_sign op ∷ a) (One op x)
   number : (word : List ℕ) (n : ℕ) → number_of word ≡ Some n → IsAt names FIRST (word ∷ []) (Number n)
   variable : (word : List ℕ) → is_word word ≡ true → IsAt names FIRST (codes "$" ∷ word ∷ []) (Var word)
-  brackets : {a : List (List ℕ)} {x : Tree} → IsAt names 0 a x → IsAt names FIRST (codes "(" ∷ (a ++ codes ")" ∷ [])) x
-  over : {a : List (List ℕ)} {x : Tree} (agg : Agg) → IsAt names 0 a x → IsAt names FIRST (agg_word agg ∷ codes "(" ∷ (a ++ codes ")" ∷ [])) (Over agg x)
-  load : {a : List (List ℕ)} {x : Tree} (name : List ℕ) (width : Width) → is_word name ≡ true → IsAt names 0 a x → IsAt names FIRST (codes "@" ∷ name ∷ codes "." ∷ place_word (place.Load width) ∷ codes "[" ∷ (a ++ codes "]" ∷ [])) (Load (node_of names name) width x)
+  brackets : {a : List (List ℕ)} {x : Expression} → IsAt names 0 a x → IsAt names FIRST (codes "(" ∷ (a ++ codes ")" ∷ [])) x
+  over : {a : List (List ℕ)} {x : Expression} (agg : Agg) → IsAt names 0 a x → IsAt names FIRST (agg_word agg ∷ codes "(" ∷ (a ++ codes ")" ∷ [])) (Over agg x)
+  load : {a : List (List ℕ)} {x : Expression} (name : List ℕ) (width : Width) → is_word name ≡ true → IsAt names 0 a x → IsAt names FIRST (codes "@" ∷ name ∷ codes "." ∷ place_word (place.Load width) ∷ codes "[" ∷ (a ++ codes "]" ∷ [])) (Load (node_of names name) width x)
   global : (name word : List ℕ) (n : ℕ) → is_word name ≡ true → number_of word ≡ Some n → IsAt names FIRST (codes "@" ∷ name ∷ codes "." ∷ codes "global" ∷ codes "[" ∷ word ∷ codes "]" ∷ []) (Global (node_of names name) n)
   clock : (name : List ℕ) → is_word name ≡ true → IsAt names FIRST (codes "@" ∷ name ∷ codes "." ∷ codes "clock" ∷ []) (Clock (node_of names name))
   events : (name : List ℕ) → is_word name ≡ true → IsAt names FIRST (codes "@" ∷ name ∷ codes "." ∷ codes "events" ∷ []) (Events (node_of names name))
   size : (name : List ℕ) → is_word name ≡ true → IsAt names FIRST (codes "@" ∷ name ∷ codes "." ∷ codes "size" ∷ []) (Size (node_of names name))
 
 -- the tokens spell the expression
-abbrev pub IsExpr : List (List ℕ) → List (List ℕ) → Tree → Type 0
+abbrev pub IsExpr : List (List ℕ) → List (List ℕ) → Expression → Type 0
 IsExpr names ts x = IsAt names 0 ts x
 
 -- the tokens begin some expression
-pub record Begins (names ts : List (List ℕ)) : Type 0 where
+pub record BeginsExpr (names ts : List (List ℕ)) : Type 0 where
   pub rest : List (List ℕ)
-  pub whole : Tree
+  pub whole : Expression
   pub spelled : IsExpr names (ts ++ rest) whole
 
 -- the first n of the tokens begin some expression, and no more of them do
-pub record Takes (names ts : List (List ℕ)) (n : ℕ) : Type 0 where
+pub record TakesExpr (names ts : List (List ℕ)) (n : ℕ) : Type 0 where
   pub within : n ≤ length ts
-  pub begins : Begins names (take n ts)
-  pub longest : n < length ts → Begins names (take (n + 1) ts) → ⊥
+  pub begins : BeginsExpr names (take n ts)
+  pub longest : n < length ts → BeginsExpr names (take (n + 1) ts) → ⊥
 
 -- What parsing from a token on gives, but for memory: as many of the tokens are taken as begin some expression.
 -- Where they are a whole one, it is given with the number of the next token, and otherwise that token's column.
-abbrev pub Parsed : List (List ℕ) → Lexed → ℕ → Result (Expr × ℕ) ExprError → Type 0
-Parsed names line from (Ok r) = (from ≤ r.1) × Takes names (drop from (texts line)) (r.1 - from) × IsExpr names (take (r.1 - from) (drop from (texts line))) (tree r.0)
-Parsed names line from (Err (Syntax column)) = (n : ℕ) × (column ≡ column_at line n) × (from ≤ n) × Takes names (drop from (texts line)) (n - from) × ((x : Tree) → IsExpr names (take (n - from) (drop from (texts line))) x → ⊥)
-Parsed names line from (Err NoNode) = ⊥
-Parsed names line from (Err TooDeep) = ⊥
-Parsed names line from (Err Nested) = ⊥
-Parsed names line from (Err NoMemory) = Unit {0}
+abbrev pub ParsedExpr : List (List ℕ) → Lexed → ℕ → Result (Expr × ℕ) ExprError → Type 0
+ParsedExpr names line from (Ok r) = (from ≤ r.1) × TakesExpr names (drop from (texts line)) (r.1 - from) × IsExpr names (take (r.1 - from) (drop from (texts line))) (expression_of r.0)
+ParsedExpr names line from (Err (Syntax column)) = (n : ℕ) × (column ≡ column_at line n) × (from ≤ n) × TakesExpr names (drop from (texts line)) (n - from) × ((x : Expression) → IsExpr names (take (n - from) (drop from (texts line))) x → ⊥)
+ParsedExpr names line from (Err NoNode) = ⊥
+ParsedExpr names line from (Err TooDeep) = ⊥
+ParsedExpr names line from (Err Nested) = ⊥
+ParsedExpr names line from (Err NoMemory) = Unit {0}

@@ -2,9 +2,9 @@
 use Rattle.std.specs.Prelude.{◌≡◌, ◌↔◌, ℕ, Bool, true, not, ◌||◌, ◌==◌, codes, bytes_eq, slice_index, List, [], Some, Ok, Err}
 use Rattle.std.specs.List.{list_all}
 use Rattle.watch_expr.specs.Lexing.{Placed, Lexes, IsBadAt}
-use Rattle.watch_expr.specs.Computed.{cut, tree_of, begins_some, viable}
-use Rattle.watch_expr.specs.Grammar.{IsExpr, Begins, Takes}
-use Rattle.watch_expr.specs.Tree.{Tree}
+use Rattle.watch_expr.specs.Computed.{cut, expression_spelled, begins_some, viable}
+use Rattle.watch_expr.specs.Grammar.{IsExpr, BeginsExpr, TakesExpr}
+use Rattle.watch_expr.specs.Expression.{Expression}
 
 -- What is computed of a line is its tokens, or the column of the first byte that begins none. So a line has one of
 -- both, and in one way.
@@ -15,9 +15,9 @@ pub record ExactCut : Type 0 where
 -- What is computed of tokens is the expression that they spell, whether they begin one, and how many of them do. So
 -- tokens spell one expression at most.
 pub record ExactReading : Type 0 where
-  pub trees : (names ts : List (List ℕ)) (x : Tree) → (tree_of names ts ≡ Some x) ↔ IsExpr names ts x
-  pub begun : (names ts : List (List ℕ)) → (begins_some names ts ≡ true) ↔ Begins names ts
-  pub viable : (names ts : List (List ℕ)) (n : ℕ) → Takes names ts n → viable names [] ts ≡ n
+  pub expressions : (names ts : List (List ℕ)) (x : Expression) → (expression_spelled names ts ≡ Some x) ↔ IsExpr names ts x
+  pub begins : (names ts : List (List ℕ)) → (begins_some names ts ≡ true) ↔ BeginsExpr names ts
+  pub viable : (names ts : List (List ℕ)) (n : ℕ) → TakesExpr names ts n → viable names [] ts ≡ n
 
 -- a comma, a semicolon, a brace or a string
 abbrev pub is_apart : List ℕ → Bool
@@ -25,4 +25,4 @@ is_apart text = bytes_eq text (codes ",") || bytes_eq text (codes ";") || bytes_
 
 -- none of these stands in an expression
 abbrev pub NoneApart : Type 0
-NoneApart = (names ts : List (List ℕ)) (x : Tree) → IsExpr names ts x → list_all (λ t. not (is_apart t)) ts ≡ true
+NoneApart = (names ts : List (List ℕ)) (x : Expression) → IsExpr names ts x → list_all (λ t. not (is_apart t)) ts ≡ true

@@ -24,13 +24,13 @@ texts line = map (λ t. t.text) line.tokens
 abbrev pub column_at : Lexed → ℕ → ℕ
 column_at line n = unwrap_or (option_map (λ t. t.column) (slice_get line.tokens n)) line.end
 
-abbrev pub number_if : Option (List ℕ) → Option ℕ
-number_if None = None
-number_if (Some text) = number_of text
+abbrev pub number_of_token : Option (List ℕ) → Option ℕ
+number_of_token None = None
+number_of_token (Some text) = number_of text
 
 -- the number that a token is, if there is such a token and it is one
 abbrev pub number_at : Lexed → ℕ → Option ℕ
-number_at line n = number_if (slice_get (texts line) n)
+number_at line n = number_of_token (slice_get (texts line) n)
 
 -- ---- tokens
 

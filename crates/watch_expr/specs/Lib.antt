@@ -7,7 +7,7 @@ pub mod Laws
 pub mod Lexing
 pub mod Machine
 pub mod Spelling
-pub mod Tree
+pub mod Expression
 pub mod Value
 pub mod ValueTally
 pub mod View

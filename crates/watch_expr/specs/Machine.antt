@@ -21,37 +21,37 @@ use Rattle.watch_expr.specs.declared.stack.Mode.{Mode}
 use Rattle.watch_expr.specs.declared.stack.Mode.TheVariants as mode
 use Rattle.watch_expr.specs.declared.stack.Step.{Step}
 use Rattle.watch_expr.specs.declared.stack.Step.TheVariants as stepped
-use Rattle.watch_expr.specs.Tree.{Tree, Number, Var, One, Two, Over, Load, Global, Clock, Events, Size, tree}
+use Rattle.watch_expr.specs.Expression.{Expression, Number, Var, One, Two, Over, Load, Global, Clock, Events, Size, expression_of}
 use Rattle.watch_expr.specs.Spelling.{is_word, number_of, node_of, binary_of, unary_of, agg_of, place_of}
-use Rattle.watch_expr.specs.Grammar.{level, left}
+use Rattle.watch_expr.specs.Grammar.{operator_level, left_level}
 use Rattle.watch_expr.specs.Lexing.{Lexed, column_at}
 
 -- what waits for an operand
 pub data Pending : Type 0 where
-  Left : (op : Binary) → (x : Tree) → Pending
+  Left : (op : Binary) → (x : Expression) → Pending
   Front : (op : Unary) → Pending
   Inside : (o : Opening) → Pending
 
 -- what may come next: an operand, the rest of one, or what follows one
-pub data State : Type 0 where
-  Want : (s : List Pending) → State
-  Have : (s : List Pending) → (x : Tree) → State
-  Part : (s : List Pending) → (h : Half) → State
+pub data MachineState : Type 0 where
+  Want : (s : List Pending) → MachineState
+  Have : (s : List Pending) → (x : Expression) → MachineState
+  Part : (s : List Pending) → (h : Half) → MachineState
 
 -- the operators of this level and higher take their operands
-abbrev pub settle : ℕ → List Pending → Tree → List Pending × Tree
-settle k [] x = ([], x)
-settle k (Left op y ∷ s) x = if nat_le k (level op) then settle k s (Two op y x) else (Left op y ∷ s, x)
-settle k (Front op ∷ s) x = settle k s (One op x)
-settle k (Inside o ∷ s) x = (Inside o ∷ s, x)
+abbrev pub settle_operators : ℕ → List Pending → Expression → List Pending × Expression
+settle_operators k [] x = ([], x)
+settle_operators k (Left op y ∷ s) x = if nat_le k (operator_level op) then settle_operators k s (Two op y x) else (Left op y ∷ s, x)
+settle_operators k (Front op ∷ s) x = settle_operators k s (One op x)
+settle_operators k (Inside o ∷ s) x = (Inside o ∷ s, x)
 
 -- a comparison stands to the left
 abbrev pub compares : List Pending → Bool
-compares (Left op y ∷ s) = level op == 2
+compares (Left op y ∷ s) = operator_level op == 2
 compares _ = false
 
-abbrev pub operator : Binary → List Pending × Tree → Option State
-operator op p = if level op == 2 && compares p.0 then None else Some (Want (Left op p.1 ∷ p.0))
+abbrev pub after_operator : Binary → List Pending × Expression → Option MachineState
+after_operator op p = if operator_level op == 2 && compares p.0 then None else Some (Want (Left op p.1 ∷ p.0))
 
 -- the sign that closes what the opening begins
 abbrev pub closing : Opening → List ℕ
@@ -59,30 +59,30 @@ closing opening.Bracket = codes ")"
 closing (opening.Call agg) = codes ")"
 closing (opening.Load node width) = codes "]"
 
-abbrev pub closed_by : Opening → List ℕ → Bool
-closed_by o t = bytes_eq t (closing o)
+abbrev pub is_closed_with : Opening → List ℕ → Bool
+is_closed_with o t = bytes_eq t (closing o)
 
-abbrev pub enclose : Opening → Tree → Tree
+abbrev pub enclose : Opening → Expression → Expression
 enclose opening.Bracket x = x
 enclose (opening.Call agg) x = Over agg x
 enclose (opening.Load node width) x = Load node width x
 
-abbrev pub close : List ℕ → List Pending × Tree → Option State
-close t p = elim p.0 [ Inside o ∷ s ↦ if closed_by o t then Some (Have s (enclose o p.1)) else None | _ ↦ None ]
+abbrev pub close : List ℕ → List Pending × Expression → Option MachineState
+close t p = elim p.0 [ Inside o ∷ s ↦ if is_closed_with o t then Some (Have s (enclose o p.1)) else None | _ ↦ None ]
 
 -- what a token gives where an operand has begun: more of it is to come, or it is whole, or what follows is enclosed
 pub data Went : Type 0 where
   More : (h : Half) → Went
-  Whole : (x : Tree) → Went
+  Whole : (x : Expression) → Went
   Opens : (o : Opening) → Went
 
 abbrev pub when : {A : Type 0} → Option A → (A → Went) → Option Went
 when None f = None
 when (Some x) f = Some (f x)
 
-abbrev pub given : Bool → Went → Option Went
-given true g = Some g
-given false g = None
+abbrev pub only_if : Bool → Went → Option Went
+only_if true g = Some g
+only_if false g = None
 
 abbrev pub at_place : NodeName → PlaceWord → Went
 at_place node (place.Load width) = More (half.Sized node width)
@@ -95,69 +95,69 @@ abbrev pub begin_as : Option Agg → List ℕ → Option Went
 begin_as (Some agg) t = Some (More (half.Named agg))
 begin_as None t =
     if bytes_eq t (codes "(") then Some (Opens opening.Bracket) else
-    (if bytes_eq t (codes "$") then Some (More half.Dollar) else given (bytes_eq t (codes "@")) (More half.At))
+    (if bytes_eq t (codes "$") then Some (More half.Dollar) else only_if (bytes_eq t (codes "@")) (More half.At))
 
 -- what a token begins that is no number and no sign in front
-abbrev pub begin : List ℕ → Option Went
-begin t = begin_as (agg_of t) t
+abbrev pub begun_by : List ℕ → Option Went
+begun_by t = begin_as (agg_of t) t
 
 abbrev pub onward : List (List ℕ) → Half → List ℕ → Option Went
-onward names half.Dollar t = given (is_word t) (Whole (Var t))
-onward names half.At t = given (is_word t) (More (half.Node (node_of names t)))
-onward names (half.Node n) t = given (bytes_eq t (codes ".")) (More (half.Dotted n))
+onward names half.Dollar t = only_if (is_word t) (Whole (Var t))
+onward names half.At t = only_if (is_word t) (More (half.Node (node_of names t)))
+onward names (half.Node n) t = only_if (bytes_eq t (codes ".")) (More (half.Dotted n))
 onward names (half.Dotted n) t = when (place_of t) (at_place n)
-onward names (half.Sized n width) t = given (bytes_eq t (codes "[")) (Opens (opening.Load n width))
-onward names (half.GlobalOf n) t = given (bytes_eq t (codes "[")) (More (half.Indexing n))
+onward names (half.Sized n width) t = only_if (bytes_eq t (codes "[")) (Opens (opening.Load n width))
+onward names (half.GlobalOf n) t = only_if (bytes_eq t (codes "[")) (More (half.Indexing n))
 onward names (half.Indexing n) t = when (number_of t) (λ k. More (half.Indexed n k))
-onward names (half.Indexed n k) t = given (bytes_eq t (codes "]")) (Whole (Global n k))
-onward names (half.Named agg) t = given (bytes_eq t (codes "(")) (Opens (opening.Call agg))
+onward names (half.Indexed n k) t = only_if (bytes_eq t (codes "]")) (Whole (Global n k))
+onward names (half.Named agg) t = only_if (bytes_eq t (codes "(")) (Opens (opening.Call agg))
 
-abbrev pub lead : List Pending → Option Went → Option State
+abbrev pub lead : List Pending → Option Went → Option MachineState
 lead s None = None
 lead s (Some (More h)) = Some (Part s h)
 lead s (Some (Whole x)) = Some (Have s x)
 lead s (Some (Opens o)) = Some (Want (Inside o ∷ s))
 
-abbrev pub want_sign : Option Unary → List Pending → List ℕ → Option State
+abbrev pub want_sign : Option Unary → List Pending → List ℕ → Option MachineState
 want_sign (Some op) s t = Some (Want (Front op ∷ s))
-want_sign None s t = lead s (begin t)
+want_sign None s t = lead s (begun_by t)
 
-abbrev pub want_number : Option ℕ → List Pending → List ℕ → Option State
+abbrev pub want_number : Option ℕ → List Pending → List ℕ → Option MachineState
 want_number (Some n) s t = Some (Have s (Number n))
 want_number None s t = want_sign (unary_of t) s t
 
-abbrev pub have_as : Option Binary → List Pending → Tree → List ℕ → Option State
-have_as (Some op) s x t = operator op (settle (left op) s x)
-have_as None s x t = close t (settle 0 s x)
+abbrev pub have_as : Option Binary → List Pending → Expression → List ℕ → Option MachineState
+have_as (Some op) s x t = after_operator op (settle_operators (left_level op) s x)
+have_as None s x t = close t (settle_operators 0 s x)
 
-abbrev pub step : List (List ℕ) → State → List ℕ → Option State
+abbrev pub step : List (List ℕ) → MachineState → List ℕ → Option MachineState
 step names (Want s) t = want_number (number_of t) s t
 step names (Have s x) t = have_as (binary_of t) s x t
 step names (Part s h) t = lead s (onward names h t)
 
-abbrev pub steps : List (List ℕ) → Option State → List (List ℕ) → Option State
+abbrev pub steps : List (List ℕ) → Option MachineState → List (List ℕ) → Option MachineState
 steps names None ts = None
 steps names (Some st) [] = Some st
 steps names (Some st) (t ∷ ts) = steps names (step names st t) ts
 
 -- the tokens so far are a whole expression
-abbrev pub alone : List Pending × Tree → Option Tree
+abbrev pub alone : List Pending × Expression → Option Expression
 alone p = elim p.0 [ [] ↦ Some p.1 | _ ↦ None ]
 
-abbrev pub whole : State → Option Tree
-whole (Have s x) = alone (settle 0 s x)
+abbrev pub whole : MachineState → Option Expression
+whole (Have s x) = alone (settle_operators 0 s x)
 whole _ = None
 
 -- ---- what the program has
 
 abbrev pub pending : Frame → Pending
-pending (frame.Left op x) = Left op (tree x)
+pending (frame.Left op x) = Left op (expression_of x)
 pending (frame.Front op) = Front op
 pending (frame.Inside o) = Inside o
 
 abbrev pub went_of : RustWent → Went
 went_of (went.More h) = More h
-went_of (went.Whole x) = Whole (tree x)
+went_of (went.Whole x) = Whole (expression_of x)
 went_of (went.Opens o) = Opens o
 
 abbrev pub went_if : Option RustWent → Option Went
@@ -169,22 +169,22 @@ abbrev pub pile : List Pending → List Frame → List Pending
 pile under [] = under
 pile under (f ∷ fs) = pile (pending f ∷ under) fs
 
-abbrev pub state : List Frame → Mode → State
+abbrev pub state : List Frame → Mode → MachineState
 state frames mode.Want = Want (pile [] frames)
-state frames (mode.Have x) = Have (pile [] frames) (tree x)
+state frames (mode.Have x) = Have (pile [] frames) (expression_of x)
 state frames (mode.Part h) = Part (pile [] frames) h
 
 -- the token is taken, or refused in a state that is as whole as it was
-abbrev pub Gives : Option State → State → List Frame → Step → Type 0
-Gives next old frames (stepped.Next m) = next ≡ Some (state frames m)
-Gives next old frames (stepped.Refused m) = (next ≡ None) × (whole (state frames m) ≡ whole old)
+abbrev pub GivesStep : Option MachineState → MachineState → List Frame → Step → Type 0
+GivesStep next old frames (stepped.Next m) = next ≡ Some (state frames m)
+GivesStep next old frames (stepped.Refused m) = (next ≡ None) × (whole (state frames m) ≡ whole old)
 
-abbrev pub Steps : List (List ℕ) → State → List ℕ → List Frame → Step → Type 0
-Steps names old t frames s = Gives (step names old t) old frames s
+abbrev pub Steps : List (List ℕ) → MachineState → List ℕ → List Frame → Step → Type 0
+Steps names old t frames s = GivesStep (step names old t) old frames s
 
 -- what is answered where all tokens below this one led to the state
-abbrev pub Finishes : Lexed → State → ℕ → Result (Expr × ℕ) ExprError → Type 0
-Finishes line st at (Ok r) = (whole st ≡ Some (tree r.0)) × (r.1 ≡ at)
+abbrev pub Finishes : Lexed → MachineState → ℕ → Result (Expr × ℕ) ExprError → Type 0
+Finishes line st at (Ok r) = (whole st ≡ Some (expression_of r.0)) × (r.1 ≡ at)
 Finishes line st at (Err (Syntax column)) = (whole st ≡ None) × (column ≡ column_at line at)
 Finishes line st at (Err NoNode) = ⊥
 Finishes line st at (Err TooDeep) = ⊥
@@ -192,11 +192,11 @@ Finishes line st at (Err Nested) = ⊥
 Finishes line st at (Err NoMemory) = Unit {0}
 
 -- the same for what the token gives
-abbrev pub Led : Option State → State → List Frame → Step → Type 0
+abbrev pub Led : Option MachineState → MachineState → List Frame → Step → Type 0
 Led next old frames (stepped.Next m) = next ≡ Some (state frames m)
 Led next old frames (stepped.Refused m) = (next ≡ None) × (state frames m ≡ old)
 
 -- what was opened is closed, or stays
-abbrev pub Closes : Opening → Tree → List ℕ → List Pending → List Frame → Step → Type 0
-Closes o x t s frames (stepped.Next m) = (closed_by o t ≡ true) × (state frames m ≡ Have s (enclose o x))
-Closes o x t s frames (stepped.Refused m) = (closed_by o t ≡ false) × (state frames m ≡ Have (Inside o ∷ s) x)
+abbrev pub Closes : Opening → Expression → List ℕ → List Pending → List Frame → Step → Type 0
+Closes o x t s frames (stepped.Next m) = (is_closed_with o t ≡ true) × (state frames m ≡ Have s (enclose o x))
+Closes o x t s frames (stepped.Refused m) = (is_closed_with o t ≡ false) × (state frames m ≡ Have (Inside o ∷ s) x)

@@ -13,8 +13,8 @@ use Rattle.watch_expr.specs.declared.expr.Unary.{Unary}
 use Rattle.watch_expr.specs.declared.expr.Unary.TheVariants as unary
 use Rattle.watch_expr.specs.declared.expr.Width.{Width}
 use Rattle.watch_expr.specs.declared.expr.Width.TheVariants as width
-use Rattle.watch_expr.specs.Tree.{Tree, Number, Var, One, Two, Over, Load, Global, Clock, Events, Size}
-use Rattle.watch_expr.specs.View.{Node, ◌>>=◌, clock_at, events_at, global_at, piece_at, size_at}
+use Rattle.watch_expr.specs.Expression.{Expression, Number, Var, One, Two, Over, Load, Global, Clock, Events, Size}
+use Rattle.watch_expr.specs.View.{Node, ◌>>=◌, clock_at, events_at, global_at, bytes_of_node, size_at}
 
 -- what an expression is about: the states of the nodes, and the variables by their names, None for undef
 pub record Setting : Type 0 where
@@ -24,26 +24,26 @@ pub record Setting : Type 0 where
 -- ---- numbers
 
 -- the number is in range
-abbrev pub fits : ℤ → Bool
-fits (pos n) = nat_lt n (2 ^ 63)
-fits (negsuc n) = nat_lt n (2 ^ 63)
+abbrev pub is_i64 : ℤ → Bool
+is_i64 (pos n) = nat_lt n (2 ^ 63)
+is_i64 (negsuc n) = nat_lt n (2 ^ 63)
 
 -- a result, undef where it is out of range
 abbrev pub fit : ℤ → Option ℤ
-fit z = if fits z then Some z else None
+fit z = if is_i64 z then Some z else None
 
 abbrev pub is_zero : ℤ → Bool
 is_zero (pos n) = n == 0
 is_zero (negsuc n) = false
 
-abbrev pub truth : Bool → ℤ
-truth b = if b then pos 1 else pos 0
+abbrev pub truth_value : Bool → ℤ
+truth_value b = if b then pos 1 else pos 0
 
 -- ---- operators
 
 abbrev pub one : Unary → ℤ → Option ℤ
 one unary.Minus a = fit (neg_ℤ a)
-one unary.Not a = Some (truth (is_zero a))
+one unary.Not a = Some (truth_value (is_zero a))
 
 abbrev pub is_least : ℤ → Bool
 is_least (pos n) = false
@@ -62,14 +62,14 @@ equal a b = int_le a b && int_le b a
 
 -- an operator whose sides are both evaluated; `/` rounds toward zero, and `%` has the sign of its left side
 abbrev pub two : Binary → ℤ → ℤ → Option ℤ
-two binary.Or a b = Some (truth (not (is_zero b)))
-two binary.And a b = Some (truth (not (is_zero b)))
-two binary.Eq a b = Some (truth (equal a b))
-two binary.Ne a b = Some (truth (not (equal a b)))
-two binary.Lt a b = Some (truth (int_lt a b))
-two binary.Le a b = Some (truth (int_le a b))
-two binary.Gt a b = Some (truth (int_lt b a))
-two binary.Ge a b = Some (truth (int_le b a))
+two binary.Or a b = Some (truth_value (not (is_zero b)))
+two binary.And a b = Some (truth_value (not (is_zero b)))
+two binary.Eq a b = Some (truth_value (equal a b))
+two binary.Ne a b = Some (truth_value (not (equal a b)))
+two binary.Lt a b = Some (truth_value (int_lt a b))
+two binary.Le a b = Some (truth_value (int_le a b))
+two binary.Gt a b = Some (truth_value (int_lt b a))
+two binary.Ge a b = Some (truth_value (int_le b a))
 two binary.Add a b = fit (a +ℤ b)
 two binary.Sub a b = fit (a -ℤ b)
 two binary.Mul a b = fit (a *ℤ b)
@@ -90,10 +90,10 @@ with_right op a None right = right >>= λ b. two op a b
 -- ---- aggregates
 
 -- the values at all nodes, if each is a number
-abbrev pub all_of : List (Option ℤ) → Option (List ℤ)
-all_of [] = Some []
-all_of (None ∷ values) = None
-all_of (Some z ∷ values) = all_of values >>= λ numbers. Some (z ∷ numbers)
+abbrev pub all_numbers : List (Option ℤ) → Option (List ℤ)
+all_numbers [] = Some []
+all_numbers (None ∷ values) = None
+all_numbers (Some z ∷ values) = all_numbers values >>= λ numbers. Some (z ∷ numbers)
 
 abbrev pub over : Agg → List ℤ → Option ℤ
 over agg.Sum numbers = fit (fold ◌+ℤ◌ (pos 0) numbers)
@@ -104,9 +104,9 @@ over agg.Count numbers = Some (pos (count_by (λ z. not (is_zero z)) numbers))
 -- ---- places
 
 -- the node with this name, where `each` is the node of the aggregate around it, if there is one
-abbrev pub node_of : Option ℕ → NodeName → Option ℕ
-node_of each (Named node) = node
-node_of each Each = each
+abbrev pub resolved_node : Option ℕ → NodeName → Option ℕ
+resolved_node each (Named node) = node
+resolved_node each Each = each
 
 -- how many bytes a load reads
 abbrev pub byte_count : Width → ℕ
@@ -119,19 +119,19 @@ byte_count width.I32 = 4
 byte_count width.I64 = 8
 
 -- the value that the bytes stand for, the lowest first
-abbrev pub loaded_value : Width → List ℕ → ℤ
-loaded_value width.U8 bytes = pos (little_endian bytes)
-loaded_value width.U16 bytes = pos (little_endian bytes)
-loaded_value width.U32 bytes = pos (little_endian bytes)
-loaded_value width.I8 bytes = cast_signed w8 (little_endian bytes)
-loaded_value width.I16 bytes = cast_signed w16 (little_endian bytes)
-loaded_value width.I32 bytes = cast_signed w32 (little_endian bytes)
-loaded_value width.I64 bytes = cast_signed w64 (little_endian bytes)
+abbrev pub value_of_bytes : Width → List ℕ → ℤ
+value_of_bytes width.U8 bytes = pos (little_endian bytes)
+value_of_bytes width.U16 bytes = pos (little_endian bytes)
+value_of_bytes width.U32 bytes = pos (little_endian bytes)
+value_of_bytes width.I8 bytes = cast_signed w8 (little_endian bytes)
+value_of_bytes width.I16 bytes = cast_signed w16 (little_endian bytes)
+value_of_bytes width.I32 bytes = cast_signed w32 (little_endian bytes)
+value_of_bytes width.I64 bytes = cast_signed w64 (little_endian bytes)
 
 -- what a load gives at an address, which may be negative
-abbrev pub load_at : List Node → ℕ → Width → ℤ → Option ℤ
-load_at nodes node width (pos addr) = option_map (loaded_value width) (piece_at nodes node addr (byte_count width))
-load_at nodes node width (negsuc _) = None
+abbrev pub loaded_at : List Node → ℕ → Width → ℤ → Option ℤ
+loaded_at nodes node width (pos addr) = option_map (value_of_bytes width) (bytes_of_node nodes node addr (byte_count width))
+loaded_at nodes node width (negsuc _) = None
 
 abbrev pub global_value : List Node → ℕ → ℕ → Option ℤ
 global_value nodes node n = if nat_lt n (2 ^ 32) then global_at nodes node n else None
@@ -139,22 +139,22 @@ global_value nodes node n = if nat_lt n (2 ^ 32) then global_at nodes node n els
 -- ---- expressions
 
 -- the value where `each` is the node of the aggregate around it
-abbrev pub value_at : Setting → Option ℕ → Tree → Option ℤ
+abbrev pub value_at : Setting → Option ℕ → Expression → Option ℤ
 value_at s each (Number n) = fit (pos n)
 value_at s each (Var name) = s.variables name
 value_at s each (One op x) = value_at s each x >>= one op
 value_at s each (Two op x y) = value_at s each x >>= λ a. with_right op a (decided op a) (value_at s each y)
-value_at s each (Over agg x) = all_of (map (λ node. value_at s (Some node) x) (range_with_len 0 (length s.nodes))) >>= over agg
-value_at s each (Load name width x) = value_at s each x >>= λ addr. node_of each name >>= λ node. load_at s.nodes node width addr
-value_at s each (Global name n) = node_of each name >>= λ node. global_value s.nodes node n
-value_at s each (Clock name) = node_of each name >>= clock_at s.nodes
-value_at s each (Events name) = node_of each name >>= events_at s.nodes
-value_at s each (Size name) = node_of each name >>= λ node. option_map pos (size_at s.nodes node)
+value_at s each (Over agg x) = all_numbers (map (λ node. value_at s (Some node) x) (range_with_len 0 (length s.nodes))) >>= over agg
+value_at s each (Load name width x) = value_at s each x >>= λ addr. resolved_node each name >>= λ node. loaded_at s.nodes node width addr
+value_at s each (Global name n) = resolved_node each name >>= λ node. global_value s.nodes node n
+value_at s each (Clock name) = resolved_node each name >>= clock_at s.nodes
+value_at s each (Events name) = resolved_node each name >>= events_at s.nodes
+value_at s each (Size name) = resolved_node each name >>= λ node. option_map pos (size_at s.nodes node)
 
 abbrev pub setting : List Node → (List ℕ → Option ℤ) → Setting
 setting nodes variables = record { nodes = nodes; variables = variables }
 
 -- The value of an expression. A node that isn't there, and the name of each node outside of an aggregate,
 -- have only undef places.
-abbrev pub value : List Node → (List ℕ → Option ℤ) → Tree → Option ℤ
+abbrev pub value : List Node → (List ℕ → Option ℤ) → Expression → Option ℤ
 value nodes variables x = value_at (setting nodes variables) None x

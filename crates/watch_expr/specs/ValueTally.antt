@@ -7,11 +7,11 @@ use Rattle.watch_expr.specs.declared.value.tally.Tally.{Tally}
 use Rattle.watch_expr.specs.declared.value.tally.Tally.TheVariants.{Sum, Min, Max, Count}
 use Rattle.watch_expr.specs.Value.{fit, is_zero}
 
-abbrev pub start : Agg → Tally
-start agg.Sum = Sum (pos 0)
-start agg.Min = Min None
-start agg.Max = Max None
-start agg.Count = Count 0
+abbrev pub empty_tally : Agg → Tally
+empty_tally agg.Sum = Sum (pos 0)
+empty_tally agg.Min = Min None
+empty_tally agg.Max = Max None
+empty_tally agg.Count = Count 0
 
 -- the better of a value and those before it
 abbrev pub best : (ℤ → ℤ → ℤ) → Option ℤ → ℤ → ℤ

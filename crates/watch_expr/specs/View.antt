@@ -27,8 +27,8 @@ part_at nodes node addr len = slice_get nodes node >>= λ s. part_of s.memory ad
 abbrev pub piece_of : Memory → ℕ → ℕ → Option (List ℕ)
 piece_of memory addr len = if is_inside memory addr len then Some (bytes_from memory addr len) else None
 
-abbrev pub piece_at : List Node → ℕ → ℕ → ℕ → Option (List ℕ)
-piece_at nodes node addr len = slice_get nodes node >>= λ s. piece_of s.memory addr len
+abbrev pub bytes_of_node : List Node → ℕ → ℕ → ℕ → Option (List ℕ)
+bytes_of_node nodes node addr len = slice_get nodes node >>= λ s. piece_of s.memory addr len
 
 -- the nth global, and None where there is none
 abbrev pub global_at : List Node → ℕ → ℕ → Option ℤ

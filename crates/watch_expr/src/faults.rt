@@ -1,6 +1,6 @@
 // What may be wrong with an expression that is of the grammar.
 ghost use Rattle.std.specs.Prelude.{◌≡◌, ◌||◌, ◌&&◌, false};
-ghost use Rattle.watch_expr.specs.Tree.{tree};
+ghost use Rattle.watch_expr.specs.Expression.{expression_of};
 ghost use Rattle.watch_expr.specs.Faulty.{has_aggregate, is_nested, lacks_node, is_unnamed, names_variable};
 
 use crate::expr::{Expr, NodeName};
@@ -18,9 +18,9 @@ pub struct Faults {
 
 /// Tells what may be wrong with the expression. It takes no memory.
 pub fn find_faults(e: &Expr) -> Faults
-    ensures nested { result.nested ≡ is_nested (tree e.now) }
-    ensures no_node { result.no_node ≡ lacks_node false (tree e.now) }
-    ensures variable { result.variable ≡ names_variable (tree e.now) }
+    ensures nested { result.nested ≡ is_nested (expression_of e.now) }
+    ensures no_node { result.no_node ≡ lacks_node false (expression_of e.now) }
+    ensures variable { result.variable ≡ names_variable (expression_of e.now) }
 {
     faults_in(e, false)
 }
@@ -46,9 +46,9 @@ impl Faults {
 
 /// The faults of an expression that stands in an aggregate, or in none.
 fn faults_in(e: &Expr, inside: bool) -> Faults
-    ensures nested { result.nested ≡ ((inside && has_aggregate (tree e.now)) || is_nested (tree e.now)) }
-    ensures no_node { result.no_node ≡ lacks_node inside (tree e.now) }
-    ensures variable { result.variable ≡ names_variable (tree e.now) }
+    ensures nested { result.nested ≡ ((inside && has_aggregate (expression_of e.now)) || is_nested (expression_of e.now)) }
+    ensures no_node { result.no_node ≡ lacks_node inside (expression_of e.now) }
+    ensures variable { result.variable ≡ names_variable (expression_of e.now) }
 {
     match e {
         Expr::Number(_) => NONE,

@@ -6,7 +6,7 @@ pub fn exact_cut()
     ensures { ExactCut }
 {}
 
-/// Tokens spell one expression at most, and `tree_of` computes it.
+/// Tokens spell one expression at most, and `expression_spelled` computes it.
 pub fn exact_reading()
     ensures { ExactReading }
 {}

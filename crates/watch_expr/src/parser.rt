@@ -1,9 +1,9 @@
 // Reads an expression, token by token.
 ghost use Rattle.std.specs.Prelude.{◌≡◌, ◌<◌, ◌^◌, [], IfOk, length, None};
-ghost use Rattle.watch_expr.specs.Grammar.{Parsed, left};
-ghost use Rattle.watch_expr.specs.Tree.{tree};
+ghost use Rattle.watch_expr.specs.Grammar.{ParsedExpr, left_level};
+ghost use Rattle.watch_expr.specs.Expression.{expression_of};
 ghost use Rattle.watch_expr.specs.Spelling.{unary_of};
-ghost use Rattle.watch_expr.specs.Machine.{settle, pile, state, Have, More, Opens, Steps, Gives, Finishes, begin, onward, at_place, operator as after_operator, close as after_closing, want_sign, went_of, went_if, given, lead, closed_by, closing as closing_sign, enclose, Led, Closes};
+ghost use Rattle.watch_expr.specs.Machine.{settle_operators, pile, state, Have, More, Opens, Steps, GivesStep, Finishes, begun_by, onward, at_place, after_operator, close as after_closing, want_sign, went_of, went_if, only_if, lead, is_closed_with, closing as closing_sign, enclose, Led, Closes};
 
 use crate::error::ExprError;
 use crate::expr::{Binary, Expr, NodeName};
@@ -23,7 +23,7 @@ pub fn parse(
     names: &[Bytes],
 ) -> Result<(Expr, usize), ExprError>
     requires { length names.now < 2 ^ 32 }
-    ensures { Parsed names.now tokens.now from result }
+    ensures { ParsedExpr names.now tokens.now from result }
 {
     let mut frames = Vec::new(alloc);
     let mut mode = Mode::Want;
@@ -94,7 +94,7 @@ fn want(frames: &mut Vec<Frame>, text: &[u8]) -> Result<Step, AllocError>
 /// Where an operand is wanted and no number stands.
 #[tactic(auto, using(crate::proofs::Piles::pile_push))]
 fn want_operand(frames: &mut Vec<Frame>, text: &[u8]) -> Result<Step, AllocError>
-    ensures { IfOk result (λ s. Gives (want_sign (unary_of text.now) (pile [] frames.old.items) text.now) (state frames.old.items Mode.Want) frames.new.items s) }
+    ensures { IfOk result (λ s. GivesStep (want_sign (unary_of text.now) (pile [] frames.old.items) text.now) (state frames.old.items Mode.Want) frames.new.items s) }
 {
     match read_unary(text) {
         Some(op) => {
@@ -138,7 +138,7 @@ fn led(frames: &mut Vec<Frame>, went: Option<Went>, mode: Mode) -> Result<Step, 
 
 /// What a token begins that is no number and no sign in front.
 fn begun(text: &[u8]) -> Option<Went>
-    ensures { went_if result ≡ begin text.now }
+    ensures { went_if result ≡ begun_by text.now }
 {
     if let Some(agg) = read_agg(text) {
         return Some(Went::More(Half::Named(agg)));
@@ -153,13 +153,13 @@ fn begun(text: &[u8]) -> Option<Went>
 }
 
 fn more_if(test: bool, half: Half) -> Option<Went>
-    ensures { went_if result ≡ given test (More half) }
+    ensures { went_if result ≡ only_if test (More half) }
 {
     if test { Some(Went::More(half)) } else { None }
 }
 
 fn opens_if(test: bool, opening: Opening) -> Option<Went>
-    ensures { went_if result ≡ given test (Opens opening) }
+    ensures { went_if result ≡ only_if test (Opens opening) }
 {
     if test {
         Some(Went::Opens(opening))
@@ -253,8 +253,8 @@ fn global(node: NodeName, n: u64, text: &[u8]) -> Option<Went>
 
 /// Behind an operand, an operator.
 fn operator(alloc: Global, frames: &mut Vec<Frame>, x: Expr, op: Binary) -> Result<Step, AllocError>
-    ensures { IfOk result (λ s. Gives (after_operator op (settle (left op) (pile [] frames.old.items) (tree x)))
-        (Have (pile [] frames.old.items) (tree x)) frames.new.items s) }
+    ensures { IfOk result (λ s. GivesStep (after_operator op (settle_operators (left_level op) (pile [] frames.old.items) (expression_of x)))
+        (Have (pile [] frames.old.items) (expression_of x)) frames.new.items s) }
 {
     let left = settled(alloc, frames, left_of(op), x)?;
     if chains(frames, op) {
@@ -266,8 +266,8 @@ fn operator(alloc: Global, frames: &mut Vec<Frame>, x: Expr, op: Binary) -> Resu
 
 /// Behind an operand, a token that is no operator.
 fn close(alloc: Global, frames: &mut Vec<Frame>, x: Expr, text: &[u8]) -> Result<Step, AllocError>
-    ensures { IfOk result (λ s. Gives (after_closing text.now (settle 0 (pile [] frames.old.items) (tree x)))
-        (Have (pile [] frames.old.items) (tree x)) frames.new.items s) }
+    ensures { IfOk result (λ s. GivesStep (after_closing text.now (settle_operators 0 (pile [] frames.old.items) (expression_of x)))
+        (Have (pile [] frames.old.items) (expression_of x)) frames.new.items s) }
 {
     let inner = settled(alloc, frames, 0, x)?;
     match frames.pop() {
@@ -293,7 +293,7 @@ fn closed(
     opening: Opening,
     text: &[u8],
 ) -> Result<Step, AllocError>
-    ensures { IfOk result (λ s. Closes opening (tree inner) text.now (pile [] frames.old.items) frames.new.items s) }
+    ensures { IfOk result (λ s. Closes opening (expression_of inner) text.now (pile [] frames.old.items) frames.new.items s) }
 {
     if !is_closed_by(opening, text) {
         frames.push(Frame::Inside(opening))?;
@@ -303,7 +303,7 @@ fn closed(
 }
 
 fn is_closed_by(opening: Opening, text: &[u8]) -> bool
-    ensures { result ≡ closed_by opening text.now }
+    ensures { result ≡ is_closed_with opening text.now }
 {
     text == closing(opening).as_bytes()
 }
@@ -319,7 +319,7 @@ fn closing(opening: Opening) -> &'static str
 }
 
 fn enclosed(alloc: Global, opening: Opening, x: Expr) -> Result<Expr, AllocError>
-    ensures { IfOk result (λ y. tree y ≡ enclose opening (tree x)) }
+    ensures { IfOk result (λ y. expression_of y ≡ enclose opening (expression_of x)) }
 {
     match opening {
         Opening::Bracket => Ok(x),

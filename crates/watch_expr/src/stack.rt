@@ -1,8 +1,8 @@
 // What has been read of an expression, and what waits for its operand.
 ghost use Rattle.std.specs.Prelude.{◌≡◌, [], ◌∷◌, IfOk, ◌==◌, ◌&&◌};
-ghost use Rattle.watch_expr.specs.Grammar.{level, left};
-ghost use Rattle.watch_expr.specs.Tree.{tree};
-ghost use Rattle.watch_expr.specs.Machine.{settle, pile, compares, pending};
+ghost use Rattle.watch_expr.specs.Grammar.{operator_level, left_level};
+ghost use Rattle.watch_expr.specs.Expression.{expression_of};
+ghost use Rattle.watch_expr.specs.Machine.{settle_operators, pile, compares, pending};
 
 use crate::expr::{Agg, Binary, Expr, NodeName, Unary, Width};
 use std::alloc::{AllocError, Global};
@@ -61,7 +61,7 @@ pub(crate) enum Step {
 }
 
 fn level_of(op: Binary) -> u8
-    ensures { result ≡ level op }
+    ensures { result ≡ operator_level op }
 {
     match op {
         Binary::Or => 0,
@@ -73,7 +73,7 @@ fn level_of(op: Binary) -> u8
 }
 
 pub(crate) fn left_of(op: Binary) -> u8
-    ensures { result ≡ left op }
+    ensures { result ≡ left_level op }
 {
     match op {
         Binary::Eq | Binary::Ne | Binary::Lt | Binary::Le | Binary::Gt | Binary::Ge => 3,
@@ -88,7 +88,7 @@ pub(crate) fn settled(
     least: u8,
     operand: Expr,
 ) -> Result<Expr, AllocError>
-    ensures { IfOk result (λ x. settle least (pile [] frames.old.items) (tree operand) ≡ (pile [] frames.new.items, tree x)) }
+    ensures { IfOk result (λ x. settle_operators least (pile [] frames.old.items) (expression_of operand) ≡ (pile [] frames.new.items, expression_of x)) }
 {
     let mut x = operand;
     while let Some(frame) = frames.pop() {
@@ -112,7 +112,7 @@ pub(crate) fn settled(
 
 /// Whether the operator compares what a comparison gives.
 pub(crate) fn chains(frames: &Vec<Frame>, op: Binary) -> bool
-    ensures { result ≡ (level op == 2 && compares (pile [] frames.now.items)) }
+    ensures { result ≡ (operator_level op == 2 && compares (pile [] frames.now.items)) }
 {
     match frames.last() {
         Some(frame) => level_of(op) == 2 && is_comparison(frame),

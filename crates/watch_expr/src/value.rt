@@ -1,6 +1,6 @@
 // The value of an expression.
 ghost use Rattle.std.specs.Prelude.{◌≡◌};
-ghost use Rattle.watch_expr.specs.Tree.{tree};
+ghost use Rattle.watch_expr.specs.Expression.{expression_of};
 ghost use Rattle.watch_expr.specs.Value.{setting, value, value_at};
 
 mod loads;
@@ -18,7 +18,7 @@ use crate::view::{Scope, View};
 /// The value of an expression over the nodes of the view and the variables of the scope; `None` stands
 /// for undef. It takes no memory.
 pub fn eval<V: View, S: Scope>(e: &Expr, v: &V, scope: &S) -> Option<i64>
-    ensures { result ≡ value (V.nodes v.now) (S.variables scope.now) (tree e.now) }
+    ensures { result ≡ value (V.nodes v.now) (S.variables scope.now) (expression_of e.now) }
 {
     eval_at(e, v, scope, None)
 }
@@ -26,7 +26,7 @@ pub fn eval<V: View, S: Scope>(e: &Expr, v: &V, scope: &S) -> Option<i64>
 // The value where `each` is the node of the aggregate around the expression.
 #[cycle(eval)]
 fn eval_at<V: View, S: Scope>(e: &Expr, v: &V, scope: &S, each: Option<u32>) -> Option<i64>
-    ensures { result ≡ value_at (setting (V.nodes v.now) (S.variables scope.now)) each (tree e.now) }
+    ensures { result ≡ value_at (setting (V.nodes v.now) (S.variables scope.now)) each (expression_of e.now) }
 {
     match e {
         Expr::Number(n) => number(*n),

@@ -1,15 +1,15 @@
 // What a load reads of a node's memory.
 ghost use Rattle.std.specs.Prelude.{◌≡◌, ◌+◌, ◌<◌, ◌≤◌, ◌^◌, length, option_and_then, option_map, take};
 ghost use Rattle.guest_memory.specs.Memory.{put_piece};
-ghost use Rattle.watch_expr.specs.Value.{byte_count, load_at, loaded_value};
-ghost use Rattle.watch_expr.specs.View.{piece_at};
+ghost use Rattle.watch_expr.specs.Value.{byte_count, loaded_at, value_of_bytes};
+ghost use Rattle.watch_expr.specs.View.{bytes_of_node};
 
 use crate::expr::Width;
 use crate::value::places::within;
 use crate::view::View;
 
 pub(crate) fn load<V: View>(v: &V, node: Option<u32>, width: Width, addr: i64) -> Option<i64>
-    ensures { result ≡ option_and_then (λ k. load_at (V.nodes v.now) k width addr) node }
+    ensures { result ≡ option_and_then (λ k. loaded_at (V.nodes v.now) k width addr) node }
 {
     let node = within(v, node)?;
     let addr = u64::try_from(addr).ok()?;
@@ -23,7 +23,7 @@ fn piece<V: View>(v: &V, node: u32, addr: u64, count: u64) -> Option<[u8; 8]>
     requires there { node < length (V.nodes v.now) }
     requires few { count ≤ 8 }
     requires low { addr < 2 ^ 63 }
-    ensures { option_map (λ bytes. take count bytes) result ≡ piece_at (V.nodes v.now) node addr count }
+    ensures { option_map (λ bytes. take count bytes) result ≡ bytes_of_node (V.nodes v.now) node addr count }
 {
     let mut bytes = [0; 8];
     let first = v.part(node, addr, count)?;
@@ -58,7 +58,7 @@ fn byte_count(width: Width) -> u64
 
 // The value that so many bytes at the front stand for, the lowest first.
 fn loaded_value(width: Width, bytes: [u8; 8]) -> i64
-    ensures { result ≡ loaded_value width (take (byte_count width) bytes) }
+    ensures { result ≡ value_of_bytes width (take (byte_count width) bytes) }
 {
     let [a, b, c, d, ..] = bytes;
     match width {

@@ -1,6 +1,6 @@
 // What the operators make of numbers.
 ghost use Rattle.std.specs.Prelude.{◌≡◌, pos};
-ghost use Rattle.watch_expr.specs.Value.{decided, fit, is_zero, one, truth, two};
+ghost use Rattle.watch_expr.specs.Value.{decided, fit, is_zero, one, truth_value, two};
 
 use crate::expr::{Binary, Unary};
 
@@ -56,7 +56,7 @@ pub(crate) fn is_zero(a: i64) -> bool
 }
 
 fn truth(b: bool) -> i64
-    ensures { result ≡ truth b }
+    ensures { result ≡ truth_value b }
 {
     if b { 1 } else { 0 }
 }

@@ -1,6 +1,6 @@
 // What the places of a node hold.
 ghost use Rattle.std.specs.Prelude.{◌≡◌, ◌<◌, None, Some, pos, length, option_and_then, option_map, slice_get, IfNone, IfSome};
-ghost use Rattle.watch_expr.specs.Value.{global_value, node_of};
+ghost use Rattle.watch_expr.specs.Value.{global_value, resolved_node};
 ghost use Rattle.watch_expr.specs.View.{clock_at, events_at, size_at};
 
 use crate::expr::NodeName;
@@ -8,7 +8,7 @@ use crate::view::View;
 
 // The node with this name, where `each` is the node of the aggregate around it.
 pub(crate) fn node_of(each: Option<u32>, name: NodeName) -> Option<u32>
-    ensures { result ≡ node_of each name }
+    ensures { result ≡ resolved_node each name }
 {
     match name {
         NodeName::Named(node) => node,

@@ -1,7 +1,7 @@
 // What an aggregate has made of the values at the nodes so far.
 ghost use Rattle.std.specs.Prelude.{◌≡◌};
 ghost use Rattle.std.specs.Int.{int_max, int_min};
-ghost use Rattle.watch_expr.specs.ValueTally.{HasRoom, added, best, start, total};
+ghost use Rattle.watch_expr.specs.ValueTally.{HasRoom, added, best, empty_tally, total};
 
 use crate::expr::Agg;
 use crate::value::operators::is_zero;
@@ -17,7 +17,7 @@ pub(crate) enum Tally {
 
 impl Tally {
     pub(crate) fn start(agg: Agg) -> Tally
-        ensures { result ≡ start agg }
+        ensures { result ≡ empty_tally agg }
     {
         match agg {
             Agg::Sum => Tally::Sum(0),

@@ -10,5 +10,5 @@ returns c =
       heads = λ bytes head left. (head_at-found bytes head left, λ h. head_at-begins readers bytes head left h.0 h.1);
       entries = λ bytes entry left. (entry_at-found bytes entry left, λ h. entry_at-begins readers bytes entry left h.0 h.1);
       all = holds_exactly readers;
-      written = held_alone;
+      holds_written = held_alone;
     }

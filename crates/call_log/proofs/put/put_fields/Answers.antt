@@ -5,7 +5,7 @@ use Rattle.std.proofs.lemmas.List.{append-nil}
 use Rattle.lib_calls.specs.Kinds.{has_outgoing, has_incoming, has_tag}
 use Rattle.lib_calls.specs.declared.entry.Entry.{Entry}
 use Rattle.lib_calls.specs.Entry.{entry_of}
-use Rattle.call_log.specs.Entry.{body, encoding, front_bytes, argument_bytes, reply_bytes, tag_if, string_if}
+use Rattle.call_log.specs.Entry.{body_bytes, encoding, front_bytes, argument_bytes, reply_bytes, tag_if, string_if}
 use Rattle.call_log.proofs.FieldLaws.{on_ok}
 use Rattle.call_log.proofs.Puts.{kept, kept_on_err, on_err, same_on_err}
 use Rattle.call_log.proofs.put.put_fields.Goals as goal
@@ -13,16 +13,16 @@ use Rattle.call_log.proofs.put.put_fields.Goals as goal
 regroup : (size clock thread kind signal arguments reply outgoing incoming tag : List ℕ) → size ++ concat (clock ∷ thread ∷ kind ∷ signal ∷ arguments ∷ reply ∷ outgoing ∷ incoming ∷ tag ∷ []) ≡ concat (size ∷ clock ∷ thread ∷ (kind ++ signal) ∷ []) ++ (arguments ++ ((reply ++ (outgoing ++ incoming)) ++ tag))
 regroup size clock thread kind signal arguments reply outgoing incoming tag = simp (append_assoc, append-nil)
 
-body_fields : (e : Entry) → body e ≡ concat (to_le_bytes w64 e.clock ∷ to_le_bytes w16 e.thread ∷ (e.call.kind ∷ []) ∷ (e.signal ∷ []) ∷ argument_bytes e.call ∷ to_le_bytes w64 e.reply ∷ string_if (has_outgoing e.call.kind) e.outgoing ∷ string_if (has_incoming e.call.kind) e.incoming ∷ tag_if (has_tag e.call.kind) e.tag ∷ [])
-unfolding body
+body_fields : (e : Entry) → body_bytes e ≡ concat (to_le_bytes w64 e.clock ∷ to_le_bytes w16 e.thread ∷ (e.call.kind ∷ []) ∷ (e.signal ∷ []) ∷ argument_bytes e.call ∷ to_le_bytes w64 e.reply ∷ string_if (has_outgoing e.call.kind) e.outgoing ∷ string_if (has_incoming e.call.kind) e.incoming ∷ tag_if (has_tag e.call.kind) e.tag ∷ [])
+unfolding body_bytes
 body_fields e = refl
 
 -- the four parts of an entry
 parts : (e : Entry) → encoding e ≡ front_bytes e ++ (argument_bytes e.call ++ (reply_bytes e ++ tag_if (has_tag e.call.kind) e.tag))
 unfolding encoding front_bytes reply_bytes
 parts e =
-    ap (λ (t : List ℕ). to_le_bytes w32 (length (body e)) ++ t) (body_fields e)
-    ∙ regroup (to_le_bytes w32 (length (body e))) (to_le_bytes w64 e.clock) (to_le_bytes w16 e.thread) (e.call.kind ∷ []) (e.signal ∷ []) (argument_bytes e.call) (to_le_bytes w64 e.reply) (string_if (has_outgoing e.call.kind) e.outgoing) (string_if (has_incoming e.call.kind) e.incoming) (tag_if (has_tag e.call.kind) e.tag)
+    ap (λ (t : List ℕ). to_le_bytes w32 (length (body_bytes e)) ++ t) (body_fields e)
+    ∙ regroup (to_le_bytes w32 (length (body_bytes e))) (to_le_bytes w64 e.clock) (to_le_bytes w16 e.thread) (e.call.kind ∷ []) (e.signal ∷ []) (argument_bytes e.call) (to_le_bytes w64 e.reply) (string_if (has_outgoing e.call.kind) e.outgoing) (string_if (has_incoming e.call.kind) e.incoming) (tag_if (has_tag e.call.kind) e.tag)
 
 joined : (old a b c d x y z new : List ℕ) → x ≡ old ++ a → y ≡ x ++ b → z ≡ y ++ c → new ≡ z ++ d → new ≡ old ++ (a ++ (b ++ (c ++ d)))
 joined old a b c d x y z new p q r s = s ∙ rw (r, q, p) (simp append_assoc)

@@ -4,8 +4,8 @@ use Rattle.std.proofs.lemmas.Result.{err_from_is_err_and}
 use Rattle.watch_expr.specs.Lexing.{texts}
 use Rattle.embed_cmds.specs.declared.program.Stmt.{Stmt}
 use Rattle.embed_cmds.specs.Parsing.{ReadAs}
-use Rattle.embed_cmds.specs.Reading.{Read, program_in, separated, statement as statement_in}
-use Rattle.embed_cmds.specs.Tree.{Statements, statement as statement_of, statements}
+use Rattle.embed_cmds.specs.Reading.{Read, program_in, separated, statement}
+use Rattle.embed_cmds.specs.Tree.{Statements, statement_of, statements}
 use Rattle.embed_cmds.proofs.ReadSeparated.{ended, refused_among, went_on}
 use Rattle.embed_cmds.proofs.ReadSteps.{choice_read, else_is, no_levels, program_at, sequence_as}
 use Rattle.embed_cmds.proofs.ReadTokens.{column_here}
@@ -31,12 +31,12 @@ pub read_program-returns-clause-read : goal.read_program-returns-clause-read
 read_program-returns-clause-read t c =
     let left = drop c.args.at (texts c.args.tokens.now) in
     let names = c.args.names.now in
-    sequence_as c.args.tokens.now (separated (codes ";") (statement_in (program_in (c.args.levels - 1) names) names) left) _ c.read_statements.result (program_at c.args.levels names left c.if-levels-eq0.false) c.read_statements.ensures.read
+    sequence_as c.args.tokens.now (separated (codes ";") (statement (program_in (c.args.levels - 1) names) names) left) _ c.read_statements.result (program_at c.args.levels names left c.if-levels-eq0.false) c.read_statements.ensures.read
 
 pub read_statements-returns-in_err-stmt-clause-read : goal.read_statements-returns-in_err-stmt-clause-read
 read_statements-returns-in_err-stmt-clause-read t c =
     let ts = texts c.args.tokens.now in
-    let one = statement_in (program_in c.args.levels c.args.names.now) c.args.names.now in
+    let one = statement (program_in c.args.levels c.args.names.now) c.args.names.now in
     let p = err_from_is_err_and c.from_residual.result c.from_residual.ensures.1 in
     rw (p.1, p.2)
     (refused_among statement_of (λ (v : Vec Stmt). map statement_of v.items) c.args.tokens.now (codes ";") one (drop c.args.from ts) (map statement_of c.loop-stmts.stmts.items) (drop c.loop-stmts.at ts) c.in_err-stmt.field-0.0
@@ -45,14 +45,14 @@ read_statements-returns-in_err-stmt-clause-read t c =
 pub read_statements-returns-then-not-stands-clause-read : goal.read_statements-returns-then-not-stands-clause-read
 read_statements-returns-then-not-stands-clause-read t c =
     let ts = texts c.args.tokens.now in
-    let one = statement_in (program_in c.args.levels c.args.names.now) c.args.names.now in
+    let one = statement (program_in c.args.levels c.args.names.now) c.args.names.now in
     ended statement_of (codes ";") one ts (drop c.args.from ts) c.loop-stmts.stmts.items c.push.new.self.items c.in_ok-stmt.stmt c.loop-stmts.at c.in_ok-stmt.next
     c.loop-stmts.invariant.reached refl c.in_ok-stmt.ensures.read c.in_ok-push.ensures.items (sym c.stands.ensures.text ∙ c.if-not-stands.true)
 
 pub read_statements-loop-stmts-preserved : goal.read_statements-loop-stmts-preserved
 read_statements-loop-stmts-preserved t c =
     let ts = texts c.args.tokens.now in
-    let one = statement_in (program_in c.args.levels c.args.names.now) c.args.names.now in
+    let one = statement (program_in c.args.levels c.args.names.now) c.args.names.now in
     record {
       reached = went_on statement_of (codes ";") one ts (drop c.args.from ts) c.loop-stmts.stmts.items c.push.new.self.items c.in_ok-stmt.stmt c.loop-stmts.at c.in_ok-stmt.next
           c.loop-stmts.invariant.reached refl c.in_ok-stmt.ensures.read c.in_ok-push.ensures.items (sym c.stands.ensures.text ∙ c.if-not-stands.false) c.in_ok-stmt.ensures.onward;

@@ -1,7 +1,7 @@
 use Rattle.std.proofs.Common.{◌≤◌, ◌+◌, ◌-◌, ◌*◌, codes, drop, length, map}
 use Rattle.watch_expr.specs.Lexing.{texts}
-use Rattle.embed_cmds.specs.Reading.{program_in, statement as statement_in}
-use Rattle.embed_cmds.specs.Tree.{statement as statement_of}
+use Rattle.embed_cmds.specs.Reading.{program_in, statement}
+use Rattle.embed_cmds.specs.Tree.{statement_of}
 use Rattle.embed_cmds.proofs.ReadSeparated.{Reached}
 use Rattle.embed_cmds.proofs.parser.+program.Given as goal
 
@@ -28,7 +28,7 @@ decreases-read_statements l = 7 * l.levels + 6
 
 abbrev pub invariant-read_statements-loop-stmts : goal.invariant-read_statements-loop-stmts
 invariant-read_statements-loop-stmts l = record {
-  reached : Reached (codes ";") (statement_in (program_in l.levels l.names) l.names) (drop l.from (texts l.tokens)) (map statement_of l.stmts.items) (drop l.at (texts l.tokens));
+  reached : Reached (codes ";") (statement (program_in l.levels l.names) l.names) (drop l.from (texts l.tokens)) (map statement_of l.stmts.items) (drop l.at (texts l.tokens));
   onward : l.from ≤ l.at;
 }
 

@@ -1,9 +1,9 @@
 use Rattle.std.proofs.Common.{List, ℕ, Some, drop, sym, ap, ◌∙◌}
 use Rattle.std.proofs.lemmas.Result.{err_from_is_err_and}
 use Rattle.watch_expr.specs.Lexing.{texts}
-use Rattle.watch_expr.specs.Tree.{tree}
+use Rattle.watch_expr.specs.Expression.{expression_of}
 use Rattle.embed_cmds.specs.Reading.{Read, expression, then_reads}
-use Rattle.embed_cmds.specs.Tree.{item}
+use Rattle.embed_cmds.specs.Tree.{item_of}
 use Rattle.embed_cmds.proofs.ReadSteps.{as_value, item_value, item_words, refused_first}
 use Rattle.embed_cmds.proofs.parser.read_item.Goals as goal
 
@@ -16,7 +16,7 @@ returns-in_err-value-clause-read c =
     let ts = texts c.args.tokens.now in
     let p = err_from_is_err_and c.from_residual-in_err-value.result c.from_residual-in_err-value.ensures.1 in
     let is = item_value c.args.names.now ts c.args.at (sym c.in_default.ensures.string) in
-    rw (p.1, p.2) (refused_first tree item c.args.tokens.now (expression c.args.names.now (drop c.args.at ts)) as_value _ c.in_err-value.field-0.0 is c.in_err-value.ensures.read)
+    rw (p.1, p.2) (refused_first expression_of item_of c.args.tokens.now (expression c.args.names.now (drop c.args.at ts)) as_value _ c.in_err-value.field-0.0 is c.in_err-value.ensures.read)
 
 pub returns-clause-read : goal.returns-clause-read
 returns-clause-read c =

@@ -3,8 +3,8 @@ use Rattle.std.specs.Global.{Vec}
 use Rattle.std.proofs.lemmas.Result.{err_from_is_err_and}
 use Rattle.watch_expr.specs.Lexing.{texts}
 use Rattle.embed_cmds.specs.declared.program.SayItem.{SayItem}
-use Rattle.embed_cmds.specs.Reading.{item as item_in}
-use Rattle.embed_cmds.specs.Tree.{item as item_of}
+use Rattle.embed_cmds.specs.Reading.{item}
+use Rattle.embed_cmds.specs.Tree.{item_of}
 use Rattle.embed_cmds.proofs.ReadSeparated.{ended, refused_among, went_on}
 use Rattle.embed_cmds.proofs.parser.read_items.Goals as goal
 
@@ -13,20 +13,20 @@ returns-in_err-item-clause-read c =
     let ts = texts c.args.tokens.now in
     let p = err_from_is_err_and c.from_residual.result c.from_residual.ensures.1 in
     rw (p.1, p.2)
-    (refused_among item_of (λ (v : Vec SayItem). map item_of v.items) c.args.tokens.now (codes ",") (item_in c.args.names.now) (drop c.args.from ts) (map item_of c.loop-items.items.items) (drop c.loop-items.at ts) c.in_err-item.field-0.0
+    (refused_among item_of (λ (v : Vec SayItem). map item_of v.items) c.args.tokens.now (codes ",") (item c.args.names.now) (drop c.args.from ts) (map item_of c.loop-items.items.items) (drop c.loop-items.at ts) c.in_err-item.field-0.0
     c.loop-items.invariant.reached refl c.in_err-item.ensures.read)
 
 pub returns-then-not-stands-clause-read : goal.returns-then-not-stands-clause-read
 returns-then-not-stands-clause-read c =
     let ts = texts c.args.tokens.now in
-    ended item_of (codes ",") (item_in c.args.names.now) ts (drop c.args.from ts) c.loop-items.items.items c.push.new.self.items c.in_ok-item.item c.loop-items.at c.in_ok-item.next
+    ended item_of (codes ",") (item c.args.names.now) ts (drop c.args.from ts) c.loop-items.items.items c.push.new.self.items c.in_ok-item.item c.loop-items.at c.in_ok-item.next
     c.loop-items.invariant.reached refl c.in_ok-item.ensures.read c.in_ok-push.ensures.items (sym c.stands.ensures.text ∙ c.if-not-stands.true)
 
 pub loop-items-preserved : goal.loop-items-preserved
 loop-items-preserved c =
     let ts = texts c.args.tokens.now in
     record {
-      reached = went_on item_of (codes ",") (item_in c.args.names.now) ts (drop c.args.from ts) c.loop-items.items.items c.push.new.self.items c.in_ok-item.item c.loop-items.at c.in_ok-item.next
+      reached = went_on item_of (codes ",") (item c.args.names.now) ts (drop c.args.from ts) c.loop-items.items.items c.push.new.self.items c.in_ok-item.item c.loop-items.at c.in_ok-item.next
           c.loop-items.invariant.reached refl c.in_ok-item.ensures.read c.in_ok-push.ensures.items (sym c.stands.ensures.text ∙ c.if-not-stands.false) c.in_ok-item.ensures.onward;
       onward = omega (arith, c.loop-items.invariant.onward, c.in_ok-item.ensures.onward);
     }

@@ -1,13 +1,13 @@
 use Rattle.std.proofs.Common.{◌≤◌, ◌-◌, codes, drop, length, map}
 use Rattle.watch_expr.specs.Lexing.{texts}
-use Rattle.embed_cmds.specs.Reading.{item as item_in}
-use Rattle.embed_cmds.specs.Tree.{item as item_of}
+use Rattle.embed_cmds.specs.Reading.{item}
+use Rattle.embed_cmds.specs.Tree.{item_of}
 use Rattle.embed_cmds.proofs.ReadSeparated.{Reached}
 use Rattle.embed_cmds.proofs.parser.read_items.Given as goal
 
 abbrev pub invariant-loop-items : goal.invariant-loop-items
 invariant-loop-items l = record {
-  reached : Reached (codes ",") (item_in l.names) (drop l.from (texts l.tokens)) (map item_of l.items.items) (drop l.at (texts l.tokens));
+  reached : Reached (codes ",") (item l.names) (drop l.from (texts l.tokens)) (map item_of l.items.items) (drop l.at (texts l.tokens));
   onward : l.from ≤ l.at;
 }
 

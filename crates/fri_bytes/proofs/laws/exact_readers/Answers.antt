@@ -9,6 +9,6 @@ returns c = record {
   number = le_reads;
   unsigned = unsigned_reads;
   signed = signed_reads;
-  written = le_at-to_le_bytes;
+  reads_written = le_at-to_le_bytes;
   rewritten = le_at_spelled;
 }

@@ -17,7 +17,7 @@ loop-line-preserved g c =
     let pushed : map shown c.push.new.self.items ≡ map shown items ++ shown m ∷ [] = ap (map shown) c.in_ok-push.ensures.items ∙ map-append shown items (m ∷ []) in
     let next : drop i lines ≡ c.line-item.result ∷ drop (i + 1) lines = drop_more lines i _ c.loop-line-test.true ∙ ap (λ (line : ProcessLine). line ∷ drop (i + 1) lines) (sym c.line-item.is) in (
       subst (λ (ms : List Module). AreTaken told lines (i + 1) ms) (sym pushed)
-          (one_taken told lines i (map shown items) c.line-item.result (shown m) taken.0 next (λ store is. c.in_ok-take_module_of.ensures.answer store (taken.1 ∙ is))),
+          (one_taken told lines i (map shown items) c.line-item.result (shown m) taken.0 next (λ folder is. c.in_ok-take_module_of.ensures.answer folder (taken.1 ∙ is))),
       c.take_module_of.ensures.same ∙ taken.1,
       still_none_fell _ _ _ taken.2 c.take_module_of.ensures.counts,
     )

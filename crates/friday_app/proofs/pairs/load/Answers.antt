@@ -12,15 +12,15 @@ returns-in_err-begin_log-clause-cause g c =
     rw (p.1, p.2) (c.in_err-begin_log.ensures.cause (g.F.Files.counts c.args.files.now) (g.F.Files.counts c.take_log.new.files))
 
 pub returns-clause-answer : goal.returns-clause-answer
-returns-clause-answer g c store told ls are =
+returns-clause-answer g c folder told ls are =
     let log = c.in_ok-begin_log.field-0 in
     let unclashed : c.clash.result ≡ None = search rules in
     let none : clash ls log.head ≡ None = ap (clash ls) (sym c.head-head.ensures) ∙ sym (c.clash.ensures.answer ls are) ∙ unclashed in (
       read_as (pair_of c.args.pair) (shown c.in_ok-module.module) (log.head, log.left),
       (
-        pair_read store ls (pair_of c.args.pair) (shown c.in_ok-module.module) c.deref.result.now (log.head, log.left)
-            (c.in_ok-module.ensures.answer store told)
-            (c.in_ok-log.ensures.answer store (c.take_module.ensures.same ∙ told) ∙ ap Ok (sym c.deref.ensures.value))
+        pair_read folder ls (pair_of c.args.pair) (shown c.in_ok-module.module) c.deref.result.now (log.head, log.left)
+            (c.in_ok-module.ensures.answer folder told)
+            (c.in_ok-log.ensures.answer folder (c.take_module.ensures.same ∙ told) ∙ ap Ok (sym c.deref.ensures.value))
             c.in_ok-begin_log.ensures.answer none,
         is_loaded _ (pair_of c.args.pair) c.deref.result.now (log.head, log.left) c.head-head.result refl c.deref.ensures.value c.in_ok-begin_log.ensures.answer c.in_ok-begin_log.ensures.head c.head-head.ensures refl refl c.in_ok-name.ensures,
       ),

@@ -11,12 +11,12 @@ use Rattle.friday_app.proofs.record.record.Goals as goal
 pub returns-in_err-inputs-clause-tells : goal.returns-in_err-inputs-clause-tells
 returns-in_err-inputs-clause-tells g c =
     let p = err_from_is_err_and c.from_residual.result c.from_residual.ensures.1 in
-    rw (p.1, p.2) (refused_tells (record_outcome c.args.images c.args.schedule_file.now) (g.F.Files.told c.args.files.now) c.in_err-inputs.field-0.0 (λ store told. c.in_err-inputs.ensures.answer store told c.args.images))
+    rw (p.1, p.2) (refused_tells (record_outcome c.args.images c.args.schedule_file.now) (g.F.Files.told c.args.files.now) c.in_err-inputs.field-0.0 (λ folder told. c.in_err-inputs.ensures.answer folder told c.args.images))
 
 pub returns-in_err-inputs-clause-makes : goal.returns-in_err-inputs-clause-makes
 returns-in_err-inputs-clause-makes g c =
     let p = err_from_is_err_and c.from_residual.result c.from_residual.ensures.1 in
-    rw (p.1, p.2) (refused_makes (record_outcome c.args.images c.args.schedule_file.now) (g.F.Files.told c.args.files.now) (g.F.Files.told c.gather.new.files) c.in_err-inputs.field-0.0 (λ store told. c.in_err-inputs.ensures.answer store told c.args.images) c.gather.ensures.same)
+    rw (p.1, p.2) (refused_makes (record_outcome c.args.images c.args.schedule_file.now) (g.F.Files.told c.args.files.now) (g.F.Files.told c.gather.new.files) c.in_err-inputs.field-0.0 (λ folder told. c.in_err-inputs.ensures.answer folder told c.args.images) c.gather.ensures.same)
 
 pub returns-in_err-inputs-clause-others : goal.returns-in_err-inputs-clause-others
 returns-in_err-inputs-clause-others g c = same_others _ _ _ c.gather.ensures.same
@@ -32,7 +32,7 @@ returns-in_err-inputs-clause-recorded g c = λ end.
 pub returns-clause-makes : goal.returns-clause-makes
 returns-clause-makes g c =
     group_makes (g.F.Files.told c.args.files.now) (g.F.Files.told c.gather.new.files) (g.F.Files.told c.record_group.new.files) c.args.images c.args.schedule_file.now c.in_ok-inputs.inputs.schedule (map shown c.deref.result.now) c.record_group.result
-    (λ store told. subst (λ (ms : List _). Gathers store c.args.schedule_file.now c.in_ok-inputs.inputs.schedule (map shown ms)) (sym c.deref.ensures.value) (c.in_ok-inputs.ensures.answer store told)) c.gather.ensures.same c.record_group.ensures.makes
+    (λ folder told. subst (λ (ms : List _). Gathers folder c.args.schedule_file.now c.in_ok-inputs.inputs.schedule (map shown ms)) (sym c.deref.ensures.value) (c.in_ok-inputs.ensures.answer folder told)) c.gather.ensures.same c.record_group.ensures.makes
 
 pub returns-clause-others : goal.returns-clause-others
 returns-clause-others g c =
@@ -46,4 +46,4 @@ returns-clause-recorded g c = λ end.
 pub returns-clause-moment : goal.returns-clause-moment
 returns-clause-moment g c =
     moment_then c.recordings_agree.ensures (g.F.Files.told c.args.files.now) (g.F.Files.told c.gather.new.files) (g.F.Files.told c.record_group.new.files) c.args.images c.args.schedule_file.now c.in_ok-inputs.inputs.schedule (map shown c.deref.result.now)
-    (λ store told. subst (λ (ms : List _). Gathers store c.args.schedule_file.now c.in_ok-inputs.inputs.schedule (map shown ms)) (sym c.deref.ensures.value) (c.in_ok-inputs.ensures.answer store told)) c.gather.ensures.same c.record_group.ensures.stopped
+    (λ folder told. subst (λ (ms : List _). Gathers folder c.args.schedule_file.now c.in_ok-inputs.inputs.schedule (map shown ms)) (sym c.deref.ensures.value) (c.in_ok-inputs.ensures.answer folder told)) c.gather.ensures.same c.record_group.ensures.stopped

@@ -2,7 +2,7 @@ use Rattle.std.proofs.Common.{◌<◌, ◌≤◌, length, arith, inr}
 use Rattle.std.proofs.lemmas.List.{length-map}
 use Rattle.std.proofs.lemmas.Result.{err_from_is_err_and}
 use Rattle.watch_expr.specs.Lexing.{texts}
-use Rattle.watch_expr.specs.Tree.{tree}
+use Rattle.watch_expr.specs.Expression.{expression_of}
 use Rattle.friday_shell.proofs.Viable.{refused_as, stops_at, whole_is}
 use Rattle.friday_shell.proofs.read.read_expression.Goals as goal
 
@@ -21,4 +21,4 @@ pub returns : goal.returns
 returns c =
     let h = c.in_ok-expression.ensures in
     let all : length (texts c.args.tokens.now) ≤ c.in_ok-expression.next = omega (arith, length-map c.args.tokens.now.tokens (λ t. t.text)) in
-    whole_is c.exact_reading.ensures c.args.names.now (texts c.args.tokens.now) c.args.from c.in_ok-expression.next (tree c.in_ok-expression.expression) all h.0 h.1 h.2
+    whole_is c.exact_reading.ensures c.args.names.now (texts c.args.tokens.now) c.args.from c.in_ok-expression.next (expression_of c.in_ok-expression.expression) all h.0 h.1 h.2

@@ -1,11 +1,11 @@
 use Rattle.std.proofs.Common.{refl, ap, sym, subst, ◌∙◌}
-use Rattle.coop_threads.specs.Crew.{empty, with_new_thread}
+use Rattle.coop_threads.specs.Crew.{empty, with_live}
 use Rattle.wasm_types.specs.Modules.{Module, module_of}
 use Rattle.wasm_types.specs.Valid.{IsValid}
 use Rattle.wasm_step.specs.Strand.{Strand}
 use Rattle.guest_process.specs.declared.parts.Parts.{Parts}
 use Rattle.guest_process.specs.declared.end.End.TheVariants.{Running}
-use Rattle.guest_process.specs.Seen.{IsProcess}
+use Rattle.guest_process.specs.Seen.{IsOfModule}
 use Rattle.guest_process.specs.Start.{waits}
 use Rattle.guest_process.proofs.Starting.{is_process}
 use Rattle.guest_process.proofs.process.begin.Goals as goal
@@ -17,7 +17,7 @@ invariant_of-result c =
     let same_module = ap {A = Module} {B = Strand} (λ m. record { «module» = m; thread = s.thread; call = s.call }) c.in_ok-strand.ensures.same_module in
     let call = ap {B = Strand} (λ o. record { «module» = m; thread = s.thread; call = o }) c.in_ok-strand.ensures.call in
     let waiting = c.beginning.ensures ∙ ap waits (same_module ∙ call) in
-    let crew = c.in-Ok.ensures.ok ∙ ap (λ crew. with_new_thread crew c.beginning.result) c.new-crew.ensures ∙ ap (with_new_thread empty) waiting in
+    let crew = c.in-Ok.ensures.ok ∙ ap (λ crew. with_live crew c.beginning.result) c.new-crew.ensures ∙ ap (with_live empty) waiting in
     let valid = subst (λ r. IsValid (module_of r)) c.module.ensures.same c.module.ensures.valid in
     let p : Parts = record {
       alloc = c.args.alloc;
@@ -31,4 +31,4 @@ invariant_of-result c =
       events = 0;
       end = Running;
     } in
-    subst IsProcess (sym c.in_ok-parts.ensures.ok) (is_process p s.thread c.requires.who c.requires.count c.requires.store valid c.requires.suits crew c.new.ensures refl refl refl)
+    subst IsOfModule (sym c.in_ok-parts.ensures.ok) (is_process p s.thread c.requires.who c.requires.count c.requires.store valid c.requires.suits crew c.new.ensures refl refl refl)

@@ -1,5 +1,5 @@
 use Rattle.std.proofs.Common.{arith, ◌≤◌}
-use Rattle.watch_expr.specs.Grammar.{level}
+use Rattle.watch_expr.specs.Grammar.{operator_level}
 use Rattle.watch_expr.proofs.Piles.{front_step, left_step, left_stops, inside_stops}
 use Rattle.watch_expr.proofs.stack.settled.Goals as goal
 
@@ -9,7 +9,7 @@ loop-frame-preserved c =
 
 pub loop-frame-preserved-in-Left : goal.loop-frame-preserved-in-Left
 loop-frame-preserved-in-Left c =
-    let le : c.args.least ≤ level c.in-Left.op = omega (arith, c.level_of.ensures, c.if-level_of-least.false) in
+    let le : c.args.least ≤ operator_level c.in-Left.op = omega (arith, c.level_of.ensures, c.if-level_of-least.false) in
     left_step c.args.least c.loop-frame.frames.items c.pop.new.self.items c.in-Some.frame c.in-Left.op c.loop-frame.x c.in_ok-new-in-Left-2.field-0.value c.in-Left.y c.in_ok-new-in-Left.field-0.value _ c.in-Some.ensures.items c.in-Left.is c.in_ok-new-in-Left.ensures.ok c.in_ok-new-in-Left-2.ensures.ok le c.loop-frame.invariant
 
 pub returns-then-level_of-least : goal.returns-then-level_of-least

@@ -5,4 +5,4 @@ use Rattle.coop_threads.proofs.Held.{get-held}
 use Rattle.coop_threads.proofs.locks.Locks.holder.Goals as goal
 
 pub returns : goal.returns
-returns c = c.copied.ensures ∙ c.get.ensures.value ∙ sym (get-held _ c.args.m) ∙ ap (λ (h : Holders). map.get h c.args.m) c.self.view_is
+returns c = c.copied.ensures ∙ c.get.ensures.value ∙ sym (get-held _ c.args.lock) ∙ ap (λ (h : Holders). map.get h c.args.lock) c.self.view_is

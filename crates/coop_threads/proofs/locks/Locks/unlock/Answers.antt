@@ -6,5 +6,5 @@ use Rattle.coop_threads.proofs.locks.Locks.unlock.Goals as goal
 
 pub returns-clause-freed : goal.returns-clause-freed
 returns-clause-freed c =
-    let gone = held-remove c.self.inside.holders.entries c.remove.new.self.entries c.args.m c.remove.ensures.updates.0 in
-    gone ∙ ap (λ (h : Holders). map.remove h c.args.m) c.self.view_is
+    let gone = held-remove c.self.inside.holders.entries c.remove.new.self.entries c.args.lock c.remove.ensures.updates.0 in
+    gone ∙ ap (λ (h : Holders). map.remove h c.args.lock) c.self.view_is

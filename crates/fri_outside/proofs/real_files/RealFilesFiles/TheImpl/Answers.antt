@@ -5,7 +5,7 @@ use Rattle.fri_outside.proofs.real_files.RealFilesFiles.TheImpl.Goals as goal
 pub read-tells : goal.read-tells
 read-tells g c = record {
   within = c.ensures.within;
-  answer = λ store told. cc;
+  answer = λ folder told. cc;
   same = refl;
   counts = c.ensures.counts;
   cause = read_raises c.args.self.now c.new.self.now c.result c.ensures.counted;

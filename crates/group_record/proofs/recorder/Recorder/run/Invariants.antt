@@ -1,7 +1,7 @@
 use Rattle.std.proofs.Common.{◌≡◌, ◌+◌, ◌-◌, length, Option}
-use Rattle.fri_outside.specs.Outside.{NoneFell, Store}
+use Rattle.fri_outside.specs.Outside.{NoneFell, Folder}
 use Rattle.group_record.specs.Run.{Group, Progress, attempts}
-use Rattle.group_record.specs.Recorded.{FilesOf, KeepsUp, UnderWay, counted}
+use Rattle.group_record.specs.Recorded.{FilesOf, KeepsUp, UnderWay, total_count}
 use Rattle.group_record.proofs.Loops.{ComesTo}
 use Rattle.group_record.proofs.recorder.Recorder.run.Given as goal
 
@@ -9,9 +9,9 @@ abbrev pub invariant-loop : goal.invariant-loop
 invariant-loop g l = record {
   under : UnderWay l.self (g.F.Files.told l.files);
   count : length l.self.members.items ≡ length l.initial.self.members.items;
-  counted : counted l.self ≡ counted l.initial.self + l.counter;
+  counted : total_count l.self ≡ total_count l.initial.self + l.counter;
   prints : length l.self.prints ≡ length l.initial.self.prints;
-  comes : (group : Group) (done : Progress) (before : Option Store) → KeepsUp group done l.initial.self → FilesOf group done before (g.F.Files.told l.initial.files)
+  comes : (group : Group) (done : Progress) (before : Option Folder) → KeepsUp group done l.initial.self → FilesOf group done before (g.F.Files.told l.initial.files)
       → ComesTo group l.self before (g.F.Files.told l.files) (attempts group l.number l.p l.thread (l.times - l.counter)) (attempts group l.number l.p l.thread l.times done);
   counts : NoneFell (g.F.Files.counts l.initial.files) (g.F.Files.counts l.files);
 }

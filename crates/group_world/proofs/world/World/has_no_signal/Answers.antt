@@ -1,16 +1,16 @@
 use Rattle.std.proofs.Common.{◌≡◌, ◌↔◌, ℕ, ◌<◌, Bool, false, length, get_or, subst, rules}
 use Rattle.std.specs.Prelude.{IsTrue}
 use Rattle.std.proofs.lemmas.List.{get_or_read}
-use Rattle.signal_points.specs.Signals.{is_pending}
+use Rattle.signal_points.specs.Signals.{is_pending_in}
 use Rattle.group_world.specs.World.{Surroundings, World, has_pending, no_surroundings}
 use Rattle.group_world.proofs.world.World.has_no_signal.Goals as goal
 
 -- what is said of the place of a process is said of the process
 quiet_at : (inside w : World) (p : ℕ) (place : Surroundings) (quiet : Bool) → inside ≡ w → p < length inside.surroundings → place ≡ get_or inside.surroundings p place
-    → IsTrue quiet ↔ ((s : ℕ) → is_pending place.pending s ≡ false) → IsTrue quiet ↔ ((s : ℕ) → has_pending w p s ≡ false)
+    → IsTrue quiet ↔ ((s : ℕ) → is_pending_in place.pending s ≡ false) → IsTrue quiet ↔ ((s : ℕ) → has_pending w p s ≡ false)
 quiet_at inside w p place quiet view within read is =
     let here : IsTrue quiet ↔ ((s : ℕ) → has_pending inside p s ≡ false) =
-    subst (λ (place : Surroundings). IsTrue quiet ↔ ((s : ℕ) → is_pending place.pending s ≡ false)) (get_or_read inside.surroundings p place within read no_surroundings) is in
+    subst (λ (place : Surroundings). IsTrue quiet ↔ ((s : ℕ) → is_pending_in place.pending s ≡ false)) (get_or_read inside.surroundings p place within read no_surroundings) is in
     subst (λ (w : World). IsTrue quiet ↔ ((s : ℕ) → has_pending w p s ≡ false)) view here
 
 pub returns : goal.returns

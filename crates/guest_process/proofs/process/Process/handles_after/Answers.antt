@@ -12,5 +12,5 @@ returns-in-Some c a =
     let at = ap (λ (p : Parts). thread_at (state_of p) c.args.thread) (sym c.deref.ensures) ∙ sym c.get.ensures ∙ ap option_copied c.in-Some.is in
     let same = ap (λ (p : Parts). (answered_at (state_of p) c.args.thread a (Some c.in-Some.waiting.now)).handlers) c.deref-in-Some.ensures in
     let after = c.handlers_after.ensures c.args.thread a ∙ same ∙ ap (λ o. (answered_at S c.args.thread a o).handlers) (sym at) in
-    subst (λ S. c.is_some.result ≡ is_some (handler (answered_at S c.args.thread a (thread_at S c.args.thread)).handlers c.args.s)) c.self.view_is
-    (c.is_some.ensures ∙ ap is_some (c.handler.ensures ∙ ap (λ handlers. handler handlers c.args.s) after))
+    subst (λ S. c.is_some.result ≡ is_some (handler (answered_at S c.args.thread a (thread_at S c.args.thread)).handlers c.args.signal)) c.self.view_is
+    (c.is_some.ensures ∙ ap is_some (c.handler.ensures ∙ ap (λ handlers. handler handlers c.args.signal) after))

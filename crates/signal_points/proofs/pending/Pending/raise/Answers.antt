@@ -4,5 +4,5 @@ use Rattle.signal_points.proofs.pending.Pending.raise.Goals as goal
 
 pub invariant_of-self : goal.invariant_of-self
 invariant_of-self c =
-    let within : c.args.s < length c.self.inside.signals = search rules in
-    sym (any_set c.self.inside.signals c.args.s within)
+    let within : c.args.signal < length c.self.inside.signals = search rules in
+    sym (any_set c.self.inside.signals c.args.signal within)

@@ -5,7 +5,7 @@ use Rattle.std.specs.Fmt.{signed_decimal}
 use Rattle.fri_text.specs.Decimal.{signed_of}
 use Rattle.fri_text.proofs.HexLaws.{hex_again}
 use Rattle.fri_text.proofs.Numbers.{decimal_of-decimal, signed_of-signed_decimal}
-use Rattle.fri_text.proofs.laws.read_back.Goals as goal
+use Rattle.fri_text.proofs.laws.words_read_back.Goals as goal
 
 signed_again : (z : ℤ) → FitsSigned w64 z → signed_of (signed_decimal z) ≡ Some z
 signed_again (pos n) fits = signed_of-signed_decimal (pos n) (let small : n < 2 ^ 63 = fits.sfits in omega arith)

@@ -1,5 +1,5 @@
 use Rattle.lamport_tag.proofs.BackLaws.{found_sendable, found_again}
-use Rattle.lamport_tag.proofs.laws.read_back.Goals as goal
+use Rattle.lamport_tag.proofs.laws.tags_read_back.Goals as goal
 
 pub returns-clause-sent : goal.returns-clause-sent
 returns-clause-sent c = found_sendable
