@@ -76,7 +76,18 @@ body_at bytes = do
   outgoing ← string_if_at (has_outgoing kind.0) reply.1
   incoming ← string_if_at (has_incoming kind.0) outgoing.1
   tag ← tag_if_at (has_tag kind.0) incoming.1
-  if nat_le (length tag.1) 0 then Some (record { clock = clock.0; thread = thread.0; signal = signal.0; call = call.0; reply = reply.0; outgoing = outgoing.0; incoming = incoming.0; tag = tag.0 }) else None
+  if nat_le (length tag.1) 0
+      then Some (record {
+        clock = clock.0;
+        thread = thread.0;
+        signal = signal.0;
+        call = call.0;
+        reply = reply.0;
+        outgoing = outgoing.0;
+        incoming = incoming.0;
+        tag = tag.0;
+      })
+      else None
 
 -- an entry at the front, and the bytes behind it
 unfoldable pub read_entry : List ℕ → Option (Entry × List ℕ)

@@ -73,7 +73,8 @@ abbrev mutual
   write_all (Then first rest) ws = write_all rest (write first ws)
 
 mutual
-  read_write : (s : Statement) (ws : List Word) (rest : Statements) (read : List Statements) → read_words (write s ws) (rest ∷ read) ≡ read_words ws (Then s rest ∷ read)
+  read_write : (s : Statement) (ws : List Word) (rest : Statements) (read : List Statements)
+      → read_words (write s ws) (rest ∷ read) ≡ read_words ws (Then s rest ∷ read)
   read_write (Set name x) ws rest read = refl
   read_write (Say items) ws rest read = refl
   read_write Stop ws rest read = refl

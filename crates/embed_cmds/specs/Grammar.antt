@@ -17,16 +17,20 @@ pub data IsItems (names : List (List ℕ)) : List (List ℕ) → List Item → T
 
 mutual
   pub data IsStatement (names : List (List ℕ)) : List (List ℕ) → Statement → Type 0 where
-    set : {a : List (List ℕ)} {x : Expression} (name : List ℕ) → is_word name ≡ true → IsExpr names a x → IsStatement names (codes "set" ∷ codes "$" ∷ name ∷ a) (Set name x)
+    set : {a : List (List ℕ)} {x : Expression} (name : List ℕ) → is_word name ≡ true → IsExpr names a x
+        → IsStatement names (codes "set" ∷ codes "$" ∷ name ∷ a) (Set name x)
     say : {a : List (List ℕ)} {items : List Item} → IsItems names a items → IsStatement names (codes "say" ∷ a) (Say items)
     stop : IsStatement names (codes "stop" ∷ []) Stop
-    if_alone : {a b : List (List ℕ)} {x : Expression} {p : Statements} → IsExpr names a x → IsProgram names b p → IsStatement names (codes "if" ∷ (a ++ codes "{" ∷ (b ++ codes "}" ∷ []))) (If x p End)
-    if_else : {a b c : List (List ℕ)} {x : Expression} {p q : Statements} → IsExpr names a x → IsProgram names b p → IsProgram names c q → IsStatement names (codes "if" ∷ (a ++ codes "{" ∷ (b ++ codes "}" ∷ codes "else" ∷ codes "{" ∷ (c ++ codes "}" ∷ [])))) (If x p q)
+    if_alone : {a b : List (List ℕ)} {x : Expression} {p : Statements} → IsExpr names a x → IsProgram names b p
+        → IsStatement names (codes "if" ∷ (a ++ codes "{" ∷ (b ++ codes "}" ∷ []))) (If x p End)
+    if_else : {a b c : List (List ℕ)} {x : Expression} {p q : Statements} → IsExpr names a x → IsProgram names b p → IsProgram names c q
+        → IsStatement names (codes "if" ∷ (a ++ codes "{" ∷ (b ++ codes "}" ∷ codes "else" ∷ codes "{" ∷ (c ++ codes "}" ∷ [])))) (If x p q)
 
   -- statements with semicolons between them
   pub data IsProgram (names : List (List ℕ)) : List (List ℕ) → Statements → Type 0 where
     last : {a : List (List ℕ)} {s : Statement} → IsStatement names a s → IsProgram names a (Then s End)
-    more : {a b : List (List ℕ)} {s : Statement} {p : Statements} → IsStatement names a s → IsProgram names b p → IsProgram names (a ++ codes ";" ∷ b) (Then s p)
+    more : {a b : List (List ℕ)} {s : Statement} {p : Statements} → IsStatement names a s → IsProgram names b p
+        → IsProgram names (a ++ codes ";" ∷ b) (Then s p)
 
 -- the tokens begin some program
 pub record BeginsProgram (names ts : List (List ℕ)) : Type 0 where

@@ -14,6 +14,10 @@ pub record ProgramState : Type 0 where
   pub text : List ℕ
   pub stopped : Bool
 
+-- a program with these variables and this text, which stopped or did not
+abbrev pub program_state : List Variable → List ℕ → Bool → ProgramState
+program_state variables text stopped = record { variables = variables; text = text; stopped = stopped }
+
 -- a value in decimal, or `undef`
 abbrev pub value_word : Option ℤ → List ℕ
 value_word None = codes "undef"
@@ -42,9 +46,12 @@ abbrev mutual
   after_statement nodes r (Set name x) = record { variables = with_value r.variables name (value_in nodes r.variables x); text = r.text; stopped = r.stopped }
   after_statement nodes r (Say items) = record { variables = r.variables; text = r.text ++ said_line nodes r.variables items; stopped = r.stopped }
   after_statement nodes r Stop = record { variables = r.variables; text = r.text; stopped = true }
-  after_statement nodes r (If x on_true on_false) = if holds (value_in nodes r.variables x) then after_statements nodes r on_true else after_statements nodes r on_false
+  after_statement nodes r (If x on_true on_false) =
+      if holds (value_in nodes r.variables x) then after_statements nodes r on_true else after_statements nodes r on_false
 
   -- after statements, of which none is run behind a `stop`
   pub after_statements : List Node → ProgramState → Statements → ProgramState
   after_statements nodes r End = r
-  after_statements nodes r (Then first rest) = if (after_statement nodes r first).stopped then after_statement nodes r first else after_statements nodes (after_statement nodes r first) rest
+  after_statements nodes r (Then first rest) =
+      if (after_statement nodes r first).stopped then after_statement nodes r first
+      else after_statements nodes (after_statement nodes r first) rest

@@ -18,7 +18,8 @@ pub statements_of_vec : (v : Vec Stmt) → statements_of_row (hidden-the_row-Stm
 statements_of_vec v = statements_of_row_is _ (hidden-the_row-Stmt-0 v) ∙ ap statements (items_hidden-the_row-Stmt-0 v)
 
 -- the statement that a choice is
-pub statement_of-if : (x : Expr) (on_true on_false : Vec Stmt) → statement_of (stmt.If x on_true on_false) ≡ If (expression_of x) (statements on_true.items) (statements on_false.items)
+pub statement_of-if : (x : Expr) (on_true on_false : Vec Stmt)
+    → statement_of (stmt.If x on_true on_false) ≡ If (expression_of x) (statements on_true.items) (statements on_false.items)
 statement_of-if x on_true on_false =
     ap (λ (s : Statements). If (expression_of x) s (statements_of_row (hidden-the_row-Stmt-0 on_false))) (statements_of_vec on_true)
     ∙ ap (If (expression_of x) (statements on_true.items)) (statements_of_vec on_false)

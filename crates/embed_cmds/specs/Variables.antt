@@ -1,5 +1,5 @@
 -- The variables of a session, in the order in which they were first mentioned.
-use Rattle.std.specs.Prelude.{ℕ, List, [], ◌∷◌, ◌++◌, Bool, bytes_eq, Option, None, ℤ, if◌then◌else◌}
+use Rattle.std.specs.Prelude.{◌≡◌, ℕ, List, [], ◌∷◌, ◌++◌, length, nat_le, Bool, bytes_eq, Option, None, ℤ, if◌then◌else◌}
 use Rattle.std.specs.List.{list_any}
 
 -- a variable: its name, and its value, None for undef
@@ -27,3 +27,7 @@ mention variables name = if is_mentioned variables name then variables else vari
 abbrev pub mention_all : List Variable → List (List ℕ) → List Variable
 mention_all variables [] = variables
 mention_all variables (name ∷ names) = mention_all (mention variables name) names
+
+-- the names are all mentioned where that makes no more than so many variables, and else none is; which is told
+abbrev pub MentionsUpTo : ℕ → List Variable → List (List ℕ) → List Variable → Bool → Type 0
+MentionsUpTo most old names new done = (done ≡ nat_le (length (mention_all old names)) most) × (new ≡ (if done then mention_all old names else old))

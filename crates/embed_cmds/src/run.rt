@@ -1,7 +1,7 @@
 // What programs do.
 ghost use Rattle.std.specs.Prelude.{◌≡◌, ◌++◌, false, map, IfOk, OnOk};
 ghost use Rattle.watch_expr.specs.Expression.{expression_of};
-ghost use Rattle.embed_cmds.specs.Running.{after_statement, after_statements, holds, said_item, said_line, value_in, value_word};
+ghost use Rattle.embed_cmds.specs.Running.{after_statement, after_statements, holds, program_state, said_item, said_line, value_in, value_word};
 ghost use Rattle.embed_cmds.specs.Tree.{body, item_of, statement_of, statements};
 ghost use Rattle.embed_cmds.specs.Variables.{with_value};
 
@@ -31,7 +31,8 @@ pub fn run_program<V: View>(
     vars: &mut Vars,
     out: &mut Text,
 ) -> Result<bool, AllocError>
-    ensures { IfOk result (λ stopped. after_statements (V.nodes v.now) (record { variables = vars.old; text = out.old; stopped = false }) (body p.now) ≡ record { variables = vars.new; text = out.new; stopped = stopped }) }
+    ensures { IfOk result (λ stopped. after_statements (V.nodes v.now) (program_state vars.old out.old false) (body p.now)
+        ≡ program_state vars.new out.new stopped) }
 {
     run_all(alloc, &p.stmts, v, vars, out)
 }
@@ -44,7 +45,8 @@ fn run_all<V: View>(
     vars: &mut Vars,
     out: &mut Text,
 ) -> Result<bool, AllocError>
-    ensures { IfOk result (λ stopped. after_statements (V.nodes v.now) (record { variables = vars.old; text = out.old; stopped = false }) (statements stmts.now) ≡ record { variables = vars.new; text = out.new; stopped = stopped }) }
+    ensures { IfOk result (λ stopped. after_statements (V.nodes v.now) (program_state vars.old out.old false) (statements stmts.now)
+        ≡ program_state vars.new out.new stopped) }
 {
     for stmt in stmts {
         if run(alloc, stmt, v, vars, out)? {
@@ -62,7 +64,8 @@ fn run<V: View>(
     vars: &mut Vars,
     out: &mut Text,
 ) -> Result<bool, AllocError>
-    ensures { IfOk result (λ stopped. after_statement (V.nodes v.now) (record { variables = vars.old; text = out.old; stopped = false }) (statement_of stmt.now) ≡ record { variables = vars.new; text = out.new; stopped = stopped }) }
+    ensures { IfOk result (λ stopped. after_statement (V.nodes v.now) (program_state vars.old out.old false) (statement_of stmt.now)
+        ≡ program_state vars.new out.new stopped) }
 {
     match stmt {
         Stmt::Set(name, x) => {

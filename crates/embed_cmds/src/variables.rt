@@ -1,8 +1,8 @@
 // The variables of a session.
-ghost use Rattle.std.specs.Prelude.{◌≡◌, [], length, nat_le, slice_get, option_map, IfOk, OnOk, if◌then◌else◌};
+ghost use Rattle.std.specs.Prelude.{◌≡◌, [], length, slice_get, option_map, IfOk, OnOk};
 ghost use Rattle.embed_cmds.specs.Faulty.{set_by, set_names};
 ghost use Rattle.embed_cmds.specs.Tree.{body, statement_of, statements};
-ghost use Rattle.embed_cmds.specs.Variables.{is_mentioned, mention, mention_all, variable_value, with_value};
+ghost use Rattle.embed_cmds.specs.Variables.{MentionsUpTo, is_mentioned, mention, mention_all, variable_value, with_value};
 
 use crate::program::{Program, Stmt};
 use indexmap::IndexMap;
@@ -59,7 +59,7 @@ impl Vars {
         p: &Program,
         most: usize,
     ) -> Result<bool, AllocError>
-        ensures { IfOk result (λ done. (done ≡ nat_le (length (mention_all self.old (set_names (body p.now)))) most) × (self.new ≡ (if done then mention_all self.old (set_names (body p.now)) else self.old))) }
+        ensures { IfOk result (λ done. MentionsUpTo most self.old (set_names (body p.now)) self.new done) }
     {
         let before = self.names();
         mention_statements(alloc, &p.stmts, self)?;

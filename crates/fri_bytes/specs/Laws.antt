@@ -20,4 +20,5 @@ pub record ExactReaders : Type 0 where
   pub unsigned : (limit : ℕ) → Reads (IsUnsigned limit) (unsigned_at limit)
   pub signed : (limit : ℕ) → Reads (IsSigned limit) (signed_at limit)
   pub reads_written : (w : Width) (n : ℕ) (rest : List ℕ) → n < 256 ^ byte_len w → le_at w (to_le_bytes w n ++ rest) ≡ Some (n, rest)
-  pub rewritten : (w : Width) (bytes : List ℕ) (n : ℕ) (rest : List ℕ) → AreBytes bytes → le_at w bytes ≡ Some (n, rest) → (n < 256 ^ byte_len w) × (bytes ≡ to_le_bytes w n ++ rest)
+  pub rewritten : (w : Width) (bytes : List ℕ) (n : ℕ) (rest : List ℕ) → AreBytes bytes → le_at w bytes ≡ Some (n, rest)
+      → (n < 256 ^ byte_len w) × (bytes ≡ to_le_bytes w n ++ rest)

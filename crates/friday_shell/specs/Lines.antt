@@ -144,7 +144,8 @@ command_of_verb names texts verb.Watch = then_takes (expression_from names texts
 command_of_verb names texts verb.Break =
     then_takes (token_at (scope_named names) texts 1) (λ scope. then_takes (token_at kind_named texts 2) (λ kind. ends_at texts 3 (Break scope kind)))
 command_of_verb names texts verb.Delete = then_takes (token_at (number_from 0 most_number) texts 1) (λ n. ends_at texts 2 (Delete n))
-command_of_verb names texts verb.Do = then_takes (token_at (number_from 0 most_number) texts 1) (λ n. then_takes (program_from names texts 2) (λ p. Ok (Do n p)))
+command_of_verb names texts verb.Do =
+    then_takes (token_at (number_from 0 most_number) texts 1) (λ n. then_takes (program_from names texts 2) (λ p. Ok (Do n p)))
 command_of_verb names texts verb.List = ends_at texts 1 ListPoints
 command_of_verb names texts verb.Set =
     then_takes (variable_at texts 1) (λ name. then_takes (expression_from names texts 3) (λ x. Ok (SetTo name x)))

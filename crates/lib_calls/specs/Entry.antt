@@ -9,7 +9,16 @@ use Rattle.lib_calls.specs.Kinds.{argument_count, has_outgoing, has_incoming, ha
 
 -- what an entry whose bytes are lent says
 abbrev pub entry_of : EntryView → Entry
-entry_of e = record { clock = e.clock; thread = e.thread; signal = e.signal; call = e.call; reply = e.reply; outgoing = e.outgoing.now; incoming = e.incoming.now; tag = e.tag }
+entry_of e = record {
+  clock = e.clock;
+  thread = e.thread;
+  signal = e.signal;
+  call = e.call;
+  reply = e.reply;
+  outgoing = e.outgoing.now;
+  incoming = e.incoming.now;
+  tag = e.tag;
+}
 
 -- a number of 64 bits, which is 0 where the kind lacks it
 abbrev pub IsNumberIf : Bool → ℕ → Type 0

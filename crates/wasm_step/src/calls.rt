@@ -98,7 +98,8 @@ impl<'m> Stack<'m> {
     // Whether the function has the type with this index.
     #[inline(always)]
     fn has_type(module: &Module, index: u32, type_index: u32) -> bool
-        ensures { IsTrue result → (t : Thread) → call_element (module_of «module».now) type_index (Some (Some index)) t ≡ call (module_of «module».now) index t }
+        ensures { IsTrue result → (t : Thread)
+            → call_element (module_of «module».now) type_index (Some (Some index)) t ≡ call (module_of «module».now) index t }
     {
         match (type_of(module, index), type_at(module, type_index)) {
             (Some(found), Some(wanted)) => is_same_type(found, wanted),

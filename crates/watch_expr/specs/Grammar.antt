@@ -56,14 +56,17 @@ left_level binary.Rem = 4
 -- With these names of nodes, the tokens spell the expression at this level.
 pub data IsAt (names : List (List ℕ)) : ℕ → List (List ℕ) → Expression → Type 0 where
   higher : {k : ℕ} {ts : List (List ℕ)} {x : Expression} → IsAt names (suc k) ts x → IsAt names k ts x
-  two : {a b : List (List ℕ)} {x y : Expression} (op : Binary) → IsAt names (left_level op) a x → IsAt names (suc (operator_level op)) b y → IsAt names (operator_level op) (a ++ binary_sign op ∷ b) (Two op x y)
+  two : {a b : List (List ℕ)} {x y : Expression} (op : Binary) → IsAt names (left_level op) a x → IsAt names (suc (operator_level op)) b y
+      → IsAt names (operator_level op) (a ++ binary_sign op ∷ b) (Two op x y)
   one : {a : List (List ℕ)} {x : Expression} (op : Unary) → IsAt names UNARY a x → IsAt names UNARY (unary_sign op ∷ a) (One op x)
   number : (word : List ℕ) (n : ℕ) → number_of word ≡ Some n → IsAt names FIRST (word ∷ []) (Number n)
   variable : (word : List ℕ) → is_word word ≡ true → IsAt names FIRST (codes "$" ∷ word ∷ []) (Var word)
   brackets : {a : List (List ℕ)} {x : Expression} → IsAt names 0 a x → IsAt names FIRST (codes "(" ∷ (a ++ codes ")" ∷ [])) x
   over : {a : List (List ℕ)} {x : Expression} (agg : Agg) → IsAt names 0 a x → IsAt names FIRST (agg_word agg ∷ codes "(" ∷ (a ++ codes ")" ∷ [])) (Over agg x)
-  load : {a : List (List ℕ)} {x : Expression} (name : List ℕ) (width : Width) → is_word name ≡ true → IsAt names 0 a x → IsAt names FIRST (codes "@" ∷ name ∷ codes "." ∷ place_word (place.Load width) ∷ codes "[" ∷ (a ++ codes "]" ∷ [])) (Load (node_of names name) width x)
-  global : (name word : List ℕ) (n : ℕ) → is_word name ≡ true → number_of word ≡ Some n → IsAt names FIRST (codes "@" ∷ name ∷ codes "." ∷ codes "global" ∷ codes "[" ∷ word ∷ codes "]" ∷ []) (Global (node_of names name) n)
+  load : {a : List (List ℕ)} {x : Expression} (name : List ℕ) (width : Width) → is_word name ≡ true → IsAt names 0 a x
+      → IsAt names FIRST (codes "@" ∷ name ∷ codes "." ∷ place_word (place.Load width) ∷ codes "[" ∷ (a ++ codes "]" ∷ [])) (Load (node_of names name) width x)
+  global : (name word : List ℕ) (n : ℕ) → is_word name ≡ true → number_of word ≡ Some n
+      → IsAt names FIRST (codes "@" ∷ name ∷ codes "." ∷ codes "global" ∷ codes "[" ∷ word ∷ codes "]" ∷ []) (Global (node_of names name) n)
   clock : (name : List ℕ) → is_word name ≡ true → IsAt names FIRST (codes "@" ∷ name ∷ codes "." ∷ codes "clock" ∷ []) (Clock (node_of names name))
   events : (name : List ℕ) → is_word name ≡ true → IsAt names FIRST (codes "@" ∷ name ∷ codes "." ∷ codes "events" ∷ []) (Events (node_of names name))
   size : (name : List ℕ) → is_word name ≡ true → IsAt names FIRST (codes "@" ∷ name ∷ codes "." ∷ codes "size" ∷ []) (Size (node_of names name))
@@ -84,11 +87,18 @@ pub record TakesExpr (names ts : List (List ℕ)) (n : ℕ) : Type 0 where
   pub begins : BeginsExpr names (take n ts)
   pub longest : n < length ts → BeginsExpr names (take (n + 1) ts) → ⊥
 
+-- the tokens of a line from one on, up to another
+abbrev pub tokens_between : Lexed → ℕ → ℕ → List (List ℕ)
+tokens_between line from to = take (to - from) (drop from (texts line))
+
 -- What parsing from a token on gives, but for memory: as many of the tokens are taken as begin some expression.
 -- Where they are a whole one, it is given with the number of the next token, and otherwise that token's column.
 abbrev pub ParsedExpr : List (List ℕ) → Lexed → ℕ → Result (Expr × ℕ) ExprError → Type 0
-ParsedExpr names line from (Ok r) = (from ≤ r.1) × TakesExpr names (drop from (texts line)) (r.1 - from) × IsExpr names (take (r.1 - from) (drop from (texts line))) (expression_of r.0)
-ParsedExpr names line from (Err (Syntax column)) = (n : ℕ) × (column ≡ column_at line n) × (from ≤ n) × TakesExpr names (drop from (texts line)) (n - from) × ((x : Expression) → IsExpr names (take (n - from) (drop from (texts line))) x → ⊥)
+ParsedExpr names line from (Ok r) =
+    (from ≤ r.1) × TakesExpr names (drop from (texts line)) (r.1 - from) × IsExpr names (tokens_between line from r.1) (expression_of r.0)
+ParsedExpr names line from (Err (Syntax column)) =
+    (n : ℕ) × (column ≡ column_at line n) × (from ≤ n) × TakesExpr names (drop from (texts line)) (n - from)
+    × ((x : Expression) → IsExpr names (tokens_between line from n) x → ⊥)
 ParsedExpr names line from (Err NoNode) = ⊥
 ParsedExpr names line from (Err TooDeep) = ⊥
 ParsedExpr names line from (Err Nested) = ⊥

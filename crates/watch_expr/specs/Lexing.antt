@@ -74,7 +74,8 @@ BeginsNone bytes = (m : ℕ) → m ≤ length bytes → IsToken (take m bytes) �
 pub data Lexes : ℕ → List ℕ → List Placed → Type 0 where
   end : (column : ℕ) → Lexes column [] []
   blank : (column b : ℕ) (bytes : List ℕ) (ts : List Placed) → is_blank b ≡ true → Lexes (column + 1) bytes ts → Lexes column (b ∷ bytes) ts
-  token : (column n : ℕ) (bytes : List ℕ) (ts : List Placed) → IsLongest bytes n → Lexes (column + n) (drop n bytes) ts → Lexes column bytes (record { text = take n bytes; column = column } ∷ ts)
+  token : (column n : ℕ) (bytes : List ℕ) (ts : List Placed) → IsLongest bytes n → Lexes (column + n) (drop n bytes) ts
+      → Lexes column bytes (record { text = take n bytes; column = column } ∷ ts)
 
 -- Among the bytes from a column on, the first byte that begins no token stands at this one.
 pub data IsBadAt : ℕ → List ℕ → ℕ → Type 0 where

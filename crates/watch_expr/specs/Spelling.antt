@@ -35,7 +35,8 @@ at_most max (Some n) = if nat_le n max then Some n else None
 
 -- the number in hexadecimal digits, of either case
 abbrev pub hex_number_of : List ℕ → Option ℕ
-hex_number_of digits = if nat_lt 0 (length digits) && list_all is_ascii_hexdigit digits then at_most 9223372036854775807 (Some (digits_value 16 digits)) else None
+hex_number_of digits =
+    if nat_lt 0 (length digits) && list_all is_ascii_hexdigit digits then at_most 9223372036854775807 (Some (digits_value 16 digits)) else None
 
 -- The number that a word is, up to 2 ^ 63 - 1: in decimal digits, or in hexadecimal ones behind 0x.
 abbrev pub number_in : List ℕ → Option ℕ

@@ -34,7 +34,11 @@ const NONE: Faults = Faults {
 impl Faults {
     /// The faults of either.
     fn or(self, other: Faults) -> Faults
-        ensures { result ≡ record { nested = self.nested || other.nested; no_node = self.no_node || other.no_node; variable = self.variable || other.variable } }
+        ensures { result ≡ record {
+          nested = self.nested || other.nested;
+          no_node = self.no_node || other.no_node;
+          variable = self.variable || other.variable;
+        } }
     {
         Faults {
             nested: self.nested || other.nested,

@@ -94,7 +94,8 @@ fn want(frames: &mut Vec<Frame>, text: &[u8]) -> Result<Step, AllocError>
 /// Where an operand is wanted and no number stands.
 #[tactic(auto, using(crate::proofs::Piles::pile_push))]
 fn want_operand(frames: &mut Vec<Frame>, text: &[u8]) -> Result<Step, AllocError>
-    ensures { IfOk result (λ s. GivesStep (want_sign (unary_of text.now) (pile [] frames.old.items) text.now) (state frames.old.items Mode.Want) frames.new.items s) }
+    ensures { IfOk result (λ s. GivesStep (want_sign (unary_of text.now) (pile [] frames.old.items) text.now)
+        (state frames.old.items Mode.Want) frames.new.items s) }
 {
     match read_unary(text) {
         Some(op) => {
