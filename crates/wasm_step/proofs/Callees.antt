@@ -19,7 +19,8 @@ use Rattle.wasm_types.specs.Typing.{IsWellTyped}
 use Rattle.wasm_types.specs.Valid.{IsValid}
 use Rattle.wasm_types.specs.declared.traps.Trap.TheVariants as traps
 use Rattle.wasm_step.specs.Call.{site_of}
-use Rattle.wasm_values.specs.Values.{type_of_value, types_of_values, zeros, zero_of}
+use Rattle.wasm_types.specs.Locals.{zero_of, zeros}
+use Rattle.wasm_values.specs.Values.{type_of_value, types_of_values}
 use Rattle.wasm_store.specs.Suits.{Suits}
 use Rattle.wasm_step.specs.Fits.{known, put_type, label_of, Leaves, FramesFit, Fits, AfterFits, CallFits}
 use Rattle.wasm_step.specs.Reduce as Reduce

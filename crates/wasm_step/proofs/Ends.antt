@@ -1,23 +1,16 @@
 -- Ends and branches leave a thread within its limits.
 use Rattle.std.proofs.Common.{◌≡◌, ℕ, zero, suc, ◌+◌, ◌<◌, ◌≤◌, Bool, true, false, List, [], ◌∷◌, length, Option, Some, None, refl, ap, subst, arith}
-use Rattle.std.specs.Prelude.{if◌then◌else◌, slice_get}
+use Rattle.std.specs.Prelude.{slice_get}
 use Rattle.wasm_types.specs.declared.code.Value.{Value}
 use Rattle.wasm_types.specs.declared.code.Value.TheVariants.{I32, I64}
-use Rattle.wasm_types.specs.declared.traps.Trap.TheVariants.{Exhausted}
 use Rattle.wasm_types.specs.Code.{Trees}
 use Rattle.wasm_step.specs.Limits.{Within}
-use Rattle.wasm_step.specs.Reduce.{After, Goes, Stops, at_end, at_trap, branch, branch_if, branch_table, carried, ended, jump_by, label_at, landed, limited, past, resumed, return_from, with_carried}
+use Rattle.wasm_step.specs.Reduce.{After, Goes, Stops, at_end, branch, branch_if, branch_table, carried, ended, jump_by, label_at, landed, past, resumed, return_from, with_carried}
 use Rattle.wasm_step.specs.Thread.{Level, Frame, Thread, closed, closed_to, left, left_to, size_of_frames, size_of_levels}
 use Rattle.wasm_step.proofs.LevelEnds.{within_closed}
-use Rattle.wasm_step.proofs.InPlace.{within_is}
 
 abbrev pub StaysWithin : After → Type 0
 StaysWithin a = (u : Thread) → a ≡ Goes u → Within u
-
--- so the test of the limits lets it go on
-pub limited_same : (a : After) → StaysWithin a → limited a ≡ a
-limited_same (Stops s) h = refl
-limited_same (Goes t) h = ap (λ b. if b then Goes t else at_trap Exhausted) (within_is t (h t refl))
 
 abbrev after_thread : Thread → After → Thread
 after_thread u (Goes t) = t

@@ -1,10 +1,15 @@
 -- Threads within their limits, and instructions in place.
-use Rattle.std.proofs.Common.{◌≡◌, ℕ, suc, Vec, Global, ◌+◌, ◌<◌, ◌≤◌, Bool, true, [], ◌∷◌, ◌++◌, length, drop, refl, sym, ap, ◌∙◌, subst, arith, rules, tests, length-append}
-use Rattle.std.specs.Prelude.{if◌then◌else◌, nat_lt, nat_le, false}
+use Rattle.std.proofs.Common.{◌≡◌, ℕ, suc, Vec, Global, ◌+◌, ◌<◌, ◌≤◌, Bool, true, List, [], ◌∷◌, ◌++◌, length, drop, refl, sym, ap, ◌∙◌, subst, arith, rules, tests, length-append}
+use Rattle.std.specs.Prelude.{if◌then◌else◌, nat_lt, nat_le, ◌&&◌, false}
 use Rattle.std.proofs.lemmas.Bool.{and_parts, ltb-true, leb-true}
+use Rattle.wasm_types.specs.declared.code.ValType.{ValType}
+use Rattle.wasm_types.specs.declared.code.ValType.TheVariants as types
 use Rattle.wasm_types.specs.declared.code.Value.{Value}
 use Rattle.wasm_types.specs.declared.traps.Trap.TheVariants.{Exhausted}
 use Rattle.wasm_types.specs.Code.{Tree, Then}
+use Rattle.wasm_types.specs.Functions.{same_type, same_types}
+use Rattle.wasm_types.specs.Modules.{FuncType}
+use Rattle.wasm_types.specs.Stack.{is_same}
 use Rattle.wasm_values.specs.Numeric.{Gives, binary, is_unary, unary}
 use Rattle.wasm_store.specs.Store.{Store}
 use Rattle.wasm_step.specs.declared.stack.Stack.TheInside.{Inside}
@@ -15,6 +20,20 @@ use Rattle.wasm_step.specs.Thread.{Thread, is_within, size_of_thread, with_opera
 use Rattle.wasm_step.specs.View.{IsStack, thread_of}
 use Rattle.wasm_step.proofs.Runs.{settle_here, burst_on}
 use Rattle.wasm_step.proofs.Views.{IsSound-operands, keeps_popped, keeps_pushed, popped_view, pushed_view}
+
+same_type_itself : (v : ValType) → is_same v v ≡ true
+same_type_itself types.I32 = refl
+same_type_itself types.I64 = refl
+same_type_itself types.F32 = refl
+same_type_itself types.F64 = refl
+
+same_types_itself : (vs : List ValType) → same_types vs vs ≡ true
+same_types_itself [] = refl
+same_types_itself (v ∷ vs) = ap (λ b. b && same_types vs vs) (same_type_itself v) ∙ same_types_itself vs
+
+-- a function type is the same as itself
+pub same_as_itself : (type : FuncType) → same_type type type ≡ true
+same_as_itself type = ap (λ b. b && same_types type.results type.results) (same_types_itself type.params) ∙ same_types_itself type.results
 
 pub within_is : (t : Thread) → Within t → is_within t ≡ true
 within_is t h =

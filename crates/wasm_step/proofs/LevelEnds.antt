@@ -22,6 +22,10 @@ pub outer_is : (gives : Option ValType) (ls : List Label) (ops : List Value) (t 
 outer_is gives [] ops t = refl
 outer_is gives (l ∷ ls) ops t = sym (lt-ltb 0 (suc (length ls)) (omega arith))
 
+-- whatever is left to do
+pub within_elsewhere : (t : Thread) (rest : Trees) → Within t → Within (record t { todo = rest })
+within_elsewhere t rest h = record { frames = h.frames; size = h.size }
+
 pub within_opened : (t : Thread) (gives : Option ValType) (body target : Trees) (carries loops : Bool) → Within t → size_of_thread t < 16384 → Within (opened t gives body target carries loops)
 within_opened t gives body target carries loops h lt = record { frames = h.frames; size = omega (arith, lt) }
 

@@ -5,6 +5,7 @@ pub mod Bursts
 pub mod Callees
 pub mod Ends
 pub mod Fits
+pub mod Frames
 pub mod InPlace
 pub mod LevelEnds
 pub mod Opcodes
@@ -13,5 +14,5 @@ pub mod Runs
 pub mod SameModule
 pub mod Starts
 pub mod Stored
+pub mod Todo
 pub mod Views
-pub mod Zeros

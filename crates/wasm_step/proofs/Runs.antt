@@ -118,10 +118,10 @@ settle_stops (suc n) t s none e = ap (λ is. at_next is t (after_end (ended t) (
 pub burst_ended : (n : ℕ) (t : Thread) (g : Store) (s : Halt) → is_end t.todo ≡ true → ended t ≡ Stops s → burst n t g ≡ record { stop = s; store = g }
 burst_ended n t g s e stops = burst_done n t g s (settle_stops (depth t) t s (none_left t.todo e) stops)
 
-pub way_halts : (w : Way) (n : Next) (t : Thread) → after_of n t ≡ way_of w t → (w ≡ way.Goes → ⊥) → way_of w t ≡ Stops (halt_of (after_of n t))
-way_halts way.Goes n t e h = absurd (h refl)
-way_halts way.Ends n t e h = ap (λ a. Stops (halt_of a)) (sym e)
-way_halts way.Sticks n t e h = ap (λ a. Stops (halt_of a)) (sym e)
+pub way_halts : (w : Way) (n : Next) (t u : Thread) → after_of n t ≡ way_of w t → (w ≡ way.Goes → ⊥) → way_of w u ≡ Stops (halt_of (after_of n t))
+way_halts way.Goes n t u e h = absurd (h refl)
+way_halts way.Ends n t u e h = ap (λ a. Stops (halt_of a)) (sym e)
+way_halts way.Sticks n t u e h = ap (λ a. Stops (halt_of a)) (sym e)
 
 pub first_on : (k : ℕ) (t v u : Thread) (g h : Store) (i : Tree) (n : Next) → settle t ≡ At i v → after_of n u ≡ (reduce i v g).after → h ≡ (reduce i v g).store → after_step (after_of n u) h (burst k) ≡ burst (suc k) t g
 unfolding burst

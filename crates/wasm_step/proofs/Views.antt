@@ -14,7 +14,7 @@ use Rattle.wasm_step.specs.declared.stack.Label.{Label}
 use Rattle.wasm_step.specs.declared.stack.Held.{Held}
 use Rattle.wasm_step.specs.declared.stack.Stack.TheInside.{Inside}
 use Rattle.wasm_types.specs.Code.{Trees, tree, trees}
-use Rattle.wasm_step.specs.Thread.{Thread, with_operand, closed, closed_to, entered, left, left_to, without, arguments, size_of_levels, size_of_frames, size_of_thread, has_frame_room, has_room}
+use Rattle.wasm_step.specs.Thread.{Thread, with_operand, closed, closed_to, left, left_to, without, arguments, size_of_levels, size_of_frames, size_of_thread, has_frame_room, has_room}
 use Rattle.wasm_step.specs.View.{and_close, closed_by, entered_by, Opened, opened_as, opened_by, given_by, repeated_by, innermost, levels_of, frame_labels, frames_of, thread_in, thread_of, AreCut, IsPart, AreFrameParts, IsStack}
 
 -- a frame's operands begin below those of each of its levels
@@ -88,7 +88,7 @@ cleared_view s w h e =
     thread_of-operands s w h (keeps_cleared s w.items h e)
     ∙ ap (λ o. record (thread_of s) { stack = reverse o }) (drop_all s.here.floor w.items none)
 
-drop_parts : {A : Type 0} (m n : ℕ) (xs : List A) → m ≤ n → n ≤ length xs → drop m xs ≡ drop m (take n xs) ++ drop n xs
+pub drop_parts : {A : Type 0} (m n : ℕ) (xs : List A) → m ≤ n → n ≤ length xs → drop m xs ≡ drop m (take n xs) ++ drop n xs
 drop_parts m n xs le in_xs =
     let low : m ≤ length (take n xs) = omega (arith, length-take-le n xs in_xs) in
     ap (λ o. drop m o) (sym (take-append-drop n xs)) ∙ drop-append-le m (take n xs) (drop n xs) low
@@ -107,10 +107,6 @@ closed_in f labels w locals ops callers l h lt e =
 
 pub closed_view : (s : Inside) (w : Vec Label Global) (l : Label) → IsStack s → s.here.labels_from < length s.labels.items → s.labels.items ≡ w.items ++ l ∷ [] → closed (thread_of s) ≡ Some (thread_of (record s { labels = w; here = record s.here { todo = l.todo; floor = l.floor } }))
 closed_view s w l h lt e = closed_in s.here s.labels.items w.items s.locals.items s.operands.items s.callers.items l h.part lt e
-
--- no room is known
-pub emptied : (s : Inside) → IsStack s → IsStack (record s { room = 0 })
-emptied s h = record { part = record { top = h.part.top; cut = h.part.cut; labels_in = h.part.labels_in; locals_in = h.part.locals_in }; below = h.below; room = record { place = omega arith; limit = omega arith } }
 
 -- a local of the innermost frame
 pub set_view : (s : Inside) (w : Vec Value Global) (x : ℕ) (v : Value) → w.items ≡ set s.locals.items (s.here.locals_from + x) v → thread_of (record s { locals = w }) ≡ record (thread_of s) { locals = set (drop s.here.locals_from s.locals.items) x v }
@@ -160,51 +156,6 @@ module _ (s : Inside) (n : ℕ) (h : IsStack s) (le : n ≤ length s.operands.it
       thread_of-operands s w h (keeps_without w.items e)
       ∙ ap (λ o. record (thread_of s) { stack = o }) (ap reverse part ∙ sym (split_reverse xs m n kept_arguments).1)
 
-module _ (s : Inside) (here : Held) (w : Vec Value Global) (c : Vec Held Global) (more : List Value) (h : IsStack s) (none : s.room ≡ 0) (floor : here.floor ≡ length s.operands.items) (bottom : here.bottom ≡ here.floor) (labels : here.labels_from ≡ length s.labels.items) (locals : here.locals_from ≡ length s.locals.items) (added : w.items ≡ s.locals.items ++ more) (called' : c.items ≡ s.callers.items ++ s.here ∷ []) where
-  low_labels : take here.labels_from s.labels.items ≡ s.labels.items
-  low_labels = take_all here.labels_from s.labels.items (omega arith)
-
-  low_locals : take here.locals_from w.items ≡ s.locals.items
-  low_locals = ap (λ o. take here.locals_from o) added ∙ take_at s.locals.items more here.locals_from (sym locals)
-
-  low_operands : take here.bottom s.operands.items ≡ s.operands.items
-  low_operands = take_all here.bottom s.operands.items (omega arith)
-
-  callers_now : reverse c.items ≡ s.here ∷ reverse s.callers.items
-  callers_now = ap reverse called' ∙ reverse-append s.callers.items (s.here ∷ [])
-
-  no_labels : drop here.labels_from s.labels.items ≡ []
-  no_labels = drop_all here.labels_from s.labels.items (omega arith)
-
-  pub entered_sound : IsStack (record s { here = here; locals = w; callers = c })
-  entered_sound =
-      let whole : IsPart s.here s.labels.items s.locals.items s.operands.items × AreFrameParts (reverse s.callers.items) (take s.here.labels_from s.labels.items) (take s.here.locals_from s.locals.items) (take s.here.bottom s.operands.items) = (h.part, h.below) in
-      let parts1 = subst (λ o. AreFrameParts o s.labels.items s.locals.items s.operands.items) (sym callers_now) whole in
-      let parts2 = subst (λ o. AreFrameParts (reverse c.items) o s.locals.items s.operands.items) (sym low_labels) parts1 in
-      let parts3 = subst (λ o. AreFrameParts (reverse c.items) (take here.labels_from s.labels.items) o s.operands.items) (sym low_locals) parts2 in
-      let cut : here.bottom ≡ here.floor = bottom in
-      record {
-        part = record {
-          top = omega arith;
-          cut = subst (λ o. AreCut here.bottom (reverse o) here.floor) (sym no_labels) cut;
-          labels_in = omega arith;
-          locals_in = omega (arith, ap length added, length-append s.locals.items more);
-        };
-        below = subst (λ o. AreFrameParts (reverse c.items) (take here.labels_from s.labels.items) (take here.locals_from w.items) o) (sym low_operands) parts3;
-        room = record { place = h.room.place; limit = omega (arith, none) };
-      }
-
-  pub entered_view : entered (thread_of s) here.func (trees here.todo.now) more here.gives ≡ thread_of (record s { here = here; locals = w; callers = c })
-  entered_view =
-      let e1 = low_labels in
-      let e2 = low_locals in
-      let e3 = low_operands in
-      let e4 = callers_now in
-      let e5 = ap reverse no_labels in
-      let e6 = ap (λ o. drop here.locals_from o) added ∙ drop_at s.locals.items more here.locals_from (sym locals) in
-      let e7 = drop_all here.floor s.operands.items (omega arith) in
-      cc
-
 -- the sizes
 size_of_cut : (gives : Option ValType) (bottom : ℕ) (ls : List Label) (ops : List Value) (top : ℕ) → top ≡ length ops → AreCut bottom ls top → size_of_levels (levels_of gives ls ops) + bottom ≡ length ls + length ops
 size_of_cut gives bottom [] ops top e h = omega arith
@@ -253,16 +204,6 @@ frame_room_view more s h =
     let size = size_view s h in
     ap (λ k. nat_lt (k + 1) 512 && nat_le (length s.operands.items + length s.labels.items + length s.locals.items + more) 16384) (sym frames)
     ∙ ap (λ k. nat_lt (length (thread_of s).callers + 1) 512 && nat_le (k + more) 16384) (sym size)
-
--- more locals on top
-pub IsSound-locals : (s : Inside) (w : Vec Value Global) → IsStack s → s.room ≡ 0 → (take (length s.locals.items) w.items ≡ s.locals.items) × (length s.locals.items ≤ length w.items) → IsStack (record s { locals = w })
-IsSound-locals s w h none e =
-    let same : take s.here.locals_from w.items ≡ take s.here.locals_from s.locals.items = sym (take-take s.here.locals_from (length s.locals.items) w.items h.part.locals_in) ∙ ap (λ o. take s.here.locals_from o) e.0 in
-    record {
-      part = record { top = h.part.top; cut = h.part.cut; labels_in = h.part.labels_in; locals_in = omega (arith, h.part.locals_in, e.1) };
-      below = subst (λ o. AreFrameParts (reverse s.callers.items) (take s.here.labels_from s.labels.items) o (take s.here.bottom s.operands.items)) (sym same) h.below;
-      room = record { place = h.room.place; limit = omega (arith, none) };
-    }
 
 -- ---- labels
 
@@ -456,8 +397,10 @@ module _ (s : Inside) (here : Held) (w : Vec Label Global) (l : Label) (h : IsSt
         room = record { place = omega (arith, h.room.place, fewer); limit = omega (arith, h.room.limit, fewer, more) };
       }
 
-  pub opened_view : l.todo ≡ s.here.todo → (room : ℕ) → thread_of (record s { here = record s.here { todo = here.todo; floor = here.floor }; labels = w; room = room }) ≡ entered_by (tree l.opener.now) (trees here.todo.now) (thread_of s)
-  opened_view todo room =
+  pub opened_view : (room : ℕ) →
+      thread_of (record s { here = record s.here { todo = here.todo; floor = here.floor }; labels = w; room = room })
+      ≡ entered_by (tree l.opener.now) (trees here.todo.now) (record (thread_of s) { todo = trees l.todo.now })
+  opened_view room =
       let e1 = around_now in
       let e2 = below_now in
       let e3 = drop_all here.floor s.operands.items (omega (arith, top)) in

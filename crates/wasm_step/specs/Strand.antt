@@ -8,7 +8,7 @@ use Rattle.wasm_types.specs.declared.modules.ExportDesc.{ExportDesc}
 use Rattle.wasm_types.specs.declared.modules.ExportDesc.TheVariants.{Func as ToFunc, Table as ToTable, Memory as ToMemory, Global as ToGlobal}
 use Rattle.wasm_types.specs.Modules.{Module, Func, FuncType, Export}
 use Rattle.wasm_types.specs.Valid.{is_start_export}
-use Rattle.wasm_values.specs.Values.{zeros}
+use Rattle.wasm_types.specs.Locals.{zeros}
 use Rattle.wasm_step.specs.Thread.{Thread, Frame, at_start, waiting_frame, is_within}
 use Rattle.wasm_types.specs.Functions.{own_func, type_of, imported_type}
 use Rattle.wasm_step.specs.Reduce.{with_result}

@@ -6,7 +6,7 @@ use Rattle.wasm_types.specs.declared.code.ValType.{ValType}
 use Rattle.wasm_types.specs.Calls.{result_of}
 use Rattle.wasm_types.specs.Code.{Trees, End, Then}
 use Rattle.wasm_types.specs.Modules.{Func, FuncType}
-use Rattle.wasm_values.specs.Values.{zeros}
+use Rattle.wasm_types.specs.Locals.{zeros}
 
 -- a level: the type of what it leaves to the one around it, the instructions that are left, its operands
 -- with the topmost first, the instructions at which a branch to it goes on, whether a branch carries an

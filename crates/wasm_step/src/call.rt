@@ -1,8 +1,9 @@
 // Calls of the library.
-ghost use Rattle.std.specs.Prelude.{◌≡◌};
+ghost use Rattle.std.specs.Prelude.{◌≡◌, slice_get};
 ghost use Rattle.wasm_step.specs.Call.{site_of};
+ghost use Rattle.wasm_values.specs.Values.{bits_of};
 
-use wasm_types::Value;
+use wasm_types::Slot;
 use wasm_values::bits;
 
 /// A call of the library: the index of the imported function, and the bits of its arguments in their
@@ -16,13 +17,23 @@ pub struct CallSite {
 }
 
 /// The call of this function with these arguments.
-pub(crate) fn site(func: u32, arguments: &[Value]) -> CallSite
+pub(crate) fn site(func: u32, arguments: &[Slot]) -> CallSite
     ensures { result ≡ site_of func arguments.now }
 {
     CallSite {
         func,
-        a0: bits(arguments.get(0).copied()),
-        a1: bits(arguments.get(1).copied()),
-        a2: bits(arguments.get(2).copied()),
+        a0: bits_at(arguments, 0),
+        a1: bits_at(arguments, 1),
+        a2: bits_at(arguments, 2),
+    }
+}
+
+// The bits of an argument, and 0 where there is none.
+fn bits_at(arguments: &[Slot], k: usize) -> u64
+    ensures { result ≡ bits_of (slice_get arguments.now k) }
+{
+    match arguments.get(k) {
+        Some(argument) => bits(Some(argument.value())),
+        None => 0,
     }
 }

@@ -1,19 +1,21 @@
 // Calls: of the library, of the module's own functions, and through the table.
-ghost use Rattle.std.specs.Prelude.{◌≡◌, ◌+◌, ◌<◌, ◌≤◌, [], ◌∷◌, IfOk, IfSome, IfNone, IsTrue, None, OnOk, Some, false, length, slice_get};
+ghost use Rattle.std.specs.Prelude.{◌≡◌, ℕ, ◌+◌, ◌≤◌, [], ◌∷◌, IfOk, IfSome, IsTrue, OnOk, Some, false, length, slice_get};
+ghost use Rattle.wasm_types.specs.Functions.{type_of};
+ghost use Rattle.wasm_types.specs.Locals.{zeros};
 ghost use Rattle.wasm_types.specs.Modules.{func_type, module_of};
 ghost use Rattle.wasm_step.specs.Answer.{after_of};
-ghost use Rattle.wasm_step.specs.Reduce.{Goes, call, call_element, call_indirect, call_library, call_own, go_on, limited};
+ghost use Rattle.wasm_step.specs.Limits.{Within};
+ghost use Rattle.wasm_step.specs.Reduce.{Goes, call, call_element, call_if_same, call_indirect, call_library, call_own, go_on, limited};
 ghost use Rattle.wasm_step.specs.Strand.{started_above};
-ghost use Rattle.wasm_values.specs.Values.{zeros};
-ghost use Rattle.wasm_step.specs.Thread.{Thread, called, has_frame_room, waiting_frame};
+ghost use Rattle.wasm_step.specs.Thread.{Thread, called, has_frame_room, waiting_frame, without};
 
 use crate::halt::Next;
-use crate::stack::{SIZE_LIMIT, Stack};
+use crate::stack::Stack;
 use std::alloc::AllocError;
 use wasm_store::{
     Callee, Store, imported_type, is_same_type, own_func, result_of, type_at, type_of,
 };
-use wasm_types::{FuncType, Module, Trap, ValType, ValidModule, Value};
+use wasm_types::{Declared, FuncType, Module, Trap, ValidModule, Value};
 
 impl<'m> Stack<'m> {
     fn call_library(&mut self, typing: &FuncType, index: u32) -> Next
@@ -54,57 +56,38 @@ impl<'m> Stack<'m> {
         }
     }
 
-    // A call of a function of this type in place, where it has its arguments and the limits allow its frame.
-    #[inline(always)]
-    fn call_typed_in_place(
-        &mut self,
-        index: u32,
-        callee: Callee<'m>,
-        typing: &FuncType,
-    ) -> Result<bool, AllocError>
-        ensures goes { IfOk result (λ went. IsTrue went → limited (go_on (called self.old index callee.entry (func_type typing.now))) ≡ Goes self.new) }
-        ensures same { IfOk result (λ went. went ≡ false → self.new ≡ self.old) }
-    {
-        let n = typing.params.len();
-        if !self.has_arguments(n) || !self.can_enter(callee.declared()) {
-            return Ok(false);
-        }
-        let is_in = self.enter(index, callee, n, result_of(typing))?;
-        prove!(is_in);
-        Ok(true)
-    }
-
-    /// A call of the module's own function in place, where it has its arguments and the limits allow its frame. It is
-    /// kept out of the burst, whose other instructions would find fewer registers, and its answer is small.
+    /// A call of the module's own function in place, where memory and the limits allow its frame. It is kept out of the
+    /// burst, whose other instructions would find fewer registers.
     #[inline(never)]
-    pub fn call_in_place(&mut self, module: &'m ValidModule, index: u32) -> Result<bool, AllocError>
-        ensures goes { IfOk result (λ went. IsTrue went → limited (call (module_of «module».now) index self.old) ≡ Goes self.new) }
-        ensures same { IfOk result (λ went. went ≡ false → self.new ≡ self.old) }
+    pub fn call_in_place(&mut self, module: &'m ValidModule, index: u32) -> bool
+        requires { Within self.old }
+        ensures goes { IsTrue result → call (module_of «module».now) index self.old ≡ Goes self.new }
+        ensures within { Within self.new }
+        ensures same { result ≡ false → self.new ≡ self.old }
     {
-        let imports = module.module().imports.len();
-        let place = index as usize;
-        if place < imports {
-            return Ok(false);
+        let Some((callee, typing)) = own_typed(module, index) else {
+            return false;
+        };
+        if has_few(&callee, typing) {
+            self.enter_within(index, callee, typing, 0, true)
+        } else {
+            self.call_many_in_place(module, index, 0)
         }
-        let Some(callee) = own_func(module, place - imports) else {
-            return Ok(false);
-        };
-        let Some(typing) = type_at(module.module(), callee.type_index()) else {
-            return Ok(false);
-        };
-        self.call_typed_in_place(index, callee, typing)
     }
 
-    // Whether the function has the type with this index.
-    #[inline(always)]
-    fn has_type(module: &Module, index: u32, type_index: u32) -> bool
-        ensures { IsTrue result → (t : Thread)
-            → call_element (module_of «module».now) type_index (Some (Some index)) t ≡ call (module_of «module».now) index t }
+    // The same below so many operands that go, with values that are copied together.
+    #[inline(never)]
+    fn call_many_in_place(&mut self, module: &'m ValidModule, index: u32, above: usize) -> bool
+        requires within { Within self.old }
+        requires above { above ≤ length self.old.stack }
+        ensures goes { IsTrue result → call (module_of «module».now) index (without above self.old) ≡ Goes self.new }
+        ensures within { Within self.new }
+        ensures same { result ≡ false → self.new ≡ self.old }
     {
-        match (type_of(module, index), type_at(module, type_index)) {
-            (Some(found), Some(wanted)) => is_same_type(found, wanted),
-            _ => false,
-        }
+        let Some((callee, typing)) = own_typed(module, index) else {
+            return false;
+        };
+        self.enter_within(index, callee, typing, above, false)
     }
 
     /// A call through the table in place, where it is one of the module's own functions.
@@ -114,44 +97,48 @@ impl<'m> Stack<'m> {
         module: &'m ValidModule,
         store: &Store<'m>,
         type_index: u32,
-    ) -> Result<bool, AllocError>
-        requires { module_of «module».now ≡ store.now.«module» }
-        ensures goes { IfOk result (λ went. IsTrue went → limited (call_indirect type_index store.now self.old) ≡ Goes self.new) }
-        ensures same { IfOk result (λ went. went ≡ false → self.new ≡ self.old) }
+    ) -> bool
+        requires same_module { module_of «module».now ≡ store.now.«module» }
+        requires within { Within self.old }
+        ensures goes { IsTrue result → call_indirect type_index store.now self.old ≡ Goes self.new }
+        ensures within { Within self.new }
+        ensures same { result ≡ false → self.new ≡ self.old }
     {
         let Some(Value::I32(i)) = self.top() else {
-            return Ok(false);
+            return false;
         };
         let Some(Some(index)) = store.element(i) else {
-            return Ok(false);
+            return false;
         };
-        if !Self::has_type(module.module(), index, type_index) {
-            return Ok(false);
+        let Some((callee, typing)) = own_typed(module, index) else {
+            return false;
+        };
+        if !has_type(module.module(), &callee, typing, type_index) {
+            return false;
         }
-        self.drop_last(1);
-        if self.call_in_place(module, index)? {
-            return Ok(true);
+        if has_few(&callee, typing) {
+            self.enter_within(index, callee, typing, 1, true)
+        } else {
+            self.call_many_in_place(module, index, 1)
         }
-        self.push(Value::I32(i))?;
-        Ok(false)
     }
 
     // Whether a frame with these declared locals keeps to the limits.
     #[inline(always)]
-    fn can_enter(&self, declared: &[(u32, ValType)]) -> bool
+    fn can_enter(&self, declared: &Declared) -> bool
         ensures { result ≡ has_frame_room (length (zeros declared.now)) self.now }
     {
-        match count_locals(declared) {
+        match declared.count() {
             Some(count) => self.has_frame_place(count) || self.has_frame_room(count),
             None => false,
         }
     }
 
     /// Whether a handler with these declared locals, and one parameter, keeps to the limits.
-    pub fn can_handle(&self, declared: &[(u32, ValType)]) -> bool
+    pub fn can_handle(&self, declared: &Declared) -> bool
         ensures { result ≡ has_frame_room (length (zeros declared.now) + 1) self.now }
     {
-        match count_locals(declared) {
+        match declared.count() {
             Some(count) => self.has_frame_room(count + 1),
             None => false,
         }
@@ -254,18 +241,48 @@ impl<'m> Stack<'m> {
     }
 }
 
-// How many locals are declared. `None` comes where they pass the size that a thread may have.
-pub(crate) fn count_locals(declared: &[(u32, ValType)]) -> Option<usize>
-    ensures some { IfSome result (λ count. count ≡ length (zeros declared.now)) }
-    ensures within { IfSome result (λ count. count ≤ 16384) }
-    ensures none { IfNone result (16384 < length (zeros declared.now)) }
+// The module's own function with this index and its type, if there is one.
+#[inline(always)]
+fn own_typed<'m>(module: &'m ValidModule, index: u32) -> Option<(Callee<'m>, &'m FuncType)>
+    ensures types { IfSome result (λ own. type_of (module_of «module».now) index ≡ Some (func_type own.1.now)) }
+    ensures at { IfSome result (λ own. slice_get (module_of «module».now).types own.0.type_index ≡ Some (func_type own.1.now)) }
+    ensures calls { IfSome result (λ own. (t : Thread) → call (module_of «module».now) index t ≡ go_on (called t index own.0 (func_type own.1.now))) }
 {
-    let mut count = 0;
-    for local in declared {
-        if local.0 as usize > SIZE_LIMIT - count {
-            return None;
-        }
-        count += local.0 as usize;
+    let imports = module.module().imports.len();
+    let place = index as usize;
+    if place < imports {
+        return None;
     }
-    Some(count)
+    let callee = own_func(module, place - imports)?;
+    let typing = type_at(module.module(), callee.type_index())?;
+    Some((callee, typing))
+}
+
+// Whether a function of this type has the type with this index, which mostly is its own.
+#[inline(always)]
+fn has_type(module: &Module, callee: &Callee<'_>, typing: &FuncType, type_index: u32) -> bool
+    requires { slice_get (module_of «module».now).types callee.now.type_index ≡ Some (func_type typing.now) }
+    ensures { IsTrue result → (f : ℕ) (t : Thread)
+        → call_if_same (module_of «module».now) f (Some (func_type typing.now)) (slice_get (module_of «module».now).types type_index) t
+        ≡ call (module_of «module».now) f t }
+{
+    if callee.type_index() == type_index {
+        return true;
+    }
+    match type_at(module, type_index) {
+        Some(wanted) => is_same_type(typing, wanted),
+        None => false,
+    }
+}
+
+/// So many values are copied one by one.
+const FEW: usize = 4;
+
+// Whether a frame takes so few arguments and declared locals that each is copied by itself.
+#[inline(always)]
+fn has_few(callee: &Callee<'_>, typing: &FuncType) -> bool {
+    match callee.declared().starts() {
+        Some(starts) => starts.len() <= FEW && typing.params.len() <= FEW,
+        None => false,
+    }
 }

@@ -30,12 +30,20 @@ impl<'m> Stack<'m> {
         }
     }
 
-    #[inline(never)]
+    #[inline(always)]
     pub fn return_from(&mut self) -> Way
         ensures { way_of result self.new ≡ return_from self.old }
     {
         let carries = self.returns();
         self.end_frame(carries)
+    }
+
+    /// The same by a call of its own.
+    #[inline(never)]
+    pub fn return_out(&mut self) -> Way
+        ensures { way_of result self.new ≡ return_from self.old }
+    {
+        self.return_from()
     }
 
     // A branch out of the innermost level, which is no loop.
@@ -133,7 +141,7 @@ impl<'m> Stack<'m> {
         if self.close() {
             return Way::Goes;
         }
-        self.return_from()
+        self.return_out()
     }
 }
 

@@ -9,7 +9,7 @@ use crate::halt::Next;
 use crate::stack::Stack;
 use std::alloc::AllocError;
 use wasm_store::Store;
-use wasm_types::{Trap, Value};
+use wasm_types::{Slot, Trap, Value};
 use wasm_values::{bits, load_value, load_width, store_width};
 
 impl<'m> Stack<'m> {
@@ -161,7 +161,7 @@ impl<'m> Stack<'m> {
             return Ok(Next::Stuck);
         };
         let before = store.grow(pages)?;
-        let is_put = self.put_one(grow_answer(before));
+        let is_put = self.put_one(Slot::of(grow_answer(before)));
         prove!(is_put);
         Ok(Next::Going)
     }

@@ -9,7 +9,7 @@ ghost use Rattle.wasm_step.specs.Reduce.{Goes, Sticks, Stops, drop_top, got, loc
 use crate::halt::Next;
 use crate::stack::Stack;
 use std::alloc::AllocError;
-use wasm_types::Value;
+use wasm_types::{Slot, Value};
 use wasm_values::{Number, binary, is_unary, unary};
 
 impl<'m> Stack<'m> {
@@ -22,7 +22,7 @@ impl<'m> Stack<'m> {
         };
         match unary(op, x) {
             Number::Given(v) => {
-                let is_put = self.put_one(v);
+                let is_put = self.put_one(Slot::of(v));
                 prove!(is_put);
                 Next::Going
             }
@@ -40,7 +40,7 @@ impl<'m> Stack<'m> {
         };
         match binary(op, x, y) {
             Number::Given(v) => {
-                let is_put = self.put_two(v);
+                let is_put = self.put_two(Slot::of(v));
                 prove!(is_put);
                 Next::Going
             }
@@ -87,7 +87,7 @@ impl<'m> Stack<'m> {
             return true;
         }
         self.drop_last(1);
-        let is_put = self.put_two(second);
+        let is_put = self.put_two(Slot::of(second));
         prove!(is_put);
         true
     }

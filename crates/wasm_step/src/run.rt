@@ -69,40 +69,6 @@ impl<'m> Stack<'m> {
         Ok(next)
     }
 
-    /// An instruction that was not done in place, of a thread within its limits.
-    #[inline(always)]
-    fn full_row(
-        &mut self,
-        module: &'m ValidModule,
-        store: &mut Store<'m>,
-        instr: &'m Instr,
-    ) -> Result<Next, AllocError>
-        requires same_module { module_of «module».now ≡ store.old.«module» }
-        requires within { Within self.old }
-        ensures after { IfOk result (λ a. after_of a self.new ≡ (reduce (tree instr.now) self.old store.old).after) }
-        ensures store { OnOk result (store.new ≡ (reduce (tree instr.now) self.old store.old).store) }
-    {
-        match instr {
-            Instr::Br(n) => Ok(self.branch(*n).next()),
-            Instr::BrIf(n) => Ok(self.branch_if(*n).next()),
-            Instr::BrTable(labels, default) => Ok(self.branch_table(labels, *default).next()),
-            Instr::Return => Ok(self.return_from().next()),
-            Instr::CallFunc(index) => {
-                if self.call_in_place(module, *index)? {
-                    return Ok(Next::Going);
-                }
-                self.call(module, *index)
-            }
-            Instr::CallIndirect(type_index) => {
-                if self.call_indirect_in_place(module, store, *type_index)? {
-                    return Ok(Next::Going);
-                }
-                self.call_indirect(module, store, *type_index)
-            }
-            _ => self.step(module, store, instr),
-        }
-    }
-
     /// A burst, at whose stop a call of the library has its arguments among the operands.
     #[inline(never)]
     fn burst(&mut self, module: &'m ValidModule, store: &mut Store<'m>) -> Result<Next, AllocError>
@@ -117,25 +83,37 @@ impl<'m> Stack<'m> {
             }
             left -= 1;
         }
+        let mut todo = self.todo();
         'steps: while left > 0 {
-            if self.is_at_end() {
-                match self.end() {
+            let [instr, rest @ ..] = todo else {
+                if self.close() {
+                    todo = self.todo();
+                    continue 'steps;
+                }
+                match self.return_from() {
+                    Way::Goes => {
+                        todo = self.todo();
+                        continue 'steps;
+                    }
+                    way => return Ok(way.next()),
+                }
+            };
+            todo = rest;
+            left -= 1;
+            if let Some(way) = self.row(module, store, instr, &mut todo)? {
+                match way {
                     Way::Goes => continue 'steps,
                     way => return Ok(way.next()),
                 }
             }
-            let Some(instr) = self.fetch() else {
-                return Ok(Next::Stuck);
-            };
-            left -= 1;
-            if self.row_in_place(store, instr)? {
-                continue 'steps;
-            }
-            match self.full_row(module, store, instr)? {
+            self.go_to(todo);
+            match self.step(module, store, instr)? {
                 Next::Going => {}
                 halted => return Ok(halted),
             }
+            todo = self.todo();
         }
+        self.go_to(todo);
         Ok(self.spend())
     }
 

@@ -1,8 +1,10 @@
 // A thread as an owned value: one stack each of operands, labels, locals and frames.
-ghost use Rattle.std.specs.Prelude.{◌∷◌, OnErr, ◌≡◌, ◌+◌, ◌-◌, ◌<◌, ◌≤◌, [], ◌++◌, drop, length, IfOk, OnOk, Some, None, if◌then◌else◌, IfSome, IfNone, IsTrue, nat_lt, nat_le, ◌&&◌, false, is_some, slice_get, slice_set, take, true};
+ghost use Rattle.std.specs.Prelude.{◌∷◌, OnErr, ◌≡◌, ◌+◌, ◌-◌, ◌<◌, ◌≤◌, [], ◌++◌, drop, length, IfOk, OnOk, Some, None, if◌then◌else◌, IfSome, IfNone, IsTrue, nat_lt, nat_le, ◌&&◌, false, is_some, slice_get, slice_set, take, true, min};
 ghost use Rattle.wasm_types.specs.Code.{End, Then, tree, trees};
-ghost use Rattle.wasm_step.specs.Thread.{is_end, with_operand, closed, left, called_with, arguments, without, has_frame_room, has_room, is_within, at_start};
-ghost use Rattle.wasm_values.specs.Values.{zeros};
+ghost use Rattle.wasm_step.specs.Thread.{arguments, at_start, called, called_with, closed, left, with_operand, without};
+ghost use Rattle.wasm_step.specs.Thread.{has_frame_room, has_room, is_end, is_within};
+ghost use Rattle.wasm_types.specs.Locals.{zeros};
+ghost use Rattle.wasm_types.specs.Modules.{func_type};
 ghost use Rattle.std.specs.Vec.{vec_capacity};
 ghost use Rattle.wasm_step.specs.Call.{sited};
 ghost use Rattle.wasm_step.specs.Limits.{Within};
@@ -11,11 +13,10 @@ ghost use Rattle.wasm_step.specs.Target.{IsTarget};
 ghost use Rattle.wasm_step.specs.Reduce.{Ends, Goes, Stops, on_top, resumed};
 
 use crate::call::{CallSite, site};
-use std::alloc::{AllocError, Global};
+use std::alloc::AllocError;
 use std::marker::Model;
-use wasm_store::Callee;
-use wasm_types::{Instr, ValType, Value};
-use wasm_values::zero_of;
+use wasm_store::{Callee, result_of};
+use wasm_types::{FuncType, Instr, Slot, ValType, Value};
 
 /// A level around another: the instruction that opened the other, those behind it, and how many operands lie below
 /// the level.
@@ -51,9 +52,9 @@ pub enum Target<'m> {
 #[derive(Drop)]
 pub struct Stack<'m> {
     here: Held<'m>,
-    operands: Vec<Value>,
+    operands: Vec<Slot>,
     labels: Vec<Label<'m>>,
-    locals: Vec<Value>,
+    locals: Vec<Slot>,
     callers: Vec<Held<'m>>,
     /// With fewer operands than this, one more wants no memory and leaves the size within its limit.
     room: usize,
@@ -80,14 +81,14 @@ impl<'m> Stack<'m> {
     pub fn start(
         index: u32,
         callee: Callee<'m>,
-        arguments: Vec<Value>,
+        arguments: Vec<Slot>,
         gives: Option<ValType>,
     ) -> Result<Stack<'m>, AllocError>
         ensures { IfOk result (λ s. s ≡ at_start [] index callee.entry.body (arguments.items ++ zeros callee.entry.locals) gives) }
     {
         let alloc = *arguments.allocator();
         let mut locals = arguments;
-        append_zeros(&mut locals, callee.declared())?;
+        callee.declared().append(&mut locals)?;
         Ok(Stack {
             here: Held {
                 todo: callee.body(),
@@ -154,6 +155,14 @@ impl<'m> Stack<'m> {
         self.here.todo = todo;
     }
 
+    /// The instructions that are left in the innermost level.
+    #[inline(always)]
+    pub fn todo(&self) -> &'m [Instr]
+        ensures { trees result.now ≡ self.now.todo }
+    {
+        self.here.todo
+    }
+
     /// Where a branch to the innermost level goes on.
     #[inline(always)]
     pub fn target(&self) -> Target<'m>
@@ -181,13 +190,13 @@ impl<'m> Stack<'m> {
     pub fn push(&mut self, v: Value) -> Result<(), AllocError>
         ensures { OnOk result (self.new ≡ with_operand self.old v) }
     {
-        push_operand(&mut self.operands, v)?;
+        push_operand(&mut self.operands, Slot::of(v))?;
         Ok(())
     }
 
     /// The same where there is room for it.
     #[inline(always)]
-    pub fn push_within(&mut self, v: Value) -> bool
+    pub fn push_within(&mut self, v: Slot) -> bool
         requires { Within self.old }
         ensures pushed { IsTrue result → self.new ≡ with_operand self.old v }
         ensures within { Within self.new }
@@ -222,7 +231,7 @@ impl<'m> Stack<'m> {
         if height <= self.here.floor {
             return None;
         }
-        Some(self.operands[height - 1])
+        Some(self.operands[height - 1].value())
     }
 
     /// The two topmost operands of the level, which stay.
@@ -235,7 +244,10 @@ impl<'m> Stack<'m> {
         if height < self.here.floor + 2 {
             return None;
         }
-        Some((self.operands[height - 2], self.operands[height - 1]))
+        Some((
+            self.operands[height - 2].value(),
+            self.operands[height - 1].value(),
+        ))
     }
 
     /// The three topmost operands of the level, which stay.
@@ -249,15 +261,15 @@ impl<'m> Stack<'m> {
             return None;
         }
         Some((
-            self.operands[height - 3],
-            self.operands[height - 2],
-            self.operands[height - 1],
+            self.operands[height - 3].value(),
+            self.operands[height - 2].value(),
+            self.operands[height - 1].value(),
         ))
     }
 
     /// The value in place of the topmost operand, if there is one.
     #[inline(always)]
-    pub fn put_one(&mut self, v: Value) -> bool
+    pub fn put_one(&mut self, v: Slot) -> bool
         ensures put { IsTrue result → self.new ≡ record self.old { stack = v ∷ drop 1 self.old.stack } }
         ensures enough { 1 ≤ length self.old.stack → result ≡ true }
         ensures same { result ≡ false → self.new ≡ self.old }
@@ -275,7 +287,7 @@ impl<'m> Stack<'m> {
 
     /// The value in place of the two topmost operands, if there are as many.
     #[inline(always)]
-    pub fn put_two(&mut self, v: Value) -> bool
+    pub fn put_two(&mut self, v: Slot) -> bool
         ensures put { IsTrue result → self.new ≡ record self.old { stack = v ∷ drop 2 self.old.stack } }
         ensures enough { 2 ≤ length self.old.stack → result ≡ true }
         ensures same { result ≡ false → self.new ≡ self.old }
@@ -307,7 +319,7 @@ impl<'m> Stack<'m> {
 
     /// A local of the innermost frame that it has.
     #[inline(always)]
-    pub fn local_at(&self, x: usize) -> Value
+    pub fn local_at(&self, x: usize) -> Slot
         requires { x < length self.now.locals }
         ensures { slice_get self.now.locals x ≡ Some result }
     {
@@ -325,7 +337,7 @@ impl<'m> Stack<'m> {
 
     /// The topmost operand of a level that has one.
     #[inline(always)]
-    pub fn last(&self) -> Value
+    pub fn last(&self) -> Slot
         requires { 1 ≤ length self.now.stack }
         ensures { self.now.stack ≡ result ∷ drop 1 self.now.stack }
     {
@@ -352,7 +364,7 @@ impl<'m> Stack<'m> {
         let Some(v) = self.operands.pop() else {
             return None;
         };
-        Some(v)
+        Some(v.value())
     }
 
     /// No operand of the level.
@@ -368,12 +380,15 @@ impl<'m> Stack<'m> {
     pub fn local(&self, x: usize) -> Option<Value>
         ensures { result ≡ slice_get self.now.locals x }
     {
-        self.locals[self.here.locals_from..].get(x).copied()
+        match self.locals[self.here.locals_from..].get(x) {
+            Some(v) => Some(v.value()),
+            None => None,
+        }
     }
 
     /// A new value of a local, if there is one of that number.
     #[inline(always)]
-    pub fn set_local(&mut self, x: usize, v: Value) -> bool
+    pub fn set_local(&mut self, x: usize, v: Slot) -> bool
         ensures value { result ≡ nat_lt x (length self.old.locals) }
         ensures set { IsTrue result → self.new ≡ record self.old { locals = slice_set self.old.locals x v } }
     {
@@ -400,11 +415,11 @@ impl<'m> Stack<'m> {
         Ok(())
     }
 
-    /// The same where there is room for it.
+    /// The same where there is room for it, in a level that is left these.
     #[inline(always)]
-    pub fn open_within(&mut self, opener: &'m Instr, body: &'m [Instr]) -> bool
+    pub fn open_within(&mut self, opener: &'m Instr, body: &'m [Instr], todo: &'m [Instr]) -> bool
         requires { Within self.old }
-        ensures opened { IsTrue result → self.new ≡ entered_by (tree opener.now) (trees body.now) self.old }
+        ensures opened { IsTrue result → self.new ≡ entered_by (tree opener.now) (trees body.now) (record self.old { todo = trees todo.now }) }
         ensures within { Within self.new }
         ensures same { result ≡ false → self.new ≡ self.old }
     {
@@ -414,7 +429,7 @@ impl<'m> Stack<'m> {
         self.room -= 1;
         self.labels.push_reserved(Label {
             opener,
-            todo: self.here.todo,
+            todo,
             floor: self.here.floor,
         });
         self.here.todo = body;
@@ -424,10 +439,15 @@ impl<'m> Stack<'m> {
 
     /// The same without the topmost operand of the level, which has one.
     #[inline(always)]
-    pub fn open_without_top(&mut self, opener: &'m Instr, body: &'m [Instr]) -> bool
+    pub fn open_without_top(
+        &mut self,
+        opener: &'m Instr,
+        body: &'m [Instr],
+        todo: &'m [Instr],
+    ) -> bool
         requires within { Within self.old }
         requires some { 1 ≤ length self.old.stack }
-        ensures opened { IsTrue result → self.new ≡ entered_by (tree opener.now) (trees body.now) (without 1 self.old) }
+        ensures opened { IsTrue result → self.new ≡ entered_by (tree opener.now) (trees body.now) (without 1 (record self.old { todo = trees todo.now })) }
         ensures within { Within self.new }
         ensures same { result ≡ false → self.new ≡ self.old }
     {
@@ -439,7 +459,7 @@ impl<'m> Stack<'m> {
         self.operands.truncate(height - 1);
         self.labels.push_reserved(Label {
             opener,
-            todo: self.here.todo,
+            todo,
             floor: self.here.floor,
         });
         self.here.todo = body;
@@ -520,10 +540,11 @@ impl<'m> Stack<'m> {
     {
         match self.callers.pop() {
             Some(held) => {
-                self.operands.truncate(self.here.bottom);
-                self.labels.truncate(self.here.labels_from);
-                self.locals.truncate(self.here.locals_from);
+                let left = self.here;
                 self.here = held;
+                self.operands.truncate(left.bottom);
+                self.labels.truncate(left.labels_from);
+                self.locals.truncate(left.locals_from);
                 true
             }
             None => false,
@@ -540,11 +561,12 @@ impl<'m> Stack<'m> {
         let v = self.operands[self.operands.len() - 1];
         match self.callers.pop() {
             Some(held) => {
-                self.operands.truncate(self.here.bottom);
-                self.operands.push_reserved(v);
-                self.labels.truncate(self.here.labels_from);
-                self.locals.truncate(self.here.locals_from);
+                let left = self.here;
                 self.here = held;
+                self.operands.truncate(left.bottom);
+                self.operands.push_reserved(v);
+                self.labels.truncate(left.labels_from);
+                self.locals.truncate(left.locals_from);
                 true
             }
             None => false,
@@ -593,9 +615,7 @@ impl<'m> Stack<'m> {
         let locals_from = self.locals.len();
         self.room = 0;
         append_all(&mut self.locals, &self.operands[first..])?;
-        if callee.declared().len() > 0 {
-            append_zeros(&mut self.locals, callee.declared())?;
-        }
+        callee.declared().append(&mut self.locals)?;
         push_to(&mut self.callers, self.here)?;
         self.operands.truncate(first);
         self.here.todo = callee.body();
@@ -607,6 +627,55 @@ impl<'m> Stack<'m> {
         self.here.gives = gives;
         self.find_room();
         Ok(true)
+    }
+
+    /// The same where memory is reserved for the frame and the limits allow it, below so many operands that go. With
+    /// `few`, values are copied one by one.
+    #[inline(always)]
+    pub fn enter_within(
+        &mut self,
+        index: u32,
+        callee: Callee<'m>,
+        typing: &FuncType,
+        above: usize,
+        few: bool,
+    ) -> bool
+        requires within { Within self.old }
+        requires above { above ≤ length self.old.stack }
+        ensures entered { IsTrue result → called (without above self.old) index callee.entry (func_type typing.now) ≡ Some self.new }
+        ensures within { Within self.new }
+        ensures same { result ≡ false → self.new ≡ self.old }
+    {
+        let n = typing.params.len();
+        let Some(starts) = callee.declared().starts() else {
+            return false;
+        };
+        let height = self.operands.len() - above;
+        let locals_from = self.locals.len();
+        let left = SIZE_LIMIT - self.labels.len() - locals_from;
+        if height - self.here.floor < n
+            || starts.len() > left
+            || height > left - starts.len()
+            || self.locals.capacity() - locals_from < n + starts.len()
+            || self.callers.len() + 1 >= FRAME_LIMIT
+            || self.callers.len() >= self.callers.capacity()
+        {
+            return false;
+        }
+        let first = height - n;
+        self.callers.push_reserved(self.here);
+        self.here.todo = callee.body();
+        self.here.floor = first;
+        self.here.labels_from = self.labels.len();
+        self.here.locals_from = locals_from;
+        self.here.bottom = first;
+        self.here.func = index;
+        self.here.gives = result_of(typing);
+        self.room = (left - starts.len() - n).min(self.operands.capacity());
+        append_reserved(&mut self.locals, &self.operands[first..height], few);
+        append_reserved(&mut self.locals, starts, few);
+        self.operands.truncate(first);
+        true
     }
 
     /// Whether the thread keeps to the limits with this many more operands, locals or labels.
@@ -710,8 +779,7 @@ fn room_of(labels: usize, locals: usize, capacity: usize) -> usize
     if labels > SIZE_LIMIT || locals > SIZE_LIMIT - labels {
         return 0;
     }
-    let left = SIZE_LIMIT - labels - locals;
-    if left < capacity { left } else { capacity }
+    (SIZE_LIMIT - labels - locals).min(capacity)
 }
 
 // One more item. Room is tested here, so that an item for which there is room is put in place without a call.
@@ -740,7 +808,7 @@ fn push_to_full<T: Drop>(items: &mut Vec<T>, item: T) -> Result<(), AllocError>
 }
 
 // One more operand. Where there is no room for it, room is made for many.
-fn push_operand(operands: &mut Vec<Value>, v: Value) -> Result<(), AllocError>
+fn push_operand(operands: &mut Vec<Slot>, v: Slot) -> Result<(), AllocError>
     ensures ok { OnOk result (operands.new.items ≡ operands.old.items ++ v ∷ []) }
     ensures err { OnErr result (operands.new.items ≡ operands.old.items) }
     ensures capacity { vec_capacity operands.old ≤ vec_capacity operands.new }
@@ -752,24 +820,8 @@ fn push_operand(operands: &mut Vec<Value>, v: Value) -> Result<(), AllocError>
     Ok(())
 }
 
-// What declared locals start as. Most runs are of one local, for which a call would cost more than its place.
-fn append_zeros(locals: &mut Vec<Value>, declared: &[(u32, ValType)]) -> Result<(), AllocError>
-    ensures ok { OnOk result (locals.new.items ≡ locals.old.items ++ zeros declared.now) }
-    ensures kept { take (length locals.old.items) locals.new.items ≡ locals.old.items }
-{
-    for local in declared {
-        let zero = zero_of(local.1);
-        if local.0 == 1 {
-            push_to(locals, zero)?;
-        } else {
-            locals.resize(locals.len() + local.0 as usize, zero)?;
-        }
-    }
-    Ok(())
-}
-
 #[inline(always)]
-fn append_all(items: &mut Vec<Value>, more: &[Value]) -> Result<(), AllocError>
+fn append_all(items: &mut Vec<Slot>, more: &[Slot]) -> Result<(), AllocError>
     ensures ok { OnOk result (items.new.items ≡ items.old.items ++ more.now) }
     ensures kept { take (length items.old.items) items.new.items ≡ items.old.items }
 {
@@ -781,4 +833,40 @@ fn append_all(items: &mut Vec<Value>, more: &[Value]) -> Result<(), AllocError>
         items.push_reserved(*item);
     }
     Ok(())
+}
+
+/// A copy is made in pieces of so many values: what is far larger the C library copies by a string instruction, which is
+/// no faster, and which valgrind counts for each byte.
+const PIECE: usize = 64;
+
+// These values behind the others, for which there is room.
+#[inline(always)]
+fn append_reserved(items: &mut Vec<Slot>, more: &[Slot], few: bool)
+    requires { length items.old.items + length more.now ≤ vec_capacity items.old }
+    ensures items { items.new.items ≡ items.old.items ++ more.now }
+    ensures capacity { vec_capacity items.old ≤ vec_capacity items.new }
+{
+    if few {
+        for item in more {
+            items.push_reserved(*item);
+        }
+    } else {
+        append_pieces(items, more);
+    }
+}
+
+#[inline(never)]
+fn append_pieces(items: &mut Vec<Slot>, more: &[Slot])
+    requires { length items.old.items + length more.now ≤ vec_capacity items.old }
+    ensures items { items.new.items ≡ items.old.items ++ more.now }
+    ensures capacity { vec_capacity items.old ≤ vec_capacity items.new }
+{
+    let mut rest = more;
+    while rest.len() > 0 {
+        let n = rest.len().min(PIECE);
+        let copied = items.extend_from_slice(&rest[..n]);
+        let is_ok = copied.is_ok();
+        prove!(is_ok);
+        rest = &rest[n..];
+    }
 }

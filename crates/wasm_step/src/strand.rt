@@ -14,7 +14,7 @@ use crate::stack::Stack;
 use std::alloc::{AllocError, Global};
 use std::marker::Model;
 use wasm_store::Store;
-use wasm_types::{Trap, ValidModule, Value};
+use wasm_types::{Slot, Trap, ValidModule, Value};
 
 /// A thread of a module, with its whole stack.
 #[derive(Drop)]
@@ -89,7 +89,7 @@ impl<'m> Strand<'m> {
         ensures thread { IfOk result (λ s. new_thread (module_of «module».now) func arg ≡ Some s.thread) }
         ensures call { IfOk result (λ s. s.call ≡ None) }
     {
-        let arguments = vec![in alloc; Value::I32(arg)]?;
+        let arguments = vec![in alloc; Slot::of(Value::I32(arg))]?;
         let callee = own(module, func);
         let thread = Stack::start(func, callee, arguments, None)?;
         let stack = Box::new(alloc, thread)?;

@@ -5,7 +5,7 @@ use Rattle.wasm_types.specs.declared.code.ValType.{ValType}
 use Rattle.wasm_types.specs.declared.code.Value.{Value}
 use Rattle.wasm_types.specs.Context.{filled}
 use Rattle.wasm_types.specs.Modules.{Func}
-use Rattle.wasm_values.specs.Values.{zeros, zero_of}
+use Rattle.wasm_types.specs.Locals.{zero_of, zeros}
 
 -- a run that is left out adds no local
 zeros-kept : (run : ℕ × ValType) (runs : List (ℕ × ValType)) (keeps : Bool) → nat_lt 0 run.0 ≡ keeps →

@@ -17,12 +17,13 @@ use Rattle.wasm_types.specs.Context.{imported_func, imported_funcs, funcs_of}
 use Rattle.wasm_types.specs.Floats.{is_float, is_float_import, have_float, has_float_func, has_float_global, has_float_type}
 use Rattle.wasm_types.specs.Library.{IsOfLibrary}
 use Rattle.wasm_types.specs.Library as library
+use Rattle.wasm_types.specs.Locals.{zero_of}
 use Rattle.wasm_types.specs.Modules.{Module, Import, Func, FuncType, GlobalDef, Elem, Segment}
 use Rattle.wasm_types.specs.Rules.{IsTypedFunc, constant_type, is_initial, is_elem, is_offset}
 use Rattle.wasm_types.specs.Stack.{is_same}
 use Rattle.wasm_types.specs.Valid.{IsValid}
 use Rattle.wasm_store.specs.Suits.{Suits}
-use Rattle.wasm_values.specs.Values.{type_of_value, types_of_values, zero_of}
+use Rattle.wasm_values.specs.Values.{type_of_value, types_of_values}
 use Rattle.wasm_types.specs.Functions.{described, imported_type, own_func, own_type, type_of}
 use Rattle.wasm_store.specs.Start.{initial_store, constant, initial, initial_in, initial_globals, offset_in, first_min, empty_table, empty_memory, is_elem_inside, put_funcs, put_elems, put_segments, segments_fit}
 use Rattle.wasm_store.specs.Store.{Store}

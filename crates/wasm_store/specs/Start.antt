@@ -7,10 +7,10 @@ use Rattle.wasm_types.specs.declared.code.Value.{Value}
 use Rattle.wasm_types.specs.declared.code.Value.TheVariants.{I32, I64}
 use Rattle.wasm_types.specs.declared.modules.Limits.{Limits}
 use Rattle.wasm_types.specs.Code.{Tree, ConstI32, ConstI64, GlobalGet, Trees, End, Then}
+use Rattle.wasm_types.specs.Locals.{zero_of}
 use Rattle.wasm_types.specs.Modules.{Module, GlobalDef, Elem, Segment}
 use Rattle.wasm_values.specs.Values.{bits_of}
 use Rattle.wasm_store.specs.Store.{Store}
-use Rattle.wasm_values.specs.Values.{zero_of}
 
 -- ---- globals
 

@@ -1,18 +1,17 @@
 // A function of the module as calls take it.
 ghost use Rattle.std.specs.Prelude.{◌≡◌, IfNone, IfSome, None, Some, slice_get};
 ghost use Rattle.wasm_types.specs.Code.{trees};
+ghost use Rattle.wasm_types.specs.Locals.{zeros};
 ghost use Rattle.wasm_types.specs.Modules.{module_of};
-ghost use Rattle.wasm_values.specs.Values.{zeros};
 
 use std::marker::Model;
-use wasm_types::{Func, Instr, ValType, ValidModule};
+use wasm_types::{Declared, Func, Instr, ValidModule};
 
-/// A function of the module, and the locals that it declares without the runs of count 0, of which a
-/// module can declare millions: a call walks none of them. Contracts see the function alone.
+/// A function of the module, and the locals that it declares. Contracts see the function alone.
 #[derive(Drop)]
 pub struct Callee<'m> {
     func: &'m Func,
-    declared: &'m [(u32, ValType)],
+    declared: &'m Declared,
 }
 
 impl<'m> Model for Callee<'m> {
@@ -25,7 +24,7 @@ impl<'m> Model for Callee<'m> {
     ghost coded = { Prim.hlevel (codes, trees_code) };
 
     ghost use Rattle.std.specs.Prelude.{◌≡◌};
-    ghost use Rattle.wasm_values.specs.Values.{zeros};
+    ghost use Rattle.wasm_types.specs.Locals.{zeros};
 
     ghost view = { λ c. modules.func c.func.now };
 
@@ -47,8 +46,8 @@ impl<'m> Callee<'m> {
         &self.func.body
     }
 
-    /// Its declared locals, without the runs of count 0.
-    pub fn declared(&self) -> &'m [(u32, ValType)]
+    /// Its declared locals.
+    pub fn declared(&self) -> &'m Declared
         ensures { zeros result.now ≡ zeros self.now.locals }
     {
         self.declared

@@ -9,8 +9,8 @@ ghost use Rattle.wasm_store.specs.Parts.{first_values, store_of_parts};
 
 use guest_memory::Memory;
 use std::alloc::{AllocError, Global};
-use wasm_types::{Elem, GlobalDef, Instr, Limits, Module, Segment, ValidModule, Value};
-use wasm_values::{bits, zero_of};
+use wasm_types::{Elem, GlobalDef, Instr, Limits, Module, Segment, ValidModule, Value, zero_of};
+use wasm_values::bits;
 
 /// How many bytes a page of memory has.
 const PAGE: u64 = 65_536;

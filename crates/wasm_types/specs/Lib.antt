@@ -17,3 +17,5 @@ pub mod Floats
 pub mod Library
 pub mod Rules
 pub mod Valid
+pub mod Slots
+pub mod Locals

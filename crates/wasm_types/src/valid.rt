@@ -5,12 +5,15 @@ ghost use Rattle.wasm_types.specs.Library.{importable, kind_at};
 ghost use Rattle.wasm_types.specs.Modules.{module_of};
 ghost use Rattle.wasm_types.specs.Valid.{IsValid};
 
-use crate::code::ValType;
+use crate::declared::Declared;
 use crate::library::importable;
 use crate::modules::{Import, Module};
 use call_table::Kind;
 use std::alloc::{AllocError, Global};
 use std::marker::Model;
+
+/// Of so many locals what they start as is kept, in all of a module.
+const KEPT: usize = 1_048_576;
 
 /// A module that is valid. Contracts see it as its module.
 #[derive(Debug, Drop)]
@@ -18,9 +21,8 @@ pub struct ValidModule {
     valid: Module,
     // For each import, the kind of its calls.
     kinds: Vec<Option<Kind>>,
-    // For each of the module's own functions, the locals without the runs of count 0, of which a
-    // module can declare millions: a call then walks none of them.
-    runs: Vec<Vec<(u32, ValType)>>,
+    // For each of the module's own functions, the locals that it declares.
+    locals: Vec<Declared>,
 }
 
 impl Model for ValidModule {
@@ -42,7 +44,7 @@ impl Model for ValidModule {
 
     ghost invariant = { λ v.
         IsValid (module_of v.valid)
-        × (map (λ runs. runs.items) v.runs.items ≡ filled_locals (module_of v.valid))
+        × (v.locals.items ≡ filled_locals (module_of v.valid))
         × (v.kinds.items ≡ map (λ i. importable i.name.items) v.valid.imports.items) };
 }
 
@@ -52,11 +54,11 @@ pub fn claim(alloc: Global, module: Module) -> Result<ValidModule, AllocError>
     ensures { IfOk result (λ v. v ≡ «module») }
 {
     let kinds = import_kinds(alloc, &module.imports)?;
-    let runs = filled_locals(alloc, &module)?;
+    let locals = filled_locals(alloc, &module)?;
     Ok(ValidModule {
         valid: module,
         kinds,
-        runs,
+        locals,
     })
 }
 
@@ -70,28 +72,20 @@ fn import_kinds(alloc: Global, imports: &[Import]) -> Result<Vec<Option<Kind>>, 
         .collect(alloc)
 }
 
-// The runs of locals that are not empty, of each of the module's own functions.
-fn filled_locals(alloc: Global, module: &Module) -> Result<Vec<Vec<(u32, ValType)>>, AllocError>
-    ensures { IfOk result (λ all. map (λ runs. runs.items) all.items ≡ filled_locals (module_of «module».now)) }
+// The locals of each of the module's own functions. What they start as is kept of the first 1,048,576 in all.
+fn filled_locals(alloc: Global, module: &Module) -> Result<Vec<Declared>, AllocError>
+    ensures { IfOk result (λ all. all.items ≡ filled_locals (module_of «module».now)) }
 {
     let mut all = Vec::new(alloc);
+    let mut most = KEPT;
     for function in &module.funcs {
-        all.push(filled(alloc, &function.locals)?)?;
+        let declared = Declared::new(alloc, &function.locals, most)?;
+        if let Some(starts) = declared.starts() {
+            most = most.saturating_sub(starts.len());
+        }
+        all.push(declared)?;
     }
     Ok(all)
-}
-
-// The runs that are not empty.
-fn filled(alloc: Global, locals: &[(u32, ValType)]) -> Result<Vec<(u32, ValType)>, AllocError>
-    ensures { IfOk result (λ runs. runs.items ≡ filled locals.now) }
-{
-    let mut runs = Vec::new(alloc);
-    for run in locals {
-        if 0 < run.0 {
-            runs.push(*run)?;
-        }
-    }
-    Ok(runs)
 }
 
 impl ValidModule {
@@ -111,15 +105,12 @@ impl ValidModule {
         self.kinds.get(func as usize).copied().flatten()
     }
 
-    /// The locals that the module's own function at this place declares, as counts and types, without
-    /// those of count 0. `None` comes exactly where the module has no such function.
-    pub fn declared(&self, place: usize) -> Option<&[(u32, ValType)]>
-        ensures some { IfSome result (λ runs. option_map (λ f. filled f.locals) (slice_get (module_of self.now).funcs place) ≡ Some runs.now) }
+    /// The locals that the module's own function at this place declares. `None` comes exactly where the module has no
+    /// such function.
+    pub fn declared(&self, place: usize) -> Option<&Declared>
+        ensures some { IfSome result (λ declared. option_map (λ f. filled f.locals) (slice_get (module_of self.now).funcs place) ≡ Some declared.now) }
         ensures none { IfNone result (slice_get (module_of self.now).funcs place ≡ None) }
     {
-        match self.runs.get(place) {
-            Some(runs) => Some(runs.as_slice()),
-            None => None,
-        }
+        self.locals.get(place)
     }
 }

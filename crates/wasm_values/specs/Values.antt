@@ -1,5 +1,5 @@
 -- Values by their bits and their types.
-use Rattle.std.specs.Prelude.{ℕ, replicate, List, [], ◌∷◌, ◌++◌, map, Option, Some, None}
+use Rattle.std.specs.Prelude.{ℕ, List, map, Option, Some, None}
 use Rattle.wasm_types.specs.declared.code.Value.{Value}
 use Rattle.wasm_types.specs.declared.code.Value.TheVariants.{I32, I64}
 use Rattle.wasm_types.specs.declared.code.ValType.{ValType}
@@ -17,15 +17,3 @@ type_of_value (I64 x) = types.I64
 
 abbrev pub types_of_values : List Value → List ValType
 types_of_values vs = map type_of_value vs
-
--- what a local or a global starts as
-abbrev pub zero_of : ValType → Value
-zero_of types.I32 = I32 0
-zero_of types.I64 = I64 0
-zero_of types.F32 = I32 0
-zero_of types.F64 = I64 0
-
--- the declared locals of a function, each a count and a type, as they start
-abbrev pub zeros : List (ℕ × ValType) → List Value
-zeros [] = []
-zeros (d ∷ ds) = replicate d.0 (zero_of d.1) ++ zeros ds

@@ -8,7 +8,7 @@ ghost use Rattle.wasm_values.specs.Access.{load_value, load_width, store_width};
 ghost use Rattle.wasm_values.specs.Values.{type_of_value};
 
 use wasm_num::{i32_wrap_i64, i64_extend_i32_s};
-use wasm_types::{ValType, Value, load_access, store_access};
+use wasm_types::{Slot, ValType, Value, load_access, store_access};
 
 /// How many bytes a load reads.
 #[tactic(auto, unfolding(crate::specs::Access::load_width))]
@@ -26,22 +26,22 @@ pub fn load_width(op: u8) -> Option<u32>
 /// The operand that a load makes of the number that it reads.
 #[tactic(auto, unfolding(crate::specs::Access::load_value))]
 #[inline(always)]
-pub fn load_value(op: u8, n: u64) -> Option<Value>
+pub fn load_value(op: u8, n: u64) -> Option<Slot>
     ensures { result ≡ load_value op n }
 {
     match op {
-        0x28 => Some(Value::I32(i32_wrap_i64(n))),
-        0x29 => Some(Value::I64(n)),
-        0x2C => Some(Value::I32(signed_8(low_8(n)))),
-        0x2D => Some(Value::I32(u32::from(low_8(n)))),
-        0x2E => Some(Value::I32(signed_16(low_16(n)))),
-        0x2F => Some(Value::I32(u32::from(low_16(n)))),
-        0x30 => Some(Value::I64(long_signed_8(low_8(n)))),
-        0x31 => Some(Value::I64(u64::from(low_8(n)))),
-        0x32 => Some(Value::I64(long_signed_16(low_16(n)))),
-        0x33 => Some(Value::I64(u64::from(low_16(n)))),
-        0x34 => Some(Value::I64(i64_extend_i32_s(i32_wrap_i64(n)))),
-        0x35 => Some(Value::I64(u64::from(i32_wrap_i64(n)))),
+        0x28 => Some(Slot::narrow(i32_wrap_i64(n))),
+        0x29 => Some(Slot::long(n)),
+        0x2C => Some(Slot::narrow(signed_8(low_8(n)))),
+        0x2D => Some(Slot::narrow(u32::from(low_8(n)))),
+        0x2E => Some(Slot::narrow(signed_16(low_16(n)))),
+        0x2F => Some(Slot::narrow(u32::from(low_16(n)))),
+        0x30 => Some(Slot::long(long_signed_8(low_8(n)))),
+        0x31 => Some(Slot::long(u64::from(low_8(n)))),
+        0x32 => Some(Slot::long(long_signed_16(low_16(n)))),
+        0x33 => Some(Slot::long(u64::from(low_16(n)))),
+        0x34 => Some(Slot::long(i64_extend_i32_s(i32_wrap_i64(n)))),
+        0x35 => Some(Slot::long(u64::from(i32_wrap_i64(n)))),
         _ => None,
     }
 }

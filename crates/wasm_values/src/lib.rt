@@ -7,4 +7,4 @@ mod values;
 
 pub use access::{load_value, load_width, store_width};
 pub use numeric::{Number, binary, changed, combined, is_unary, unary};
-pub use values::{bits, zero_of};
+pub use values::bits;

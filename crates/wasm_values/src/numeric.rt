@@ -11,7 +11,7 @@ use wasm_num::{
     i64_le_u, i64_lt_s, i64_lt_u, i64_mul, i64_ne, i64_or, i64_popcnt, i64_rem_s, i64_rem_u,
     i64_rotl, i64_rotr, i64_shl, i64_shr_s, i64_shr_u, i64_sub, i64_xor,
 };
-use wasm_types::{Trap, Value, operator_of};
+use wasm_types::{Slot, Trap, Value, operator_of};
 
 /// What a numeric instruction gives: a value, a trap, or nothing, where none has the opcode and takes
 /// such operands.
@@ -46,7 +46,7 @@ pub fn unary(op: u8, x: Value) -> Number
 
 /// What an instruction on two operands gives that is no division. `None` comes also for others.
 #[inline(always)]
-pub fn combined(op: u8, x: Value, y: Value) -> Option<Value>
+pub fn combined(op: u8, x: Value, y: Value) -> Option<Slot>
     ensures two { IfSome result (λ v. is_unary op ≡ false) }
     ensures value { IfSome result (λ v. Gives v ≡ binary op x y) }
 {
@@ -59,71 +59,71 @@ pub fn combined(op: u8, x: Value, y: Value) -> Option<Value>
 
 #[tactic(auto, unfolding(crate::specs::Numeric::is_unary))]
 #[inline(always)]
-fn combined_32(op: u8, x: u32, y: u32) -> Option<Value>
+fn combined_32(op: u8, x: u32, y: u32) -> Option<Slot>
     ensures two { IfSome result (λ v. is_unary op ≡ false) }
     ensures value { IfSome result (λ v. Gives v ≡ binary_32 op x y) }
 {
     match op {
-        0x46 => Some(Value::I32(i32_eq(x, y))),
-        0x47 => Some(Value::I32(i32_ne(x, y))),
-        0x48 => Some(Value::I32(i32_lt_s(x, y))),
-        0x49 => Some(Value::I32(i32_lt_u(x, y))),
-        0x4A => Some(Value::I32(i32_gt_s(x, y))),
-        0x4B => Some(Value::I32(i32_gt_u(x, y))),
-        0x4C => Some(Value::I32(i32_le_s(x, y))),
-        0x4D => Some(Value::I32(i32_le_u(x, y))),
-        0x4E => Some(Value::I32(i32_ge_s(x, y))),
-        0x4F => Some(Value::I32(i32_ge_u(x, y))),
-        0x6A => Some(Value::I32(i32_add(x, y))),
-        0x6B => Some(Value::I32(i32_sub(x, y))),
-        0x6C => Some(Value::I32(i32_mul(x, y))),
-        0x71 => Some(Value::I32(i32_and(x, y))),
-        0x72 => Some(Value::I32(i32_or(x, y))),
-        0x73 => Some(Value::I32(i32_xor(x, y))),
-        0x74 => Some(Value::I32(i32_shl(x, y))),
-        0x75 => Some(Value::I32(i32_shr_s(x, y))),
-        0x76 => Some(Value::I32(i32_shr_u(x, y))),
-        0x77 => Some(Value::I32(i32_rotl(x, y))),
-        0x78 => Some(Value::I32(i32_rotr(x, y))),
+        0x46 => Some(Slot::narrow(i32_eq(x, y))),
+        0x47 => Some(Slot::narrow(i32_ne(x, y))),
+        0x48 => Some(Slot::narrow(i32_lt_s(x, y))),
+        0x49 => Some(Slot::narrow(i32_lt_u(x, y))),
+        0x4A => Some(Slot::narrow(i32_gt_s(x, y))),
+        0x4B => Some(Slot::narrow(i32_gt_u(x, y))),
+        0x4C => Some(Slot::narrow(i32_le_s(x, y))),
+        0x4D => Some(Slot::narrow(i32_le_u(x, y))),
+        0x4E => Some(Slot::narrow(i32_ge_s(x, y))),
+        0x4F => Some(Slot::narrow(i32_ge_u(x, y))),
+        0x6A => Some(Slot::narrow(i32_add(x, y))),
+        0x6B => Some(Slot::narrow(i32_sub(x, y))),
+        0x6C => Some(Slot::narrow(i32_mul(x, y))),
+        0x71 => Some(Slot::narrow(i32_and(x, y))),
+        0x72 => Some(Slot::narrow(i32_or(x, y))),
+        0x73 => Some(Slot::narrow(i32_xor(x, y))),
+        0x74 => Some(Slot::narrow(i32_shl(x, y))),
+        0x75 => Some(Slot::narrow(i32_shr_s(x, y))),
+        0x76 => Some(Slot::narrow(i32_shr_u(x, y))),
+        0x77 => Some(Slot::narrow(i32_rotl(x, y))),
+        0x78 => Some(Slot::narrow(i32_rotr(x, y))),
         _ => None,
     }
 }
 
 #[tactic(auto, unfolding(crate::specs::Numeric::is_unary))]
 #[inline(always)]
-fn combined_64(op: u8, x: u64, y: u64) -> Option<Value>
+fn combined_64(op: u8, x: u64, y: u64) -> Option<Slot>
     ensures two { IfSome result (λ v. is_unary op ≡ false) }
     ensures value { IfSome result (λ v. Gives v ≡ binary_64 op x y) }
 {
     match op {
-        0x51 => Some(Value::I32(i64_eq(x, y))),
-        0x52 => Some(Value::I32(i64_ne(x, y))),
-        0x53 => Some(Value::I32(i64_lt_s(x, y))),
-        0x54 => Some(Value::I32(i64_lt_u(x, y))),
-        0x55 => Some(Value::I32(i64_gt_s(x, y))),
-        0x56 => Some(Value::I32(i64_gt_u(x, y))),
-        0x57 => Some(Value::I32(i64_le_s(x, y))),
-        0x58 => Some(Value::I32(i64_le_u(x, y))),
-        0x59 => Some(Value::I32(i64_ge_s(x, y))),
-        0x5A => Some(Value::I32(i64_ge_u(x, y))),
-        0x7C => Some(Value::I64(i64_add(x, y))),
-        0x7D => Some(Value::I64(i64_sub(x, y))),
-        0x7E => Some(Value::I64(i64_mul(x, y))),
-        0x83 => Some(Value::I64(i64_and(x, y))),
-        0x84 => Some(Value::I64(i64_or(x, y))),
-        0x85 => Some(Value::I64(i64_xor(x, y))),
-        0x86 => Some(Value::I64(i64_shl(x, y))),
-        0x87 => Some(Value::I64(i64_shr_s(x, y))),
-        0x88 => Some(Value::I64(i64_shr_u(x, y))),
-        0x89 => Some(Value::I64(i64_rotl(x, y))),
-        0x8A => Some(Value::I64(i64_rotr(x, y))),
+        0x51 => Some(Slot::narrow(i64_eq(x, y))),
+        0x52 => Some(Slot::narrow(i64_ne(x, y))),
+        0x53 => Some(Slot::narrow(i64_lt_s(x, y))),
+        0x54 => Some(Slot::narrow(i64_lt_u(x, y))),
+        0x55 => Some(Slot::narrow(i64_gt_s(x, y))),
+        0x56 => Some(Slot::narrow(i64_gt_u(x, y))),
+        0x57 => Some(Slot::narrow(i64_le_s(x, y))),
+        0x58 => Some(Slot::narrow(i64_le_u(x, y))),
+        0x59 => Some(Slot::narrow(i64_ge_s(x, y))),
+        0x5A => Some(Slot::narrow(i64_ge_u(x, y))),
+        0x7C => Some(Slot::long(i64_add(x, y))),
+        0x7D => Some(Slot::long(i64_sub(x, y))),
+        0x7E => Some(Slot::long(i64_mul(x, y))),
+        0x83 => Some(Slot::long(i64_and(x, y))),
+        0x84 => Some(Slot::long(i64_or(x, y))),
+        0x85 => Some(Slot::long(i64_xor(x, y))),
+        0x86 => Some(Slot::long(i64_shl(x, y))),
+        0x87 => Some(Slot::long(i64_shr_s(x, y))),
+        0x88 => Some(Slot::long(i64_shr_u(x, y))),
+        0x89 => Some(Slot::long(i64_rotl(x, y))),
+        0x8A => Some(Slot::long(i64_rotr(x, y))),
         _ => None,
     }
 }
 
 /// What an instruction on one operand gives. `None` comes also for others.
 #[inline(always)]
-pub fn changed(op: u8, x: Value) -> Option<Value>
+pub fn changed(op: u8, x: Value) -> Option<Slot>
     ensures one { IfSome result (λ v. is_unary op ≡ true) }
     ensures value { IfSome result (λ v. Gives v ≡ unary op x) }
 {
@@ -135,33 +135,33 @@ pub fn changed(op: u8, x: Value) -> Option<Value>
 
 #[tactic(auto, unfolding(crate::specs::Numeric::is_unary))]
 #[inline(always)]
-fn changed_32(op: u8, x: u32) -> Option<Value>
+fn changed_32(op: u8, x: u32) -> Option<Slot>
     ensures one { IfSome result (λ v. is_unary op ≡ true) }
     ensures value { IfSome result (λ v. Gives v ≡ unary_32 op x) }
 {
     match op {
-        0x45 => Some(Value::I32(i32_eqz(x))),
-        0x67 => Some(Value::I32(i32_clz(x))),
-        0x68 => Some(Value::I32(i32_ctz(x))),
-        0x69 => Some(Value::I32(i32_popcnt(x))),
-        0xAC => Some(Value::I64(i64_extend_i32_s(x))),
-        0xAD => Some(Value::I64(i64_extend_i32_u(x))),
+        0x45 => Some(Slot::narrow(i32_eqz(x))),
+        0x67 => Some(Slot::narrow(i32_clz(x))),
+        0x68 => Some(Slot::narrow(i32_ctz(x))),
+        0x69 => Some(Slot::narrow(i32_popcnt(x))),
+        0xAC => Some(Slot::long(i64_extend_i32_s(x))),
+        0xAD => Some(Slot::long(i64_extend_i32_u(x))),
         _ => None,
     }
 }
 
 #[tactic(auto, unfolding(crate::specs::Numeric::is_unary))]
 #[inline(always)]
-fn changed_64(op: u8, x: u64) -> Option<Value>
+fn changed_64(op: u8, x: u64) -> Option<Slot>
     ensures one { IfSome result (λ v. is_unary op ≡ true) }
     ensures value { IfSome result (λ v. Gives v ≡ unary_64 op x) }
 {
     match op {
-        0x50 => Some(Value::I32(i64_eqz(x))),
-        0x79 => Some(Value::I64(i64_clz(x))),
-        0x7A => Some(Value::I64(i64_ctz(x))),
-        0x7B => Some(Value::I64(i64_popcnt(x))),
-        0xA7 => Some(Value::I32(i32_wrap_i64(x))),
+        0x50 => Some(Slot::narrow(i64_eqz(x))),
+        0x79 => Some(Slot::long(i64_clz(x))),
+        0x7A => Some(Slot::long(i64_ctz(x))),
+        0x7B => Some(Slot::long(i64_popcnt(x))),
+        0xA7 => Some(Slot::narrow(i32_wrap_i64(x))),
         _ => None,
     }
 }

@@ -5,5 +5,4 @@ use Rattle.wasm_types.proofs.valid.filled_locals.Given as goal
 
 abbrev pub invariant-loop-function : goal.invariant-loop-function
 invariant-loop-function l =
-    map (λ runs. runs.items) l.all.items ++ map (λ (f : Func). filled f.locals) (map func (drop l.function-index l.«module».funcs.items))
-    ≡ filled_locals (module_of l.«module»)
+    l.all.items ++ map (λ (f : Func). filled f.locals) (map func (drop l.function-index l.«module».funcs.items)) ≡ filled_locals (module_of l.«module»)

@@ -1,99 +1,96 @@
-use Rattle.std.proofs.Common.{◌≡◌, suc, ◌-◌, sym, ap, ◌∙◌, arith}
-use Rattle.wasm_types.specs.Code.{tree}
-use Rattle.wasm_store.specs.Store.{Store}
+use Rattle.std.proofs.Common.{◌≡◌, Some, sym, ap, ◌∙◌, refl, arith}
+use Rattle.wasm_types.specs.Code.{tree, trees}
 use Rattle.wasm_step.specs.Answer.{after_of, halt_of, way_of}
-use Rattle.wasm_step.specs.Burst.{burst}
+use Rattle.wasm_step.specs.Burst.{burst, settle, spent}
 use Rattle.wasm_step.specs.Limits.{Within}
-use Rattle.wasm_step.specs.Reduce.{Both, Goes, instr_row, limited}
-use Rattle.wasm_step.specs.Thread.{depth}
+use Rattle.wasm_step.specs.Reduce.{Goes, instr_row, reduce, return_from}
+use Rattle.wasm_step.specs.Thread.{Thread, depth}
 use Rattle.wasm_step.proofs.Ends.{ended_within}
-use Rattle.wasm_step.proofs.LevelEnds.{depth_within, end_same, fewer_left}
-use Rattle.wasm_step.proofs.SameModule.{keeps_module}
-use Rattle.wasm_step.proofs.InPlace.{limited_within, step_by}
-use Rattle.wasm_step.proofs.Runs.{burst_ended, burst_spent, step_on, step_stop, way_halts}
+use Rattle.wasm_step.proofs.LevelEnds.{depth_within, fewer_left}
+use Rattle.wasm_step.proofs.InPlace.{limited_within}
+use Rattle.wasm_step.proofs.Runs.{burst_spent, way_halts}
+use Rattle.wasm_step.specs.declared.halt.Way.{Way}
+use Rattle.wasm_step.proofs.Todo.{closing, ends, ends_here, full_goes, full_stops, returning, row_goes, row_stops}
 use Rattle.wasm_step.proofs.stack.Stack.burst.Goals as goal
 
-pub steps-preserved-in-Goes : goal.steps-preserved-in-Goes
-steps-preserved-in-Goes c =
+pub steps-preserved-then-close : goal.steps-preserved-then-close
+steps-preserved-then-close c =
     let t = c.steps.self in
-    let u = c.end.new.self in
-    let goes = ap (λ w. way_of w u) (sym c.in-Goes.is) ∙ c.end.ensures in record {
-      same = sym (end_same t u (sym c.is_at_end.ensures ∙ c.if-is_at_end.true) goes c.steps.left c.steps.store) ∙ c.steps.invariant.same;
+    let u = c.close.new.self in
+    let goes = closing t u c.if-close.ensures.closed in record {
+      same = sym (ends c.steps.todo.now t c.in_default-todo.len_below c.todo-todo-then-close.result.now u goes c.todo-todo-then-close.ensures c.steps.left c.steps.store) ∙ c.steps.invariant.same;
       within = ended_within t c.steps.invariant.within u (sym goes);
       same_module = c.steps.invariant.same_module;
     }
 
-pub returns-in_default-end : goal.returns-in_default-end
-returns-in_default-end c =
+pub steps-preserved-in-Goes : goal.steps-preserved-in-Goes
+steps-preserved-in-Goes c =
     let t = c.steps.self in
-    let stops = sym c.end.ensures ∙ way_halts c.end.result c.next.result c.end.new.self (c.next.ensures c.end.new.self) c.in_default-end.not-Goes in
-    sym (burst_ended c.steps.left t c.steps.store _ (sym c.is_at_end.ensures ∙ c.if-is_at_end.true) stops) ∙ c.steps.invariant.same
-
-pub steps-smaller-then-branch : goal.steps-smaller-then-branch
-steps-smaller-then-branch c =
-    fewer_left c.steps.left (depth c.row_in_place.new.self) (depth c.steps.self) c.steps-test.true (depth_within c.row_in_place.new.self c.in_ok-row_in_place.ensures.within)
-
-pub steps-preserved-then-branch : goal.steps-preserved-then-branch
-steps-preserved-then-branch c =
-    let t = c.steps.self in
-    let v = c.fetch.new.self in
-    let i = tree c.in-Some.instr.now in
-    let g = c.steps.store in
-    let goes = c.in_ok-row_in_place.ensures.goes c.if-branch.true in
-    let left : c.steps.left ≡ suc (c.steps.left - 1) = omega (arith, c.steps-test.true) in record {
-      same = sym (ap (λ n. burst n t g) left ∙ step_by t v c.row_in_place.new.self i g c.row_in_place.new.store c.in-Some.ensures.some goes c.in_ok-row_in_place.ensures.within (c.steps.left - 1)) ∙ c.steps.invariant.same;
-      within = c.in_ok-row_in_place.ensures.within;
-      same_module = c.steps.invariant.same_module ∙ sym (keeps_module i v g) ∙ ap (λ (b : Both). b.store.«module») goes;
+    let u = c.return_from.new.self in
+    let goes = returning t (Goes u) c.if-close.ensures.closed (c.in-Goes.ensures ∙ ap return_from (c.if-close.ensures.same refl)) in record {
+      same = sym (ends c.steps.todo.now t c.in_default-todo.len_below c.todo-todo-in-Goes.result.now u goes c.todo-todo-in-Goes.ensures c.steps.left c.steps.store) ∙ c.steps.invariant.same;
+      within = ended_within t c.steps.invariant.within u (sym goes);
+      same_module = c.steps.invariant.same_module;
     }
 
-module _ (c : goal.In-Going-2) where
-  goes : Goes c.full_row.new.self ≡ limited (instr_row (tree c.in-Some.instr.now) c.row_in_place.new.self c.row_in_place.new.store).after
-  goes = ap (λ n. after_of n c.full_row.new.self) (sym c.in-Going-2.is) ∙ c.in_ok-halted-2.ensures.after
+pub returns-in_default-return_from : goal.returns-in_default-return_from
+returns-in_default-return_from c =
+    let t = c.steps.self in
+    let u = c.return_from.new.self in
+    let goes = returning t (way_of c.return_from.result u) c.if-close.ensures.closed (c.return_from.ensures ∙ ap return_from (c.if-close.ensures.same refl)) in
+    let stops = sym goes ∙ way_halts c.return_from.result c.next.result u u (c.next.ensures u) c.in_default-return_from.not-Goes in
+    sym (ends_here c.steps.todo.now t c.in_default-todo.len_below c.steps.left c.steps.store _ stops) ∙ c.steps.invariant.same
 
-  within : Within c.full_row.new.self
-  within = limited_within (instr_row (tree c.in-Some.instr.now) c.row_in_place.new.self c.row_in_place.new.store).after c.full_row.new.self (sym goes)
+pub steps-smaller-in-Goes-way : goal.steps-smaller-in-Goes-way
+steps-smaller-in-Goes-way c =
+    let within = c.in_ok-way.ensures.within (c.in-Some.is ∙ ap (λ (w : Way). Some w) c.in-Goes-way.is) in
+    fewer_left c.steps.left (depth c.row.new.self) (depth c.steps.self) c.steps-test.true (depth_within c.row.new.self within)
+
+pub steps-preserved-in-Goes-way : goal.steps-preserved-in-Goes-way
+steps-preserved-in-Goes-way c =
+    let within = c.in_ok-way.ensures.within (c.in-Some.is ∙ ap (λ (w : Way). Some w) c.in-Goes-way.is) in
+    let on = row_goes c.steps.todo.now c.instr-item.result c.steps.self c.in-len1-up.len_at_least c.instr-item.is c.steps.left c.steps-test.true c.steps.store c.in_ok-way.field-0 c.in-Some.way c.row.new.self (trees c.row.new.todo.now) c.row.new.store c.in-Some.is c.in_ok-way.ensures.done c.in-Goes-way.is within in record {
+      same = sym on.0 ∙ c.steps.invariant.same;
+      within = within;
+      same_module = c.steps.invariant.same_module ∙ on.1;
+    }
+
+pub returns-in_default-way : goal.returns-in_default-way
+returns-in_default-way c =
+    let next = c.next-in_default-way in
+    sym (row_stops c.steps.todo.now c.instr-item.result c.steps.self c.in-len1-up.len_at_least c.instr-item.is c.steps.left c.steps-test.true c.steps.store c.in_ok-way.field-0 c.in-Some.way c.row.new.self (trees c.row.new.todo.now) c.row.new.store c.in-Some.is c.in_ok-way.ensures.done next.result (next.ensures c.row.new.self) c.in_default-way.not-Goes)
+    ∙ c.steps.invariant.same
+
+pub returns-in_default-3 : goal.returns-in_default-3
+returns-in_default-3 c =
+    sym (full_stops c.steps.todo.now c.instr-item.result c.steps.self c.in-len1-up.len_at_least c.instr-item.is c.steps.left c.steps-test.true c.steps.store c.in_ok-way.field-0 c.row.new.self c.go_to.new.self c.step.new.self (trees c.row.new.todo.now) c.row.new.store c.step.new.store c.in_default-2.is c.in_ok-way.ensures.same c.in_ok-way.ensures.store c.go_to.ensures c.in_ok-halted-2.ensures.store c.in_ok-halted-2.halted c.in_ok-halted-2.ensures.after c.in_default-3.not-Going)
+    ∙ c.steps.invariant.same
+
+module _ (c : goal.After-todo-todo-in-steps) where
+  goes : Goes c.step.new.self ≡ (reduce (tree c.instr-item.result) c.go_to.new.self c.row.new.store).after
+  goes = ap (λ n. after_of n c.step.new.self) (sym c.in-Going-2.is) ∙ c.in_ok-halted-2.ensures.after
+
+  within : Within c.step.new.self
+  within = limited_within (instr_row (tree c.instr-item.result) c.go_to.new.self c.row.new.store).after c.step.new.self (sym goes)
 
 pub steps-smaller : goal.steps-smaller
 steps-smaller c =
-    fewer_left c.steps.left (depth c.full_row.new.self) (depth c.steps.self) c.steps-test.true (depth_within c.full_row.new.self (within c))
+    fewer_left c.steps.left (depth c.step.new.self) (depth c.steps.self) c.steps-test.true (depth_within c.step.new.self (within c))
 
 pub steps-preserved : goal.steps-preserved
 steps-preserved c =
-    let t = c.steps.self in
-    let v = c.fetch.new.self in
-    let i = tree c.in-Some.instr.now in
-    let g = c.steps.store in
-    let went = c.in_ok-row_in_place.ensures in
-    let left : c.steps.left ≡ suc (c.steps.left - 1) = omega (arith, c.steps-test.true) in record {
-      same =
-          sym (
-          ap (λ n. burst n t g) left
-          ∙ step_on t v c.row_in_place.new.self c.full_row.new.self g c.row_in_place.new.store c.full_row.new.store i c.in-Some.ensures.some (went.same c.if-branch.false) (went.store c.if-branch.false) c.in_ok-halted-2.ensures.store (c.steps.left - 1) (goes c))
-          ∙ c.steps.invariant.same;
+    let todo = c.todo-todo-in-steps in
+    let on = full_goes c.steps.todo.now c.instr-item.result c.steps.self c.in-len1-up.len_at_least c.instr-item.is c.steps.left c.steps-test.true c.steps.store c.in_ok-way.field-0 c.row.new.self c.go_to.new.self c.step.new.self (trees c.row.new.todo.now) c.row.new.store c.step.new.store c.in_default-2.is c.in_ok-way.ensures.same c.in_ok-way.ensures.store c.go_to.ensures c.in_ok-halted-2.ensures.store (trees todo.result.now) todo.ensures (goes c) in record {
+      same = sym on.0 ∙ c.steps.invariant.same;
       within = within c;
-      same_module =
-          c.steps.invariant.same_module
-          ∙ ap (λ (h : Store). h.«module») (sym (went.store c.if-branch.false))
-          ∙ sym (keeps_module i c.row_in_place.new.self c.row_in_place.new.store)
-          ∙ ap (λ (h : Store). h.«module») (sym c.in_ok-halted-2.ensures.store);
+      same_module = c.steps.invariant.same_module ∙ on.1;
     }
-
-pub returns-in_default-2 : goal.returns-in_default-2
-returns-in_default-2 c =
-    let t = c.steps.self in
-    let v = c.fetch.new.self in
-    let i = tree c.in-Some.instr.now in
-    let g = c.steps.store in
-    let went = c.in_ok-row_in_place.ensures in
-    let left : c.steps.left ≡ suc (c.steps.left - 1) = omega (arith, c.steps-test.true) in
-    sym (
-    ap (λ n. burst n t g) left
-    ∙ step_stop t v c.row_in_place.new.self c.full_row.new.self g c.row_in_place.new.store c.full_row.new.store i c.in-Some.ensures.some (went.same c.if-branch.false) (went.store c.if-branch.false) c.in_ok-halted-2.ensures.store (c.steps.left - 1) c.in_ok-halted-2.halted c.in_ok-halted-2.ensures.after c.in_default-2.not-Going)
-    ∙ c.steps.invariant.same
 
 pub returns : goal.returns
 returns c =
-    let t = c.steps.self in
+    let t = record c.steps.self { todo = trees c.steps.todo.now } in
     let g = c.steps.store in
     let none : c.steps.left ≡ 0 = omega (arith, c.steps-test.false) in
-    sym (ap (λ k. burst k t g) none ∙ burst_spent t g (halt_of (after_of c.spend.result c.spend.new.self)) c.spend.ensures) ∙ c.steps.invariant.same
+    let stop = halt_of (after_of c.spend.result c.spend.new.self) in
+    let stops = c.spend.ensures ∙ ap (λ (t : Thread). spent (settle t)) c.go_to-2.ensures in
+    sym (ap (λ k. burst k t g) none ∙ burst_spent t g stop stops) ∙ c.steps.invariant.same

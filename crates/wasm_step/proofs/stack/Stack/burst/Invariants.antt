@@ -1,4 +1,5 @@
 use Rattle.std.proofs.Common.{◌≡◌, ◌+◌, ◌*◌}
+use Rattle.wasm_types.specs.Code.{trees}
 use Rattle.wasm_types.specs.Modules.{module_of}
 use Rattle.wasm_step.specs.Burst.{burst}
 use Rattle.wasm_step.specs.Limits.{Within}
@@ -7,7 +8,7 @@ use Rattle.wasm_step.proofs.stack.Stack.burst.Given as goal
 
 abbrev pub invariant-steps : goal.invariant-steps
 invariant-steps l = record {
-  same : burst l.left l.self l.store ≡ burst 10000000 l.fn.self l.fn.store;
+  same : burst l.left (record l.self { todo = trees l.todo }) l.store ≡ burst 10000000 l.fn.self l.fn.store;
   within : Within l.self;
   same_module : module_of l.«module» ≡ l.store.«module»;
 }

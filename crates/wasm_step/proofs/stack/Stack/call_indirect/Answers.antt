@@ -9,7 +9,7 @@ use Rattle.wasm_step.proofs.stack.Stack.call_indirect.Goals as goal
 pub returns-in-Some-I32 : goal.returns-in-Some-I32
 returns-in-Some-I32 c =
     let g = c.args.store.now in
-    let t : c.args.self.now ≡ with_operand c.pop.new.self (I32 c.in-Some-I32.i) = search (rules, c.in-Some-I32.ensures.some, c.in-Some-I32.field-0-is, c.in-Some-I32.i-is) in
+    let t : c.args.self.now ≡ with_operand c.pop.new.self (I32 c.in-Some-I32.i) = search (rules, c.in-Some-I32.ensures.some, c.in-Some-I32.field-0-is) in
     let same =
     ap (λ e. limited (call_element g.«module» c.args.type_index e c.pop.new.self)) c.element.ensures
     ∙ ap (λ (t : Thread). limited (call_indirect c.args.type_index g t)) (sym t)

@@ -18,7 +18,7 @@ push_reserved-requires c =
     let s = c.self.inside in
     omega (arith, some_operand s c.args.self.now c.self.view_is c.requires, floor_low s c.self.invariant, s.operands.ok.0, s.operands.ok.1, c.truncate.ensures.len, c.truncate.ensures.capacity)
 
-module _ (c : goal.After-self-1) where
+module _ (c : goal.After-truncate-in-Some-2) where
   abbrev below : Inside
   below = record c.self.inside { here = c.in-Some.held; operands = c.truncate.new.self; labels = c.truncate-in-Some.new.self; locals = c.truncate-in-Some-2.new.self; callers = c.pop.new.self }
 

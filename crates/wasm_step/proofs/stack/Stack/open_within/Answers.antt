@@ -5,7 +5,7 @@ use Rattle.wasm_step.specs.declared.stack.Label.{Label}
 use Rattle.wasm_step.specs.Limits.{Within}
 use Rattle.wasm_step.specs.View.{entered_by, opened_by}
 use Rattle.wasm_step.specs.Thread.{Thread, size_of_thread}
-use Rattle.wasm_step.proofs.LevelEnds.{within_opened}
+use Rattle.wasm_step.proofs.LevelEnds.{within_elsewhere, within_opened}
 use Rattle.wasm_step.proofs.Views.{opened_view, size_view}
 use Rattle.wasm_step.proofs.stack.Stack.open_within.Goals as goal
 
@@ -13,10 +13,12 @@ pub returns-clause-within : goal.returns-clause-within
 returns-clause-within c =
     let s = c.self.inside in
     let t = c.args.self.now in
-    let o = opened_by (tree c.args.opener.now) t.todo in
+    let rest = trees c.args.todo.now in
+    let o = opened_by (tree c.args.opener.now) rest in
     let whole = ap size_of_thread (sym c.self.view_is) ∙ size_view s c.self.invariant in
     let fewer : size_of_thread t < 16384 = omega (arith, whole, c.len.ensures, s.operands.ok.0, c.self.invariant.room.limit) in
     let now : Held = record s.here { todo = c.args.body; floor = c.len-self-inside.result } in
-    let label : Label = record { opener = c.args.opener; todo = s.here.todo; floor = s.here.floor } in
-    let view = opened_view s now c.push_reserved.new.self label c.self.invariant (c.len-self-inside.ensures ∙ s.operands.ok.0) refl c.push_reserved.ensures.items refl (s.room - 1) in
-    subst (λ (t : Thread). Within t) (sym (view ∙ ap (λ t. entered_by (tree c.args.opener.now) (trees c.args.body.now) t) c.self.view_is)) (within_opened t o.gives (trees c.args.body.now) o.target o.carries o.loops c.requires fewer)
+    let label : Label = record { opener = c.args.opener; todo = c.args.todo; floor = s.here.floor } in
+    let view = opened_view s now c.push_reserved.new.self label c.self.invariant (c.len-self-inside.ensures ∙ s.operands.ok.0) refl c.push_reserved.ensures.items (s.room - 1) in
+    subst (λ (t : Thread). Within t) (sym (view ∙ ap (λ (t : Thread). entered_by (tree c.args.opener.now) (trees c.args.body.now) (record t { todo = rest })) c.self.view_is))
+    (within_opened (record t { todo = rest }) o.gives (trees c.args.body.now) o.target o.carries o.loops (within_elsewhere t rest c.requires) fewer)

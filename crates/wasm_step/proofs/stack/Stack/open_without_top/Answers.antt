@@ -7,7 +7,7 @@ use Rattle.wasm_step.specs.Limits.{Within}
 use Rattle.wasm_step.specs.View.{entered_by, IsStack, opened_by, thread_of}
 use Rattle.wasm_step.specs.Thread.{Thread, size_of_thread, without}
 use Rattle.wasm_step.proofs.Accesses.{within_without}
-use Rattle.wasm_step.proofs.LevelEnds.{within_opened}
+use Rattle.wasm_step.proofs.LevelEnds.{within_elsewhere, within_opened}
 use Rattle.wasm_step.proofs.Views.{IsSound-operands, keeps_without, opened_sound, opened_view, without_view}
 use Rattle.wasm_step.proofs.stack.Stack.open_without_top.Goals as goal
 
@@ -45,16 +45,17 @@ module _ (c : goal.After-self-2-1) where
   unfolding now less
   top = omega (arith, height, ap length kept, length-take-le (length c.self.inside.operands.items - 1) c.self.inside.operands.items (omega arith))
 
-  view : thread_of (record less { here = record less.here { todo = now.todo; floor = now.floor }; labels = c.push_reserved.new.self; room = c.self.inside.room - 1 }) ≡ entered_by (tree c.args.opener.now) (trees c.args.body.now) (without 1 c.args.self.now)
+  view : thread_of (record less { here = record less.here { todo = now.todo; floor = now.floor }; labels = c.push_reserved.new.self; room = c.self.inside.room - 1 })
+      ≡ entered_by (tree c.args.opener.now) (trees c.args.body.now) (without 1 (record c.args.self.now { todo = trees c.args.todo.now }))
   unfolding now less
   view =
-      opened_view less now c.push_reserved.new.self (record { opener = c.args.opener; todo = c.self.inside.here.todo; floor = c.self.inside.here.floor }) less_sound top refl c.push_reserved.ensures.items refl (c.self.inside.room - 1)
-      ∙ ap (entered_by (tree c.args.opener.now) (trees c.args.body.now)) less_view
+      opened_view less now c.push_reserved.new.self (record { opener = c.args.opener; todo = c.args.todo; floor = c.self.inside.here.floor }) less_sound top refl c.push_reserved.ensures.items (c.self.inside.room - 1)
+      ∙ ap (λ (t : Thread). entered_by (tree c.args.opener.now) (trees c.args.body.now) (record t { todo = trees c.args.todo.now })) less_view
 
 pub invariant_of-self : goal.invariant_of-self
 unfolding now less
 invariant_of-self c =
-    opened_sound (less c) (now c) c.push_reserved.new.self (record { opener = c.args.opener; todo = c.self.inside.here.todo; floor = c.self.inside.here.floor }) (less_sound c) (top c) refl c.push_reserved.ensures.items (c.self.inside.room - 1) (omega arith)
+    opened_sound (less c) (now c) c.push_reserved.new.self (record { opener = c.args.opener; todo = c.args.todo; floor = c.self.inside.here.floor }) (less_sound c) (top c) refl c.push_reserved.ensures.items (c.self.inside.room - 1) (omega arith)
 
 pub returns-clause-opened : goal.returns-clause-opened
 unfolding now less
@@ -63,7 +64,8 @@ returns-clause-opened c = λ _. view c
 pub returns-clause-within : goal.returns-clause-within
 unfolding now less
 returns-clause-within c =
-    let t = without 1 c.args.self.now in
-    let o = opened_by (tree c.args.opener.now) t.todo in
+    let rest = trees c.args.todo.now in
+    let t = record (without 1 c.args.self.now) { todo = rest } in
+    let o = opened_by (tree c.args.opener.now) rest in
     let fewer : size_of_thread t < 16384 = omega (arith, c.requires.within.size, c.requires.some, length-drop 1 c.args.self.now.stack) in
-    subst (λ (t : Thread). Within t) (sym (view c)) (within_opened t o.gives (trees c.args.body.now) o.target o.carries o.loops (within_without 1 c.args.self.now c.requires.within) fewer)
+    subst (λ (t : Thread). Within t) (sym (view c)) (within_opened t o.gives (trees c.args.body.now) o.target o.carries o.loops (within_elsewhere (without 1 c.args.self.now) rest (within_without 1 c.args.self.now c.requires.within)) fewer)

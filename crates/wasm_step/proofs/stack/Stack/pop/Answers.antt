@@ -1,4 +1,6 @@
-use Rattle.std.proofs.Common.{sym, ◌∙◌, arith}
+use Rattle.std.proofs.Common.{sym, ap, ◌∙◌, arith}
+use Rattle.wasm_step.specs.Thread.{with_operand}
+use Rattle.wasm_step.specs.View.{thread_of}
 use Rattle.wasm_step.proofs.Views.{IsSound-operands, keeps_popped, popped_view}
 use Rattle.wasm_step.proofs.stack.Stack.pop.Goals as goal
 
@@ -10,3 +12,4 @@ pub returns-clause-some : goal.returns-clause-some
 returns-clause-some c =
     sym c.self.view_is
     ∙ popped_view c.self.inside c.pop.new.self c.in-Some.v c.self.invariant (omega (arith, c.self.inside.operands.ok.0)) c.in-Some.ensures.items
+    ∙ ap (λ v. with_operand (thread_of (record c.self.inside { operands = c.pop.new.self })) v) (sym c.value.ensures)

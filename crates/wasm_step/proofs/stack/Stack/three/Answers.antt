@@ -26,4 +26,5 @@ returns-clause-some c =
     let third = at 2 (height - 3) x (omega arith) (omega arith) c.index.ensures in
     let second = at 1 (height - 2) y (omega arith) (omega arith) c.index-2.ensures in
     let first = at 0 (height - 1) z (omega arith) (omega arith) c.index-3.ensures in
-    subst (λ (t : Thread). t.stack ≡ z ∷ (y ∷ (x ∷ drop 3 t.stack))) c.self.view_is (first ∙ ap (λ o. z ∷ o) (second ∙ ap (λ o. y ∷ o) third))
+    let read = subst (λ (t : Thread). t.stack ≡ z ∷ (y ∷ (x ∷ drop 3 t.stack))) c.self.view_is (first ∙ ap (λ o. z ∷ o) (second ∙ ap (λ o. y ∷ o) third)) in
+    rw (c.value.ensures, c.value-2.ensures, c.value-3.ensures) read

@@ -3,7 +3,7 @@ use Rattle.std.proofs.Common.{◌≡◌, ℕ, ◌+◌, ◌<◌, ◌≤◌, List,
 use Rattle.std.proofs.lemmas.List.{take_more, take-append-drop, length-replicate}
 use Rattle.wasm_types.specs.declared.code.ValType.{ValType}
 use Rattle.wasm_types.specs.declared.code.ValType.TheVariants.{I32}
-use Rattle.wasm_values.specs.Values.{zeros, zero_of}
+use Rattle.wasm_types.specs.Locals.{zero_of, zeros}
 
 -- the locals of two declarations, one after the other
 zeros-append : (a b : List (ℕ × ValType)) → zeros (a ++ b) ≡ zeros a ++ zeros b
@@ -12,7 +12,8 @@ zeros-append (d ∷ a) b =
     ap (λ o. replicate d.0 (zero_of d.1) ++ o) (zeros-append a b) ∙ sym (append_assoc (replicate d.0 (zero_of d.1)) (zeros a) (zeros b))
 
 -- one more declaration
-pub zeros_more : (ds : List (ℕ × ValType)) (k : ℕ) → k < length ds → let d = get_or ds k (0, I32) in zeros (take (k + 1) ds) ≡ zeros (take k ds) ++ replicate d.0 (zero_of d.1)
+pub zeros_more : (ds : List (ℕ × ValType)) (k : ℕ) → k < length ds →
+    let d = get_or ds k (0, I32) in zeros (take (k + 1) ds) ≡ zeros (take k ds) ++ replicate d.0 (zero_of d.1)
 zeros_more ds k lt =
     let d = get_or ds k (0, I32) in
     ap zeros (take_more ds k (0, I32) lt)
@@ -30,5 +31,7 @@ zeros_count ds k lt =
 -- no fewer than of a part of the declarations
 pub zeros_part : (ds : List (ℕ × ValType)) (k : ℕ) → length (zeros (take k ds)) ≤ length (zeros ds)
 zeros_part ds k =
-    let whole = ap (λ xs. length (zeros xs)) (sym (take-append-drop k ds)) ∙ ap length (zeros-append (take k ds) (drop k ds)) ∙ length-append (zeros (take k ds)) (zeros (drop k ds)) in
-    omega (arith, whole)
+    let first = take k ds in
+    let rest = drop k ds in
+    let whole : zeros ds ≡ zeros first ++ zeros rest = ap zeros (sym (take-append-drop k ds)) ∙ zeros-append first rest in
+    omega (arith, ap length whole ∙ length-append (zeros first) (zeros rest))
