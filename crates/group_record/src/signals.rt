@@ -35,7 +35,7 @@ fn ends_process(call: &Call) -> bool
     matches!(Kind::from_number(call.kind), Some(Kind::Exit))
 }
 
-// The lowest signal that is pending and has a handler after the answer, or 0. At most events none is pending.
+// The lowest signal that is pending and has a handler after the answer, or 0. At nearly all events none is pending.
 fn lowest_ready(process: &Process<'_>, thread: u16, world: &World, p: u32) -> u8
     requires { p < process_count world.now }
     ensures { (a : Answer) → result ≡ lowest (is_ready_of process.now thread a (has_pending world.now p)) 31 1 }

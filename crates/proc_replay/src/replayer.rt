@@ -39,6 +39,7 @@ impl<'m, 'a> Replayer<'m, 'a> {
         requires fresh { process.events ≡ 0 }
         ensures { result ≡ record { head = log.entry.head; state = process.entry; left = log.entry.left } }
     {
+        // The proof needs that what is left is a slice, and so shorter than 2 ^ 63 bytes.
         let _ = log.rest().len();
         Replayer { process, log }
     }
