@@ -2,7 +2,8 @@
 # Runs guests that compute, and prints how many instructions `friday record` runs in a second, beside
 # wasm-interp of the package wabt on the same guests, and how many of the machine's instructions one of the
 # guest takes, by valgrind. Each guest yields after 9 to 10 million instructions,
-# 4 times; and, to see that a burst is linear, after a tenth of them, 40 times. Then a guest that notes in a
+# 4 times; and, to see that a burst is linear, after a tenth of them, 40 times. Then a guest calls a function
+# with 4,096 locals for a burst: what each of them takes. Then a guest that notes in a
 # loop is recorded and replayed at 10,000 and at 1,000,000 events: the time of an event, and the peak memory
 # beside the log; and two programs in C, built by clang at -O2: a sort of 100,000 numbers and the SHA-256 of
 # 1 MB, for which no step of the interpreter was chosen. Their instructions are counted in wasm-interp's
@@ -92,6 +93,18 @@ COMPUTES = """(module (import "liblog" "yield" (func $yield)) %s
       call $yield
       local.get $n i32.const 1 i32.sub local.tee $n br_if 0
     end))"""
+
+# How a called function declares 4,096 locals.
+DECLARED = {
+    "one run": "i64 " * 4096,
+    "two types in turn": "i32 i64 " * 2048,
+    "runs of 1 to 3": "i32 i64 i64 i32 i32 i32 i64 i32 " * 512,
+}
+
+CALLED = """(module (import "liblog" "yield" (func $yield)) (func $called (local %s))
+  (func (export "_start") (local $i i32)
+    i32.const %d local.set $i
+    loop call $called %s end))"""
 
 # The programs in C, with the size of the guest and the sizes of two small ones, by which they are counted.
 PROGRAMS = {"sort": (100000, (2000, 4000)), "sha256": (16384, (20, 40))}
@@ -193,6 +206,14 @@ with tempfile.TemporaryDirectory() as folder:
             theirs = count / (measure(interp, folder)[0] - start_of_interp)
             print(" %14.1f %10.2f" % (theirs, rates[1] / theirs), end="")
         print()
+    print("%-18s %14s %14s" % ("declared locals", "counted each", "s a burst"))
+    for name, declared in DECLARED.items():
+        schedule(folder, 2)
+        ends = (100, 400)
+        counts = counted(record, folder, lambda n: build(folder, CALLED % (declared, n, COUNT)), ends)
+        build(folder, CALLED % (declared, 1660000, COUNT))
+        spent = measure(record, folder, "finished")[0] - start
+        print("%-18s %14s %14.2f" % (name, per_instruction(counts, (ends[1] - ends[0]) * 4096), spent))
     print("%-16s %14s %14s %14s %10s" % ("programs", "s to record", "counted", "s wasm-interp", "ratio"))
     for name, (size, small) in PROGRAMS.items():
         schedule(folder, 1000)
