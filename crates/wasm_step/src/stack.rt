@@ -279,7 +279,7 @@ impl<'m> Stack<'m> {
             return false;
         }
         let Some(_x) = self.operands.pop() else {
-            return false;
+            unreachable!();
         };
         self.operands.push_reserved(v);
         true
@@ -296,12 +296,11 @@ impl<'m> Stack<'m> {
         if height < self.here.floor + 2 {
             return false;
         }
-        let Some(y) = self.operands.pop() else {
-            return false;
+        let Some(_y) = self.operands.pop() else {
+            unreachable!();
         };
         let Some(_x) = self.operands.pop() else {
-            self.operands.push_reserved(y);
-            return false;
+            unreachable!();
         };
         self.operands.push_reserved(v);
         true
@@ -362,7 +361,7 @@ impl<'m> Stack<'m> {
             return None;
         }
         let Some(v) = self.operands.pop() else {
-            return None;
+            unreachable!();
         };
         Some(v.value())
     }
@@ -485,14 +484,12 @@ impl<'m> Stack<'m> {
         if self.labels.len() <= self.here.labels_from {
             return false;
         }
-        match self.labels.pop() {
-            Some(label) => {
-                self.here.todo = label.todo;
-                self.here.floor = label.floor;
-                true
-            }
-            None => false,
-        }
+        let Some(label) = self.labels.pop() else {
+            unreachable!();
+        };
+        self.here.todo = label.todo;
+        self.here.floor = label.floor;
+        true
     }
 
     /// The level n levels around the innermost, with the operands of all, if there is one.

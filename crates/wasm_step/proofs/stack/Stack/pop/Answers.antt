@@ -4,8 +4,8 @@ use Rattle.wasm_step.specs.View.{thread_of}
 use Rattle.wasm_step.proofs.Views.{IsSound-operands, keeps_popped, popped_view}
 use Rattle.wasm_step.proofs.stack.Stack.pop.Goals as goal
 
-pub invariant_of-self-2 : goal.invariant_of-self-2
-invariant_of-self-2 c =
+pub invariant_of-self : goal.invariant_of-self
+invariant_of-self c =
     IsSound-operands c.self.inside c.pop.new.self c.self.invariant (omega (arith, c.pop.ensures.capacity)) (keeps_popped c.self.inside _ c.in-Some.v (omega (arith, c.self.inside.operands.ok.0)) c.in-Some.ensures.items)
 
 pub returns-clause-some : goal.returns-clause-some

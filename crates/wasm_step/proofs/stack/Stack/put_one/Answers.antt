@@ -7,8 +7,8 @@ module _ (c : goal.After-push_reserved) where
   enough : c.self.inside.here.floor < length c.self.inside.operands.items
   enough = omega (arith, c.len-height.ensures, c.self.inside.operands.ok.0)
 
-pub invariant_of-self-2 : goal.invariant_of-self-2
-invariant_of-self-2 c =
+pub invariant_of-self : goal.invariant_of-self
+invariant_of-self c =
     put_one_sound c.self.inside c.pop.new.self c.push_reserved.new.self c.in-Some._x c.args.v c.self.invariant (enough c) (omega (arith, c.pop.ensures.capacity)) (omega (arith, c.push_reserved.ensures.capacity)) c.in-Some.ensures.items c.push_reserved.ensures.items
 
 pub returns-clause-put : goal.returns-clause-put
