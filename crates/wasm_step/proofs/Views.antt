@@ -76,6 +76,18 @@ popped_view s w v h lt e =
     let stack = ap (λ o. reverse (drop s.here.floor o)) e ∙ reverse_drop_push s.here.floor w.items v k.top in
     ap (λ o. record (thread_of s) { stack = o }) stack ∙ ap (λ t. with_operand t v) (sym view)
 
+-- a thread with an operand has one above its floor
+pub some_operand : (s : Inside) (t : Thread) → thread_of s ≡ t → 1 ≤ length t.stack → s.here.floor < length s.operands.items
+some_operand s t view some =
+    let stack = ap (λ (t : Thread). length t.stack) view in
+    omega (arith, stack, some, length-reverse (drop s.here.floor s.operands.items), length-drop s.here.floor s.operands.items)
+
+-- what lies below the last item
+pub below_last : {A : Type 0} (xs w : List A) (x : A) → xs ≡ w ++ x ∷ [] → w ≡ take (length xs - 1) xs
+below_last xs w x e =
+    let fewer : length xs - 1 ≡ length w = omega (arith, ap length e, length-append w (x ∷ [])) in
+    sym (take_at w (x ∷ []) (length w) refl) ∙ ap (λ o. take (length w) o) (sym e) ∙ ap (λ k. take k xs) (sym fewer)
+
 pub keeps_cleared : (s : Inside) (w : List Value) → IsStack s → w ≡ take s.here.floor s.operands.items → KeepsBelow s w
 keeps_cleared s w h e = record {
   top = omega (arith, ap length e, length-take-le s.here.floor s.operands.items h.part.top);

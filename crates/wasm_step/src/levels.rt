@@ -74,7 +74,7 @@ impl<'m> Stack<'m> {
             return false;
         };
         if x == 0 {
-            self.drop_last(1);
+            self.drop_one();
             return true;
         }
         n == 0 && self.jump_in_place()

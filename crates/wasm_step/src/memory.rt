@@ -33,7 +33,7 @@ impl<'m> Stack<'m> {
         if !store.set_global(x as usize, v) {
             return false;
         }
-        self.drop_last(1);
+        self.drop_one();
         true
     }
 

@@ -86,7 +86,7 @@ impl<'m> Stack<'m> {
             self.drop_last(2);
             return true;
         }
-        self.drop_last(1);
+        self.drop_one();
         let is_put = self.put_two(Slot::of(second));
         prove!(is_put);
         true
@@ -133,7 +133,7 @@ impl<'m> Stack<'m> {
         if !self.local_tee(x) {
             return false;
         }
-        self.drop_last(1);
+        self.drop_one();
         true
     }
 

@@ -278,9 +278,7 @@ impl<'m> Stack<'m> {
         if height <= self.here.floor {
             return false;
         }
-        let Some(_x) = self.operands.pop() else {
-            unreachable!();
-        };
+        let _x = self.operands.take_last();
         self.operands.push_reserved(v);
         true
     }
@@ -296,12 +294,8 @@ impl<'m> Stack<'m> {
         if height < self.here.floor + 2 {
             return false;
         }
-        let Some(_y) = self.operands.pop() else {
-            unreachable!();
-        };
-        let Some(_x) = self.operands.pop() else {
-            unreachable!();
-        };
+        let _y = self.operands.take_last();
+        let _x = self.operands.take_last();
         self.operands.push_reserved(v);
         true
     }
@@ -314,6 +308,15 @@ impl<'m> Stack<'m> {
     {
         let height = self.operands.len();
         self.operands.truncate(height - n);
+    }
+
+    /// Without the topmost operand of a level that has one.
+    #[inline(always)]
+    pub fn drop_one(&mut self)
+        requires { 1 ≤ length self.old.stack }
+        ensures { self.new ≡ without 1 self.old }
+    {
+        let _top = self.operands.take_last();
     }
 
     /// A local of the innermost frame that it has.
@@ -360,9 +363,7 @@ impl<'m> Stack<'m> {
         if self.operands.len() <= self.here.floor {
             return None;
         }
-        let Some(v) = self.operands.pop() else {
-            unreachable!();
-        };
+        let v = self.operands.take_last();
         Some(v.value())
     }
 
@@ -455,7 +456,7 @@ impl<'m> Stack<'m> {
             return false;
         }
         self.room -= 1;
-        self.operands.truncate(height - 1);
+        let _top = self.operands.take_last();
         self.labels.push_reserved(Label {
             opener,
             todo,
@@ -484,9 +485,7 @@ impl<'m> Stack<'m> {
         if self.labels.len() <= self.here.labels_from {
             return false;
         }
-        let Some(label) = self.labels.pop() else {
-            unreachable!();
-        };
+        let label = self.labels.take_last();
         self.here.todo = label.todo;
         self.here.floor = label.floor;
         true

@@ -6,4 +6,4 @@ use Rattle.wasm_step.proofs.stack.Stack.close.Goals as goal
 pub returns-clause-closed : goal.returns-clause-closed
 returns-clause-closed c =
     ap closed (sym c.self.view_is)
-    ∙ closed_view c.self.inside c.pop.new.self c.in-Some.label c.self.invariant (omega (arith, c.self.inside.labels.ok.0)) c.in-Some.ensures.items
+    ∙ closed_view c.self.inside c.take_last-label.new.self c.take_last-label.result c.self.invariant (omega (arith, c.self.inside.labels.ok.0)) c.take_last-label.ensures.items

@@ -1,17 +1,11 @@
-use Rattle.std.proofs.Common.{◌≡◌, ◌-◌, ◌<◌, ◌≤◌, Some, sym, ap, ◌∙◌, length, drop, arith, length-drop}
-use Rattle.std.proofs.lemmas.List.{length-reverse}
+use Rattle.std.proofs.Common.{◌-◌, Some, sym, ap, ◌∙◌, arith}
 use Rattle.wasm_step.specs.Reduce.{Goes, on_top, resumed}
 use Rattle.wasm_step.specs.Thread.{Thread, left}
 use Rattle.wasm_step.specs.View.{IsStack, thread_of}
 use Rattle.wasm_step.specs.declared.stack.Stack.TheInside.{Inside}
-use Rattle.wasm_step.proofs.Views.{IsLeft, IsSound-operands, floor_low, keeps_pushed, left_sound, left_view, pushed_view, stack_top}
+use Rattle.wasm_step.proofs.Views.{IsLeft, IsSound-operands, floor_low, keeps_pushed, left_sound, left_view, pushed_view, some_operand, stack_top}
 use Rattle.wasm_step.proofs.stack.Stack.leave_with_top.Goals as goal
 use Rattle.wasm_step.proofs.stack.Stack.leave_with_top.Goals.{Start}
-
-some_operand : (s : Inside) (t : Thread) → thread_of s ≡ t → 1 ≤ length t.stack → s.here.floor < length s.operands.items
-some_operand s t view some =
-    let stack = ap (λ (t : Thread). length t.stack) view in
-    omega (arith, stack, some, length-reverse (drop s.here.floor s.operands.items), length-drop s.here.floor s.operands.items)
 
 pub push_reserved-requires : goal.push_reserved-requires
 push_reserved-requires c =

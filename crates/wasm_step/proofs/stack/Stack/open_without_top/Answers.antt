@@ -8,7 +8,7 @@ use Rattle.wasm_step.specs.View.{entered_by, IsStack, opened_by, thread_of}
 use Rattle.wasm_step.specs.Thread.{Thread, size_of_thread, without}
 use Rattle.wasm_step.proofs.Accesses.{within_without}
 use Rattle.wasm_step.proofs.LevelEnds.{within_elsewhere, within_opened}
-use Rattle.wasm_step.proofs.Views.{IsSound-operands, keeps_without, opened_sound, opened_view, without_view}
+use Rattle.wasm_step.proofs.Views.{IsSound-operands, below_last, keeps_without, opened_sound, opened_view, without_view}
 use Rattle.wasm_step.proofs.stack.Stack.open_without_top.Goals as goal
 
 module _ (c : goal.After-self-2-1) where
@@ -21,22 +21,22 @@ module _ (c : goal.After-self-2-1) where
   height : c.len-height.result ≡ length c.self.inside.operands.items
   height = c.len-height.ensures ∙ c.self.inside.operands.ok.0
 
-  kept : c.truncate.new.self.items ≡ take (length c.self.inside.operands.items - 1) c.self.inside.operands.items
-  kept = c.truncate.ensures.items ∙ ap (λ k. take (k - 1) c.self.inside.operands.items) height
+  kept : c.take_last-top.new.self.items ≡ take (length c.self.inside.operands.items - 1) c.self.inside.operands.items
+  kept = below_last c.self.inside.operands.items c.take_last-top.new.self.items c.take_last-top.result c.take_last-top.ensures.items
 
   -- without the operand
   less : Inside
-  less = record c.self.inside { operands = c.truncate.new.self }
+  less = record c.self.inside { operands = c.take_last-top.new.self }
 
   less_sound : IsStack less
   unfolding less
   less_sound =
       let s = c.self.inside in
-      IsSound-operands s c.truncate.new.self c.self.invariant (omega (arith, c.truncate.ensures.capacity)) (keeps_without s 1 c.self.invariant enough c.truncate.new.self.items kept)
+      IsSound-operands s c.take_last-top.new.self c.self.invariant (omega (arith, c.take_last-top.ensures.capacity)) (keeps_without s 1 c.self.invariant enough c.take_last-top.new.self.items kept)
 
   less_view : thread_of less ≡ without 1 c.args.self.now
   unfolding less
-  less_view = without_view c.self.inside 1 c.self.invariant enough c.truncate.new.self kept ∙ ap (without 1) c.self.view_is
+  less_view = without_view c.self.inside 1 c.self.invariant enough c.take_last-top.new.self kept ∙ ap (without 1) c.self.view_is
 
   now : Held
   now = record c.self.inside.here { todo = c.args.body; floor = c.len-height.result - 1 }

@@ -6,10 +6,10 @@ use Rattle.wasm_step.proofs.stack.Stack.pop.Goals as goal
 
 pub invariant_of-self : goal.invariant_of-self
 invariant_of-self c =
-    IsSound-operands c.self.inside c.pop.new.self c.self.invariant (omega (arith, c.pop.ensures.capacity)) (keeps_popped c.self.inside _ c.in-Some.v (omega (arith, c.self.inside.operands.ok.0)) c.in-Some.ensures.items)
+    IsSound-operands c.self.inside c.take_last-v.new.self c.self.invariant (omega (arith, c.take_last-v.ensures.capacity)) (keeps_popped c.self.inside _ c.take_last-v.result (omega (arith, c.self.inside.operands.ok.0)) c.take_last-v.ensures.items)
 
 pub returns-clause-some : goal.returns-clause-some
 returns-clause-some c =
     sym c.self.view_is
-    ∙ popped_view c.self.inside c.pop.new.self c.in-Some.v c.self.invariant (omega (arith, c.self.inside.operands.ok.0)) c.in-Some.ensures.items
-    ∙ ap (λ v. with_operand (thread_of (record c.self.inside { operands = c.pop.new.self })) v) (sym c.value.ensures)
+    ∙ popped_view c.self.inside c.take_last-v.new.self c.take_last-v.result c.self.invariant (omega (arith, c.self.inside.operands.ok.0)) c.take_last-v.ensures.items
+    ∙ ap (λ v. with_operand (thread_of (record c.self.inside { operands = c.take_last-v.new.self })) v) (sym c.value.ensures)

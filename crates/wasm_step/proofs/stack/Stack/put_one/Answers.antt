@@ -9,9 +9,9 @@ module _ (c : goal.After-push_reserved) where
 
 pub invariant_of-self : goal.invariant_of-self
 invariant_of-self c =
-    put_one_sound c.self.inside c.pop.new.self c.push_reserved.new.self c.in-Some._x c.args.v c.self.invariant (enough c) (omega (arith, c.pop.ensures.capacity)) (omega (arith, c.push_reserved.ensures.capacity)) c.in-Some.ensures.items c.push_reserved.ensures.items
+    put_one_sound c.self.inside c.take_last-x.new.self c.push_reserved.new.self c.take_last-x.result c.args.v c.self.invariant (enough c) (omega (arith, c.take_last-x.ensures.capacity)) (omega (arith, c.push_reserved.ensures.capacity)) c.take_last-x.ensures.items c.push_reserved.ensures.items
 
 pub returns-clause-put : goal.returns-clause-put
 returns-clause-put c = λ _.
-    put_one_view c.self.inside c.pop.new.self c.push_reserved.new.self c.in-Some._x c.args.v c.self.invariant (enough c) (omega (arith, c.pop.ensures.capacity)) (omega (arith, c.push_reserved.ensures.capacity)) c.in-Some.ensures.items c.push_reserved.ensures.items
+    put_one_view c.self.inside c.take_last-x.new.self c.push_reserved.new.self c.take_last-x.result c.args.v c.self.invariant (enough c) (omega (arith, c.take_last-x.ensures.capacity)) (omega (arith, c.push_reserved.ensures.capacity)) c.take_last-x.ensures.items c.push_reserved.ensures.items
     ∙ ap (λ (t : Thread). record t { stack = c.args.v ∷ drop 1 t.stack }) c.self.view_is

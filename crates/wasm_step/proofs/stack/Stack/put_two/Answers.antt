@@ -9,9 +9,9 @@ module _ (c : goal.After-push_reserved) where
 
 pub invariant_of-self : goal.invariant_of-self
 invariant_of-self c =
-    put_two_sound c.self.inside c.pop.new.self c.pop-2.new.self c.push_reserved.new.self c.in-Some-pop._x c.in-Some._y c.args.v c.self.invariant (enough c) (omega (arith, c.pop.ensures.capacity)) (omega (arith, c.pop-2.ensures.capacity)) (omega (arith, c.push_reserved.ensures.capacity)) c.in-Some.ensures.items c.in-Some-pop.ensures.items c.push_reserved.ensures.items
+    put_two_sound c.self.inside c.take_last-y.new.self c.take_last-x.new.self c.push_reserved.new.self c.take_last-x.result c.take_last-y.result c.args.v c.self.invariant (enough c) (omega (arith, c.take_last-y.ensures.capacity)) (omega (arith, c.take_last-x.ensures.capacity)) (omega (arith, c.push_reserved.ensures.capacity)) c.take_last-y.ensures.items c.take_last-x.ensures.items c.push_reserved.ensures.items
 
 pub returns-clause-put : goal.returns-clause-put
 returns-clause-put c = λ _.
-    put_two_view c.self.inside c.pop.new.self c.pop-2.new.self c.push_reserved.new.self c.in-Some-pop._x c.in-Some._y c.args.v c.self.invariant (enough c) (omega (arith, c.pop.ensures.capacity)) (omega (arith, c.pop-2.ensures.capacity)) (omega (arith, c.push_reserved.ensures.capacity)) c.in-Some.ensures.items c.in-Some-pop.ensures.items c.push_reserved.ensures.items
+    put_two_view c.self.inside c.take_last-y.new.self c.take_last-x.new.self c.push_reserved.new.self c.take_last-x.result c.take_last-y.result c.args.v c.self.invariant (enough c) (omega (arith, c.take_last-y.ensures.capacity)) (omega (arith, c.take_last-x.ensures.capacity)) (omega (arith, c.push_reserved.ensures.capacity)) c.take_last-y.ensures.items c.take_last-x.ensures.items c.push_reserved.ensures.items
     ∙ ap (λ (t : Thread). record t { stack = c.args.v ∷ drop 2 t.stack }) c.self.view_is
