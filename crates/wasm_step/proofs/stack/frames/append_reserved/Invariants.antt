@@ -1,6 +1,6 @@
 use Rattle.std.proofs.Common.{◌≡◌, ◌++◌, take}
 use Rattle.std.specs.Vec.{vec_capacity}
-use Rattle.wasm_step.proofs.stack.append_reserved.Given as goal
+use Rattle.wasm_step.proofs.stack.frames.append_reserved.Given as goal
 
 abbrev pub invariant-loop-item : goal.invariant-loop-item
 invariant-loop-item l = record {

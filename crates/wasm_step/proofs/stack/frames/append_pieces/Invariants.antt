@@ -1,6 +1,6 @@
 use Rattle.std.proofs.Common.{◌≡◌, ◌+◌, ◌≤◌, ◌++◌, length}
 use Rattle.std.specs.Vec.{vec_capacity}
-use Rattle.wasm_step.proofs.stack.append_pieces.Given as goal
+use Rattle.wasm_step.proofs.stack.frames.append_pieces.Given as goal
 
 -- what is appended and what is left make the whole, and there is room for what is left
 abbrev pub invariant-loop-rest : goal.invariant-loop-rest
