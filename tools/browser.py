@@ -9,6 +9,7 @@ import socket
 import struct
 import subprocess
 import tempfile
+import time
 import urllib.request
 
 ADDRESS = re.compile(r"DevTools listening on ws://127\.0\.0\.1:(\d+)/")
@@ -118,11 +119,23 @@ class Browser:
             raise AssertionError("%s: %s" % (script, told["exceptionDetails"]))
         return told["result"].get("value")
 
+    def wait(self, script):
+        """What a script comes to in the page, as soon as it is true."""
+        last = time.monotonic() + WAIT
+        while time.monotonic() < last:
+            value = self.value(script)
+            if value:
+                return value
+            time.sleep(0.02)
+        raise AssertionError("in vain for %s" % script)
+
     def open(self, path, fragment=""):
-        """Opens a file, and waits until it has loaded; returns what the browser said of it meanwhile."""
+        """Opens a file and waits until it has loaded; `events` has what the browser says of it from then on."""
         self.events = []
         self.ask("Page.navigate", url="about:blank")
-        self.ask("Page.navigate", url="file://" + os.path.abspath(path) + fragment)
+        self.wait("location.href === 'about:blank'")
+        self.ask("Page.navigate", url="file://" + urllib.request.pathname2url(os.path.abspath(path)) + fragment)
+        self.wait("location.protocol === 'file:' && document.readyState === 'complete'")
 
     def key(self, key, shift=False):
         words = {"key": key, "modifiers": 8 if shift else 0}

@@ -7,7 +7,6 @@ needs no arithmetic on numbers of 64 bits.
 from __future__ import annotations
 
 import dataclasses
-import os
 
 from debugger import courses, threads_at
 from group import NotOneGroup, read_group
@@ -36,7 +35,7 @@ def read_recording(program, pairs, watches):
     logs = [dataclasses.replace(log, entries=log.entries[: results[log.name].accepted]) for log in logs]
     traffic = traffic_of(logs)
     data, pieces = columns(logs, traffic.events)
-    data["files"] = [os.path.basename(path) for path in pairs[1::2]]
+    data["files"] = list(pairs[1::2])
     data["processes"] = processes(program, pairs, logs, results, traffic.events)
     data.update(datagrams(traffic))
     data["courses"] = [course_data(course) for course in courses(program, pairs, watches, len(traffic.events))]

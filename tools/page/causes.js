@@ -31,12 +31,21 @@ class Causes {
     return this.clocks[later * this.width + process[position]] >= numbers[position];
   }
 
-  // Whether an event stands to the chosen one as the filter wants it.
-  isRelated(cause, position, chosen) {
-    if (cause === "all" || !chosen) {
-      return true;
-    }
-    const past = cause !== "future" && this.isBefore(position, chosen);
-    return past || (cause !== "past" && this.isBefore(chosen, position));
+  // Of each process how many events are in the past of the chosen one, and the number of the first that is in its future: the
+  // clocks of a process's own events only rise.
+  bounds(cause, chosen) {
+    return this.recording.own.map((own, place) => {
+      if (cause === "all" || !chosen) {
+        return { past: own.length, future: 1 };
+      }
+      let low = 0;
+      let high = cause === "past" ? 0 : own.length;
+      while (low < high) {
+        const middle = (low + high) >> 1;
+        [low, high] = this.isBefore(chosen, own[middle]) ? [low, middle] : [middle + 1, high];
+      }
+      const past = cause === "future" ? 0 : this.clocks[chosen * this.width + place];
+      return { past, future: cause === "past" ? Infinity : low + 1 };
+    });
   }
 }

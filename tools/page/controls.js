@@ -12,7 +12,7 @@ class Controls {
     stages.forEach((stage) => this.listen(stage));
     document.addEventListener("keydown", (event) => this.key(event));
     window.addEventListener("resize", () => this.refresh());
-    window.addEventListener("hashchange", () => this.readAddress());
+    window.addEventListener("hashchange", (event) => this.readAddress(new URL(event.newURL).hash));
     this.buildFilters();
   }
 
@@ -95,8 +95,8 @@ class Controls {
     this.waiting = setTimeout(() => history.replaceState(null, "", "#at=" + this.stages.map((stage) => stage.cursor).join(",")), 120);
   }
 
-  readAddress() {
-    const found = /^#at=([0-9]+(?:,[0-9]+)*)$/.exec(location.hash);
+  readAddress(fragment) {
+    const found = /^#at=([0-9]+(?:,[0-9]+)*)$/.exec(fragment);
     const positions = found ? found[1].split(",").map(Number) : [];
     if (positions.length === 1) {
       this.stages[0].moveTo(positions[0]);

@@ -8,9 +8,20 @@ class Course {
     this.values = values;
     // For heights alone, so it may be rounded; `undef` has none.
     this.heights = Float64Array.from(values, (value) => (value === "undef" ? NaN : Number(value)));
-    const known = this.heights.filter((height) => !Number.isNaN(height));
-    this.least = known.reduce((one, other) => Math.min(one, other), Infinity);
-    this.most = known.reduce((one, other) => Math.max(one, other), -Infinity);
+  }
+
+  // The least and the greatest of some values, from one index to another.
+  bounds(first, last) {
+    let least = Infinity;
+    let most = -Infinity;
+    for (let index = first; index <= last; index++) {
+      const height = this.heights[index];
+      if (!Number.isNaN(height)) {
+        least = Math.min(least, height);
+        most = Math.max(most, height);
+      }
+    }
+    return [least, most];
   }
 
   // How many changes there were up to a position.

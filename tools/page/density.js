@@ -3,6 +3,8 @@
 
 // From this many dots of the screen between two positions on, events are drawn one by one.
 const APART = 3;
+// So many dots make a column.
+const COLUMN = 2;
 
 class Density {
   constructor(recording, rows, passes) {
@@ -11,40 +13,48 @@ class Density {
     this.passes = passes;
   }
 
-  // How many events of each process each column has, of all and of those that pass.
-  counts(first, last, columnOf, columns) {
-    const { process } = this.recording;
-    const all = this.recording.processes.map(() => new Uint32Array(columns));
-    const passing = this.recording.processes.map(() => new Uint32Array(columns));
-    let most = 1;
-    for (let position = first; position <= last; position++) {
-      const column = columnOf(position);
-      if (column >= 0 && column < columns) {
-        most = Math.max(most, ++all[process[position]][column]);
-        passing[process[position]][column] += this.passes[position];
-      }
+  // How many events of one process each column has, of all and of those that pass; `start` and `scale` say where a position is.
+  counts(own, { first, last, start, scale, columns }) {
+    const all = new Uint32Array(columns);
+    const passing = new Uint32Array(columns);
+    for (let index = countUpTo(own, first - 1); index < own.length && own[index] <= last; index++) {
+      const column = ((start + own[index] * scale) / COLUMN) | 0;
+      all[column]++;
+      passing[column] += this.passes[own[index]];
     }
-    return { all, passing, most };
+    return { all, passing };
   }
 
-  draw(context, left, columns, first, last, columnOf) {
-    const { all, passing, most } = this.counts(first, last, columnOf, columns);
-    const { rows } = this;
-    const tallest = rows.height * 0.8;
-    for (const [place, row] of rows.places) {
-      const foot = rows.top + rows.height * (row + 0.9);
-      for (let column = 0; column < columns; column++) {
-        const count = all[place][column];
-        if (count) {
-          const height = Math.max(1, (tallest * count) / most);
-          context.fillStyle = FAINT;
-          context.fillRect(left + column, foot - height, 1, height);
-          context.fillStyle = "#3b5bdb";
-          const part = (height * passing[place][column]) / count;
-          context.fillRect(left + column, foot - part, 1, part);
-        }
+  draw(context, left, span) {
+    const { own } = this.recording;
+    const shown = Array.from(this.rows.places, ([place, row]) => ({ row, ...this.counts(own[place], span) }));
+    const most = shown.reduce((most, { all }) => all.reduce((one, other) => Math.max(one, other), most), 1);
+    for (const { row, all, passing } of shown) {
+      const foot = this.rows.top + this.rows.height * (row + 0.9);
+      const unit = (this.rows.height * 0.8) / most;
+      this.drawBars(context, left, foot, FAINT, unit, all, passing);
+      this.drawBars(context, left, foot, "#3b5bdb", unit, passing, null);
+    }
+  }
+
+  // Bars of one colour where a column has more than the other ones, each as wide as all columns beside it of the same height.
+  drawBars(context, left, foot, colour, unit, counts, others) {
+    context.fillStyle = colour;
+    for (let column = 0, next = 0; column < counts.length; column = next) {
+      const count = counts[column];
+      for (next = column + 1; next < counts.length && counts[next] === count; next++);
+      if (count && !(others && this.isCovered(counts, others, column, next))) {
+        const height = Math.max(1, unit * count);
+        context.fillRect(left + column * COLUMN, foot - height, (next - column) * COLUMN, height);
       }
     }
+  }
+
+  isCovered(counts, others, column, next) {
+    while (column < next && others[column] === counts[column]) {
+      column++;
+    }
+    return column === next;
   }
 }
 
@@ -52,18 +62,21 @@ class Density {
 function drawFar(stage, context) {
   const { view, recording, rows, passes } = stage;
   const band = { height: rows.height, top: 4, places: rows.places };
-  const columnOf = (position) => Math.floor(view.x(position) - LABELS);
-  const density = new Density(recording, band, passes);
-  density.draw(context, LABELS, Math.ceil(view.width - LABELS), view.first, view.last, columnOf);
+  const span = { first: view.first, last: view.last, start: view.x(0) - LABELS, scale: view.scale };
+  // Events at the left edge may lie a little outside of it, which are left out.
+  span.first = Math.max(span.first, Math.ceil(view.position(LABELS)));
+  span.columns = Math.ceil((view.width - LABELS) / COLUMN) + 1;
+  new Density(recording, band, passes).draw(context, LABELS, span);
 }
 
 const OVERVIEW_HEIGHT = 64;
 
-// The whole recording in a strip, kept as it was drawn until a filter or the width changes.
+// The whole recording in a strip.
 class Overview {
   constructor(stage) {
     this.stage = stage;
-    this.kept = document.createElement("canvas");
+    this.events = new Kept();
+    this.changes = new Kept();
   }
 
   x(position) {
@@ -76,19 +89,32 @@ class Overview {
     return Math.min(Math.max(Math.round(((x - LABELS - MARGIN) * recording.count) / view.room), 0), recording.count);
   }
 
-  keep() {
+  drawEvents(context) {
     const { view, recording, rows, passes } = this.stage;
-    const context = prepared(this.kept, view.width, OVERVIEW_HEIGHT);
     const band = { height: (OVERVIEW_HEIGHT - 8) / Math.max(1, rows.shown.length), top: 4, places: rows.places };
-    const density = new Density(recording, band, passes);
-    const columnOf = (position) => Math.floor(this.x(position) - LABELS);
-    density.draw(context, LABELS, Math.ceil(view.width - LABELS), 1, recording.count, columnOf);
+    const span = { first: 1, last: recording.count, start: this.x(0) - LABELS, scale: this.x(1) - this.x(0) };
+    span.columns = Math.ceil((view.width - LABELS) / COLUMN) + 1;
+    new Density(recording, band, passes).draw(context, LABELS, span);
+  }
+
+  // Where the watched expressions change, a row of marks for each of the first ones.
+  drawChanges(context) {
+    context.fillStyle = CURSOR_FAINT;
+    this.stage.courses.slice(0, 4).forEach((course, row) => {
+      const columns = new Set(Array.from(course.positions, (position) => Math.round(this.x(position))));
+      columns.forEach((column) => context.fillRect(column - 1, OVERVIEW_HEIGHT + 3 + 4 * row, 2, 3));
+    });
+  }
+
+  get height() {
+    return OVERVIEW_HEIGHT + 4 + 4 * Math.min(this.stage.courses.length, 4);
   }
 
   draw(canvas) {
-    const { view, cursor } = this.stage;
-    const context = prepared(canvas, view.width, OVERVIEW_HEIGHT);
-    context.drawImage(this.kept, 0, 0, view.width, OVERVIEW_HEIGHT);
+    const { view, cursor, turn } = this.stage;
+    const context = prepared(canvas, view.width, this.height);
+    this.events.draw(context, view.width + "," + turn, view.width, this.height, (kept) => this.drawEvents(kept));
+    this.changes.draw(context, view.width, view.width, this.height, (kept) => this.drawChanges(kept));
     context.fillStyle = INK;
     context.font = "11px sans-serif";
     context.fillText("all events", 6, OVERVIEW_HEIGHT / 2 + 4);
@@ -96,6 +122,6 @@ class Overview {
     context.lineWidth = 1;
     context.strokeRect(this.x(view.left) - 1, 1.5, this.x(Math.min(view.right, view.count)) - this.x(view.left) + 2, OVERVIEW_HEIGHT - 3);
     context.fillStyle = CURSOR;
-    context.fillRect(this.x(cursor) - 1, 0, 2, OVERVIEW_HEIGHT);
+    context.fillRect(this.x(cursor) - 1, 0, 2, this.height);
   }
 }

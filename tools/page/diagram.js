@@ -4,6 +4,7 @@
 const INK = "#1c2733";
 const FAINT = "#d5dbe1";
 const CURSOR = "#d9480f";
+const CURSOR_FAINT = "rgba(217, 72, 15, 0.45)";
 const RED = "#c92a2a";
 const KINDS = [
   [["send"], "#1971c2"],
@@ -165,9 +166,15 @@ class Diagram {
     this.drawRing(context, chosen, "#5f3dc4", radius + 8);
   }
 
-  // A signal was delivered, or the datagram came from outside.
+  // A signal was delivered, the datagram came from outside, or the process does otherwise from here on in another recording.
   drawMarks(context, position, x, y) {
-    const { recording } = this.stage;
+    const { recording, differs } = this.stage;
+    if (differs[recording.process[position]] === position) {
+      context.fillStyle = RED;
+      context.fillRect(x - 6, y + 7, 12, 2);
+      context.fillRect(x - 6, y + 11, 12, 2);
+      line(context, x + 5, y + 4, x - 5, y + 16);
+    }
     if (recording.signal(position)) {
       context.fillStyle = RED;
       context.fillText("!" + recording.signal(position), x - 4, y + 15);

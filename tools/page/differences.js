@@ -7,7 +7,10 @@ class Differences {
     this.together = root.querySelector(".together");
     this.table = root.querySelector("tbody");
     root.hidden = false;
-    stages.forEach((stage) => (stage.moved = (moved) => this.follow(moved)));
+    stages.forEach((stage, place) => {
+      stage.moved = (moved) => this.follow(moved);
+      root.querySelector(place ? ".other" : ".one").textContent = shortened(stage.recording.files[0], 80) + " ..";
+    });
     this.show();
   }
 
@@ -21,7 +24,9 @@ class Differences {
 
   show() {
     const [one, other] = this.stages;
-    const rows = firstDifferences(one.recording, other.recording).map((found) => this.eventRow(found));
+    const differences = firstDifferences(one.recording, other.recording);
+    this.stages.forEach((stage, place) => (stage.differs = differences.map(({ positions }) => positions[place])));
+    const rows = differences.map((found) => this.eventRow(found));
     one.courses.forEach((course, place) => rows.push(this.valueRow(course, other.courses[place])));
     this.table.replaceChildren(...rows);
   }

@@ -18,13 +18,18 @@ class Filters {
     const calls = recording.calls.map((call) => !this.hiddenCalls.has(call));
     const processes = recording.processes.map((process) => !this.isHidden(process));
     const pattern = this.search ? patternOf(this.search) : null;
-    const pieces = recording.pieces.map((piece) => !pattern || holdsBytes(piece, pattern));
+    const pieces = pattern ? recording.pieces.map((piece) => holdsBytes(piece, pattern)) : null;
+    const bounds = causes.bounds(this.cause, chosen);
     const passes = new Uint8Array(recording.count + 1);
-    for (let position = 1; position <= recording.count; position++) {
-      const named = calls[recording.text[position]] && processes[recording.process[position]];
-      const found = named && pieces[recording.piece[position]];
-      passes[position] = found && causes.isRelated(this.cause, position, chosen) ? 1 : 0;
-    }
+    recording.own.forEach((own, place) => {
+      const { past, future } = bounds[place];
+      for (let index = 0; processes[place] && index < own.length; index++) {
+        const position = own[index];
+        const isRelated = index < past || index + 1 >= future;
+        const isFound = !pieces || pieces[recording.piece[position]];
+        passes[position] = isRelated && isFound && calls[recording.text[position]] ? 1 : 0;
+      }
+    });
     return passes;
   }
 }

@@ -17,6 +17,7 @@ async function start() {
   controls.refresh();
   if (stages.length > 1) {
     new Differences(stages, document.getElementById("differences"));
+    controls.refresh();
   }
   stages.forEach((stage) => {
     const others = stage.moved;
@@ -26,8 +27,9 @@ async function start() {
     };
   });
   document.title = "friday: " + made[0].recording.processes.map((process) => process.name).join(", ");
-  controls.readAddress();
-  document.body.dataset.ready = "yes";
+  controls.readAddress(location.hash);
+  // How many milliseconds the opening took.
+  document.body.dataset.ready = Math.round(performance.now());
 }
 
 start().catch((error) => {

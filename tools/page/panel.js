@@ -1,7 +1,6 @@
 // What stands at the cursor, in words: the event, the values, and each process with its threads and datagrams. All that comes
 // from a recording is put on the page as text, and never as markup.
 
-const MOST_DATAGRAMS = 6;
 const LONGEST_LINE = 400;
 
 function element(name, kind, text = "", inside = []) {
@@ -82,12 +81,10 @@ class Panel {
 
   // The datagrams sent to a process that it has not taken yet.
   pending(place) {
-    const { coming, untaken } = this.stage.standing.pendingAt(place, this.stage.cursor);
-    const shown = [...coming.slice(0, MOST_DATAGRAMS), ...untaken.slice(0, MOST_DATAGRAMS)].slice(0, MOST_DATAGRAMS);
-    const left = coming.length + untaken.length - shown.length;
+    const { shown, count } = this.stage.standing.pendingAt(place, this.stage.cursor);
     const lines = shown.map((datagram) => this.datagram(datagram));
-    if (left) {
-      lines.push(element("li", "more", "and " + left + " more"));
+    if (count > shown.length) {
+      lines.push(element("li", "more", "and " + (count - shown.length) + " more"));
     }
     return lines.length ? [element("ul", "pending", "", lines)] : [];
   }

@@ -62,10 +62,12 @@ class Recording {
   keepTraffic(data) {
     this.sendOf = new Uint32Array(this.count + 1);
     this.takers = new Map();
+    this.lastTaker = new Uint32Array(this.count + 1);
     data.receives.forEach((receive, place) => {
       const send = data.sends[place];
       this.sendOf[receive] = send;
       this.takers.set(send, [...(this.takers.get(send) || []), receive]);
+      this.lastTaker[send] = receive;
     });
     this.altered = new Set(data.altered);
     this.outside = new Set(data.outside);

@@ -11,7 +11,14 @@ class Stage {
     this.cursor = 0;
     // The event that was chosen for the past and future; 0 is the one at the cursor.
     this.chosen = 0;
+    // The first event of each process that another recording has otherwise.
+    this.differs = [];
+    // How often the events that pass were found, for what is kept of them.
+    this.turn = 0;
+    this.far = new Kept();
     this.moved = () => {};
+    // Has the address written again.
+    this.told = () => {};
     this.canvases = ["overview", "diagram", "steps"].map((name) => root.querySelector("canvas." + name));
     this.overview = new Overview(this);
     this.diagram = new Diagram(this);
@@ -29,7 +36,9 @@ class Stage {
 
   pass() {
     this.passes = this.filters.passing(this.recording, this.causes, this.chosen || this.cursor);
-    this.overview.keep();
+    this.turn++;
+    this.passed = 0;
+    this.passes.forEach((passes) => (this.passed += passes));
   }
 
   resize(filters) {
@@ -88,7 +97,8 @@ class Stage {
     const context = prepared(diagram, this.view.width, this.rows.total);
     this.drawNames(context);
     if (this.view.scale < APART) {
-      drawFar(this, context);
+      const key = this.view.key + "," + this.turn;
+      this.far.draw(context, key, this.view.width, this.rows.total, (kept) => drawFar(this, kept));
     } else {
       this.diagram.draw(context);
     }
@@ -107,7 +117,8 @@ class Stage {
       input.max = this.recording.count;
       input.value = this.cursor;
     }
-    this.root.querySelector(".total").textContent = "of " + this.recording.count;
+    const shown = this.passed < this.recording.count ? ", " + this.passed + " of them shown" : "";
+    this.root.querySelector(".total").textContent = "of " + this.recording.count + shown;
     this.root.querySelector(".chosen").textContent = this.chosen ? "chosen: " + this.recording.headline(this.chosen) : "";
   }
 
@@ -123,7 +134,7 @@ class Stage {
   drawCursor(context, height) {
     const x = this.view.x(this.cursor);
     if (x >= LABELS) {
-      context.fillStyle = "rgba(217, 72, 15, 0.55)";
+      context.fillStyle = CURSOR_FAINT;
       context.fillRect(x - 0.75, 0, 1.5, height);
     }
   }

@@ -1,5 +1,7 @@
 // How the processes stand at a position: what the debugger's line `threads` says there, and which datagrams are under way.
 
+const MOST_DATAGRAMS = 6;
+
 class Standing {
   constructor(recording) {
     this.recording = recording;
@@ -61,20 +63,23 @@ class Standing {
     return lines;
   }
 
-  // The datagrams sent to a process that it takes later, in the order in which it does, and those that no event took.
+  // The datagrams sent to a process that it takes later, in the order in which it does, and then the latest of those that no
+  // event took: the first of them, and how many there are.
   pendingAt(place, position) {
     const sends = this.sends[place];
     const coming = [];
     const untaken = [];
+    let lost = 0;
     for (let index = countUpTo(sends, position) - 1; index >= 0; index--) {
-      const takers = this.recording.takers.get(sends[index]);
-      const later = takers ? takers.filter((taker) => taker > position) : [];
-      if (later.length) {
-        coming.push({ send: sends[index], taken: later[0] });
-      } else if (!takers) {
-        untaken.push({ send: sends[index], taken: 0 });
+      const send = sends[index];
+      const last = this.recording.lastTaker[send];
+      if (last > position) {
+        coming.push({ send, taken: this.recording.takers.get(send).find((taker) => taker > position) });
+      } else if (!last && lost++ < MOST_DATAGRAMS) {
+        untaken.push({ send, taken: 0 });
       }
     }
-    return { coming: coming.sort((one, other) => one.taken - other.taken), untaken };
+    coming.sort((one, other) => one.taken - other.taken);
+    return { shown: [...coming, ...untaken].slice(0, MOST_DATAGRAMS), count: coming.length + lost };
   }
 }

@@ -41,6 +41,11 @@ class View {
     return Math.min(this.count, Math.ceil(this.right));
   }
 
+  // Which part is seen, for what is kept of it.
+  get key() {
+    return [this.left, this.scale, this.width].join(",");
+  }
+
   // Another scale, under which this position stays where it is.
   zoom(scale, position) {
     const before = this.scale;
@@ -77,4 +82,20 @@ function prepared(canvas, width, height) {
   context.setTransform(ratio, 0, 0, ratio, 0, 0);
   context.clearRect(0, 0, width, height);
   return context;
+}
+
+// A picture that is drawn again only where its key is another one, since a move of the cursor changes little.
+class Kept {
+  constructor() {
+    this.canvas = document.createElement("canvas");
+    this.key = "";
+  }
+
+  draw(context, key, width, height, drawn) {
+    if (this.key !== key + "," + height) {
+      drawn(prepared(this.canvas, width, height));
+      this.key = key + "," + height;
+    }
+    context.drawImage(this.canvas, 0, 0, width, height);
+  }
 }

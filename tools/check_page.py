@@ -1,0 +1,221 @@
+#!/usr/bin/env python3
+"""Checks page.py in a headless Chromium: the pages of the hunts are opened, moved, filtered and compared, and what stands
+there is held against the debugger's answers at random positions; a hostile group may not get out of its text; and a ring of
+16 processes with 100,000 events says how long opening and moving take, and how large the page is.
+
+It wants Debian's packages chromium and wabt. The ring takes most of the time; --only names the checks that are wanted.
+"""
+
+import argparse
+import os
+import random
+import subprocess
+import sys
+import tempfile
+
+from browser import Browser
+from page_hostile import check_hostile
+from page_reader import Group, check_position, go, no_complaint, now, opened, read_watches, same
+from page_ring import check_ring
+from report import BUILT
+from vector_clocks import happens_before, vector_clocks
+
+TOOLS = os.path.dirname(os.path.abspath(__file__))
+PAGES = os.path.join(TOOLS, "..", "examples", "pages.sh")
+HUNTS = {
+    "register": ("register/failing/register.wasm", ("r0", "r1", "r2", "writer", "reader")),
+    "election": ("election/failing/election.wasm", ("a", "b", "c")),
+    "bank": ("bank/failing/bank.wasm", ("north", "south", "east")),
+    "lost_update": ("bank/bank.wasm", ("north", "south", "east")),
+}
+# The recordings of the hunts that have two.
+FAILING, GOOD = "/failing", "/good"
+
+
+def group_of(program, hunt, folder):
+    """The group of a hunt, whose logs lie in a folder below that of the pages."""
+    module, names = HUNTS[hunt]
+    pairs = [word for name in names for word in (module, "%s/%s.log" % (folder, name))]
+    return Group(program, pairs, read_watches(hunt + ".watches"))
+
+
+def check_positions(browser, group, chance):
+    """Ten random positions, the first and the last one."""
+    positions = [0, *(chance.randint(1, group.count) for _ in range(10)), group.count]
+    for turn, (position, answer) in enumerate(zip(positions, group.asked(positions))):
+        go(browser, turn % 3, position)
+        check_position(now(browser)[0], group, position, answer)
+        browser.wait("location.hash === '#at=%d'" % position)
+
+
+def check_moves(browser, group):
+    """Keys, the wheel, and clicks in the steps and the list."""
+    middle = group.count // 2
+    go(browser, 0, middle)
+    for press, wanted in (
+        (("ArrowRight",), middle + 1), (("ArrowLeft",), middle), (("ArrowRight", True), middle + 10), (("ArrowLeft", True), middle),
+        (("Home",), 0), (("ArrowLeft",), 0), (("End",), group.count), (("ArrowRight",), group.count), (("ArrowLeft",), group.count - 1),
+    ):
+        browser.key(*press)
+        same("key %s" % (press,), now(browser)[0]["position"], wanted)
+    box = browser.value("(({x, y, width, height}) => [x, y, width, height])(document.querySelector('.diagram').getBoundingClientRect())")
+    browser.wheel(box[0] + box[2] / 2, box[1] + 50, -1)
+    browser.wait("document.querySelector('.position').value === '%d'" % (group.count - 2))
+    browser.value("document.querySelectorAll('.event')[3].click()")
+    clicked = now(browser)[0]
+    same("list", [event for event in clicked["events"] if event == clicked["headline"]], [clicked["headline"]])
+    check_steps(browser)
+
+
+def check_steps(browser):
+    """A click in the steps goes to the event that changed the value; the key w goes to the next change."""
+    box = browser.value("(({x, y, width}) => [x, y, width])(document.querySelector('canvas.steps').getBoundingClientRect())")
+    for part in (0.3, 0.6, 0.95):
+        browser.click(box[0] + box[2] * part, box[1] + 20)
+        found = now(browser)[0]
+        wanted = "since %d" % found["position"] if found["position"] else "from the beginning"
+        same("step", found["values"][0][2], wanted)
+    browser.key("Home")
+    browser.key("w")
+    found = now(browser)[0]
+    same("change", "since %d" % found["position"] in [value[2] for value in found["values"]], True)
+    browser.key("Home")
+
+
+def passed(browser):
+    """How many events the page says that it shows."""
+    words = now(browser)[0]["total"].split()
+    return int(words[2] if len(words) > 2 else words[1])
+
+
+def tick(browser, kind, name):
+    browser.value("document.querySelector('#filters .%s input[name=\"%s\"]').click()" % (kind, name))
+
+
+def fill(browser, kind, value, event):
+    script = "field = document.querySelector('#filters .%s'); field.value = %r; field.dispatchEvent(new Event('%s'))"
+    browser.value(script % (kind, value, event))
+
+
+def check_filters(browser, group, chance):
+    events, name = group.traffic.events, group.logs[0].name
+    tick(browser, "processes", name)
+    same("processes", passed(browser), sum(event.log.name != name for event in events))
+    same("cards", name in now(browser)[0]["processes"], False)
+    tick(browser, "processes", name)
+    tick(browser, "calls", "send")
+    same("calls", passed(browser), sum(event.entry.call.name != "send" for event in events))
+    tick(browser, "calls", "send")
+    check_search(browser, group)
+    check_causes(browser, group, chance)
+
+
+def check_search(browser, group):
+    """Text and digits; n goes to the first event that holds them."""
+    printed = [event for event in group.traffic.events if event.entry.call.name == "print"]
+    piece = printed[len(printed) // 2].entry.sent[:7] if printed else b"none"
+    for search in (piece.decode(), "0x" + piece.hex()):
+        fill(browser, "search", search, "input")
+        holding = [event.position for event in group.traffic.events if piece in event.entry.sent + event.entry.taken]
+        same("search", passed(browser), len(holding))
+        browser.key("Home")
+        browser.value("document.activeElement.blur()")
+        browser.key("n")
+        same("found", now(browser)[0]["position"], holding[0] if holding else 0)
+    fill(browser, "search", "", "input")
+
+
+def check_causes(browser, group, chance):
+    clocks, events = vector_clocks(group.traffic), group.traffic.events
+    for _ in range(4):
+        chosen = chance.choice(events)
+        go(browser, 0, chosen.position)
+        clock = clocks[chosen.position - 1]
+        past = {event.position for event in events if happens_before(clock, event.number, event.log.process)}
+        future = {
+            event.position for event, later in zip(events, clocks) if happens_before(later, chosen.number, chosen.log.process)
+        }
+        for cause, wanted in (("past", past), ("future", future), ("both", past | future)):
+            fill(browser, "cause", cause, "change")
+            same("cause %s" % cause, passed(browser), len(wanted))
+        fill(browser, "cause", "all", "change")
+
+
+def differing(one, other, log):
+    """The number of the first event of a process that is another one, without clocks; None where there is none."""
+    def told(group):
+        events = [event.entry for event in group.traffic.events if event.log.process == log.process]
+        return [(entry.text("").split(" ", 1)[1], entry.sent, entry.taken, entry.tag and entry.tag[0]) for entry in events]
+
+    mine, theirs = told(one), told(other)
+    for number in range(max(len(mine), len(theirs))):
+        if mine[number : number + 1] != theirs[number : number + 1]:
+            return number + 1
+    return None
+
+
+def check_against(browser, one, other):
+    """The table, against the logs of both; and a click in it goes to both events."""
+    rows = browser.value("""Object.fromEntries(Array.from(document.querySelectorAll(".difference"), (row) =>
+        [row.dataset.process || "watch " + row.dataset.watch, Array.from(row.cells, (cell) => cell.textContent)]))""")
+    for log in one.logs:
+        number = differing(one, other, log)
+        same("difference of %s" % log.name, rows[log.name][1], "its event %d" % number if number else "no difference")
+        if not number:
+            continue
+        browser.value("document.querySelector('.difference[data-process=%s] button').click()" % log.name)
+        for stage, group in zip(now(browser), (one, other)):
+            own = [event for event in group.traffic.events if event.log.process == log.process]
+            if number <= len(own):
+                same("place", stage["position"], own[number - 1].position)
+    for stage, group in zip(now(browser), (one, other)):
+        check_position(stage, group, stage["position"], group.asked([stage["position"]])[0])
+    same("watches", sorted(row for row in rows if row.startswith("watch ")), sorted("watch " + name for name, _ in one.watches))
+
+
+def check_hunt(browser, program, hunt):
+    chance = random.Random(hunt)
+    has_two = os.path.exists(hunt + GOOD)
+    group = group_of(program, hunt, hunt + (FAILING if has_two else ""))
+    opened(browser, hunt + ".html")
+    check_positions(browser, group, chance)
+    check_moves(browser, group)
+    check_filters(browser, group, chance)
+    no_complaint(browser)
+    if has_two:
+        opened(browser, hunt + "_against.html")
+        check_against(browser, group, group_of(program, hunt, hunt + GOOD))
+        no_complaint(browser)
+    print("%s: as expected" % hunt, flush=True)
+
+
+def arguments():
+    parser = argparse.ArgumentParser(description=__doc__, formatter_class=argparse.RawDescriptionHelpFormatter)
+    parser.add_argument("--only", action="append", choices=["hunts", "hostile", "ring"], help="one of the checks")
+    parser.add_argument("program", nargs="?", default=BUILT, help="the program friday")
+    chosen = parser.parse_args()
+    chosen.program = os.path.abspath(chosen.program)
+    return chosen
+
+
+def main():
+    chosen = arguments()
+    wanted = chosen.only or ["hunts", "hostile", "ring"]
+    with tempfile.TemporaryDirectory() as folder, Browser() as browser:
+        os.chdir(folder)
+        if "hunts" in wanted:
+            subprocess.run([PAGES, folder, chosen.program], check=True)
+            for hunt in HUNTS:
+                check_hunt(browser, chosen.program, hunt)
+        if "hostile" in wanted:
+            check_hostile(browser, chosen.program)
+        if "ring" in wanted:
+            check_ring(browser, chosen.program)
+        os.chdir("/")
+
+
+if __name__ == "__main__":
+    try:
+        main()
+    except AssertionError as error:
+        sys.exit(str(error))
