@@ -151,7 +151,5 @@ class Browser:
     def wheel(self, x, y, way):
         self.ask("Input.dispatchMouseEvent", type="mouseWheel", x=x, y=y, deltaX=0, deltaY=100 * way)
 
-    def picture(self, path, **clip):
-        words = {"clip": {**clip, "scale": 1}} if clip else {}
-        with open(path, "wb") as file:
-            file.write(base64.b64decode(self.ask("Page.captureScreenshot", format="png", **words)["data"]))
+    def picture(self):
+        return base64.b64decode(self.ask("Page.captureScreenshot", format="png")["data"])

@@ -1,11 +1,14 @@
 """What stands on a page that a browser shows, and what should stand there by the logs and the debugger."""
 
+import unicodedata
+
 from captions import shortened
 from debugger import asked
 from group import read_group
 from traffic import Fate, traffic_of
 from wording import bytes_lines, shown
 
+UNSEEN = ("Cc", "Cf", "Cs", "Co", "Cn", "Zl", "Zp")
 LONGEST_LINE, MOST_DATAGRAMS, EVENTS_BEFORE = 400, 6, 10
 
 # Whether the address has the positions; it is written a little later than they change.
@@ -115,6 +118,11 @@ class Group:
         return shortened(text, LONGEST_LINE)
 
 
+def visible(name):
+    """A name with its signs that are not seen spelled out, as the page shows it."""
+    return "".join("\\u{%x}" % ord(sign) if unicodedata.category(sign) in UNSEEN else sign for sign in name)
+
+
 def same(what, found, wanted):
     if found != wanted:
         raise AssertionError("%s: the page has %r, and it should be %r" % (what, found, wanted))
@@ -127,7 +135,7 @@ def check_position(stage, group, position, answer):
     same("event", stage["headline"], "%d: %s" % (position, line))
     same("bytes", stage["told"][: len(group.told(position))], group.told(position))
     same("values", [value[1] for value in stage["values"]], answer["values"])
-    same("names", [value[0] for value in stage["values"]], [shortened(name, 60) for name, _ in group.watches])
+    same("names", [value[0] for value in stage["values"]], [shortened(visible(name), 60) for name, _ in group.watches])
     same("events", stage["events"][: len(answer["events"])], answer["events"])
     for log in group.logs:
         card, (end, threads) = stage["processes"][log.name], answer["processes"][log.name]

@@ -29,6 +29,11 @@ function holdsBytes(bytes, pattern) {
   return false;
 }
 
+// A name from outside, with its signs that are not seen, or that turn the order of others, spelled out.
+function visible(name) {
+  return name.replace(/[\p{C}\p{Zl}\p{Zp}]/gu, (sign) => "\\u{" + sign.codePointAt(0).toString(16) + "}");
+}
+
 function shortened(text, longest) {
   return text.length <= longest ? text : text.slice(0, longest - 2) + "..";
 }

@@ -2,7 +2,7 @@
 
 class Course {
   constructor({ name, expression, positions, values }) {
-    this.name = name;
+    this.name = visible(name);
     this.expression = expression;
     this.positions = Uint32Array.from(positions);
     this.values = values;

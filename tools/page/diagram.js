@@ -225,6 +225,10 @@ function slanted(context, text, x, y) {
   context.save();
   context.translate(x, y);
   context.rotate(-1.0);
+  // White around the letters keeps them readable where lines cross them.
+  context.strokeStyle = "rgba(255, 255, 255, 0.85)";
+  context.lineWidth = 3;
+  context.strokeText(text, 0, 0);
   context.fillText(text, 0, 0);
   context.restore();
 }

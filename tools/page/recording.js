@@ -26,7 +26,7 @@ const BEGINNING = "the beginning";
 class Recording {
   constructor(data, pool) {
     this.count = data.count;
-    this.files = data.files;
+    this.files = data.files.map(visible);
     this.processes = data.processes;
     this.texts = data.texts;
     this.calls = data.texts.map((text) => text.split(" ", 1)[0]);
