@@ -28,6 +28,8 @@ HUNTS = {
     "bank": ("bank/failing/bank.wasm", ("north", "south", "east")),
     "lost_update": ("bank/bank.wasm", ("north", "south", "east")),
 }
+# Where something stands on the screen.
+BOX = "(({x, y, width}) => [x, y, width])(document.querySelector('%s').getBoundingClientRect())"
 # The recordings of the hunts that have two.
 FAILING, GOOD = "/failing", "/good"
 
@@ -52,14 +54,15 @@ def check_moves(browser, group):
     """Keys, the wheel, and clicks in the steps and the list."""
     middle = group.count // 2
     go(browser, 0, middle)
-    for press, wanted in (
-        (("ArrowRight",), middle + 1), (("ArrowLeft",), middle), (("ArrowRight", True), middle + 10), (("ArrowLeft", True), middle),
-        (("Home",), 0), (("ArrowLeft",), 0), (("End",), group.count), (("ArrowRight",), group.count), (("ArrowLeft",), group.count - 1),
+    for key, shift, wanted in (
+        ("ArrowRight", False, middle + 1), ("ArrowLeft", False, middle), ("ArrowRight", True, middle + 10),
+        ("ArrowLeft", True, middle), ("Home", False, 0), ("ArrowLeft", False, 0), ("End", False, group.count),
+        ("ArrowRight", False, group.count), ("ArrowLeft", False, group.count - 1),
     ):
-        browser.key(*press)
-        same("key %s" % (press,), now(browser)[0]["position"], wanted)
-    box = browser.value("(({x, y, width, height}) => [x, y, width, height])(document.querySelector('.diagram').getBoundingClientRect())")
-    browser.wheel(box[0] + box[2] / 2, box[1] + 50, -1)
+        browser.key(key, shift)
+        same("key %s" % key, now(browser)[0]["position"], wanted)
+    left, top, width = browser.value(BOX % "canvas.diagram")
+    browser.wheel(left + width / 2, top + 50, -1)
     browser.wait("document.querySelector('.position').value === '%d'" % (group.count - 2))
     browser.value("document.querySelectorAll('.event')[3].click()")
     clicked = now(browser)[0]
@@ -69,9 +72,9 @@ def check_moves(browser, group):
 
 def check_steps(browser):
     """A click in the steps goes to the event that changed the value; the key w goes to the next change."""
-    box = browser.value("(({x, y, width}) => [x, y, width])(document.querySelector('canvas.steps').getBoundingClientRect())")
+    left, top, width = browser.value(BOX % "canvas.steps")
     for part in (0.3, 0.6, 0.95):
-        browser.click(box[0] + box[2] * part, box[1] + 20)
+        browser.click(left + width * part, top + 20)
         found = now(browser)[0]
         wanted = "since %d" % found["position"] if found["position"] else "from the beginning"
         same("step", found["values"][0][2], wanted)
@@ -111,10 +114,10 @@ def check_filters(browser, group, chance):
 
 
 def check_search(browser, group):
-    """Text and digits; n goes to the first event that holds them."""
-    printed = [event for event in group.traffic.events if event.entry.call.name == "print"]
-    piece = printed[len(printed) // 2].entry.sent[:7] if printed else b"none"
-    for search in (piece.decode(), "0x" + piece.hex()):
+    """Text from the front of what was printed, and digits from its end; n goes to the first event that holds them."""
+    printed = [event.entry.sent for event in group.traffic.events if event.entry.call.name == "print"]
+    words = printed[len(printed) // 2] if printed else b"nothing\n"
+    for search, piece in ((words[:7].decode(), words[:7]), ("0x" + words[-7:].hex(), words[-7:])):
         fill(browser, "search", search, "input")
         holding = [event.position for event in group.traffic.events if piece in event.entry.sent + event.entry.taken]
         same("search", passed(browser), len(holding))

@@ -95,5 +95,6 @@ def first_value(answers, watch):
     first, point = answers.next(), answers.next()
     for answer in (first, point, *([answers.next()] if answers.starts(r"\?") else [])):
         if answer.startswith("?"):
-            raise Refused("the debugger refuses the watch %s: %s" % (ascii(watch[0]), answer))
+            told = tuple(ascii(word) for word in watch)
+            raise Refused("the watch %s: the debugger answers its line print %s by %s" % (*told, answer))
     return first

@@ -14,7 +14,7 @@ from small_png import smaller
 EXAMPLES = os.path.join(os.path.dirname(os.path.abspath(__file__)), "..", "examples")
 # At which position the culprit stands, and the keys that bring what led to it into sight.
 HUNTS = {"register": (29, ""), "election": (232, ""), "bank": (208, "-"), "lost_update": (54, "")}
-WIDTH, HEIGHT = 1180, 860
+WIDTH, HEIGHT = 1240, 980
 
 
 def main(words):

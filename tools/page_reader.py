@@ -2,7 +2,7 @@
 
 import unicodedata
 
-from captions import shortened
+from captions import Captions, shortened
 from debugger import asked
 from group import read_group
 from traffic import Fate, traffic_of
@@ -23,7 +23,7 @@ READ = """Array.from(document.querySelectorAll(".stage"), (stage) => {
   return {
     position: Number(stage.querySelector(".position").value), slider: Number(stage.querySelector(".slider").value),
     headline: texts(stage, ".headline")[0], told: texts(stage, ".told .bytes"), total: texts(stage, ".total")[0],
-    values: Array.from(stage.querySelectorAll(".watch"), (row) => [texts(row, ".name")[0], texts(row, ".value")[0], texts(row, ".since")[0]]),
+    values: Array.from(stage.querySelectorAll(".watch"), (row) => texts(row, ".name, .value, .since")),
     events: Array.from(stage.querySelectorAll(".event"), (row) => row.firstChild.textContent),
     processes: Object.fromEntries(Array.from(stage.querySelectorAll(".process"), process)),
   };
@@ -55,7 +55,7 @@ def go(browser, way, position):
         browser.value("location.hash = '#at=%d'" % position)
     else:
         kind = ".slider" if way == 1 else ".position"
-        script = "input = document.querySelector('%s'); input.value = %d; input.dispatchEvent(new Event('input', {bubbles: true}))"
+        script = "input = document.querySelector('%s'); input.value = %d; input.dispatchEvent(new Event('input'))"
         browser.value(script % (kind, position))
     browser.wait("document.querySelector('.position').value === '%d'" % position)
 
@@ -91,9 +91,12 @@ class Group:
         return found
 
     def told(self, position):
-        """The words for an event's bytes."""
-        event = self.traffic.events[position - 1] if position else None
-        return [shortened(line, LONGEST_LINE) for line in bytes_lines(event.entry, self.names)] if event else []
+        """The words for an event's bytes and its datagram."""
+        if not position:
+            return []
+        event, captions = self.traffic.events[position - 1], Captions(self.logs, self.traffic)
+        lines = [*bytes_lines(event.entry, self.names), *captions.sent(event), *captions.came(event)]
+        return [shortened(line, LONGEST_LINE) for line in lines]
 
     def last_event(self, log, position):
         return max((event.position for event in self.traffic.events[:position] if event.log is log), default=0)
@@ -133,7 +136,7 @@ def check_position(stage, group, position, answer):
     same("position", (stage["position"], stage["slider"]), (position, position))
     line = answer["at"].split(": ", 1)[1] if position else "the beginning"
     same("event", stage["headline"], "%d: %s" % (position, line))
-    same("bytes", stage["told"][: len(group.told(position))], group.told(position))
+    same("bytes", stage["told"], group.told(position))
     same("values", [value[1] for value in stage["values"]], answer["values"])
     same("names", [value[0] for value in stage["values"]], [shortened(visible(name), 60) for name, _ in group.watches])
     same("events", stage["events"][: len(answer["events"])], answer["events"])
@@ -145,7 +148,7 @@ def check_position(stage, group, position, answer):
         last = group.last_event(log, position)
         event = group.traffic.events[last - 1] if last else None
         same("last event", card["last"], "%d: %s" % (last, event.entry.text(log.name)) if event else "no event yet")
-        same("its bytes", card["told"][: len(group.told(last))], group.told(last))
+        same("its bytes", card["told"], group.told(last))
 
 
 def read_watches(path):

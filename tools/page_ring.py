@@ -10,7 +10,7 @@ from page_reader import no_complaint, opened, same
 PAGE = os.path.join(os.path.dirname(os.path.abspath(__file__)), "page.py")
 COUNT, EVENTS = 16, 100000
 # What a page may take.
-OPENING, MOVING, BYTES, BYTES_OF_A_CHANGE = 2000, 50, 60, 1000
+OPENING, MOVING, BYTES = 2000, 50, 60
 # Sends a number to the next process of the ring, which is the one that came last and its own, and takes one, for ever.
 GUEST = """(module
   (import "liblog" "me" (func $me (result i32)))
@@ -96,12 +96,12 @@ def check_moving(browser):
 
 def measure(browser, path):
     """Opens the page of a ring and moves in it."""
-    size, changes = os.path.getsize(path), 0
+    size = os.path.getsize(path)
     opened(browser, path)
     took = int(browser.value("document.body.dataset.ready"))
     print("ring: %d bytes, %.1f an event; opened in %d ms" % (size, size / EVENTS, took))
     same("an opening below %d ms" % OPENING, took < OPENING, True)
-    same("bytes", size <= BYTES * EVENTS + BYTES_OF_A_CHANGE * changes, True)
+    same("bytes", size <= BYTES * EVENTS, True)
     check_moving(browser)
     no_complaint(browser)
 

@@ -73,5 +73,6 @@ def smaller(png):
     chosen, places = palette(rows)
     head = struct.pack(">IIBBBBB", width, len(rows), 8, 3, 0, 0, 0)
     lines = b"".join(b"\0" + bytes(places[dot] for dot in row) for row in rows)
-    parts = [(b"IHDR", head), (b"PLTE", bytes(part for colour in chosen for part in colour)), (b"IDAT", zlib.compress(lines, 9)), (b"IEND", b"")]
+    colours = bytes(part for colour in chosen for part in colour)
+    parts = [(b"IHDR", head), (b"PLTE", colours), (b"IDAT", zlib.compress(lines, 9)), (b"IEND", b"")]
     return SIGNATURE + b"".join(chunk(*part) for part in parts)

@@ -36,7 +36,8 @@ class Controls {
       }
     });
     for (const canvas of stage.canvases) {
-      canvas.addEventListener("wheel", (event) => this.wheel(stage, event, inside(canvas, event)[0]), { passive: false });
+      const wheel = (event) => this.wheel(stage, event, inside(canvas, event)[0]);
+      canvas.addEventListener("wheel", wheel, { passive: false });
     }
     for (const name of [".slider", ".position"]) {
       stage.root.querySelector(name).addEventListener("input", (event) => stage.moveTo(Number(event.target.value)));
@@ -57,7 +58,8 @@ class Controls {
   }
 
   key(event) {
-    if (event.target.matches("input:not([type=range]):not([type=checkbox]), select") || event.ctrlKey || event.altKey || event.metaKey) {
+    const isTyped = event.target.closest?.("input:not([type=range]):not([type=checkbox]), select");
+    if (isTyped || event.ctrlKey || event.altKey || event.metaKey) {
       return;
     }
     const stage = this.active;
@@ -92,7 +94,8 @@ class Controls {
   // The address has the position of each recording. Browsers refuse to have it written too often, so it waits a little.
   writeAddress() {
     clearTimeout(this.waiting);
-    this.waiting = setTimeout(() => history.replaceState(null, "", "#at=" + this.stages.map((stage) => stage.cursor).join(",")), 120);
+    const write = () => history.replaceState(null, "", "#at=" + this.stages.map((stage) => stage.cursor).join(","));
+    this.waiting = setTimeout(write, 120);
   }
 
   readAddress(fragment) {

@@ -61,7 +61,7 @@ class Density {
 // The part of a stage that is seen, as density.
 function drawFar(stage, context) {
   const { view, recording, rows, passes } = stage;
-  const band = { height: rows.height, top: 4, places: rows.places };
+  const band = { height: rows.height, top: TOP, places: rows.places };
   const span = { first: view.first, last: view.last, start: view.x(0) - LABELS, scale: view.scale };
   // Events at the left edge may lie a little outside of it, which are left out.
   span.first = Math.max(span.first, Math.ceil(view.position(LABELS)));
@@ -120,7 +120,8 @@ class Overview {
     context.fillText("all events", 6, OVERVIEW_HEIGHT / 2 + 4);
     context.strokeStyle = INK;
     context.lineWidth = 1;
-    context.strokeRect(this.x(view.left) - 1, 1.5, this.x(Math.min(view.right, view.count)) - this.x(view.left) + 2, OVERVIEW_HEIGHT - 3);
+    const left = this.x(view.left);
+    context.strokeRect(left - 1, 1.5, this.x(Math.min(view.right, view.count)) - left + 2, OVERVIEW_HEIGHT - 3);
     context.fillStyle = CURSOR;
     context.fillRect(this.x(cursor) - 1, 0, 2, this.height);
   }

@@ -20,13 +20,16 @@ const WORDS_SCALE = 9;
 const WORDS_HEIGHT = 70;
 const LETTERS = 15;
 const DIAGRAM_HEIGHT = 420;
+// The numbers of positions stand above all rows, so far apart at least.
+const TOP = 16;
+const NUMBERS_APART = 60;
 
 // Where the processes that are shown have their rows.
 class Rows {
   constructor(recording, filters) {
     this.shown = recording.processes.map((_, place) => place).filter((place) => !filters.isHidden(recording.processes[place]));
     this.height = Math.min(Math.max(Math.floor(DIAGRAM_HEIGHT / Math.max(1, this.shown.length)), 26), 120);
-    this.total = this.height * Math.max(1, this.shown.length) + 8;
+    this.total = TOP + this.height * Math.max(1, this.shown.length) + 4;
     this.threads = recording.processes.map((process, place) =>
       recording.made.reduce((most, [at, thread]) => (recording.process[at] === place ? Math.max(most, thread + 1) : most), 1),
     );
@@ -39,7 +42,7 @@ class Rows {
 
   middle(place) {
     const part = this.height >= WORDS_HEIGHT ? 0.74 : 0.5;
-    return 4 + this.height * (this.places.get(place) + part);
+    return TOP + this.height * (this.places.get(place) + part);
   }
 
   // Each thread has its own height.
@@ -51,7 +54,7 @@ class Rows {
 
   // The process whose row a height lies in.
   placeAt(y) {
-    return this.shown[Math.min(Math.max(Math.floor((y - 4) / this.height), 0), this.shown.length - 1)];
+    return this.shown[Math.min(Math.max(Math.floor((y - TOP) / this.height), 0), this.shown.length - 1)];
   }
 }
 
@@ -128,21 +131,19 @@ class Diagram {
     context.setLineDash([]);
   }
 
-  // A cross on the way of a datagram that no event took.
+  // A cross for a datagram that no event took: below, where no words stand.
   drawUntaken(context, send) {
-    const { recording, rows, passes, view } = this.stage;
-    const receiver = recording.receiver(send);
+    const { recording, rows, passes } = this.stage;
     if (!rows.isShown(recording.process[send])) {
       return;
     }
     const [x, y] = this.place(send);
-    const aim = rows.isShown(receiver) ? Math.sign(rows.middle(receiver) - y) || 1 : 1;
     const far = Math.min(18, rows.height * 0.4);
     context.strokeStyle = passes[send] ? RED : FAINT;
     context.lineWidth = 1;
-    line(context, x, y, x + 7, y + aim * far);
-    line(context, x + 4, y + aim * far - 3, x + 10, y + aim * far + 3);
-    line(context, x + 4, y + aim * far + 3, x + 10, y + aim * far - 3);
+    line(context, x, y, x + 7, y + far);
+    line(context, x + 4, y + far - 3, x + 10, y + far + 3);
+    line(context, x + 4, y + far + 3, x + 10, y + far - 3);
   }
 
   drawEvents(context) {
@@ -194,6 +195,20 @@ class Diagram {
       context.stroke();
     }
   }
+}
+
+// The numbers of some positions, round ones, where they stand.
+function drawScale(context, view) {
+  const least = NUMBERS_APART / view.scale;
+  const power = 10 ** Math.floor(Math.log10(least));
+  const step = Math.max(1, [1, 2, 5, 10].find((times) => times * power >= least) * power);
+  context.font = "10px sans-serif";
+  context.textAlign = "center";
+  context.fillStyle = "#5c6773";
+  for (let position = Math.ceil(view.first / step) * step; position <= view.last; position += step) {
+    context.fillText(position, view.x(position), 11);
+  }
+  context.textAlign = "start";
 }
 
 function line(context, fromX, fromY, toX, toY) {

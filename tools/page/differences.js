@@ -14,11 +14,11 @@ class Differences {
     this.show();
   }
 
-  // The other recording goes to the event that has the same number in the same process.
+  // The other recording goes to the event that has the same number in the same process, and brings it to the same place.
   follow(moved) {
     const other = this.stages.find((stage) => stage !== moved);
     if (this.together.checked) {
-      other.place(aligned(moved.recording, moved.cursor, other.recording));
+      other.place(aligned(moved.recording, moved.cursor, other.recording), moved.view.x(moved.cursor));
     }
   }
 
@@ -65,7 +65,8 @@ class Differences {
     const found = firstOtherValue(course, otherCourse);
     const row = element("tr", "difference");
     row.dataset.watch = course.name;
-    row.append(element("th", "", shortened(course.name, 60)), element("td", "number", found ? "its first other value" : "no difference"));
+    const number = found ? "its first other value" : "no difference";
+    row.append(element("th", "", shortened(course.name, 60)), element("td", "number", number));
     if (found) {
       const positions = found.map((value) => (value ? value.position : null));
       found.forEach((value) => row.append(this.valueCell(value, positions)));

@@ -20,7 +20,11 @@ function byPosition(values) {
   return column;
 }
 
-const FATES = ["no event took it: it was lost, or still waits", "the log of its receiver is not given", "the group has no such process"];
+const FATES = [
+  "no event took it: it was lost, or still waits",
+  "the log of its receiver is not given",
+  "the group has no such process",
+];
 const BEGINNING = "the beginning";
 
 class Recording {
@@ -177,10 +181,12 @@ class Recording {
     if (call === "print" && this.reply(position) >= 0) {
       return this.bytes(position).replace(/\\n"$/, '"');
     }
-    if (["send", "exit", "note", "sleep_until", "join", "lock", "unlock", "on_signal"].includes(call)) {
-      return call + " " + (call === "send" ? this.nameOf(Number(this.argument(position))) : this.argument(position)) + (this.reply(position) < 0 ? " = -1" : "");
+    const refused = this.reply(position) < 0 ? " = " + this.reply(position) : "";
+    if (call === "send") {
+      return call + " " + this.nameOf(Number(this.argument(position))) + refused;
     }
-    return call;
+    const isTold = ["exit", "note", "sleep_until", "join", "lock", "unlock", "on_signal"].includes(call);
+    return call + (isTold ? " " + this.argument(position) : "") + refused;
   }
 }
 

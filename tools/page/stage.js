@@ -54,9 +54,14 @@ class Stage {
     this.moved(this);
   }
 
-  place(position) {
+  // Goes to a position without telling; `x` is where the cursor is to stand, if that is not left open.
+  place(position, x = null) {
     this.cursor = Math.min(Math.max(Math.round(position) || 0, 0), this.recording.count);
-    this.view.follow(this.cursor);
+    if (x === null) {
+      this.view.follow(this.cursor);
+    } else {
+      this.view.put(this.cursor, x);
+    }
     if (this.filters.cause !== "all" && !this.chosen) {
       this.pass();
     }
@@ -86,8 +91,8 @@ class Stage {
 
   // The nearest position, in this direction, at which a watched expression changes.
   changing(step) {
-    const changes = this.courses.map((course) => (step > 0 ? course.nextChange(this.cursor) : course.changedAt(this.cursor - 1)));
-    const found = changes.filter((position) => position > 0);
+    const change = (course) => (step > 0 ? course.nextChange(this.cursor) : course.changedAt(this.cursor - 1));
+    const found = this.courses.map(change).filter((position) => position > 0);
     return found.length ? Math[step > 0 ? "min" : "max"](...found) : this.cursor;
   }
 
@@ -96,6 +101,7 @@ class Stage {
     this.overview.draw(overview);
     const context = prepared(diagram, this.view.width, this.rows.total);
     this.drawNames(context);
+    drawScale(context, this.view);
     if (this.view.scale < APART) {
       const key = this.view.key + "," + this.turn;
       this.far.draw(context, key, this.view.width, this.rows.total, (kept) => drawFar(this, kept));

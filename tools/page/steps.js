@@ -29,7 +29,7 @@ class Steps {
       context.fillRect(0, top, view.width, 1);
       context.fillStyle = INK;
       context.font = "bold 11px sans-serif";
-      context.fillText(shortened(course.name, 18), 6, top + 19, LABELS - 12);
+      context.fillText(shortened(course.name, 26), 6, top + 19, LABELS - 12);
       context.font = "11px sans-serif";
       context.fillText(shortened(course.value(cursor), 20), 6, top + 35, LABELS - 12);
     });

@@ -1,6 +1,6 @@
 // Which part of a recording is drawn, and where each of its positions stands.
 
-const LABELS = 120;
+const LABELS = 150;
 const MARGIN = 14;
 const WIDEST = 40;
 const USUAL = 14;
@@ -57,6 +57,12 @@ class View {
   hold() {
     const most = Math.max(0, this.count - this.room / this.scale);
     this.left = Math.min(Math.max(this.left, 0), most);
+  }
+
+  // Brings a position to a place on the screen, or as near as the ends of the recording let it.
+  put(position, x) {
+    this.left = position - (x - LABELS - MARGIN) / this.scale;
+    this.hold();
   }
 
   // Brings a position well into the part that is seen.
