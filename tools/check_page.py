@@ -147,7 +147,7 @@ def check_causes(browser, group, chance):
 def differing(one, other, log):
     """The number of the first event of a process that is another one, without clocks; None where there is none."""
     def told(group):
-        events = [event.entry for event in group.traffic.events if event.log.process == log.process]
+        events = [event.entry for event in own_events(group, log)]
         return [(entry.text("").split(" ", 1)[1], entry.sent, entry.taken, entry.tag and entry.tag[0]) for entry in events]
 
     mine, theirs = told(one), told(other)
@@ -155,6 +155,30 @@ def differing(one, other, log):
         if mine[number : number + 1] != theirs[number : number + 1]:
             return number + 1
     return None
+
+
+def own_events(group, log):
+    return [event for event in group.traffic.events if event.log.process == log.process]
+
+
+def check_together(browser, one, other, chance):
+    """The second recording goes along, to the event of the same number in the same process, or to the last one."""
+    for event in chance.choices(one.traffic.events, k=5):
+        go(browser, 1, event.position)
+        own = own_events(other, event.log)
+        wanted = own[min(event.number, len(own)) - 1].position if own else 0
+        same("aligned", [stage["position"] for stage in now(browser)], [event.position, wanted])
+
+
+def check_values(rows, one, other):
+    """The first value of each watch that is another one."""
+    for (name, _), mine, theirs in zip(one.watches, one.changes(), other.changes()):
+        cells = rows["watch " + name][1:]
+        most = max(len(mine), len(theirs))
+        pairs = zip(mine + [None] * (most - len(mine)), theirs + [None] * (most - len(theirs)))
+        found = next((pair for pair in pairs if pair[0] is None or pair[1] is None or pair[0][1] != pair[1][1]), None)
+        words = ["%s at %d" % (change[1], change[0]) if change else "changes no more" for change in found or ()]
+        same("values of %s" % name, cells, ["its first other value", *words] if found else ["no difference"])
 
 
 def check_against(browser, one, other):
@@ -168,12 +192,12 @@ def check_against(browser, one, other):
             continue
         browser.value("document.querySelector('.difference[data-process=%s] button').click()" % log.name)
         for stage, group in zip(now(browser), (one, other)):
-            own = [event for event in group.traffic.events if event.log.process == log.process]
+            own = own_events(group, log)
             if number <= len(own):
                 same("place", stage["position"], own[number - 1].position)
     for stage, group in zip(now(browser), (one, other)):
         check_position(stage, group, stage["position"], group.asked([stage["position"]])[0])
-    same("watches", sorted(row for row in rows if row.startswith("watch ")), sorted("watch " + name for name, _ in one.watches))
+    check_values(rows, one, other)
 
 
 def check_hunt(browser, program, hunt):
@@ -187,7 +211,9 @@ def check_hunt(browser, program, hunt):
     no_complaint(browser)
     if has_two:
         opened(browser, hunt + "_against.html")
-        check_against(browser, group, group_of(program, hunt, hunt + GOOD))
+        good = group_of(program, hunt, hunt + GOOD)
+        check_against(browser, group, good)
+        check_together(browser, group, good, chance)
         no_complaint(browser)
     print("%s: as expected" % hunt, flush=True)
 

@@ -90,6 +90,18 @@ class Group:
         found["events"] = [answers.next() for _ in range(min(EVENTS_BEFORE, position))]
         return found
 
+    def changes(self):
+        """Of each watch the position and the value of each change, with that of position 0, by asking at every position."""
+        lines = [line for at in range(self.count + 1) for line in ["goto %d" % at, *("print " + word for _, word in self.watches)]]
+        answers, found = asked(self.program, self.pairs, lines), [[] for _ in self.watches]
+        for position in range(self.count + 1):
+            answers.next()
+            for course in found:
+                value = answers.next()
+                if not course or course[-1][1] != value:
+                    course.append((position, value))
+        return found
+
     def told(self, position):
         """The words for an event's bytes and its datagram."""
         if not position:
