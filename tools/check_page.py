@@ -64,6 +64,10 @@ def check_moves(browser, group):
     left, top, width = browser.value(BOX % "canvas.diagram")
     browser.wheel(left + width / 2, top + 50, -1)
     browser.wait("document.querySelector('.position').value === '%d'" % (group.count - 2))
+    # The strip of all events begins and ends with a margin, behind the names.
+    left, top, width = browser.value(BOX % "canvas.overview")
+    browser.click(left + 164 + (width - 178) / 3, top + 20)
+    same("strip", abs(now(browser)[0]["position"] - group.count / 3) <= 1, True)
     browser.value("document.querySelectorAll('.event')[3].click()")
     clicked = now(browser)[0]
     same("list", [event for event in clicked["events"] if event == clicked["headline"]], [clicked["headline"]])

@@ -1,11 +1,17 @@
-"""How long a page of 16 processes with 100,000 events takes to open and to move, and how large it is."""
+"""How long a page of 16 processes with 100,000 events takes to open and to move, and how large it is; and that bytes which
+have no room are cut."""
 
 import os
 import random
 import subprocess
 import sys
 
-from page_reader import no_complaint, opened, same
+from logs import CALLS, Entry, Log
+from page_file import page
+from page_packing import BYTES_OF_AN_EVENT, packed
+from page_reader import go, no_complaint, now, opened, same
+from page_recording import columns, datagrams
+from traffic import traffic_of
 
 PAGE = os.path.join(os.path.dirname(os.path.abspath(__file__)), "page.py")
 COUNT, EVENTS = 16, 100000
@@ -106,7 +112,37 @@ def measure(browser, path):
     no_complaint(browser)
 
 
+def long_prints(count, length):
+    """A process that prints so many bytes by chance at each event."""
+    chance, prints = random.Random(2), next(call for call in CALLS if call.name == "print")
+    pieces = [bytes(chance.randrange(256) for _ in range(length)) for _ in range(count)]
+    entries = [Entry(clock, 0, prints, 0, (0, length), length, piece, b"", None) for clock, piece in enumerate(pieces, 1)]
+    return Log(1, 0, "long", entries)
+
+
+def check_room(browser):
+    """Where the bytes of the events are too many, each keeps its first ones."""
+    log = long_prints(2000, 1000)
+    traffic = traffic_of([log])
+    data, pieces = columns([log], traffic.events)
+    process = {"name": "long", "number": 0, "end": "running", "verdict": "log whole", "threads": [(0, "at exit 0")]}
+    data.update(files=["long.log"], courses=[], processes=[process], **datagrams(traffic))
+    text = packed(data, pieces)
+    same("room", len(text) <= BYTES_OF_AN_EVENT * 2000, True)
+    with open("long.html", "w", encoding="utf-8") as file:
+        file.write(page([text]))
+    opened(browser, "long.html")
+    go(browser, 1, 1500)
+    told = now(browser)[0]["told"][0]
+    kept = told[len("printed ") : told.index("..")]
+    same("the first bytes", log.entries[1499].sent.hex().startswith(kept) and len(kept) > 8, True)
+    same("how many", told.endswith(".. (1000 bytes)"), True)
+    no_complaint(browser)
+    print("long prints: %d bytes an event, of which the page keeps %d: as expected" % (1000, len(kept) // 2), flush=True)
+
+
 def check_ring(browser, program):
+    check_room(browser)
     write_page(program, "ring.html")
     measure(browser, "ring.html")
     print("ring: as expected", flush=True)
