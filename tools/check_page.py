@@ -15,7 +15,7 @@ import tempfile
 
 from browser import Browser
 from page_hostile import check_hostile
-from page_reader import Group, check_position, go, no_complaint, now, opened, read_watches, same
+from page_reader import Group, check_position, fill, go, no_complaint, now, opened, read_watches, same
 from page_ring import check_ring
 from report import BUILT
 from vector_clocks import happens_before, vector_clocks
@@ -97,11 +97,6 @@ def passed(browser):
 
 def tick(browser, kind, name):
     browser.value("document.querySelector('#filters .%s input[name=\"%s\"]').click()" % (kind, name))
-
-
-def fill(browser, kind, value, event):
-    script = "field = document.querySelector('#filters .%s'); field.value = %r; field.dispatchEvent(new Event('%s'))"
-    browser.value(script % (kind, value, event))
 
 
 def check_filters(browser, group, chance):

@@ -60,6 +60,12 @@ def go(browser, way, position):
     browser.wait("document.querySelector('.position').value === '%d'" % position)
 
 
+def fill(browser, kind, value, event):
+    """Puts a value into a field of the filters."""
+    script = "field = document.querySelector('#filters .%s'); field.value = %r; field.dispatchEvent(new Event('%s'))"
+    browser.value(script % (kind, value, event))
+
+
 class Group:
     """The files of a recording with the expressions that its page watches, and what the logs tell."""
 
