@@ -30,8 +30,21 @@ HUNTS = {
 }
 # Where something stands on the screen.
 BOX = "(({x, y, width}) => [x, y, width])(document.querySelector('%s').getBoundingClientRect())"
+# Where position 0 stands when all events are in sight, behind the names and a margin, and how much is no room for events.
+BEGIN, ENDS = 164, 178
 # The recordings of the hunts that have two.
 FAILING, GOOD = "/failing", "/good"
+
+
+# Goes through all positions, and gives the lines of each event.
+WALK = """(() => {
+  const input = document.querySelector(".position");
+  return Array.from({ length: Number(input.max) }, (_, before) => {
+    input.value = before + 1;
+    input.dispatchEvent(new Event("input"));
+    return Array.from(document.querySelectorAll(".headline, .told .bytes"), (line) => line.textContent);
+  });
+})()"""
 
 
 def group_of(program, hunt, folder):
@@ -50,6 +63,15 @@ def check_positions(browser, group, chance):
         browser.wait("location.hash === '#at=%d'" % position)
 
 
+def check_walk(browser, group):
+    """The event and what it did, at all positions."""
+    told = browser.value(WALK)
+    same("the walk", len(told), group.count)
+    for event, (headline, *lines) in zip(group.traffic.events, told):
+        same("the walk", headline, "%d: %s" % (event.position, event.entry.text(event.log.name)))
+        same("the walk at %d" % event.position, lines, group.told(event.position))
+
+
 def check_moves(browser, group):
     """Keys, the wheel, and clicks in the steps and the list."""
     middle = group.count // 2
@@ -64,24 +86,26 @@ def check_moves(browser, group):
     left, top, width = browser.value(BOX % "canvas.diagram")
     browser.wheel(left + width / 2, top + 50, -1)
     browser.wait("document.querySelector('.position').value === '%d'" % (group.count - 2))
-    # The strip of all events begins and ends with a margin, behind the names.
     left, top, width = browser.value(BOX % "canvas.overview")
-    browser.click(left + 164 + (width - 178) / 3, top + 20)
+    browser.click(left + BEGIN + (width - ENDS) / 3, top + 20)
     same("strip", abs(now(browser)[0]["position"] - group.count / 3) <= 1, True)
     browser.value("document.querySelectorAll('.event')[3].click()")
     clicked = now(browser)[0]
     same("list", [event for event in clicked["events"] if event == clicked["headline"]], [clicked["headline"]])
-    check_steps(browser)
+    check_steps(browser, group)
 
 
-def check_steps(browser):
+def check_steps(browser, group):
     """A click in the steps goes to the event that changed the value; the key w goes to the next change."""
+    browser.key("0")
     left, top, width = browser.value(BOX % "canvas.steps")
-    for part in (0.3, 0.6, 0.95):
-        browser.click(left + width * part, top + 20)
-        found = now(browser)[0]
-        wanted = "since %d" % found["position"] if found["position"] else "from the beginning"
-        same("step", found["values"][0][2], wanted)
+    changes = [position for position, _ in group.changes()[0]]
+    for part in range(1, 20, 3):
+        clicked = part * group.count / 20
+        if min(abs(clicked - change) for change in changes) * (width - ENDS) < 8 * group.count:
+            continue
+        browser.click(left + BEGIN + (width - ENDS) * part / 20, top + 20)
+        same("step", now(browser)[0]["position"], max(change for change in changes if change <= clicked))
     browser.key("Home")
     browser.key("w")
     found = now(browser)[0]
@@ -205,6 +229,7 @@ def check_hunt(browser, program, hunt):
     group = group_of(program, hunt, hunt + (FAILING if has_two else ""))
     opened(browser, hunt + ".html")
     check_positions(browser, group, chance)
+    check_walk(browser, group)
     check_moves(browser, group)
     check_filters(browser, group, chance)
     no_complaint(browser)

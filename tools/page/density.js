@@ -25,48 +25,57 @@ class Density {
     return { all, passing };
   }
 
-  draw(context, left, span) {
+  // The bars of all events, or of those that pass, which stand before them.
+  draw(context, left, span, isPassing) {
     const { own } = this.recording;
     const shown = Array.from(this.rows.places, ([place, row]) => ({ row, ...this.counts(own[place], span) }));
     const most = shown.reduce((most, { all }) => all.reduce((one, other) => Math.max(one, other), most), 1);
+    context.fillStyle = isPassing ? "#3b5bdb" : FAINT;
     for (const { row, all, passing } of shown) {
       const foot = this.rows.top + this.rows.height * (row + 0.9);
-      const unit = (this.rows.height * 0.8) / most;
-      this.drawBars(context, left, foot, FAINT, unit, all, passing);
-      this.drawBars(context, left, foot, "#3b5bdb", unit, passing, null);
+      this.drawBars(context, left, foot, (this.rows.height * 0.8) / most, isPassing ? passing : all);
     }
   }
 
-  // Bars of one colour where a column has more than the other ones, each as wide as all columns beside it of the same height.
-  drawBars(context, left, foot, colour, unit, counts, others) {
-    context.fillStyle = colour;
+  // All bars of a row are one shape, which is filled faster than many.
+  drawBars(context, left, foot, unit, counts) {
+    context.beginPath();
+    context.moveTo(left, foot);
     for (let column = 0, next = 0; column < counts.length; column = next) {
       const count = counts[column];
       for (next = column + 1; next < counts.length && counts[next] === count; next++);
-      if (count && !(others && this.isCovered(counts, others, column, next))) {
-        const height = Math.max(1, unit * count);
-        context.fillRect(left + column * COLUMN, foot - height, (next - column) * COLUMN, height);
-      }
+      const top = foot - (count ? Math.max(1, unit * count) : 0);
+      context.lineTo(left + column * COLUMN, top);
+      context.lineTo(left + next * COLUMN, top);
     }
+    context.lineTo(left + counts.length * COLUMN, foot);
+    context.fill();
+  }
+}
+
+// The bars of a stage, kept apart: those of all events stay when the cursor brings other ones to pass.
+class Bars {
+  constructor() {
+    this.all = new Kept();
+    this.passing = new Kept();
   }
 
-  isCovered(counts, others, column, next) {
-    while (column < next && others[column] === counts[column]) {
-      column++;
-    }
-    return column === next;
+  draw(context, key, height, stage, drawn) {
+    const { view, filtered, turn } = stage;
+    this.all.draw(context, key + "," + filtered, view.width, height, (kept) => drawn(kept, false));
+    this.passing.draw(context, key + "," + turn, view.width, height, (kept) => drawn(kept, true));
   }
 }
 
 // The part of a stage that is seen, as density.
-function drawFar(stage, context) {
+function drawFar(stage, context, isPassing) {
   const { view, recording, rows, passes } = stage;
   const band = { height: rows.height, top: TOP, places: rows.places };
   const span = { first: view.first, last: view.last, start: view.x(0) - LABELS, scale: view.scale };
   // Events at the left edge may lie a little outside of it, which are left out.
   span.first = Math.max(span.first, Math.ceil(view.position(LABELS)));
   span.columns = Math.ceil((view.width - LABELS) / COLUMN) + 1;
-  new Density(recording, band, passes).draw(context, LABELS, span);
+  new Density(recording, band, passes).draw(context, LABELS, span, isPassing);
 }
 
 const OVERVIEW_HEIGHT = 64;
@@ -75,7 +84,7 @@ const OVERVIEW_HEIGHT = 64;
 class Overview {
   constructor(stage) {
     this.stage = stage;
-    this.events = new Kept();
+    this.bars = new Bars();
     this.changes = new Kept();
   }
 
@@ -89,12 +98,12 @@ class Overview {
     return Math.min(Math.max(Math.round(((x - LABELS - MARGIN) * recording.count) / view.room), 0), recording.count);
   }
 
-  drawEvents(context) {
+  drawBars(context, isPassing) {
     const { view, recording, rows, passes } = this.stage;
     const band = { height: (OVERVIEW_HEIGHT - 8) / Math.max(1, rows.shown.length), top: 4, places: rows.places };
     const span = { first: 1, last: recording.count, start: this.x(0) - LABELS, scale: this.x(1) - this.x(0) };
     span.columns = Math.ceil((view.width - LABELS) / COLUMN) + 1;
-    new Density(recording, band, passes).draw(context, LABELS, span);
+    new Density(recording, band, passes).draw(context, LABELS, span, isPassing);
   }
 
   // Where the watched expressions change, a row of marks for each of the first ones.
@@ -111,9 +120,9 @@ class Overview {
   }
 
   draw(canvas) {
-    const { view, cursor, turn } = this.stage;
+    const { view, cursor } = this.stage;
     const context = prepared(canvas, view.width, this.height);
-    this.events.draw(context, view.width + "," + turn, view.width, this.height, (kept) => this.drawEvents(kept));
+    this.bars.draw(context, view.width, this.height, this.stage, (kept, isPassing) => this.drawBars(kept, isPassing));
     this.changes.draw(context, view.width, view.width, this.height, (kept) => this.drawChanges(kept));
     context.fillStyle = INK;
     context.font = "11px sans-serif";

@@ -1,6 +1,15 @@
 // Which events are shown in full: those of the chosen processes and calls, in the past or future of the chosen event, and
 // with the bytes that are looked for.
 
+// How many marks there are.
+function countOf(marks) {
+  let count = 0;
+  for (let place = 0; place < marks.length; place++) {
+    count += marks[place];
+  }
+  return count;
+}
+
 class Filters {
   constructor() {
     this.hiddenProcesses = new Set();

@@ -13,9 +13,10 @@ class Stage {
     this.chosen = 0;
     // The first event of each process that another recording has otherwise.
     this.differs = [];
-    // How often the events that pass were found, for what is kept of them.
+    // How often the filters changed, and how often the events that pass were found, for what is kept of them.
+    this.filtered = 0;
     this.turn = 0;
-    this.far = new Kept();
+    this.far = new Bars();
     this.moved = () => {};
     // Has the address written again.
     this.told = () => {};
@@ -31,14 +32,14 @@ class Stage {
   filter(filters) {
     this.filters = filters;
     this.rows = new Rows(this.recording, filters);
+    this.filtered++;
     this.pass();
   }
 
   pass() {
     this.passes = this.filters.passing(this.recording, this.causes, this.chosen || this.cursor);
     this.turn++;
-    this.passed = 0;
-    this.passes.forEach((passes) => (this.passed += passes));
+    this.passed = countOf(this.passes);
   }
 
   resize(filters) {
@@ -103,8 +104,7 @@ class Stage {
     this.drawNames(context);
     drawScale(context, this.view);
     if (this.view.scale < APART) {
-      const key = this.view.key + "," + this.turn;
-      this.far.draw(context, key, this.view.width, this.rows.total, (kept) => drawFar(this, kept));
+      this.far.draw(context, this.view.key, this.rows.total, this, (kept, isPassing) => drawFar(this, kept, isPassing));
     } else {
       this.diagram.draw(context);
     }
