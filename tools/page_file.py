@@ -12,7 +12,7 @@ FOLDER = os.path.join(os.path.dirname(os.path.abspath(__file__)), "page")
 # Each stands behind those that it uses.
 SCRIPTS = (
     "bytes", "recording", "causes", "standing", "course", "filters", "compare",
-    "view", "diagram", "density", "steps", "panel", "events", "stage", "differences", "controls", "main",
+    "view", "diagram", "density", "overview", "steps", "panel", "events", "stage", "differences", "controls", "main",
 )
 POLICY = "default-src 'none'; script-src '%s'; style-src '%s'; base-uri 'none'; form-action 'none'"
 PAGE = """<!DOCTYPE html>
