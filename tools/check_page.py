@@ -34,8 +34,6 @@ BOX = "(({x, y, width}) => [x, y, width])(document.querySelector('%s').getBoundi
 BEGIN, ENDS = 164, 178
 # The recordings of the hunts that have two.
 FAILING, GOOD = "/failing", "/good"
-
-
 # Goes through all positions, and gives the lines of each event.
 WALK = """(() => {
   const input = document.querySelector(".position");
