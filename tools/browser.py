@@ -74,7 +74,9 @@ class Browser:
         words = [shutil.which("chromium") or "chromium", "--headless=new", "--no-sandbox", "--disable-gpu", "--no-first-run",
                  "--hide-scrollbars", "--force-device-scale-factor=1", "--remote-debugging-port=0",
                  "--user-data-dir=" + self.folder, "--window-size=%d,%d" % (width, height), "about:blank"]
-        self.program = subprocess.Popen(words, stderr=subprocess.PIPE, stdout=subprocess.DEVNULL, text=True, errors="replace")
+        # It leaves files of its own where it is ended.
+        how = {"env": {**os.environ, "TMPDIR": self.folder}, "stdout": subprocess.DEVNULL, "stderr": subprocess.PIPE}
+        self.program = subprocess.Popen(words, text=True, errors="replace", **how)
         port = self.port()
         with urllib.request.urlopen("http://127.0.0.1:%d/json" % port, timeout=WAIT) as answer:
             pages = [page for page in json.load(answer) if page["type"] == "page"]
