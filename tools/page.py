@@ -1,0 +1,67 @@
+#!/usr/bin/env python3
+"""A recording as a page that a browser shows without any network: the events of all processes along their common order,
+with a cursor, and at each position the threads, the datagrams under way and the values of expressions. With --against it
+shows two recordings of one group beside each other, and where they differ first.
+
+The program is asked by `friday replay` and `friday debug`; the logs tell the rest.
+"""
+
+import argparse
+import sys
+
+from group import NotOneGroup
+from logs import BadLog
+from page_file import page
+from page_packing import packed
+from page_recording import read_recording
+from picture import OneLineParser, write
+from report import BUILT, Refused
+
+
+def watch(word):
+    name, equals, expression = word.partition("=")
+    if not equals or not name or not expression.strip():
+        raise argparse.ArgumentTypeError("a watch is NAME=EXPR: %s" % ascii(word))
+    if len(expression.splitlines()) != 1:
+        raise argparse.ArgumentTypeError("the expression of a watch is one line: %s" % ascii(word))
+    return name, expression.strip()
+
+
+def arguments():
+    parser = OneLineParser(
+        description=__doc__, formatter_class=argparse.RawDescriptionHelpFormatter, allow_abbrev=False
+    )
+    parser.add_argument("pairs", nargs="+", metavar="MODULE LOG", help="the log of each process behind its module")
+    parser.add_argument("--watch", dest="watches", nargs="+", action="extend", type=watch, default=[], metavar="NAME=EXPR",
+                        help="an expression of the debugger, and the name that the page gives it")
+    parser.add_argument("--against", nargs="+", default=[], metavar="MODULE LOG", help="another recording of the group")
+    parser.add_argument("--program", default=BUILT, help="the program friday, if not the one that ./friday builds")
+    chosen = parser.parse_args()
+    if len(chosen.pairs) % 2 or len(chosen.against) % 2:
+        parser.error("each module needs its log")
+    return chosen
+
+
+def made(chosen):
+    recordings = [read_recording(chosen.program, pairs, chosen.watches) for pairs in (chosen.pairs, chosen.against) if pairs]
+    names = [[(process["number"], process["name"]) for process in data["processes"]] for data, _ in recordings]
+    if names[0] != names[-1]:
+        raise NotOneGroup("the recordings are not of the same processes")
+    return page([packed(*recording) for recording in recordings])
+
+
+def main():
+    chosen = arguments()
+    try:
+        text = made(chosen)
+    except BadLog as error:
+        sys.exit("%s is no log" % error)
+    except (NotOneGroup, Refused) as error:
+        sys.exit(str(error))
+    except OSError as error:
+        sys.exit("%s: %s" % (error.filename, error.strerror))
+    write(text)
+
+
+if __name__ == "__main__":
+    main()
