@@ -1,0 +1,120 @@
+"""What becomes of a line that is typed by hand."""
+
+import re
+
+from by_hand import commands
+from by_hand.debugger import Ended
+from by_hand.names import Refusal
+from by_hand.state import State
+from by_hand.words import expanded
+from logs import in_group_order
+from wording import bytes_lines
+
+EVENT = re.compile(r"(?:at )?(\d+): (.*)")
+# Lines that can go on for long, and whose programs may change variables.
+WALKS = ("continue",)
+TELLS_EVENTS = ("goto", "step", "back", "continue", "rcontinue", "events")
+
+
+class Session:
+    def __init__(self, debugger, names, print_line):
+        self.debugger, self.names, self.print = debugger, names, print_line
+        self.state, self.last, self.over = State(), "", False
+        self.shows_bytes, self.shows_sent, self.sent = True, False, []
+        self.order = in_group_order(names.logs)
+        self.called = {log.process: log.name for log in names.logs}
+
+    def prompt(self):
+        return "(friday %d) " % self.state.position
+
+    def handle(self, typed):
+        """Does what a line asks for; an empty one asks for the last once more."""
+        typed = typed.strip() or self.last
+        self.last = typed
+        word, form, rest = expanded(typed)
+        if not typed or typed.startswith("#"):
+            return
+        try:
+            command = getattr(commands, "do_" + word, None)
+            if command:
+                command(self, rest, form)
+            else:
+                self.send(" ".join([word, rest]).strip(), typed)
+        except Refusal as refusal:
+            self.print("? %s" % refusal)
+        except OSError as error:
+            self.print("? %s: %s" % (error.filename, error.strerror))
+        except KeyboardInterrupt:
+            self.give_up()
+
+    def send(self, line, typed=None):
+        """Sends a line with addresses in place of names, and prints the answer; whether it was accepted."""
+        sent = self.names.line(line)
+        verb = sent.split(" ", 1)[0]
+        if self.shows_sent:
+            self.print("> " + sent)
+        if verb in WALKS:
+            self.state.variables = list(self.debugger.ask("vars"))
+        if verb == "quit":
+            self.over = True
+            return True
+        answers = []
+        for answer in self.debugger.ask(sent):
+            answers.append(answer)
+            self.print(answer)
+            if verb in TELLS_EVENTS and self.shows_bytes:
+                self.print_bytes(answer)
+        refused = len(answers) == 1 and answers[0].startswith("? ")
+        if refused:
+            self.explain(answers[0], sent, typed)
+        else:
+            self.sent.append(sent)
+            self.state.take(verb, line, sent, answers)
+        return not refused
+
+    def print_bytes(self, answer):
+        """What the event of this line printed, sent or took."""
+        found = EVENT.fullmatch(answer)
+        if found is None or not 0 < int(found[1]) <= len(self.order):
+            return
+        entry, log = self.order[int(found[1]) - 1]
+        if entry.text(log.name) == found[2]:
+            for line in bytes_lines(entry, self.called):
+                self.print("    " + line)
+
+    def explain(self, answer, sent, typed):
+        """What helps beside the debugger's answer to a line that it refuses."""
+        column = re.fullmatch(r"\? 1 syntax at column (\d+)", answer)
+        if column and column[1] == "1":
+            self.print("    %s is no word here: help lists them, docs/gdb.md has gdb's" % (typed or sent).split()[0])
+        elif column:
+            self.print("    %s\n    %s^" % (sent, " " * (int(column[1]) - 1)))
+        elif answer.startswith("? 2"):
+            self.print("    the processes are %s" % ", ".join(self.names.nodes))
+        elif answer.startswith("? 7"):
+            self.print("    the logs have %d events" % len(self.order))
+
+    def values(self, expressions):
+        """The values of expressions at the position, which no line of the session says."""
+        return self.debugger.ask_each(["print " + text for text in expressions])
+
+    def give_up(self):
+        """Leaves a walk, by a new program that is brought to where the session was."""
+        self.print("given up; going back to position %d" % self.state.position)
+        self.debugger.restart()
+        for line in self.state.lines():
+            for answer in self.debugger.ask(line):
+                if answer.startswith("? "):
+                    self.print("%s: %s" % (line, answer))
+
+    def run(self, lines):
+        """Handles lines until they end or the session does; its status."""
+        try:
+            for line in lines:
+                self.handle(line)
+                if self.over:
+                    break
+        except Ended as ended:
+            self.print("the program ended with status %s" % ended)
+            return int(str(ended))
+        return self.debugger.end()
