@@ -4,7 +4,8 @@ import os
 import subprocess
 import sys
 
-LAUNCHER = os.path.join(os.path.dirname(os.path.dirname(os.path.realpath(__file__))), "friday")
+TOP = os.path.dirname(os.path.dirname(os.path.realpath(__file__)))
+LAUNCHER = os.path.join(TOP, "friday")
 
 
 def program_of(given):
@@ -15,3 +16,13 @@ def program_of(given):
     if done.returncode != 0:
         sys.exit(done.returncode)
     return done.stdout.rstrip("\n")
+
+
+def program_if_there():
+    """The program that answered ./friday last, or None: nothing is built."""
+    try:
+        with open(os.path.join(TOP, "out", "current"), encoding="ascii") as file:
+            program = os.path.join(TOP, file.read().split()[1])
+    except (OSError, IndexError):
+        return None
+    return program if os.access(program, os.X_OK) else None

@@ -1,11 +1,9 @@
 """What the report of `friday replay` says of each process."""
 
-import os
 import re
 import subprocess
 from dataclasses import dataclass
 
-BUILT = os.path.join(os.path.dirname(os.path.abspath(__file__)), "../crates/friday/out/friday")
 LINE = re.compile(r"(\w+): (\d+) events, (.*), (log whole|\d+ bytes left over|diverged at .*)")
 
 
