@@ -39,6 +39,9 @@ if __name__ == "__main__":
     signal.signal(signal.SIGTERM, lambda number, _: sys.exit(128 + number))
     try:
         sys.exit(prepare(sys.argv[1:]))
+    except OSError as error:
+        say(f"{error.filename}: {error.strerror}; what is built is kept in out/ at the top of the clone")
+        sys.exit(NO_PROGRAM)
     except KeyboardInterrupt:
         say("stopped; no program was built")
         sys.exit(130)

@@ -70,7 +70,7 @@ def prove_crates(order, lanes, progress):
     try:
         while order.left or order.running:
             begin_ready(order, lanes)
-            time.sleep(0.05)
+            time.sleep(0.2)
             progress.tell()
             for lane in lanes:
                 crate, status = lane.ended() or (None, 0)
@@ -87,6 +87,8 @@ def prove_crates(order, lanes, progress):
 def begin_ready(order, lanes):
     """Gives each idle lane a crate; where fewer are ready than processors idle, these work together on one."""
     idle = [lane for lane in lanes if lane.tool is None]
+    if not idle:
+        return
     ready = order.ready()[: len(idle)]
     for place, (lane, crate) in enumerate(zip(idle, ready)):
         jobs = len(idle) // len(ready) + (place < len(idle) % len(ready))

@@ -77,6 +77,13 @@ def do_threads(session, rest, form):
         session.send("threads " + node)
 
 
+def do_list(session, rest, form):
+    """The points, each with its program, which the debugger's own list leaves out."""
+    session.send("list")
+    for point, (typed, _) in sorted(session.state.programs.items()):
+        session.print("    " + typed)
+
+
 def do_names(session, rest, form):
     """The variables of a process, those with this part in their name."""
     words = rest.split()
