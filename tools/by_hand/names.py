@@ -4,7 +4,7 @@ import os
 import re
 import sys
 
-from logs import BadLog, read_log
+from logs import BadLog, head_of
 
 KIT = os.path.join(os.path.dirname(os.path.dirname(os.path.dirname(os.path.realpath(__file__)))), "guests")
 sys.path.append(KIT)
@@ -21,11 +21,12 @@ class Names:
     """The variables of each process, by the file of places beside its module."""
 
     def __init__(self, pairs, told):
-        self.logs, tables = [], {}
+        self.nodes, self.paths, tables = [], [], {}
         for module, path in zip(pairs[::2], pairs[1::2]):
             try:
-                log = read_log(path)
-                self.logs.append(log)
+                log = head_of(path)
+                self.nodes.append(log.name)
+                self.paths.append(path)
                 tables[log.name] = read_table(os.path.splitext(module)[0] + ".places")
             except (BadLog, OSError):
                 # The program says what is wrong with it.
@@ -33,7 +34,6 @@ class Names:
             except Refusal as refusal:
                 told("no names for %s: %s" % (log.name, refusal))
         self.tables, self.script = tables, Script(tables)
-        self.nodes = [log.name for log in self.logs]
 
     def reference(self, text, at):
         """The node, the path and the end of a reference NODE.PATH that begins here, or None."""

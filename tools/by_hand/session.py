@@ -1,5 +1,7 @@
 """What becomes of a line that is typed by hand."""
 
+import functools
+import os
 import re
 
 from by_hand import commands
@@ -7,22 +9,38 @@ from by_hand.debugger import Ended
 from by_hand.names import Refusal
 from by_hand.state import State
 from by_hand.words import expanded
-from logs import in_group_order
+from logs import in_group_order, read_log
 from wording import bytes_lines
 
 EVENT = re.compile(r"(?:at )?(\d+): (.*)")
 # Lines that can go on for long, and whose programs may change variables.
 WALKS = ("continue",)
 TELLS_EVENTS = ("goto", "step", "back", "continue", "rcontinue", "events")
+# Logs of more bytes than this take some seconds to read, so that is not done unasked.
+MUCH = 8_000_000
 
 
 class Session:
     def __init__(self, debugger, names, print_line):
         self.debugger, self.names, self.print = debugger, names, print_line
         self.state, self.last, self.over = State(), "", False
-        self.shows_bytes, self.shows_sent, self.sent = True, False, []
-        self.order = in_group_order(names.logs)
-        self.called = {log.process: log.name for log in names.logs}
+        self.shows_sent, self.sent = False, []
+        self.shows_bytes = sum(map(os.path.getsize, names.paths)) <= MUCH
+
+    @functools.cached_property
+    def order(self):
+        """The events of all logs, in the order of the positions."""
+        return in_group_order([read_log(path) for path in self.names.paths])
+
+    @functools.cached_property
+    def called(self):
+        return {log.process: log.name for _, log in self.order}
+
+    def greeting(self):
+        nodes = ", ".join(self.names.nodes)
+        if self.shows_bytes:
+            return "%d events of %s; help lists the words" % (len(self.order), nodes)
+        return "a long recording of %s; help lists the words, and `bytes on` shows the bytes of events" % nodes
 
     def prompt(self):
         return "(friday %d) " % self.state.position
