@@ -5,6 +5,7 @@
 # script is answered over the logs of the failing schedule, and its answers are compared too.
 # Usage: check_hunts.sh [PROGRAM]   (the program that answers ./friday, if none is given)
 here=$(CDPATH='' cd -- "$(dirname -- "$0")" && pwd) || exit 1
+. "$here/../tools/usage.sh"
 program=${1:-$("$here/../friday" --program)} && program=$(realpath -- "$program") || exit 1
 folder=$(mktemp -d) || exit 1
 trap 'rm -rf "$folder"' EXIT

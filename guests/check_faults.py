@@ -1,5 +1,6 @@
 #!/usr/bin/env python3
 """Checks check-module and build over guests with one fault each: the reason, the place and the advice that are told."""
+import argparse
 import os
 import subprocess
 import sys
@@ -70,6 +71,7 @@ def check_words():
 
 
 def main():
+    argparse.ArgumentParser(description=__doc__).parse_args()
     with tempfile.TemporaryDirectory() as folder:
         os.chdir(folder)
         for case in BY_CLANG:

@@ -3,6 +3,7 @@
 # the exit with what the same C writes where it runs by itself.
 # Usage: check.sh [PROGRAM]   (the program that answers ./friday, if none is given)
 here=$(CDPATH='' cd -- "$(dirname -- "$0")" && pwd) || exit 1
+. "$here/../../tools/usage.sh"
 program=${1:-$("$here/../../friday" --program)} || exit 1
 PYTHONPATH=$here/../../tools exec python3 - "$program" "$here" <<'PYTHON'
 import os, shutil, subprocess, sys, tempfile

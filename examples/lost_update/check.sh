@@ -3,6 +3,7 @@
 # answers the script over them. The logs and what is printed are compared with what lies here.
 # Usage: check.sh [PROGRAM]   (the program that answers ./friday, if none is given)
 here=$(CDPATH='' cd -- "$(dirname -- "$0")" && pwd) || exit 1
+. "$here/../../tools/usage.sh"
 program=${1:-$("$here/../../friday" --program)} && program=$(realpath -- "$program") || exit 1
 folder=$(mktemp -d) || exit 1
 trap 'rm -rf "$folder"' EXIT

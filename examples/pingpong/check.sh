@@ -3,6 +3,7 @@
 # Then the lines of `session` are answered over the logs of the last one, from a file and from a pipe, and compared too.
 # Usage: check.sh [PROGRAM]   (the program that answers ./friday, if none is given)
 here=$(CDPATH='' cd -- "$(dirname -- "$0")" && pwd) || exit 1
+. "$here/../../tools/usage.sh"
 program=${1:-$("$here/../../friday" --program)} && program=$(realpath -- "$program") || exit 1
 folder=$(mktemp -d) || exit 1
 trap 'rm -rf "$folder"' EXIT

@@ -3,6 +3,7 @@
 # notes with what the same C notes where it runs by itself, without threads.
 # Usage: check.sh [PROGRAM]   (the program that answers ./friday, if none is given)
 here=$(CDPATH='' cd -- "$(dirname -- "$0")" && pwd) || exit 1
+. "$here/../../tools/usage.sh"
 program=${1:-$("$here/../../friday" --program)} || exit 1
 PYTHONPATH=$here/../../tools exec python3 - "$program" "$here" <<'PYTHON'
 import os, random, shutil, subprocess, sys, tempfile
