@@ -56,9 +56,11 @@ def prove_all():
         say(f"proving {len(names)} crates, {len(lanes)} at a time, and then the program; it goes on here after a stop")
         if not prove_crates(order, lanes, Progress(order, len(lanes))):
             return False
+        read_at = time.time()
         if not build_program(Progress(order, 1)):
             return told_refused("friday", LOG)
-        os.utime(f"{HERE}/{PROVED}")
+        # A source that was changed since is newer than the program then.
+        os.utime(f"{HERE}/{PROVED}", (read_at, read_at))
         found()
         shutil.rmtree(folder_of_lanes(), ignore_errors=True)
         say(f"proved, in {as_time(time.monotonic() - begun)}; the program is {HERE}/{PROVED}")
