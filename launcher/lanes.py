@@ -13,6 +13,8 @@ import tempfile
 from sources import CRATES, HERE
 
 MEMORY_OF_A_LANE = 3 << 30
+# So many crates are hardly ever ready at once.
+MOST_LANES = 8
 
 
 def folder_of_lanes():
@@ -23,7 +25,7 @@ def folder_of_lanes():
 
 def lane_count():
     """One for each processor, as far as the memory goes."""
-    return max(1, min(len(os.sched_getaffinity(0)), free_memory() // MEMORY_OF_A_LANE))
+    return max(1, min(len(os.sched_getaffinity(0)), free_memory() // MEMORY_OF_A_LANE, MOST_LANES))
 
 
 def free_memory():
@@ -80,6 +82,10 @@ class Lane:
                     shutil.copytree(source, target)
                 else:
                     shutil.copy2(source, target)
+
+    def has_begun(self, crate):
+        """Whether a proof of the crate was begun here, in this run or one before."""
+        return os.path.isdir(f"{self.folder}/crates/{crate}/out/incremental")
 
     def begin(self, crate, lower, jobs):
         """Begins to prove a crate over the libraries that the clone has by now."""

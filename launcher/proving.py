@@ -12,6 +12,9 @@ from unproved import alone
 
 # How much processor time a line takes to prove, before this machine has shown it.
 SECONDS_A_LINE = 0.06
+# More processors than this make one crate hardly faster.
+MOST_JOBS = 4
+WANTED_ROOM = 3 << 30
 LOG = f"{OUT}/proofs.log"
 
 
@@ -54,6 +57,8 @@ def prove_all():
         names = crates_in_order()[:-1]
         order = Order(crates_below(), {name: line_count(name) for name in names})
         say(f"proving {len(names)} crates, {len(lanes)} at a time, and then the program; it goes on here after a stop")
+        if shutil.disk_usage(folder_of_lanes()).free < WANTED_ROOM:
+            say(f"note: this wants some 3 GB of disk, and {folder_of_lanes()} has less; TMPDIR names another place")
         if not prove_crates(order, lanes, Progress(order, len(lanes))):
             return False
         read_at = time.time()
@@ -91,11 +96,13 @@ def begin_ready(order, lanes):
     idle = [lane for lane in lanes if lane.tool is None]
     if not idle:
         return
-    ready = order.ready()[: len(idle)]
-    for place, (lane, crate) in enumerate(zip(idle, ready)):
-        jobs = len(idle) // len(ready) + (place < len(idle) % len(ready))
-        lower = [name for name in crates_in_order() if name in order.done]
-        lane.begin(crate, lower, jobs)
+    ready, free = order.ready()[: len(idle)], len(idle)
+    for place, crate in enumerate(ready):
+        jobs = free // len(ready) + (place < free % len(ready))
+        # Where a run was stopped, its lane has a part of the proof.
+        lane = next((lane for lane in idle if lane.has_begun(crate)), idle[0])
+        idle.remove(lane)
+        lane.begin(crate, sorted(order.done), min(jobs, MOST_JOBS))
         order.begin(crate)
 
 
