@@ -1,5 +1,7 @@
 """The words that the session answers itself, or by several lines of the debugger."""
 
+import re
+
 from by_hand.names import Refusal
 from by_hand.values import expressions, leaves, spelled
 from by_hand.words import HELP, condition_of
@@ -48,7 +50,7 @@ def do_bytes_at(session, rest, form):
     place = session.names.place(rest)
     if place is None:
         node, address, length = (rest.split() + ["", "", ""])[:3]
-        length = length or "64"
+        length = length or "".join(filter(str.isdigit, form)) or "64"
     else:
         node, length = place.node, str(place.table.size_of(place.type))
         address = session.values([place.address(int(length))])[0]
@@ -70,6 +72,11 @@ def print_dump(session, start, data):
         row = data[at : at + 16]
         text = "".join(chr(byte) if 32 <= byte < 127 else "." for byte in row)
         session.print("%6d  %-47s  %s" % (start + at, row.hex(" "), text))
+
+
+def do_set(session, rest, form):
+    """A variable of the session; gdb's = may stand in between."""
+    session.send("set " + re.sub(r"^(\$\w+)\s*=(?!=)\s*", r"\1 ", rest))
 
 
 def do_threads(session, rest, form):
