@@ -64,6 +64,9 @@ def check_words():
         path = os.path.join(KIT, tool)
         assert run([path, "--help"])[0] == 0 and run([path])[0] == 2 and run([path, "--nothing"])[0] == 2, tool
     assert run([os.path.join(KIT, "build"), "--stack", "7", "fine.c"])[0] == 2
+    assert run([os.path.join(KIT, "build"), "--lines", "fine.c"])[0] == 0
+    with open("fine.places") as file:
+        assert "variable fine::liblog_line u32 " in file.read()
     with open("text", "w") as file:
         file.write("no module")
     status, told = run([os.path.join(KIT, "check-module"), "text"])

@@ -53,19 +53,19 @@ TYPED = (
 )
 
 
-def session(program, typed, *words):
+def session(program, typed, *words, wanted=0):
     run = subprocess.run(
         [sys.executable, os.path.join(HERE, "session"), "--program", program, *words, *PAIRS],
         input=typed, stdout=subprocess.PIPE, text=True, cwd=LOGS, timeout=300,
     )
-    assert run.returncode == 0, run
+    assert run.returncode == wanted, run
     return run.stdout
 
 
 def check_answers(program):
     """Each line is followed by a mark, so that the answers can be told apart."""
     typed = "".join("%s\nset $mark %d\np $mark + 1000000\n" % (line, place) for place, (line, _) in enumerate(TYPED))
-    answers = re.split(r"10000\d\d\n", session(program, typed))
+    answers = re.split(r"10000\d\d\n", session(program, typed, wanted=1))
     for (line, wanted), answer in zip(TYPED, answers):
         assert re.match(wanted, answer), (line, wanted, answer)
 

@@ -16,6 +16,7 @@ EVENT = re.compile(r"(?:at )?(\d+): (.*)")
 # Lines that can go on for long, and whose programs may change variables.
 WALKS = ("continue",)
 TELLS_EVENTS = ("goto", "step", "back", "continue", "rcontinue", "events")
+MOVES = ("goto", "step", "back", "continue", "rcontinue")
 # Logs of more bytes than this take some seconds to read, so that is not done unasked.
 MUCH = 8_000_000
 
@@ -23,7 +24,7 @@ MUCH = 8_000_000
 class Session:
     def __init__(self, debugger, names, print_line):
         self.debugger, self.names, self.print = debugger, names, print_line
-        self.state, self.last, self.over = State(), "", False
+        self.state, self.last, self.over, self.refused = State(), "", False, 0
         self.shows_sent, self.sent = False, []
         self.shows_bytes = sum(map(os.path.getsize, names.paths)) <= MUCH
 
@@ -59,11 +60,15 @@ class Session:
             else:
                 self.send(" ".join([word, rest]).strip(), typed)
         except Refusal as refusal:
-            self.print("? %s" % refusal)
+            self.refuse("? %s" % refusal)
         except OSError as error:
-            self.print("? %s: %s" % (error.filename, error.strerror))
+            self.refuse("? %s: %s" % (error.filename, error.strerror))
         except KeyboardInterrupt:
             self.give_up()
+
+    def refuse(self, text):
+        self.refused += 1
+        self.print(text)
 
     def send(self, line, typed=None):
         """Sends a line with addresses in place of names, and prints the answer; whether it was accepted."""
@@ -82,8 +87,11 @@ class Session:
             self.print(answer)
             if verb in TELLS_EVENTS and self.shows_bytes:
                 self.print_bytes(answer)
+        if verb in MOVES:
+            self.print_line(answers)
         refused = len(answers) == 1 and answers[0].startswith("? ")
         if refused:
+            self.refused += 1
             self.explain(answers[0], sent, typed)
         else:
             self.sent.append(sent)
@@ -99,6 +107,15 @@ class Session:
         if entry.text(log.name) == found[2]:
             for line in bytes_lines(entry, self.called):
                 self.print("    " + line)
+
+    def print_line(self, answers):
+        """Where in its source the process of the last event stands now, if it was built to note that."""
+        found = EVENT.fullmatch(answers[-1]) if answers else None
+        node = found[2].split()[1] if found else None
+        name = self.names.variable_of_line(node)
+        if name:
+            line = self.values([self.names.line("@%s.{%s}" % (node, name))])[0]
+            self.print("    %s stands at line %s now" % (node, line))
 
     def explain(self, answer, sent, typed):
         """What helps beside the debugger's answer to a line that it refuses."""
