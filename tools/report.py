@@ -4,6 +4,10 @@ import re
 import subprocess
 from dataclasses import dataclass
 
+from program import LAUNCHER, program_if_there
+
+# For tools that take a program as their usual one: the launcher makes one where there is none.
+BUILT = program_if_there() or LAUNCHER
 LINE = re.compile(r"(\w+): (\d+) events, (.*), (log whole|\d+ bytes left over|diverged at .*)")
 
 
