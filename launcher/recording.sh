@@ -18,20 +18,26 @@ sums_of() {
 }
 
 before_recording() {
-    before='' logs='' schedule=''
+    before='' logs='' schedule='' kinds=log
     for word in "$@"; do
-        case $word in record | --images) ;; *) schedule=$word ;; esac
+        case $word in
+        record) ;;
+        --images) kinds='log mem out' ;;
+        *) schedule=$word ;;
+        esac
     done
     [ -f "$schedule" ] && [ -r "$schedule" ] || return 0
     names=$(names_of "$schedule")
     # shellcheck disable=SC2086
     count=$(set -- $names; echo $#) number=0 others=''
     for name in $names; do
-        # shellcheck disable=SC3013 # dash has -ef, as bash has.
-        if [ "$schedule" -ef "$name.log" ]; then
-            say "the log of $name would be written over the schedule $schedule: give that another name"
-            return 2
-        fi
+        for kind in $kinds; do
+            # shellcheck disable=SC3013 # dash has -ef, as bash has.
+            if [ "$schedule" -ef "$name.$kind" ]; then
+                say "$name.$kind would be written over the schedule $schedule: give that another name"
+                return 2
+            fi
+        done
         if [ -f "$name.log" ]; then
             logs="$logs $name.log"
             is_of_other_group "$name.log" "$count" "$number" && others="$others $name.log"
@@ -40,10 +46,11 @@ before_recording() {
     done
     [ -z "$others" ] || say "logs of another group are written over:$others. Each recording wants a folder of its own"
     before=$(sums_of "$logs")
-    # The lock is on the folder, and goes with this shell.
-    exec 9<. && command -v flock > /dev/null && ! flock -n 9 &&
-        say "another recording is being made in this folder: where both have a process of one name, its log is of neither"
-    return 0
+    if [ -r . ] && command -v flock > /dev/null; then
+        # The lock is on the folder, and goes with this shell.
+        exec 9<.
+        flock -n 9 || say "another recording is being made in this folder: logs of processes of one name get mixed"
+    fi
 }
 
 after_recording() {

@@ -1,9 +1,10 @@
 """What the tab key offers: words of the session, processes, and the variables of a process."""
 
-from by_hand import commands
+from by_hand.commands import COMMANDS
 
-LINES = ("goto", "step", "continue", "mem", "events", "list", "delete", "set", "vars", "quit", "rcontinue")
-WORDS = sorted([name[3:] for name in dir(commands) if name.startswith("do_")] + list(LINES))
+LINES = ("goto", "step", "continue", "mem", "events", "delete", "vars", "quit", "rcontinue", "run")
+HIDDEN = ("bytes_at", "from_start")
+WORDS = sorted([word for word in COMMANDS if word not in HIDDEN] + list(LINES))
 
 
 def offered(names, start):

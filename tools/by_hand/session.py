@@ -4,7 +4,7 @@ import functools
 import os
 import re
 
-from by_hand import commands
+from by_hand.commands import COMMANDS
 from by_hand.debugger import Ended
 from by_hand.names import Refusal
 from by_hand.state import State
@@ -54,9 +54,8 @@ class Session:
         if not typed or typed.startswith("#"):
             return
         try:
-            command = getattr(commands, "do_" + word, None)
-            if command:
-                command(self, rest, form)
+            if word in COMMANDS:
+                COMMANDS[word](self, rest, form)
             else:
                 self.send(" ".join([word, rest]).strip(), typed)
         except Refusal as refusal:
