@@ -62,5 +62,30 @@ def go_back(session, rest, form):
         session.send("back " + count)
 
 
+def go_back_to_point(session, rest, form):
+    """Back to where a point fires, by the program's own line; or by walks from the beginning, where no program hears of it."""
+    if list(session.debugger.ask("rcontinue 0")) != ["? 1 syntax at column 1"]:
+        session.send("rcontinue")
+        return
+    if session.state.programs:
+        raise Refusal("the program has no rcontinue yet, and without it the programs of points would run once more")
+    fired, place = last_stop_before(session, session.state.position)
+    for line in fired:
+        session.print(line)
+    session.send("goto %d" % place)
+
+
+def last_stop_before(session, end):
+    """What points say at the last position before `end` at which one fires, and that position; or `start` and 0."""
+    found = ["start"], 0
+    list(session.debugger.ask("goto 0"))
+    while True:
+        *fired, answer = session.debugger.ask("continue")
+        place = int(re.match(r"at (\d+)", answer)[1])
+        if place >= end or fired == ["end"]:
+            return found
+        found = fired, place
+
+
 def go_to_start(session, rest, form):
     session.send("goto 0")
