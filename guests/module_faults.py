@@ -29,10 +29,12 @@ HELP = {
 }
 
 
-def faults(data, path):
-    """The lines for each fault of the module's bytes; `path` is a file of them, for the debug information in it."""
-    if len(data) > MOST_BYTES:
-        yield "TooLarge: it has %d bytes, and at most %d can be; build without debug information, or with -Os" % (len(data), MOST_BYTES)
+def faults(data, path, size=None):
+    """The lines for each fault of the module's bytes; `path` is a file of them, for the debug information in it, without which
+    it may have another size."""
+    size = len(data) if size is None else size
+    if size > MOST_BYTES:
+        yield "TooLarge: it has %d bytes, and at most %d can be; build without debug information, or with -Os" % (size, MOST_BYTES)
     if data[:8] != b"\0asm\1\0\0\0":
         yield "1 Malformed: it is no WebAssembly module of version 1"
         return
