@@ -3,8 +3,9 @@
 # `print` at the beginning, in the middle and at the end of logs of 20,000, 100,000 and 1,000,000 events; `goto` to the end
 # beside the replay of the same logs, and one position back; and the time until `at 0` with 16 logs of 1 MB. Prints the time
 # for each line and each event, and the instructions for each line. The guest is built with wat2wasm of the package wabt.
-# Usage: bench/debug.sh [PROGRAM]   (the program that ./friday builds, if none is given)
+# Usage: bench/debug.sh [PROGRAM]   (the proved program, if none is given)
 here=$(CDPATH='' cd -- "$(dirname -- "$0")/.." && pwd) || exit 1
+. "$here/tools/usage.sh"
 program=${1:-$here/crates/friday/out/friday}
 exec python3 - "$program" <<'PYTHON'
 import os, re, shutil, statistics, subprocess, sys, tempfile, threading, time

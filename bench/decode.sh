@@ -3,8 +3,9 @@
 # wasm-validate and wasm-objdump -h of the package wabt on the same files. The modules are valid, so that
 # each program reads all of them. The time of a start, on a module of 8 bytes, is subtracted. The instructions
 # per byte are given for a module of a tenth of the size too: where the time is linear in it, they agree.
-# Usage: bench/decode.sh [PROGRAM]   (the program that ./friday builds, if none is given)
+# Usage: bench/decode.sh [PROGRAM]   (the proved program, if none is given)
 here=$(CDPATH='' cd -- "$(dirname -- "$0")/.." && pwd) || exit 1
+. "$here/tools/usage.sh"
 program=${1:-$here/crates/friday/out/friday}
 exec python3 - "$program" "$here/examples/first/a.log" <<'PYTHON'
 import os, re, shutil, statistics, subprocess, sys, tempfile, time

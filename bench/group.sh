@@ -3,8 +3,9 @@
 # that a schedule can try, and replays their logs, all together and one of them by itself; and records a mailbox in
 # which datagrams wait, few and many. Prints the instructions, the time and the writes for each event, and the peak
 # memory. The guest is built with wat2wasm of the package wabt.
-# Usage: bench/group.sh [PROGRAM]   (the program that ./friday builds, if none is given)
+# Usage: bench/group.sh [PROGRAM]   (the proved program, if none is given)
 here=$(CDPATH='' cd -- "$(dirname -- "$0")/.." && pwd) || exit 1
+. "$here/tools/usage.sh"
 program=${1:-$here/crates/friday/out/friday}
 exec python3 - "$program" <<'PYTHON'
 import os, re, shutil, subprocess, sys, tempfile, time

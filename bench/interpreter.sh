@@ -8,8 +8,9 @@
 # beside the log; and two programs in C, built by clang at -O2: a sort of 100,000 numbers and the SHA-256 of
 # 1 MB, for which no step of the interpreter was chosen. Their instructions are counted in wasm-interp's
 # trace of a small run, where blocks and their ends count nothing. The time of a start is subtracted.
-# Usage: bench/interpreter.sh [PROGRAM]   (the program that ./friday builds, if none is given)
+# Usage: bench/interpreter.sh [PROGRAM]   (the proved program, if none is given)
 here=$(CDPATH='' cd -- "$(dirname -- "$0")/.." && pwd) || exit 1
+. "$here/tools/usage.sh"
 program=${1:-$here/crates/friday/out/friday}
 exec python3 - "$program" "$here" <<'PYTHON'
 import os, re, shutil, statistics, subprocess, sys, tempfile, time

@@ -2,8 +2,9 @@
 # Records from schedules of comment lines, of idle tries in one item, and of idle tries in an item each,
 # at a tenth of the limit and at the limit: 16,777,216 bytes, 1,000,000 tries. Prints the time and the
 # instructions per byte or per try, and the peak memory.
-# Usage: bench/record.sh [PROGRAM]   (the program that ./friday builds, if none is given)
+# Usage: bench/record.sh [PROGRAM]   (the proved program, if none is given)
 here=$(CDPATH='' cd -- "$(dirname -- "$0")/.." && pwd) || exit 1
+. "$here/tools/usage.sh"
 program=${1:-$here/crates/friday/out/friday}
 exec python3 - "$program" "$here/examples/first/a.wasm" <<'PYTHON'
 import os, re, shutil, statistics, subprocess, sys, tempfile, time

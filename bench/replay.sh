@@ -1,8 +1,9 @@
 #!/bin/sh
 # Replays a log of 320 KB and one of the full 33,554,432 bytes, both of whole entries behind the end of
 # the process, and prints the time per byte and the peak memory of each.
-# Usage: bench/replay.sh [PROGRAM]   (the program that ./friday builds, if none is given)
+# Usage: bench/replay.sh [PROGRAM]   (the proved program, if none is given)
 here=$(CDPATH='' cd -- "$(dirname -- "$0")/.." && pwd) || exit 1
+. "$here/tools/usage.sh"
 program=${1:-$here/crates/friday/out/friday}
 exec python3 - "$program" "$here/examples/first/a.wasm" <<'PYTHON'
 import os, re, shutil, statistics, struct, subprocess, sys, tempfile, time

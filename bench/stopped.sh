@@ -2,8 +2,9 @@
 # Stops a long recording of a group by `kill -9` at random moments, and looks at the logs that are left: each is the
 # front of the log of the whole recording, `friday replay` accepts each to its last whole entry, at most one log has a
 # part of an entry behind that, and each datagram that was taken has its send in them.
-# Usage: bench/stopped.sh [PROGRAM [TIMES]]   (the program that ./friday builds and 200 times, if none are given)
+# Usage: bench/stopped.sh [PROGRAM [TIMES]]   (the proved program and 200 times, if none are given)
 here=$(CDPATH='' cd -- "$(dirname -- "$0")/.." && pwd) || exit 1
+. "$here/tools/usage.sh"
 program=${1:-$here/crates/friday/out/friday}
 exec python3 - "$program" "${2:-200}" <<'PYTHON'
 import os, random, re, signal, struct, subprocess, sys, tempfile, time

@@ -2,8 +2,9 @@
 # Records a process whose threads yield in turn: one thread, and 64 of them, each event by an item of its own. Prints
 # the instructions of an event, by the difference of two counts, and the time of an event over 900,000 of them. The guest
 # is built with wat2wasm of the package wabt.
-# Usage: bench/threads.sh [PROGRAM]   (the program that ./friday builds, if none is given)
+# Usage: bench/threads.sh [PROGRAM]   (the proved program, if none is given)
 here=$(CDPATH='' cd -- "$(dirname -- "$0")/.." && pwd) || exit 1
+. "$here/tools/usage.sh"
 program=${1:-$here/crates/friday/out/friday}
 exec python3 - "$program" <<'PYTHON'
 import os, re, shutil, subprocess, sys, tempfile, time

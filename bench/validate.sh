@@ -2,8 +2,9 @@
 # Validates ordinary modules and hostile ones, of a tenth of the limit and of the limit of 4,194,304 bytes,
 # by this program and by wabt's wasm-validate, and prints the time that each takes beyond its start, and the
 # instructions per byte of this program. A child is stopped after 20 seconds.
-# Usage: bench/validate.sh [PROGRAM]   (the program that ./friday builds, if none is given)
+# Usage: bench/validate.sh [PROGRAM]   (the proved program, if none is given)
 here=$(CDPATH='' cd -- "$(dirname -- "$0")/.." && pwd) || exit 1
+. "$here/tools/usage.sh"
 program=${1:-$here/crates/friday/out/friday}
 exec python3 - "$program" "$here/examples/first/a.wasm" <<'PYTHON'
 import os, re, shutil, statistics, struct, subprocess, sys, tempfile, time

@@ -5,8 +5,9 @@
 # processor's time for each event, and that for each value of a watchpoint or run of the program, which is what the walk
 # takes longer than without points; instructions by valgrind for the shorter logs; and the peak of memory. The guest is built
 # with wat2wasm of the package wabt.
-# Usage: bench/walks.sh [PROGRAM]   (the program that ./friday builds, if none is given)
+# Usage: bench/walks.sh [PROGRAM]   (the proved program, if none is given)
 here=$(CDPATH='' cd -- "$(dirname -- "$0")/.." && pwd) || exit 1
+. "$here/tools/usage.sh"
 program=${1:-$here/crates/friday/out/friday}
 exec python3 - "$program" <<'PYTHON'
 import os, re, shutil, subprocess, sys, tempfile

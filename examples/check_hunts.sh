@@ -3,9 +3,10 @@
 # and replays the group of each, lists what its processes printed and noted, and compares all of it with what lies beside
 # the guests. The memories and the prints that a replay comes to have to be those of the recording. Last, the debugger's
 # script is answered over the logs of the failing schedule, and its answers are compared too.
-# Usage: check_hunts.sh [PROGRAM]   (the program that ./friday builds, if none is given)
+# Usage: check_hunts.sh [PROGRAM]   (the program that answers ./friday, if none is given)
 here=$(CDPATH='' cd -- "$(dirname -- "$0")" && pwd) || exit 1
-program=$(realpath -- "${1:-$here/../crates/friday/out/friday}") || exit 1
+. "$here/../tools/usage.sh"
+program=${1:-$("$here/../friday" --program)} && program=$(realpath -- "$program") || exit 1
 folder=$(mktemp -d) || exit 1
 trap 'rm -rf "$folder"' EXIT
 

@@ -1,9 +1,10 @@
 #!/bin/sh
 # Builds the guests of check/, in C and in Rust, records and replays each, and compares what they note with what they
 # should. The values at the places of variables are read from the memory with which the recording ends.
-# Usage: check.sh [PROGRAM]   (the program that ./friday builds, if none is given)
+# Usage: check.sh [PROGRAM]   (the program that answers ./friday, if none is given)
 here=$(CDPATH='' cd -- "$(dirname -- "$0")" && pwd) || exit 1
-program=${1:-$here/../crates/friday/out/friday}
+. "$here/../tools/usage.sh"
+program=${1:-$("$here/../friday" --program)} || exit 1
 PYTHONPATH=$here/../tools exec python3 - "$program" "$here" <<'PYTHON'
 import os, random, re, shutil, subprocess, sys, tempfile
 

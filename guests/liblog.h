@@ -64,4 +64,13 @@ LIBLOG(unlock) int32_t liblog_unlock(uint32_t lock);
 // Has a function called for a signal from 1 to 31: 0, or -1.
 LIBLOG(on_signal) int32_t liblog_on_signal(uint32_t signal, liblog_function *handler);
 
+// With build --lines a variable has the line of the guest's file in which the process made its last call, which is the one
+// that waits for its event.
+#ifdef LIBLOG_LINES
+static LIBLOG_WATCHED volatile uint32_t liblog_line;
+#define LIBLOG_HERE (liblog_line = __LINE__)
+#else
+#define LIBLOG_HERE ((void)0)
+#endif
+
 #endif

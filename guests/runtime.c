@@ -1,5 +1,8 @@
 #include "runtime.h"
 
+// With build --libc they come from there.
+#ifndef LIBLOG_LIBC
+
 void *memcpy(void *to, const void *from, size_t count) {
     uint8_t *target = to;
     const uint8_t *source = from;
@@ -39,6 +42,8 @@ size_t strlen(const char *text) {
         count++;
     return count;
 }
+
+#endif
 
 uint32_t number_to_text(char *to, int64_t number) {
     char digits[LONGEST_NUMBER];

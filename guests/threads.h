@@ -36,6 +36,7 @@ int32_t thread_start(liblog_function *start, int32_t argument, void *stack, uint
 
 #define KEEP_STACK(call)                               \
     ({                                                 \
+        LIBLOG_HERE;                                   \
         uint32_t liblog_kept_stack = stack_pointer();  \
         __auto_type liblog_answer = (call);            \
         set_stack_pointer(liblog_kept_stack);          \
@@ -43,11 +44,13 @@ int32_t thread_start(liblog_function *start, int32_t argument, void *stack, uint
     })
 #define KEEP_STACK_OF_VOID(call)                       \
     do {                                               \
+        LIBLOG_HERE;                                   \
         uint32_t liblog_kept_stack = stack_pointer();  \
         (call);                                        \
         set_stack_pointer(liblog_kept_stack);          \
     } while (0)
 
+#define liblog_exit(code) (LIBLOG_HERE, liblog_exit(code))
 #define liblog_note(value) KEEP_STACK_OF_VOID(liblog_note(value))
 #define liblog_print(bytes, count) KEEP_STACK(liblog_print(bytes, count))
 #define liblog_now() KEEP_STACK(liblog_now())

@@ -12,8 +12,8 @@ def shortened(text, longest=LONGEST):
 
 
 class Captions:
-    def __init__(self, logs, traffic):
-        self.traffic = traffic
+    def __init__(self, logs, traffic, has_bytes=False):
+        self.traffic, self.has_bytes = traffic, has_bytes
         self.names = {log.process: log.name for log in logs}
         self.threaded = {log.process for log in logs if any(entry.thread for entry in log.entries)}
 
@@ -52,14 +52,19 @@ class Captions:
     def word(self, event):
         """The call in short, behind the thread where the process has several."""
         thread = "%d: " % event.entry.thread if event.log.process in self.threaded else ""
-        return thread + " ".join([*words(event.entry), *self.unseen_receiver(event)])
+        return thread + " ".join([*words(event.entry), *self.receiver(event), *self.bytes_of(event.entry)])
 
-    def unseen_receiver(self, event):
-        """To whom a datagram went that no arrow shows."""
-        if self.traffic.fates.get(event.position, Fate.TAKEN) is Fate.TAKEN:
+    def receiver(self, event):
+        """To whom a datagram was sent."""
+        if event.entry.call.name != "send":
             return []
         receiver = event.entry.arguments[0]
         return ["to " + self.names.get(receiver, str(receiver))]
+
+    def bytes_of(self, entry):
+        """What was sent or taken, where pictures are to have it in words."""
+        data = entry.sent if entry.call.name == "send" else entry.taken
+        return [shown(data)] if self.has_bytes and data else []
 
 
 def words(entry):

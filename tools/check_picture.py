@@ -6,6 +6,7 @@ sends to their receives. The logs for ShiViz and the pictures have to tell of ea
 group of logs has to be refused in one line.
 """
 
+import argparse
 import json
 import os
 import random
@@ -165,6 +166,7 @@ def check_refused():
 
 
 def main():
+    argparse.ArgumentParser(description=__doc__, formatter_class=argparse.RawDescriptionHelpFormatter).parse_args()
     with tempfile.TemporaryDirectory() as folder:
         os.chdir(folder)
         for seed in range(12):

@@ -10,13 +10,19 @@ GOING, COMING = 18, 30
 
 
 class Picture:
-    """A picture of the events from one position to another; `ends` has what is known of each process at the last."""
+    """A picture of the events of some processes from one position to another, but for those of the calls that are hidden;
+    `ends` has what is known of each process at the last."""
 
-    def __init__(self, logs, traffic, captions, ends, first, last):
+    def __init__(self, logs, traffic, captions, ends, first, last, hidden=()):
         self.logs, self.traffic, self.captions, self.ends = logs, traffic, captions, ends
         self.first, self.last = first, last
-        self.events = traffic.events[first - 1 : last]
+        self.processes, self.hidden = {log.process for log in logs}, set(hidden)
+        self.events = [event for event in traffic.events[first - 1 : last] if self.is_shown(event)]
         self.layout = Layout(logs, self.events)
+
+    def is_shown(self, event):
+        """Whether a picture of all positions has the event."""
+        return event.log.process in self.processes and event.entry.call.name not in self.hidden
 
     def svg(self):
         parts = [self.rows(), *map(self.life, self.logs), *self.arrows(), *map(self.stub, self.events)]
@@ -62,12 +68,18 @@ class Picture:
     def end_of(self, end, x, y):
         kind = "end bad" if end.bad else "end"
         mark = line((x - 8, y), (x + 8, y), kind) if end.over else ""
-        words = text(end.text, x + 12, y + (4 if end.over else 12), kind + " words")
-        threads = [text(words, x + 12, y + 12 + 13 * place, "thread") for place, words in enumerate(end.threads, 1)]
+        words = text(self.clipped(end.text), x + 12, y + (4 if end.over else 12), kind + " words")
+        threads = [text(self.clipped(words), x + 12, y + 12 + 13 * place, "thread") for place, words in enumerate(end.threads, 1)]
         return told([end.told, *end.threads], mark, words, *threads)
+
+    def clipped(self, words):
+        """As much of a caption as has room beside a process's line."""
+        return words if len(words) <= self.layout.letters else words[: self.layout.letters - 2] + ".."
 
     def arrows(self):
         for taken in self.traffic.taken:
+            if not (self.is_shown(taken.send) and self.is_shown(taken.receive)):
+                continue
             sent, received = (self.is_drawn(event) for event in (taken.send, taken.receive))
             if sent or received:
                 yield self.arrow(taken, self.place(taken.send), self.place(taken.receive))
@@ -112,8 +124,7 @@ class Picture:
         kind = "dot " + kind_of(event.entry)
         if event.number > self.ends[event.log.name].accepted:
             kind += " refused"
-        word, letters = self.captions.word(event), self.layout.letters
-        word = word if len(word) <= letters else word[: letters - 2] + ".."
+        word = self.clipped(self.captions.word(event))
         signal = element("tspan", "signal %d" % event.entry.signal, kind="signal", dx=6) if event.entry.signal else ""
         caption = text(word, x + 9, y + 3.5, "word").replace("</text>", signal + "</text>")
         return told(self.captions.lines(event), element("circle", cx=number(x), cy=number(y), r=DOT, kind=kind), caption)

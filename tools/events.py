@@ -1,8 +1,10 @@
 #!/usr/bin/env python3
 """What the debugger has no answer for, read from the logs of a group.
 
-events.py list [--call CALL].. LOG..         each event, numbered as the debugger's positions, with the bytes
-                                             that it printed, sent or took
+events.py list [--json|--brief] [--call CALL].. [--process NAME].. LOG..
+                                             each event, numbered as the debugger's positions, with the bytes
+                                             that it printed, sent or took; --brief has them in the same line, and
+                                             --json is a record for each event, in a line of its own
 events.py traps MODULE LOG [MODULE LOG]..    for each process that trapped, the debugger's lines that go to the
                                              position before the event in which it did
 
@@ -10,21 +12,49 @@ The debugger counts the events that replay accepts: give it the same logs, and w
 """
 
 import argparse
+import json
+import os
 import sys
 
-from logs import BadLog, in_group_order, read_log
-from report import BUILT, Refused, replayed
+from logs import CALLS, BadLog, in_group_order, read_log
+from program import program_of
+from report import Refused, replayed
 from wording import bytes_lines
 
 
-def list_events(logs, calls):
+def list_events(logs, chosen):
     names = {log.process: log.name for log in logs}
+    unknown = set(chosen.process) - set(names.values())
+    if unknown:
+        sys.exit("no log is of %s; they are of %s" % (", ".join(sorted(unknown)), ", ".join(names.values())))
     for position, (entry, log) in enumerate(in_group_order(logs), 1):
-        if calls and entry.call.name not in calls:
+        if (chosen.call and entry.call.name not in chosen.call) or (chosen.process and log.name not in chosen.process):
             continue
-        print("%d: %s" % (position, entry.text(log.name)))
-        for line in bytes_lines(entry, names):
-            print("    " + line)
+        if chosen.json:
+            print(json.dumps(record(position, entry, log, names)))
+        elif chosen.brief:
+            print("; ".join(["%d: %s" % (position, entry.text(log.name)), *bytes_lines(entry, names)]))
+        else:
+            print("\n    ".join(["%d: %s" % (position, entry.text(log.name)), *bytes_lines(entry, names)]))
+
+
+def record(position, entry, log, names):
+    """An event for programs: bytes in hexadecimal, and only what the call has."""
+    made = {"position": position, "clock": entry.clock, "process": log.name, "thread": entry.thread, "call": entry.call.name}
+    made["arguments"] = list(entry.arguments)
+    if entry.call.result:
+        made["reply"] = entry.reply
+    if entry.signal:
+        made["signal"] = entry.signal
+    if entry.call.sends_bytes and entry.reply >= 0:
+        made["sent"] = entry.sent.hex()
+    if entry.call.takes_bytes and entry.reply >= 0:
+        made["taken"] = entry.taken.hex()
+    if entry.call.name == "send":
+        made["to"] = names.get(entry.arguments[0], entry.arguments[0])
+    if entry.tag:
+        made["from"], made["from_clock"] = names.get(entry.tag[0], entry.tag[0]), entry.tag[1]
+    return made
 
 
 def print_traps(program, pairs):
@@ -41,13 +71,20 @@ def print_traps(program, pairs):
 
 
 def arguments():
-    parser = argparse.ArgumentParser(description=__doc__, formatter_class=argparse.RawDescriptionHelpFormatter)
+    parser = argparse.ArgumentParser(
+        description=__doc__, formatter_class=argparse.RawDescriptionHelpFormatter, allow_abbrev=False
+    )
     works = parser.add_subparsers(dest="work", required=True)
-    listing = works.add_parser("list")
-    listing.add_argument("--call", action="append", default=[], help="only the events of this call")
+    listing = works.add_parser("list", allow_abbrev=False)
+    form = listing.add_mutually_exclusive_group()
+    form.add_argument("--json", action="store_true", help="a record of JSON for each event")
+    form.add_argument("--brief", action="store_true", help="the bytes in the line of the event")
+    calls = [call.name for call in CALLS]
+    listing.add_argument("--call", action="append", default=[], choices=calls, metavar="CALL", help="only the events of this call")
+    listing.add_argument("--process", action="append", default=[], metavar="NAME", help="only the events of this process")
     listing.add_argument("logs", nargs="+", metavar="LOG")
-    traps = works.add_parser("traps")
-    traps.add_argument("--program", default=BUILT, help="the program friday")
+    traps = works.add_parser("traps", allow_abbrev=False)
+    traps.add_argument("--program", help="the program friday, if not the one that answers ./friday")
     traps.add_argument("pairs", nargs="+", metavar="MODULE LOG")
     chosen = parser.parse_args()
     if chosen.work == "traps" and len(chosen.pairs) % 2:
@@ -59,13 +96,18 @@ def main():
     chosen = arguments()
     try:
         if chosen.work == "list":
-            list_events([read_log(path) for path in chosen.logs], chosen.call)
+            list_events([read_log(path) for path in chosen.logs], chosen)
         else:
-            print_traps(chosen.program, chosen.pairs)
+            print_traps(program_of(chosen.program), chosen.pairs)
+        sys.stdout.flush()
     except BadLog as error:
         sys.exit("%s is no log" % error)
     except Refused as error:
         sys.exit(str(error))
+    except BrokenPipeError:
+        # Whoever reads has enough, as head does.
+        os.dup2(os.open(os.devnull, os.O_WRONLY), sys.stdout.fileno())
+        sys.exit(141)
     except OSError as error:
         sys.exit("%s: %s" % (error.filename, error.strerror))
 

@@ -107,22 +107,35 @@ def read_entry(cursor):
     return Entry(clock, thread, call, signal, arguments, reply, sent, taken, tag)
 
 
+LONGEST_HEAD = 49
+
+
+def read_head(cursor, path):
+    """The log without its entries."""
+    try:
+        if cursor.bytes(8) != b"LLOG" + struct.pack("<I", 1):
+            raise BadLog(path)
+        return Log(cursor.number(4), cursor.number(4), cursor.bytes(cursor.number(1)).decode(), [])
+    except (IndexError, UnicodeDecodeError):
+        raise BadLog(path) from None
+
+
+def head_of(path):
+    """The log without its entries, of which nothing is read."""
+    with open(path, "rb") as file:
+        return read_head(Cursor(file.read(LONGEST_HEAD)), path)
+
+
 def read_log(path):
     """The log's head, and its entries up to the first that is not whole."""
     with open(path, "rb") as file:
         cursor = Cursor(file.read())
-    try:
-        if cursor.bytes(8) != b"LLOG" + struct.pack("<I", 1):
-            raise BadLog(path)
-        processes, process, name = cursor.number(4), cursor.number(4), cursor.bytes(cursor.number(1)).decode()
-    except (IndexError, UnicodeDecodeError):
-        raise BadLog(path) from None
-    entries = []
+    log = read_head(cursor, path)
     try:
         while True:
-            entries.append(read_entry(cursor))
+            log.entries.append(read_entry(cursor))
     except IndexError:
-        return Log(processes, process, name, entries)
+        return log
 
 
 def tag_of(sender, clock):

@@ -16,10 +16,11 @@ import re
 import sys
 
 from network import Network
+from program import program_of
 from recorder import Recorder, RecordingFailed
 from waiting import waits
 
-BUILT = os.path.join(os.path.dirname(os.path.abspath(__file__)), "../crates/friday/out/friday")
+MOST_PROCESSES = 16
 RATES = (
     ("loss", "a datagram is lost"),
     ("repeat", "a datagram comes a second time, some rounds later"),
@@ -214,11 +215,33 @@ def arguments():
     for name, usual, least, meaning in COUNTS:
         parser.add_argument("--" + name, type=at_least(least), default=usual, metavar="N",
                             help="%s (%d if not given)" % (meaning, usual))
-    parser.add_argument("--program", default=BUILT, help="the program friday")
+    parser.add_argument("--program", help="the program friday, if not the one that answers ./friday")
     parser.add_argument("--output", required=True, help="the file for the schedule")
+    refuse_unknown(parser)
     settings = parser.parse_args()
+    refuse_group(parser, settings)
     settings.words = words_of(sys.argv[1:])
     return settings
+
+
+def refuse_unknown(parser):
+    """Names a rate or bound that there is none of, which argparse would tell of as of a process."""
+    known = ["--" + row[0] for row in RATES + COUNTS] + ["--seed", "--signal", "--program", "--output", "--help"]
+    for word in sys.argv[1:]:
+        if word.startswith("--") and word.split("=")[0] not in known:
+            parser.error("there is no %s" % word.split("=")[0])
+
+
+def refuse_group(parser, settings):
+    names = [name for name, _ in settings.processes]
+    twice = next((name for name in names if names.count(name) > 1), None)
+    if twice:
+        parser.error("two processes are named %s" % twice)
+    if len(names) > MOST_PROCESSES:
+        parser.error("a group has %d processes at most" % MOST_PROCESSES)
+    for _, module in settings.processes:
+        if os.path.exists(settings.output) and os.path.exists(module) and os.path.samefile(settings.output, module):
+            parser.error("the schedule would be written over the module %s" % module)
 
 
 def words_of(words):
@@ -235,7 +258,7 @@ def words_of(words):
 def main():
     settings = arguments()
     try:
-        with Recorder(settings.program, settings.processes) as recorder:
+        with Recorder(program_of(settings.program), settings.processes) as recorder:
             maker = Maker(settings, recorder)
             maker.make()
             with open(settings.output, "w", encoding="ascii") as file:
@@ -243,8 +266,12 @@ def main():
             print(recorder.record(maker.items).summary, end="")
             for line in waits(recorder, maker.recording, maker.items + maker.last_clocks()):
                 print(line)
+            sys.stdout.flush()
     except RecordingFailed as error:
         sys.exit(str(error))
+    except BrokenPipeError:
+        # Whoever reads has enough, as head does; the schedule is whole by then.
+        os.dup2(os.open(os.devnull, os.O_WRONLY), sys.stdout.fileno())
     except OSError as error:
         sys.exit("%s: %s" % (error.filename, error.strerror))
 

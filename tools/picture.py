@@ -13,8 +13,9 @@ import sys
 from captions import Captions
 from drawing import Picture
 from group import NotOneGroup, read_group
-from logs import BadLog
-from report import BUILT, Refused, replayed
+from logs import CALLS, BadLog
+from program import program_if_there
+from report import Refused, replayed
 from standing import by_logs, by_replay, threads_at
 from traffic import traffic_of
 from vector_clocks import shiviz_text
@@ -36,13 +37,34 @@ def arguments():
     parser.add_argument("--shiviz", action="store_true", help="print a log for ShiViz in place of a picture")
     parser.add_argument("--from", dest="first", type=int, metavar="K", help="the position of the first event")
     parser.add_argument("--to", dest="last", type=int, metavar="K", help="the position of the last event")
-    parser.add_argument("--program", help="the program friday, if not the one that ./friday builds")
+    parser.add_argument("--process", action="append", type=listed, metavar="NAME,..", help="only the lines of these processes")
+    parser.add_argument("--hide", action="append", type=listed, metavar="CALL,..", help="no dots for events of these calls")
+    parser.add_argument("--bytes", action="store_true", help="what events sent and took, beside them and not only by the mouse")
+    parser.add_argument("--program", help="the program friday, if not the one that answers ./friday")
     parser.add_argument("--logs-alone", action="store_true", help="ask no program how the processes ended")
     parser.add_argument("pairs", nargs="+", metavar="MODULE LOG", help="the log of each process behind its module")
     chosen = parser.parse_args()
     if len(chosen.pairs) % 2:
         parser.error("each module needs its log")
+    chosen.process, chosen.hide = sum(chosen.process or [], []), sum(chosen.hide or [], [])
+    unknown = set(chosen.hide) - {call.name for call in CALLS}
+    if unknown:
+        parser.error("no call is named %s" % ", ".join(sorted(unknown)))
+    if chosen.shiviz and (chosen.process or chosen.hide):
+        parser.error("--shiviz takes the events of all processes")
     return chosen
+
+
+def listed(word):
+    return word.split(",")
+
+
+def drawn_logs(chosen, logs):
+    """Those of the processes that are asked for, or all."""
+    unknown = set(chosen.process) - {log.name for log in logs}
+    if unknown:
+        raise NotOneGroup("no log is of %s; they are of %s" % (", ".join(sorted(unknown)), ", ".join(log.name for log in logs)))
+    return [log for log in logs if not chosen.process or log.name in chosen.process]
 
 
 def span(chosen, count):
@@ -56,9 +78,7 @@ def span(chosen, count):
 
 def program_of(chosen):
     """The program to ask, if there is one."""
-    if chosen.logs_alone or (chosen.program is None and not os.access(BUILT, os.X_OK)):
-        return None
-    return chosen.program or BUILT
+    return None if chosen.logs_alone else chosen.program or program_if_there()
 
 
 def ends_of(program, pairs, logs, traffic, last):
@@ -75,14 +95,15 @@ def ends_of(program, pairs, logs, traffic, last):
 def made(chosen):
     logs = read_group(chosen.pairs)
     traffic = traffic_of(logs)
-    captions = Captions(logs, traffic)
+    captions = Captions(logs, traffic, chosen.bytes)
+    drawn = drawn_logs(chosen, logs)
     first, last = span(chosen, len(traffic.events))
     if chosen.shiviz:
         return shiviz_text(traffic, captions.lines, first, last)
     if last - first >= MANY:
         print("%d events make a large picture; --from and --to draw a part" % (last - first + 1), file=sys.stderr)
     ends = ends_of(program_of(chosen), chosen.pairs, logs, traffic, last)
-    return Picture(logs, traffic, captions, ends, first, last).svg()
+    return Picture(drawn, traffic, captions, ends, first, last, chosen.hide).svg()
 
 
 def main():

@@ -1,6 +1,7 @@
 """Recordings of a schedule that grows, and what their logs tell."""
 
 import os
+import re
 import shutil
 import subprocess
 import tempfile
@@ -78,11 +79,16 @@ class Recorder:
         """Whether the module names this call of the library, as an import spells it."""
         return b"\x06liblog" + bytes([len(call)]) + call.encode() in self.modules[process]
 
+    def told(self, text):
+        """What the program says, with the caller's name of the module that it refuses."""
+        found = re.fullmatch(r"(friday: \w+ )(\d+)\.wasm(.*)", text)
+        return found[1] + self.processes[int(found[2])][1] + found[3] if found else text
+
     def record(self, items):
         lines = ["friday 1"] + ["process %s %d.wasm" % (name, number) for number, (name, _) in enumerate(self.processes)]
         with open(os.path.join(self.folder, "schedule"), "w", encoding="ascii") as file:
             file.write("\n".join(lines + items) + "\n")
         done = subprocess.run([self.program, "record", "schedule"], cwd=self.folder, stdout=subprocess.PIPE, text=True)
         if done.returncode != 0:
-            raise RecordingFailed(done.stdout.strip() or "the recording ended with status %d" % done.returncode)
+            raise RecordingFailed(self.told(done.stdout.strip()) or "the recording ended with status %d" % done.returncode)
         return Recording(done.stdout, [read_log(os.path.join(self.folder, name + ".log")) for name, _ in self.processes])

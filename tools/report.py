@@ -1,11 +1,13 @@
 """What the report of `friday replay` says of each process."""
 
-import os
 import re
 import subprocess
 from dataclasses import dataclass
 
-BUILT = os.path.join(os.path.dirname(os.path.abspath(__file__)), "../crates/friday/out/friday")
+from program import LAUNCHER, program_if_there
+
+# For tools that take a program as their usual one: the launcher makes one where there is none.
+BUILT = program_if_there() or LAUNCHER
 LINE = re.compile(r"(\w+): (\d+) events, (.*), (log whole|\d+ bytes left over|diverged at .*)")
 
 

@@ -1,9 +1,10 @@
 #!/bin/sh
 # Puts the places into the debugger's script again, records the schedule beside this script, replays the logs together, and
 # answers the script over them. The logs and what is printed are compared with what lies here.
-# Usage: check.sh [PROGRAM]   (the program that ./friday builds, if none is given)
+# Usage: check.sh [PROGRAM]   (the program that answers ./friday, if none is given)
 here=$(CDPATH='' cd -- "$(dirname -- "$0")" && pwd) || exit 1
-program=$(realpath -- "${1:-$here/../../crates/friday/out/friday}") || exit 1
+. "$here/../../tools/usage.sh"
+program=${1:-$("$here/../../friday" --program)} && program=$(realpath -- "$program") || exit 1
 folder=$(mktemp -d) || exit 1
 trap 'rm -rf "$folder"' EXIT
 mkdir "$folder/bank" "$folder/lost_update" && cp "$here/../bank/bank.wasm" "$folder/bank" || exit 1

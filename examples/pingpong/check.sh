@@ -1,9 +1,10 @@
 #!/bin/sh
 # Records ping and pong by both schedules beside this script, replays their logs together, and compares what is printed.
 # Then the lines of `session` are answered over the logs of the last one, from a file and from a pipe, and compared too.
-# Usage: check.sh [PROGRAM]   (the program that ./friday builds, if none is given)
+# Usage: check.sh [PROGRAM]   (the program that answers ./friday, if none is given)
 here=$(CDPATH='' cd -- "$(dirname -- "$0")" && pwd) || exit 1
-program=$(realpath -- "${1:-$here/../../crates/friday/out/friday}") || exit 1
+. "$here/../../tools/usage.sh"
+program=${1:-$("$here/../../friday" --program)} && program=$(realpath -- "$program") || exit 1
 folder=$(mktemp -d) || exit 1
 trap 'rm -rf "$folder"' EXIT
 cp "$here"/ping.wasm "$here"/pong.wasm "$here"/schedule "$here"/in_order "$folder" || exit 1

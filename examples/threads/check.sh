@@ -1,9 +1,10 @@
 #!/bin/sh
 # Records each guest beside this script over many interleavings of its threads, replays its log, and compares what it
 # notes with what the same C notes where it runs by itself, without threads.
-# Usage: check.sh [PROGRAM]   (the program that ./friday builds, if none is given)
+# Usage: check.sh [PROGRAM]   (the program that answers ./friday, if none is given)
 here=$(CDPATH='' cd -- "$(dirname -- "$0")" && pwd) || exit 1
-program=${1:-$here/../../crates/friday/out/friday}
+. "$here/../../tools/usage.sh"
+program=${1:-$("$here/../../friday" --program)} || exit 1
 PYTHONPATH=$here/../../tools exec python3 - "$program" "$here" <<'PYTHON'
 import os, random, shutil, subprocess, sys, tempfile
 

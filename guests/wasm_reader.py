@@ -1,0 +1,189 @@
+"""Reads a WebAssembly module as far as its refusals go: sections, types, imports, limits and the instructions of its functions."""
+from dataclasses import dataclass, field
+
+VALUE_TYPES = {0x7F: "i32", 0x7E: "i64", 0x7D: "f32", 0x7C: "f64", 0x7B: "v128", 0x70: "funcref", 0x6F: "externref"}
+
+
+def read_leb(data, at):
+    value = shift = 0
+    while True:
+        byte = data[at]
+        value |= (byte & 0x7F) << shift
+        at, shift = at + 1, shift + 7
+        if byte < 0x80:
+            return value, at
+
+
+def sections_of(data):
+    """The id, all bytes and the contents of each section."""
+    at = 8
+    while at < len(data):
+        size, start = read_leb(data, at + 1)
+        yield data[at], data[at : start + size], data[start : start + size]
+        at = start + size
+
+
+class Reader:
+    """Reads one thing after the other; what is past the end is an IndexError."""
+
+    def __init__(self, data, at=0):
+        self.data, self.at = data, at
+
+    def byte(self):
+        self.at += 1
+        return self.data[self.at - 1]
+
+    def number(self):
+        value, self.at = read_leb(self.data, self.at)
+        return value
+
+    def bytes(self, count):
+        if self.at + count > len(self.data):
+            raise IndexError
+        self.at += count
+        return self.data[self.at - count : self.at]
+
+    def name(self):
+        return self.bytes(self.number()).decode("utf-8", "replace")
+
+    def limits(self):
+        flags, least = self.number(), self.number()
+        return flags, least, self.number() if flags & 1 else None
+
+    def type(self):
+        byte = self.byte()
+        return VALUE_TYPES.get(byte, "type %#x" % byte)
+
+    def types(self):
+        return tuple(self.type() for _ in range(self.number()))
+
+
+@dataclass
+class Function:
+    """A function of the module: its number, its locals in groups, where its code stands in the code section, and the code."""
+
+    number: int
+    locals: list
+    start: int
+    code: bytes
+
+
+@dataclass
+class Module:
+    types: list = field(default_factory=list)
+    imports: list = field(default_factory=list)
+    kinds: list = field(default_factory=list)
+    memories: list = field(default_factory=list)
+    tables: list = field(default_factory=list)
+    globals: list = field(default_factory=list)
+    exports: dict = field(default_factory=dict)
+    functions: list = field(default_factory=list)
+    names: dict = field(default_factory=dict)
+    sections: set = field(default_factory=set)
+    segments: list = field(default_factory=list)
+
+    def imported(self):
+        """How many functions are imported: those of the module are numbered behind them."""
+        return sum(kind == 0 for _, _, kind, _ in self.imports)
+
+    def type_of(self, number):
+        return self.types[self.kinds[number]]
+
+
+def read_module(data):
+    module = Module()
+    readers = {1: read_types, 2: read_imports, 3: read_kinds, 4: read_tables, 5: read_memories, 6: read_globals,
+               7: read_exports, 9: read_elements, 10: read_code, 11: read_data, 0: read_names}
+    for kind, _, contents in sections_of(data):
+        module.sections.add(kind)
+        if kind in readers:
+            readers[kind](module, Reader(contents))
+    return module
+
+
+def read_types(module, reader):
+    for _ in range(reader.number()):
+        reader.byte()
+        module.types.append((reader.types(), reader.types()))
+
+
+def read_imports(module, reader):
+    for _ in range(reader.number()):
+        place, name, kind = reader.name(), reader.name(), reader.byte()
+        if kind == 0:
+            what = reader.number()
+            module.kinds.append(what)
+        elif kind == 1:
+            what = reader.type(), reader.limits()
+        elif kind == 2:
+            what = reader.limits()
+        else:
+            what = reader.type(), reader.byte()
+        module.imports.append((place, name, kind, what))
+
+
+def read_kinds(module, reader):
+    module.kinds += [reader.number() for _ in range(reader.number())]
+
+
+def read_tables(module, reader):
+    module.tables += [(reader.type(), reader.limits()) for _ in range(reader.number())]
+
+
+def read_memories(module, reader):
+    module.memories += [reader.limits() for _ in range(reader.number())]
+
+
+def read_globals(module, reader):
+    for _ in range(reader.number()):
+        module.globals.append(reader.type())
+        reader.byte()
+        pass_over_constant(reader)
+
+
+def pass_over_constant(reader):
+    """The expression with which a global begins."""
+    while (code := reader.byte()) != 0x0B:
+        if code in (0x43, 0x44):
+            reader.bytes(4 if code == 0x43 else 8)
+        elif code != 0xFD:
+            reader.number()
+
+
+def read_exports(module, reader):
+    for _ in range(reader.number()):
+        name = reader.name()
+        module.exports[name] = reader.byte(), reader.number()
+
+
+def read_elements(module, reader):
+    if reader.number():
+        module.segments.append(("element", reader.number()))
+
+
+def read_data(module, reader):
+    if reader.number():
+        module.segments.append(("data", reader.number()))
+
+
+def read_code(module, reader):
+    for place in range(reader.number()):
+        size = reader.number()
+        end, groups = reader.at + size, []
+        for _ in range(reader.number()):
+            groups.append((reader.number(), reader.type()))
+        start = reader.at
+        module.functions.append(Function(module.imported() + place, groups, start, reader.bytes(end - start)))
+
+
+def read_names(module, reader):
+    """The names of functions, where the module has its section of names."""
+    if reader.name() != "name":
+        return
+    while reader.at < len(reader.data):
+        kind, size = reader.byte(), reader.number()
+        part = Reader(reader.bytes(size))
+        if kind == 1:
+            for _ in range(part.number()):
+                number = part.number()
+                module.names[number] = part.name()

@@ -1,0 +1,40 @@
+"""What can be said of the words of a call before there is a program that reads them."""
+import os
+
+NO_COMMAND, ABSENT = 2, 4
+
+
+def is_command(words):
+    """Whether they are a command, by "The command line" of docs/formats.md."""
+    verb, rest = words[0], list(words[1:])
+    if verb not in ("record", "replay", "debug"):
+        return False
+    if verb != "debug" and "--images" in rest:
+        rest.remove("--images")
+    if any(not word or word.startswith("-") for word in rest):
+        return False
+    return len(rest) == 1 if verb == "record" else len(rest) > 0 and len(rest) % 2 == 0
+
+
+def files_of(words):
+    """The files that a command reads, in its order."""
+    names = [word for word in words[1:] if word != "--images"]
+    return names + modules_of(names[0]) if words[0] == "record" else names
+
+
+def modules_of(schedule):
+    """The module files that a schedule names."""
+    try:
+        with open(schedule, encoding="utf-8", errors="replace") as text:
+            fields = [line.split() for line in text]
+    except OSError:
+        return []
+    return [line[2] for line in fields if len(line) == 3 and line[0] == "process"]
+
+
+def refusal(words):
+    """The status with which the program would end for its words or a missing file, and what it would print; or None."""
+    if not is_command(words):
+        return NO_COMMAND, "friday: these words are not a command"
+    absent = next((file for file in files_of(words) if not os.path.exists(file)), None)
+    return absent and (ABSENT, f"friday: absent {absent}")

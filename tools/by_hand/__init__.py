@@ -1,0 +1,1 @@
+"""A session of the debugger by hand, over the program's own shell."""

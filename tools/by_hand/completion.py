@@ -1,0 +1,24 @@
+"""What the tab key offers: words of the session, processes, and the variables of a process."""
+
+from by_hand.commands import COMMANDS
+
+LINES = ("goto", "step", "continue", "mem", "events", "delete", "vars", "quit", "run")
+HIDDEN = ("bytes_at", "from_start")
+WORDS = sorted([word for word in COMMANDS if word not in HIDDEN] + list(LINES))
+
+
+def offered(names, start):
+    node, dot, part = start.partition(".")
+    if dot and node in names.tables:
+        variables = [v.name for v in names.tables[node].variables]
+        short = [name.rsplit("::", 1)[-1] for name in variables]
+        return ["%s.%s" % (node, name) for name in sorted(set(short + variables)) if name.startswith(part)]
+    return [word for word in [*(node + "." for node in names.nodes), *WORDS] if word.startswith(start)]
+
+
+def completer(names):
+    def complete(start, number):
+        found = offered(names, start)
+        return found[number] if number < len(found) else None
+
+    return complete

@@ -1,0 +1,91 @@
+"""Lines about points and variables, and those that go back."""
+
+import re
+
+from by_hand.names import Refusal
+from by_hand.words import condition_of
+from logs import CALLS
+
+
+def watch(session, rest, form):
+    expression, condition = condition_of(rest)
+    if session.send("watch " + expression) and condition:
+        put_condition(session, "%d %s" % (session.state.last_point, condition), form)
+
+
+def break_at(session, rest, form):
+    where, condition = condition_of(rest)
+    words = where.split()
+    if len(words) == 1 and words[0] in [call.name for call in CALLS]:
+        where = "* " + where
+    if session.send("break " + where) and condition:
+        put_condition(session, "%d %s" % (session.state.last_point, condition), form)
+
+
+def put_condition(session, rest, form):
+    """Has a point stop only where an expression is a number other than 0 as well."""
+    point, _, condition = rest.partition(" ")
+    if not point.isdigit() or int(point) not in session.state.points or not condition.strip():
+        raise Refusal("condition wants the number of a point and an expression")
+    told = session.state.points[int(point)][0]
+    shown = ' , ": ", (%s)' % told.split(" ", 1)[1] if told.startswith("watch ") else ""
+    kind = told.split(" ", 1)[0]
+    session.send('do %s if %s { say "%s %s"%s; stop }' % (point, condition.strip(), kind, point, shown))
+
+
+def attach(session, rest, form):
+    """A program at a point; `.` is the one made last."""
+    point, _, program = rest.partition(" ")
+    session.send("do %s %s" % (session.state.last_point if point == "." else point, program))
+
+
+def show_points(session, rest, form):
+    """The points, each with its program, which the debugger's own list leaves out."""
+    session.send("list")
+    for point, (typed, _) in sorted(session.state.programs.items()):
+        session.print("    " + typed)
+
+
+def set_variable(session, rest, form):
+    """A variable of the session; gdb's = may stand in between."""
+    session.send("set " + re.sub(r"^(\$\w+)\s*=(?!=)\s*", r"\1 ", rest))
+
+
+def go_back(session, rest, form):
+    """Back by the program's own line, or by `goto` where it has none yet."""
+    count = rest or "1"
+    if not count.isdigit():
+        raise Refusal("back wants a number of events")
+    if list(session.debugger.ask("back 0")) == ["? 1 syntax at column 1"]:
+        session.send("goto %d" % max(0, session.state.position - int(count)))
+    else:
+        session.send("back " + count)
+
+
+def go_back_to_point(session, rest, form):
+    """Back to where a point fires, by the program's own line; or by walks from the beginning, where no program hears of it."""
+    if list(session.debugger.ask("rcontinue 0")) != ["? 1 syntax at column 1"]:
+        session.send("rcontinue")
+        return
+    if session.state.programs:
+        raise Refusal("the program has no rcontinue yet, and without it the programs of points would run once more")
+    fired, place = last_stop_before(session, session.state.position)
+    for line in fired:
+        session.print(line)
+    session.send("goto %d" % place)
+
+
+def last_stop_before(session, end):
+    """What points say at the last position before `end` at which one fires, and that position; or `start` and 0."""
+    found = ["start"], 0
+    list(session.debugger.ask("goto 0"))
+    while True:
+        *fired, answer = session.debugger.ask("continue")
+        place = int(re.match(r"at (\d+)", answer)[1])
+        if place >= end or fired == ["end"]:
+            return found
+        found = fired, place
+
+
+def go_to_start(session, rest, form):
+    session.send("goto 0")
