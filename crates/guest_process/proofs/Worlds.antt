@@ -1,9 +1,10 @@
--- A legal entry is the event of a try in some world.
-use Rattle.std.proofs.Common.{◌≡◌, ℕ, zero, suc, ◌+◌, ◌<◌, ◌≤◌, Bool, true, false, ◌&&◌, ◌||◌, not, cond, List, [], ◌∷◌, ◌++◌, length, take, Option, Some, None, inl, inr, refl, ap, sym, ◌∙◌, arith}
-use Rattle.std.specs.Prelude.{◌==◌, nat_le, is_some, option_map}
+-- A legal entry is the event of a try in each world that has what it brings, and there is such a world.
+use Rattle.std.proofs.Common.{◌≡◌, ℕ, zero, suc, ◌+◌, ◌<◌, ◌≤◌, Bool, true, false, ◌&&◌, ◌||◌, not, cond, List, [], ◌∷◌, ◌++◌, length, take, Option, Some, None, inl, inr, refl, ap, sym, subst, ◌∙◌, arith}
+use Rattle.std.specs.Prelude.{◌==◌, nat_le, is_some, option_map, if◌then◌else◌}
 use Rattle.std.proofs.lemmas.Slice.Eq.{bytes_eq-Decides}
-use Rattle.std.proofs.lemmas.Bool.{and_parts, or_cases, eqb-true, eqb-false, leb-true, le-leb}
-use Rattle.std.proofs.lemmas.List.{take_all}
+use Rattle.std.proofs.lemmas.Bool.{and_parts, or_cases, eqb-true, eqb-false, leb-true, le-leb, ne_eqb}
+use Rattle.std.proofs.lemmas.List.{length-take, take_all}
+use Rattle.std.specs.Prelude.{min}
 use Rattle.call_table.specs.Table.{kind_numbered}
 use Rattle.call_table.specs.declared.kind.Kind.{Kind}
 use Rattle.call_table.specs.declared.kind.Kind.TheVariants.{Now, SleepUntil, Random, Recv, TryRecv}
@@ -13,7 +14,7 @@ use Rattle.lamport_tag.specs.Tag.{next_clock_of, payload_behind, read_datagram, 
 use Rattle.lib_calls.specs.declared.entry.Call.{Call}
 use Rattle.lib_calls.specs.declared.entry.Entry.{Entry}
 use Rattle.lib_calls.specs.Answer.{Answer, answer_of}
-use Rattle.lib_calls.specs.Effects.{with_incoming, is_good, minus_two, outgoing_of, received, takes_counted}
+use Rattle.lib_calls.specs.Effects.{with_incoming, is_good, minus_one, minus_two, outgoing_of, received, takes_counted}
 use Rattle.guest_process.specs.declared.waiting.Waiting.{Waiting}
 use Rattle.guest_process.specs.Answers.{Need, Fixed, Blocked, World, after_need, effects, is_drawn, is_due, is_empty, is_payload, brings_nothing, is_possible, takes_datagram, need, replies, with_answer}
 use Rattle.guest_process.specs.GoesOn.{goes_on, handler}
@@ -21,25 +22,27 @@ use Rattle.guest_process.specs.Kinds.{ends_process}
 use Rattle.guest_process.specs.Legal.{checks, gives_answer, is_handled, reason_at}
 use Rattle.guest_process.specs.Live.{Env, Event, Answered, answered_now, chosen_signal, cut_datagram, random_answer, event, fills, first_taken, from_world, event_of_waiting, lowest, or_empty, takes}
 use Rattle.guest_process.specs.Next.{next_at}
-use Rattle.guest_process.specs.OneEvent.{Possible}
+use Rattle.guest_process.specs.OneEvent.{Brings, IsThere, Possible, StandsFirst, Supplies, Unless, WorldIsThere, datagram_as, mailbox_for}
 use Rattle.guest_process.specs.State.{State, is_running, thread_at, with_memory}
 use Rattle.guest_process.specs.Fits.{StateFits}
 use Rattle.guest_process.proofs.Failing.{all_hold, unless_none}
 use Rattle.guest_process.proofs.Legality.{call_told, fits_at}
-use Rattle.guest_process.proofs.Written.{asked_good, good_written, not_minus_two, now_written, recv_short, sleep_written, taken_counted, try_recv_short}
+use Rattle.guest_process.proofs.Written.{asked_good, good_written, not_minus_two, now_written, random_short, recv_short, sleep_written, taken_counted, try_recv_short}
 
--- a datagram with this tag, or none, and this payload
-abbrev sent : Option Tag → List ℕ → List ℕ
-sent None payload = payload
-sent (Some tag) payload = tag_bytes tag ++ payload
+not_minus_one : (reply : ℕ) → reply ≤ 60000 → (reply == minus_one) ≡ false
+not_minus_one reply low = ne_eqb reply minus_one (λ is. omega (arith, low, is))
 
--- a mailbox with the datagram that was taken, or an empty one
-abbrev mailbox_before : Answer → List (List ℕ)
-mailbox_before a = cond (a.reply == minus_two) [] (sent a.tag a.incoming ∷ [])
+here : {P : Type 0} (test : Bool) → test ≡ false → Unless test P → P
+here true is h = cc
+here false is h = h
 
--- a world that gives this answer and delivers this signal
-abbrev around : Answer → ℕ → Env
-around a signal = record { mailbox = mailbox_before a; pool = a.incoming; time = a.reply; pending = λ s. s == signal; killed = false }
+there : (test : Bool) (a : Answer) (box : List (List ℕ)) → test ≡ false → IsThere test a box → StandsFirst a box
+there true a box is h = cc
+there false a box is h = h
+
+not_there : (test : Bool) (a : Answer) (box : List (List ℕ)) → test ≡ true → IsThere test a box → box ≡ []
+not_there true a box is h = h
+not_there false a box is h = cc
 
 -- ---- the answer
 
@@ -61,11 +64,13 @@ gives S a = Some (record { answer = a; after = S })
 
 -- ---- random bytes
 
-drawn_given : (S : State) (c : Call) (a : Answer) → is_drawn c a ≡ true → cond (nat_le c.a1 (length a.incoming)) (Some (fills S c (random_answer c (take c.a1 a.incoming)))) None ≡ Some (fills S c (random_answer c a.incoming))
-drawn_given S c a h =
-    let count = eqb-true (length a.incoming) c.a1 (and_parts (length a.incoming == c.a1) (not (is_some a.tag)) (and_parts (a.reply == c.a1) _ h).1).0 in
-    given (nat_le c.a1 (length a.incoming)) _ _ (le-leb c.a1 (length a.incoming) (omega (arith, count)))
-    ∙ ap (λ bytes. Some (fills S c (random_answer c bytes))) (take_all c.a1 a.incoming (omega (arith, count)))
+drawn_given : (S : State) (c : Call) (a : Answer) (pool : List ℕ) → is_drawn c a ≡ true → take (length a.incoming) pool ≡ a.incoming → cond (nat_le c.a1 (length pool)) (Some (fills S c (random_answer c (take c.a1 pool)))) None ≡ Some (fills S c (random_answer c a.incoming))
+drawn_given S c a pool h first =
+    let count : length a.incoming ≡ c.a1 = eqb-true (length a.incoming) c.a1 (and_parts (length a.incoming == c.a1) (not (is_some a.tag)) (and_parts (a.reply == c.a1) _ h).1).0 in
+    let many : min (length a.incoming) (length pool) ≡ length a.incoming = sym (length-take (length a.incoming) pool) ∙ ap length first in
+    given (nat_le c.a1 (length pool)) _ _ (le-leb c.a1 (length pool) (omega (arith, count, many)))
+    ∙ ap (λ n. Some (fills S c (random_answer c (take n pool)))) (sym count)
+    ∙ ap (λ bytes. Some (fills S c (random_answer c bytes))) first
 
 -- such an answer is that of the bytes that came in
 drawn_is : (c : Call) (a : Answer) → is_drawn c a ≡ true → random_answer c a.incoming ≡ a
@@ -89,7 +94,7 @@ random_gives S c a e good h =
 -- ---- datagrams
 
 module _ (again : IsReadBack) where
-  read_sent : (count : ℕ) (tag : Option Tag) (payload : List ℕ) → count ≤ 16 → is_payload count tag payload ≡ true → read_datagram count (sent tag payload) ≡ (tag, payload)
+  read_sent : (count : ℕ) (tag : Option Tag) (payload : List ℕ) → count ≤ 16 → is_payload count tag payload ≡ true → read_datagram count (datagram_as tag payload) ≡ (tag, payload)
   read_sent count None payload few h = by_tag (tag_at count payload) h
     where
       by_tag : (o : Option (Tag × List ℕ)) → not (is_some o) ≡ true → payload_behind payload o ≡ (None, payload)
@@ -99,7 +104,7 @@ module _ (again : IsReadBack) where
       ap (payload_behind (tag_bytes tag ++ payload)) (again count tag payload (omega (arith, few)) h)
 
   -- a datagram that was taken is taken so
-  cut_is : (S : State) (c : Call) (a : Answer) → S.count ≤ 16 → takes_datagram S.count c a ≡ true → cut_datagram c.a1 (read_datagram S.count (sent a.tag a.incoming)) ≡ a
+  cut_is : (S : State) (c : Call) (a : Answer) → S.count ≤ 16 → takes_datagram S.count c a ≡ true → cut_datagram c.a1 (read_datagram S.count (datagram_as a.tag a.incoming)) ≡ a
   cut_is S c a few h =
       let parts = and_parts (takes_counted c a) (is_payload S.count a.tag a.incoming) h in
       let counts = and_parts (a.reply == length a.incoming) (nat_le (length a.incoming) c.a1) parts.0 in
@@ -113,53 +118,58 @@ module _ (again : IsReadBack) where
       let counts = and_parts (a.reply == length a.incoming) (nat_le (length a.incoming) c.a1) (taken_counted S.count c a h) in
       omega (arith, short, eqb-true a.reply (length a.incoming) counts.0, leb-true (length a.incoming) c.a1 counts.1)
 
-  first_given : (S : State) (c : Call) (a : Answer) → S.count ≤ 16 → takes_datagram S.count c a ≡ true → c.a1 ≤ 60000 → first_taken S c (mailbox_before a) ≡ Some (takes S c a)
-  first_given S c a few h short =
-      ap (λ none. first_taken S c (cond none [] (sent a.tag a.incoming ∷ []))) (not_minus_two a.reply (taken_low S c a h short))
-      ∙ ap (λ a. Some (takes S c a)) (cut_is S c a few h)
+  first_given : (S : State) (c : Call) (a : Answer) (box : List (List ℕ)) → S.count ≤ 16 → takes_datagram S.count c a ≡ true → StandsFirst a box → first_taken S c box ≡ Some (takes S c a)
+  first_given S c a box few h first = ap (first_taken S c) first.1 ∙ ap (λ a. Some (takes S c a)) (cut_is S c a few h)
 
-  recv_gives : (S : State) (c : Call) (a : Answer) → S.count ≤ 16 → kind_numbered c.kind ≡ Some Recv → is_good c S.store.memory ≡ true → takes_datagram S.count c a ≡ true → first_taken S c (mailbox_before a) ≡ gives (with_answer S c a) a
-  recv_gives S c a few e good h =
-      first_given S c a few h (recv_short S c e good) ∙ ap (λ S'. gives S' a) (sym (good_written Recv S c a e good))
+  recv_gives : (S : State) (c : Call) (a : Answer) (box : List (List ℕ)) → S.count ≤ 16 → kind_numbered c.kind ≡ Some Recv → is_good c S.store.memory ≡ true → takes_datagram S.count c a ≡ true → Unless (a.reply == minus_one) (StandsFirst a box) → first_taken S c box ≡ gives (with_answer S c a) a
+  recv_gives S c a box few e good h first =
+      let low = taken_low S c a h (recv_short S c e good) in
+      first_given S c a box few h (here (a.reply == minus_one) (not_minus_one a.reply low) first) ∙ ap (λ S'. gives S' a) (sym (good_written Recv S c a e good))
 
-  taken_gives : (S : State) (c : Call) (a : Answer) → S.count ≤ 16 → kind_numbered c.kind ≡ Some TryRecv → is_good c S.store.memory ≡ true → takes_datagram S.count c a ≡ true → Some (or_empty S (first_taken S c (mailbox_before a))) ≡ gives (with_answer S c a) a
-  taken_gives S c a few e good h =
-      let short = try_recv_short S c e good in
-      let there = not_minus_two a.reply (taken_low S c a h short) in
-      let put = good_written TryRecv S c a e good ∙ ap (λ none. with_memory S (cond none S.store.memory (received c a S.store.memory))) there in
-      ap (λ taken. Some (or_empty S taken)) (first_given S c a few h short) ∙ ap (λ S'. gives S' a) (sym put)
+  taken_gives : (S : State) (c : Call) (a : Answer) (box : List (List ℕ)) → S.count ≤ 16 → kind_numbered c.kind ≡ Some TryRecv → is_good c S.store.memory ≡ true → takes_datagram S.count c a ≡ true → Unless (a.reply == minus_one) (IsThere (a.reply == minus_two) a box) → Some (or_empty S (first_taken S c box)) ≡ gives (with_answer S c a) a
+  taken_gives S c a box few e good h first =
+      let low = taken_low S c a h (try_recv_short S c e good) in
+      let isnt = not_minus_two a.reply low in
+      let put = good_written TryRecv S c a e good ∙ ap (λ none. with_memory S (cond none S.store.memory (received c a S.store.memory))) isnt in
+      ap (λ taken. Some (or_empty S taken)) (first_given S c a box few h (there (a.reply == minus_two) a box isnt (here (a.reply == minus_one) (not_minus_one a.reply low) first))) ∙ ap (λ S'. gives S' a) (sym put)
 
-  empty_gives : (S : State) (c : Call) (a : Answer) → kind_numbered c.kind ≡ Some TryRecv → is_good c S.store.memory ≡ true → is_empty a ≡ true → Some (or_empty S (first_taken S c (mailbox_before a))) ≡ gives (with_answer S c a) a
-  empty_gives S c a e good h =
+  empty_gives : (S : State) (c : Call) (a : Answer) (box : List (List ℕ)) → kind_numbered c.kind ≡ Some TryRecv → is_good c S.store.memory ≡ true → is_empty a ≡ true → Unless (a.reply == minus_one) (IsThere (a.reply == minus_two) a box) → Some (or_empty S (first_taken S c box)) ≡ gives (with_answer S c a) a
+  empty_gives S c a box e good h first =
       let parts = and_parts (a.reply == minus_two) (brings_nothing a.tag a.incoming) h in
+      let is = eqb-true a.reply minus_two parts.0 in
       let put = good_written TryRecv S c a e good ∙ ap (λ none. with_memory S (cond none S.store.memory (received c a S.store.memory))) parts.0 in
-      ap (λ none. Some (or_empty S (first_taken S c (cond none [] (sent a.tag a.incoming ∷ []))))) parts.0
-      ∙ ap (gives S) (ap replies (sym (eqb-true a.reply minus_two parts.0)) ∙ plain_is a parts.1)
+      ap (λ box. Some (or_empty S (first_taken S c box))) (not_there (a.reply == minus_two) a box parts.0 (here (a.reply == minus_one) (ne_eqb a.reply minus_one (λ one. omega (arith, is, one))) first))
+      ∙ ap (gives S) (ap replies (sym is) ∙ plain_is a parts.1)
       ∙ ap (λ S'. gives S' a) (sym put)
 
   -- ---- an answer of the world
 
-  world_gives : (k : Kind) (S : State) (t : ℕ) (c : Call) (a : Answer) (signal : ℕ) → S.count ≤ 16 → kind_numbered c.kind ≡ Some k → need k S t c ≡ World → is_possible k S c a ≡ true → from_world k S c (around a signal) ≡ gives (with_answer S c a) a
-  world_gives Now S t c a signal few e w h = ap (gives S) (plain_is a h) ∙ ap (λ S'. gives S' a) (sym (now_written S c a e))
-  world_gives SleepUntil S t c a signal few e w h =
+  world_gives : (k : Kind) (S : State) (t : ℕ) (c : Call) (a : Answer) (env : Env) → S.count ≤ 16 → kind_numbered c.kind ≡ Some k → need k S t c ≡ World → is_possible k S c a ≡ true → Brings (Some k) a env → from_world k S c env ≡ gives (with_answer S c a) a
+  world_gives Now S t c a env few e w h has = ap (λ n. gives S (replies n)) has ∙ ap (gives S) (plain_is a h) ∙ ap (λ S'. gives S' a) (sym (now_written S c a e))
+  world_gives SleepUntil S t c a env few e w h has =
       let parts = and_parts (is_due c.a0 a.reply) (brings_nothing a.tag a.incoming) h in
-      given (is_due c.a0 a.reply) _ _ parts.0
+      ap (λ n. cond (is_due c.a0 n) (gives S (replies n)) None) has
+      ∙ given (is_due c.a0 a.reply) _ _ parts.0
       ∙ ap (gives S) (plain_is a parts.1)
       ∙ ap (λ S'. gives S' a) (sym (sleep_written S c a e))
-  world_gives Random S t c a signal few e w h = drawn_given S c a h ∙ random_gives S c a e (asked_good S c w) h
-  world_gives Recv S t c a signal few e w h = recv_gives S c a few e (asked_good S c w) h
-  world_gives TryRecv S t c a signal few e w h = elim (or_cases (takes_datagram S.count c a) (is_empty a) h) [
-    | inl taken ↦ taken_gives S c a few e (asked_good S c w) taken
-    | inr empty ↦ empty_gives S c a e (asked_good S c w) empty
+  world_gives Random S t c a env few e w h has =
+      let good = asked_good S c w in
+      let reply = eqb-true a.reply c.a1 (and_parts (a.reply == c.a1) _ h).0 in
+      let low : a.reply ≤ 60000 = omega (arith, reply, random_short S c e good) in
+      drawn_given S c a env.pool h (here (a.reply == minus_one) (not_minus_one a.reply low) has) ∙ random_gives S c a e good h
+  world_gives Recv S t c a env few e w h has = recv_gives S c a env.mailbox few e (asked_good S c w) h has
+  world_gives TryRecv S t c a env few e w h has = elim (or_cases (takes_datagram S.count c a) (is_empty a) h) [
+    | inl taken ↦ taken_gives S c a env.mailbox few e (asked_good S c w) taken has
+    | inr empty ↦ empty_gives S c a env.mailbox e (asked_good S c w) empty has
   ]
-  world_gives _ S t c a signal few e w h = cc
+  world_gives _ S t c a env few e w h has = cc
 
-  answer_given : (k : Kind) (S : State) (t : ℕ) (c : Call) (a : Answer) (signal : ℕ) → S.count ≤ 16 → kind_numbered c.kind ≡ Some k → (n : Need) → need k S t c ≡ n → gives_answer n a (is_possible k S c a) ≡ true → answered_now n (from_world k S c (around a signal)) ≡ gives (after_need n (with_answer S c a)) a
-  answer_given k S t c a signal few e (Fixed reply S') w h =
+  answer_given : (k : Kind) (S : State) (t : ℕ) (c : Call) (a : Answer) (env : Env) → S.count ≤ 16 → kind_numbered c.kind ≡ Some k → Brings (Some k) a env → (n : Need) → need k S t c ≡ n → gives_answer n a (is_possible k S c a) ≡ true → answered_now n (from_world k S c env) ≡ gives (after_need n (with_answer S c a)) a
+  answer_given k S t c a env few e has (Fixed reply S') w h =
       let parts = and_parts (a.reply == reply) (brings_nothing a.tag a.incoming) h in
       ap (gives S') (ap replies (sym (eqb-true a.reply reply parts.0)) ∙ plain_is a parts.1)
-  answer_given k S t c a signal few e Blocked w h = cc
-  answer_given k S t c a signal few e World w h = world_gives k S t c a signal few e w h
+  answer_given k S t c a env few e has Blocked w h = cc
+  answer_given k S t c a env few e has World w h = world_gives k S t c a env few e w h has
 
 -- ---- the signal
 
@@ -196,8 +206,18 @@ chosen_by p signal ends h = by_test ends (signal == 0) refl h
         let parts = and_parts (nat_le signal 31) (p signal) h in
         lowest_is p signal 31 1 (omega (arith, eqb-false signal 0 e)) (omega (arith, leb-true signal 31 parts.0)) parts.1
 
-chosen_is : (k : Kind) (handlers : List (Option ℕ)) (signal : ℕ) → is_handled k handlers signal ≡ true → chosen_signal k handlers (λ s. s == signal) ≡ signal
-chosen_is k handlers signal h = chosen_by (λ s. is_some (handler handlers s)) signal (ends_process k) h
+lowest_same : (p q : ℕ → Bool) (n s : ℕ) → ((r : ℕ) → s ≤ r → r < s + n → p r ≡ q r) → lowest p n s ≡ lowest q n s
+unfolding lowest
+lowest_same p q zero s same = refl
+lowest_same p q (suc n) s same =
+    ap (λ b. cond b s (lowest p n (s + 1))) (same s (omega arith) (omega arith))
+    ∙ ap (λ m. cond (q s) s m) (lowest_same p q n (s + 1) (λ r low high. same r (omega (arith, low)) (omega (arith, high))))
+
+chosen_is : (k : Kind) (handlers : List (Option ℕ)) (signal : ℕ) (pending : ℕ → Bool) → ((s : ℕ) → 1 ≤ s → s < 1 + 31 → pending s ≡ (s == signal)) → is_handled k handlers signal ≡ true → chosen_signal k handlers pending ≡ signal
+chosen_is k handlers signal pending only_it h =
+    let q : ℕ → Bool = λ s. is_some (handler handlers s) in
+    ap (λ n. cond (ends_process k) 0 n) (lowest_same (λ s. pending s && q s) (only signal q) 31 1 (λ s low high. ap (λ b. b && q s) (only_it s low high)))
+    ∙ chosen_by q signal (ends_process k) h
 
 -- ---- the event
 
@@ -225,22 +245,51 @@ same_told S' e w signal clock call outgoing signals clocks calls bytes =
     ∙ ap (λ c. told S' e w e.signal e.clock c outgoing) calls
     ∙ ap (λ bytes. told S' e w e.signal e.clock e.call bytes) bytes
 
-lived : IsReadBack → (S : State) (e : Entry) → StateFits S → (o : Option Waiting) → thread_at S e.thread ≡ o → reason_at S e o ≡ None → event_of_waiting S e.thread (around (answer_of e) e.signal) o ≡ Some (record { state = next_at S e o; entry = e })
-lived again S e s None at h = cc
-lived again S e s (Some w) at h =
+lived : IsReadBack → (S : State) (e : Entry) (env : Env) → StateFits S → Supplies e env → (o : Option Waiting) → thread_at S e.thread ≡ o → reason_at S e o ≡ None → event_of_waiting S e.thread env o ≡ Some (record { state = next_at S e o; entry = e })
+lived again S e env s has None at h = cc
+lived again S e env s has (Some w) at h =
     let k = w.kind in
     let a = answer_of e in
-    let env = around a e.signal in
     let S' = effects k S e.thread w.call a in
     let holds = all_hold (checks S e w) h in
     let fits = fits_at S e.thread w s at in
-    let given = answer_given again k S e.thread w.call a e.signal s.count fits.kind (need k S e.thread w.call) refl holds.reply in
+    let of_kind : kind_numbered e.call.kind ≡ Some k = ap (λ (c : Call). kind_numbered c.kind) (call_told S e w holds) ∙ fits.kind in
+    let brings : Brings (Some k) a env = subst (λ (o : Option Kind). Brings o a env) of_kind has.brings in
+    let given = answer_given again k S e.thread w.call a env s.count fits.kind brings (need k S e.thread w.call) refl holds.reply in
     let sent = outgoing_of w.call S.store.memory in
     ap (option_map (event S e.thread env w)) given
     ∙ ap Some (same_told S' e w (chosen_signal k S'.handlers env.pending) (next_clock_of S.clock e.tag) w.call sent
-    (chosen_is k S'.handlers e.signal holds.handler) (sym (eqb-true e.clock (next_clock_of S.clock e.tag) holds.clock)) (sym (call_told S e w holds)) (sym ((bytes_eq-Decides e.outgoing sent).0 holds.bytes)))
+    (chosen_is k S'.handlers e.signal env.pending has.signals holds.handler) (sym (eqb-true e.clock (next_clock_of S.clock e.tag) holds.clock)) (sym (call_told S e w holds)) (sym ((bytes_eq-Decides e.outgoing sent).0 holds.bytes)))
+
+alive_is : (killed running : Bool) → killed ≡ false → running ≡ true → (not killed && running) ≡ true
+alive_is true running k r = cc
+alive_is false running k r = r
 
 pub possible : IsReadBack → Possible
-possible again S e s shape h =
+possible again S e s h env has =
     let parts = unless_none (is_running S) _ _ h in
-    (around (answer_of e) e.signal, record { time = shape.reply }, given (is_running S) _ _ parts.0 ∙ lived again S e s (thread_at S e.thread) refl parts.1)
+    given (not env.killed && is_running S) _ _ (alive_is env.killed (is_running S) has.alive parts.0) ∙ lived again S e env s has (thread_at S e.thread) refl parts.1
+
+-- ---- the world in which an entry comes about
+
+unless_any : {P : Type 0} (test : Bool) → P → Unless test P
+unless_any true h = tt
+unless_any false h = h
+
+in_mailbox : (test : Bool) (a : Answer) → IsThere test a (if test then [] else datagram_as a.tag a.incoming ∷ [])
+in_mailbox true a = refl
+in_mailbox false a = ([], refl)
+
+brought : (o : Option Kind) (a : Answer) (signal : ℕ) → Brings o a (record { mailbox = mailbox_for o a; pool = a.incoming; time = a.reply; pending = λ s. s == signal; killed = false })
+brought (Some Now) a signal = refl
+brought (Some SleepUntil) a signal = refl
+brought (Some Random) a signal = unless_any (a.reply == minus_one) (take_all (length a.incoming) a.incoming (omega arith))
+brought (Some Recv) a signal = unless_any (a.reply == minus_one) ([], refl)
+brought (Some TryRecv) a signal = unless_any (a.reply == minus_one) (in_mailbox (a.reply == minus_two) a)
+brought _ a signal = tt
+
+pub world_is_there : WorldIsThere
+world_is_there e shape = (
+  record { time = shape.reply },
+  record { alive = refl; brings = brought (kind_numbered e.call.kind) (answer_of e) e.signal; signals = λ s low high. refl },
+)

@@ -12,6 +12,7 @@ use Rattle.wasm_types.specs.Library.{kind_at}
 use Rattle.wasm_types.specs.Modules.{Module}
 use Rattle.wasm_step.specs.Burst.{BurstResult, burst}
 use Rattle.wasm_step.specs.Reduce.{Halt, Calls, Ends, Traps, Sticks}
+use Rattle.wasm_step.specs.Limits.{most_instructions}
 use Rattle.wasm_step.specs.Strand.{Strand, answered, handling, is_in}
 use Rattle.wasm_step.specs.Thread.{Thread}
 use Rattle.wasm_step.specs.declared.call.CallSite.{CallSite}
@@ -22,7 +23,7 @@ use Rattle.guest_process.specs.State.{State, with_thread}
 
 -- a burst has at most so many instructions
 unfoldable pub budget : ℕ
-budget = 10000000
+budget = most_instructions
 
 -- ---- where a burst stops
 

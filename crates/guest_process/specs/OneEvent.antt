@@ -1,7 +1,13 @@
 -- The laws over one event: those that the world can let a process have are those that are legal, and what
 -- each of them keeps.
-use Rattle.std.specs.Prelude.{◌≡◌, ℕ, ◌+◌, ◌^◌, ◌<◌, ◌≤◌, Some, None}
-use Rattle.lamport_tag.specs.Tag.{clock_of}
+use Rattle.std.specs.Prelude.{◌≡◌, ℕ, ◌+◌, ◌^◌, ◌<◌, ◌≤◌, ◌==◌, Bool, true, false, if◌then◌else◌, List, [], ◌∷◌, ◌++◌, length, take, Option, Some, None}
+use Rattle.call_table.specs.Table.{kind_numbered}
+use Rattle.call_table.specs.declared.kind.Kind.{Kind}
+use Rattle.call_table.specs.declared.kind.Kind.TheVariants.{Now, SleepUntil, Random, Recv, TryRecv}
+use Rattle.lamport_tag.specs.declared.Tag.{Tag}
+use Rattle.lib_calls.specs.Answer.{Answer, answer_of}
+use Rattle.lib_calls.specs.Effects.{minus_one, minus_two}
+use Rattle.lamport_tag.specs.Tag.{clock_of, tag_bytes}
 use Rattle.lib_calls.specs.Entry.{IsShaped}
 use Rattle.lib_calls.specs.declared.entry.Entry.{Entry}
 use Rattle.wasm_types.specs.Modules.{Module}
@@ -23,10 +29,63 @@ pub record Agrees (S : State) (e : Event) : Type 0 where
 abbrev pub OneEvent : Type 0
 OneEvent = (S : State) (t : ℕ) (env : Env) → StateFits S → S.events < 2 ^ 61 → EnvFits env → (e : Event) → live S t env ≡ Some e → Agrees S e
 
--- a legal entry with the shape of its kind is the event of a try of its thread in some world
+-- a datagram with this tag, or without one, and this payload
+abbrev pub datagram_as : Option Tag → List ℕ → List ℕ
+datagram_as None payload = payload
+datagram_as (Some tag) payload = tag_bytes tag ++ payload
+
+-- it holds, but where this does
+abbrev pub Unless : Bool → Type 0 → Type 0
+Unless true P = Unit {0}
+Unless false P = P
+
+-- the datagram of the answer stands first in the mailbox
+abbrev pub StandsFirst : Answer → List (List ℕ) → Type 0
+StandsFirst a mailbox = (later : List (List ℕ)) × (mailbox ≡ datagram_as a.tag a.incoming ∷ later)
+
+-- the datagram of the answer is there, or where the answer says so there is none
+abbrev pub IsThere : Bool → Answer → List (List ℕ) → Type 0
+IsThere true a mailbox = mailbox ≡ []
+IsThere false a mailbox = StandsFirst a mailbox
+
+-- the world has what the answer to a call of this kind brings
+abbrev pub Brings : Option Kind → Answer → Env → Type 0
+Brings (Some Now) a env = env.time ≡ a.reply
+Brings (Some SleepUntil) a env = env.time ≡ a.reply
+Brings (Some Random) a env = Unless (a.reply == minus_one) (take (length a.incoming) env.pool ≡ a.incoming)
+Brings (Some Recv) a env = Unless (a.reply == minus_one) (StandsFirst a env.mailbox)
+Brings (Some TryRecv) a env = Unless (a.reply == minus_one) (IsThere (a.reply == minus_two) a env.mailbox)
+Brings _ a env = Unit {0}
+
+-- and of the signals only the one that is delivered is pending
+pub record Supplies (e : Entry) (env : Env) : Type 0 where
+  pub alive : env.killed ≡ false
+  pub brings : Brings (kind_numbered e.call.kind) (answer_of e) env
+  pub signals : (s : ℕ) → 1 ≤ s → s < 1 + 31 → env.pending s ≡ (s == e.signal)
+
+-- the mailbox out of which an answer to a call of this kind takes what it tells
+abbrev pub mailbox_for : Option Kind → Answer → List (List ℕ)
+mailbox_for (Some TryRecv) a = if a.reply == minus_two then [] else datagram_as a.tag a.incoming ∷ []
+mailbox_for _ a = datagram_as a.tag a.incoming ∷ []
+
+-- the world in which an entry comes about: what its call takes is there, and nothing behind it
+abbrev pub world_for : Entry → Env
+world_for e = record {
+  mailbox = mailbox_for (kind_numbered e.call.kind) (answer_of e);
+  pool = e.incoming;
+  time = e.reply;
+  pending = λ s. s == e.signal;
+  killed = false;
+}
+
+-- it has what the entry brings, and is one that can be
+abbrev pub WorldIsThere : Type 0
+WorldIsThere = (e : Entry) → IsShaped e → EnvFits (world_for e) × Supplies e (world_for e)
+
+-- a legal entry is the event of a try of its thread in each world that has what it brings
 abbrev pub Possible : Type 0
-Possible = (S : State) (e : Entry) → StateFits S → IsShaped e → reason S e ≡ None
-    → (env : Env) × EnvFits env × (live S e.thread env ≡ Some (record { state = next S e; entry = e }))
+Possible = (S : State) (e : Entry) → StateFits S → reason S e ≡ None
+    → (env : Env) → Supplies e env → live S e.thread env ≡ Some (record { state = next S e; entry = e })
 
 -- the clock rises to the entry's, also above that of the datagram that was taken; the event is counted;
 -- and the process keeps its number, its group and its module

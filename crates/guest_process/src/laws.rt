@@ -1,6 +1,6 @@
 // The laws over one event, as calls that do nothing.
 ghost use Rattle.guest_process.specs.Crews.{LockKept, OnlySpawnAdds, OtherThreadsStay};
-ghost use Rattle.guest_process.specs.OneEvent.{IsKept, IsKeptSound, IsStarted, OneEvent, Possible, Rises};
+ghost use Rattle.guest_process.specs.OneEvent.{IsKept, IsKeptSound, IsStarted, OneEvent, Possible, Rises, WorldIsThere};
 
 use lamport_tag::{cut_short, tags_read_back};
 use wasm_step::never_stuck;
@@ -14,10 +14,12 @@ pub fn one_event()
     tags_read_back();
 }
 
-/// A legal entry with the shape of its kind is the event of a try of its thread in some world, so that
-/// no answer is legal that no world gives.
+/// A legal entry is the event of a try of its thread in each world that has what its answer brings, whatever
+/// else waits in that world. For each entry with the shape of its kind there is such a world, so that no answer is
+/// legal that no world gives.
 pub fn possible()
-    ensures { Possible }
+    ensures event { Possible }
+    ensures world { WorldIsThere }
 {
     tags_read_back();
 }

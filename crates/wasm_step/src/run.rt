@@ -4,7 +4,7 @@ ghost use Rattle.wasm_types.specs.Code.{tree};
 ghost use Rattle.wasm_types.specs.Modules.{module_of};
 ghost use Rattle.wasm_step.specs.Answer.{after_of, halt_of, stopped_of};
 ghost use Rattle.wasm_step.specs.Burst.{after_step, burst, settle, spent};
-ghost use Rattle.wasm_step.specs.Limits.{Within};
+ghost use Rattle.wasm_step.specs.Limits.{Within, most_instructions};
 ghost use Rattle.wasm_step.specs.Reduce.{reduce};
 ghost use Rattle.wasm_step.specs.Paused.{settled_of, stopped_result};
 
@@ -14,8 +14,8 @@ use std::alloc::AllocError;
 use wasm_store::Store;
 use wasm_types::{Instr, Trap, ValidModule};
 
-/// A burst has at most so many instructions.
-pub(crate) const BUDGET: u32 = 10_000_000;
+// A burst has at most so many instructions.
+const BUDGET: u32 = 10_000_000;
 
 impl<'m> Stack<'m> {
     /// Past the ends of levels and frames, to the next instruction.
@@ -73,7 +73,7 @@ impl<'m> Stack<'m> {
     #[inline(never)]
     fn burst(&mut self, module: &'m ValidModule, store: &mut Store<'m>) -> Result<Next, AllocError>
         requires { module_of «module».now ≡ store.old.«module» }
-        ensures { IfOk result (λ n. record { stop = halt_of (after_of n self.new); store = store.new } ≡ burst BUDGET self.old store.old) }
+        ensures { IfOk result (λ n. record { stop = halt_of (after_of n self.new); store = store.new } ≡ burst most_instructions self.old store.old) }
     {
         let mut left = BUDGET;
         if !self.is_within() {
@@ -139,7 +139,7 @@ impl<'m> Stack<'m> {
         store: &mut Store<'m>,
     ) -> Result<Stopped, AllocError>
         requires { module_of «module».now ≡ store.old.«module» }
-        ensures { IfOk result (λ stopped. stopped_result stopped self.new store.new ≡ burst BUDGET self.old store.old) }
+        ensures { IfOk result (λ stopped. stopped_result stopped self.new store.new ≡ burst most_instructions self.old store.old) }
     {
         let halted = self.burst(module, store)?;
         Ok(self.stopped(halted))

@@ -2,6 +2,7 @@
 ghost use Rattle.std.specs.Prelude.{◌≡◌, ◌↔◌, IfOk, None, OnOk, Some, Err, false};
 ghost use Rattle.wasm_types.specs.Modules.{module_of};
 ghost use Rattle.wasm_step.specs.Burst.{burst};
+ghost use Rattle.wasm_step.specs.Limits.{most_instructions};
 ghost use Rattle.wasm_store.specs.Suits.{Suits};
 ghost use Rattle.wasm_step.specs.Pause.{StandsAt, pause_result};
 ghost use Rattle.wasm_step.specs.Strand.{IsAnswer, IsHandler, answered, handling, first_thread, is_in, new_thread};
@@ -9,7 +10,6 @@ ghost use Rattle.wasm_step.specs.Strand.{IsAnswer, IsHandler, answered, handling
 use crate::call::CallSite;
 use crate::first::{first, own};
 use crate::halt::Stopped;
-use crate::run::BUDGET;
 use crate::stack::Stack;
 use std::alloc::{AllocError, Global};
 use std::marker::Model;
@@ -151,7 +151,7 @@ impl<'m> Strand<'m> {
         requires runs { self.call ≡ None }
         requires same_module { self.«module» ≡ store.old.«module» }
         requires suits { Suits store.old }
-        ensures ran { IfOk result (λ p. pause_result p store.new ≡ burst BUDGET self.entry.thread store.old) }
+        ensures ran { IfOk result (λ p. pause_result p store.new ≡ burst most_instructions self.entry.thread store.old) }
         ensures call { IfOk result (λ p. StandsAt self.entry.«module» p) }
         ensures suits { OnOk result (Suits store.new) }
         ensures same_module { OnOk result (store.new.«module» ≡ self.entry.«module») }
