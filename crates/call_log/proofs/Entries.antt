@@ -1,6 +1,9 @@
 -- All entries of some bytes: what one more entry changes, and that no list of entries is longer.
 use Rattle.std.proofs.Common.{◌≡◌, ℕ, zero, suc, ◌+◌, ◌≤◌, ◌⊎◌, inl, inr, ◌↔◌, subst, append-nil, List, [], ◌∷◌, ◌++◌, length, Option, Some, None, refl, sym, ap, ◌∙◌, arith, length-append, append_assoc}
-use Rattle.std.specs.Prelude.{All}
+use Rattle.std.specs.Prelude.{◌<◌, take, drop, All}
+use Rattle.std.proofs.Common.{length-drop}
+use Rattle.std.proofs.lemmas.List.{take-append-drop}
+use Rattle.std.proofs.lemmas.Option.{same_Some}
 use Rattle.std.proofs.lemmas.List.Elements.{All-nil, All-cons, All-head, All-tail}
 use Rattle.fri_bytes.specs.Laws.{ExactReaders}
 use Rattle.lib_calls.specs.declared.entry.Entry.{Entry}
@@ -169,3 +172,18 @@ module _ (readers : ExactReaders) where
     λ h. let once = holds_once bytes entries rest h in (sym once.0, sym once.1),
     λ h. subst (λ (x : List Entry × List ℕ). Holds bytes x.0 x.1) (ap (λ (es : List Entry). (es, rest_of bytes)) h.0 ∙ ap (λ (r : List ℕ). (entries, r)) h.1) (holds bytes),
   )
+
+  -- ---- an entry that was cut
+
+  cut_begins_none : (e : Entry) (n : ℕ) → IsShaped e → n < length (encoding e) → BeginsNoEntry (take n (encoding e))
+  cut_begins_none e n shaped low other rest fits begins =
+      let behind = rest ++ drop n (encoding e) in
+      let whole : encoding e ≡ encoding other ++ behind =
+      sym (take-append-drop n (encoding e)) ∙ ap (λ (b : List ℕ). b ++ drop n (encoding e)) begins ∙ append_assoc (encoding other) rest (drop n (encoding e)) in
+      let one : entry_at (encoding e) ≡ Some (e, []) = entry_at-begins readers (encoding e) e [] shaped (sym (append-nil (encoding e))) in
+      let two : entry_at (encoding e) ≡ Some (other, behind) = entry_at-begins readers (encoding e) other behind fits whole in
+      let same : length behind ≡ 0 = sym (ap (λ (x : Entry × List ℕ). length x.1) (same_Some _ _ (sym one ∙ two))) in
+      omega (arith, low, same, length-append rest (drop n (encoding e)), length-drop n (encoding e))
+
+  pub held_cut : (entries : List Entry) (e : Entry) (n : ℕ) → All IsShaped entries → IsShaped e → n < length (encoding e) → Holds (encodings entries ++ take n (encoding e)) entries (take n (encoding e))
+  held_cut entries e n all shaped low = record { shaped = all; spelled = refl; longest = cut_begins_none e n shaped low }

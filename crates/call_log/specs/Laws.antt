@@ -1,5 +1,5 @@
 -- What holds of heads, entries and whole logs, whatever the bytes are.
-use Rattle.std.specs.Prelude.{◌≡◌, ℕ, ◌↔◌, List, [], ◌++◌, Some, All}
+use Rattle.std.specs.Prelude.{◌≡◌, ℕ, ◌<◌, ◌↔◌, List, [], ◌++◌, length, take, Some, All}
 use Rattle.lib_calls.specs.declared.entry.Entry.{Entry}
 use Rattle.lib_calls.specs.Entry.{IsShaped}
 use Rattle.call_log.specs.Entry.{encoding, encodings}
@@ -22,9 +22,15 @@ FindsAll = (bytes : List ℕ) (entries : List Entry) (rest : List ℕ) → Holds
 abbrev pub HoldsWritten : Type 0
 HoldsWritten = (entries : List Entry) → All IsShaped entries → Holds (encodings entries) entries []
 
+-- and where the last one was written in part, that part is left
+abbrev pub HoldsCut : Type 0
+HoldsCut = (entries : List Entry) (e : Entry) (n : ℕ) → All IsShaped entries → IsShaped e → n < length (encoding e)
+    → Holds (encodings entries ++ take n (encoding e)) entries (take n (encoding e))
+
 -- reading gives exactly what stands in a log
 pub record ExactLogs : Type 0 where
   pub heads : FindsHeads
   pub entries : FindsEntries
   pub all : FindsAll
   pub holds_written : HoldsWritten
+  pub holds_cut : HoldsCut
