@@ -21,12 +21,12 @@ use Rattle.group_state.proofs.Rising.{IsAboveTag, ahead_rises, ahead_tags}
 use Rattle.group_state.proofs.Standing.{found, heads_ahead, parts_ahead, parts_more, parts_rise, parts_states}
 
 -- x is the element at k
-record Front (X : Type 0) (xs : List X) (k : ℕ) (x : X) : Type 0 where
+pub record Front (X : Type 0) (xs : List X) (k : ℕ) (x : X) : Type 0 where
   pub here : slice_get xs k ≡ Some x
   pub within : k < length xs
   pub more : take (suc k) xs ≡ take k xs ++ x ∷ []
 
-front : {X : Type 0} (xs : List X) (k : ℕ) (x : X) (ys : List X) → drop k xs ≡ x ∷ ys → Front X xs k x
+pub front : {X : Type 0} (xs : List X) (k : ℕ) (x : X) (ys : List X) → drop k xs ≡ x ∷ ys → Front X xs k x
 front [] zero x ys is = absurd (cc)
 front [] (suc k) x ys is = absurd (cc)
 front (a ∷ xs) zero x ys is =
@@ -75,16 +75,16 @@ module _ (merging : AreMerged Entry) (rising : AreRising) (kept : IsKept) where
       (all_tagged start x.node (recursion_from_All (λ (r : Replaying). StateFits r.state) start fits)))
 
   module _ (course : AreTurns) (start : List Replaying) (fits : PartsFit start) (at : ℕ) where
-    abbrev so_far : List (NodeEvent Entry)
+    abbrev pub so_far : List (NodeEvent Entry)
     so_far = take at (events start)
 
-    abbrev parts_at : List Replaying
+    abbrev pub parts_at : List Replaying
     parts_at = parts_from 0 start so_far
 
     parts_merged : IsMerged entry_clock (map ahead parts_at)
     parts_merged = merging entry_clock (map ahead parts_at) (parts_rise course 0 start so_far (start_rises start fits))
 
-    own_left : (node : ℕ) → of_node node (drop at (events start)) ≡ list_of (map ahead parts_at) node
+    pub own_left : (node : ℕ) → of_node node (drop at (events start)) ≡ list_of (map ahead parts_at) node
     own_left node =
         let same : 0 + node ≡ node = omega arith in
         of_node-drop node at (events start)

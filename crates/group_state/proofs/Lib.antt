@@ -7,6 +7,7 @@ pub mod Nodes
 pub mod Reporting
 pub mod Rising
 pub mod Standing
+pub mod Stepping
 pub mod Swaps
 pub mod Tallied
 pub mod Walking

@@ -19,7 +19,7 @@ pub parts_none : (i : ℕ) (rs : List Replaying) → parts_from i rs [] ≡ rs
 parts_none i [] = refl
 parts_none i (r ∷ rs) = ap (λ l. r ∷ l) (parts_none (suc i) rs)
 
-both : {X : Type 0} (x y : X) (xs ys : List X) → x ≡ y → xs ≡ ys → x ∷ xs ≡ y ∷ ys
+pub both : {X : Type 0} (x y : X) (xs ys : List X) → x ≡ y → xs ≡ ys → x ∷ xs ≡ y ∷ ys
 both x y xs ys same rest = λ i. same i ∷ rest i
 
 -- one event more gives its node a turn, and the others none

@@ -1,11 +1,15 @@
--- What holds of the order of a group's events, for any logs.
-use Rattle.std.specs.Prelude.{◌≡◌, ℕ, ◌<◌, List, map, slice_get, Some}
+-- What holds of the order of a group's events, and of what each of them changes, for any logs.
+use Rattle.std.specs.Prelude.{◌≡◌, ℕ, suc, ◌<◌, List, map, slice_get, slice_set, Some, None}
 use Rattle.lamport_tag.specs.declared.Tag.{Tag}
 use Rattle.lib_calls.specs.declared.entry.Entry.{Entry}
+use Rattle.lib_calls.specs.Entry.{IsShaped}
+use Rattle.guest_process.specs.Legal.{reason}
+use Rattle.guest_process.specs.Next.{next}
+use Rattle.guest_process.specs.State.{State}
 use Rattle.group_order.specs.Order.{IsOrder, NodeEvent}
 use Rattle.proc_replay.specs.Course.{ahead}
 use Rattle.proc_replay.specs.Replaying.{Replaying}
-use Rattle.group_state.specs.Place.{PartsFit, entry_clock, events}
+use Rattle.group_state.specs.Place.{AreParts, PartsFit, entry_clock, events, states}
 
 -- it is sorted by clock and then by node, and has of each node its accepted events, each after the other; and
 -- no other list is
@@ -18,3 +22,16 @@ abbrev pub SendsFirst : Type 0
 SendsFirst = (start : List Replaying) → PartsFit start → (i j : ℕ) (sent taken : NodeEvent Entry) (tag : Tag)
     → slice_get (events start) i ≡ Some sent → slice_get (events start) j ≡ Some taken
     → taken.entry.tag ≡ Some tag → sent.entry.clock ≡ tag.clock → i < j
+
+-- the event behind the first k is legal in the state of its node, and that node alone goes on, to the next state
+pub record IsStep (start : List Replaying) (k : ℕ) (e : NodeEvent Entry) : Type 0 where
+  pub state : State
+  pub stands : slice_get (states start k) e.node ≡ Some state
+  pub shaped : IsShaped e.entry
+  pub legal : reason state e.entry ≡ None
+  pub after : states start (suc k) ≡ slice_set (states start k) e.node (next state e.entry)
+
+-- the states at all positions, one after the other
+pub record Stepwise : Type 0 where
+  pub begins : (start : List Replaying) → states start 0 ≡ map (λ r. r.state) start
+  pub steps : (start : List Replaying) → AreParts start → PartsFit start → (k : ℕ) (e : NodeEvent Entry) → slice_get (events start) k ≡ Some e → IsStep start k e

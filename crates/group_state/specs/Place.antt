@@ -2,6 +2,7 @@
 use Rattle.std.specs.Prelude.{◌≡◌, ℕ, suc, ◌<◌, ◌≤◌, List, [], ◌∷◌, All, length, map, take, Option, Some, None}
 use Rattle.std.specs.List.{AllByRecursion}
 use Rattle.lib_calls.specs.declared.entry.Entry.{Entry}
+use Rattle.call_log.specs.Limits.{most_log}
 use Rattle.call_log.specs.Log.{entries_of}
 use Rattle.guest_process.specs.Fits.{StateFits}
 use Rattle.guest_process.specs.Replay.{state_after}
@@ -27,12 +28,13 @@ abbrev pub Ascends : List Replaying → Type 0
 Ascends [] = Unit {0}
 Ascends (r ∷ rs) = AllByRecursion (λ s. r.head.process < s.head.process) rs × Ascends rs
 
--- some of one group's logs, in order of their processes' numbers, each before its first event
+-- some of one group's logs, in order of their processes' numbers, each before its first event and within the limit
 pub record AreParts (parts : List Replaying) : Type 0 where
   pub few : length parts ≤ 16
   pub fresh : All (λ r. r.state.events ≡ 0) parts
   pub one : All (λ r. r.head.count ≡ group_count parts) parts
   pub ascends : Ascends parts
+  pub within : All (λ r. length r.left ≤ most_log) parts
 
 -- each process is in the ranges of its module
 abbrev pub PartsFit : List Replaying → Type 0

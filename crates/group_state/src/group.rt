@@ -50,7 +50,6 @@ impl<'m, 'a> Group<'m, 'a> {
         let mut first = Vec::new(alloc);
         for (node, part) in parts.iter().enumerate() {
             let _ = part.process().events();
-            let _ = part.left();
             merge.set_head(node as u32, head_of(part));
             first.push(part.copy(alloc)?)?;
         }

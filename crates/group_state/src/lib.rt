@@ -15,5 +15,5 @@ mod view;
 pub use event::GroupEvent;
 pub use group::Group;
 pub use image::Image;
-pub use laws::ordered;
+pub use laws::{ordered, stepwise};
 pub use report::{Report, ReportLine, Verdict};

@@ -46,7 +46,7 @@ fresh_verdict S es rest fresh =
     ap (λ n. verdict_of (record (reach S es) { accepted = n }) rest) all
 
 -- an event is that of one entry
-same_entry : (e f : Entry) → Makes e ≡ Makes f → e ≡ f
+pub same_entry : (e f : Entry) → Makes e ≡ Makes f → e ≡ f
 same_entry e f same = cc
 
 module _ (step : IsStep) (end : IsEnd) (counted : CountsEvents) where

@@ -1,3 +1,4 @@
 pub mod Replaying
 pub mod Seen
 pub mod Course
+pub mod Inside

@@ -14,6 +14,10 @@ pub record Replaying : Type 0 where
   pub state : State
   pub left : List ℕ
 
+-- a process with the log that is left
+abbrev pub replaying : State → Log → Replaying
+replaying S log = record { head = log.head; state = S; left = log.left }
+
 -- what the next turn is: the event of an entry is made, or no entry stands next, or the entry with this
 -- number, from 1 on, is not legal
 pub data Move : Type 0 where

@@ -1,11 +1,12 @@
 // A process that is replayed from its log.
 ghost use Rattle.std.specs.Prelude.{◌≡◌, ◌*◌, ◌<◌, ◌^◌, IfOk, length};
 ghost use Rattle.call_log.specs.Head.{head_of};
-ghost use Rattle.proc_replay.specs.Replaying.{after, turn};
+ghost use Rattle.proc_replay.specs.Inside.{IsAhead};
+ghost use Rattle.proc_replay.specs.Replaying.{IsRoomy, after, replaying, turn};
 ghost use Rattle.proc_replay.specs.Seen.{move_of};
 
 use crate::turn::Turn;
-use call_log::{LogHead, LogView};
+use call_log::{LogHead, LogView, entry_by_entry};
 use guest_process::{Process, counting};
 use std::alloc::{AllocError, Global};
 use std::marker::Model;
@@ -15,20 +16,30 @@ use std::marker::Model;
 pub struct Replayer<'m, 'a> {
     process: Process<'m>,
     log: LogView<'a>,
+    // Kept, so that each entry is read and judged once.
+    ahead: Ahead<'a>,
+}
+
+// What the next turn gives, and the log behind the entry that stands next.
+#[derive(Drop)]
+struct Ahead<'a> {
+    turn: Turn<'a>,
+    behind: LogView<'a>,
 }
 
 impl<'m, 'a> Model for Replayer<'m, 'a> {
     ghost use Rattle.std.specs.Coded.{codes};
     ghost use Rattle.guest_process.specs.Coding.{crew_code, trees_code};
-    ghost use Rattle.proc_replay.specs.Replaying.{IsRoomy, Replaying};
+    ghost use Rattle.proc_replay.specs.Replaying.{Replaying, replaying};
+    ghost use Rattle.proc_replay.specs.Inside.{IsReplayer};
 
     ghost Value = { Replaying };
 
     ghost coded = { Prim.hlevel (codes, trees_code, crew_code) };
 
-    ghost view = { λ r. record { head = r.log.head; state = r.process; left = r.log.left } };
+    ghost view = { λ r. replaying r.process r.log };
 
-    ghost invariant = { λ r. IsRoomy r.process r.log };
+    ghost invariant = { IsReplayer };
 }
 
 impl<'m, 'a> Replayer<'m, 'a> {
@@ -41,21 +52,27 @@ impl<'m, 'a> Replayer<'m, 'a> {
     {
         // The proof needs that what is left is a slice, and so shorter than 2 ^ 63 bytes.
         let _ = log.rest().len();
-        Replayer { process, log }
+        Replayer::at(process, log)
+    }
+
+    // The replay with this process and this log. It reads and judges the entry that stands next.
+    fn at(process: Process<'m>, log: LogView<'a>) -> Replayer<'m, 'a>
+        requires { IsRoomy process log }
+        ensures { result ≡ replaying process.entry log.entry }
+    {
+        let ahead = look_ahead(&process, &log);
+        Replayer {
+            process,
+            log,
+            ahead,
+        }
     }
 
     /// What the next turn gives. It takes no memory.
     pub fn peek(&self) -> Turn<'a>
         ensures { move_of result ≡ turn self.now }
     {
-        let mut log = self.log.copy();
-        match log.next_entry() {
-            Some(entry) => match self.process.legal(&entry) {
-                Ok(()) => Turn::Event(entry),
-                Err(why) => Turn::Diverged(self.process.events() + 1, why),
-            },
-            None => Turn::LogEnd,
-        }
+        self.ahead.turn
     }
 
     /// The next turn. At the log's end and at a divergence nothing changes, and the same comes again.
@@ -63,21 +80,16 @@ impl<'m, 'a> Replayer<'m, 'a> {
         ensures turn { IfOk result (λ r. move_of r.1 ≡ turn self.entry) }
         ensures after { IfOk result (λ r. r.0 ≡ after self.entry) }
     {
-        let Replayer { process, mut log } = self;
-        let here = log.copy();
-        let Some(entry) = log.next_entry() else {
-            return Ok((Replayer { process, log }, Turn::LogEnd));
-        };
-        match process.legal(&entry) {
-            Ok(()) => {
-                counting();
-                let process = process.advance(&entry)?;
-                Ok((Replayer { process, log }, Turn::Event(entry)))
+        entry_by_entry();
+        counting();
+        let turn = self.ahead.turn;
+        match turn {
+            Turn::Event(entry) => {
+                let process = self.process.advance(&entry)?;
+                Ok((Replayer::at(process, self.ahead.behind), turn))
             }
-            Err(why) => {
-                let turn = Turn::Diverged(process.events() + 1, why);
-                Ok((Replayer { process, log: here }, turn))
-            }
+            Turn::LogEnd => Ok((self, turn)),
+            Turn::Diverged(..) => Ok((self, turn)),
         }
     }
 
@@ -123,6 +135,46 @@ impl<'m, 'a> Replayer<'m, 'a> {
     {
         let process = self.process.copy(alloc)?;
         let log = self.log.copy();
-        Ok(Replayer { process, log })
+        let ahead = self.ahead.copy();
+        Ok(Replayer {
+            process,
+            log,
+            ahead,
+        })
+    }
+}
+
+impl<'a> Ahead<'a> {
+    fn copy(&self) -> Ahead<'a>
+        ensures { result ≡ self.now }
+    {
+        Ahead {
+            turn: self.turn,
+            behind: self.behind.copy(),
+        }
+    }
+}
+
+// Reads the entry that stands next in a log, and judges it.
+fn look_ahead<'a>(process: &Process<'_>, log: &LogView<'a>) -> Ahead<'a>
+    requires { IsRoomy process.now log.now }
+    ensures { IsAhead (replaying process.now log.now) result }
+{
+    let mut behind = log.copy();
+    let Some(entry) = behind.next_entry() else {
+        return Ahead {
+            turn: Turn::LogEnd,
+            behind,
+        };
+    };
+    match process.legal(&entry) {
+        Ok(()) => Ahead {
+            turn: Turn::Event(entry),
+            behind,
+        },
+        Err(why) => Ahead {
+            turn: Turn::Diverged(process.events() + 1, why),
+            behind,
+        },
     }
 }

@@ -23,7 +23,6 @@ loop-node-preserved c =
       heads = headed parts node c.part-item.result c.loop-node.merge c.set_head.new.self c.head_of.result within i.size c.part-item.is c.head_of.ensures c.set_head.ensures i.heads;
       copied = grind (arith, common_steps);
       fits = All-more (λ (r : Replaying). StateFits r.state) parts node c.part-item.result within i.fits (subst StateFits same (search rules));
-      small = All-more (λ (r : Replaying). length r.left < 2 ^ 64) parts node c.part-item.result within i.small (subst (λ (r : Replaying). length r.left < 2 ^ 64) c.part-item.is (search rules));
     }
 
 pub invariant_of-result : goal.invariant_of-result
@@ -36,7 +35,7 @@ invariant_of-result c =
     let all : c.loop-node.first.items ≡ c.args.parts.items = i.copied ∙ whole in
     let heads : c.loop-node.merge ≡ map head c.args.parts.items = sym (take_all node c.loop-node.merge (omega (arith, i.size, done))) ∙ i.heads ∙ ap (map head) whole in
     let fits : PartsFit c.args.parts.items = subst PartsFit whole i.fits in
-    let small = subst (All (λ (r : Replaying). length r.left < 2 ^ 64)) whole i.small in
+    let small : All (λ (r : Replaying). length r.left < 2 ^ 64) c.args.parts.items = λ k r here. omega (arith, c.requires.within k r here) in
     record {
       parts = subst AreParts (sym all) c.requires;
       fits = subst PartsFit (sym all) fits;

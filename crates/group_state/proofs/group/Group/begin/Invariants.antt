@@ -1,5 +1,4 @@
-use Rattle.std.proofs.Common.{◌≡◌, ◌<◌, ◌^◌, length, map, take}
-use Rattle.std.specs.Prelude.{All}
+use Rattle.std.proofs.Common.{◌≡◌, length, map, take}
 use Rattle.group_state.specs.Place.{PartsFit, head}
 use Rattle.group_state.proofs.group.Group.begin.Given as goal
 
@@ -9,5 +8,4 @@ invariant-loop-node l = record {
   heads : take l.node l.merge ≡ map head (take l.node l.part-items);
   copied : l.first.items ≡ take l.node l.part-items;
   fits : PartsFit (take l.node l.part-items);
-  small : All (λ r. length r.left < 2 ^ 64) (take l.node l.part-items);
 }
