@@ -1,8 +1,8 @@
 -- What is mentioned comes behind what was there.
-use Rattle.std.proofs.Common.{◌≡◌, ℕ, Bool, true, false, cond, ◌||◌, List, [], ◌∷◌, ◌++◌, length, take, Option, None, ℤ, refl, sym, ap, ◌∙◌, true≢false}
-use Rattle.std.proofs.Math.Seq.{take-append_seam}
+use Rattle.std.proofs.Common.{◌≡◌, ℕ, Bool, true, false, cond, ◌||◌, List, [], ◌∷◌, ◌++◌, length, take, Option, None, Result, Ok, Err, OnOk, ℤ, refl, sym, ap, ◌∙◌, true≢false}
+use Rattle.std.proofs.Math.Seq.{take-append_seam, take-length}
 use Rattle.std.proofs.lemmas.List.{append-nil, append_assoc}
-use Rattle.std.specs.Prelude.{bytes_eq}
+use Rattle.std.specs.Prelude.{OnErr, bytes_eq}
 use Rattle.embed_cmds.specs.Variables.{Variable, is_mentioned, mention, mention_all, with_value}
 
 -- names in two parts
@@ -48,3 +48,28 @@ pub front_stays : (vs : List Variable) (names : List (List ℕ)) → take (lengt
 front_stays vs names =
     let adds = mention_all-adds vs names in
     ap (take (length vs)) adds.1 ∙ take-append_seam vs adds.0
+
+-- what a name adds comes behind too
+pub mention_front : (vs : List Variable) (name : List ℕ) → take (length vs) (mention vs name) ≡ vs
+mention_front vs name = front_stays vs (name ∷ [])
+
+-- what stays in front of a list that stays in front stays there
+pub front_of : {A : Type 0} (a b c : List A) → take (length a) b ≡ a → take (length b) c ≡ b → take (length a) c ≡ a
+front_of [] b c h k = refl
+front_of (x ∷ a) [] c h k = absurd cc
+front_of (x ∷ a) (y ∷ b) [] h k = absurd cc
+front_of (x ∷ a) (y ∷ b) (z ∷ c) h k =
+    let first : z ≡ x = cc in
+    let in_b : take (length a) b ≡ a = cc in
+    let in_c : take (length b) c ≡ b = cc in
+    let rest : take (length a) c ≡ a = front_of a b c in_b in_c in
+    ap (λ (w : _). w ∷ take (length a) c) first ∙ ap (λ (ws : List _). x ∷ ws) rest
+
+-- what a call keeps in front, where at an error it keeps all
+pub front_kept : {T E : Type 0} (r : Result T E) (old new all : List Variable) → OnOk r (new ≡ all) → OnErr r (new ≡ old) → take (length old) all ≡ old → take (length old) new ≡ old
+front_kept (Ok a) old new all ok err front = ap (take (length old)) ok ∙ front
+front_kept (Err e) old new all ok err front = ap (take (length old)) err ∙ take-length old
+
+pub where_err : {T E : Type 0} (P : Type 0) (r : Result T E) → P → OnErr r P
+where_err P (Ok a) p = tt
+where_err P (Err e) p = p

@@ -1,5 +1,5 @@
 // What programs do.
-ghost use Rattle.std.specs.Prelude.{◌≡◌, ◌++◌, false, map, IfOk, OnOk};
+ghost use Rattle.std.specs.Prelude.{◌≡◌, ◌++◌, false, map, IfOk, OnErr, OnOk};
 ghost use Rattle.watch_expr.specs.Expression.{expression_of};
 ghost use Rattle.embed_cmds.specs.Running.{after_statement, after_statements, holds, program_state, said_item, said_line, value_in, value_word};
 ghost use Rattle.embed_cmds.specs.Tree.{body, item_of, statement_of, statements};
@@ -12,9 +12,10 @@ use fri_text::Text;
 use std::alloc::{AllocError, Global};
 use watch_expr::{Expr, View, eval};
 
-/// Appends a value in decimal, or `undef`.
+/// Appends a value in decimal, or `undef`; and nothing where there is no memory for all of it.
 pub fn push_value(text: &mut Text, value: Option<i64>) -> Result<(), AllocError>
-    ensures { OnOk result (text.new ≡ text.old ++ value_word value) }
+    ensures ok { OnOk result (text.new ≡ text.old ++ value_word value) }
+    ensures err { OnErr result (text.new ≡ text.old) }
 {
     match value {
         Some(number) => text.push_i64(number),

@@ -1,5 +1,5 @@
 // The variables of a session.
-ghost use Rattle.std.specs.Prelude.{◌≡◌, [], length, slice_get, option_map, IfOk, OnOk};
+ghost use Rattle.std.specs.Prelude.{◌≡◌, [], length, slice_get, option_map, take, IfOk, OnErr, OnOk};
 ghost use Rattle.embed_cmds.specs.Faulty.{set_by, set_names};
 ghost use Rattle.embed_cmds.specs.Tree.{body, statement_of, statements};
 ghost use Rattle.embed_cmds.specs.Variables.{MentionsUpTo, is_mentioned, mention, mention_all, variable_value, with_value};
@@ -39,9 +39,10 @@ impl Vars {
     }
 
     /// Gives a variable this value. Where it was not mentioned before, it comes last, and takes memory. Else only its
-    /// value changes.
+    /// value changes. Where there is no memory for it, nothing does.
     pub fn set(&mut self, alloc: Global, name: &[u8], value: Option<i64>) -> Result<(), AllocError>
-        ensures { OnOk result (self.new ≡ with_value self.old name.now value) }
+        ensures ok { OnOk result (self.new ≡ with_value self.old name.now value) }
+        ensures err { OnErr result (self.new ≡ self.old) }
     {
         if let Some(kept) = self.values.get_mut(name) {
             *kept = value;
@@ -52,17 +53,18 @@ impl Vars {
     }
 
     /// Mentions the variables that the program sets, in the order of its text, unless that made more than `most`
-    /// variables; then none is mentioned. Says which. After want of memory some of them may be mentioned.
+    /// variables; then none is mentioned. Says which. Where there is no memory for them all, none is mentioned either.
     pub fn mention_all(
         &mut self,
         alloc: Global,
         p: &Program,
         most: usize,
     ) -> Result<bool, AllocError>
-        ensures { IfOk result (λ done. MentionsUpTo most self.old (set_names (body p.now)) self.new done) }
+        ensures ok { IfOk result (λ done. MentionsUpTo most self.old (set_names (body p.now)) self.new done) }
+        ensures err { OnErr result (self.new ≡ self.old) }
     {
         let before = self.names();
-        mention_statements(alloc, &p.stmts, self)?;
+        self.mention_program(alloc, p)?;
         let done = self.names() <= most;
         if !done {
             self.values.truncate(before);
@@ -70,8 +72,22 @@ impl Vars {
         Ok(done)
     }
 
+    // Mentions the variables that the program sets; or none, where there is no memory for them all.
+    fn mention_program(&mut self, alloc: Global, p: &Program) -> Result<(), AllocError>
+        ensures ok { OnOk result (self.new ≡ mention_all self.old (set_names (body p.now))) }
+        ensures err { OnErr result (self.new ≡ self.old) }
+    {
+        let before = self.names();
+        let mentioned = mention_statements(alloc, &p.stmts, self);
+        if mentioned.is_err() {
+            self.values.truncate(before);
+        }
+        mentioned
+    }
+
     fn mention(&mut self, alloc: Global, name: &[u8]) -> Result<(), AllocError>
-        ensures { OnOk result (self.new ≡ mention self.old name.now) }
+        ensures ok { OnOk result (self.new ≡ mention self.old name.now) }
+        ensures front { take (length self.old) self.new ≡ self.old }
     {
         if self.is_mentioned(name) {
             return Ok(());
@@ -110,9 +126,11 @@ impl Scope for Vars {
     }
 }
 
+// What was mentioned before stays in front, also where there was no memory for all that is to be mentioned.
 #[cycle(mention)]
 fn mention_statements(alloc: Global, stmts: &[Stmt], vars: &mut Vars) -> Result<(), AllocError>
-    ensures { OnOk result (vars.new ≡ mention_all vars.old (set_names (statements stmts.now))) }
+    ensures ok { OnOk result (vars.new ≡ mention_all vars.old (set_names (statements stmts.now))) }
+    ensures front { take (length vars.old) vars.new ≡ vars.old }
 {
     for stmt in stmts {
         mention_statement(alloc, stmt, vars)?;
@@ -122,7 +140,8 @@ fn mention_statements(alloc: Global, stmts: &[Stmt], vars: &mut Vars) -> Result<
 
 #[cycle(mention)]
 fn mention_statement(alloc: Global, stmt: &Stmt, vars: &mut Vars) -> Result<(), AllocError>
-    ensures { OnOk result (vars.new ≡ mention_all vars.old (set_by (statement_of stmt.now))) }
+    ensures ok { OnOk result (vars.new ≡ mention_all vars.old (set_by (statement_of stmt.now))) }
+    ensures front { take (length vars.old) vars.new ≡ vars.old }
 {
     match stmt {
         Stmt::Set(name, _) => vars.mention(alloc, name.as_slice()),

@@ -1,10 +1,14 @@
 pub mod Attached
 pub mod Blanks
+pub mod Commands
+pub mod Forms
 pub mod Held
 pub mod Listed
 pub mod Named
+pub mod Parts
 pub mod Pieces
 pub mod Programs
+pub mod Stays
 pub mod Trimmed
 pub mod Viable
 pub mod Walks

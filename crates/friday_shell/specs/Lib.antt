@@ -9,3 +9,5 @@ pub mod Seen
 pub mod Session
 pub mod Reading
 pub mod Walking
+pub mod Grammar
+pub mod Laws

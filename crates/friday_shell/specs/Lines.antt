@@ -71,9 +71,13 @@ number_in_range least most (Some n) = if nat_le least n && nat_le n most then So
 abbrev pub number_from : ℕ → ℕ → List ℕ → Option ℕ
 number_from least most text = number_in_range least most (number_of text)
 
+-- the process that a word names, by its number, if there is one with the name
+abbrev pub node_called : List (List ℕ) → List ℕ → Option ℕ
+node_called names word = position (λ name. bytes_eq name word) names
+
 -- a word that names a node, and which one, if there is one with the name
 abbrev pub node_named : List (List ℕ) → List ℕ → Option (Option ℕ)
-node_named names text = if is_word text then Some (position (λ name. bytes_eq name text) names) else None
+node_named names text = if is_word text then Some (node_called names text) else None
 
 -- a star, or a word that names a node
 abbrev pub scope_named : List (List ℕ) → List ℕ → Option Scope

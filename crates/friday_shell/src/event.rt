@@ -10,7 +10,7 @@ use fri_text::Text;
 use group_state::{Group, GroupEvent};
 use guest_process::{End, Process};
 use lib_calls::{Call, EntryView, Kind, Signature};
-use std::alloc::AllocError;
+use std::alloc::{AllocError, Global};
 
 // A number of 64 bits, or of the lowest 32, signed.
 fn push_signed(text: &mut Text, wide: bool, number: u64) -> Result<(), AllocError>
@@ -183,6 +183,7 @@ fn push_lines(text: &mut Text, process: &Process<'_>) -> Result<(), AllocError>
 
 /// How the process of a node stands, and where it runs each of its threads.
 pub(crate) fn push_process(
+    alloc: Global,
     text: &mut Text,
     group: &Group<'_, '_>,
     node: u32,
@@ -192,7 +193,7 @@ pub(crate) fn push_process(
 {
     push_name(text, group, node)?;
     text.push_str(" ")?;
-    push_end(text, process.end())?;
+    push_end(alloc, text, process.end())?;
     text.push_str("\n")?;
     push_threads(text, process)
 }

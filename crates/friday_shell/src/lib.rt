@@ -6,6 +6,7 @@ mod command;
 mod end;
 mod event;
 mod firing;
+mod laws;
 mod line;
 mod points;
 mod read;
@@ -19,4 +20,5 @@ mod verbs;
 mod walk;
 
 pub use end::push_end;
+pub use laws::{exact_commands, refused_stays};
 pub use session::{Go, Session};

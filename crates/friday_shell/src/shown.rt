@@ -70,6 +70,6 @@ pub(crate) fn show_threads(
     let Some(process) = group.process(node) else {
         return Ok(text);
     };
-    push_process(&mut text, group, node, process)?;
+    push_process(alloc, &mut text, group, node, process)?;
     Ok(text)
 }

@@ -5,11 +5,11 @@ use Rattle.embed_cmds.proofs.Choices.{mentions_both}
 use Rattle.embed_cmds.specs.Variables.{Variable}
 use Rattle.embed_cmds.proofs.variables.+mention.Goals as goal
 
-pub mention_statement-returns-in_ok-mention_statements-in-If : goal.mention_statement-returns-in_ok-mention_statements-in-If
-mention_statement-returns-in_ok-mention_statements-in-If t c =
+pub mention_statement-returns-in_ok-mention_statements-in-If-clause-ok : goal.mention_statement-returns-in_ok-mention_statements-in-If-clause-ok
+mention_statement-returns-in_ok-mention_statements-in-If-clause-ok t c =
     subst (λ (vs : List Variable). OnOk c.mention_statements-in-If.result (c.mention_statements-in-If.new.vars ≡ vs))
-    (mentions_both c.args.stmt.now c.in-If.field-0 c.in-If.on_true c.in-If.on_false c.in-If.is c.args.vars.now c.mention_statements.new.vars c.deref.result.now c.deref-in-If.result.now c.deref.ensures.value c.deref-in-If.ensures.value c.in_ok-mention_statements-in-If.ensures)
-    c.mention_statements-in-If.ensures
+    (mentions_both c.args.stmt.now c.in-If.field-0 c.in-If.on_true c.in-If.on_false c.in-If.is c.args.vars.now c.mention_statements.new.vars c.deref.result.now c.deref-in-If.result.now c.deref.ensures.value c.deref-in-If.ensures.value c.in_ok-mention_statements-in-If.ensures.ok)
+    c.mention_statements-in-If.ensures.ok
 
 pub mention_statements-loop-stmt-preserved : goal.mention_statements-loop-stmt-preserved
 mention_statements-loop-stmt-preserved t c = grind (arith, common_steps, mention_all_append)

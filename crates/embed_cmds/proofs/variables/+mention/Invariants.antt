@@ -1,9 +1,11 @@
-use Rattle.std.proofs.Common.{◌≡◌, drop}
+use Rattle.std.proofs.Common.{◌≡◌, drop, length, take}
 use Rattle.embed_cmds.specs.Faulty.{set_names}
 use Rattle.embed_cmds.specs.Tree.{statements}
 use Rattle.embed_cmds.specs.Variables.{mention_all}
 use Rattle.embed_cmds.proofs.variables.+mention.Given as goal
 
 abbrev pub invariant-mention_statements-loop-stmt : goal.invariant-mention_statements-loop-stmt
-invariant-mention_statements-loop-stmt l =
-    mention_all l.vars (set_names (statements (drop l.stmt-index l.stmts))) ≡ mention_all l.initial.vars (set_names (statements l.stmts))
+invariant-mention_statements-loop-stmt l = record {
+  whole : mention_all l.vars (set_names (statements (drop l.stmt-index l.stmts))) ≡ mention_all l.initial.vars (set_names (statements l.stmts));
+  front : take (length l.initial.vars) l.vars ≡ l.initial.vars;
+}

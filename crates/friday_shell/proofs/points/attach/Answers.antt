@@ -15,11 +15,11 @@ returns-in_default-clause-answer c =
 pub returns-then-not-branch-clause-answer : goal.returns-then-not-branch-clause-answer
 returns-then-not-branch-clause-answer c =
     too_many (session_state c.args.state) c.args.number (body c.args.program) c.in-Some.place c.mention_all.new.self c.in_ok-mention_all.field-0 c.in_ok-text-2.text
-    (sym c.in-Some.is ∙ c.place_of_point.ensures.place ∙ places_same c.deref.result.now c.args.number ∙ ap (λ (ps : List Held). place_of_point (map {A = Held} point ps) c.args.number) c.deref.ensures.value) c.in_ok-mention_all.ensures
+    (sym c.in-Some.is ∙ c.place_of_point.ensures.place ∙ places_same c.deref.result.now c.args.number ∙ ap (λ (ps : List Held). place_of_point (map {A = Held} point ps) c.args.number) c.deref.ensures.value) c.in_ok-mention_all.ensures.ok
     c.if-not-branch.true c.in_ok-text-2.ensures
 
 pub returns-clause-answer : goal.returns-clause-answer
 returns-clause-answer c =
     attached_there (session_state c.args.state) c.args.number (body c.args.program) c.in-Some.place _ c.mention_all.new.self c.in_ok-mention_all.field-0 c.new.result
-    (sym c.in-Some.is ∙ c.place_of_point.ensures.place ∙ places_same c.deref.result.now c.args.number ∙ ap (λ (ps : List Held). place_of_point (map {A = Held} point ps) c.args.number) c.deref.ensures.value) c.in_ok-mention_all.ensures
+    (sym c.in-Some.is ∙ c.place_of_point.ensures.place ∙ places_same c.deref.result.now c.args.number ∙ ap (λ (ps : List Held). place_of_point (map {A = Held} point ps) c.args.number) c.deref.ensures.value) c.in_ok-mention_all.ensures.ok
     c.if-not-branch.false c.put.ensures c.new.ensures

@@ -4,16 +4,14 @@ use Rattle.std.specs.Global.{Vec}
 use Rattle.embed_cmds.proofs.Mentioned.{front_stays}
 use Rattle.embed_cmds.specs.Faulty.{set_names}
 use Rattle.embed_cmds.specs.Kept.{variable, variables_of}
-use Rattle.embed_cmds.specs.Tree.{body, statements}
+use Rattle.embed_cmds.specs.Tree.{body}
 use Rattle.embed_cmds.specs.Variables.{Variable, mention_all}
-use Rattle.embed_cmds.specs.declared.program.Stmt.{Stmt}
 use Rattle.embed_cmds.proofs.variables.Vars.mention_all.Goals as goal
 
-pub returns-then-not-done : goal.returns-then-not-done
-returns-then-not-done c =
+pub returns-then-not-done-clause-ok : goal.returns-then-not-done-clause-ok
+returns-then-not-done-clause-ok c =
     let all : List Variable = mention_all c.args.self.now (set_names (body c.args.p.now)) in
-    let done : c.mention_statements.new.vars ≡ all =
-    c.in_ok-mention_statements.ensures ∙ ap (λ (xs : List Stmt). mention_all c.args.self.now (set_names (statements xs))) c.deref.ensures.value in
+    let done : c.mention_program.new.self ≡ all = c.in_ok-mention_program.ensures.ok in
     let over : nat_le c.names.result c.args.most ≡ false = search rules in (
       ap (λ (n : ℕ). nat_le n c.args.most) (c.names.ensures ∙ ap length done),
       ap variables_of c.truncate.ensures.entries

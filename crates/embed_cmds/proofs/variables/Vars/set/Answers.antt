@@ -6,14 +6,14 @@ use Rattle.embed_cmds.specs.Kept.{variables_of}
 use Rattle.embed_cmds.specs.Variables.{Variable, with_value}
 use Rattle.embed_cmds.proofs.variables.Vars.set.Goals as goal
 
-pub returns-in-Some : goal.returns-in-Some
-returns-in-Some c =
+pub returns-in-Some-clause-ok : goal.returns-in-Some-clause-ok
+returns-in-Some-clause-ok c =
     ap variables_of (c.get_mut.follows.holds c.args.value).0
     ∙ written c.args.name.now c.args.value c.in-Some.kept.now c.self.inside.values.entries (sym c.in-Some.ensures.value)
     ∙ ap (λ (vs : List Variable). with_value vs c.args.name.now c.args.value) c.self.view_is
 
-pub returns : goal.returns
-returns c =
+pub returns-clause-ok : goal.returns-clause-ok
+returns-clause-ok c =
     let before : variables_of c.get_mut.follows.lender-at-none.entries ≡ c.args.self.now =
     ap (λ (m : IndexMap (Vec ℕ) (Option ℤ) _). variables_of m.entries) c.get_mut.follows.holds-at-none ∙ c.self.view_is in
     ap variables_of c.in_ok-insert.ensures.entries

@@ -1,0 +1,229 @@
+-- An answer that is the line of a refusal leaves the session as it was.
+use Rattle.std.proofs.Common.{◌≡◌, ℕ, zero, suc, ◌+◌, ◌/◌, ◌%◌, ◌<◌, Bool, true, false, cond, ◌&&◌, ◌||◌, nat_eq, nat_le, nat_lt, List, [], ◌∷◌, ◌++◌, length, take, drop, Option, Some, None, Result, Ok, Err, bytes_eq, codes, decimal, ℤ, inl, inr, refl, sym, ap, ◌∙◌, arith}
+use Rattle.std.proofs.lemmas.Bool.{cases_Bool, eqb-true, ltb-true, ltb-false, lt-ltb}
+use Rattle.std.specs.Fmt.{digit_glyph, digits, digits_onto}
+use Rattle.watch_expr.specs.Computed.{cut}
+use Rattle.watch_expr.specs.Lexing.{Lexed, Placed, is_too_deep, texts}
+use Rattle.call_table.specs.declared.kind.Kind.{Kind}
+use Rattle.group_state.specs.Place.{Place, events}
+use Rattle.embed_cmds.specs.Faulty.{set_names}
+use Rattle.embed_cmds.specs.Tree.{Statements}
+use Rattle.embed_cmds.specs.Variables.{is_mentioned, mention_all}
+use Rattle.friday_shell.specs.declared.refusal.Refusal.{Refusal}
+use Rattle.friday_shell.specs.declared.refusal.Refusal.TheVariants as refusal
+use Rattle.friday_shell.specs.Answer.{LineAnswer, adds, answer, arrives, attaches_at, breaks_at, by_command, by_cut, command_answer, command_answer_or_refusal, deletes, is_silent, most_points, most_variables, node_names, says, sets, walks}
+use Rattle.friday_shell.specs.Firing.{place_at}
+use Rattle.friday_shell.specs.Laws.{RefusedStays}
+use Rattle.friday_shell.specs.Lines.{At, Break, LineCommand, Continue, Delete, Do, Events, Everywhere, Goto, ListPoints, ListVariables, Mem, Print, Quit, Scope, SetTo, Step, Threads, Watch, command_spelled, has_nested, names_none, watches_variable}
+use Rattle.friday_shell.specs.Points.{SessionState, Trigger, has_point, place_of_point}
+use Rattle.friday_shell.specs.Refusals.{refusal_line}
+use Rattle.friday_shell.specs.Texts.{event_ending, position_line}
+use Rattle.friday_shell.specs.Walking.{Walk, walk_from}
+use Rattle.group_state.specs.Moves.{last_event_of}
+
+-- ---- decimal digits
+
+-- each byte stands below the letters
+abbrev Low : List ℕ → Type 0
+Low [] = Unit {0}
+Low (b ∷ bytes) = (b < 97) × Low bytes
+
+-- there is one, too
+abbrev LowSome : List ℕ → Type 0
+LowSome [] = ⊥
+LowSome (b ∷ bytes) = (b < 97) × Low bytes
+
+low_cond : (b : Bool) (xs ys : List ℕ) → LowSome xs → LowSome ys → LowSome (cond b xs ys)
+low_cond true xs ys h k = h
+low_cond false xs ys h k = k
+
+all_low : (xs : List ℕ) → LowSome xs → Low xs
+all_low [] h = absurd h
+all_low (b ∷ bytes) h = h
+
+glyph_low : (n : ℕ) → digit_glyph false (n % 10) < 97
+glyph_low n = elim (cases_Bool (nat_lt (n % 10) 10)) [
+  | inl t ↦
+      let is : digit_glyph false (n % 10) ≡ 48 + n % 10 = ap (λ (b : Bool). cond b (48 + n % 10) (87 + n % 10)) t in
+      omega (arith, is, ltb-true (n % 10) 10 t)
+  | inr f ↦ absurd (omega (arith, ltb-false (n % 10) 10 f))
+]
+
+digits_low : (k n : ℕ) (ds : List ℕ) → LowSome ds → LowSome (digits_onto k 10 false n ds)
+digits_low zero n ds h = h
+digits_low (suc k) n ds h =
+    let more = digit_glyph false (n % 10) ∷ ds in
+    let low : LowSome more = (glyph_low n, all_low ds h) in
+    low_cond (nat_eq (n / 10) 0) more (digits_onto k 10 false (n / 10) more) low (digits_low k (n / 10) more low)
+
+decimal_low : (n : ℕ) → LowSome (decimal n)
+unfolding digits
+decimal_low n =
+    let one = digit_glyph false (n % 10) ∷ [] in
+    let low : LowSome one = (glyph_low n, tt) in
+    low_cond (nat_eq (n / 10) 0) one (digits_onto 63 10 false (n / 10) one) low (digits_low 63 (n / 10) one low)
+
+-- ---- what no refusal says
+
+abbrev head : List ℕ → ℕ
+head [] = 0
+head (b ∷ bytes) = b
+
+-- "at ", and then no small letter
+abbrev begins_at : List ℕ → Bool
+begins_at bytes = bytes_eq (take 3 bytes) (codes "at ") && nat_lt (head (drop 3 bytes)) 97
+
+-- the same somewhere
+abbrev says_at : List ℕ → Bool
+says_at [] = false
+says_at (b ∷ bytes) = begins_at (b ∷ bytes) || says_at bytes
+
+or_first : (a b : Bool) → a ≡ true → (a || b) ≡ true
+or_first true b e = refl
+or_first false b e = absurd cc
+
+or_second : (a b : Bool) → b ≡ true → (a || b) ≡ true
+or_second true b e = refl
+or_second false b e = e
+
+or_none : (a b : Bool) → a ≡ false → b ≡ false → (a || b) ≡ false
+or_none true b e f = e
+or_none false b e f = f
+
+said_at : (front rest : List ℕ) → begins_at rest ≡ true → says_at (front ++ rest) ≡ true
+said_at [] [] h = h
+said_at [] (b ∷ rest) h = or_first (begins_at (b ∷ rest)) (says_at rest) h
+said_at (b ∷ front) rest h = or_second (begins_at (b ∷ (front ++ rest))) (says_at (front ++ rest)) (said_at front rest h)
+
+low_head : (ds rest : List ℕ) → LowSome ds → nat_lt (head (ds ++ rest)) 97 ≡ true
+low_head [] rest h = absurd h
+low_head (d ∷ ds) rest h = lt-ltb d 97 h.0
+
+position_begins : (place : Place) → begins_at (position_line place) ≡ true
+position_begins place = low_head (decimal place.at) (event_ending place.start (last_event_of place)) (decimal_low place.at)
+
+other_byte : (d : ℕ) → d < 97 → nat_eq d 97 ≡ false
+other_byte d low = elim (cases_Bool (nat_eq d 97)) [ inl t ↦ absurd (omega (arith, low, eqb-true d 97 t)) | inr f ↦ f ]
+
+digits_say_none : (ds : List ℕ) → Low ds → says_at (ds ++ codes "\n") ≡ false
+digits_say_none [] h = refl
+digits_say_none (d ∷ ds) h =
+    let rest = ds ++ codes "\n" in
+    let not_here : begins_at (d ∷ rest) ≡ false = ap (λ (b : Bool). (b && bytes_eq (take 2 rest) (codes "t ")) && nat_lt (head (drop 3 (d ∷ rest))) 97) (other_byte d h.0) in
+    or_none (begins_at (d ∷ rest)) (says_at rest) not_here (digits_say_none ds h.1)
+
+refusal_says_none : (why : Refusal) → says_at (refusal_line why) ≡ false
+refusal_says_none (refusal.Syntax column) = digits_say_none (decimal column) (all_low (decimal column) (decimal_low column))
+refusal_says_none refusal.NoNode = refl
+refusal_says_none refusal.TooDeep = refl
+refusal_says_none refusal.Nested = refl
+refusal_says_none refusal.NamesVariable = refl
+refusal_says_none refusal.NoPoint = refl
+refusal_says_none refusal.NoPosition = refl
+refusal_says_none refusal.TooLong = refl
+refusal_says_none refusal.TooMany = refl
+
+-- no refusal ends with a position
+no_position : (front : List ℕ) (place : Place) (why : Refusal) → front ++ position_line place ≡ refusal_line why → ⊥
+no_position front place why e =
+    let never : ◌≡◌ {A = Bool} true false = sym (said_at front (position_line place) (position_begins place)) ∙ ap says_at e ∙ refusal_says_none why in
+    cc
+
+-- each begins with a question mark
+first_byte : (why : Refusal) → head (refusal_line why) ≡ 63
+first_byte (refusal.Syntax column) = refl
+first_byte refusal.NoNode = refl
+first_byte refusal.TooDeep = refl
+first_byte refusal.Nested = refl
+first_byte refusal.NamesVariable = refl
+first_byte refusal.NoPoint = refl
+first_byte refusal.NoPosition = refl
+first_byte refusal.TooLong = refl
+first_byte refusal.TooMany = refl
+
+other_text : (text : List ℕ) (why : Refusal) → (head text ≡ 63 → ⊥) → text ≡ refusal_line why → ⊥
+other_text text why other e = other (ap head e ∙ first_byte why)
+
+-- ---- answers
+
+module _ (state : SessionState) where
+  -- where it is a refusal's line, nothing changed
+  abbrev Stays : LineAnswer → Type 0
+  Stays a = (why : Refusal) → a.text ≡ refusal_line why → (a.state ≡ state) × (a.quits ≡ false)
+
+  either : (b : Bool) (a c : LineAnswer) → Stays a → Stays c → Stays (cond b a c)
+  either true a c h k = h
+  either false a c h k = k
+
+  same : (text : List ℕ) → Stays (says state text)
+  same text why e = (refl, refl)
+
+  -- an answer with a text that no refusal has
+  apart : (a : LineAnswer) → ((why : Refusal) → a.text ≡ refusal_line why → ⊥) → Stays a
+  apart a never why e = absurd (never why e)
+
+  other_byte_first : (a : LineAnswer) → (head a.text ≡ 63 → ⊥) → Stays a
+  other_byte_first a other = apart a (λ why. other_text a.text why other)
+
+  arriving : (k : ℕ) → Stays (arrives state [] k)
+  arriving k = apart (arrives state [] k) (no_position [] (place_at state.place.start k))
+
+  walking : (w : Walk) → Stays (walks state w)
+  walking w = apart (walks state w) (no_position w.text (place_at state.place.start w.at))
+
+  adding : (line : List ℕ) (trigger : Trigger) → Stays (adds state line trigger)
+  adding line trigger = either (nat_lt (length state.points) most_points) _ _ (other_byte_first _ (λ e. absurd (omega (arith, e)))) (same _)
+
+  deleting : (n : ℕ) → Stays (deletes state n)
+  deleting n = either (has_point state.points n) _ _ (other_byte_first _ (λ e. absurd (omega (arith, e)))) (same _)
+
+  attaching : (body : Statements) (place : Option ℕ) → Stays (attaches_at state body place)
+  attaching body None = same _
+  attaching body (Some place) = either (nat_le (length (mention_all state.variables (set_names body))) most_variables) _ _ (other_byte_first _ (λ e. absurd (omega (arith, e)))) (same _)
+
+  setting : (name : List ℕ) (value : Option ℤ) → Stays (sets state name value)
+  setting name value = either (is_mentioned state.variables name || nat_lt (length state.variables) most_variables) _ _ (other_byte_first _ (λ e. absurd (omega (arith, e)))) (same _)
+
+  breaking : (line : List ℕ) (kind : Kind) (scope : Scope) → Stays (breaks_at state line kind scope)
+  breaking line kind Everywhere = adding line _
+  breaking line kind (At None) = same []
+  breaking line kind (At (Some n)) = adding line _
+
+  commanding : (line : List ℕ) (c : LineCommand) → Stays (command_answer state line c)
+  commanding line (Goto k) = either (nat_le k (length (events state.place.start))) _ _ (arriving k) (same _)
+  commanding line (Step n) = arriving _
+  commanding line (Print x) = same _
+  commanding line (Mem n addr len) = same _
+  commanding line (Threads n) = same _
+  commanding line (Events n) = same _
+  commanding line (Watch x) = adding line _
+  commanding line (Break scope kind) = breaking line kind scope
+  commanding line (Delete n) = deleting n
+  commanding line (Do n body) = attaching body (place_of_point state.points n)
+  commanding line ListPoints = same _
+  commanding line (SetTo name x) = setting name _
+  commanding line ListVariables = same _
+  commanding line Continue = walking (walk_from state.place state.points state.variables)
+  commanding line Quit = other_byte_first _ (λ e. absurd (omega (arith, e)))
+
+  judging : (line : List ℕ) (c : LineCommand) → Stays (command_answer_or_refusal state line c)
+  judging line c =
+      either (has_nested c) _ _ (same _)
+      (either (names_none c) _ _ (same _)
+      (either (watches_variable c) _ _ (same _) (commanding line c)))
+
+  spelling : (line : List ℕ) (tokens : Lexed) (r : Result LineCommand ℕ) → Stays (by_command state line tokens r)
+  spelling line tokens (Err n) = same _
+  spelling line tokens (Ok c) = judging _ c
+
+  cutting : (line : List ℕ) (r : Result (List Placed) ℕ) → Stays (by_cut state line r)
+  cutting line (Err column) = same _
+  cutting line (Ok tokens) =
+      let lexed : Lexed = record { tokens = tokens; end = length line + 1 } in
+      either (is_too_deep (texts lexed)) _ _ (same _) (spelling line lexed (command_spelled (node_names state.place.start) (texts lexed)))
+
+  answering : (line : List ℕ) → Stays (answer state line)
+  answering line = either (nat_lt 4096 (length line)) _ _ (same _) (either (is_silent line) _ _ (same []) (cutting line (cut line)))
+
+pub stays : RefusedStays
+stays state line why e = answering state line why e

@@ -1,0 +1,5 @@
+use Rattle.friday_shell.proofs.Stays.{stays}
+use Rattle.friday_shell.proofs.laws.refused_stays.Goals as goal
+
+pub returns : goal.returns
+returns c = stays
