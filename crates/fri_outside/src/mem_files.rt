@@ -2,8 +2,8 @@
 ghost use Rattle.std.specs.Prelude.{◌≡◌, ◌↔◌, [], Some, OnOk, OnErr, IsErrOf, MatchResult};
 ghost use Rattle.std.specs.Option.{option_copied};
 ghost use Rattle.std.specs.FinMap.{empty, get, insert};
-ghost use Rattle.fri_outside.specs.Outside.{Held, found, SaysOf, NoneFell};
-ghost use Rattle.fri_outside.specs.Memory.{no_failures, IsDue, after_call, with_failure, after_read, after_write, appended, half, SameFaults};
+ghost use Rattle.fri_outside.specs.Outside.{Held, found, SaysOf, after_read, after_write};
+ghost use Rattle.fri_outside.specs.Memory.{no_failures, IsDue, after_call, with_failure, appended, half, SameFaults};
 
 use crate::plan::FailurePlan;
 use crate::shelf::Shelf;
@@ -96,7 +96,6 @@ impl Files for MemFiles {
         ensures fails { IsErrOf result FileError.Failed ↔ IsDue self.old.plan }
         ensures called { self.new.plan ≡ after_call self.old.plan }
         ensures counted { self.new.counts ≡ after_read self.old.counts result }
-        ensures counts { NoneFell self.old.counts self.new.counts }
         ensures quiet { self.old.plan.failing ≡ [] → SameFaults self.old.counts self.new.counts }
     {
         if self.plan.count_call() {
@@ -124,7 +123,6 @@ impl Files for MemFiles {
         ensures fails { IsErrOf result WriteError.Failed ↔ IsDue self.old.plan }
         ensures called { self.new.plan ≡ after_call self.old.plan }
         ensures counted { self.new.counts ≡ after_write self.old.counts result }
-        ensures counts { NoneFell self.old.counts self.new.counts }
         ensures quiet { self.old.plan.failing ≡ [] → SameFaults self.old.counts self.new.counts }
     {
         if self.plan.count_call() {
@@ -146,7 +144,6 @@ impl Files for MemFiles {
         ensures passes { OnOk result (¬ IsDue self.old.plan) }
         ensures called { self.new.plan ≡ after_call self.old.plan }
         ensures counted { self.new.counts ≡ after_write self.old.counts result }
-        ensures counts { NoneFell self.old.counts self.new.counts }
         ensures quiet { self.old.plan.failing ≡ [] → SameFaults self.old.counts self.new.counts }
     {
         if self.plan.count_call() {

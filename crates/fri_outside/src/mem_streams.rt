@@ -1,6 +1,8 @@
 // A source and a sink in memory, of which chosen calls fail.
 ghost use Rattle.std.specs.Prelude.{◌≡◌, ◌<◌, ◌≤◌, ◌++◌, ◌↔◌, [], Some, min, length, take, drop, IsErr, IfOk, IsErrOf, OnOk, OnErr, MatchResult};
-ghost use Rattle.fri_outside.specs.Memory.{no_failures, IsDue, after_call, with_failure, after_source_read, after_sink_write};
+ghost use Rattle.fri_outside.specs.Outside.{after_source_read, after_sink_write};
+ghost use Rattle.fri_outside.specs.Terminal.{deaf};
+ghost use Rattle.fri_outside.specs.Memory.{no_failures, IsDue, after_call, with_failure};
 
 use crate::plan::FailurePlan;
 use crate::{Failed, Sink, Source, WriteError};
@@ -18,12 +20,13 @@ pub struct MemSource {
 }
 
 impl Model for MemSource {
-    ghost use Rattle.std.specs.Prelude.{◌≤◌, drop, vec_len};
+    ghost use Rattle.std.specs.Prelude.{◌≤◌, take, drop, vec_len};
     ghost use Rattle.fri_outside.specs.Memory.{SourceInMemory};
 
     ghost Value = { SourceInMemory };
 
     ghost view = { λ source. record {
+      given = take source.at source.bytes.items;
       rest = drop source.at source.bytes.items;
       piece = source.piece;
       plan = source.plan;
@@ -37,7 +40,7 @@ impl MemSource {
     /// A source of these bytes, of which a read gives at most `piece`, and no call fails.
     pub fn new(bytes: Vec<u8>, piece: usize) -> Self
         requires { 1 ≤ piece }
-        ensures { result ≡ record { rest = bytes.items; piece = piece; plan = no_failures; faults = 0 } }
+        ensures { result ≡ record { given = []; rest = bytes.items; piece = piece; plan = no_failures; faults = 0 } }
     {
         let plan = FailurePlan::new(*bytes.allocator());
         MemSource {
@@ -47,6 +50,13 @@ impl MemSource {
             plan,
             faults: 0,
         }
+    }
+
+    /// How many bytes were given.
+    pub fn count(&self) -> usize
+        ensures { result ≡ length self.now.given }
+    {
+        self.at
     }
 
     /// Lets the read of this number fail, where the first has the number 1.
@@ -71,11 +81,11 @@ impl Source for MemSource {
         ensures bytes { IfOk result (λ n. self.old.rest ≡ take n buf.new ++ self.new.rest) }
         ensures end { IfOk result (λ n. n ≡ 0 → self.old.rest ≡ []) }
         ensures same { OnErr result (self.new.rest ≡ self.old.rest) }
+        ensures given { MatchResult result (λ n. self.new.given ≡ self.old.given ++ take n buf.new) (λ _. self.new.given ≡ self.old.given) }
 
         ensures fails { IsErr result ↔ IsDue self.old.plan }
         ensures called { self.new.plan ≡ after_call self.old.plan }
         ensures counted { self.new.faults ≡ after_source_read self.old.faults result }
-        ensures later { self.old.faults ≤ self.new.faults }
         ensures quiet { self.old.plan.failing ≡ [] → self.new.faults ≡ self.old.faults }
         ensures piece { self.new.piece ≡ self.old.piece }
     {
@@ -140,6 +150,8 @@ impl Sink for MemSink {
 
     ghost faults = { λ sink. sink.faults };
 
+    ghost hearing = { λ _. deaf };
+
     /// Takes the whole piece.
     fn write(&mut self, piece: &[u8]) -> Result<usize, WriteError>
         requires { 0 < length piece.now }
@@ -150,7 +162,6 @@ impl Sink for MemSink {
         ensures fails { IsErrOf result WriteError.Failed ↔ IsDue self.old.plan }
         ensures called { self.new.plan ≡ after_call self.old.plan }
         ensures counted { self.new.faults ≡ after_sink_write self.old.faults result }
-        ensures later { self.old.faults ≤ self.new.faults }
         ensures quiet { self.old.plan.failing ≡ [] → self.new.faults ≡ self.old.faults }
     {
         if self.plan.count_call() {

@@ -1,7 +1,8 @@
 // The files of the runtime. They count what failed and what was missed, and tell no contents.
-ghost use Rattle.std.specs.Prelude.{◌≡◌, ◌≤◌, None, vec_len, IfOk};
-ghost use Rattle.fri_outside.specs.Outside.{NoneFell};
-ghost use Rattle.fri_outside.specs.Memory.{after_read, after_write};
+ghost use Rattle.std.specs.Prelude.{◌≡◌, ◌≤◌, ◌+◌, None, Some, take, vec_len, IfOk, OnOk, MatchResult};
+ghost use Rattle.std.specs.Io.KnownBytes.{Appends};
+ghost use Rattle.fri_outside.specs.Outside.{Found, Held, SaysOf, WhenTold, after_read, after_write, found_within};
+ghost use Rattle.fri_outside.specs.Reading.{MovesBytes};
 
 use crate::open_files::{OpenFiles, close};
 use crate::{FileError, Files, WriteError};
@@ -56,7 +57,6 @@ impl<'a, R: rt::Files> RealFiles<'a, R> {
     /// Closes all files that are open. A file that cannot be closed may lack bytes that were written to
     /// it, which is a write fault; the others are closed all the same.
     pub fn close(&mut self) -> Result<(), WriteError>
-        ensures counts { NoneFell self.old self.new }
         ensures counted { self.new ≡ after_write self.old result }
     {
         let outcome = self.open.close_all();
@@ -87,7 +87,6 @@ impl<'a, R: rt::Files> RealFiles<'a, R> {
 
     fn count_write(&mut self, outcome: Result<(), WriteError>) -> Result<(), WriteError>
         ensures same { result ≡ outcome }
-        ensures counts { NoneFell self.old self.new }
         ensures counted { self.new ≡ after_write self.old result }
     {
         if outcome == Err(WriteError::Failed) {
@@ -97,9 +96,20 @@ impl<'a, R: rt::Files> RealFiles<'a, R> {
     }
 }
 
-fn read_error(error: &io::Error) -> FileError {
+// Why a file was not opened to be read.
+fn open_read_error(error: &io::Error) -> FileError {
     match error.kind() {
         ErrorKind::NotFound => FileError::Absent,
+        ErrorKind::OutOfMemory => FileError::NoMemory,
+        _ => FileError::Failed,
+    }
+}
+
+// Why bytes of an open file were not read, whatever the file has. It was found, so it is not absent.
+fn bytes_error(error: &io::Error) -> FileError
+    ensures { (here : Found) → SaysOf here result }
+{
+    match error.kind() {
         ErrorKind::OutOfMemory => FileError::NoMemory,
         _ => FileError::Failed,
     }
@@ -118,7 +128,9 @@ const PIECE: usize = 65_536;
 
 // Puts whole pieces behind the bytes, of so many bytes in all that are expected. `read_to_end` would first fill what it
 // reads into with zeros, byte by byte, which takes longer than to read.
-fn append_pieces<F: Read>(file: &mut F, expected: u64, bytes: &mut Vec<u8>) -> io::Result<()> {
+fn append_pieces<F: Read>(file: &mut F, expected: u64, bytes: &mut Vec<u8>) -> io::Result<()>
+    ensures { OnOk result (MovesBytes (F.remaining file.old) (F.remaining file.new) bytes.old.items bytes.new.items) }
+{
     let mut piece = [0; PIECE];
     for _ in 0..expected / PIECE as u64 {
         file.read_exact(&mut piece)?;
@@ -127,25 +139,42 @@ fn append_pieces<F: Read>(file: &mut F, expected: u64, bytes: &mut Vec<u8>) -> i
     Ok(())
 }
 
-// The bytes of a file, and one more than the limit of a file that is longer.
-fn read_up_to<R: rt::Files>(
-    rt: &R,
+// The bytes of a file, of which so many are expected, and one more than the limit of a file that is longer.
+fn read_up_to<F: Read + Drop>(
     alloc: Global,
-    name: &str,
+    file: F,
+    expected: u64,
     limit: usize,
-) -> io::Result<Vec<u8>> {
-    let file = fs::open(rt, name)?;
+) -> io::Result<Vec<u8>>
+    ensures { IfOk result (λ bytes. WhenTold (F.remaining file) (λ all. bytes.items ≡ take (limit + 1) all)) }
+{
     let end = (limit as u64).saturating_add(1);
     // With room for one byte more than the file has, the last read finds the end without growing.
-    let expected = file
-        .metadata()
-        .map_or(0, |metadata| metadata.len())
-        .min(end);
+    let expected = expected.min(end);
     let mut bytes = Vec::with_capacity(alloc, expected.saturating_add(1) as usize)?;
     let mut file = file.take(end);
     append_pieces(&mut file, expected, &mut bytes)?;
     file.read_to_end(&mut bytes)?;
     Ok(bytes)
+}
+
+// All bytes of a file that has at most `limit`.
+fn read_within<F: Read + Drop>(
+    alloc: Global,
+    file: F,
+    expected: u64,
+    limit: usize,
+) -> Result<Vec<u8>, FileError>
+    ensures within { IfOk result (λ bytes. vec_len bytes ≤ limit) }
+    ensures answer { WhenTold (F.remaining file) (λ all. MatchResult result
+        (λ bytes. found_within limit (Some all) ≡ Held bytes.items)
+        (SaysOf (found_within limit (Some all)))) }
+{
+    match read_up_to(alloc, file, expected, limit) {
+        Ok(bytes) if bytes.len() > limit => Err(FileError::TooLarge),
+        Ok(bytes) => Ok(bytes),
+        Err(error) => Err(bytes_error(&error)),
+    }
 }
 
 fn read_file<R: rt::Files>(
@@ -156,15 +185,15 @@ fn read_file<R: rt::Files>(
 ) -> Result<Vec<u8>, FileError>
     ensures within { IfOk result (λ bytes. vec_len bytes ≤ limit) }
 {
-    let bytes = read_up_to(rt, alloc, name, limit).map_err(|error| read_error(&error))?;
-    if bytes.len() > limit {
-        return Err(FileError::TooLarge);
-    }
-    Ok(bytes)
+    let file = fs::open(rt, name).map_err(|error| open_read_error(&error))?;
+    let expected = file.metadata().map_or(0, |metadata| metadata.len());
+    read_within(alloc, file, expected, limit)
 }
 
 // A write that fails may have written a part, so it is a fault whatever its error says.
-fn write_piece<W: Write>(file: &mut W, piece: &[u8]) -> Result<(), WriteError> {
+fn write_piece<W: Write>(file: &mut W, piece: &[u8]) -> Result<(), WriteError>
+    ensures { OnOk result (Appends (W.contents file.old) (W.contents file.new) piece.now) }
+{
     file.write_all(piece).map_err(|_| WriteError::Failed)
 }
 
@@ -185,7 +214,6 @@ impl<'a, R: rt::Files> Files for RealFiles<'a, R> {
 
     fn read(&mut self, alloc: Global, name: &str, limit: usize) -> Result<Vec<u8>, FileError>
         ensures within { IfOk result (λ bytes. vec_len bytes ≤ limit) }
-        ensures counts { NoneFell self.old self.new }
         ensures counted { self.new ≡ after_read self.old result }
     {
         let outcome = read_file(self.rt, alloc, name, limit);
@@ -202,7 +230,6 @@ impl<'a, R: rt::Files> Files for RealFiles<'a, R> {
     }
 
     fn create(&mut self, name: &str) -> Result<(), WriteError>
-        ensures counts { NoneFell self.old self.new }
         ensures counted { self.new ≡ after_write self.old result }
     {
         let outcome = self.create_file(name);
@@ -210,7 +237,6 @@ impl<'a, R: rt::Files> Files for RealFiles<'a, R> {
     }
 
     fn append(&mut self, name: &str, piece: &[u8]) -> Result<(), WriteError>
-        ensures counts { NoneFell self.old self.new }
         ensures counted { self.new ≡ after_write self.old result }
     {
         let outcome = self.write(name, piece);

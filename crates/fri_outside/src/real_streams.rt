@@ -1,13 +1,47 @@
 // A source over a reader and a sink over a writer. They count what failed, and tell no contents.
 ghost use Rattle.std.specs.Prelude.{◌≡◌, ◌<◌, ◌≤◌, None, length, IfOk};
-ghost use Rattle.fri_outside.specs.Memory.{after_source_read, after_sink_write};
+ghost use Rattle.fri_outside.specs.Terminal.{deaf};
+ghost use Rattle.fri_outside.specs.Outside.{after_source_read, after_sink_write};
 
 use crate::{Failed, Sink, Source, WriteError};
 use std::io::{ErrorKind, Read, Write};
 use std::marker::Model;
 
-/// A source over any reader. Each error of the reader is a fault, also one that says that the call was
-/// interrupted.
+// Reads, and again where the call was interrupted before it read anything.
+fn read_through<R: Read>(reader: &mut R, buf: &mut [u8]) -> Result<usize, Failed>
+    ensures { IfOk result (λ n. n ≤ length buf.new) }
+{
+    for _ in 0..u64::MAX {
+        match reader.read(buf) {
+            Ok(count) => return Ok(count),
+            Err(error) if error.kind() == ErrorKind::Interrupted => {}
+            Err(_) => return Err(Failed),
+        }
+    }
+    Err(Failed)
+}
+
+// Writes, and again where the call was interrupted before it wrote anything.
+fn write_through<W: Write>(writer: &mut W, piece: &[u8]) -> Result<usize, WriteError>
+    ensures bound { IfOk result (λ n. n ≤ length piece.now) }
+    ensures some { IfOk result (λ n. 0 < n) }
+{
+    for _ in 0..u64::MAX {
+        match writer.write(piece) {
+            Ok(count) if count > 0 => return Ok(count),
+            Ok(_) => return Err(WriteError::Failed),
+            Err(error) => match error.kind() {
+                ErrorKind::Interrupted => {}
+                ErrorKind::OutOfMemory => return Err(WriteError::NoMemory),
+                _ => return Err(WriteError::Failed),
+            },
+        }
+    }
+    Err(WriteError::Failed)
+}
+
+/// A source over any reader. Each error of the reader is a fault, but for one that says that the call was
+/// interrupted, which is made again.
 #[derive(Drop)]
 pub struct ReaderSource<R: Read + Drop> {
     reader: R,
@@ -38,21 +72,18 @@ impl<R: Read + Drop> Source for ReaderSource<R> {
     fn read(&mut self, buf: &mut [u8]) -> Result<usize, Failed>
         requires { 0 < length buf.old }
         ensures bound { IfOk result (λ n. n ≤ length buf.new) }
-        ensures later { self.old ≤ self.new }
         ensures counted { self.new ≡ after_source_read self.old result }
     {
-        match self.reader.read(buf) {
-            Ok(count) => Ok(count),
-            Err(_) => {
-                self.faults = self.faults.saturating_add(1);
-                Err(Failed)
-            }
+        let outcome = read_through(&mut self.reader, buf);
+        if outcome.is_err() {
+            self.faults = self.faults.saturating_add(1);
         }
+        outcome
     }
 }
 
-/// A sink over any writer. Each error of the writer but want of memory is a fault, and so is a write of
-/// 0 bytes.
+/// A sink over any writer. Each error of the writer is a fault, but for want of memory and for one that says that the
+/// call was interrupted, which is made again. A write of 0 bytes is a fault too.
 #[derive(Drop)]
 pub struct WriterSink<W: Write + Drop> {
     writer: W,
@@ -80,20 +111,18 @@ impl<W: Write + Drop> Sink for WriterSink<W> {
 
     ghost faults = { λ sink. sink };
 
+    ghost hearing = { λ _. deaf };
+
     fn write(&mut self, piece: &[u8]) -> Result<usize, WriteError>
         requires { 0 < length piece.now }
         ensures bound { IfOk result (λ n. n ≤ length piece.now) }
         ensures some { IfOk result (λ n. 0 < n) }
-        ensures later { self.old ≤ self.new }
         ensures counted { self.new ≡ after_sink_write self.old result }
     {
-        match self.writer.write(piece) {
-            Ok(count) if count > 0 => Ok(count),
-            Err(error) if error.kind() == ErrorKind::OutOfMemory => Err(WriteError::NoMemory),
-            _ => {
-                self.faults = self.faults.saturating_add(1);
-                Err(WriteError::Failed)
-            }
+        let outcome = write_through(&mut self.writer, piece);
+        if outcome == Err(WriteError::Failed) {
+            self.faults = self.faults.saturating_add(1);
         }
+        outcome
     }
 }

@@ -5,11 +5,11 @@
 ghost use Rattle.std.specs.Prelude.{◌≡◌, OnErr, OnOk};
 ghost use Rattle.friday_app.specs.Call.{IsAnswerStatus};
 
-use fri_outside::{ReaderSource, RealFiles, WriteError, WriterSink};
+use fri_outside::{Console, ReaderSource, RealFiles, WriteError, WriterSink};
 use friday_app::{Status, friday};
 use std::process::ExitCode;
 use std::rt::{Env, Files};
-use std::{env, io};
+use std::{env, fs, io};
 
 /// The status where the words cannot be had, as where one is not UTF-8.
 const NO_WORDS: u8 = 8;
@@ -37,11 +37,21 @@ fn status_once_closed(status: Status, closed: Result<(), WriteError>) -> Status
     }
 }
 
+// The device that takes the place of a standard stream that is closed.
+const NULL: &str = "/dev/null";
+
 fn run<R: Files + Input + Print + AllocGlobal>(rt: &R, words: &[String]) -> Status {
+    // The system gives a file the lowest free descriptor. Where standard input, output or error was closed, one of these
+    // takes its descriptor, so that no log or image gets what is printed: a write to them fails, since they are for reading.
+    let _input = fs::open(rt, NULL);
+    let _output = fs::open(rt, NULL);
+    let _errors = fs::open(rt, NULL);
     let mut files = RealFiles::new(rt.alloc(), rt);
-    let mut input = ReaderSource::new(rt.reader());
-    let mut out = WriterSink::new(io::writer(rt));
-    let status = friday(rt.alloc(), words, &mut files, &mut input, &mut out);
+    let mut terminal = Console {
+        input: ReaderSource::new(rt.reader()),
+        out: WriterSink::new(io::writer(rt)),
+    };
+    let status = friday(rt.alloc(), words, &mut files, &mut terminal);
     status_once_closed(status, files.close())
 }
 

@@ -201,12 +201,12 @@ either (inl a) f g = f a
 either (inr b) f g = g b
 
 -- valid words and files, and no fault: the command does its work
-pub run_completes : HasWork → (command : Option Command) (old new : Outside) (answer : Status) (folder : Folder) → CommandRun command old new answer → old.told ≡ Some folder → IsValidCall command folder old.left → NoFault old new
-    → Works command old.told old.left answer
+pub run_completes : HasWork → (command : Option Command) (old new : Outside) (answer : Status) (folder : Folder) → CommandRun command old new answer → old.told ≡ Some folder → IsValidCall command folder old.hearing.left → NoFault old new
+    → Works command old.told old.hearing.left answer
 run_completes has_work None old new answer folder run told valid quiet = absurd valid
 run_completes has_work (Some command) old new answer folder run told valid quiet =
-    let w = has_work command folder old.left valid in
-    let is = ap (λ t. expected (Some command) t old.left) told ∙ w.1 in
+    let w = has_work command folder old.hearing.left valid in
+    let is = ap (λ t. expected (Some command) t old.hearing.left) told ∙ w.1 in
     record {
       work = w.0;
       is_expected = is;

@@ -1,6 +1,7 @@
 -- What `debug` comes to, from what it read and what its session said.
-use Rattle.std.proofs.Common.{◌≡◌, ◌∙◌, ℕ, Bool, true, false, cond, List, [], Option, Some, None, option_map, Result, Ok, Err, IfSome, refl, sym, ap, subst, inr}
-use Rattle.fri_outside.specs.Outside.{Folder, WhenTold}
+use Rattle.std.proofs.Common.{◌≡◌, ◌∙◌, ℕ, Bool, true, false, cond, List, [], Option, Some, None, option_map, Result, Ok, Err, IfSome, refl, sym, ap, subst, inl, inr, arith}
+use Rattle.std.specs.Prelude.{⊤}
+use Rattle.fri_outside.specs.Outside.{Folder, Rose, WhenTold}
 use Rattle.fri_outside.specs.Several.{with_files}
 use Rattle.fri_text.specs.Line.{lines_of}
 use Rattle.proc_replay.specs.Replaying.{Replaying}
@@ -10,15 +11,15 @@ use Rattle.friday_app.specs.declared.status.Status.TheVariants as ends
 use Rattle.friday_app.specs.declared.refusal.Reason.TheVariants as reason
 use Rattle.friday_app.specs.declared.refusal.Refusal.{Refusal}
 use Rattle.friday_app.specs.declared.refusal.Refusal.TheVariants as refusal
-use Rattle.friday_app.specs.Call.{FinishesCall, FaultStatus, IsAnswerStatus, Keeps, Prints, Raises, StopsAs, status_and_text}
+use Rattle.friday_app.specs.Call.{CountsFaults, FinishesCall, FaultStatus, IsAnswerStatus, Keeps, Prints, Raises, StopsAs, said_after, status_and_text}
 use Rattle.friday_app.specs.Command.{Debug, Pair}
-use Rattle.friday_app.specs.Conversation.{Converses, IsNone}
+use Rattle.friday_app.specs.Conversation.{Converses, IsNone, heard_after}
 use Rattle.friday_app.specs.Debug.{early_lines, input_name, is_large, opened_outcome, session_outcome, spoken}
 use Rattle.friday_app.specs.Expected.{expected}
 use Rattle.friday_app.specs.Outcome.{CommandOutcome, Refuses, Stop, outcome_status, outcome_text, writes_of}
 use Rattle.friday_app.specs.Pairs.{WasOpened, replays_of_pairs}
-use Rattle.friday_app.specs.Run.{CommandRun, Outside}
-use Rattle.friday_app.proofs.Ends.{none_left, run_ends, unread_input}
+use Rattle.friday_app.specs.Run.{CommandRun, FaultsTold, Outside}
+use Rattle.friday_app.proofs.Ends.{counted, none_left, run_ends}
 use Rattle.friday_app.proofs.Made.{same_others, stops_make, stops_tell}
 use Rattle.friday_app.proofs.Replayed.{NoneOpened}
 use Rattle.std.proofs.lemmas.Option.{same_Some}
@@ -49,15 +50,16 @@ refused_not_done refusal.WriteFault answer answers fault is = let e = sym is ∙
 refused_not_done refusal.NoMemory answer answers fault is = let e = sym is ∙ fault in cc
 
 pub run_refused : (pairs : List Pair) (e : Refusal) (answer : Status) (old new : Outside) → NoneOpened pairs old.told e → Raises old.counts new.counts e
+    → CountsFaults {T = ⊤} old.counts new.counts (Err e)
     → FinishesCall (Err e) answer old.taken new.taken old.out_faults new.out_faults
-    → new.told ≡ old.told → new.left ≡ old.left → new.input_faults ≡ old.input_faults
+    → new.told ≡ old.told → new.hearing ≡ old.hearing
     → CommandRun (Some (Debug pairs)) old new answer
-run_refused pairs e answer old new stops cause f same left faults =
+run_refused pairs e answer old new stops cause counts f same unheard =
     run_ends (Debug pairs) (Err e) answer old new tt
-    (λ o here. stops_tell o e (refused_stops pairs old.told old.left e stops o here))
-    (λ o here. stops_make o e old.told new.told (refused_stops pairs old.told old.left e stops o here) same)
-    (same_others _ _ _ same) (keeps e) cause (λ end before told after here. tt) (λ before told. tt) f
-    (unread_input pairs old.told old.left new.left answer old.input_faults new.input_faults (refused_not_done e answer f.status f.fault) (record { left = left; faults = faults })) where
+    (λ o here. stops_tell o e (refused_stops pairs old.told old.hearing.left e stops o here))
+    (λ o here. stops_make o e old.told new.told (refused_stops pairs old.told old.hearing.left e stops o here) same)
+    (same_others _ _ _ same) (keeps e) cause (record { reads = counts.reads; writes = counts.writes; misses = counts.misses }) (λ end before told after here. tt) (λ before told. tt) f unheard
+    (inl (unheard, refused_not_done e answer f.status f.fault)) where
       keeps : (e : Refusal) → Keeps (Err e) old.told new.told
       keeps (refusal.Refused file why) = tt
       keeps (refusal.Absent file) = same
@@ -98,36 +100,55 @@ session_makes_none : (start : List Replaying) (left : Option (List ℕ)) (o : Co
 session_makes_none start left o s =
     ap writes_of s.outcome ∙ makes_none (is_large start s.input) (session_text start (early_lines s.input)) (session_text start (lines_of s.input))
 
+-- a count that was told rose
+heard_rose : (answer : Status) (old new : ℕ) → new ≡ heard_after old answer → answer ≡ ends.ReadFault → Rose old new
+heard_rose answer old new is fault = omega (arith, is ∙ ap (heard_after old) fault)
+
+said_rose : (answer : Status) (old new : ℕ) → new ≡ said_after old answer → answer ≡ ends.WriteFault → Rose old new
+said_rose answer old new is fault = omega (arith, is ∙ ap (said_after old) fault)
+
+conversed_faults : (answer : Status) (old new : Outside) → new.counts.reads ≡ old.counts.reads → new.counts.writes ≡ old.counts.writes
+    → new.hearing.faults ≡ heard_after old.hearing.faults answer → new.out_faults ≡ said_after old.out_faults answer → FaultsTold answer old new
+conversed_faults ends.Done old new reads writes h s = counted new _ _ _ _ reads writes h s
+conversed_faults ends.Diverged old new reads writes h s = counted new _ _ _ _ reads writes h s
+conversed_faults ends.Usage old new reads writes h s = counted new _ _ _ _ reads writes h s
+conversed_faults ends.Refused old new reads writes h s = counted new _ _ _ _ reads writes h s
+conversed_faults ends.Absent old new reads writes h s = counted new _ _ _ _ reads writes h s
+conversed_faults ends.ReadFault old new reads writes h s = inr (counted new _ _ _ _ reads writes h s)
+conversed_faults ends.WriteFault old new reads writes h s = inr (counted new _ _ _ _ reads writes h s)
+conversed_faults ends.NoMemory old new reads writes h s = counted new _ _ _ _ reads writes h s
+
 pub run_conversed : (pairs : List Pair) (start : List Replaying) (answer : Status) (old new : Outside) → WasOpened pairs old.told start
-    → Converses start old.left new.left old.taken new.taken old.input_faults new.input_faults old.out_faults new.out_faults answer
-    → new.told ≡ old.told
+    → Converses start old.hearing new.hearing old.taken new.taken old.out_faults new.out_faults answer
+    → new.told ≡ old.told → CountsFaults {T = ⊤} old.counts new.counts (Ok tt)
     → CommandRun (Some (Debug pairs)) old new answer
-run_conversed pairs start answer old new opens c same = record {
+run_conversed pairs start answer old new opens c same counts = record {
   usage = record { only = λ is. absurd (c.other (subst IsNone (sym is) tt)); always = λ none h. cc };
   diverged = λ is. absurd (c.other (subst IsNone (sym is) tt));
   status = λ o e h. let s = said o e in c.ended s.input s.told h ∙ ap outcome_status (sym s.outcome);
   text = λ o e. let s = said o e in subst (λ (o : CommandOutcome). Prints answer (outcome_text o) old.taken new.taken) (sym s.outcome) (c.text s.input s.told);
-  files = λ o e. none_left answer o old.told new.told (session_makes_none start old.left o (said o e)) same;
+  files = λ o e. none_left answer o old.told new.told (session_makes_none start old.hearing.left o (said o e)) same;
   others = same_others _ _ _ same;
   recorded = λ is before told after here. tt;
   moment = λ before told. tt;
   idle = λ _. same;
-  input = inr (start, (opens, c.input));
+  input = inr (record { start = start; opened = opens; read = c.input; turns = c.turns });
+  faults = conversed_faults answer old new counts.reads counts.writes c.reads c.writes;
   answered = λ is quiet. (start, (opens, c.answered is));
   prints_last = λ o e. inr (made o e);
   absent = λ is. absurd (c.other (subst IsNone (sym is) tt));
   absent_text = λ is. absurd (c.other (subst IsNone (sym is) tt));
   refused = λ is. let s = c.refused is in (s.0, input_name, (reason.TooLarge, s.1, λ _. inr (refl, (start, (opens, large is)))));
-  read_fault = λ is. inr (c.read_fault is);
-  write_fault = λ is. inr (c.write_fault is);
+  read_fault = λ is. inr (heard_rose answer _ _ c.reads is);
+  write_fault = λ is. inr (said_rose answer _ _ c.writes is);
   out_fault = λ o e is. inr (made o e);
 } where
-  said : (o : CommandOutcome) → expected (Some (Debug pairs)) old.told old.left ≡ Some o → IsSpoken start old.left o
-  said o e = is_spoken pairs old.told old.left start opens o e
+  said : (o : CommandOutcome) → expected (Some (Debug pairs)) old.told old.hearing.left ≡ Some o → IsSpoken start old.hearing.left o
+  said o e = is_spoken pairs old.told old.hearing.left start opens o e
 
-  made : (o : CommandOutcome) → expected (Some (Debug pairs)) old.told old.left ≡ Some o → new.told ≡ with_files (writes_of o) old.told
-  made o e = same ∙ ap (λ (files : List (List ℕ × List ℕ)). with_files files old.told) (sym (session_makes_none start old.left o (said o e)))
+  made : (o : CommandOutcome) → expected (Some (Debug pairs)) old.told old.hearing.left ≡ Some o → new.told ≡ with_files (writes_of o) old.told
+  made o e = same ∙ ap (λ (files : List (List ℕ × List ℕ)). with_files files old.told) (sym (session_makes_none start old.hearing.left o (said o e)))
 
-  large : answer ≡ ends.Refused → WhenTold old.left (λ input. is_large start input ≡ true)
+  large : answer ≡ ends.Refused → WhenTold old.hearing.left (λ input. is_large start input ≡ true)
   large is input told =
       was_large (is_large start input) (session_text start (early_lines input)) (session_text start (lines_of input)) (sym is ∙ c.ended input told (subst IsAnswerStatus (sym is) tt))

@@ -4,6 +4,7 @@ use Rattle.std.specs.Io.KnownBytes.{append_known}
 use Rattle.std.proofs.lemmas.Grind.{common_steps}
 use Rattle.std.proofs.lemmas.Option.{same_Some}
 use Rattle.fri_outside.specs.Outside.{Folder, Counts, Rose, WhenTold}
+use Rattle.fri_outside.specs.Terminal.{Hearing}
 use Rattle.fri_outside.specs.Several.{with_files, OthersStay}
 use Rattle.friday_app.specs.declared.status.Status.{Status}
 use Rattle.friday_app.specs.declared.status.Status.TheVariants as ends
@@ -17,9 +18,9 @@ use Rattle.friday_app.specs.Command.{Command, Debug, Pair, Record, Replay}
 use Rattle.friday_app.specs.Outcome.{CommandOutcome, refused_line, usage_line, outcome_status, outcome_text, writes_of}
 use Rattle.friday_app.specs.Expected.{expected, written_by}
 use Rattle.friday_app.specs.Agreement.{KeepsMoment, KeepsRecording, RecordingsAgree}
-use Rattle.friday_app.specs.Run.{CommandRun, Outside}
-use Rattle.friday_app.specs.Call.{Prints, PrintsAbsent, PrintsLast, PrintsRefusal, DivergesOnlyIn, LeavesFiles, IsAnswerStatus, IsAnswerResult, TellsOutcome, Makes, Keeps, Raises, FaultStatus, status_and_text, FinishesCall}
-use Rattle.friday_app.specs.Conversation.{KeepsInput, Untouched}
+use Rattle.friday_app.specs.Run.{CommandRun, FaultsTold, Outside, faults_of}
+use Rattle.friday_app.specs.Call.{CountsFaults, Prints, PrintsAbsent, PrintsLast, PrintsRefusal, DivergesOnlyIn, LeavesFiles, IsAnswerStatus, IsAnswerResult, TellsOutcome, Makes, Keeps, Raises, FaultStatus, said_after, status_and_text, FinishesCall}
+use Rattle.friday_app.specs.Conversation.{KeepsInput}
 use Rattle.friday_app.specs.Seen.{batch_of}
 use Rattle.friday_app.proofs.Made.{same_changes, all_changes, same_others}
 use Rattle.friday_app.proofs.Recordings.{moment_before}
@@ -161,31 +162,60 @@ reads_end (Err refusal.NoMemory) answer old new other fault cause is = let e = s
 
 -- ---- an input that is as it was
 
--- no session was held
-pub unread_input : (pairs : List Pair) (told : Option Folder) (left after : Option (List ℕ)) (answer : Status) (faults faults_after : ℕ) → (answer ≡ ends.Done → ⊥) → Untouched left after faults faults_after
-    → KeepsInput (Some (Debug pairs)) told left after answer (Untouched left after faults faults_after)
-unread_input pairs told left after answer faults faults_after going untouched = inl (untouched, going)
-
 -- a batch does not read it
-pub batch_input : (b : Batch) (told : Option Folder) (left after : Option (List ℕ)) (answer : Status) (faults faults_after : ℕ) → Untouched left after faults faults_after
-    → KeepsInput (Some (batch_of b)) told left after answer (Untouched left after faults faults_after)
-batch_input (batch.Record images schedule_file) told left after answer faults faults_after untouched = untouched
-batch_input (batch.Replay images pairs) told left after answer faults faults_after untouched = untouched
+pub batch_input : (b : Batch) (told : Option Folder) (before after : Hearing) (printed : Option (List ℕ)) (answer : Status) → after ≡ before → KeepsInput (Some (batch_of b)) told before after printed answer
+batch_input (batch.Record images schedule_file) told before after printed answer same = same
+batch_input (batch.Replay images pairs) told before after printed answer same = same
+
+-- ---- the counts of faults
+
+pub counted : (new : Outside) (reads writes heard said : ℕ) → new.counts.reads ≡ reads → new.counts.writes ≡ writes → new.hearing.faults ≡ heard → new.out_faults ≡ said
+    → faults_of new ≡ ((reads, writes), (heard, said))
+counted new reads writes heard said r w h s =
+    ap (λ (n : ℕ). ((n, new.counts.writes), (new.hearing.faults, new.out_faults))) r
+    ∙ ap (λ (n : ℕ). ((reads, n), (new.hearing.faults, new.out_faults))) w
+    ∙ ap (λ (n : ℕ). ((reads, writes), (n, new.out_faults))) h
+    ∙ ap (λ (n : ℕ). ((reads, writes), (heard, n))) s
+
+-- a text was written, or its write failed, or memory ran out
+pub said_faults : (answer : Status) (old new : Outside) → new.counts.reads ≡ old.counts.reads → new.counts.writes ≡ old.counts.writes → new.hearing ≡ old.hearing
+    → new.out_faults ≡ said_after old.out_faults answer → (answer ≢ ends.ReadFault) → FaultsTold answer old new
+said_faults ends.Done old new r w h s other = counted new _ _ _ _ r w (ap (λ (n : Hearing). n.faults) h) s
+said_faults ends.Diverged old new r w h s other = counted new _ _ _ _ r w (ap (λ (n : Hearing). n.faults) h) s
+said_faults ends.Usage old new r w h s other = counted new _ _ _ _ r w (ap (λ (n : Hearing). n.faults) h) s
+said_faults ends.Refused old new r w h s other = counted new _ _ _ _ r w (ap (λ (n : Hearing). n.faults) h) s
+said_faults ends.Absent old new r w h s other = counted new _ _ _ _ r w (ap (λ (n : Hearing). n.faults) h) s
+said_faults ends.ReadFault old new r w h s other = absurd (other refl)
+said_faults ends.WriteFault old new r w h s other = inr (counted new _ _ _ _ r w (ap (λ (n : Hearing). n.faults) h) s)
+said_faults ends.NoMemory old new r w h s other = counted new _ _ _ _ r w (ap (λ (n : Hearing). n.faults) h) s
+
+ended_faults : (ended : Result Answer Refusal) (answer : Status) (old new : Outside) → CountsFaults old.counts new.counts ended → FinishesCall ended answer old.taken new.taken old.out_faults new.out_faults
+    → new.hearing ≡ old.hearing → FaultsTold answer old new
+ended_faults (Ok (answered.Done text)) answer old new c f h = said_faults answer old new c.reads c.writes h f.counted f.read_fault
+ended_faults (Ok (answered.Diverged text)) answer old new c f h = said_faults answer old new c.reads c.writes h f.counted f.read_fault
+ended_faults (Err (refusal.Refused file why)) answer old new c f h = said_faults answer old new c.reads c.writes h f.counted f.read_fault
+ended_faults (Err (refusal.Absent file)) answer old new c f h = said_faults answer old new c.reads c.writes h f.counted f.read_fault
+ended_faults (Err refusal.ReadFault) answer old new c f h = subst (λ (a : Status). FaultsTold a old new) (sym f.fault) (inl (counted new _ _ _ _ c.reads c.writes (ap (λ (n : Hearing). n.faults) h) f.quiet))
+ended_faults (Err refusal.WriteFault) answer old new c f h = subst (λ (a : Status). FaultsTold a old new) (sym f.fault) (inl (counted new _ _ _ _ c.reads c.writes (ap (λ (n : Hearing). n.faults) h) f.quiet))
+ended_faults (Err refusal.NoMemory) answer old new c f h = subst (λ (a : Status). FaultsTold a old new) (sym f.fault) (counted new _ _ _ _ c.reads c.writes (ap (λ (n : Hearing). n.faults) h) f.quiet)
 
 -- a run of a command whose result was finished
 pub run_ends : (command : Command) (ended : Result Answer Refusal) (answer : Status) (old new : Outside)
     → DivergesOnlyIn (Some command) ended
-    → ((o : CommandOutcome) → expected (Some command) old.told old.left ≡ Some o → TellsOutcome o ended)
-    → ((o : CommandOutcome) → expected (Some command) old.told old.left ≡ Some o → Makes ended (writes_of o) old.told new.told)
+    → ((o : CommandOutcome) → expected (Some command) old.told old.hearing.left ≡ Some o → TellsOutcome o ended)
+    → ((o : CommandOutcome) → expected (Some command) old.told old.hearing.left ≡ Some o → Makes ended (writes_of o) old.told new.told)
     → OthersStay (written_by (Some command)) old.told new.told
     → Keeps ended old.told new.told
     → IfErr ended (Raises old.counts new.counts)
+    → CountsFaults old.counts new.counts ended
     → (IsAnswerResult ended → WhenTold old.told (λ before. WhenTold new.told (KeepsRecording (Some command) before)))
     → WhenTold old.told (λ before. KeepsMoment (Some command) before new.told)
     → FinishesCall ended answer old.taken new.taken old.out_faults new.out_faults
-    → KeepsInput (Some command) old.told old.left new.left answer (Untouched old.left new.left old.input_faults new.input_faults)
+    → new.hearing ≡ old.hearing
+    → KeepsInput (Some command) old.told old.hearing new.hearing old.taken answer
     → CommandRun (Some command) old new answer
-run_ends command ended answer old new diverges tells makes others keeps cause recorded moment f input = record {
+run_ends command ended answer old new diverges tells makes others keeps cause counts recorded moment f unheard input = record {
+  faults = ended_faults ended answer old new counts f unheard;
   usage = grind (arith, common_steps);
   diverged = grind (arith, common_steps);
   status = λ o e h. status_ends ended answer o (tells o e) f.status f.fault h;
@@ -211,10 +241,12 @@ pub run_none : (answer : Status) (old new : Outside) → new.told ≡ old.told
     → (IsAnswerStatus answer → answer ≡ ends.Usage)
     → Prints answer usage_line old.taken new.taken
     → (answer ≡ ends.ReadFault → ⊥)
-    → (answer ≡ ends.WriteFault → Rose old.out_faults new.out_faults)
-    → Untouched old.left new.left old.input_faults new.input_faults
+    → new.counts ≡ old.counts
+    → new.out_faults ≡ said_after old.out_faults answer
+    → new.hearing ≡ old.hearing
     → CommandRun None old new answer
-run_none answer old new same usage prints reads writes untouched = record {
+run_none answer old new same usage prints reads counts writes unheard = record {
+  faults = said_faults answer old new (ap (λ (c : Counts). c.reads) counts) (ap (λ (c : Counts). c.writes) counts) unheard writes reads;
   usage = record { only = λ _. refl; always = λ _ h. usage h };
   diverged = λ is. let e : ends.Diverged ≡ ends.Usage = sym is ∙ usage (subst IsAnswerStatus (sym is) tt) in absurd (usage_not_diverged e);
   status = λ o e h. usage h ∙ ap outcome_status (same_Some _ _ e);
@@ -224,14 +256,14 @@ run_none answer old new same usage prints reads writes untouched = record {
   recorded = λ is before told after here. tt;
   moment = λ before told. tt;
   idle = λ _. same;
-  input = untouched;
+  input = unheard;
   answered = λ is. absurd (reads is);
   prints_last = λ o e. inr (same ∙ ap (λ w. with_files w old.told) (ap writes_of (same_Some _ _ e)));
   absent_text = λ is. let e : ends.Absent ≡ ends.Usage = sym is ∙ usage (subst IsAnswerStatus (sym is) tt) in absurd (usage_not_absent e);
   absent = λ is. let e : ends.Absent ≡ ends.Usage = sym is ∙ usage (subst IsAnswerStatus (sym is) tt) in cc;
   refused = λ is. let e : ends.Refused ≡ ends.Usage = sym is ∙ usage (subst IsAnswerStatus (sym is) tt) in absurd (usage_not_refused e);
   read_fault = λ is. absurd (reads is);
-  write_fault = λ is. inr (writes is);
+  write_fault = λ is. inr (omega (arith, writes ∙ ap (said_after old.out_faults) is));
   out_fault = λ o e is. inr (same ∙ ap (λ w. with_files w old.told) (ap writes_of (same_Some _ _ e)));
 } where
   usage_not_absent : ends.Absent ≡ ends.Usage → ⊥
@@ -249,8 +281,9 @@ run_same {old = old} {new = new} {answer = answer} is run = subst (λ k. Command
 
 -- a run that ended for want of memory before anything was read
 pub run_stopped : RecordingsAgree → (command : Option Command) (old new : Outside) → new.told ≡ old.told → new.taken ≡ old.taken
-    → Untouched old.left new.left old.input_faults new.input_faults → CommandRun command old new ends.NoMemory
-run_stopped agree command old new same silent untouched = record {
+    → new.counts ≡ old.counts → new.out_faults ≡ old.out_faults → new.hearing ≡ old.hearing → CommandRun command old new ends.NoMemory
+run_stopped agree command old new same silent counts writes unheard = record {
+  faults = said_faults ends.NoMemory old new (ap (λ (c : Counts). c.reads) counts) (ap (λ (c : Counts). c.writes) counts) unheard writes (λ is. absurd cc);
   usage = record { only = λ is. absurd cc; always = λ none h. absurd h };
   diverged = λ is. absurd cc;
   status = λ o e h. absurd h;
@@ -260,7 +293,7 @@ run_stopped agree command old new same silent untouched = record {
   recorded = λ h. absurd h;
   moment = untouched_moment agree command old.told new.told same;
   idle = λ h. absurd h;
-  input = untouched_input command old.told old.left new.left untouched;
+  input = untouched_input command old.told unheard;
   answered = λ is. absurd cc;
   prints_last = λ o e. inl silent;
   absent_text = λ is. absurd cc;
@@ -279,9 +312,8 @@ run_stopped agree command old new same silent untouched = record {
   no_memory_not_done : ends.NoMemory ≡ ends.Done → ⊥
   no_memory_not_done e = cc
 
-  untouched_input : (command : Option Command) (told : Option Folder) (left after : Option (List ℕ)) → Untouched left after old.input_faults new.input_faults
-      → KeepsInput command told left after ends.NoMemory (Untouched left after old.input_faults new.input_faults)
-  untouched_input None told left after same = same
-  untouched_input (Some (Record images schedule_name)) told left after same = same
-  untouched_input (Some (Replay images pairs)) told left after same = same
-  untouched_input (Some (Debug pairs)) told left after same = unread_input pairs told left after ends.NoMemory old.input_faults new.input_faults no_memory_not_done same
+  untouched_input : (command : Option Command) (told : Option Folder) → new.hearing ≡ old.hearing → KeepsInput command told old.hearing new.hearing old.taken ends.NoMemory
+  untouched_input None told same = same
+  untouched_input (Some (Record images schedule_name)) told same = same
+  untouched_input (Some (Replay images pairs)) told same = same
+  untouched_input (Some (Debug pairs)) told same = inl (same, no_memory_not_done)

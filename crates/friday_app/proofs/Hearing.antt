@@ -4,7 +4,8 @@ use Rattle.std.specs.Prelude.{Err, if◌then◌else◌}
 use Rattle.std.specs.Io.KnownBytes.{append_known}
 use Rattle.std.proofs.lemmas.List.{take-append-drop}
 use Rattle.std.proofs.Math.Seq.{take-append-add}
-use Rattle.fri_outside.specs.Outside.{Rose, WhenTold}
+use Rattle.fri_outside.specs.Outside.{WhenTold}
+use Rattle.fri_outside.specs.Terminal.{Asking, Hearing, given_in, with_asking}
 use Rattle.fri_outside.specs.declared.files.WriteError.{WriteError}
 use Rattle.fri_outside.specs.declared.files.WriteError.TheVariants as writing
 use Rattle.fri_text.specs.Line.{lines_of}
@@ -14,11 +15,11 @@ use Rattle.friday_shell.specs.Points.{SessionState}
 use Rattle.friday_shell.specs.Session.{answers, ends, opening, session_text, whole_lines}
 use Rattle.friday_app.specs.declared.converse.Ended.{Ended}
 use Rattle.friday_app.specs.declared.converse.Ended.TheVariants as cause
-use Rattle.friday_app.specs.Conversation.{Asks, TakesOfInput}
+use Rattle.friday_app.specs.Conversation.{AreInTurn, Asks, IsInTurn, TakesOfInput}
 use Rattle.friday_app.specs.Debug.{early_lines, is_large, session_outcome}
 use Rattle.friday_app.specs.Limits.{most_input}
 use Rattle.friday_app.specs.Outcome.{outcome_text}
-use Rattle.friday_app.specs.Talk.{Breaks, Concludes, GoesOn, PrintsPart, Said, SaysSome, SessionHolds, SessionStands, Spoke, Stops, StopsAtPiece, StopsIn, ended_by}
+use Rattle.friday_app.specs.Talk.{Breaks, CameInTurn, Concludes, GoesOn, NotesPiece, PrintsPart, Said, SaysSome, SessionHolds, SessionStands, Spoke, Stops, StopsAtPiece, StopsIn, ended_by}
 use Rattle.friday_app.proofs.WholeLines.{few_lines-open, lines_of-open, session_more}
 use Rattle.friday_app.proofs.Talking.{append_twice, fits_short, overruns_more, part_more, quits_more, take_front}
 
@@ -56,14 +57,6 @@ stops_later a b more before mid now state begun count state1 begun1 count1 why f
 pub piece_split : (piece : List ℕ) (i b : ℕ) → take (i + 1) piece ≡ take i piece ++ b ∷ [] → (take i piece ++ b ∷ []) ++ drop (i + 1) piece ≡ piece
 piece_split piece i b e = ap (λ (l : List ℕ). l ++ drop (i + 1) piece) (sym e) ∙ take-append-drop (i + 1) piece
 
--- ---- counts
-
-pub rose_later : (before mid now : ℕ) → Rose before mid → mid ≤ now → Rose before now
-rose_later before mid now rose later = omega (arith, rose)
-
-pub rose_earlier : (before mid now : ℕ) → before ≤ mid → Rose mid now → Rose before now
-rose_earlier before mid now later rose = omega (arith, rose)
-
 -- ---- pieces
 
 pub taken_more : (left mid after : Option (List ℕ)) (a b : List ℕ) → WhenTold left (λ input. TakesOfInput input mid a) → WhenTold mid (λ input. TakesOfInput input after b) → WhenTold left (λ input. TakesOfInput input after (a ++ b))
@@ -81,6 +74,45 @@ stops_at start printed now taken cause.TooLarge s = s
 stops_at start printed now taken cause.ReadFault s = absurd s
 stops_at start printed now taken cause.WriteFault s = s
 stops_at start printed now taken cause.NoMemory s = s
+
+-- ---- turns
+
+in_turn_more : (start : List Replaying) (printed : Option (List ℕ)) (typed : List ℕ) (askings : List Asking) (asking : Asking) → AreInTurn start printed typed askings → IsInTurn start printed (typed ++ given_in askings) asking
+    → AreInTurn start printed typed (askings ++ asking ∷ [])
+in_turn_more start printed typed [] asking are is = (subst (λ (t : List ℕ). IsInTurn start printed t asking) (append-nil typed) is, tt)
+in_turn_more start printed typed (a ∷ later) asking are is = (are.0, in_turn_more start printed (typed ++ a.given) later asking are.1 (subst (λ (t : List ℕ). IsInTurn start printed t asking) (sym (append_assoc typed a.given (given_in later))) is))
+
+given_more : (askings : List Asking) (asking : Asking) → given_in (askings ++ asking ∷ []) ≡ given_in askings ++ asking.given
+given_more [] asking = append-nil asking.given
+given_more (a ∷ later) asking = ap (λ (l : List ℕ). a.given ++ l) (given_more later asking) ∙ sym (append_assoc a.given (given_in later) asking.given)
+
+-- before anything came
+pub turns_none : (start : List Replaying) (printed : Option (List ℕ)) (asked : Option (List Asking)) → WhenTold asked (λ earlier. CameInTurn start printed [] earlier asked)
+turns_none start printed asked = λ earlier told. record { askings = []; noted = told ∙ ap Some (sym (append-nil earlier)); in_turn = tt; given = refl }
+
+module _ (start : List Replaying) (printed before : Option (List ℕ)) (state : SessionState) (begun : List ℕ) (count : ℕ) (taken piece : List ℕ) (stands : SessionStands start printed before state begun count taken) (short : length piece ≤ 4096) where
+  turn_noted : (earlier : List Asking) (asked asked_after : Option (List Asking)) → CameInTurn start printed taken earlier asked → asked_after ≡ with_asking before piece asked → CameInTurn start printed (taken ++ piece) earlier asked_after
+  turn_noted earlier asked asked_after came noted =
+      let asking : Asking = record { said = before; given = piece } in
+      let here : IsInTurn start printed taken asking = record { answered = stands.text; goes_on = stands.goes_on; short = short } in
+      record {
+        askings = came.askings ++ asking ∷ [];
+        noted = noted ∙ ap (with_asking before piece) came.noted ∙ ap Some (append_assoc earlier came.askings (asking ∷ []));
+        in_turn = in_turn_more start printed [] came.askings asking came.in_turn (subst (λ (t : List ℕ). IsInTurn start printed t asking) (sym came.given) here);
+        given = given_more came.askings asking ∙ ap (λ (l : List ℕ). l ++ piece) came.given;
+      }
+
+  pub turns_noted : (old mid after : Option (List Asking)) → WhenTold old (λ earlier. CameInTurn start printed taken earlier mid) → after ≡ with_asking before piece mid → WhenTold old (λ earlier. CameInTurn start printed (taken ++ piece) earlier after)
+  turns_noted old mid after came noted = λ earlier told. turn_noted earlier mid after (came earlier told) noted
+
+  turn_piece : (earlier : List Asking) (asked asked_after : Option (List Asking)) → CameInTurn start printed taken earlier asked → NotesPiece before piece asked asked_after → CameInTurn start printed (taken ++ piece) earlier asked_after
+  turn_piece earlier asked asked_after came (inl noted) = turn_noted earlier asked asked_after came noted
+  turn_piece earlier asked asked_after came (inr (none, same)) =
+      let whole : taken ≡ taken ++ piece = sym (append-nil taken) ∙ ap (λ (l : List ℕ). taken ++ l) (sym none) in
+      subst (λ (l : List ℕ). CameInTurn start printed l earlier asked_after) whole (subst (CameInTurn start printed taken earlier) (sym same) came)
+
+  pub turns_piece : (old mid after : Option (List Asking)) → WhenTold old (λ earlier. CameInTurn start printed taken earlier mid) → NotesPiece before piece mid after → WhenTold old (λ earlier. CameInTurn start printed (taken ++ piece) earlier after)
+  turns_piece old mid after came notes = λ earlier told. turn_piece earlier mid after (came earlier told) notes
 
 -- ---- a session that stopped at a piece
 
@@ -106,12 +138,13 @@ large_said start printed now taken cause.ReadFault s is = absurd cc
 large_said start printed now taken cause.WriteFault s is = absurd cc
 large_said start printed now taken cause.NoMemory s is = absurd cc
 
-pub holds_broken : (start : List Replaying) (printed now : Option (List ℕ)) (earlier : List ℕ) (left mid after : Option (List ℕ)) (size : ℕ) (why : Ended)
-    → WhenTold left (λ input. TakesOfInput input mid earlier) → ends (opening start) (whole_lines earlier) ≡ false → size ≤ 4096 → length earlier + size ≤ most_input + 1
-    → Breaks start printed now earlier mid after size why → SessionHolds start left after printed now why
-holds_broken start printed now earlier left mid after size why read on short within b =
-    let whole = taken_more left mid after earlier b.piece read b.read in
+pub holds_broken : (start : List Replaying) (printed before now : Option (List ℕ)) (earlier : List ℕ) (old mid new : Hearing) (size : ℕ) (why : Ended)
+    → WhenTold old.left (λ input. TakesOfInput input mid.left earlier) → ends (opening start) (whole_lines earlier) ≡ false → size ≤ 4096 → length earlier + size ≤ most_input + 1
+    → (b : Breaks start printed before now earlier mid new size why) → WhenTold old.asked (λ asked. CameInTurn start printed (earlier ++ b.piece) asked new.asked) → SessionHolds start old new printed now why
+holds_broken start printed before now earlier old mid new size why read on short within b turns =
+    let whole = taken_more old.left mid.left new.left earlier b.piece read b.read in
     record {
+      turns = turns;
       taken = earlier ++ b.piece;
       asks = record { earlier = earlier; piece = b.piece; parts = refl; short = omega (arith, b.short); within = rw length-append (omega (arith, b.short)); goes_on = on };
       read = whole;
@@ -175,23 +208,25 @@ module _ (start : List Replaying) (printed mid now : Option (List ℕ)) (state :
   never_large cause.WriteFault spoke is = absurd cc
   never_large cause.NoMemory spoke is = absurd cc
 
-  module _ (left left_after : Option (List ℕ)) (read : WhenTold left (λ input. TakesOfInput input left_after taken)) (last : WhenTold left (λ input. input ≡ taken)) where
+  module _ (old new : Hearing) (read : WhenTold old.left (λ input. TakesOfInput input new.left taken)) (last : WhenTold old.left (λ input. input ≡ taken)) (turns : WhenTold old.asked (λ earlier. CameInTurn start printed taken earlier new.asked)) where
     asks : Asks start taken
     asks = record { earlier = taken; piece = []; parts = sym (append-nil taken); short = omega arith; within = omega (arith, within); goes_on = s.goes_on }
 
-    pub holds_all : now ≡ append_known mid (answers state (take 1 (lines_of begun))) → SessionHolds start left left_after printed now cause.Done
+    pub holds_all : now ≡ append_known mid (answers state (take 1 (lines_of begun))) → SessionHolds start old new printed now cause.Done
     holds_all spoke = record {
       taken = taken;
       asks = asks;
+      turns = turns;
       read = read;
       said = λ input told. said_all input (last input told) spoke;
       large = λ is. absurd cc;
     }
 
-    pub holds_error : (why : Ended) → Spoke state (take 1 (lines_of begun)) mid now (Err why) → SessionHolds start left left_after printed now why
+    pub holds_error : (why : Ended) → Spoke state (take 1 (lines_of begun)) mid now (Err why) → SessionHolds start old new printed now why
     holds_error why spoke = record {
       taken = taken;
       asks = asks;
+      turns = turns;
       read = read;
       said = λ input told. said_error input why (last input told) spoke;
       large = λ is. absurd (never_large why spoke is);

@@ -3,6 +3,7 @@ pub mod Bytes
 pub mod Clashing
 pub mod Completes
 pub mod Conversing
+pub mod Counted
 pub mod Debugging
 pub mod Ends
 pub mod Faults

@@ -1,5 +1,5 @@
 -- The pairs that were read, and those that are still to come.
-use Rattle.std.proofs.Common.{◌≡◌, ◌∙◌, ℕ, List, [], ◌∷◌, ◌++◌, Option, Some, None, Result, Ok, ap, map, refl, subst, sym}
+use Rattle.std.proofs.Common.{◌≡◌, ◌∙◌, ◌≤◌, ℕ, List, [], ◌∷◌, ◌++◌, length, Option, Some, None, Result, Ok, ap, arith, map, refl, subst, sym}
 use Rattle.fri_outside.specs.Outside.{Folder, WhenTold}
 use Rattle.wasm_types.specs.Modules.{Module, module_of as shown}
 use Rattle.call_log.specs.declared.head.LogHead.{LogHead}
@@ -32,8 +32,8 @@ head_found name bytes log is = found (head_at bytes) is where
 
 -- a pair with these bytes, this head and these parts of it holds that
 pub is_loaded : (x : LoadedFiles) (pair : Pair) (bytes : List ℕ) (log : Head × List ℕ) (head : LogHead) → x.module_file.now ≡ pair.module_name → bytes ≡ x.log.items → log_or_bad_head pair.log_name (head_at bytes) ≡ Ok log
-    → IsHead log.0 → head_of head ≡ log.0 → x.count ≡ head.count → x.process ≡ head.process → x.name ≡ head.name.now → IsLoaded x (read_as pair (shown x.«module») log)
-is_loaded x pair bytes log head named held found in_range is count process name = record {
+    → IsHead log.0 → head_of head ≡ log.0 → x.count ≡ head.count → x.process ≡ head.process → x.name ≡ head.name.now → length log.1 ≤ length bytes → length bytes ≤ most_log → IsLoaded x (read_as pair (shown x.«module») log)
+is_loaded x pair bytes log head named held found in_range is count process name behind few = record {
   name = named;
   «module» = refl;
   log = ap head_at (sym held) ∙ head_found pair.log_name bytes log found;
@@ -41,6 +41,7 @@ is_loaded x pair bytes log head named held found in_range is count process name 
   count = count ∙ ap (λ (h : Head). h.count) is;
   process = process ∙ ap (λ (h : Head). h.process) is;
   head_name = name ∙ ap (λ (h : Head). h.name) is;
+  within = omega (arith, behind, few);
 }
 
 -- from the module on

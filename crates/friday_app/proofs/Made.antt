@@ -8,7 +8,7 @@ use Rattle.std.specs.declared.cmp.Ordering.{Ordering}
 use Rattle.std.specs.declared.cmp.Ordering.TheVariants.{Less, Equal, Greater}
 use Rattle.std.specs.Cmp.Lexicographic.{slice_cmp, nat_list_cmp_total}
 use Rattle.std.specs.FinMap.{insert, get, get-insert, slice_cmp-IsAntisymmetric, nat_cmp-IsAntisymmetric}
-use Rattle.fri_outside.specs.Outside.{Counts, NoneFell, Folder, WhenTold, with_file}
+use Rattle.fri_outside.specs.Outside.{Folder, WhenTold, with_file}
 use Rattle.fri_outside.specs.Several.{with_files, IsLeft, ChangesOnly, OthersStay}
 use Rattle.friday_app.specs.declared.refusal.Answer.{Answer}
 use Rattle.friday_app.specs.declared.refusal.Answer.TheVariants as answered
@@ -77,14 +77,6 @@ makes_changes (Err (refusal.Absent file)) files before after makes = all_changes
 makes_changes (Err refusal.ReadFault) files before after makes = makes
 makes_changes (Err refusal.WriteFault) files before after makes = makes
 makes_changes (Err refusal.NoMemory) files before after makes = makes
-
--- no count fell, and none later
-pub still_none_fell : (a b c : Counts) → NoneFell a b → NoneFell b c → NoneFell a c
-still_none_fell a b c first then = record {
-  reads = omega (arith, first.reads, then.reads);
-  writes = omega (arith, first.writes, then.writes);
-  misses = omega (arith, first.misses, then.misses);
-}
 
 -- the name of a file is among their names
 name_among : (files : List (List ℕ × List ℕ)) (file : List ℕ × List ℕ) → Contains files file → Contains (map (λ f. f.0) files) file.0

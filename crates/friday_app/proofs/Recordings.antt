@@ -12,7 +12,7 @@ use Rattle.schedule_text.specs.Schedule.{IsWellFormed, Schedule}
 use Rattle.group_record.specs.Answer.{StoppedWhere, first_states}
 use Rattle.group_record.specs.Files.{InHeads, IsStopped}
 use Rattle.group_record.specs.Images.{images_of}
-use Rattle.group_record.specs.Laws.{Agreement, Beginning, Delivery}
+use Rattle.group_record.specs.Laws.{Agreement, Beginning, CutAgreement, Delivery, TakesDrawn, TakesWaiting}
 use Rattle.group_record.specs.Logs.{logs}
 use Rattle.group_record.specs.Run.{log_of}
 use Rattle.friday_app.specs.declared.refusal.Answer.{Answer}
@@ -43,13 +43,24 @@ schedule_formed gives folder name schedule is =
 
 -- ---- its logs agree with it
 
-pub recordings_agree_so : ExactFault → GivesSchedules → Beginning → Agreement → Delivery → RecordingsAgree
-recordings_agree_so exact gives beginning agreement delivery folder name r =
+-- what is known of runs
+pub record RunLaws : Type 0 where
+  pub logs : Agreement
+  pub cut : CutAgreement
+  pub datagrams : Delivery
+  pub waiting : TakesWaiting
+  pub random : TakesDrawn
+
+pub recordings_agree_so : ExactFault → GivesSchedules → Beginning → RunLaws → RecordingsAgree
+recordings_agree_so exact gives beginning laws folder name r =
     let modules = modules_valid exact folder r.schedule.processes r.modules r.found in
     let begun = beginning r.schedule r.modules r.first (schedule_formed gives folder name r.schedule r.spelled) modules.count modules.valid r.begins in
     record {
-      logs = agreement (group_in r) r.schedule.items begun.0 begun.1;
-      datagrams = delivery (group_in r) r.schedule.items begun.0 begun.1;
+      logs = laws.logs (group_in r) r.schedule.items begun.0 begun.1;
+      cut = laws.cut (group_in r) r.schedule.items begun.0 begun.1;
+      datagrams = laws.datagrams (group_in r) r.schedule.items begun.0 begun.1;
+      waiting = laws.waiting (group_in r) r.schedule.items begun.0 begun.1;
+      random = laws.random (group_in r) r.schedule.items begun.0 begun.1;
     }
 
 -- ---- it is the one that was gathered

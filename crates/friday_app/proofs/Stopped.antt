@@ -5,7 +5,7 @@ use Rattle.std.specs.Prelude.{AllPairs, codes, is_none}
 use Rattle.std.specs.FinMap.{get}
 use Rattle.std.proofs.Math.ListN.{get_or-map}
 use Rattle.std.proofs.lemmas.Grind.{flat_map-append}
-use Rattle.std.proofs.lemmas.List.{append_cancel_right, length-map, take-append-drop}
+use Rattle.std.proofs.lemmas.List.{append_cancel_right, drop_at, length-map, take-append-drop}
 use Rattle.std.proofs.lemmas.Option.{same_Some}
 use Rattle.fri_outside.specs.Laws.{KeepsFiles}
 use Rattle.fri_outside.specs.Outside.{Folder, with_file}
@@ -20,7 +20,7 @@ use Rattle.group_world.specs.History as world
 use Rattle.group_record.specs.Files.{IsStopped, InHeads, Between, InEntry, InImages, heads_cut}
 use Rattle.group_record.specs.Images.{images, images_from, images_of, made_in_part, mem_name, out_name}
 use Rattle.group_record.specs.Logs.{files_from, log_name, logs}
-use Rattle.group_record.specs.Run.{Group, Had, IsMoment, Progress, Step, act_of, entries, head_of_log, history, log_of}
+use Rattle.group_record.specs.Run.{Group, Had, IsMoment, Progress, Step, act_of, entries, entry_bytes, head_of_log, history, log_of}
 use Rattle.friday_app.specs.Agreement.{LeavesLogs}
 use Rattle.friday_app.proofs.Made.{all_changes}
 
@@ -64,28 +64,27 @@ steps_grow group (step ∷ later) early p =
 log_grows : (group : Group) (early steps : List Step) → IsMoment early steps → (p : ℕ) → IsGrown (log_of group steps p) (log_of group early p)
 log_grows group early steps (later, is) p = subst (λ (s : List Step). IsGrown (log_of group s p) (log_of group early p)) (sym is) (steps_grow group later early p)
 
-same_number : (p : ℕ) → (p == p) ≡ true
-same_number p = grind arith
-
 -- the entry of an event stands behind the log
-event_log : (group : Group) (early : List Step) (p : ℕ) (e : Event) → log_of group (Had p e ∷ early) p ≡ log_of group early p ++ encoding e.entry
+event_log : (group : Group) (early : List Step) (p : ℕ) (e : Event) → log_of group (Had p e ∷ early) p ≡ log_of group early p ++ entry_bytes group early p e
+unfolding IsGrown
 event_log group early p e =
-    ap (λ (b : Bool). head_bytes (head_of_log group p) ++ encodings (world.put_last_if b (entries early p) e.entry)) (same_number p)
-    ∙ log_with (head_bytes (head_of_log group p)) (entries early p) (e.entry ∷ [])
-    ∙ ap (λ (bytes : List ℕ). log_of group early p ++ bytes) (append-nil (encoding e.entry))
+    let log = log_of group early p in
+    let grown = step_grows group (Had p e) early p in
+    grown.1 ∙ ap (λ (bytes : List ℕ). log ++ bytes) (sym (ap (drop (length log)) grown.1 ∙ drop_at log grown.0 (length log) refl))
 
 -- behind a first part of that entry comes the rest of it, and then what follows
-entry_grows : (group : Group) (steps later early : List Step) (p n : ℕ) (e : Event) → steps ≡ later ++ (Had p e ∷ early) → IsGrown (log_of group steps p) (log_of group early p ++ take n (encoding e.entry))
+entry_grows : (group : Group) (steps later early : List Step) (p n : ℕ) (e : Event) → steps ≡ later ++ (Had p e ∷ early) → IsGrown (log_of group steps p) (log_of group early p ++ take n (entry_bytes group early p e))
 unfolding IsGrown
 entry_grows group steps later early p n e is =
     let rest = steps_grow group later (Had p e ∷ early) p in
     let log = log_of group early p in
-    let cut = take-append-drop n (encoding e.entry) in (
-      drop n (encoding e.entry) ++ rest.0,
+    let more = entry_bytes group early p e in
+    let cut = take-append-drop n more in (
+      drop n more ++ rest.0,
       ap (λ (s : List Step). log_of group s p) is ∙ rest.1
           ∙ ap (λ (bytes : List ℕ). bytes ++ rest.0) (event_log group early p e ∙ ap (λ (bytes : List ℕ). log ++ bytes) (sym cut)
-          ∙ sym (append_assoc log (take n (encoding e.entry)) (drop n (encoding e.entry))))
-          ∙ append_assoc (log ++ take n (encoding e.entry)) (drop n (encoding e.entry)) rest.0,
+          ∙ sym (append_assoc log (take n more) (drop n more)))
+          ∙ append_assoc (log ++ take n more) (drop n more) rest.0,
     )
 
 -- a first part of a head
@@ -173,16 +172,16 @@ stopped_changes keeps group steps images before after (Between early front is) =
     subst (ChangesOnly before (logs group steps ++ images)) (sym is)
     (keeps.left before _ _ (fronts_of_more _ (logs group steps) images
     (files_fronts 0 group.names (log_of group early) (log_of group steps) (log_grows group early steps front))))
-stopped_changes keeps group steps images before after (InEntry early later p n e at is) =
+stopped_changes keeps group steps images before after (InEntry early later p n e at short is) =
     subst (ChangesOnly before (logs group steps ++ images)) (sym is)
     (keeps.left before _ _ (fronts_of_more _ (logs group steps) images
-    (grown_fronts 0 group.names (log_of group early) (log_of group steps) p (take n (encoding e.entry))
+    (grown_fronts 0 group.names (log_of group early) (log_of group steps) p (take n (entry_bytes group early p e))
     (log_grows group early steps (later ++ (Had p e ∷ []), at ∙ sym (append_assoc later (Had p e ∷ []) early))) entry))) where
       here : p ≡ 0 + p
       here = omega arith
 
-      entry : IsGrown (log_of group steps (0 + p)) (log_of group early (0 + p) ++ take n (encoding e.entry))
-      entry = subst (λ (k : ℕ). IsGrown (log_of group steps k) (log_of group early k ++ take n (encoding e.entry))) here (entry_grows group steps later early p n e at)
+      entry : IsGrown (log_of group steps (0 + p)) (log_of group early (0 + p) ++ take n (entry_bytes group early p e))
+      entry = subst (λ (k : ℕ). IsGrown (log_of group steps k) (log_of group early k ++ take n (entry_bytes group early p e))) here (entry_grows group steps later early p n e at)
 stopped_changes keeps group steps images before after (InImages n m is) =
     subst (ChangesOnly before (logs group steps ++ images)) (sym is)
     (keeps.left before _ _ (fronts_behind (logs group steps) (made_in_part images n m) images (part_fronts images n m)))

@@ -10,7 +10,7 @@ use Rattle.schedule_text.specs.Schedule.{Schedule}
 use Rattle.group_record.specs.Answer.{first_states, group_of}
 use Rattle.group_record.specs.Files.{IsStopped}
 use Rattle.group_record.specs.Images.{images_of}
-use Rattle.group_record.specs.Laws.{TakesDatagram}
+use Rattle.group_record.specs.Laws.{RandomIsDrawn, TakesDatagram, TellsCut, WaitingIsTaken}
 use Rattle.group_record.specs.Logs.{TellsEvents, log_name}
 use Rattle.group_record.specs.Run.{Group, Had, IsMoment, Progress, Step, log_of, name_of, run, size}
 use Rattle.friday_app.specs.Command.{Command, Debug, Record, Replay}
@@ -39,12 +39,16 @@ steps_in r = (run_in r).steps
 abbrev pub LeavesLogs : Group → List Step → Folder → Type 0
 LeavesLogs group steps after = (p : ℕ) → p < size group → get after (log_name (name_of group p)) ≡ Some (log_of group steps p)
 
--- at each moment of the run the logs tell its events, and each datagram that was taken came first in the
--- mailbox, and from outside or by a send that an item delivered
+-- at each moment of the run the logs tell its events, also the log behind which the next entry stands in part. Each
+-- datagram that was taken came first in the mailbox, and from outside or by a send that an item delivered; what waits
+-- is taken, and so are the first of the random bytes
 pub record LogsAgree (group : Group) (steps : List Step) : Type 0 where
   pub logs : (early : List Step) → IsMoment early steps → (p : ℕ) → p < size group → TellsEvents group early p
+  pub cut : TellsCut group steps
   pub datagrams : (later early : List Step) (p : ℕ) (e : Event) → steps ≡ later ++ (Had p e ∷ early) → IsTrue (is_taken e.entry)
       → TakesDatagram (size group) early p e
+  pub waiting : WaitingIsTaken group steps
+  pub random : RandomIsDrawn group steps
 
 -- so it is with each recording
 abbrev pub RecordingsAgree : Type 0

@@ -1,7 +1,7 @@
 -- What a call says of its status, of what it printed, and of the files after it.
 use Rattle.std.specs.Prelude.{◌≡◌, ◌≢◌, ◌⊎◌, ℕ, List, [], ◌++◌, string_bytes, Option, Some, None, take, IfSome, IfNone, Result, Ok, Err, true, false}
 use Rattle.std.specs.Io.KnownBytes.{append_known}
-use Rattle.fri_outside.specs.Outside.{Folder, Counts, Rose}
+use Rattle.fri_outside.specs.Outside.{Folder, Counts, Rose, raised}
 use Rattle.fri_outside.specs.Several.{with_files, ChangesOnly}
 use Rattle.fri_outside.specs.declared.files.WriteError.{WriteError}
 use Rattle.fri_outside.specs.declared.files.WriteError.TheVariants as writing
@@ -117,6 +117,28 @@ Raises old new refusal.ReadFault = Rose old.reads new.reads
 Raises old new refusal.WriteFault = Rose old.writes new.writes
 Raises old new refusal.NoMemory = Unit {0}
 
+-- how many reads failed once a command, or a part of one, came to this: a fault that ended it was counted once, and no
+-- other was
+abbrev pub reads_after : {T : Type 0} → ℕ → Result T Refusal → ℕ
+reads_after count (Err refusal.ReadFault) = raised count
+reads_after count result = count
+
+-- how many writes failed, alike
+abbrev pub writes_after : {T : Type 0} → ℕ → Result T Refusal → ℕ
+writes_after count (Err refusal.WriteFault) = raised count
+writes_after count result = count
+
+-- no miss was counted where it came to a value
+abbrev pub KeepsMisses : {T : Type 0} → Counts → Counts → Result T Refusal → Type 0
+KeepsMisses old new (Ok value) = new.misses ≡ old.misses
+KeepsMisses old new (Err e) = Unit {0}
+
+-- the counts of files, once it came to this
+pub record CountsFaults {T : Type 0} (old new : Counts) (result : Result T Refusal) : Type 0 where
+  pub reads : new.reads ≡ reads_after old.reads result
+  pub writes : new.writes ≡ writes_after old.writes result
+  pub misses : KeepsMisses old new result
+
 -- no file changed where a command found no file or could not read, whatever the folder
 abbrev pub Keeps : Result Answer Refusal → Option Folder → Option Folder → Type 0
 Keeps (Err (refusal.Absent file)) before after = after ≡ before
@@ -154,6 +176,11 @@ FaultStatus (Err refusal.WriteFault) answer = answer ≡ ends.WriteFault
 FaultStatus (Err refusal.NoMemory) answer = answer ≡ ends.NoMemory
 FaultStatus result answer = Unit {0}
 
+-- how many writes of a sink failed by a call that ended so: one, exactly where it ended for that
+abbrev pub said_after : ℕ → Status → ℕ
+said_after count ends.WriteFault = raised count
+said_after count answer = count
+
 -- what a command's result comes to, with its text written
 pub record FinishesCall (ended : Result Answer Refusal) (answer : Status) (before after : Option (List ℕ)) (faults_before faults_after : ℕ) : Type 0 where
   pub status : IfSome (status_and_text ended) (λ a. IsAnswerStatus answer → answer ≡ a.0)
@@ -162,3 +189,5 @@ pub record FinishesCall (ended : Result Answer Refusal) (answer : Status) (befor
   pub fault : FaultStatus ended answer
   pub read_fault : IfSome (status_and_text ended) (λ _. answer ≢ ends.ReadFault)
   pub write_fault : IfSome (status_and_text ended) (λ _. answer ≡ ends.WriteFault → Rose faults_before faults_after)
+  pub counted : IfSome (status_and_text ended) (λ _. faults_after ≡ said_after faults_before answer)
+  pub quiet : IfNone (status_and_text ended) (faults_after ≡ faults_before)

@@ -1,13 +1,14 @@
 -- What is said of the input of a session, and of what is answered before more of it is asked for.
-use Rattle.std.specs.Prelude.{◌≡◌, ◌≢◌, ◌⊎◌, ◌≤◌, ℕ, ◌+◌, List, ◌++◌, length, Option, Some, None, true, false}
+use Rattle.std.specs.Prelude.{◌≡◌, ◌≢◌, ◌⊎◌, ◌≤◌, ℕ, ◌+◌, List, [], ◌∷◌, ◌++◌, length, Option, Some, None, true, false}
 use Rattle.std.specs.Io.KnownBytes.{append_known}
-use Rattle.fri_outside.specs.Outside.{Folder, Rose, WhenTold}
+use Rattle.fri_outside.specs.Outside.{Folder, WhenTold, raised}
+use Rattle.fri_outside.specs.Terminal.{Asking, Hearing, given_in}
 use Rattle.proc_replay.specs.Replaying.{Replaying}
 use Rattle.friday_shell.specs.Session.{ends, opening, session_text, whole_lines}
 use Rattle.friday_app.specs.declared.refusal.Reason.TheVariants as reason
 use Rattle.friday_app.specs.declared.status.Status.{Status}
 use Rattle.friday_app.specs.declared.status.Status.TheVariants as status
-use Rattle.friday_app.specs.Call.{IsAnswerStatus, Prints}
+use Rattle.friday_app.specs.Call.{IsAnswerStatus, Prints, said_after}
 use Rattle.friday_app.specs.Command.{Command, Debug, Pair, Record, Replay}
 use Rattle.friday_app.specs.Debug.{input_name, is_large, session_outcome}
 use Rattle.friday_app.specs.Limits.{most_input}
@@ -46,6 +47,28 @@ pub record HasAnswered (start : List Replaying) (input : List ℕ) (after printe
   pub text : printed_after ≡ append_known printed (session_text start (whole_lines taken))
   pub goes_on : ends (opening start) (whole_lines taken) ≡ false
 
+-- ---- in which order
+
+-- when more was asked for all whole lines that had been typed were answered, and none of them ends the session. No more
+-- than this came
+pub record IsInTurn (start : List Replaying) (printed : Option (List ℕ)) (typed : List ℕ) (asking : Asking) : Type 0 where
+  pub answered : asking.said ≡ append_known printed (session_text start (whole_lines typed))
+  pub goes_on : ends (opening start) (whole_lines typed) ≡ false
+  pub short : length asking.given ≤ 4096
+
+-- so it was each time, where this had been typed before the first
+abbrev pub AreInTurn : List Replaying → Option (List ℕ) → List ℕ → List Asking → Type 0
+AreInTurn start printed typed [] = Unit {0}
+AreInTurn start printed typed (asking ∷ later) = IsInTurn start printed typed asking × AreInTurn start printed (typed ++ asking.given) later
+
+-- of a terminal that tells when it was read, each time of this session is one in turn, and what came is what was taken
+-- of the input
+pub record TakesTurns (start : List Replaying) (before after : Hearing) (printed : Option (List ℕ)) (earlier : List Asking) : Type 0 where
+  pub askings : List Asking
+  pub noted : after.asked ≡ Some (earlier ++ askings)
+  pub in_turn : AreInTurn start printed [] askings
+  pub taken : WhenTold before.left (λ input. TakesOfInput input after.left (given_in askings))
+
 -- ---- what a session says, which begins over these replays
 
 -- a sink took the line that says of the input that it is too large
@@ -59,36 +82,39 @@ IsNone status.Usage = Unit {0}
 IsNone status.Absent = Unit {0}
 IsNone answer = ⊥
 
+-- how many reads of an input failed by a session that ended so: one, exactly where it ended for that
+abbrev pub heard_after : ℕ → Status → ℕ
+heard_after count status.ReadFault = raised count
+heard_after count answer = count
+
 -- a session read an input, answered it, and ended with this status
-pub record Converses (start : List Replaying) (left after printed printed_after : Option (List ℕ))
-    (faults faults_after out_faults out_faults_after : ℕ) (answer : Status) : Type 0 where
-  pub ended : WhenTold left (λ input. IsAnswerStatus answer → answer ≡ outcome_status (session_outcome start input))
-  pub text : WhenTold left (λ input. Prints answer (outcome_text (session_outcome start input)) printed printed_after)
-  pub input : WhenTold left (λ input. HasRead start input after answer)
-  pub answered : answer ≡ status.ReadFault → WhenTold left (λ input. HasAnswered start input after printed printed_after)
+pub record Converses (start : List Replaying) (before after : Hearing) (printed printed_after : Option (List ℕ))
+    (out_faults out_faults_after : ℕ) (answer : Status) : Type 0 where
+  pub ended : WhenTold before.left (λ input. IsAnswerStatus answer → answer ≡ outcome_status (session_outcome start input))
+  pub text : WhenTold before.left (λ input. Prints answer (outcome_text (session_outcome start input)) printed printed_after)
+  pub input : WhenTold before.left (λ input. HasRead start input after.left answer)
+  pub turns : WhenTold before.asked (TakesTurns start before after printed)
+  pub answered : answer ≡ status.ReadFault → WhenTold before.left (λ input. HasAnswered start input after.left printed printed_after)
   pub other : IsNone answer → ⊥
   pub refused : answer ≡ status.Refused → SaysLarge printed printed_after
-  pub later : faults ≤ faults_after
-  pub read_fault : answer ≡ status.ReadFault → Rose faults faults_after
-  pub write_fault : answer ≡ status.WriteFault → Rose out_faults out_faults_after
+  pub reads : after.faults ≡ heard_after before.faults answer
+  pub writes : out_faults_after ≡ said_after out_faults answer
 
 -- ---- what each command says of the input
 
--- an input is as it was
-pub record Untouched (left_before left_after : Option (List ℕ)) (faults_before faults_after : ℕ) : Type 0 where
-  pub left : left_after ≡ left_before
-  pub faults : faults_after ≡ faults_before
-
--- a session read an input. It began over the replays of these pairs
-abbrev pub ReadsOpened : List Pair → Option Folder → Option (List ℕ) → Option (List ℕ) → Status → Type 0
-ReadsOpened pairs told left after answer = (start : List Replaying) × (WasOpened pairs told start × WhenTold left (λ input. HasRead start input after answer))
+-- a session read an input, by turns with what it printed. It began over the replays of these pairs
+pub record ReadsOpened (pairs : List Pair) (told : Option Folder) (before after : Hearing) (printed : Option (List ℕ)) (answer : Status) : Type 0 where
+  pub start : List Replaying
+  pub opened : WasOpened pairs told start
+  pub read : WhenTold before.left (λ input. HasRead start input after.left answer)
+  pub turns : WhenTold before.asked (TakesTurns start before after printed)
 
 -- only a session reads the input, and without one `debug` is not done
-abbrev pub KeepsInput : Option Command → Option Folder → Option (List ℕ) → Option (List ℕ) → Status → Type 0 → Type 0
-KeepsInput None told left after answer untouched = untouched
-KeepsInput (Some (Record images schedule_name)) told left after answer untouched = untouched
-KeepsInput (Some (Replay images pairs)) told left after answer untouched = untouched
-KeepsInput (Some (Debug pairs)) told left after answer untouched = (untouched × (answer ≢ status.Done)) ⊎ ReadsOpened pairs told left after answer
+abbrev pub KeepsInput : Option Command → Option Folder → Hearing → Hearing → Option (List ℕ) → Status → Type 0
+KeepsInput None told before after printed answer = after ≡ before
+KeepsInput (Some (Record images schedule_name)) told before after printed answer = after ≡ before
+KeepsInput (Some (Replay images pairs)) told before after printed answer = after ≡ before
+KeepsInput (Some (Debug pairs)) told before after printed answer = ((after ≡ before) × (answer ≢ status.Done)) ⊎ ReadsOpened pairs told before after printed answer
 
 -- where a read of the input failed, and none of a file, the session had begun, and all that was taken was answered
 abbrev pub AnswersFirst : Option Command → Option Folder → Option (List ℕ) → Option (List ℕ) → Option (List ℕ) → Option (List ℕ) → Type 0

@@ -1,6 +1,6 @@
 -- What the values of the code stand for.
 use Rattle.std.specs.List.{AllByRecursion}
-use Rattle.std.specs.Prelude.{⊤, ◌≡◌, ◌≢◌, ℕ, List, [], ◌∷◌, map, Bool, true, false, Option, Some, Result, Ok, Err}
+use Rattle.std.specs.Prelude.{⊤, ◌≡◌, ◌≢◌, ◌≤◌, ℕ, List, [], ◌∷◌, length, map, Bool, true, false, Option, Some, Result, Ok, Err}
 use Rattle.fri_outside.specs.Outside.{Folder}
 use Rattle.fri_outside.specs.Several.{ChangesOnly, with_files}
 use Rattle.wasm_types.specs.Modules.{Module, module_of}
@@ -21,6 +21,7 @@ use Rattle.friday_app.specs.declared.refusal.Refusal.TheVariants as refusal
 use Rattle.friday_app.specs.Call.{RefusesFile}
 use Rattle.friday_app.specs.Command.{Command, Debug, Pair, Record, Replay}
 use Rattle.call_log.specs.Head.{IsHead}
+use Rattle.call_log.specs.Limits.{most_log}
 use Rattle.call_log.specs.Log.{head_at}
 use Rattle.friday_app.specs.Expected.{module_name, modules_of, schedule_in}
 use Rattle.friday_app.specs.Pairs.{Loaded}
@@ -46,6 +47,7 @@ pub record IsLoaded (l : LoadedFiles) (is : Loaded) : Type 0 where
   pub count : l.count ≡ is.head.count
   pub process : l.process ≡ is.head.process
   pub head_name : l.name ≡ is.head.name
+  pub within : length is.left ≤ most_log
 
 -- this is printed at the end, and says whether a log diverged
 abbrev pub Says : List ℕ → Bool → Answer → Type 0

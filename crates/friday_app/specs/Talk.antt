@@ -1,8 +1,9 @@
 -- How a session stands between the bytes that it takes, and how it stops.
-use Rattle.std.specs.Prelude.{◌≡◌, ◌⊎◌, ◌≤◌, ℕ, ◌+◌, Bool, true, false, List, [], ◌∷◌, ◌++◌, length, take, ⊤, Option, Result, Ok, Err}
+use Rattle.std.specs.Prelude.{◌≡◌, ◌⊎◌, ◌≤◌, ℕ, ◌+◌, Bool, true, false, List, [], ◌∷◌, ◌++◌, length, take, ⊤, Option, Some, Result, Ok, Err}
 use Rattle.std.specs.List.{list_any}
 use Rattle.std.specs.Io.KnownBytes.{append_known}
-use Rattle.fri_outside.specs.Outside.{WhenTold}
+use Rattle.fri_outside.specs.Outside.{WhenTold, after_sink_write, raised}
+use Rattle.fri_outside.specs.Terminal.{Asking, Hearing, given_in, with_asking}
 use Rattle.fri_outside.specs.declared.files.WriteError.{WriteError}
 use Rattle.fri_outside.specs.declared.files.WriteError.TheVariants as writing
 use Rattle.fri_text.specs.Line.{is_line_feed, lines_of}
@@ -12,10 +13,20 @@ use Rattle.friday_shell.specs.Points.{SessionState}
 use Rattle.friday_shell.specs.Session.{answers, ends, opening, session_text, whole_lines, whole_part}
 use Rattle.friday_app.specs.declared.converse.Ended.{Ended}
 use Rattle.friday_app.specs.declared.converse.Ended.TheVariants as cause
-use Rattle.friday_app.specs.Conversation.{Asks, TakesOfInput}
+use Rattle.friday_app.specs.Conversation.{AreInTurn, Asks, TakesOfInput}
 use Rattle.friday_app.specs.Debug.{early_lines, is_large, session_outcome}
 use Rattle.friday_app.specs.Limits.{most_input}
 use Rattle.friday_app.specs.Outcome.{outcome_text}
+
+-- how many writes failed once a session, or a part of one, came to this
+abbrev pub spoken_after : {T : Type 0} → ℕ → Result T Ended → ℕ
+spoken_after count (Err cause.WriteFault) = raised count
+spoken_after count result = count
+
+-- how many reads of the input failed, alike
+abbrev pub listened_after : {T : Type 0} → ℕ → Result T Ended → ℕ
+listened_after count (Err cause.ReadFault) = raised count
+listened_after count result = count
 
 -- how a failed write ends a session
 abbrev pub ended_by : WriteError → Ended
@@ -105,13 +116,15 @@ StopsIn bytes before now state begun count why =
 
 -- ---- a piece of the input
 
--- a piece was read and taken, or there was none left
-pub record Hears (start : List Replaying) (printed now : Option (List ℕ)) (state : SessionState) (begun : List ℕ) (count : ℕ)
-    (taken : List ℕ) (left left_after : Option (List ℕ)) (more : Bool) : Type 0 where
+-- a piece was read and taken, or there was none left. What had been printed before was noted with it
+pub record Hears (start : List Replaying) (printed before now : Option (List ℕ)) (state : SessionState) (begun : List ℕ) (count : ℕ)
+    (taken : List ℕ) (old new : Hearing) (more : Bool) (size : ℕ) : Type 0 where
   pub piece : List ℕ
+  pub short : length piece ≤ size
   pub stands : SessionStands start printed now state begun count (taken ++ piece)
-  pub read : WhenTold left (λ input. TakesOfInput input left_after piece)
-  pub at_end : more ≡ false → (piece ≡ []) × WhenTold left (λ input. input ≡ [])
+  pub read : WhenTold old.left (λ input. TakesOfInput input new.left piece)
+  pub noted : new.asked ≡ with_asking before piece old.asked
+  pub at_end : more ≡ false → (piece ≡ []) × WhenTold old.left (λ input. input ≡ [])
 
 -- all whole lines of these bytes are answered
 pub record Pauses (start : List Replaying) (printed now : Option (List ℕ)) (taken : List ℕ) : Type 0 where
@@ -127,26 +140,30 @@ StopsAtPiece start printed now taken cause.ReadFault = Pauses start printed now 
 StopsAtPiece start printed now taken cause.WriteFault = SaysPart start printed now taken
 StopsAtPiece start printed now taken cause.NoMemory = SaysPart start printed now taken
 
+-- this piece came and was noted, or none came
+abbrev pub NotesPiece : Option (List ℕ) → List ℕ → Option (List Asking) → Option (List Asking) → Type 0
+NotesPiece before piece asked asked_after = (asked_after ≡ with_asking before piece asked) ⊎ ((piece ≡ []) × (asked_after ≡ asked))
+
 -- no piece was read, or the session stopped in it
-pub record Breaks (start : List Replaying) (printed now : Option (List ℕ)) (taken : List ℕ)
-    (left left_after : Option (List ℕ)) (size : ℕ) (why : Ended) : Type 0 where
+pub record Breaks (start : List Replaying) (printed before now : Option (List ℕ)) (taken : List ℕ) (old new : Hearing) (size : ℕ) (why : Ended) : Type 0 where
   pub piece : List ℕ
   pub short : length piece ≤ size
-  pub read : WhenTold left (λ input. TakesOfInput input left_after piece)
+  pub read : WhenTold old.left (λ input. TakesOfInput input new.left piece)
+  pub noted : NotesPiece before piece old.asked new.asked
   pub stops : StopsAtPiece start printed now (taken ++ piece) why
 
 -- from where a session stood on, it hears so
 unfoldable pub HearsFrom : Option (List ℕ) → Option (List ℕ) → SessionState → List ℕ → ℕ
-    → SessionState → List ℕ → ℕ → Option (List ℕ) → Option (List ℕ) → Bool → Type 0
-HearsFrom before now state begun count new new_begun new_count left left_after more =
+    → SessionState → List ℕ → ℕ → Hearing → Hearing → Bool → ℕ → Type 0
+HearsFrom before now state begun count state_after begun_after count_after old new more size =
     (start : List Replaying) (printed : Option (List ℕ)) (taken : List ℕ)
-    → SessionStands start printed before state begun count taken → Hears start printed now new new_begun new_count taken left left_after more
+    → SessionStands start printed before state begun count taken → Hears start printed before now state_after begun_after count_after taken old new more size
 
 -- from where a session stood on, it breaks so
-unfoldable pub BreaksFrom : Option (List ℕ) → Option (List ℕ) → SessionState → List ℕ → ℕ → Option (List ℕ) → Option (List ℕ) → ℕ → Ended → Type 0
-BreaksFrom before now state begun count left left_after size why =
+unfoldable pub BreaksFrom : Option (List ℕ) → Option (List ℕ) → SessionState → List ℕ → ℕ → Hearing → Hearing → ℕ → Ended → Type 0
+BreaksFrom before now state begun count old new size why =
     (start : List Replaying) (printed : Option (List ℕ)) (taken : List ℕ)
-    → SessionStands start printed before state begun count taken → Breaks start printed now taken left left_after size why
+    → SessionStands start printed before state begun count taken → Breaks start printed before now taken old new size why
 
 -- ---- the whole session
 
@@ -174,19 +191,27 @@ Said start printed now taken input cause.ReadFault = Pauses start printed now ta
 Said start printed now taken input cause.WriteFault = SaysSome start printed now input
 Said start printed now taken input cause.NoMemory = SaysSome start printed now input
 
+-- these bytes came in turn, each piece once all whole lines before it were answered
+pub record CameInTurn (start : List Replaying) (printed : Option (List ℕ)) (taken : List ℕ) (earlier : List Asking) (asked_after : Option (List Asking)) : Type 0 where
+  pub askings : List Asking
+  pub noted : asked_after ≡ Some (earlier ++ askings)
+  pub in_turn : AreInTurn start printed [] askings
+  pub given : given_in askings ≡ taken
+
 -- a session over these replays read some of an input, and is over
-pub record SessionHolds (start : List Replaying) (left left_after printed now : Option (List ℕ)) (why : Ended) : Type 0 where
+pub record SessionHolds (start : List Replaying) (old new : Hearing) (printed now : Option (List ℕ)) (why : Ended) : Type 0 where
   pub taken : List ℕ
   pub asks : Asks start taken
-  pub read : WhenTold left (λ input. TakesOfInput input left_after taken)
-  pub said : WhenTold left (λ input. Said start printed now taken input why)
+  pub read : WhenTold old.left (λ input. TakesOfInput input new.left taken)
+  pub turns : WhenTold old.asked (λ earlier. CameInTurn start printed taken earlier new.asked)
+  pub said : WhenTold old.left (λ input. Said start printed now taken input why)
   pub large : why ≡ cause.TooLarge → (earlier : List ℕ) × (now ≡ append_known printed earlier)
 
 -- from its opening on, a session is held so
-unfoldable pub HoldsFrom : Option (List ℕ) → Option (List ℕ) → SessionState → List ℕ → ℕ → Option (List ℕ) → Option (List ℕ) → Ended → Type 0
-HoldsFrom before now state begun count left left_after why =
+unfoldable pub HoldsFrom : Option (List ℕ) → Option (List ℕ) → SessionState → List ℕ → ℕ → Hearing → Hearing → Ended → Type 0
+HoldsFrom before now state begun count old new why =
     (start : List Replaying) (printed : Option (List ℕ))
-    → SessionStands start printed before state begun count [] → SessionHolds start left left_after printed now why
+    → SessionStands start printed before state begun count [] → SessionHolds start old new printed now why
 
 -- a session is open, and no byte was taken
 unfoldable pub Opens : List Replaying → Option (List ℕ) → Option (List ℕ) → SessionState → List ℕ → ℕ → Type 0
@@ -197,5 +222,5 @@ unfoldable pub OpensPart : List Replaying → Option (List ℕ) → Option (List
 OpensPart start printed now why = SaysPart start printed now [] × FailsAtOpening why
 
 -- a session was held
-unfoldable pub Held : List Replaying → Option (List ℕ) → Option (List ℕ) → Option (List ℕ) → Option (List ℕ) → Ended → Type 0
-Held start left left_after printed now why = SessionHolds start left left_after printed now why
+unfoldable pub Held : List Replaying → Hearing → Hearing → Option (List ℕ) → Option (List ℕ) → Ended → Type 0
+Held start old new printed now why = SessionHolds start old new printed now why

@@ -1,17 +1,16 @@
 // A session that is read from an input, and answered line by line.
-ghost use Rattle.std.specs.Prelude.{◌≡◌, ◌∷◌, ◌≤◌, ◌<◌, ◌+◌, [], length, take, IfOk, IsErrOf, IsTrue, MatchResult};
-ghost use Rattle.fri_outside.specs.Outside.{HasCause, Rose};
+ghost use Rattle.std.specs.Prelude.{◌≡◌, ◌∷◌, ◌≤◌, ◌<◌, ◌+◌, [], length, take, IfOk, IsTrue, MatchResult};
 ghost use Rattle.fri_text.specs.Line.{lines_of};
 ghost use Rattle.group_state.specs.Place.{AreParts};
 ghost use Rattle.friday_app.specs.declared.converse.Ended.TheVariants as cause;
 ghost use Rattle.friday_app.specs.Conversation.{Converses};
-ghost use Rattle.friday_app.specs.Talk.{BreaksFrom, GoesOn, HearsFrom, Held, HoldsFrom, Opens, OpensPart, Spoke, StopsIn, ended_by, why_of};
+ghost use Rattle.friday_app.specs.Talk.{BreaksFrom, GoesOn, HearsFrom, Held, HoldsFrom, Opens, OpensPart, Spoke, StopsIn, ended_by, listened_after, spoken_after, why_of};
 
 use crate::finish::say_refused;
 use crate::refusal::Reason;
 use crate::status::Status;
 use fri_bytes::Cursor;
-use fri_outside::{Failed, Sink, Source, WriteError, write_whole};
+use fri_outside::{Failed, Sink, Terminal, WriteError, write_whole};
 use fri_text::next_line;
 use friday_shell::{Go, Session};
 use group_state::Group;
@@ -88,7 +87,8 @@ fn begin<'m, 'a, K: Sink>(
         (λ talk. Opens parts.entry.items (K.taken out.old) (K.taken out.new) talk.session talk.begun.items talk.count)
         (OpensPart parts.entry.items (K.taken out.old) (K.taken out.new)) }
     ensures count { IfOk result (λ talk. talk.count ≡ 0) }
-    ensures faults { HasCause Ended.WriteFault (K.faults out.old) (K.faults out.new) result }
+    ensures counted { K.faults out.new ≡ spoken_after (K.faults out.old) result }
+    ensures heard { K.hearing out.new ≡ K.hearing out.old }
 {
     let group = Group::begin(alloc, parts)?;
     let (session, text) = Session::begin(alloc, group)?;
@@ -108,7 +108,8 @@ fn answer<'m, 'a, K: Sink>(
     out: &mut K,
 ) -> Result<Session<'m, 'a>, Ended>
     ensures said { Spoke session.entry (take 1 (lines_of bytes.now)) (K.taken out.old) (K.taken out.new) result }
-    ensures faults { HasCause Ended.WriteFault (K.faults out.old) (K.faults out.new) result }
+    ensures counted { K.faults out.new ≡ spoken_after (K.faults out.old) result }
+    ensures heard { K.hearing out.new ≡ K.hearing out.old }
 {
     let Some(line) = next_line(&mut Cursor::new(bytes)) else {
         return Ok(session);
@@ -134,7 +135,8 @@ fn take_byte<'m, 'a, K: Sink>(
         (StopsIn (b ∷ []) (K.taken out.old) (K.taken out.new) talk.entry.session talk.entry.begun.items talk.entry.count) }
     ensures count { IfOk result (λ new. new.count ≡ talk.entry.count + 1) }
     ensures within { IfOk result (λ new. new.count ≤ INPUT_LIMIT) }
-    ensures faults { HasCause Ended.WriteFault (K.faults out.old) (K.faults out.new) result }
+    ensures counted { K.faults out.new ≡ spoken_after (K.faults out.old) result }
+    ensures heard { K.hearing out.new ≡ K.hearing out.old }
 {
     let Talk {
         session,
@@ -175,7 +177,8 @@ fn take_piece<'m, 'a, K: Sink>(
         (StopsIn piece.now (K.taken out.old) (K.taken out.new) talk.entry.session talk.entry.begun.items talk.entry.count) }
     ensures count { IfOk result (λ new. new.count ≡ talk.entry.count + length piece.now) }
     ensures within { IfOk result (λ new. new.count ≤ INPUT_LIMIT) }
-    ensures faults { HasCause Ended.WriteFault (K.faults out.old) (K.faults out.new) result }
+    ensures counted { K.faults out.new ≡ spoken_after (K.faults out.old) result }
+    ensures heard { K.hearing out.new ≡ K.hearing out.old }
 {
     let mut talk = talk;
     for b in piece {
@@ -185,52 +188,44 @@ fn take_piece<'m, 'a, K: Sink>(
 }
 
 // Reads a piece of the input and takes it. False comes at the end of the input, where there is none.
-fn hear<'m, 'a, S: Source, K: Sink>(
+fn hear<'m, 'a, T: Terminal>(
     alloc: Global,
     talk: Talk<'m, 'a>,
     piece: &mut [u8],
-    input: &mut S,
-    out: &mut K,
+    io: &mut T,
 ) -> Result<(Talk<'m, 'a>, bool), Ended>
     requires within { talk.count ≤ INPUT_LIMIT }
     requires room { 0 < length piece.old }
     ensures said { MatchResult result
-        (λ heard. HearsFrom (K.taken out.old) (K.taken out.new) talk.entry.session talk.entry.begun.items talk.entry.count
-        heard.0.session heard.0.begun.items heard.0.count (S.left input.old) (S.left input.new) heard.1)
-        (BreaksFrom (K.taken out.old) (K.taken out.new) talk.entry.session talk.entry.begun.items talk.entry.count
-        (S.left input.old) (S.left input.new) (length piece.old)) }
+        (λ heard. HearsFrom (T.taken io.old) (T.taken io.new) talk.entry.session talk.entry.begun.items talk.entry.count
+        heard.0.session heard.0.begun.items heard.0.count (T.hearing io.old) (T.hearing io.new) heard.1 (length piece.old))
+        (BreaksFrom (T.taken io.old) (T.taken io.new) talk.entry.session talk.entry.begun.items talk.entry.count
+        (T.hearing io.old) (T.hearing io.new) (length piece.old)) }
     ensures count { IfOk result (λ heard. IsTrue heard.1 → talk.entry.count < heard.0.count) }
     ensures within { IfOk result (λ heard. heard.0.count ≤ INPUT_LIMIT) }
-    ensures later { S.faults input.old ≤ S.faults input.new }
-    ensures read_fault { IsErrOf result Ended.ReadFault → Rose (S.faults input.old) (S.faults input.new) }
-    ensures faults { HasCause Ended.WriteFault (K.faults out.old) (K.faults out.new) result }
+    ensures reads { (T.hearing io.new).faults ≡ listened_after (T.hearing io.old).faults result }
+    ensures counted { T.faults io.new ≡ spoken_after (T.faults io.old) result }
 {
-    let count = input.read(piece)?;
-    let talk = take_piece(alloc, talk, &piece[..count], out)?;
+    let count = io.read(piece)?;
+    let talk = take_piece(alloc, talk, &piece[..count], io)?;
     Ok((talk, count > 0))
 }
 
 // Answers what is typed, up to the end of the input or of the session.
-fn listen<S: Source, K: Sink>(
-    alloc: Global,
-    talk: Talk<'_, '_>,
-    input: &mut S,
-    out: &mut K,
-) -> Result<(), Ended>
+fn listen<T: Terminal>(alloc: Global, talk: Talk<'_, '_>, io: &mut T) -> Result<(), Ended>
     requires { talk.count ≡ 0 }
-    ensures said { HoldsFrom (K.taken out.old) (K.taken out.new) talk.entry.session talk.entry.begun.items talk.entry.count
-        (S.left input.old) (S.left input.new) (why_of result) }
-    ensures later { S.faults input.old ≤ S.faults input.new }
-    ensures read_fault { IsErrOf result Ended.ReadFault → Rose (S.faults input.old) (S.faults input.new) }
-    ensures faults { HasCause Ended.WriteFault (K.faults out.old) (K.faults out.new) result }
+    ensures said { HoldsFrom (T.taken io.old) (T.taken io.new) talk.entry.session talk.entry.begun.items talk.entry.count
+        (T.hearing io.old) (T.hearing io.new) (why_of result) }
+    ensures reads { (T.hearing io.new).faults ≡ listened_after (T.hearing io.old).faults result }
+    ensures counted { T.faults io.new ≡ spoken_after (T.faults io.old) result }
 {
     let mut talk = talk;
     let mut piece = [0; PIECE];
     'hearing: loop {
         let room = PIECE.min(INPUT_LIMIT + 1 - talk.count);
-        let (next, more) = hear(alloc, talk, &mut piece[..room], input, out)?;
+        let (next, more) = hear(alloc, talk, &mut piece[..room], io)?;
         if !more {
-            answer(alloc, next.session, next.begun.as_slice(), out)?;
+            answer(alloc, next.session, next.begun.as_slice(), io)?;
             return Ok(());
         }
         talk = next;
@@ -238,38 +233,31 @@ fn listen<S: Source, K: Sink>(
 }
 
 // Begins a session, and holds it to its end.
-fn hold<S: Source, K: Sink>(
-    alloc: Global,
-    parts: Vec<Replayer<'_, '_>>,
-    input: &mut S,
-    out: &mut K,
-) -> Result<(), Ended>
+fn hold<T: Terminal>(alloc: Global, parts: Vec<Replayer<'_, '_>>, io: &mut T) -> Result<(), Ended>
     requires { AreParts parts.items }
-    ensures said { Held parts.entry.items (S.left input.old) (S.left input.new) (K.taken out.old) (K.taken out.new) (why_of result) }
-    ensures later { S.faults input.old ≤ S.faults input.new }
-    ensures read_fault { IsErrOf result Ended.ReadFault → Rose (S.faults input.old) (S.faults input.new) }
-    ensures faults { HasCause Ended.WriteFault (K.faults out.old) (K.faults out.new) result }
+    ensures said { Held parts.entry.items (T.hearing io.old) (T.hearing io.new) (T.taken io.old) (T.taken io.new) (why_of result) }
+    ensures reads { (T.hearing io.new).faults ≡ listened_after (T.hearing io.old).faults result }
+    ensures counted { T.faults io.new ≡ spoken_after (T.faults io.old) result }
 {
-    let talk = begin(alloc, parts, out)?;
-    listen(alloc, talk, input, out)
+    let talk = begin(alloc, parts, io)?;
+    listen(alloc, talk, io)
 }
 
 /// Answers each whole line of the input before it asks for more, and ends after a line that ends the session, or
 /// behind the last line.
-pub(crate) fn converse<S: Source, K: Sink>(
+pub(crate) fn converse<T: Terminal>(
     alloc: Global,
     parts: Vec<Replayer<'_, '_>>,
-    input: &mut S,
-    out: &mut K,
+    io: &mut T,
 ) -> Status
     requires { AreParts parts.items }
-    ensures { Converses parts.entry.items (S.left input.old) (S.left input.new) (K.taken out.old) (K.taken out.new)
-        (S.faults input.old) (S.faults input.new) (K.faults out.old) (K.faults out.new) result }
+    ensures { Converses parts.entry.items (T.hearing io.old) (T.hearing io.new) (T.taken io.old) (T.taken io.new)
+        (T.faults io.old) (T.faults io.new) result }
 {
-    match hold(alloc, parts, input, out) {
+    match hold(alloc, parts, io) {
         Ok(()) => Status::Done,
         Err(Ended::Done) => Status::Done,
-        Err(Ended::TooLarge) => say_refused(alloc, "input", Reason::TooLarge, out),
+        Err(Ended::TooLarge) => say_refused(alloc, "input", Reason::TooLarge, io),
         Err(Ended::ReadFault) => Status::ReadFault,
         Err(Ended::WriteFault) => Status::WriteFault,
         Err(Ended::NoMemory) => Status::NoMemory,

@@ -9,28 +9,27 @@ use crate::converse::converse;
 use crate::finish::finish;
 use crate::pairs::{begin_all, load_all};
 use crate::status::Status;
-use fri_outside::{Files, Sink, Source};
+use fri_outside::{Files, Terminal};
 use std::alloc::Global;
 
 /// Begins the replays of the logs, and answers the lines of the input.
-pub fn debug<F: Files, S: Source, K: Sink>(
+pub fn debug<F: Files, T: Terminal>(
     alloc: Global,
     pairs: &[Pair<'_>],
     files: &mut F,
-    input: &mut S,
-    out: &mut K,
+    io: &mut T,
 ) -> Status
     ensures { CommandRun (Some (Debug (map pair_of pairs.now)))
-        (outside (F.told files.old) (F.counts files.old) (S.left input.old) (S.faults input.old) (K.taken out.old) (K.faults out.old))
-        (outside (F.told files.new) (F.counts files.new) (S.left input.new) (S.faults input.new) (K.taken out.new) (K.faults out.new))
+        (outside (F.told files.old) (F.counts files.old) (T.hearing io.old) (T.taken io.old) (T.faults io.old))
+        (outside (F.told files.new) (F.counts files.new) (T.hearing io.new) (T.taken io.new) (T.faults io.new))
         result }
 {
     let all = match load_all(alloc, pairs, files) {
         Ok(all) => all,
-        Err(refusal) => return finish(alloc, Err(refusal), out),
+        Err(refusal) => return finish(alloc, Err(refusal), io),
     };
     match begin_all(alloc, &all) {
-        Ok(parts) => converse(alloc, parts, input, out),
-        Err(refusal) => finish(alloc, Err(refusal), out),
+        Ok(parts) => converse(alloc, parts, io),
+        Err(refusal) => finish(alloc, Err(refusal), io),
     }
 }

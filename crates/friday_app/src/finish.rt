@@ -1,8 +1,7 @@
 // Writes the text that a call ends with, and gives its status.
-ghost use Rattle.std.specs.Prelude.{◌≡◌, ◌≢◌, ◌⊎◌, ◌++◌, IfOk, OnOk};
-ghost use Rattle.fri_outside.specs.Outside.{Rose};
+ghost use Rattle.std.specs.Prelude.{◌≡◌, ◌≢◌, ◌++◌, IfOk, OnOk};
 ghost use Rattle.friday_app.specs.Outcome.{reason_text, refused_line, absent_line};
-ghost use Rattle.friday_app.specs.Call.{IsAnswerStatus, Prints, FinishesCall};
+ghost use Rattle.friday_app.specs.Call.{IsAnswerStatus, Prints, FinishesCall, said_after};
 
 use crate::refusal::{Answer, Reason, Refusal};
 use crate::status::Status;
@@ -66,10 +65,12 @@ fn print_absent(alloc: Global, file: &str) -> Result<Text, AllocError>
 
 /// Writes a text, and gives the status that the call then has.
 pub fn say<K: Sink>(out: &mut K, text: &[u8], status: Status) -> Status
+    requires { IsAnswerStatus status }
     ensures status { IsAnswerStatus result → result ≡ status }
     ensures text { Prints result text.now (K.taken out.old) (K.taken out.new) }
-    ensures read_fault { result ≡ Status.ReadFault → status ≡ Status.ReadFault }
-    ensures write_fault { result ≡ Status.WriteFault → Rose (K.faults out.old) (K.faults out.new) ⊎ (status ≡ Status.WriteFault) }
+    ensures read_fault { result ≢ Status.ReadFault }
+    ensures counted { K.faults out.new ≡ said_after (K.faults out.old) result }
+    ensures heard { K.hearing out.new ≡ K.hearing out.old }
 {
     match write_whole(out, text) {
         Ok(()) => status,
@@ -83,7 +84,8 @@ pub fn say_refused<K: Sink>(alloc: Global, file: &str, reason: Reason, out: &mut
     ensures status { IsAnswerStatus result → result ≡ Status.Refused }
     ensures text { Prints result (refused_line file.now reason) (K.taken out.old) (K.taken out.new) }
     ensures read_fault { result ≢ Status.ReadFault }
-    ensures write_fault { result ≡ Status.WriteFault → Rose (K.faults out.old) (K.faults out.new) }
+    ensures counted { K.faults out.new ≡ said_after (K.faults out.old) result }
+    ensures heard { K.hearing out.new ≡ K.hearing out.old }
 {
     match print_refused(alloc, file, reason) {
         Ok(line) => say(out, line.bytes(), Status::Refused),
@@ -95,7 +97,8 @@ fn say_absent<K: Sink>(alloc: Global, file: &str, out: &mut K) -> Status
     ensures status { IsAnswerStatus result → result ≡ Status.Absent }
     ensures text { Prints result (absent_line file.now) (K.taken out.old) (K.taken out.new) }
     ensures read_fault { result ≢ Status.ReadFault }
-    ensures write_fault { result ≡ Status.WriteFault → Rose (K.faults out.old) (K.faults out.new) }
+    ensures counted { K.faults out.new ≡ said_after (K.faults out.old) result }
+    ensures heard { K.hearing out.new ≡ K.hearing out.old }
 {
     match print_absent(alloc, file) {
         Ok(line) => say(out, line.bytes(), Status::Absent),
@@ -105,7 +108,8 @@ fn say_absent<K: Sink>(alloc: Global, file: &str, out: &mut K) -> Status
 
 /// Writes what a command's result comes to.
 pub fn finish<K: Sink>(alloc: Global, ended: Result<Answer, Refusal>, out: &mut K) -> Status
-    ensures { FinishesCall ended result (K.taken out.old) (K.taken out.new) (K.faults out.old) (K.faults out.new) }
+    ensures ends { FinishesCall ended result (K.taken out.old) (K.taken out.new) (K.faults out.old) (K.faults out.new) }
+    ensures heard { K.hearing out.new ≡ K.hearing out.old }
 {
     match ended {
         Ok(Answer::Done(text)) => say(out, text.bytes(), Status::Done),

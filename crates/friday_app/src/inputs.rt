@@ -1,6 +1,6 @@
 // Reads the files that a command asks for.
-ghost use Rattle.std.specs.Prelude.{◌≡◌, ◌<◌, ◌≤◌, All, length, map, vec_len, Ok, IfOk, IfErr, MatchResult};
-ghost use Rattle.fri_outside.specs.Outside.{WhenTold, Counts, NoneFell};
+ghost use Rattle.std.specs.Prelude.{◌≡◌, ℕ, ◌<◌, ◌≤◌, All, length, map, vec_len, Ok, IfOk, IfErr, MatchResult};
+ghost use Rattle.fri_outside.specs.Outside.{WhenTold, Counts};
 ghost use Rattle.wasm_types.specs.Modules.{module_of as shown};
 ghost use Rattle.wasm_decode.specs.Sections.{module_of_bytes};
 ghost use Rattle.call_log.specs.Limits.{most_log};
@@ -11,7 +11,7 @@ ghost use Rattle.call_log.specs.Log.{head_at};
 ghost use Rattle.guest_process.specs.EventCount.{IsFresh};
 ghost use Rattle.friday_app.specs.Expected.{modules_of, schedule_in};
 ghost use Rattle.friday_app.specs.Inputs.{first_state_of, log_or_bad_head, module_in, spelled_module, valid_module};
-ghost use Rattle.friday_app.specs.Call.{StopsAs, Raises};
+ghost use Rattle.friday_app.specs.Call.{CountsFaults, StopsAs, Raises, reads_after, writes_after};
 
 use crate::refusal::{Reason, Refusal};
 use call_log::LogView;
@@ -41,7 +41,7 @@ pub fn take_file<F: Files>(
     ensures answer { WhenTold (F.told files.old) (λ folder. MatchResult result
         (λ bytes. file_of folder name.now limit ≡ Ok bytes.items) (StopsAs (file_of folder name.now limit))) }
     ensures same { F.told files.new ≡ F.told files.old }
-    ensures counts { NoneFell (F.counts files.old) (F.counts files.new) }
+    ensures counts { CountsFaults (F.counts files.old) (F.counts files.new) result }
     ensures cause { IfErr result (Raises (F.counts files.old) (F.counts files.new)) }
 {
     match files.read(alloc, name, limit) {
@@ -59,6 +59,7 @@ fn spelled(alloc: Global, name: &str, bytes: &[u8]) -> Result<Module, Refusal>
         (λ m. spelled_module name.now (module_of_bytes bytes.now) ≡ Ok (shown m))
         (StopsAs (spelled_module name.now (module_of_bytes bytes.now))) }
     ensures cause { (old new : Counts) → IfErr result (Raises old new) }
+    ensures still { (n : ℕ) → (reads_after n result ≡ n) × (writes_after n result ≡ n) }
 {
     match decode(alloc, bytes) {
         Ok(module) => Ok(module),
@@ -74,6 +75,7 @@ fn valid(alloc: Global, name: &str, module: Module) -> Result<ValidModule, Refus
         (λ v. valid_module name.now (shown «module») ≡ Ok (shown v))
         (StopsAs (valid_module name.now (shown «module»))) }
     ensures cause { (old new : Counts) → IfErr result (Raises old new) }
+    ensures still { (n : ℕ) → (reads_after n result ≡ n) × (writes_after n result ≡ n) }
 {
     exact_fault();
     match validate(alloc, module) {
@@ -93,6 +95,7 @@ fn read_module(alloc: Global, name: &str, bytes: &[u8]) -> Result<ValidModule, R
         (λ v. and_then (spelled_module name.now (module_of_bytes bytes.now)) (valid_module name.now) ≡ Ok (shown v))
         (StopsAs (and_then (spelled_module name.now (module_of_bytes bytes.now)) (valid_module name.now))) }
     ensures cause { (old new : Counts) → IfErr result (Raises old new) }
+    ensures still { (n : ℕ) → (reads_after n result ≡ n) × (writes_after n result ≡ n) }
 {
     let spelled = spelled(alloc, name, bytes)?;
     valid(alloc, name, spelled)
@@ -107,7 +110,7 @@ pub fn take_module<F: Files>(
     ensures answer { WhenTold (F.told files.old) (λ folder. MatchResult result
         (λ m. module_in folder name.now ≡ Ok (shown m)) (StopsAs (module_in folder name.now))) }
     ensures same { F.told files.new ≡ F.told files.old }
-    ensures counts { NoneFell (F.counts files.old) (F.counts files.new) }
+    ensures counts { CountsFaults (F.counts files.old) (F.counts files.new) result }
     ensures cause { IfErr result (Raises (F.counts files.old) (F.counts files.new)) }
 {
     let bytes = take_file(alloc, name, MODULE_LIMIT, files)?;
@@ -124,7 +127,7 @@ fn take_module_of<F: Files>(
     ensures answer { WhenTold (F.told files.old) (λ folder. MatchResult result
         (λ m. module_in folder line.now.«module» ≡ Ok (shown m)) (StopsAs (module_in folder line.now.«module»))) }
     ensures same { F.told files.new ≡ F.told files.old }
-    ensures counts { NoneFell (F.counts files.old) (F.counts files.new) }
+    ensures counts { CountsFaults (F.counts files.old) (F.counts files.new) result }
     ensures cause { IfErr result (Raises (F.counts files.old) (F.counts files.new)) }
 {
     let file = String::from_utf8_lossy(alloc, line.module.as_slice())?;
@@ -142,7 +145,7 @@ pub fn take_modules<F: Files>(
         (λ modules. modules_of folder lines.now ≡ Ok (map shown modules.items)) (StopsAs (modules_of folder lines.now))) }
     ensures count { IfOk result (λ modules. length modules.items ≡ length lines.now) }
     ensures same { F.told files.new ≡ F.told files.old }
-    ensures counts { NoneFell (F.counts files.old) (F.counts files.new) }
+    ensures counts { CountsFaults (F.counts files.old) (F.counts files.new) result }
     ensures cause { IfErr result (Raises (F.counts files.old) (F.counts files.new)) }
 {
     let mut modules = Vec::new(alloc);
@@ -167,6 +170,7 @@ pub fn begin_process<'m>(
         (StopsAs (first_state_of name.now (shown «module».now) who count)) }
     ensures fresh { IfOk result (IsFresh who count) }
     ensures cause { (old new : Counts) → IfErr result (Raises old new) }
+    ensures still { (n : ℕ) → (reads_after n result ≡ n) × (writes_after n result ≡ n) }
 {
     counting();
     match Process::start(alloc, module, who, count) {
@@ -186,7 +190,7 @@ pub fn take_schedule<F: Files>(
     ensures answer { WhenTold (F.told files.old) (λ folder. MatchResult result
         (λ schedule. schedule_in folder name.now ≡ Ok schedule) (StopsAs (schedule_in folder name.now))) }
     ensures same { F.told files.new ≡ F.told files.old }
-    ensures counts { NoneFell (F.counts files.old) (F.counts files.new) }
+    ensures counts { CountsFaults (F.counts files.old) (F.counts files.new) result }
     ensures cause { IfErr result (Raises (F.counts files.old) (F.counts files.new)) }
 {
     let bytes = take_file(alloc, name, SCHEDULE_LIMIT, files)?;
@@ -204,8 +208,9 @@ pub fn take_schedule<F: Files>(
 pub fn take_log<F: Files>(alloc: Global, name: &str, files: &mut F) -> Result<Vec<u8>, Refusal>
     ensures answer { WhenTold (F.told files.old) (λ folder. MatchResult result
         (λ bytes. file_of folder name.now most_log ≡ Ok bytes.items) (StopsAs (file_of folder name.now most_log))) }
+    ensures within { IfOk result (λ bytes. vec_len bytes ≤ most_log) }
     ensures same { F.told files.new ≡ F.told files.old }
-    ensures counts { NoneFell (F.counts files.old) (F.counts files.new) }
+    ensures counts { CountsFaults (F.counts files.old) (F.counts files.new) result }
     ensures cause { IfErr result (Raises (F.counts files.old) (F.counts files.new)) }
 {
     take_file(alloc, name, LOG_LIMIT, files)
@@ -217,7 +222,9 @@ pub fn begin_log<'b>(alloc: Global, name: &str, bytes: &'b [u8]) -> Result<LogVi
     ensures answer { MatchResult result
         (λ log. log_or_bad_head name.now (head_at bytes.now) ≡ Ok (log.head, log.left))
         (StopsAs (log_or_bad_head name.now (head_at bytes.now))) }
+    ensures shorter { IfOk result (λ log. length log.left ≤ length bytes.now) }
     ensures cause { (old new : Counts) → IfErr result (Raises old new) }
+    ensures still { (n : ℕ) → (reads_after n result ≡ n) × (writes_after n result ≡ n) }
 {
     match LogView::begin(bytes) {
         Ok(log) => Ok(log),

@@ -4,7 +4,7 @@ ghost use Rattle.friday_app.specs.Valid.{HasWork};
 
 use call_log::exact_logs;
 use fri_outside::keeps_files;
-use group_record::{agreement, beginning, delivery};
+use group_record::{agreement, beginning, delivery, taking};
 use schedule_text::exact_outcome;
 use wasm_decode::module_is_spelled;
 use wasm_validate::exact_fault;
@@ -20,8 +20,8 @@ pub fn has_work()
     exact_outcome();
 }
 
-/// The logs of a recording tell its events at each moment, and each datagram that was taken came from
-/// outside or is one that was sent.
+/// The logs of a recording tell its events at each moment, also where the next entry stands behind one in part. Each
+/// datagram that was taken came from outside or is one that was sent; what waits is taken, and nothing twice.
 pub fn recordings_agree()
     ensures { RecordingsAgree }
 {
@@ -30,4 +30,5 @@ pub fn recordings_agree()
     beginning();
     agreement();
     delivery();
+    taking();
 }

@@ -1,10 +1,10 @@
 // The modules and logs of a group, and the replays of the logs.
-ghost use Rattle.std.specs.Prelude.{◌≡◌, ◌≢◌, [], List, None, Ok, All, IfErr, IfOk, IfSome, MatchResult, OnOk, length, map, nat_lt};
+ghost use Rattle.std.specs.Prelude.{◌≡◌, ℕ, ◌≢◌, [], List, None, Ok, All, IfErr, IfOk, IfSome, MatchResult, OnOk, length, map, nat_lt};
 ghost use Rattle.std.specs.List.{take_while};
-ghost use Rattle.fri_outside.specs.Outside.{Counts, WhenTold, NoneFell};
+ghost use Rattle.fri_outside.specs.Outside.{Counts, WhenTold};
 ghost use Rattle.call_log.specs.Head.{IsHead, head_of};
 ghost use Rattle.group_state.specs.Place.{AreParts};
-ghost use Rattle.friday_app.specs.Call.{StopsAs, Raises};
+ghost use Rattle.friday_app.specs.Call.{CountsFaults, StopsAs, Raises, reads_after, writes_after};
 ghost use Rattle.friday_app.specs.Pairs.{Loaded as LoadedOf, clash, has_name, has_process, insert_replay, is_other_group, loaded_pair, loaded_pairs, replay_of_log, replays_of, sort_replays};
 ghost use Rattle.proc_replay.specs.Replaying.{Replaying};
 ghost use Rattle.friday_app.specs.Seen.{AreLoaded, AreOneGroup, IsLoaded, pair_of};
@@ -85,7 +85,7 @@ fn load<'a, F: Files>(
     ensures fits { IfOk result (λ l. (ls : List LoadedOf) → AreLoaded earlier.now ls
         → (is : LoadedOf) × (IsLoaded l is × (clash ls is.head ≡ None))) }
     ensures same { F.told files.new ≡ F.told files.old }
-    ensures counts { NoneFell (F.counts files.old) (F.counts files.new) }
+    ensures counts { CountsFaults (F.counts files.old) (F.counts files.new) result }
     ensures cause { IfErr result (Raises (F.counts files.old) (F.counts files.new)) }
 {
     let module = take_module(alloc, pair.module_file, files)?;
@@ -118,7 +118,7 @@ pub(crate) fn load_all<'a, F: Files>(
     ensures loaded { IfOk result (λ all. (ls : List LoadedOf) × AreLoaded all.items ls) }
     ensures apart { IfOk result (λ all. AreOneGroup all.items) }
     ensures same { F.told files.new ≡ F.told files.old }
-    ensures counts { NoneFell (F.counts files.old) (F.counts files.new) }
+    ensures counts { CountsFaults (F.counts files.old) (F.counts files.new) result }
     ensures cause { IfErr result (Raises (F.counts files.old) (F.counts files.new)) }
 {
     let mut all = Vec::new(alloc);
@@ -136,6 +136,7 @@ fn begin_replay<'m>(alloc: Global, loaded: &'m Loaded<'_>) -> Result<Replayer<'m
         (λ replay. replay_of_log is ≡ Ok replay) (StopsAs (replay_of_log is)) }
     ensures fresh { IfOk result (λ replay. replay.state.events ≡ 0) }
     ensures cause { (old new : Counts) → IfErr result (Raises old new) }
+    ensures still { (n : ℕ) → (reads_after n result ≡ n) × (writes_after n result ≡ n) }
 {
     let Ok(log) = LogView::begin(&loaded.log) else {
         unreachable!();
@@ -182,6 +183,7 @@ pub(crate) fn begin_all<'m>(
     ensures parts { IfOk result (λ replays. AreParts replays.items) }
     ensures heads { IfOk result (λ replays. All (λ r. IsHead r.head) replays.items) }
     ensures cause { (old new : Counts) → IfErr result (Raises old new) }
+    ensures still { (n : ℕ) → (reads_after n result ≡ n) × (writes_after n result ≡ n) }
 {
     let mut sorted = Vec::new(alloc);
     for loaded in all {

@@ -1,14 +1,14 @@
 // `record [--images] SCHEDULE`: runs a group as the schedule says, and writes the log of each
 // process, and the images where they are asked for.
 ghost use Rattle.std.specs.Prelude.{◌≡◌, ◌<◌, Bool, ℕ, None, length, map, option_map, IfErr, IfOk, MatchResult};
-ghost use Rattle.fri_outside.specs.Outside.{WhenTold, NoneFell};
+ghost use Rattle.fri_outside.specs.Outside.{WhenTold};
 ghost use Rattle.fri_outside.specs.Several.{OthersStay};
 ghost use Rattle.wasm_types.specs.Modules.{module_of as shown};
 ghost use Rattle.group_record.specs.Answer.{StoppedWhere, first_states};
 ghost use Rattle.friday_app.specs.Outcome.{writes_of, written_names};
 ghost use Rattle.friday_app.specs.Expected.{group_outcome, module_name, record_outcome};
 ghost use Rattle.friday_app.specs.Agreement.{LeavesMoment, LeavesRecording};
-ghost use Rattle.friday_app.specs.Call.{StopsAs, TellsOutcome, Makes, Keeps, DivergesOnlyIn, IsAnswerResult, RefusesFile, Raises};
+ghost use Rattle.friday_app.specs.Call.{CountsFaults, StopsAs, TellsOutcome, Makes, Keeps, DivergesOnlyIn, IsAnswerResult, RefusesFile, Raises};
 ghost use Rattle.friday_app.specs.Seen.{Gathers, RefusesAs};
 
 use crate::inputs::{take_modules, take_schedule};
@@ -65,7 +65,7 @@ fn gather<F: Files>(alloc: Global, schedule_file: &str, files: &mut F) -> Result
         (λ e. (images : Bool) → StopsAs (record_outcome images schedule_file.now folder) e)) }
     ensures count { IfOk result (λ inputs. length inputs.modules.items ≡ length inputs.schedule.processes) }
     ensures same { F.told files.new ≡ F.told files.old }
-    ensures counts { NoneFell (F.counts files.old) (F.counts files.new) }
+    ensures counts { CountsFaults (F.counts files.old) (F.counts files.new) result }
     ensures cause { IfErr result (Raises (F.counts files.old) (F.counts files.new)) }
 {
     let schedule = take_schedule(alloc, schedule_file, files)?;
@@ -89,7 +89,7 @@ fn record_group<F: Files>(
     ensures stopped { StoppedWhere schedule.now images (first_states schedule.now (map shown modules.now)) (F.told files.old) (F.told files.new) }
     ensures keeps { Keeps result (F.told files.old) (F.told files.new) }
     ensures done { DivergesOnlyIn None result }
-    ensures counts { NoneFell (F.counts files.old) (F.counts files.new) }
+    ensures counts { CountsFaults (F.counts files.old) (F.counts files.new) result }
     ensures cause { IfErr result (Raises (F.counts files.old) (F.counts files.new)) }
 {
     keeps_files();
@@ -118,7 +118,7 @@ pub fn record<F: Files>(
     ensures done { DivergesOnlyIn None result }
     ensures recorded { IsAnswerResult result → WhenTold (F.told files.old) (λ before. WhenTold (F.told files.new) (LeavesRecording schedule_file.now before)) }
     ensures moment { WhenTold (F.told files.old) (λ before. LeavesMoment images schedule_file.now before (F.told files.new)) }
-    ensures counts { NoneFell (F.counts files.old) (F.counts files.new) }
+    ensures counts { CountsFaults (F.counts files.old) (F.counts files.new) result }
     ensures cause { IfErr result (Raises (F.counts files.old) (F.counts files.new)) }
 {
     keeps_files();

@@ -1,9 +1,9 @@
 // `replay [--images] MODULE LOG ..`: the events of a group's logs, made again.
 ghost use Rattle.std.specs.Prelude.{◌≡◌, All, List, map, option_map, IfErr};
-ghost use Rattle.fri_outside.specs.Outside.{WhenTold, NoneFell};
+ghost use Rattle.fri_outside.specs.Outside.{WhenTold};
 ghost use Rattle.fri_outside.specs.Several.{ChangesOnly, OthersStay, with_files};
 ghost use Rattle.call_log.specs.Head.{IsHead};
-ghost use Rattle.friday_app.specs.Call.{DivergesOnlyIn, Keeps, Makes, Raises, TellsOutcome};
+ghost use Rattle.friday_app.specs.Call.{CountsFaults, DivergesOnlyIn, Keeps, Makes, Raises, TellsOutcome};
 ghost use Rattle.friday_app.specs.Command.{Replay};
 ghost use Rattle.friday_app.specs.Expected.{replay_outcome};
 ghost use Rattle.friday_app.specs.Outcome.{writes_of, written_names};
@@ -27,7 +27,7 @@ fn write_images<F: Files>(
 ) -> Result<(), Refusal>
     requires { All (λ r. IsHead r.head) group.now.start }
     ensures made { MakesAll result (images_in group.now.start) (F.told files.old) (F.told files.new) }
-    ensures counts { NoneFell (F.counts files.old) (F.counts files.new) }
+    ensures counts { CountsFaults (F.counts files.old) (F.counts files.new) result }
     ensures cause { IfErr result (Raises (F.counts files.old) (F.counts files.new)) }
 {
     keeps_files();
@@ -58,7 +58,7 @@ fn write_asked<F: Files>(
 ) -> Result<(), Refusal>
     requires { All (λ r. IsHead r.head) group.now.start }
     ensures made { MakesAll result (images_if images group.now.start) (F.told files.old) (F.told files.new) }
-    ensures counts { NoneFell (F.counts files.old) (F.counts files.new) }
+    ensures counts { CountsFaults (F.counts files.old) (F.counts files.new) result }
     ensures cause { IfErr result (Raises (F.counts files.old) (F.counts files.new)) }
 {
     if images {
@@ -81,7 +81,7 @@ pub fn replay<F: Files>(
         Makes result (writes_of outcome) (F.told files.old) (F.told files.new)) }
     ensures others { OthersStay (λ folder. written_names (replay_outcome images (map pair_of pairs.now) folder)) (F.told files.old) (F.told files.new) }
     ensures keeps { Keeps result (F.told files.old) (F.told files.new) }
-    ensures counts { NoneFell (F.counts files.old) (F.counts files.new) }
+    ensures counts { CountsFaults (F.counts files.old) (F.counts files.new) result }
     ensures cause { IfErr result (Raises (F.counts files.old) (F.counts files.new)) }
 {
     let all = load_all(alloc, pairs, files)?;

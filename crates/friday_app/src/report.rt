@@ -46,14 +46,14 @@ fn push_verdict(text: &mut Text, verdict: Verdict) -> Result<(), AllocError>
     }
 }
 
-fn push_line(text: &mut Text, line: &ReportLine) -> Result<(), AllocError>
+fn push_line(alloc: Global, text: &mut Text, line: &ReportLine) -> Result<(), AllocError>
     ensures { OnOk result (text.new ≡ text.old ++ report_line_text line.now) }
 {
     text.push_bytes(line.name.as_slice())?;
     text.push_str(": ")?;
     text.push_u64(line.events)?;
     text.push_str(" events, ")?;
-    push_end(text, line.end)?;
+    push_end(alloc, text, line.end)?;
     text.push_str(", ")?;
     push_verdict(text, line.verdict)?;
     text.push_str("\n")?;
@@ -103,7 +103,7 @@ pub fn print_report(alloc: Global, report: &Report) -> Result<Answer, AllocError
 {
     let mut text = Text::new(alloc);
     for line in &report.lines {
-        push_line(&mut text, line)?;
+        push_line(alloc, &mut text, line)?;
     }
     push_counts(&mut text, report)?;
     if diverges(&report.lines) {

@@ -1,11 +1,11 @@
 // A command from its start to its status.
 ghost use Rattle.std.specs.Prelude.{◌≡◌, List, ℕ, Option, Some, IfErr};
-ghost use Rattle.fri_outside.specs.Outside.{WhenTold, NoneFell};
+ghost use Rattle.fri_outside.specs.Outside.{WhenTold};
 ghost use Rattle.fri_outside.specs.Several.{OthersStay};
 ghost use Rattle.friday_app.specs.Seen.{batch_of};
 ghost use Rattle.friday_app.specs.Outcome.{writes_of};
 ghost use Rattle.friday_app.specs.Expected.{expected, written_by};
-ghost use Rattle.friday_app.specs.Call.{TellsOutcome, Makes, Keeps, DivergesOnlyIn, IsAnswerResult, Raises};
+ghost use Rattle.friday_app.specs.Call.{CountsFaults, TellsOutcome, Makes, Keeps, DivergesOnlyIn, IsAnswerResult, Raises};
 ghost use Rattle.friday_app.specs.Agreement.{KeepsMoment, KeepsRecording};
 ghost use Rattle.friday_app.specs.Run.{CommandRun, outside};
 
@@ -30,7 +30,7 @@ fn perform<F: Files>(alloc: Global, command: Batch<'_>, files: &mut F) -> Result
     ensures recorded { IsAnswerResult result → WhenTold (F.told files.old) (λ before.
         WhenTold (F.told files.new) (KeepsRecording (Some (batch_of command.entry)) before)) }
     ensures moment { WhenTold (F.told files.old) (λ before. KeepsMoment (Some (batch_of command.entry)) before (F.told files.new)) }
-    ensures counts { NoneFell (F.counts files.old) (F.counts files.new) }
+    ensures counts { CountsFaults (F.counts files.old) (F.counts files.new) result }
     ensures cause { IfErr result (Raises (F.counts files.old) (F.counts files.new)) }
 {
     match command {
@@ -46,9 +46,9 @@ pub fn settle<F: Files, K: Sink>(
     files: &mut F,
     out: &mut K,
 ) -> Status
-    ensures { (left : Option (List ℕ)) (faults : ℕ) → CommandRun (Some (batch_of command.entry))
-        (outside (F.told files.old) (F.counts files.old) left faults (K.taken out.old) (K.faults out.old))
-        (outside (F.told files.new) (F.counts files.new) left faults (K.taken out.new) (K.faults out.new))
+    ensures { CommandRun (Some (batch_of command.entry))
+        (outside (F.told files.old) (F.counts files.old) (K.hearing out.old) (K.taken out.old) (K.faults out.old))
+        (outside (F.told files.new) (F.counts files.new) (K.hearing out.new) (K.taken out.new) (K.faults out.new))
         result }
 {
     let ended = perform(alloc, command, files);

@@ -7,26 +7,26 @@ use friday_shell::push_end;
 use group_record::{Summary, SummaryLine};
 use std::alloc::{AllocError, Global};
 
-fn push_process(text: &mut Text, line: &SummaryLine) -> Result<(), AllocError>
+fn push_process(alloc: Global, text: &mut Text, line: &SummaryLine) -> Result<(), AllocError>
     ensures { OnOk result (text.new ≡ text.old ++ process_line line.now) }
 {
     text.push_bytes(line.name.as_slice())?;
     text.push_str(": ")?;
     text.push_u64(line.events)?;
     text.push_str(" events, ")?;
-    push_state(text, line)?;
+    push_state(alloc, text, line)?;
     text.push_str("\n")?;
     Ok(())
 }
 
 // How a process stands, and that it was killed where it was.
-fn push_state(text: &mut Text, line: &SummaryLine) -> Result<(), AllocError>
+fn push_state(alloc: Global, text: &mut Text, line: &SummaryLine) -> Result<(), AllocError>
     ensures { OnOk result (text.new ≡ text.old ++ state_text line.now.killed line.now.end) }
 {
     if line.killed {
         text.push_str("killed")
     } else {
-        push_end(text, line.end)
+        push_end(alloc, text, line.end)
     }
 }
 
@@ -47,7 +47,7 @@ pub fn print_summary(alloc: Global, summary: &Summary) -> Result<Text, AllocErro
 {
     let mut text = Text::new(alloc);
     for line in &summary.lines {
-        push_process(&mut text, line)?;
+        push_process(alloc, &mut text, line)?;
     }
     push_items(&mut text, summary.acted, summary.idle)?;
     Ok(text)

@@ -7,9 +7,9 @@ ghost use Rattle.friday_app.specs.Outcome.{outcome_status, outcome_text, writes_
 ghost use Rattle.friday_app.specs.Expected.{written_by};
 ghost use Rattle.friday_app.specs.Agreement.{KeepsMoment, KeepsRecording};
 ghost use Rattle.friday_app.specs.Valid.{IsValidCall};
-ghost use Rattle.friday_app.specs.Run.{CommandRun, NoFault, Works, Expects, outside};
-ghost use Rattle.friday_app.specs.Call.{IsAnswerStatus, IsExactUsage, IsIdle, Prints, PrintsAbsent, PrintsLast, PrintsRefusal, LeavesFiles};
-ghost use Rattle.friday_app.specs.Conversation.{AnswersFirst, IsLargeInput, KeepsInput, Untouched};
+ghost use Rattle.friday_app.specs.Run.{CommandRun, FaultsTold, NoFault, Works, Expects, outside};
+ghost use Rattle.friday_app.specs.Call.{IsAnswerStatus, IsExactUsage, IsIdle, Prints, PrintsAbsent, PrintsLast, PrintsRefusal, LeavesFiles, said_after};
+ghost use Rattle.friday_app.specs.Conversation.{AnswersFirst, IsLargeInput, KeepsInput};
 
 use crate::command::{Command, parse};
 use crate::debug::debug;
@@ -17,7 +17,7 @@ use crate::finish::say;
 use crate::laws::{has_work, recordings_agree};
 use crate::settle::settle;
 use crate::status::Status;
-use fri_outside::{Files, Sink, Source};
+use fri_outside::{Files, Sink, Terminal};
 use std::alloc::{AllocError, Global};
 
 // Says that the words are no command.
@@ -25,7 +25,8 @@ fn refuse_words<K: Sink>(out: &mut K) -> Status
     ensures status { IsAnswerStatus result → result ≡ Status.Usage }
     ensures text { Prints result (codes "friday: these words are not a command\n") (K.taken out.old) (K.taken out.new) }
     ensures read_fault { result ≢ Status.ReadFault }
-    ensures write_fault { result ≡ Status.WriteFault → Rose (K.faults out.old) (K.faults out.new) }
+    ensures counted { K.faults out.new ≡ said_after (K.faults out.old) result }
+    ensures heard { K.hearing out.new ≡ K.hearing out.old }
 {
     say(
         out,
@@ -35,23 +36,17 @@ fn refuse_words<K: Sink>(out: &mut K) -> Status
 }
 
 // Runs what the words say.
-fn run<F: Files, S: Source, K: Sink>(
-    alloc: Global,
-    words: &[String],
-    files: &mut F,
-    input: &mut S,
-    out: &mut K,
-) -> Status
+fn run<F: Files, T: Terminal>(alloc: Global, words: &[String], files: &mut F, io: &mut T) -> Status
     ensures { CommandRun (command_of (map string_bytes words.now))
-        (outside (F.told files.old) (F.counts files.old) (S.left input.old) (S.faults input.old) (K.taken out.old) (K.faults out.old))
-        (outside (F.told files.new) (F.counts files.new) (S.left input.new) (S.faults input.new) (K.taken out.new) (K.faults out.new))
+        (outside (F.told files.old) (F.counts files.old) (T.hearing io.old) (T.taken io.old) (T.faults io.old))
+        (outside (F.told files.new) (F.counts files.new) (T.hearing io.new) (T.taken io.new) (T.faults io.new))
         result }
 {
     recordings_agree();
     match parse(alloc, words) {
-        Ok(None) => refuse_words(out),
-        Ok(Some(Command::Batch(batch))) => settle(alloc, batch, files, out),
-        Ok(Some(Command::Debug(pairs))) => debug(alloc, &pairs, files, input, out),
+        Ok(None) => refuse_words(io),
+        Ok(Some(Command::Batch(batch))) => settle(alloc, batch, files, io),
+        Ok(Some(Command::Debug(pairs))) => debug(alloc, &pairs, files, io),
         Err(AllocError) => Status::NoMemory,
     }
 }
@@ -61,33 +56,31 @@ fn run<F: Files, S: Source, K: Sink>(
 /// What a command comes to (`expected`) is said once for all commands, as far as the files and the
 /// input tell it: the status, the text that `out` gets and the files that are made. A fault of an
 /// object that was handed in ends the call in its place, and so does want of memory, which is free.
-pub fn friday<F: Files, S: Source, K: Sink>(
+pub fn friday<F: Files, T: Terminal>(
     alloc: Global,
     words: &[String],
     files: &mut F,
-    input: &mut S,
-    out: &mut K,
+    io: &mut T,
 ) -> Status
     // The answer
     ensures usage { IsExactUsage (command_of (map string_bytes words.now)) result }
     ensures diverged { result ≡ Status.Diverged → IsReplayCommand (command_of (map string_bytes words.now)) }
-    ensures status { Expects (map string_bytes words.now) (F.told files.old) (S.left input.old) (λ outcome.
+    ensures status { Expects (map string_bytes words.now) (F.told files.old) ((T.hearing io.old).left) (λ outcome.
         IsAnswerStatus result → result ≡ outcome_status outcome) }
-    ensures text { Expects (map string_bytes words.now) (F.told files.old) (S.left input.old) (λ outcome.
-        Prints result (outcome_text outcome) (K.taken out.old) (K.taken out.new)) }
-    ensures files { Expects (map string_bytes words.now) (F.told files.old) (S.left input.old) (λ outcome.
+    ensures text { Expects (map string_bytes words.now) (F.told files.old) ((T.hearing io.old).left) (λ outcome.
+        Prints result (outcome_text outcome) (T.taken io.old) (T.taken io.new)) }
+    ensures files { Expects (map string_bytes words.now) (F.told files.old) ((T.hearing io.old).left) (λ outcome.
         LeavesFiles result (writes_of outcome) (F.told files.old) (F.told files.new)) }
 
     // Nothing is printed before the files are made.
-    ensures prints_last { Expects (map string_bytes words.now) (F.told files.old) (S.left input.old) (λ outcome.
-        PrintsLast (writes_of outcome) (K.taken out.old) (K.taken out.new) (F.told files.old) (F.told files.new)) }
+    ensures prints_last { Expects (map string_bytes words.now) (F.told files.old) ((T.hearing io.old).left) (λ outcome.
+        PrintsLast (writes_of outcome) (T.taken io.old) (T.taken io.new) (F.told files.old) (F.told files.new)) }
 
-    // The input is read by `debug` alone, and by it no further than it must. Each whole line is answered before more
-    // is asked for, so that where a read fails the answers are those to all whole lines before.
-    ensures input { KeepsInput (command_of (map string_bytes words.now)) (F.told files.old) (S.left input.old) (S.left input.new) result
-        (Untouched (S.left input.old) (S.left input.new) (S.faults input.old) (S.faults input.new)) }
+    // The input is read by `debug` alone, and by it no further than it must. Each time it is asked for more, each
+    // whole line before is answered; where a read fails the answers are those to all whole lines before.
+    ensures input { KeepsInput (command_of (map string_bytes words.now)) (F.told files.old) (T.hearing io.old) (T.hearing io.new) (T.taken io.old) result }
     ensures answered { result ≡ Status.ReadFault → (Rose (F.counts files.old).reads (F.counts files.new).reads → ⊥)
-        → AnswersFirst (command_of (map string_bytes words.now)) (F.told files.old) (S.left input.old) (S.left input.new) (K.taken out.old) (K.taken out.new) }
+        → AnswersFirst (command_of (map string_bytes words.now)) (F.told files.old) ((T.hearing io.old).left) ((T.hearing io.new).left) (T.taken io.old) (T.taken io.new) }
 
     // The logs that a recording leaves hold its events: replay accepts each, and makes the recorded states of them.
     // So it is where a log was full, too. Each datagram that was taken came from outside or is one that was sent.
@@ -100,29 +93,32 @@ pub fn friday<F: Files, S: Source, K: Sink>(
     ensures moment { WhenTold (F.told files.old) (λ before. KeepsMoment (command_of (map string_bytes words.now)) before (F.told files.new)) }
 
     // Valid words, files and input, and no fault: the work is done, unless memory runs out.
-    ensures complete { WhenTold (F.told files.old) (λ folder. IsValidCall (command_of (map string_bytes words.now)) folder (S.left input.old)
-        → NoFault (outside (F.told files.old) (F.counts files.old) (S.left input.old) (S.faults input.old) (K.taken out.old) (K.faults out.old))
-        (outside (F.told files.new) (F.counts files.new) (S.left input.new) (S.faults input.new) (K.taken out.new) (K.faults out.new))
-        → Works (command_of (map string_bytes words.now)) (F.told files.old) (S.left input.old) result) }
+    ensures complete { WhenTold (F.told files.old) (λ folder. IsValidCall (command_of (map string_bytes words.now)) folder ((T.hearing io.old).left)
+        → NoFault (outside (F.told files.old) (F.counts files.old) (T.hearing io.old) (T.taken io.old) (T.faults io.old))
+        (outside (F.told files.new) (F.counts files.new) (T.hearing io.new) (T.taken io.new) (T.faults io.new))
+        → Works (command_of (map string_bytes words.now)) (F.told files.old) ((T.hearing io.old).left) result) }
 
-    // The causes, over any objects
+    // The causes, over any objects. A fault is counted exactly where the status tells one
+    ensures faults { FaultsTold result
+        (outside (F.told files.old) (F.counts files.old) (T.hearing io.old) (T.taken io.old) (T.faults io.old))
+        (outside (F.told files.new) (F.counts files.new) (T.hearing io.new) (T.taken io.new) (T.faults io.new)) }
     ensures absent { result ≡ Status.Absent → Rose (F.counts files.old).misses (F.counts files.new).misses }
-    ensures absent_text { result ≡ Status.Absent → PrintsAbsent (K.taken out.old) (K.taken out.new) }
-    ensures refused { result ≡ Status.Refused → PrintsRefusal (K.taken out.old) (K.taken out.new) (λ file.
+    ensures absent_text { result ≡ Status.Absent → PrintsAbsent (T.taken io.old) (T.taken io.new) }
+    ensures refused { result ≡ Status.Refused → PrintsRefusal (T.taken io.old) (T.taken io.new) (λ file.
         Rose (F.counts files.old).misses (F.counts files.new).misses
-        ⊎ IsLargeInput (command_of (map string_bytes words.now)) (F.told files.old) (S.left input.old) file) }
+        ⊎ IsLargeInput (command_of (map string_bytes words.now)) (F.told files.old) ((T.hearing io.old).left) file) }
     ensures read_fault { result ≡ Status.ReadFault → Rose (F.counts files.old).reads (F.counts files.new).reads
-        ⊎ Rose (S.faults input.old) (S.faults input.new) }
+        ⊎ Rose ((T.hearing io.old).faults) ((T.hearing io.new).faults) }
     ensures write_fault { result ≡ Status.WriteFault → Rose (F.counts files.old).writes (F.counts files.new).writes
-        ⊎ Rose (K.faults out.old) (K.faults out.new) }
+        ⊎ Rose (T.faults io.old) (T.faults io.new) }
 
     // The files
     ensures others { OthersStay (written_by (command_of (map string_bytes words.now))) (F.told files.old) (F.told files.new) }
     ensures idle { IsIdle result → F.told files.new ≡ F.told files.old }
-    ensures out_fault { Expects (map string_bytes words.now) (F.told files.old) (S.left input.old) (λ outcome.
+    ensures out_fault { Expects (map string_bytes words.now) (F.told files.old) ((T.hearing io.old).left) (λ outcome.
         result ≡ Status.WriteFault → Rose (F.counts files.old).writes (F.counts files.new).writes
         ⊎ (F.told files.new ≡ with_files (writes_of outcome) (F.told files.old))) }
 {
     has_work();
-    run(alloc, words, files, input, out)
+    run(alloc, words, files, io)
 }

@@ -4,7 +4,7 @@ use crate::bytes::spelled;
 use crate::order::{Change, Order, Side, read_order};
 use crate::outcome::Outcome;
 use anyhow::{Context, bail, ensure};
-use fri_outside::{MemFiles, MemSink, MemSource};
+use fri_outside::{MemFiles, MemSink, MemSource, MemTerminal};
 use friday_app::friday;
 use sha2::{Digest, Sha256};
 use std::alloc::{AllocError, Global};
@@ -169,8 +169,9 @@ impl Session {
         }
         self.failing_reads.clear();
         self.failing_writes.clear();
-        let status = friday(self.alloc, &words, &mut self.files, &mut input, &mut output);
-        let printed = Vec::from_slice(self.alloc, output.bytes())?;
+        let mut terminal = MemTerminal::new(self.alloc, input, output);
+        let status = friday(self.alloc, &words, &mut self.files, &mut terminal);
+        let printed = Vec::from_slice(self.alloc, terminal.bytes())?;
         Ok(Outcome { status, printed })
     }
 

@@ -1,9 +1,10 @@
 -- Each event of a run is accepted where it comes in the replay of its process's log, which makes the same states.
-use Rattle.std.proofs.Common.{◌≡◌, ℕ, zero, suc, ◌+◌, ◌<◌, ◌≤◌, ◌^◌, ◌++◌, Bool, true, false, cond, List, [], ◌∷◌, length, take, Option, Some, None, refl, ap, sym, subst, ◌∙◌, arith, length-append, eqb-true}
+use Rattle.std.proofs.Common.{◌≡◌, ℕ, zero, suc, ◌+◌, ◌<◌, ◌≤◌, ◌^◌, ◌++◌, Bool, true, false, cond, List, [], ◌∷◌, length, take, Option, Some, None, refl, ap, sym, subst, ◌∙◌, arith, length-append, append_assoc, eqb-true}
 use Rattle.std.specs.Prelude.{All, IsTrue, slice_get, ◌==◌, option_and_then, option_map}
 use Rattle.std.specs.List.{slice_index_or}
 use Rattle.std.specs.Int.{w32, to_le_bytes}
 use Rattle.std.proofs.lemmas.Bool.{leb-true}
+use Rattle.std.proofs.lemmas.List.{length-take}
 use Rattle.std.proofs.lemmas.Option.{same_Some}
 use Rattle.std.proofs.lemmas.List.Elements.{All-get_or, All-nil, All-push}
 use Rattle.fri_text.specs.Name.{is_name}
@@ -13,6 +14,7 @@ use Rattle.lib_calls.specs.Entry.{IsShaped}
 use Rattle.call_log.specs.Entry.{body_bytes, encoding, encodings}
 use Rattle.call_log.specs.Head.{head_bytes}
 use Rattle.call_log.specs.Laws.{ExactLogs}
+use Rattle.call_log.specs.Log.{Holds}
 use Rattle.call_log.specs.Limits.{most_log}
 use Rattle.guest_process.specs.declared.divergence.Divergence.{Divergence}
 use Rattle.guest_process.specs.declared.waiting.Waiting.{Waiting}
@@ -28,10 +30,13 @@ use Rattle.guest_process.specs.Replay.{accepted, reach, reach_then, replayed}
 use Rattle.guest_process.specs.State.{State, thread_at}
 use Rattle.group_world.specs.History.{Act, put_last_if, time}
 use Rattle.group_world.specs.History as world
-use Rattle.group_record.specs.Run.{Group, Step, Had, Did, world_around, entries, log_has_room, head_of_log, history, log_of, size, process_after, process_states}
-use Rattle.group_record.specs.Laws.{Agreement, IsBegun}
-use Rattle.group_record.specs.Logs.{TellsEvents}
-use Rattle.group_record.proofs.Running.{IsDone, IsHad, IsRun, is_run}
+use Rattle.group_record.specs.Run.{Group, Step, Had, Did, world_around, entries, log_has_room, head_of_log, history, log_of, name_of, size, process_after, process_states}
+use Rattle.group_record.specs.Laws.{Agreement, CutAgreement, IsBegun}
+use Rattle.group_record.specs.Logs.{IsLogOfRun, TellsBefore}
+use Rattle.group_record.specs.Standing.{IsDone, IsHad, IsRun}
+use Rattle.group_record.proofs.Begins.{head_size, short_name}
+use Rattle.group_record.proofs.Growing.{entry_added, log_longer}
+use Rattle.group_record.proofs.Running.{is_run}
 
 -- ---- one entry more
 
@@ -74,11 +79,11 @@ many_bytes : (es : List Entry) → length es ≤ length (encodings es)
 many_bytes [] = omega arith
 many_bytes (e ∷ es) = omega (arith, many_bytes es, some_bytes e, length-append (encoding e) (encodings es))
 
-room_for : (group : Group) (steps : List Step) (p : ℕ) (e : Entry) → log_has_room group steps p e ≡ true → length (entries steps p) + 1 ≤ most_log
+room_for : (group : Group) (steps : List Step) (p : ℕ) (e : Event) → log_has_room group steps p e ≡ true → length (entries steps p) + 1 ≤ most_log
 room_for group steps p e room =
     let head = head_bytes (head_of_log group p) in
     let es = entries steps p in
-    omega (arith, leb-true _ _ room, length-append (log_of group steps p) (encoding e), length-append head (encodings es), many_bytes es, some_bytes e)
+    omega (arith, leb-true _ _ room, log_longer group steps p e, length-append head (encodings es), many_bytes es, some_bytes e.entry)
 
 -- ---- an event in a state
 
@@ -181,7 +186,7 @@ time_fits : (group : Group) (steps : List Step) → IsRun group steps → (p : �
 time_fits group [] run p = omega arith
 time_fits group (Had q e ∷ steps) run p = time_fits group steps run.1 p
 time_fits group (Did (world.Event q e) ∷ steps) run p = absurd run.0
-time_fits group (Did (world.Clock q value) ∷ steps) run p = time_by (q == p) value (time (history steps) p) run.0 (time_fits group steps run.1 p)
+time_fits group (Did (world.Clock q value) ∷ steps) run p = time_by (q == p) value (time (history steps) p) run.0.1 (time_fits group steps run.1 p)
 time_fits group (Did (world.Deliver q n) ∷ steps) run p = time_fits group steps run.1 p
 time_fits group (Did (world.Inject q bytes) ∷ steps) run p = time_fits group steps run.1 p
 time_fits group (Did (world.Random q bytes) ∷ steps) run p = time_fits group steps run.1 p
@@ -228,10 +233,10 @@ is_next laws group early p e run k had =
     record {
       told = told;
       logged = told.shape;
-      room = room_for group early p e.entry had.room;
+      room = room_for group early p e had.room;
     }
 
-act_keeps : (group : Group) (steps : List Step) (act : Act) (p : ℕ) → IsDone act → KeepsAfter group steps p → KeepsAfter group (Did act ∷ steps) p
+act_keeps : (group : Group) (steps : List Step) (act : Act) (p : ℕ) → IsDone group steps act → KeepsAfter group steps p → KeepsAfter group (Did act ∷ steps) p
 act_keeps group steps (world.Event q e) p done k = absurd done
 act_keeps group steps (world.Clock q value) p done k = k
 act_keeps group steps (world.Deliver q n) p done k = k
@@ -248,24 +253,77 @@ keeps laws group begun (Had q e ∷ early) run p within =
     (λ is. is_next laws group early p e run.1 k (subst (λ (r : ℕ). IsHad group early r e) (eqb-true q p is) run.0))
 keeps laws group begun (Did act ∷ early) run p within = act_keeps group early act p run.0 (keeps laws group begun early run.1 p within)
 
+-- ---- a log stays within its limit
+
+-- with its head alone
+head_within : (group : Group) → IsBegun group → (p : ℕ) → p < size group → length (log_of group [] p) ≤ most_log
+head_within group begun p within =
+    let short = short_name (name_of group p) (All-get_or (λ name. IsTrue (is_name name)) group.names p [] within begun.names) in
+    omega (arith, short, head_size (head_of_log group p), length-append (head_bytes (head_of_log group p)) (encodings []))
+
+-- with the entry of one more event, of this process or of another
+entry_within : (group : Group) (early : List Step) (q p : ℕ) (e : Event) (test : Bool) → (q == p) ≡ test → IsTrue (log_has_room group early q e) → length (log_of group early p) ≤ most_log
+    → length (log_of group (Had q e ∷ early) p) ≤ most_log
+entry_within group early q p e true is room fits =
+    subst (λ (r : ℕ). length (log_of group (Had q e ∷ early) r) ≤ most_log) (eqb-true q p is) (leb-true _ _ room)
+entry_within group early q p e false is room fits =
+    subst (λ (test : Bool). length (head_bytes (head_of_log group p) ++ encodings (put_last_if test (entries early p) e.entry)) ≤ most_log) (sym is) fits
+
+act_within : (group : Group) (early : List Step) (act : Act) (p : ℕ) → IsDone group early act → length (log_of group early p) ≤ most_log → length (log_of group (Did act ∷ early) p) ≤ most_log
+act_within group early (world.Event q e) p done fits = absurd done
+act_within group early (world.Clock q value) p done fits = fits
+act_within group early (world.Deliver q n) p done fits = fits
+act_within group early (world.Inject q bytes) p done fits = fits
+act_within group early (world.Random q bytes) p done fits = fits
+act_within group early (world.Signal q s) p done fits = fits
+act_within group early (world.Kill q) p done fits = fits
+
+log_within : (group : Group) → IsBegun group → (steps : List Step) → IsRun group steps → (p : ℕ) → p < size group → length (log_of group steps p) ≤ most_log
+log_within group begun [] run p within = head_within group begun p within
+log_within group begun (Had q e ∷ early) run p within = entry_within group early q p e (q == p) refl run.0.room (log_within group begun early run.1 p within)
+log_within group begun (Did act ∷ early) run p within = act_within group early act p run.0 (log_within group begun early run.1 p within)
+
 -- ---- the log tells its events
 
-log_tells : ExactLogs → (group : Group) → IsBegun group → (steps : List Step) (p : ℕ) → p < size group → KeepsAfter group steps p → TellsEvents group steps p
-log_tells logs group begun steps p within k =
+-- whose bytes behind the head hold its entries, and this much of one more
+log_tells : ExactLogs → (group : Group) → IsBegun group → (steps : List Step) (p : ℕ) (bytes left cut : List ℕ) → p < size group → KeepsAfter group steps p → bytes ≡ head_bytes (head_of_log group p) ++ left
+    → Holds left (entries steps p) cut → length bytes ≤ most_log → IsLogOfRun group p bytes (entries steps p) (process_states steps p) cut
+log_tells logs group begun steps p bytes left cut inside k is holds fits =
     let es = entries steps p in
-    let held = (logs.all (encodings es) es []).0 (logs.holds_written es k.logged) in
-    let named : is_name (slice_index_or group.names p []) ≡ true = All-get_or (λ name. IsTrue (is_name name)) group.names p [] within begun.names in
+    let held = (logs.all left es cut).0 holds in
+    let named : is_name (slice_index_or group.names p []) ≡ true = All-get_or (λ name. IsTrue (is_name name)) group.names p [] inside begun.names in
     record {
       first = k.first;
       begun = k.begun;
-      left = encodings es;
-      head = (logs.heads (log_of group steps p) (head_of_log group p) (encodings es)).1 (record { some = begun.some; few = begun.few; within = within; named = named }, refl);
+      left = left;
+      within = fits;
+      head = (logs.heads bytes (head_of_log group p) left).1 (record { some = begun.some; few = begun.few; within = inside; named = named }, is);
       entries = held.0;
-      whole = held.1;
+      rest = held.1;
       accepted = k.all;
       states = λ n S at. state-at es k.first n S (subst (λ (xs : List State). slice_get (k.first ∷ xs) n ≡ Some S) (sym k.same) at);
     }
 
 pub agrees : ExactLogs → Laws → Agreement
 agrees logs laws group items begun fits steps front p within =
-    log_tells logs group begun steps p within (keeps laws group begun steps (is_run group items fits steps front) p within)
+    let run : IsRun group steps = is_run group items fits steps front in
+    let k : KeepsAfter group steps p = keeps laws group begun steps run p within in
+    let es = entries steps p in
+    log_tells logs group begun steps p (log_of group steps p) (encodings es) [] within k refl (logs.holds_written es k.logged) (log_within group begun steps run p within)
+
+entry_cut : ExactLogs → Laws → (group : Group) → IsBegun group → (early : List Step) (p : ℕ) (e : Event) → IsRun group (Had p e ∷ early) → (n : ℕ) → n < length (encoding e.entry) → TellsBefore group early p (take n (encoding e.entry))
+entry_cut logs laws group begun early p e run n short =
+    let k : KeepsAfter group early p = keeps laws group begun early run.1 p run.0.within in
+    let es = entries early p in
+    let log = log_of group early p in
+    let part = take n (encoding e.entry) in
+    let next = is_next laws group early p e run.1 k run.0 in
+    let fits : length (log ++ part) ≤ most_log =
+    omega (arith, leb-true _ _ run.0.room, log_longer group early p e, length-append log part, length-take n (encoding e.entry), short) in
+    log_tells logs group begun early p (log ++ part) (encodings es ++ part) part run.0.within k (append_assoc (head_bytes (head_of_log group p)) (encodings es) part)
+    (logs.holds_cut es e.entry n k.logged next.logged short) fits
+
+pub agrees_cut : ExactLogs → Laws → CutAgreement
+agrees_cut logs laws group items begun fits later early p e is =
+    subst (λ (bytes : List ℕ). (n : ℕ) → n < length bytes → TellsBefore group early p (take n bytes)) (sym (entry_added group early p e))
+    (entry_cut logs laws group begun early p e (is_run group items fits (Had p e ∷ early) (later, is)))

@@ -62,7 +62,7 @@ names_apart lines apart i j d before within same =
     ∙ sym (name_at lines i one.0 d one.1) ∙ same ∙ name_at lines j other.0 d other.1
     ∙ sym (ap (λ (line : ProcessLine). line.name) (get_or_from_slice_get lines j other.0 one.0 other.1)))
 
-short_name : (name : List ℕ) → IsTrue (is_name name) → length name ≤ 32
+pub short_name : (name : List ℕ) → IsTrue (is_name name) → length name ≤ 32
 short_name name h =
     let few = (and_parts (nat_le 1 (length name)) (nat_le (length name) 32) (and_parts (nat_le 1 (length name) && nat_le (length name) 32) (list_all is_name_byte name) h).0).1 in
     grind (arith, nat_tests)
@@ -73,7 +73,7 @@ names_short lines p fit inside =
     let named : IsTrue (is_name one.0.name) = subst (λ (line : ProcessLine). IsTrue (is_name line.name)) (get_or_from_slice_get lines p one.0 one.0 one.1) (fit p one.0 inside).name in
     subst (λ (n : List ℕ). length n ≤ 32) (sym (name_at lines p one.0 [] one.1)) (short_name one.0.name named)
 
-head_size : (h : Head) → length (head_bytes h) ≡ 17 + length h.name
+pub head_size : (h : Head) → length (head_bytes h) ≡ 17 + length h.name
 unfolding head_bytes
 head_size h =
     let last = h.name ++ [] in

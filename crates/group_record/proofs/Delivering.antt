@@ -20,16 +20,17 @@ use Rattle.group_world.specs.History.{Deliver, History, mailbox, taken_count}
 use Rattle.group_world.specs.Laws.{Giver, HasOrigin, InTurn, NamesSend}
 use Rattle.group_record.specs.Run.{Group, Step, Had, world_around, history, size}
 use Rattle.group_record.specs.Laws.{Delivery, IsSend, TakesDatagram}
-use Rattle.group_record.proofs.Running.{IsRun, is_run}
+use Rattle.group_record.specs.Standing.{IsRun}
+use Rattle.group_record.proofs.Running.{is_run}
 use Rattle.group_record.proofs.Agreeing.{ComesIn, KeepsAfter, Laws, came_in, comes_in, is_of_kind, keeps}
 use Rattle.group_record.proofs.Sending.{events_fit, is_send, is_told}
 
 -- the answer took the first datagram that waited
-record Took (S : State) (c : Call) (box : List (List ℕ)) (a : Answer) : Type 0 where
-  bytes : List ℕ
-  later : List (List ℕ)
-  first : box ≡ bytes ∷ later
-  answer : a ≡ cut_datagram c.a1 (read_datagram S.count bytes)
+pub record Took (S : State) (c : Call) (box : List (List ℕ)) (a : Answer) : Type 0 where
+  pub bytes : List ℕ
+  pub later : List (List ℕ)
+  pub first : box ≡ bytes ∷ later
+  pub answer : a ≡ cut_datagram c.a1 (read_datagram S.count bytes)
 
 answer_is : (a b : Answered) → Some a ≡ Some b → b.answer ≡ a.answer
 answer_is a b is = ap (λ (x : Answered). x.answer) (sym (same_Some a b is))
@@ -56,7 +57,7 @@ if_good : {P : Type 0} (good : Bool) (S : State) (world : Option Answered) (give
 if_good true S world given reply is told not_bad then = then is
 if_good false S world given reply is told not_bad then = absurd (other reply minus_one not_bad (reply_is _ given reply is told))
 
-took : (k : Kind) (S : State) (t : ℕ) (c : Call) (env : Env) (given : Answered) (e : Entry) → answered_now (need k S t c) (from_world k S c env) ≡ Some given → e.reply ≡ given.answer.reply
+pub took : (k : Kind) (S : State) (t : ℕ) (c : Call) (env : Env) (given : Answered) (e : Entry) → answered_now (need k S t c) (from_world k S c env) ≡ Some given → e.reply ≡ given.answer.reply
     → takes_as (Some k) e ≡ true → Took S c env.mailbox given.answer
 took Recv S t c env given e is told takes =
     if_good (is_good c S.store.memory) S (first_taken S c env.mailbox) given e.reply is told takes (taken_first S c env.mailbox given)
@@ -66,7 +67,7 @@ took TryRecv S t c env given e is told takes =
     (λ here. taken_or_empty S c env.mailbox given e.reply here told tests.1)
 took _ S t c env given e is told takes = cc
 
-takes_kind : (e : Entry) (k : Kind) → kind_numbered e.call.kind ≡ Some k → IsTrue (is_taken e) → takes_as (Some k) e ≡ true
+pub takes_kind : (e : Entry) (k : Kind) → kind_numbered e.call.kind ≡ Some k → IsTrue (is_taken e) → takes_as (Some k) e ≡ true
 unfolding is_taken
 takes_kind e k of_kind taken = sym (ap (λ (o : Option Kind). takes_as o e) of_kind) ∙ taken
 

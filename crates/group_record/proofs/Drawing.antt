@@ -22,7 +22,8 @@ use Rattle.guest_process.specs.State.{State}
 use Rattle.group_world.specs.History.{pool}
 use Rattle.group_record.specs.Run.{Group, Step, Had, world_around, size, process_after}
 use Rattle.group_record.specs.Laws.{DrawsIf, TakesDrawn, TakesWaiting, takes_datagrams}
-use Rattle.group_record.proofs.Running.{IsHad, IsRun, is_run}
+use Rattle.group_record.specs.Standing.{IsHad, IsRun}
+use Rattle.group_record.proofs.Running.{is_run}
 use Rattle.group_record.proofs.Agreeing.{ComesIn, KeepsAfter, Laws, came_in, comes_in, is_of_kind, keeps}
 
 -- ---- good arguments name at most 60,000 bytes
@@ -84,15 +85,15 @@ is_taken_by e k of_kind takes = ap (λ (o : Option Kind). takes_as o e) of_kind 
 
 -- ---- an event of a run, with the state in which it came and the call that it answers
 
-record Came (group : Group) (early : List Step) (p : ℕ) (e : Event) (S : State) : Type 0 where
-  thread : ℕ
-  in_it : ComesIn S (world_around (size group) early p) thread e
-  of_kind : kind_numbered e.entry.call.kind ≡ Some in_it.waiting.kind
-  call : e.entry.call ≡ in_it.waiting.call
-  reply : e.entry.reply ≡ in_it.given.answer.reply
-  incoming : e.entry.incoming ≡ in_it.given.answer.incoming
+pub record Came (group : Group) (early : List Step) (p : ℕ) (e : Event) (S : State) : Type 0 where
+  pub thread : ℕ
+  pub in_it : ComesIn S (world_around (size group) early p) thread e
+  pub of_kind : kind_numbered e.entry.call.kind ≡ Some in_it.waiting.kind
+  pub call : e.entry.call ≡ in_it.waiting.call
+  pub reply : e.entry.reply ≡ in_it.given.answer.reply
+  pub incoming : e.entry.incoming ≡ in_it.given.answer.incoming
 
-came_by : (group : Group) (early : List Step) (p : ℕ) (e : Event) (k : KeepsAfter group early p) → IsHad group early p e → Came group early p e k.last
+pub came_by : (group : Group) (early : List Step) (p : ℕ) (e : Event) (k : KeepsAfter group early p) → IsHad group early p e → Came group early p e k.last
 came_by group early p e k had =
     let env = world_around (size group) early p in
     let in_it : ComesIn k.last env had.thread e = comes_in k.last env had.thread e (came_in group early p e k had) in
@@ -159,13 +160,13 @@ asks_few : (c : Call) (S : State) → kind_numbered c.kind ≡ Some Random → i
 asks_few c S of_kind good = range_few S c.a0 c.a1 (good_of_kind c S Random of_kind good)
 
 -- the answer to a call of random at which the process stood
-record Answers (S : State) (early : List Step) (count p : ℕ) (e : Event) : Type 0 where
-  given : Answered
-  answer : answered_now (need Random S 0 e.entry.call) (from_world Random S e.entry.call (world_around count early p)) ≡ Some given
-  reply : e.entry.reply ≡ given.answer.reply
-  incoming : e.entry.incoming ≡ given.answer.incoming
+pub record Answers (S : State) (early : List Step) (count p : ℕ) (e : Event) : Type 0 where
+  pub given : Answered
+  pub answer : answered_now (need Random S 0 e.entry.call) (from_world Random S e.entry.call (world_around count early p)) ≡ Some given
+  pub reply : e.entry.reply ≡ given.answer.reply
+  pub incoming : e.entry.incoming ≡ given.answer.incoming
 
-answers_random : (group : Group) (early : List Step) (p : ℕ) (e : Event) (S : State) → Came group early p e S → kind_numbered e.entry.call.kind ≡ Some Random → Answers S early (size group) p e
+pub answers_random : (group : Group) (early : List Step) (p : ℕ) (e : Event) (S : State) → Came group early p e S → kind_numbered e.entry.call.kind ≡ Some Random → Answers S early (size group) p e
 answers_random group early p e S c of_kind =
     let env = world_around (size group) early p in
     let kind : c.in_it.waiting.kind ≡ Random = same_Some c.in_it.waiting.kind Random (sym c.of_kind ∙ of_kind) in
@@ -178,7 +179,7 @@ answers_random group early p e S c of_kind =
       incoming = c.incoming;
     }
 
-draws_if : (S : State) (early : List Step) (count p : ℕ) (e : Event) (good : Bool) → is_good e.entry.call S.store.memory ≡ good → kind_numbered e.entry.call.kind ≡ Some Random → Answers S early count p e → DrawsIf good early p e
+pub draws_if : (S : State) (early : List Step) (count p : ℕ) (e : Event) (good : Bool) → is_good e.entry.call S.store.memory ≡ good → kind_numbered e.entry.call.kind ≡ Some Random → Answers S early count p e → DrawsIf good early p e
 draws_if S early count p e true good of_kind a =
     let env = world_around count early p in
     let d : Drew e.entry.call env.pool a.given.answer = drew S e.entry.call env a.given (by_world (is_good e.entry.call S.store.memory) S (from_world Random S e.entry.call env) a.given good a.answer) in

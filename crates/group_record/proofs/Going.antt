@@ -47,7 +47,7 @@ unless_leads done next front = by_full done.full refl
 
 had_front : (group : Group) (number p : ℕ) (found : Option Event) (done : Progress) → IsMoment done.steps (had group number p found done).steps
 had_front group number p None done = ([], refl)
-had_front group number p (Some e) done = by_room (log_has_room group done.steps p e.entry)
+had_front group number p (Some e) done = by_room (log_has_room group done.steps p e)
   where
     by_room : (room : Bool) → IsMoment done.steps (cond room (record done { steps = Had p e ∷ done.steps }) (record done { full = Some number })).steps
     by_room true = (Had p e ∷ [], refl)
@@ -91,15 +91,15 @@ items_lead group number (i ∷ items) done =
 pub stopped_on : (group : Group) (early late : List Step) (before after : Option Folder) → IsMoment early late → IsStopped group early [] before after → IsStopped group late [] before after
 stopped_on group early late before after on (InHeads many cut is) = InHeads many cut is
 stopped_on group early late before after on (Between steps front is) = Between steps (front_on steps early late front on) is
-stopped_on group early late before after on (InEntry steps later p n e split is) =
-    InEntry steps (on.0 ++ later) p n e (on.1 ∙ ap (λ xs. on.0 ++ xs) split ∙ sym (append_assoc on.0 later (Had p e ∷ steps))) is
+stopped_on group early late before after on (InEntry steps later p n e split short is) =
+    InEntry steps (on.0 ++ later) p n e (on.1 ∙ ap (λ xs. on.0 ++ xs) split ∙ sym (append_assoc on.0 later (Had p e ∷ steps))) short is
 stopped_on group early late before after on (InImages n m is) = Between early on (is ∙ ap (λ fs. with_files fs before) (behind_none (logs group early) n m))
 
 -- so it is where images are asked for
 pub stopped_before : (group : Group) (steps : List Step) (images : List (List ℕ × List ℕ)) (before after : Option Folder) → IsStopped group steps [] before after → IsStopped group steps images before after
 stopped_before group steps images before after (InHeads many cut is) = InHeads many cut is
 stopped_before group steps images before after (Between early front is) = Between early front is
-stopped_before group steps images before after (InEntry early later p n e split is) = InEntry early later p n e split is
+stopped_before group steps images before after (InEntry early later p n e split short is) = InEntry early later p n e split short is
 stopped_before group steps images before after (InImages n m is) = Between steps ([], refl) (is ∙ ap (λ fs. with_files fs before) (behind_none (logs group steps) n m))
 
 -- or where one was not made

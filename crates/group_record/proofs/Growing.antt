@@ -1,10 +1,10 @@
 -- Logs that grow: a piece behind one of a group's files, and an entry more.
-use Rattle.std.proofs.Common.{◌≡◌, ◌≢◌, ℕ, zero, suc, ◌+◌, ◌<◌, ◌≤◌, ◌++◌, Bool, true, false, cond, eqb, List, [], ◌∷◌, length, slice_get, slice_index_or, Option, Some, refl, ap, sym, ◌∙◌, append_assoc, append-nil, length-append, arith}
+use Rattle.std.proofs.Common.{◌≡◌, ◌≢◌, drop, ℕ, zero, suc, ◌+◌, ◌<◌, ◌≤◌, ◌++◌, Bool, true, false, cond, eqb, List, [], ◌∷◌, length, slice_get, slice_index_or, Option, Some, refl, ap, sym, ◌∙◌, append_assoc, append-nil, length-append, arith}
 use Rattle.std.specs.Prelude.{AllPairs, codes}
 use Rattle.std.specs.Int.{w32, to_le_bytes}
 use Rattle.std.proofs.lemmas.Bool.{eq-eqb}
 use Rattle.std.proofs.lemmas.Bool.Decides.{nat_tests}
-use Rattle.std.proofs.lemmas.List.{append_cancel_right}
+use Rattle.std.proofs.lemmas.List.{append_cancel_right, drop_at}
 use Rattle.std.proofs.lemmas.Option.{slice_get-get_or}
 use Rattle.fri_outside.specs.Outside.{Folder, with_piece}
 use Rattle.fri_outside.specs.Several.{AreApart, grown, with_files}
@@ -14,7 +14,7 @@ use Rattle.call_log.specs.Entry.{body_bytes, encoding, encodings}
 use Rattle.call_log.specs.Head.{head_bytes}
 use Rattle.guest_process.specs.Live.{Event}
 use Rattle.group_world.specs.History.{put_last_if}
-use Rattle.group_record.specs.Run.{Group, Step, Had, entries, head_of_log, log_of, name_of, size}
+use Rattle.group_record.specs.Run.{Group, Step, Had, entries, entry_bytes, head_of_log, log_of, name_of, size}
 use Rattle.group_record.specs.Logs.{files_from, files_of, log_name, logs}
 
 -- the bytes at each place, with a piece behind those at this one
@@ -123,9 +123,15 @@ pub entries_few : (es : List Entry) → length es ≤ length (encodings es)
 entries_few [] = omega arith
 entries_few (e ∷ es) = omega (arith, entries_few es, body_there e, length-append (encoding e) (encodings es))
 
--- how long a log is with an entry more
+-- a log with the entry of an event more
+log_with : (group : Group) (steps : List Step) (p : ℕ) (e : Event) → log_of group (Had p e ∷ steps) p ≡ log_of group steps p ++ encoding e.entry
+log_with group steps p e = sym (log_last (eqb p p) (head_bytes (head_of_log group p)) (entries steps p) e.entry) ∙ grown_here p p (encoding e.entry) (log_of group steps) refl
+
+-- how long it is
 pub log_longer : (group : Group) (steps : List Step) (p : ℕ) (e : Event) → length (log_of group (Had p e ∷ steps) p) ≡ length (log_of group steps p) + length (encoding e.entry)
-log_longer group steps p e =
-    ap length (sym (log_last (eqb p p) (head_bytes (head_of_log group p)) (entries steps p) e.entry)
-    ∙ grown_here p p (encoding e.entry) (log_of group steps) refl)
-    ∙ length-append (log_of group steps p) (encoding e.entry)
+log_longer group steps p e = ap length (log_with group steps p e) ∙ length-append (log_of group steps p) (encoding e.entry)
+
+-- and what it has more
+pub entry_added : (group : Group) (steps : List Step) (p : ℕ) (e : Event) → entry_bytes group steps p e ≡ encoding e.entry
+entry_added group steps p e =
+    ap (drop (length (log_of group steps p))) (log_with group steps p e) ∙ drop_at (log_of group steps p) (encoding e.entry) (length (log_of group steps p)) refl

@@ -20,3 +20,4 @@ pub mod Delivering
 pub mod Begun
 pub mod Drawing
 pub mod Chosen
+pub mod Following

@@ -1,8 +1,9 @@
 -- A recorder that goes on by one try or one item.
 use Rattle.std.proofs.Common.{◌≡◌, ◌≢◌, ℕ, zero, suc, ◌+◌, ◌<◌, ◌≤◌, ◌^◌, ◌++◌, Bool, true, false, ◌&&◌, not, cond, eqb, List, [], ◌∷◌, length, map, slice_get, take, Option, Some, None, inl, inr, refl, ap, sym, subst, ◌∙◌, arith, add-one, length-append, string_bytes}
 use Rattle.std.specs.Prelude.{All, OnOk, Result, ⊤, Ok, Err, is_some, nat_le, option_map, option_and_then}
-use Rattle.std.proofs.lemmas.Bool.{eq-eqb}
+use Rattle.std.proofs.lemmas.Bool.{eq-eqb, leb-true}
 use Rattle.std.proofs.lemmas.Bool.Decides.{nat_tests}
+use Rattle.std.proofs.lemmas.List.{take_all}
 use Rattle.std.proofs.lemmas.List.Elements.{All-push}
 use Rattle.std.proofs.lemmas.Option.{same_Some, slice_get-map}
 use Rattle.fri_outside.specs.Outside.{Folder, with_piece}
@@ -31,7 +32,7 @@ use Rattle.group_record.specs.declared.error.RecordError.{RecordError}
 use Rattle.group_record.specs.declared.error.RecordError.TheVariants as errors
 use Rattle.group_record.specs.declared.member.Member.{Member}
 use Rattle.group_record.specs.declared.recorder.Recorder.{Recorder}
-use Rattle.group_record.specs.Run.{Group, Progress, Step, Had, Did, with_step, with_step_if, after_item, world_around, attempt, can_be_killed, done_by_item, entries, event_of_try, with_full_log, had, has_sent, head_of_log, history, idled, log_of, is_running_process, size, process_after, unless_full}
+use Rattle.group_record.specs.Run.{Group, Progress, Step, Had, Did, with_step, with_step_if, after_item, world_around, attempt, can_be_killed, done_by_item, entries, entry_bytes, event_of_try, with_full_log, had, has_sent, head_of_log, history, idled, log_of, is_running_process, size, process_after, unless_full}
 use Rattle.group_record.specs.Logs.{logs}
 use Rattle.group_record.specs.Files.{IsStopped, Between, InEntry}
 use Rattle.group_record.specs.Around.{env_of}
@@ -39,7 +40,7 @@ use Rattle.group_record.specs.Members.{CanKeep, IsCut, LogHasRoom, Writes, kept}
 use Rattle.group_record.specs.Recorded.{Comes, FilesOf, IsMember, Kept, KeepsUp, IsLiveEntry, acted_on, acts, after_act, counted_of, is_spared}
 use Rattle.group_record.proofs.Chosen.{live_same, with_signals}
 use Rattle.group_record.proofs.Going.{LeadsTo, attempt_leads}
-use Rattle.group_record.proofs.Growing.{entries_few, log_longer, logs_grown, piece_written}
+use Rattle.group_record.proofs.Growing.{entries_few, entry_added, log_longer, logs_grown, piece_written}
 use Rattle.group_record.proofs.Printing.{event_printed}
 use Rattle.group_record.proofs.Small.{length_set, set_each}
 
@@ -208,23 +209,23 @@ room_test n limit fits = grind (arith, nat_tests)
 full_test : (n limit : ℕ) → limit < n → nat_le n limit ≡ false
 full_test n limit over = grind (arith, nat_tests)
 
-log_size : (group : Group) (steps : List Step) (p : ℕ) (m : Member) (entry : Entry) (e : Event) → IsMember group steps p m → entry ≡ e.entry → m.size + length (encoding entry) ≡ length (log_of group steps p ++ encoding e.entry)
+log_size : (group : Group) (steps : List Step) (p : ℕ) (m : Member) (entry : Entry) (e : Event) → IsMember group steps p m → entry ≡ e.entry → m.size + length (encoding entry) ≡ length (log_of group (Had p e ∷ steps) p)
 log_size group steps p m entry e k same =
-    ap (λ n. n + length (encoding entry)) k.size ∙ ap (λ e. length (log_of group steps p) + length (encoding e)) same ∙ sym (length-append (log_of group steps p) (encoding e.entry))
+    ap (λ n. n + length (encoding entry)) k.size ∙ ap (λ e. length (log_of group steps p) + length (encoding e)) same ∙ sym (log_longer group steps p e)
 
 has_event : Counting → (group : Group) (done : Progress) (old : Recorder) (number p thread : ℕ) (m : Member) (entry : Entry) → KeepsUp group done old → p < size group
     → (k : IsMember group done.steps p m) → (t : IsLiveEntry k.state thread (env_of old.world p) entry) → LogHasRoom m (encoding entry) → attempt group number p thread done ≡ with_step (Had p t.event) done
 has_event counting group done old number p thread m entry keeps within k t room =
     attempt_is counting group done old number p thread k.state keeps within k.after ∙ ap (λ o. had group number p o done) t.lives
     ∙ ap (λ b. cond b (with_step (Had p t.event) done) (with_full_log number done))
-    (room_test (length (log_of group done.steps p ++ encoding t.event.entry)) most_log (subst (λ n. n ≤ most_log) (log_size group done.steps p m entry t.event k t.same) room))
+    (room_test (length (log_of group (Had p t.event ∷ done.steps) p)) most_log (subst (λ n. n ≤ most_log) (log_size group done.steps p m entry t.event k t.same) room))
 
 no_room : Counting → (group : Group) (done : Progress) (old : Recorder) (number p thread : ℕ) (m : Member) (entry : Entry) → KeepsUp group done old → p < size group
     → (k : IsMember group done.steps p m) → (t : IsLiveEntry k.state thread (env_of old.world p) entry) → most_log < m.size + length (encoding entry) → attempt group number p thread done ≡ with_full_log number done
 no_room counting group done old number p thread m entry keeps within k t over =
     attempt_is counting group done old number p thread k.state keeps within k.after ∙ ap (λ o. had group number p o done) t.lives
     ∙ ap (λ b. cond b (with_step (Had p t.event) done) (with_full_log number done))
-    (full_test (length (log_of group done.steps p ++ encoding t.event.entry)) most_log (subst (λ n. most_log < n) (log_size group done.steps p m entry t.event k t.same) over))
+    (full_test (length (log_of group (Had p t.event ∷ done.steps) p)) most_log (subst (λ n. most_log < n) (log_size group done.steps p m entry t.event k t.same) over))
 
 -- the files with the entry more
 entry_written : KeepsFiles → (group : Group) (done : Progress) (before now after : Option Folder) (old : Recorder) (p : ℕ) (m : Member) (entry : Entry) (e : Event) → KeepsUp group done old → FilesOf group done before now → p < size group
@@ -238,14 +239,29 @@ entry_written files_keep group done before now after old p m entry e keeps files
 pub memory_stops : (group : Group) (done next : Progress) (r : Recorder) (before now : Option Folder) → LeadsTo done next → FilesOf group done before now → Comes group next (Err errors.NoMemory) r before now
 memory_stops group done next r before now leads files = Between done.steps leads.front files
 
+short_of : (many n : ℕ) → nat_le many n ≡ false → n < many
+short_of many n is = grind (arith, nat_tests)
+
+-- all of the entry was written, or a part of it
+cut_stops : KeepsFiles → (group : Group) (done : Progress) (before now after : Option Folder) (old : Recorder) (p : ℕ) (m : Member) (entry : Entry) (e : Event) → KeepsUp group done old → FilesOf group done before now → p < size group
+    → IsMember group done.steps p m → entry ≡ e.entry → (n : ℕ) (whole : Bool) → nat_le (length (encoding entry)) n ≡ whole → after ≡ with_piece (string_bytes m.log) (take n (encoding entry)) now
+    → IsStopped group (Had p e ∷ done.steps) [] before after
+cut_stops files_keep group done before now after old p m entry e keeps files within k same n true whole is =
+    let all : take n (encoding entry) ≡ encoding entry = take_all n (encoding entry) (leb-true _ _ whole) in
+    Between (Had p e ∷ done.steps) ([], refl)
+    (entry_written files_keep group done before now after old p m entry e keeps files within k same (is ∙ ap (λ piece. with_piece (string_bytes m.log) piece now) all))
+cut_stops files_keep group done before now after old p m entry e keeps files within k same n false part is =
+    let bytes : encoding entry ≡ entry_bytes group done.steps p e = ap encoding same ∙ sym (entry_added group done.steps p e) in
+    InEntry done.steps [] p n e refl (subst (λ (bytes : List ℕ). n < length bytes) bytes (short_of (length (encoding entry)) n part))
+    (is ∙ piece_written files_keep group (log_of group done.steps) p (string_bytes m.log) (take n (encoding entry)) before now keeps.apart within k.log files
+    ∙ ap (λ (bytes : List ℕ). with_files (grown (logs group done.steps) p (take n bytes)) before) bytes)
+
 -- a write that failed
 fault_stops : KeepsFiles → (group : Group) (done : Progress) (before now after : Option Folder) (old : Recorder) (p : ℕ) (m : Member) (entry : Entry) (e : Event) → KeepsUp group done old → FilesOf group done before now → p < size group
     → IsMember group done.steps p m → entry ≡ e.entry → IsCut (string_bytes m.log) (encoding entry) now after → IsStopped group (Had p e ∷ done.steps) [] before after
 fault_stops files_keep group done before now after old p m entry e keeps files within k same (inl none) = Between done.steps (Had p e ∷ [], refl) (none ∙ files)
 fault_stops files_keep group done before now after old p m entry e keeps files within k same (inr (n, is)) =
-    InEntry done.steps [] p n e refl
-    (is ∙ piece_written files_keep group (log_of group done.steps) p (string_bytes m.log) (take n (encoding entry)) before now keeps.apart within k.log files
-    ∙ ap (λ e. with_files (grown (logs group done.steps) p (take n (encoding e))) before) same)
+    cut_stops files_keep group done before now after old p m entry e keeps files within k same n (nat_le (length (encoding entry)) n) refl is
 
 -- what comes of a try that has an event
 pub try_event : Counting → KeepsFiles → (group : Group) (done : Progress) (before now after : Option Folder) (old : Recorder) (result : Result ⊤ RecordError) (new : Recorder) (number p thread : ℕ) (m : Member) (entry : Entry)

@@ -9,26 +9,8 @@ use Rattle.schedule_text.specs.Schedule.{IsInRange}
 use Rattle.guest_process.specs.Live.{Event}
 use Rattle.group_world.specs.History.{Act}
 use Rattle.group_world.specs.History as world
-use Rattle.group_record.specs.Run.{Group, Progress, Step, Had, Did, IsMoment, after_item, after_items, attempt, attempts, can_be_killed, done_by_item, event_of_try, had, log_has_room, has_sent, nothing_yet, run, size}
-
--- what an item does bears a time of 64 bits, and no event
-abbrev pub IsDone : Act → Type 0
-IsDone (world.Event p e) = ⊥
-IsDone (world.Clock p value) = value < 2 ^ 64
-IsDone _ = Unit {0}
-
--- the event of a try for which the log has room
-pub record IsHad (group : Group) (early : List Step) (p : ℕ) (e : Event) : Type 0 where
-  pub within : p < size group
-  pub thread : ℕ
-  pub comes : event_of_try group early p thread ≡ Some e
-  pub room : log_has_room group early p e.entry ≡ true
-
--- each step is one that can follow those before it
-abbrev pub IsRun : Group → List Step → Type 0
-IsRun group [] = Unit {0}
-IsRun group (Had p e ∷ early) = IsHad group early p e × IsRun group early
-IsRun group (Did act ∷ early) = IsDone act × IsRun group early
+use Rattle.group_record.specs.Run.{Group, Progress, Step, Had, Did, IsMoment, with_step_if, after_item, after_items, attempt, attempts, can_be_killed, done_by_item, event_of_try, had, log_has_room, has_sent, nothing_yet, run, size}
+use Rattle.group_record.specs.Standing.{IsDone, IsRun}
 
 -- the steps so far are those of a run
 pub record Runs (group : Group) (done : Progress) : Type 0 where
@@ -51,8 +33,8 @@ either P false a b first second = second
 
 had_runs : (group : Group) (number p thread : ℕ) (done : Progress) (o : Option Event) → p < size group → Runs group done → event_of_try group done.steps p thread ≡ o → Runs group (had group number p o done)
 had_runs group number p thread done None within so_far comes = record { steps = so_far.steps }
-had_runs group number p thread done (Some e) within so_far comes = by_room (log_has_room group done.steps p e.entry) refl where
-  by_room : (test : Bool) → log_has_room group done.steps p e.entry ≡ test → Runs group (cond test (record done { steps = Had p e ∷ done.steps }) (record done { full = Some number }))
+had_runs group number p thread done (Some e) within so_far comes = by_room (log_has_room group done.steps p e) refl where
+  by_room : (test : Bool) → log_has_room group done.steps p e ≡ test → Runs group (cond test (record done { steps = Had p e ∷ done.steps }) (record done { full = Some number }))
   by_room true room = record { steps = (record { within = within; thread = thread; comes = comes; room = room }, so_far.steps) }
   by_room false room = record { steps = so_far.steps }
 
@@ -68,12 +50,13 @@ attempts_run group number p thread (suc n) done within so_far =
     attempts_run group number p thread n (attempt group number p thread done) within (attempt_runs group number p thread done within so_far)
 
 -- an item that acts
-act_runs : (group : Group) (act : Act) (done : Progress) → IsDone act → Runs group done → Runs group (record done { steps = Did act ∷ done.steps })
+act_runs : (group : Group) (act : Act) (done : Progress) → IsDone group done.steps act → Runs group done → Runs group (record done { steps = Did act ∷ done.steps })
 act_runs group act done fits so_far = record { steps = (fits, so_far.steps) }
 
--- or is idle
-idle_runs : (group : Group) (done : Progress) → Runs group done → Runs group (record done { idle = suc done.idle })
-idle_runs group done so_far = record { steps = so_far.steps }
+-- or is idle where it does not
+act_if_runs : (group : Group) (act : Act) (acts : Bool) (done : Progress) → (acts ≡ true → IsDone group done.steps act) → Runs group done → Runs group (with_step_if acts (Did act) done)
+act_if_runs group act true done fits so_far = act_runs group act done (fits refl) so_far
+act_if_runs group act false done fits so_far = record { steps = so_far.steps }
 
 -- the bits of a signed number
 bits_fit : (value : ℤ) → FitsSigned w64 value → cast_unsigned w64 value < 2 ^ 64
@@ -83,13 +66,13 @@ bits_fit (negsuc n) fits = omega arith
 does_runs : (group : Group) (number : ℕ) (i : Item) (done : Progress) → IsInRange (size group) i → Runs group done → Runs group (done_by_item group number i done)
 does_runs group number (item.Run p thread times) done fits so_far = attempts_run group number p thread times done fits.0 so_far
 does_runs group number (item.Deliver p n) done fits so_far =
-    either (Runs group) (has_sent (size group) done.steps p n) _ _ (act_runs group (world.Deliver p n) done tt so_far) (idle_runs group done so_far)
-does_runs group number (item.Inject p bytes) done fits so_far = act_runs group (world.Inject p bytes) done tt so_far
-does_runs group number (item.Clock p value) done fits so_far = act_runs group (world.Clock p (cast_unsigned w64 value)) done (bits_fit value fits.1) so_far
-does_runs group number (item.Random p bytes) done fits so_far = act_runs group (world.Random p bytes) done tt so_far
-does_runs group number (item.Signal p s) done fits so_far = act_runs group (world.Signal p s) done tt so_far
+    act_if_runs group (world.Deliver p n) (has_sent (size group) done.steps p n) done (λ sent. (fits.0, sent)) so_far
+does_runs group number (item.Inject p bytes) done fits so_far = act_runs group (world.Inject p bytes) done fits.0 so_far
+does_runs group number (item.Clock p value) done fits so_far = act_runs group (world.Clock p (cast_unsigned w64 value)) done (fits.0, bits_fit value fits.1) so_far
+does_runs group number (item.Random p bytes) done fits so_far = act_runs group (world.Random p bytes) done fits.0 so_far
+does_runs group number (item.Signal p s) done fits so_far = act_runs group (world.Signal p s) done (fits.0, fits.1, fits.2) so_far
 does_runs group number (item.Kill p) done fits so_far =
-    either (Runs group) (can_be_killed group done.steps p) _ _ (act_runs group (world.Kill p) done tt so_far) (idle_runs group done so_far)
+    act_if_runs group (world.Kill p) (can_be_killed group done.steps p) done (λ can. (fits, can)) so_far
 
 item_runs : (group : Group) (number : ℕ) (i : Item) (done : Progress) → IsInRange (size group) i → Runs group done → Runs group (after_item group number i done)
 item_runs group number i done fits so_far =

@@ -14,7 +14,7 @@ use Rattle.group_world.specs.History as world
 use Rattle.group_world.specs.Laws.{Giver, NamesSend, gives}
 use Rattle.group_record.specs.Run.{Group, Step, Had, Did, world_around, history, size, process_after}
 use Rattle.group_record.specs.Laws.{IsSend}
-use Rattle.group_record.proofs.Running.{IsDone, IsRun}
+use Rattle.group_record.specs.Standing.{IsDone, IsRun}
 use Rattle.group_record.proofs.Agreeing.{ComesIn, comes_in}
 
 -- ---- the events of a run
@@ -34,16 +34,16 @@ has_clock env thread e (Some S) comes =
     let in_it : ComesIn S env thread e = comes_in S env thread e comes in
     omega (arith, ap (λ (e : Event). e.entry.clock) in_it.is)
 
-no_event : (count : ℕ) (act : Act) → IsDone act → EventFits count act
-no_event count (world.Event p e) done = absurd done
-no_event count _ done = tt
+no_event : (group : Group) (early : List Step) (act : Act) → IsDone group early act → EventFits (size group) act
+no_event group early (world.Event p e) done = absurd done
+no_event group early _ done = tt
 
 pub events_fit : (group : Group) (steps : List Step) → IsRun group steps → EventsFit (size group) (history steps)
 events_fit group [] run = tt
 events_fit group (Had p e ∷ early) run =
     let clock : 1 ≤ e.entry.clock = has_clock (world_around (size group) early p) run.0.thread e (process_after group early p) run.0.comes in
     ((run.0.within, clock), events_fit group early run.1)
-events_fit group (Did act ∷ early) run = (no_event (size group) act run.0, events_fit group early run.1)
+events_fit group (Did act ∷ early) run = (no_event group early act run.0, events_fit group early run.1)
 
 -- those of an earlier moment
 earlier_fit : (count : ℕ) (later earlier h : History) (act : Act) → h ≡ later ++ act ∷ earlier → EventsFit count h → EventsFit count earlier

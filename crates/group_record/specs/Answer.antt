@@ -1,6 +1,6 @@
 -- What a recording answers.
 use Rattle.std.specs.Prelude.{◌≡◌, ℕ, suc, Bool, List, [], ◌∷◌, ◌++◌, length, map, Option, Some, None, Result, Ok, Err}
-use Rattle.fri_outside.specs.Outside.{Counts, Rose, Folder}
+use Rattle.fri_outside.specs.Outside.{Counts, Folder, raised}
 use Rattle.fri_outside.specs.Several.{with_files}
 use Rattle.fri_outside.specs.declared.files.WriteError.{WriteError}
 use Rattle.fri_outside.specs.declared.files.WriteError.TheVariants as writing
@@ -101,10 +101,10 @@ RecordAnswers schedule asked begun (Err (errors.LogFull item)) before after =
 RecordAnswers schedule asked begun (Err errors.WriteFault) before after = StoppedWhere schedule asked begun before after
 RecordAnswers schedule asked begun (Err errors.NoMemory) before after = StoppedWhere schedule asked begun before after
 
--- only a failed write comes of the files, and raises their count
-abbrev pub HasWriteCause : {T : Type 0} → Counts → Counts → Result T RecordError → Type 0
-HasWriteCause old new (Err errors.WriteFault) = Rose old.writes new.writes
-HasWriteCause old new answer = Unit {0}
+-- the counts after what was written with this answer: a fault that was answered was counted once, and nothing else was
+abbrev pub after_writes : {T : Type 0} → Counts → Result T RecordError → Counts
+after_writes counts (Err errors.WriteFault) = record counts { writes = raised counts.writes }
+after_writes counts answer = counts
 
 -- what a failed write comes to
 abbrev pub error_of : WriteError → RecordError

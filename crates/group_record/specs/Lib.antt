@@ -8,3 +8,4 @@ pub mod Members
 pub mod Recorded
 pub mod Begun
 pub mod Laws
+pub mod Standing

@@ -1,6 +1,7 @@
 -- The logs of a recording, and what their replay makes of them.
-use Rattle.std.specs.Prelude.{◌≡◌, ℕ, suc, List, [], ◌∷◌, ◌++◌, length, take, codes, slice_get, Some}
+use Rattle.std.specs.Prelude.{◌≡◌, ◌≤◌, ℕ, suc, List, [], ◌∷◌, ◌++◌, length, take, codes, slice_get, Some}
 use Rattle.lib_calls.specs.declared.entry.Entry.{Entry}
+use Rattle.call_log.specs.Limits.{most_log}
 use Rattle.call_log.specs.Log.{entries_of, head_at, rest_of}
 use Rattle.guest_process.specs.Replay.{accepted, replayed}
 use Rattle.guest_process.specs.State.{State}
@@ -24,17 +25,22 @@ abbrev pub logs : Group → List Step → List (List ℕ × List ℕ)
 logs group steps = files_of group (log_of group steps)
 
 -- the bytes are a log of process p whose entries are these events', each is accepted where it comes, and
--- after each n of them the replay is in the recorded state
-pub record IsLogOfRun (group : Group) (p : ℕ) (bytes : List ℕ) (es : List Entry) (after : List State) : Type 0 where
+-- after each n of them the replay is in the recorded state. Behind the entries stands this much of one more
+pub record IsLogOfRun (group : Group) (p : ℕ) (bytes : List ℕ) (es : List Entry) (after : List State) (cut : List ℕ) : Type 0 where
   pub first : State
   pub begun : slice_get group.first p ≡ Some first
   pub left : List ℕ
+  pub within : length bytes ≤ most_log
   pub head : head_at bytes ≡ Some (head_of_log group p, left)
   pub entries : entries_of left ≡ es
-  pub whole : rest_of left ≡ []
+  pub rest : rest_of left ≡ cut
   pub accepted : accepted first es ≡ length es
   pub states : (n : ℕ) (S : State) → slice_get (first ∷ after) n ≡ Some S → replayed first (take n es) ≡ S
 
 -- the log of process p after some steps tells its events
 abbrev pub TellsEvents : Group → List Step → ℕ → Type 0
-TellsEvents group steps p = IsLogOfRun group p (log_of group steps p) (entries steps p) (process_states steps p)
+TellsEvents group steps p = IsLogOfRun group p (log_of group steps p) (entries steps p) (process_states steps p) []
+
+-- and so does the log with these bytes behind it, which are left over
+abbrev pub TellsBefore : Group → List Step → ℕ → List ℕ → Type 0
+TellsBefore group steps p cut = IsLogOfRun group p (log_of group steps p ++ cut) (entries steps p) (process_states steps p) cut

@@ -1,9 +1,9 @@
 -- The run of a schedule: what each item does to a group, from its first states on.
-use Rattle.std.specs.Prelude.{◌≡◌, ℕ, zero, suc, Bool, false, ◌&&◌, ◌==◌, not, is_some, nat_le, List, [], ◌∷◌, ◌++◌, length, map, slice_get, Option, Some, None, option_and_then, if◌then◌else◌}
+use Rattle.std.specs.Prelude.{◌≡◌, ℕ, zero, suc, Bool, false, ◌&&◌, ◌==◌, not, is_some, nat_le, List, [], ◌∷◌, ◌++◌, length, drop, map, slice_get, Option, Some, None, option_and_then, if◌then◌else◌}
 use Rattle.std.specs.Int.{w64, cast_unsigned}
 use Rattle.std.specs.List.{slice_index_or}
 use Rattle.lib_calls.specs.declared.entry.Entry.{Entry}
-use Rattle.call_log.specs.Entry.{encoding, encodings}
+use Rattle.call_log.specs.Entry.{encodings}
 use Rattle.call_log.specs.Head.{Head, head_bytes}
 use Rattle.call_log.specs.Limits.{most_log}
 use Rattle.schedule_text.specs.declared.item.Item.{Item}
@@ -76,9 +76,13 @@ head_of_log group p = record { count = size group; process = p; name = name_of g
 abbrev pub log_of : Group → List Step → ℕ → List ℕ
 log_of group steps p = head_bytes (head_of_log group p) ++ encodings (entries steps p)
 
--- the log stays within the limit with this entry
-abbrev pub log_has_room : Group → List Step → ℕ → Entry → Bool
-log_has_room group steps p e = nat_le (length (log_of group steps p ++ encoding e)) most_log
+-- what the log has more with this event
+abbrev pub entry_bytes : Group → List Step → ℕ → Event → List ℕ
+entry_bytes group early p e = drop (length (log_of group early p)) (log_of group (Had p e ∷ early) p)
+
+-- the log stays within the limit with this event
+abbrev pub log_has_room : Group → List Step → ℕ → Event → Bool
+log_has_room group steps p e = nat_le (length (log_of group (Had p e ∷ steps) p)) most_log
 
 -- ---- the run
 
@@ -114,7 +118,7 @@ event_of_try group steps p thread = option_and_then (λ S. live S thread (world_
 
 abbrev pub had : Group → ℕ → ℕ → Option Event → Progress → Progress
 had group number p None done = idled done
-had group number p (Some e) done = if log_has_room group done.steps p e.entry then with_step (Had p e) done else with_full_log number done
+had group number p (Some e) done = if log_has_room group done.steps p e then with_step (Had p e) done else with_full_log number done
 
 -- one try, in the item with this number
 abbrev pub attempt : Group → ℕ → ℕ → ℕ → Progress → Progress

@@ -1,10 +1,9 @@
 // How the recording of a group begins.
 ghost use Rattle.std.specs.Prelude.{◌≡◌, ◌<◌, ◌≤◌, All, IfOk, length, map};
-ghost use Rattle.fri_outside.specs.Outside.{NoneFell};
 ghost use Rattle.schedule_text.specs.Schedule.{IsProcess};
 ghost use Rattle.wasm_types.specs.Modules.{module_of};
 ghost use Rattle.group_world.specs.World.{new_world};
-ghost use Rattle.group_record.specs.Answer.{HasWriteCause, first_states, first_states_from};
+ghost use Rattle.group_record.specs.Answer.{after_writes, first_states, first_states_from};
 ghost use Rattle.group_record.specs.Begun.{BeginsAll, GroupBegins, IsNewRecorder};
 ghost use Rattle.group_record.specs.Recorded.{kept_for};
 
@@ -30,8 +29,7 @@ pub(crate) fn begin<'m, F: Files>(
     requires { length modules.now ≡ length schedule.now.processes }
     ensures begins { GroupBegins schedule.now (first_states schedule.now (map module_of modules.now)) result (F.told files.old) (F.told files.new) }
     ensures prints { IfOk result (λ r. length r.prints ≡ kept_for images (length schedule.now.processes)) }
-    ensures counts { NoneFell (F.counts files.old) (F.counts files.new) }
-    ensures cause { HasWriteCause (F.counts files.old) (F.counts files.new) result }
+    ensures counted { F.counts files.new ≡ after_writes (F.counts files.old) result }
 {
     let members = begin_members(alloc, schedule.processes(), modules)?;
     let recorder = new_recorder(alloc, images, members)?;

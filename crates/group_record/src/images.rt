@@ -1,10 +1,10 @@
 // The images of a group's processes.
 ghost use Rattle.std.specs.Prelude.{◌≡◌, ◌++◌, [], ◌∷◌, IfOk, IsTrue, OnErr, OnOk, All, is_some, length, string_bytes};
-ghost use Rattle.fri_outside.specs.Outside.{NoneFell, WriteRaises, with_file};
+ghost use Rattle.fri_outside.specs.Outside.{after_write, with_file};
 ghost use Rattle.fri_outside.specs.Several.{with_files};
 ghost use Rattle.fri_text.specs.Name.{is_name};
 ghost use Rattle.schedule_text.specs.Schedule.{IsProcess};
-ghost use Rattle.group_record.specs.Answer.{HasWriteCause};
+ghost use Rattle.group_record.specs.Answer.{after_writes};
 ghost use Rattle.group_record.specs.Images.{AreMadeInPart, image_files};
 ghost use Rattle.group_record.specs.Recorded.{MakesImages, kept_for};
 
@@ -26,8 +26,7 @@ pub fn write_image<F: Files>(
     requires { IsTrue (is_name name.now) }
     ensures ok { OnOk result (F.told files.new ≡ with_files (image_files name.now memory.now printed.now) (F.told files.old)) }
     ensures err { OnErr result (AreMadeInPart (image_files name.now memory.now printed.now) (F.told files.old) (F.told files.new)) }
-    ensures counts { NoneFell (F.counts files.old) (F.counts files.new) }
-    ensures cause { WriteRaises (F.counts files.old) (F.counts files.new) result }
+    ensures counted { F.counts files.new ≡ after_write (F.counts files.old) result }
 {
     write_file(alloc, name, ".mem", memory, files)?;
     write_file(alloc, name, ".out", printed, files)
@@ -44,8 +43,7 @@ fn write_file<F: Files>(
     requires { IsTrue (is_name name.now) }
     ensures ok { OnOk result (F.told files.new ≡ with_file (name.now ++ ending.now) bytes.now (F.told files.old)) }
     ensures err { OnErr result (AreMadeInPart ((name.now ++ ending.now, bytes.now) ∷ []) (F.told files.old) (F.told files.new)) }
-    ensures counts { NoneFell (F.counts files.old) (F.counts files.new) }
-    ensures cause { WriteRaises (F.counts files.old) (F.counts files.new) result }
+    ensures counted { F.counts files.new ≡ after_write (F.counts files.old) result }
 {
     keeps_files();
     let file = image_file(alloc, name, ending)?;
@@ -77,8 +75,7 @@ pub(crate) fn write_images<F: Files>(
     requires kept { length recorder.now.prints ≡ kept_for asked (length processes.now) }
     requires named { All IsProcess processes.now }
     ensures images { MakesImages asked processes.now recorder.now result (F.told files.old) (F.told files.new) }
-    ensures counts { NoneFell (F.counts files.old) (F.counts files.new) }
-    ensures cause { HasWriteCause (F.counts files.old) (F.counts files.new) result }
+    ensures counted { F.counts files.new ≡ after_writes (F.counts files.old) result }
 {
     if !asked {
         return Ok(());

@@ -1,5 +1,6 @@
 // What holds of each recording, as calls that do nothing.
-ghost use Rattle.group_record.specs.Laws.{Agreement, Beginning, Delivery, TakesDrawn, TakesWaiting};
+ghost use Rattle.group_record.specs.Laws.{Agreement, Beginning, CutAgreement, Delivery, TakesDrawn, TakesWaiting};
+ghost use Rattle.group_record.specs.Standing.{Standing};
 
 use call_log::exact_logs;
 use group_world::by_counting;
@@ -10,10 +11,24 @@ pub fn beginning()
     ensures { Beginning }
 {}
 
+/// So a recording stands at each moment: each step is one that could follow those before it, the world around the
+/// processes is what is counted out of the acts, and each process is in the state that the replay of its entries makes,
+/// which is in its ranges.
+pub fn standing()
+    ensures { Standing }
+{
+    one_event();
+    kept();
+    rises();
+    counting();
+}
+
 /// At each moment of a recording each log tells the events of its process: they are its entries, each is
-/// accepted where it comes, and the replay after each n of them is in the recorded state.
+/// accepted where it comes, and the replay after each n of them is in the recorded state. So it is too with a
+/// log behind which the entry of the next event was written in part, and that part is what its reader leaves.
 pub fn agreement()
-    ensures { Agreement }
+    ensures whole { Agreement }
+    ensures cut { CutAgreement }
 {
     exact_logs();
     one_event();

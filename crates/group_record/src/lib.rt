@@ -19,6 +19,6 @@ mod summary;
 
 pub use error::RecordError;
 pub use images::write_image;
-pub use laws::{agreement, beginning, delivery, taking};
+pub use laws::{agreement, beginning, delivery, standing, taking};
 pub use run::run_record;
 pub use summary::{Summary, SummaryLine};

@@ -1,7 +1,6 @@
 // The files of the logs, as they are begun.
 ghost use Rattle.std.specs.Prelude.{◌≡◌};
-ghost use Rattle.fri_outside.specs.Outside.{NoneFell};
-ghost use Rattle.group_record.specs.Answer.{HasWriteCause};
+ghost use Rattle.group_record.specs.Answer.{after_writes};
 ghost use Rattle.group_record.specs.Begun.{BeginsLogs, CreatesLogs, WritesHeads};
 
 use crate::error::RecordError;
@@ -11,8 +10,7 @@ use fri_outside::{Files, keeps_files};
 /// Makes the files of all logs, in order of the processes, and then writes the head of each.
 pub(crate) fn begin_logs<F: Files>(members: &[Member<'_>], files: &mut F) -> Result<(), RecordError>
     ensures logs { BeginsLogs members.now result (F.told files.old) (F.told files.new) }
-    ensures counts { NoneFell (F.counts files.old) (F.counts files.new) }
-    ensures cause { HasWriteCause (F.counts files.old) (F.counts files.new) result }
+    ensures counted { F.counts files.new ≡ after_writes (F.counts files.old) result }
 {
     create_logs(members, files)?;
     write_heads(members, files)
@@ -21,8 +19,7 @@ pub(crate) fn begin_logs<F: Files>(members: &[Member<'_>], files: &mut F) -> Res
 // Makes the files, which have no bytes.
 fn create_logs<F: Files>(members: &[Member<'_>], files: &mut F) -> Result<(), RecordError>
     ensures files { CreatesLogs members.now result (F.told files.old) (F.told files.new) }
-    ensures counts { NoneFell (F.counts files.old) (F.counts files.new) }
-    ensures cause { HasWriteCause (F.counts files.old) (F.counts files.new) result }
+    ensures counted { F.counts files.new ≡ after_writes (F.counts files.old) result }
 {
     keeps_files();
     for member in members {
@@ -34,8 +31,7 @@ fn create_logs<F: Files>(members: &[Member<'_>], files: &mut F) -> Result<(), Re
 // Writes the heads to the files.
 fn write_heads<F: Files>(members: &[Member<'_>], files: &mut F) -> Result<(), RecordError>
     ensures heads { WritesHeads members.now result (F.told files.old) (F.told files.new) }
-    ensures counts { NoneFell (F.counts files.old) (F.counts files.new) }
-    ensures cause { HasWriteCause (F.counts files.old) (F.counts files.new) result }
+    ensures counted { F.counts files.new ≡ after_writes (F.counts files.old) result }
 {
     keeps_files();
     for member in members {

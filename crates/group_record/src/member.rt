@@ -3,14 +3,13 @@ ghost use Rattle.std.specs.Prelude.{◌≡◌, ◌+◌, ◌<◌, ◌≤◌, leng
 ghost use Rattle.call_log.specs.Entry.{encoding};
 ghost use Rattle.call_log.specs.Head.{head_bytes};
 ghost use Rattle.call_log.specs.Limits.{most_log};
-ghost use Rattle.fri_outside.specs.Outside.{NoneFell};
 ghost use Rattle.fri_text.specs.Name.{is_name as is_name_word};
 ghost use Rattle.lib_calls.specs.Entry.{IsShaped, entry_of};
 ghost use Rattle.schedule_text.specs.Schedule.{IsProcess};
 ghost use Rattle.guest_process.specs.Next.{next};
 ghost use Rattle.guest_process.specs.Start.{start as start_of};
 ghost use Rattle.wasm_types.specs.Modules.{module_of};
-ghost use Rattle.group_record.specs.Answer.{HasWriteCause};
+ghost use Rattle.group_record.specs.Answer.{after_writes};
 ghost use Rattle.group_record.specs.Logs.{log_name};
 ghost use Rattle.group_record.specs.Members.{CanKeep, Starts, Writes, kept};
 
@@ -79,8 +78,7 @@ impl<'m> Member<'m> {
         requires event { CanKeep self.old (entry_of entry.now) }
         ensures writes { Writes self.old number (encoding (entry_of entry.now)) result (F.told files.old) (F.told files.new) }
         ensures ok { OnOk result (self.new ≡ kept self.old (entry_of entry.now)) }
-        ensures counts { NoneFell (F.counts files.old) (F.counts files.new) }
-        ensures cause { HasWriteCause (F.counts files.old) (F.counts files.new) result }
+        ensures counted { F.counts files.new ≡ after_writes (F.counts files.old) result }
     {
         bytes.clear();
         put_entry(bytes, entry)?;
@@ -99,8 +97,7 @@ impl<'m> Member<'m> {
         requires { self.old.size ≤ most_log }
         ensures writes { Writes self.old number bytes.now result (F.told files.old) (F.told files.new) }
         ensures ok { OnOk result (self.new ≡ record self.old { size = self.old.size + length bytes.now }) }
-        ensures counts { NoneFell (F.counts files.old) (F.counts files.new) }
-        ensures cause { HasWriteCause (F.counts files.old) (F.counts files.new) result }
+        ensures counted { F.counts files.new ≡ after_writes (F.counts files.old) result }
     {
         if bytes.len() > MOST_LOG - self.size {
             return Err(RecordError::LogFull(number));

@@ -1,6 +1,5 @@
 // A group that is recorded, try by try.
 ghost use Rattle.std.specs.Prelude.{◌≡◌, ◌+◌, ◌<◌, ◌≤◌, ◌^◌, ℕ, All, OnOk, IsTrue, length, slice_get, sum_by, Some, if◌then◌else◌};
-ghost use Rattle.fri_outside.specs.Outside.{NoneFell};
 ghost use Rattle.call_log.specs.Entry.{encoding};
 ghost use Rattle.lib_calls.specs.Entry.{IsShaped};
 ghost use Rattle.lib_calls.specs.Traffic.{drawn as drawn_of, is_taken as is_taken_of};
@@ -11,7 +10,7 @@ ghost use Rattle.group_record.specs.declared.member.Member.{Member as MemberOf};
 ghost use Rattle.group_record.specs.Run.{after_item, after_items, attempt, attempts};
 ghost use Rattle.group_record.specs.Recorded.{Does, HasCountsFor, Kept, UnderWay, acted_on, acts, after_act, total_count, counted_of};
 ghost use Rattle.group_record.specs.Members.{CanKeep, Writes};
-ghost use Rattle.group_record.specs.Answer.{HasWriteCause};
+ghost use Rattle.group_record.specs.Answer.{after_writes};
 
 use crate::error::RecordError;
 use crate::event::live_entry;
@@ -49,8 +48,7 @@ impl<'m> Recorder<'m> {
         requires few { HasCountsFor (sum_by counted_of items.now) self.old }
         ensures comes { Does (λ group. after_items group 1 items.now) self.old result self.new (F.told files.old) (F.told files.new) }
         ensures prints { OnOk result (length self.new.prints ≡ length self.old.prints) }
-        ensures counts { NoneFell (F.counts files.old) (F.counts files.new) }
-        ensures cause { HasWriteCause (F.counts files.old) (F.counts files.new) result }
+        ensures counted { F.counts files.new ≡ after_writes (F.counts files.old) result }
     {
         let mut number = 0;
         for item in items {
@@ -71,10 +69,9 @@ impl<'m> Recorder<'m> {
         requires in_range { IsInRange (length self.old.members.items) item.now }
         requires few { HasCountsFor (counted_of item.now) self.old }
         ensures comes { Does (λ group. after_item group number item.now) self.old result self.new (F.told files.old) (F.told files.new) }
-        ensures counted { OnOk result (total_count self.new ≡ total_count self.old + counted_of item.now) }
+        ensures total { OnOk result (total_count self.new ≡ total_count self.old + counted_of item.now) }
         ensures prints { OnOk result (length self.new.prints ≡ length self.old.prints) }
-        ensures counts { NoneFell (F.counts files.old) (F.counts files.new) }
-        ensures cause { HasWriteCause (F.counts files.old) (F.counts files.new) result }
+        ensures counted { F.counts files.new ≡ after_writes (F.counts files.old) result }
     {
         by_counting();
         match item {
@@ -100,10 +97,9 @@ impl<'m> Recorder<'m> {
         requires process { p < length self.old.members.items }
         requires few { HasCountsFor times self.old }
         ensures comes { Does (λ group. attempts group number p thread times) self.old result self.new (F.told files.old) (F.told files.new) }
-        ensures counted { OnOk result (total_count self.new ≡ total_count self.old + times) }
+        ensures total { OnOk result (total_count self.new ≡ total_count self.old + times) }
         ensures prints { OnOk result (length self.new.prints ≡ length self.old.prints) }
-        ensures counts { NoneFell (F.counts files.old) (F.counts files.new) }
-        ensures cause { HasWriteCause (F.counts files.old) (F.counts files.new) result }
+        ensures counted { F.counts files.new ≡ after_writes (F.counts files.old) result }
     {
         for _ in 0..times {
             self.attempt(number, p, thread, files)?;
@@ -123,10 +119,9 @@ impl<'m> Recorder<'m> {
         requires process { p < length self.old.members.items }
         requires few { HasCountsFor 1 self.old }
         ensures comes { Does (λ group. attempt group number p thread) self.old result self.new (F.told files.old) (F.told files.new) }
-        ensures counted { OnOk result (total_count self.new ≡ total_count self.old + 1) }
+        ensures total { OnOk result (total_count self.new ≡ total_count self.old + 1) }
         ensures prints { OnOk result (length self.new.prints ≡ length self.old.prints) }
-        ensures counts { NoneFell (F.counts files.old) (F.counts files.new) }
-        ensures cause { HasWriteCause (F.counts files.old) (F.counts files.new) result }
+        ensures counted { F.counts files.new ≡ after_writes (F.counts files.old) result }
     {
         by_counting();
         keeps_files();
@@ -161,8 +156,7 @@ impl<'m> Recorder<'m> {
             Writes m number (encoding entry.now) result (F.told files.old) (F.told files.new) }
         ensures ok { OnOk result ((m : MemberOf) → slice_get self.old.members.items p ≡ Some m → Kept self.old p m entry.now self.new) }
         ensures prints { OnOk result (length self.new.prints ≡ length self.old.prints) }
-        ensures counts { NoneFell (F.counts files.old) (F.counts files.new) }
-        ensures cause { HasWriteCause (F.counts files.old) (F.counts files.new) result }
+        ensures counted { F.counts files.new ≡ after_writes (F.counts files.old) result }
     {
         let entry = entry.view();
         self.members[p as usize].keep(number, &entry, &mut self.bytes, files)?;

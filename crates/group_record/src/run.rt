@@ -1,8 +1,7 @@
 // The recording of a schedule.
 ghost use Rattle.std.specs.Prelude.{◌≡◌, length, map};
-ghost use Rattle.fri_outside.specs.Outside.{NoneFell};
 ghost use Rattle.wasm_types.specs.Modules.{module_of};
-ghost use Rattle.group_record.specs.Answer.{HasWriteCause, RecordAnswers, first_states};
+ghost use Rattle.group_record.specs.Answer.{RecordAnswers, after_writes, first_states};
 
 use crate::begin::begin;
 use crate::error::RecordError;
@@ -28,8 +27,7 @@ pub fn run_record<F: Files>(
 ) -> Result<Summary, RecordError>
     requires { length modules.now ≡ length schedule.now.processes }
     ensures answers { RecordAnswers schedule.now images (first_states schedule.now (map module_of modules.now)) result (F.told files.old) (F.told files.new) }
-    ensures counts { NoneFell (F.counts files.old) (F.counts files.new) }
-    ensures cause { HasWriteCause (F.counts files.old) (F.counts files.new) result }
+    ensures counted { F.counts files.new ≡ after_writes (F.counts files.old) result }
 {
     by_counting();
     let mut recorder = begin(alloc, schedule, modules, images, files)?;

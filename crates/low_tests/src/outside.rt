@@ -1,7 +1,7 @@
 // Each object of the outside through its trait, with a call that fails.
 use fri_outside::{
-    FileError, Files, MemFiles, MemSink, MemSource, ReaderSource, RealFiles, Sink, Source,
-    WriteError, WriterSink, write_whole,
+    Console, FileError, Files, MemFiles, MemSink, MemSource, MemTerminal, ReaderSource, RealFiles,
+    Sink, Source, Terminal, WriteError, WriterSink, write_whole,
 };
 use std::alloc::Global;
 use std::fs;
@@ -65,6 +65,35 @@ fn a_sink_in_memory(rt: HostRuntime) -> Result<(), Fail> {
     write_whole(&mut sink, b"abc")?;
     assert_eq!(rt; write_whole(&mut sink, b"de"), Err(WriteError::Failed));
     assert_eq!(rt; sink.bytes(), b"abc".as_slice());
+    Ok(())
+}
+
+// Both ends of a terminal, through its trait.
+fn talk<T: Terminal>(terminal: &mut T) -> Result<usize, WriteError> {
+    write_whole(terminal, b"ab")?;
+    let mut room = [0; 4];
+    terminal.read(&mut room).map_err(|_| WriteError::Failed)
+}
+
+#[test]
+fn a_terminal_in_memory(rt: HostRuntime) -> Result<(), Fail> {
+    let mut input = MemSource::new(b"abcde".to_vec(rt.alloc())?, 3);
+    input.fail_at(2)?;
+    let out = MemSink::new(rt.alloc());
+    let mut terminal = MemTerminal::new(rt.alloc(), input, out);
+    assert_eq!(rt; talk(&mut terminal), Ok(3));
+    assert!(rt; talk(&mut terminal).is_err());
+    assert_eq!(rt; terminal.bytes(), b"abab".as_slice());
+    Ok(())
+}
+
+#[test]
+fn a_console(rt: HostRuntime) -> Result<(), Fail> {
+    let input = MemSource::new(b"abcde".to_vec(rt.alloc())?, 3);
+    let out = MemSink::new(rt.alloc());
+    let mut console = Console { input, out };
+    assert_eq!(rt; talk(&mut console), Ok(3));
+    assert_eq!(rt; console.out.bytes(), b"ab".as_slice());
     Ok(())
 }
 

@@ -1,4 +1,4 @@
-use Rattle.std.proofs.Common.{◌-◌, ◌≤◌}
+use Rattle.std.proofs.Common.{◌≡◌, ◌-◌, ◌≤◌}
 use Rattle.friday_app.specs.Limits.{most_input}
 use Rattle.friday_app.proofs.Listening.{ListensFrom}
 use Rattle.friday_app.proofs.converse.listen.Given as goal
@@ -6,9 +6,9 @@ use Rattle.friday_app.proofs.converse.listen.Given as goal
 abbrev pub invariant-hearing : goal.invariant-hearing
 invariant-hearing g l = record {
   within : l.talk.count ≤ most_input;
-  stands : ListensFrom (g.K.Sink.taken l.fn.out) (g.K.Sink.taken l.out) l.fn.talk.session l.fn.talk.begun.items l.fn.talk.count l.talk.session l.talk.begun.items l.talk.count (g.S.Source.left l.fn.input) (g.S.Source.left l.input);
-  later : g.K.Sink.faults l.fn.out ≤ g.K.Sink.faults l.out;
-  reads : g.S.Source.faults l.fn.input ≤ g.S.Source.faults l.input;
+  stands : ListensFrom (g.T.Sink.taken l.fn.io) (g.T.Sink.taken l.io) l.fn.talk.session l.fn.talk.begun.items l.fn.talk.count l.talk.session l.talk.begun.items l.talk.count (g.T.Sink.hearing l.fn.io) (g.T.Sink.hearing l.io);
+  counted : g.T.Sink.faults l.io ≡ g.T.Sink.faults l.fn.io;
+  reads : (g.T.Sink.hearing l.io).faults ≡ (g.T.Sink.hearing l.fn.io).faults;
 }
 
 abbrev pub decreases-hearing : goal.decreases-hearing

@@ -1,4 +1,4 @@
-use Rattle.std.proofs.Common.{◌+◌, ◌∷◌, [], List, ℕ, take, drop, subst, get_or, arith}
+use Rattle.std.proofs.Common.{◌+◌, ◌∷◌, [], List, ℕ, take, drop, subst, refl, ◌∙◌, get_or, arith}
 use Rattle.std.proofs.lemmas.List.{take_more}
 use Rattle.std.proofs.lemmas.Result.{err_from_is_err_and}
 use Rattle.friday_app.specs.Talk.{StopsIn}
@@ -10,7 +10,8 @@ loop-b-init g c = record {
   count = omega arith;
   within = c.requires;
   stands = goes_on_none (g.K.Sink.taken c.args.out.now) c.args.talk.session c.args.talk.begun.items c.args.talk.count;
-  later = omega arith;
+  counted = refl;
+  heard = refl;
 }
 
 pub returns-in_err-talk-clause-said : goal.returns-in_err-talk-clause-said
@@ -39,5 +40,6 @@ loop-b-preserved g c =
       stands = rw (take_more piece i 0 c.loop-b-test.true) (goes_on_more (take i piece) (b ∷ []) (g.K.Sink.taken c.args.out.now) (g.K.Sink.taken c.loop-b.out) (g.K.Sink.taken c.take_byte.new.out)
           talk.session talk.begun.items talk.count c.loop-b.talk.session c.loop-b.talk.begun.items c.loop-b.talk.count c.in_ok-talk.talk.session c.in_ok-talk.talk.begun.items c.in_ok-talk.talk.count
           c.loop-b.invariant.stands c.in_ok-talk.ensures.said);
-      later = omega (arith, c.take_byte.ensures.faults.later);
+      counted = c.in_ok-talk.ensures.counted ∙ c.loop-b.invariant.counted;
+      heard = c.take_byte.ensures.heard ∙ c.loop-b.invariant.heard;
     }

@@ -8,5 +8,6 @@ invariant-loop-b g l = record {
   count : l.talk.count ≡ l.fn.talk.count + l.b-index;
   within : l.talk.count ≤ most_input;
   stands : GoesOn (take l.b-index l.piece) (g.K.Sink.taken l.fn.out) (g.K.Sink.taken l.out) l.fn.talk.session l.fn.talk.begun.items l.fn.talk.count l.talk.session l.talk.begun.items l.talk.count;
-  later : g.K.Sink.faults l.fn.out ≤ g.K.Sink.faults l.out;
+  counted : g.K.Sink.faults l.out ≡ g.K.Sink.faults l.fn.out;
+  heard : g.K.Sink.hearing l.out ≡ g.K.Sink.hearing l.fn.out;
 }

@@ -2,7 +2,7 @@ use Rattle.std.proofs.Common.{◌≡◌, ◌∙◌, ◌∷◌, ◌++◌, ◌+◌
 use Rattle.std.proofs.lemmas.List.{drop_more, map-append}
 use Rattle.wasm_types.specs.Modules.{Module, module_of as shown}
 use Rattle.schedule_text.specs.declared.process.ProcessLine.{ProcessLine}
-use Rattle.friday_app.proofs.Made.{still_none_fell}
+use Rattle.friday_app.proofs.Counted.{counts_later, counts_none}
 use Rattle.friday_app.proofs.Modules.{AreTaken, one_taken}
 use Rattle.friday_app.proofs.inputs.take_modules.Goals as goal
 
@@ -19,5 +19,5 @@ loop-line-preserved g c =
       subst (λ (ms : List Module). AreTaken told lines (i + 1) ms) (sym pushed)
           (one_taken told lines i (map shown items) c.line-item.result (shown m) taken.0 next (λ folder is. c.in_ok-take_module_of.ensures.answer folder (taken.1 ∙ is))),
       c.take_module_of.ensures.same ∙ taken.1,
-      still_none_fell _ _ _ taken.2 c.take_module_of.ensures.counts,
+      counts_later _ _ _ _ taken.2 (counts_none _ _ _ c.in_ok-take_module_of.ensures.counts),
     )

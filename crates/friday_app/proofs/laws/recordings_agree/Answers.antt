@@ -2,4 +2,10 @@ use Rattle.friday_app.proofs.Recordings.{recordings_agree_so}
 use Rattle.friday_app.proofs.laws.recordings_agree.Goals as goal
 
 pub returns : goal.returns
-returns c = recordings_agree_so c.exact_fault.ensures c.exact_outcome.ensures.schedules c.beginning.ensures c.agreement.ensures c.delivery.ensures
+returns c = recordings_agree_so c.exact_fault.ensures c.exact_outcome.ensures.schedules c.beginning.ensures (record {
+  logs = c.agreement.ensures.whole;
+  cut = c.agreement.ensures.cut;
+  datagrams = c.delivery.ensures;
+  waiting = c.taking.ensures.datagrams;
+  random = c.taking.ensures.bytes;
+})

@@ -25,6 +25,11 @@ returns-in_err-replay-clause-cause c =
     let p = err_from_is_err_and c.from_residual.result c.from_residual.ensures.1 in
     rw (p.1, p.2) c.in_err-replay.ensures.cause
 
+pub returns-in_err-replay-clause-still : goal.returns-in_err-replay-clause-still
+returns-in_err-replay-clause-still c =
+    let p = err_from_is_err_and c.from_residual.result c.from_residual.ensures.1 in
+    rw (p.1, p.2) c.in_err-replay.ensures.still
+
 pub loop-loaded-preserved : goal.loop-loaded-preserved
 loop-loaded-preserved c =
     let all = c.args.all.now in

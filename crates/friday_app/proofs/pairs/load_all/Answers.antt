@@ -4,7 +4,7 @@ use Rattle.std.proofs.lemmas.Result.{err_from_is_err_and}
 use Rattle.friday_app.specs.declared.pairs.Loaded.{Loaded}
 use Rattle.friday_app.specs.Seen.{AreLoaded}
 use Rattle.friday_app.proofs.Loading.{all_read, one_read, reading_stops}
-use Rattle.friday_app.proofs.Made.{still_none_fell}
+use Rattle.friday_app.proofs.Counted.{counts_later, counts_none}
 use Rattle.friday_app.proofs.pairs.load_all.Goals as goal
 
 pub returns-in_err-loaded-clause-answer : goal.returns-in_err-loaded-clause-answer
@@ -28,7 +28,7 @@ loop-pair-preserved g c =
           (λ ls are. c.in_ok-loaded.ensures.fits ls (subst (λ (xs : List Loaded). AreLoaded xs ls) (sym c.deref.ensures.value) are))
           c.in_ok-push.ensures.items,
       c.load.ensures.same ∙ read.1,
-      still_none_fell _ _ _ read.2 c.load.ensures.counts,
+      counts_later _ _ _ _ read.2 (counts_none _ _ _ c.in_ok-loaded.ensures.counts),
     )
 
 pub returns-clause-answer : goal.returns-clause-answer

@@ -6,6 +6,7 @@ use Rattle.friday_app.specs.declared.refusal.Refusal.TheVariants as refusal
 use Rattle.friday_app.specs.Expected.{replay_outcome}
 use Rattle.friday_app.specs.Report.{images_if}
 use Rattle.friday_app.specs.Seen.{MakesAll, pair_of}
+use Rattle.friday_app.proofs.Counted.{counts_still}
 use Rattle.friday_app.proofs.Gathered.{refused_makes}
 use Rattle.friday_app.proofs.Made.{all_changes, makes_others, same_changes, same_others}
 use Rattle.friday_app.specs.Pairs.{WasOpened}
@@ -37,6 +38,11 @@ returns-in_err-begin_all-clause-cause g c =
     let p = err_from_is_err_and c.from_residual-in_err-begin_all.result c.from_residual-in_err-begin_all.ensures.1 in
     rw (p.1, p.2)
     (c.in_err-begin_all.ensures.cause (g.F.Files.counts c.args.files.now) (g.F.Files.counts c.load_all.new.files))
+
+pub returns-in_err-begin_all-clause-counts : goal.returns-in_err-begin_all-clause-counts
+returns-in_err-begin_all-clause-counts g c =
+    let p = err_from_is_err_and c.from_residual-in_err-begin_all.result c.from_residual-in_err-begin_all.ensures.1 in
+    rw (p.1, p.2) (counts_still _ _ _ (Err c.in_err-begin_all.field-0.0) c.in_err-begin_all.ensures.still c.in_ok-all.ensures.counts)
 
 pub returns-in_err-group-clause-makes : goal.returns-in_err-group-clause-makes
 returns-in_err-group-clause-makes g c =

@@ -1,7 +1,7 @@
 use Rattle.std.proofs.Common.{◌∙◌, sym}
 use Rattle.std.proofs.lemmas.Result.{err_from_is_err_and}
 use Rattle.friday_app.proofs.Imaging.{failed_makes, first_made, has_image, node_named, one_made, own_files, part_made}
-use Rattle.friday_app.proofs.Made.{still_none_fell}
+use Rattle.friday_app.proofs.Counted.{counts_same}
 use Rattle.friday_app.proofs.replay.write_images.Goals as goal
 
 pub returns-in_err-image-clause-made : goal.returns-in_err-image-clause-made
@@ -29,5 +29,5 @@ pub loop-node-preserved : goal.loop-node-preserved
 loop-node-preserved g c =
     let own = own_files c.args.group.now.start c.loop-node.node c.in-Some.name.now c.as_slice.result.now c.as_slice-in-loop-node.result.now c.in-Some-2.image c.in-Some.ensures (sym c.in-Some-2.is ∙ c.in_ok-image.ensures.image) c.as_slice.ensures c.as_slice-in-loop-node.ensures in (
       one_made c.args.group.now.start c.loop-node.node _ _ _ _ own c.loop-node.invariant.0 c.in_ok-write_image.ensures.ok,
-      still_none_fell _ _ _ c.loop-node.invariant.1 c.in_ok-write_image.ensures.counts,
+      counts_same _ _ _ _ c.loop-node.invariant.1 c.in_ok-write_image.ensures.counted,
     )

@@ -1,10 +1,11 @@
 use Rattle.std.proofs.Common.{◌≡◌, take}
-use Rattle.fri_outside.specs.Outside.{NoneFell}
+use Rattle.std.specs.Prelude.{⊤, Ok}
 use Rattle.fri_outside.specs.Several.{with_files}
 use Rattle.friday_app.specs.Report.{images_in}
+use Rattle.friday_app.specs.Call.{CountsFaults}
 use Rattle.friday_app.proofs.replay.write_images.Given as goal
 
 abbrev pub invariant-loop-node : goal.invariant-loop-node
 invariant-loop-node g l =
     (g.F.Files.told l.files ≡ with_files (images_in (take l.node l.group.start)) (g.F.Files.told l.initial.files))
-    × NoneFell (g.F.Files.counts l.initial.files) (g.F.Files.counts l.files)
+    × CountsFaults {T = ⊤} (g.F.Files.counts l.initial.files) (g.F.Files.counts l.files) (Ok tt)

@@ -5,7 +5,7 @@ use Rattle.fri_outside.specs.declared.files.WriteError.TheVariants as writing
 use Rattle.group_record.specs.Images.{AreMadeInPart}
 use Rattle.group_record.specs.Run.{size}
 use Rattle.group_record.proofs.Imaging.{asked_fails, image_fails, image_is, image_made, name_here, named_all, within_kept}
-use Rattle.group_record.proofs.Small.{at_place, none_fell_on}
+use Rattle.group_record.proofs.Small.{at_place, failed_write}
 use Rattle.group_record.proofs.images.write_images.Goals as goal
 
 pub returns-in_err-memory-clause-images : goal.returns-in_err-memory-clause-images
@@ -53,5 +53,10 @@ loop-p-preserved g c = record {
       (within_kept c.args.asked asked (length c.args.processes.now) (length c.args.recorder.now.prints) k c.requires.kept c.loop-p-test.true) c.of.ensures in
       image_made group done.steps k c.as_slice-name.result.now before now after within name (c.loop-p.invariant.made group done keeps named)
       (c.in_ok-write_image.ensures.ok ∙ ap (λ fs. with_files fs now) image);
-  counts = none_fell_on (g.F.Files.counts c.args.files.now) (g.F.Files.counts c.loop-p.files) (g.F.Files.counts c.write_image.new.files) c.loop-p.invariant.counts c.in_ok-write_image.ensures.counts;
+  quiet = c.in_ok-write_image.ensures.counted ∙ c.loop-p.invariant.quiet;
 }
+
+pub returns-in_err-write_image-clause-counted : goal.returns-in_err-write_image-clause-counted
+returns-in_err-write_image-clause-counted g c =
+    let p = err_from_is_err_and c.from_residual-in_err-write_image.result c.from_residual-in_err-write_image.ensures.1 in
+    rw (p.1, p.2) (failed_write (g.F.Files.counts c.args.files.now) (g.F.Files.counts c.loop-p.files) (g.F.Files.counts c.write_image.new.files) c.in_err-write_image.field-0.0 c.loop-p.invariant.quiet c.in_err-write_image.ensures.counted)

@@ -1,5 +1,4 @@
 use Rattle.std.proofs.Common.{◌≡◌, map}
-use Rattle.fri_outside.specs.Outside.{NoneFell}
 use Rattle.group_record.specs.Recorded.{KeepsUp}
 use Rattle.group_record.specs.Run.{Group, Progress}
 use Rattle.group_record.proofs.Imaging.{ImagesTo}
@@ -9,5 +8,5 @@ abbrev pub invariant-loop-p : goal.invariant-loop-p
 invariant-loop-p g l = record {
   made : (group : Group) (done : Progress) → KeepsUp group done l.recorder → group.names ≡ map (λ line. line.name) l.processes
       → ImagesTo group done.steps l.p (g.F.Files.told l.initial.files) (g.F.Files.told l.files);
-  counts : NoneFell (g.F.Files.counts l.initial.files) (g.F.Files.counts l.files);
+  quiet : g.F.Files.counts l.files ≡ g.F.Files.counts l.initial.files;
 }

@@ -1,8 +1,17 @@
-use Rattle.group_record.proofs.Agreeing.{agrees}
+use Rattle.group_record.proofs.Agreeing.{agrees, agrees_cut}
 use Rattle.group_record.proofs.laws.agreement.Goals as goal
 
-pub returns : goal.returns
-returns c = agrees c.exact_logs.ensures (record {
+pub returns-clause-whole : goal.returns-clause-whole
+returns-clause-whole c = agrees c.exact_logs.ensures (record {
+  one = c.one_event.ensures;
+  started = c.kept.ensures.started;
+  kept = c.kept.ensures.ranges;
+  rises = c.rises.ensures;
+  fresh = c.counting.ensures.begun;
+})
+
+pub returns-clause-cut : goal.returns-clause-cut
+returns-clause-cut c = agrees_cut c.exact_logs.ensures (record {
   one = c.one_event.ensures;
   started = c.kept.ensures.started;
   kept = c.kept.ensures.ranges;

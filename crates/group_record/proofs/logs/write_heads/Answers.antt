@@ -4,7 +4,7 @@ use Rattle.group_record.specs.Begun.{heads}
 use Rattle.group_record.specs.Logs.{log_name}
 use Rattle.group_record.specs.Run.{name_of, size}
 use Rattle.group_record.proofs.Heads.{all_heads, head_stops, heads_go_on}
-use Rattle.group_record.proofs.Small.{at_place, none_fell_on}
+use Rattle.group_record.proofs.Small.{at_place, failed_write}
 use Rattle.group_record.proofs.logs.write_heads.Goals as goal
 
 pub returns-in_err-append-clause-heads : goal.returns-in_err-append-clause-heads
@@ -26,9 +26,14 @@ loop-member-preserved g c = record {
       let named : c.deref.result.now ≡ log_name (name_of group k) = c.deref.ensures ∙ have.logs k c.member-item.result at in
       let spelled : c.deref-in-loop-member.result.now ≡ heads group k = c.deref-in-loop-member.ensures.value ∙ have.heads k c.member-item.result at in
       heads_go_on c.keeps_files.ensures group c.args.members.now k c.deref.result.now c.deref-in-loop-member.result.now before (g.F.Files.told c.loop-member.files) (g.F.Files.told c.append.new.self) have within named spelled (c.loop-member.invariant.written group before have made) c.in_ok-append.ensures.ok;
-  counts = none_fell_on (g.F.Files.counts c.args.files.now) (g.F.Files.counts c.loop-member.files) (g.F.Files.counts c.append.new.self) c.loop-member.invariant.counts c.in_ok-append.ensures.counts;
+  quiet = c.in_ok-append.ensures.counted ∙ c.loop-member.invariant.quiet;
 }
 
 pub returns-clause-heads : goal.returns-clause-heads
 returns-clause-heads g c = λ group before have made.
     all_heads group c.loop-member.member-index before (g.F.Files.told c.loop-member.files) (omega (arith, c.loop-member-test.false, have.count)) (c.loop-member.invariant.written group before have made)
+
+pub returns-in_err-append-clause-counted : goal.returns-in_err-append-clause-counted
+returns-in_err-append-clause-counted g c =
+    let p = err_from_is_err_and c.from_residual.result c.from_residual.ensures.1 in
+    rw (p.1, p.2) (failed_write (g.F.Files.counts c.args.files.now) (g.F.Files.counts c.loop-member.files) (g.F.Files.counts c.append.new.self) c.in_err-append.field-0.0 c.loop-member.invariant.quiet c.in_err-append.ensures.counted)

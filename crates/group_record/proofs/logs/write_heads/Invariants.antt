@@ -1,5 +1,5 @@
 use Rattle.std.proofs.Common.{◌≡◌, Option}
-use Rattle.fri_outside.specs.Outside.{NoneFell, Folder}
+use Rattle.fri_outside.specs.Outside.{Folder}
 use Rattle.fri_outside.specs.Several.{with_files}
 use Rattle.group_record.specs.Run.{Group}
 use Rattle.group_record.specs.Logs.{files_of}
@@ -11,5 +11,5 @@ abbrev pub invariant-loop-member : goal.invariant-loop-member
 invariant-loop-member g l = record {
   written : (group : Group) (before : Option Folder) → HaveHeads group l.members → g.F.Files.told l.initial.files ≡ with_files (files_of group no_bytes) before
       → g.F.Files.told l.files ≡ with_files (files_of group (heads_to group l.member-index)) before;
-  counts : NoneFell (g.F.Files.counts l.initial.files) (g.F.Files.counts l.files);
+  quiet : g.F.Files.counts l.files ≡ g.F.Files.counts l.initial.files;
 }

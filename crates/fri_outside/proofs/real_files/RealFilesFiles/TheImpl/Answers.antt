@@ -1,5 +1,5 @@
 use Rattle.std.proofs.Common.{refl, inl}
-use Rattle.fri_outside.proofs.Untold.{at_ok, at_err, read_raises, write_raises}
+use Rattle.fri_outside.proofs.Untold.{at_ok, at_err}
 use Rattle.fri_outside.proofs.real_files.RealFilesFiles.TheImpl.Goals as goal
 
 pub read-tells : goal.read-tells
@@ -7,8 +7,7 @@ read-tells g c = record {
   within = c.ensures.within;
   answer = λ folder told. cc;
   same = refl;
-  counts = c.ensures.counts;
-  cause = read_raises c.args.self.now c.new.self.now c.result c.ensures.counted;
+  counted = c.ensures.counted;
 }
 
 pub create-tells : goal.create-tells
@@ -16,8 +15,7 @@ create-tells g c = record {
   ok = at_ok c.result refl;
   err = at_err c.result (inl refl);
   no_memory = λ _. refl;
-  counts = c.ensures.counts;
-  cause = write_raises c.args.self.now c.new.self.now c.result c.ensures.counted;
+  counted = c.ensures.counted;
 }
 
 pub append-tells : goal.append-tells
@@ -25,6 +23,5 @@ append-tells g c = record {
   ok = at_ok c.result refl;
   err = at_err c.result (inl refl);
   no_memory = λ _. refl;
-  counts = c.ensures.counts;
-  cause = write_raises c.args.self.now c.new.self.now c.result c.ensures.counted;
+  counted = c.ensures.counted;
 }

@@ -62,8 +62,8 @@ returns-in-Some-2-clause-comes g c = λ group done before keeps files.
     (tells_of group done c.args.self.now c.args.p c.args.thread m (env_of c.args.self.now.world c.args.p) c.in-Some-2.entry keeps at c.in-Some.process c.in-Some.is tells)
     (c.keep.ensures.writes m at) (kept_at c.keep.result c.args.self.now c.keep.new.self c.args.p m c.in-Some-2.entry at c.keep.ensures.ok)
 
-pub returns-in-Some-2-clause-counted : goal.returns-in-Some-2-clause-counted
-returns-in-Some-2-clause-counted g c =
+pub returns-in-Some-2-clause-total : goal.returns-in-Some-2-clause-total
+returns-in-Some-2-clause-total g c =
     let m = c.index.result.now in
     let at = at_place c.args.self.now.members.items c.args.p m c.requires.process c.index.ensures in
     counted_kept c.keep.result c.args.self.now c.keep.new.self c.args.p m c.in-Some-2.entry (kept_at c.keep.result c.args.self.now c.keep.new.self c.args.p m c.in-Some-2.entry at c.keep.ensures.ok)

@@ -1,4 +1,4 @@
-use Rattle.std.proofs.Common.{◌∙◌, sym, rules}
+use Rattle.std.proofs.Common.{◌∙◌, refl, sym}
 use Rattle.std.proofs.lemmas.Result.{err_from_is_err_and}
 use Rattle.group_record.specs.Recorded.{acts, after_act}
 use Rattle.group_record.specs.Run.{after_item}
@@ -18,10 +18,9 @@ returns-in_err-act-in_default g c =
     record {
       comes = λ group done before keeps files.
           rw (p.1, p.2) (memory_stops group done (after_item group c.args.number c.args.item.now done) c.args.self.now before (g.F.Files.told c.args.files.now) (item_leads group c.args.number c.args.item.now done) files);
-      counted = rw p.1 tt;
+      total = rw p.1 tt;
       prints = rw p.1 tt;
-      counts = search rules;
-      cause = rw (p.1, p.2) tt;
+      counted = rw (p.1, p.2) refl;
     }
 
 pub returns-in_ok-act-in_default : goal.returns-in_ok-act-in_default
@@ -29,9 +28,8 @@ returns-in_ok-act-in_default g c = record {
   comes = λ group done before keeps files.
       item_comes c.by_counting.ensures.counted group done before (g.F.Files.told c.args.files.now) c.args.self.now c.act.new.self c.args.number c.args.item.now keeps files c.requires.in_range
       (is_other c.args.item.now c.in_default.not-Run).0 c.in_ok-act-in_default.ensures;
-  counted = counted_other (acts c.args.self.now.members.items c.args.self.now.world c.args.item.now) (after_act c.args.self.now.members.items c.args.self.now.world c.args.item.now) c.args.self.now c.act.new.self c.args.item.now
+  total = counted_other (acts c.args.self.now.members.items c.args.self.now.world c.args.item.now) (after_act c.args.self.now.members.items c.args.self.now.world c.args.item.now) c.args.self.now c.act.new.self c.args.item.now
       (is_other c.args.item.now c.in_default.not-Run).1 c.in_ok-act-in_default.ensures;
   prints = acted_prints (acts c.args.self.now.members.items c.args.self.now.world c.args.item.now) (after_act c.args.self.now.members.items c.args.self.now.world c.args.item.now) c.args.self.now c.act.new.self c.in_ok-act-in_default.ensures;
-  counts = search rules;
-  cause = tt;
+  counted = refl;
 }

@@ -3,7 +3,7 @@ use Rattle.std.proofs.lemmas.Result.{err_from_is_err_and}
 use Rattle.group_record.specs.Run.{Group, Progress, after_item, after_items}
 use Rattle.group_record.proofs.Counted.{few_first, few_next}
 use Rattle.group_record.proofs.Loops.{count_next, has_come, item_next, item_stops, items_end, under_next}
-use Rattle.group_record.proofs.Small.{none_fell_on}
+use Rattle.group_record.proofs.Small.{failed_writes}
 use Rattle.group_record.proofs.recorder.Recorder.perform_all.Goals as goal
 
 pub returns-in_err-perform-clause-comes : goal.returns-in_err-perform-clause-comes
@@ -25,13 +25,13 @@ loop-item-preserved g c =
       number = omega (arith, l.invariant.number);
       under = under_next next l.self c.perform.new.self (g.F.Files.told l.files) (g.F.Files.told c.perform.new.files) l.invariant.under c.in_ok-perform.ensures.comes;
       count = count_next next l.self c.perform.new.self (g.F.Files.told l.files) (g.F.Files.told c.perform.new.files) l.invariant.under c.in_ok-perform.ensures.comes ∙ l.invariant.count;
-      few = few_next c.args.items.now l.item-index c.item-item.result l.self c.perform.new.self c.loop-item-test.true c.item-item.is l.invariant.few c.in_ok-perform.ensures.counted;
+      few = few_next c.args.items.now l.item-index c.item-item.result l.self c.perform.new.self c.loop-item-test.true c.item-item.is l.invariant.few c.in_ok-perform.ensures.total;
       prints = c.in_ok-perform.ensures.prints ∙ l.invariant.prints;
       comes = λ group done before keeps files.
           item_next group (l.number + 1) (l.number + 1 + 1) c.args.items.now l.item-index c.item-item.result l.self c.perform.new.self
           before (g.F.Files.told l.files) (g.F.Files.told c.perform.new.files) (after_items group 1 c.args.items.now done) c.loop-item-test.true (omega arith) c.item-item.is
           (l.invariant.comes group done before keeps files) c.in_ok-perform.ensures.comes;
-      counts = none_fell_on (g.F.Files.counts c.args.files.now) (g.F.Files.counts l.files) (g.F.Files.counts c.perform.new.files) l.invariant.counts c.in_ok-perform.ensures.counts;
+      quiet = c.in_ok-perform.ensures.counted ∙ l.invariant.quiet;
     }
 
 pub returns-clause-comes : goal.returns-clause-comes
@@ -40,3 +40,8 @@ returns-clause-comes g c = λ group done before keeps files.
     has_come group l.self before (g.F.Files.told l.files) (after_items group (l.number + 1) (drop l.item-index c.args.items.now)) (after_items group 1 c.args.items.now done)
     (l.invariant.comes group done before keeps files)
     (λ d. items_end group (l.number + 1) c.args.items.now l.item-index d c.loop-item-test.false)
+
+pub returns-in_err-perform-clause-counted : goal.returns-in_err-perform-clause-counted
+returns-in_err-perform-clause-counted g c =
+    let p = err_from_is_err_and c.from_residual.result c.from_residual.ensures.1 in
+    rw (p.1, p.2) (failed_writes (g.F.Files.counts c.args.files.now) (g.F.Files.counts c.loop-item.files) (g.F.Files.counts c.perform.new.files) c.in_err-perform.field-0.0 c.loop-item.invariant.quiet c.in_err-perform.ensures.counted)

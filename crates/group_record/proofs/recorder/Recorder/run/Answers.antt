@@ -2,7 +2,7 @@ use Rattle.std.proofs.Common.{◌≡◌, ◌∙◌, ◌-◌, ◌+◌, suc, arith
 use Rattle.std.proofs.lemmas.Result.{err_from_is_err_and}
 use Rattle.group_record.specs.Run.{Group, Progress, attempt, attempts}
 use Rattle.group_record.proofs.Loops.{attempts-none, count_next, has_come, try_next, try_stops, under_next}
-use Rattle.group_record.proofs.Small.{none_fell_on}
+use Rattle.group_record.proofs.Small.{failed_writes}
 use Rattle.group_record.proofs.recorder.Recorder.run.Goals as goal
 
 pub returns-in_err-attempt-clause-comes : goal.returns-in_err-attempt-clause-comes
@@ -20,13 +20,13 @@ loop-preserved g c =
     record {
       under = under_next next c.loop.self c.attempt.new.self (g.F.Files.told c.loop.files) (g.F.Files.told c.attempt.new.files) c.loop.invariant.under c.in_ok-attempt.ensures.comes;
       count = count_next next c.loop.self c.attempt.new.self (g.F.Files.told c.loop.files) (g.F.Files.told c.attempt.new.files) c.loop.invariant.under c.in_ok-attempt.ensures.comes ∙ c.loop.invariant.count;
-      counted = omega (arith, c.in_ok-attempt.ensures.counted, c.loop.invariant.counted);
+      counted = omega (arith, c.in_ok-attempt.ensures.total, c.loop.invariant.counted);
       prints = c.in_ok-attempt.ensures.prints ∙ c.loop.invariant.prints;
       comes = λ group done before keeps files.
           try_next group c.args.number c.args.p c.args.thread (c.args.times - c.loop.counter) (c.args.times - (c.loop.counter + 1)) c.loop.self c.attempt.new.self
           before (g.F.Files.told c.loop.files) (g.F.Files.told c.attempt.new.files) (attempts group c.args.number c.args.p c.args.thread c.args.times done) one
           (c.loop.invariant.comes group done before keeps files) c.in_ok-attempt.ensures.comes;
-      counts = none_fell_on (g.F.Files.counts c.args.files.now) (g.F.Files.counts c.loop.files) (g.F.Files.counts c.attempt.new.files) c.loop.invariant.counts c.in_ok-attempt.ensures.counts;
+      quiet = c.in_ok-attempt.ensures.counted ∙ c.loop.invariant.quiet;
     }
 
 pub returns-clause-comes : goal.returns-clause-comes
@@ -34,3 +34,8 @@ returns-clause-comes g c = λ group done before keeps files.
     has_come group c.loop.self before (g.F.Files.told c.loop.files) (attempts group c.args.number c.args.p c.args.thread (c.args.times - c.loop.counter)) (attempts group c.args.number c.args.p c.args.thread c.args.times done)
     (c.loop.invariant.comes group done before keeps files)
     (λ d. attempts-none group c.args.number c.args.p c.args.thread (c.args.times - c.loop.counter) d (omega arith))
+
+pub returns-in_err-attempt-clause-counted : goal.returns-in_err-attempt-clause-counted
+returns-in_err-attempt-clause-counted g c =
+    let p = err_from_is_err_and c.from_residual.result c.from_residual.ensures.1 in
+    rw (p.1, p.2) (failed_writes (g.F.Files.counts c.args.files.now) (g.F.Files.counts c.loop.files) (g.F.Files.counts c.attempt.new.files) c.in_err-attempt.field-0.0 c.loop.invariant.quiet c.in_err-attempt.ensures.counted)

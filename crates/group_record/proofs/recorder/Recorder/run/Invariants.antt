@@ -1,5 +1,5 @@
 use Rattle.std.proofs.Common.{◌≡◌, ◌+◌, ◌-◌, length, Option}
-use Rattle.fri_outside.specs.Outside.{NoneFell, Folder}
+use Rattle.fri_outside.specs.Outside.{Folder}
 use Rattle.group_record.specs.Run.{Group, Progress, attempts}
 use Rattle.group_record.specs.Recorded.{FilesOf, KeepsUp, UnderWay, total_count}
 use Rattle.group_record.proofs.Loops.{ComesTo}
@@ -13,5 +13,5 @@ invariant-loop g l = record {
   prints : length l.self.prints ≡ length l.initial.self.prints;
   comes : (group : Group) (done : Progress) (before : Option Folder) → KeepsUp group done l.initial.self → FilesOf group done before (g.F.Files.told l.initial.files)
       → ComesTo group l.self before (g.F.Files.told l.files) (attempts group l.number l.p l.thread (l.times - l.counter)) (attempts group l.number l.p l.thread l.times done);
-  counts : NoneFell (g.F.Files.counts l.initial.files) (g.F.Files.counts l.files);
+  quiet : g.F.Files.counts l.files ≡ g.F.Files.counts l.initial.files;
 }

@@ -1,0 +1,11 @@
+use Rattle.group_record.proofs.Following.{stands}
+use Rattle.group_record.proofs.laws.standing.Goals as goal
+
+pub returns : goal.returns
+returns c = stands (record {
+  one = c.one_event.ensures;
+  started = c.kept.ensures.started;
+  kept = c.kept.ensures.ranges;
+  rises = c.rises.ensures;
+  fresh = c.counting.ensures.begun;
+})
