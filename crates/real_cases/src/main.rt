@@ -1,0 +1,126 @@
+//! Plays commands over the files and streams of the runtime, in the folder that it is run in, and prints what came of each:
+//! the words, what the call printed, its status, and the files that it made.
+#![tactic(auto)]
+
+use fri_outside::{Console, ReaderSource, RealFiles, WriterSink};
+use friday_app::{Status, friday};
+use std::alloc::{AllocError, Global};
+use std::fs::{self, OpenOptions};
+use std::io::{self, Write};
+use std::os::unix::fs::symlink;
+use std::rt::Files;
+
+/// The most bytes of a schedule that is read.
+const SCHEDULE_LIMIT: usize = 16_777_216;
+
+/// A device that takes no byte.
+const FULL: &str = "/dev/full";
+
+fn split_words(alloc: Global, words: &str) -> Result<Vec<String>, AllocError> {
+    let mut list = Vec::new(alloc);
+    for word in words.split_whitespace() {
+        list.push(String::from_str(alloc, word)?)?;
+    }
+    Ok(list)
+}
+
+// Makes the call with these words, where this is typed, and closes the files. What it prints goes to this writer.
+fn call<R: Files + AllocGlobal, W: Write + Drop>(
+    rt: &R,
+    words: &str,
+    typed: &[u8],
+    out: W,
+) -> Result<(Status, bool), AllocError> {
+    let words = split_words(rt.alloc(), words)?;
+    let mut files = RealFiles::new(rt.alloc(), rt);
+    let mut terminal = Console {
+        input: ReaderSource::new(typed),
+        out: WriterSink::new(out),
+    };
+    let status = friday(rt.alloc(), &words, &mut files, &mut terminal);
+    Ok((status, files.close().is_ok()))
+}
+
+// The call with what it prints, and how it ended.
+fn play<R: Files + Print + AllocGlobal>(rt: &R, words: &str, typed: &str) -> io::Result<()> {
+    println!(rt; "friday {words}")?;
+    let (status, is_closed) = call(rt, words, typed.as_bytes(), io::writer(rt))?;
+    println!(rt; "status {}, closed {is_closed}", status.number())
+}
+
+// The call whose output is a device that is full.
+fn play_unheard<R: Files + Print + AllocGlobal>(rt: &R, words: &str) -> io::Result<()> {
+    println!(rt; "friday {words} > {FULL}")?;
+    let out = OpenOptions::new().write(true).open(rt, FULL)?;
+    let (status, is_closed) = call(rt, words, b"", out)?;
+    println!(rt; "status {}, closed {is_closed}", status.number())
+}
+
+// The bytes of a file, as digits.
+fn show<R: Files + Print + AllocGlobal>(rt: &R, name: &str) -> io::Result<()> {
+    match fs::read(rt, name) {
+        Ok(bytes) => println!(rt; "{name}: {}", hex::encode(rt.alloc(), bytes.as_slice())?),
+        Err(_) => println!(rt; "{name}: absent"),
+    }
+}
+
+// How long a file is.
+fn measure<R: Files + Print>(rt: &R, name: &str) -> io::Result<()> {
+    println!(rt; "{name}: {} bytes", fs::metadata(rt, name)?.len())
+}
+
+// A schedule of so many bytes, all but the first of which are of comments.
+fn write_long<R: Files + AllocGlobal>(rt: &R, name: &str, len: usize) -> io::Result<()> {
+    let mut bytes = fs::read(rt, "schedule")?;
+    for at in bytes.len()..len {
+        let last = at + 1 == len || at % 64 == 63;
+        bytes.push(if last { b'\n' } else { b'#' })?;
+    }
+    fs::write(rt, name, bytes.as_slice())
+}
+
+fn record_and_replay<R: Files + Print + AllocGlobal>(rt: &R) -> io::Result<()> {
+    play(rt, "record --images schedule", "")?;
+    show(rt, "ping.log")?;
+    show(rt, "pong.log")?;
+    measure(rt, "ping.mem")?;
+    show(rt, "ping.out")?;
+    play(
+        rt,
+        "replay --images ping.wasm ping.log pong.wasm pong.log",
+        "",
+    )?;
+    measure(rt, "pong.mem")?;
+    play(
+        rt,
+        "debug ping.wasm ping.log pong.wasm pong.log",
+        "goto 9\nmem ping 66552 8\nthreads pong\nquit\nstep\n",
+    )
+}
+
+fn refuse<R: Files + Print + AllocGlobal>(rt: &R) -> io::Result<()> {
+    play(rt, "replay ping.wasm none.log", "")?;
+    play(rt, "replay ping.wasm schedule", "")?;
+    play(rt, "replay . ping.log", "")?;
+    play(rt, "record .", "")?;
+    write_long(rt, "long", SCHEDULE_LIMIT)?;
+    play(rt, "record long", "")?;
+    write_long(rt, "longer", SCHEDULE_LIMIT + 1)?;
+    play(rt, "record longer", "")
+}
+
+fn fill<R: Files + Print + AllocGlobal>(rt: &R) -> io::Result<()> {
+    play_unheard(rt, "replay ping.wasm ping.log")?;
+    play_unheard(rt, "debug ping.wasm ping.log")?;
+    fs::remove_file(rt, "pong.log")?;
+    symlink(rt, FULL, "pong.log")?;
+    play(rt, "record schedule", "")?;
+    show(rt, "ping.log")?;
+    fs::remove_file(rt, "pong.log")
+}
+
+fn main(rt: HostRuntime) -> io::Result<()> {
+    record_and_replay(&rt)?;
+    refuse(&rt)?;
+    fill(&rt)
+}
