@@ -59,10 +59,11 @@ def prove_all():
         say(f"proving {len(names)} crates, {len(lanes)} at a time, and then the program; it goes on here after a stop")
         if shutil.disk_usage(folder_of_lanes()).free < WANTED_ROOM:
             say(f"note: this wants some 3 GB of disk, and {folder_of_lanes()} has less; TMPDIR names another place")
-        if not prove_crates(order, lanes, Progress(order, len(lanes))):
+        progress = Progress(order, len(lanes))
+        if not prove_crates(order, lanes, progress):
             return False
         read_at = time.time()
-        if not build_program(Progress(order, 1)):
+        if not build_program(progress):
             return told_refused("friday", LOG)
         # A source that was changed since is newer than the program then.
         os.utime(f"{HERE}/{PROVED}", (read_at, read_at))
