@@ -2,6 +2,7 @@
 """Checks check-module and build over guests with one fault each: the reason, the place and the advice that are told."""
 import argparse
 import os
+import re
 import subprocess
 import sys
 import tempfile
@@ -69,7 +70,8 @@ def check_words():
     assert run([os.path.join(KIT, "build"), "--stack", "7", "fine.c"])[0] == 2
     assert run([os.path.join(KIT, "build"), "--lines", "fine.c"])[0] == 0
     with open("fine.places") as file:
-        assert "variable fine::liblog_line u32 " in file.read()
+        table = file.read()
+    assert re.search(r"variable threads::liblog_last_call u32\* \d+\n", table) and re.search(r"call fine.c 4 _start \d+\n", table), table
     with open("text", "w") as file:
         file.write("no module")
     status, told = run([os.path.join(KIT, "check-module"), "text"])

@@ -16,6 +16,8 @@ VARIANTS = {"variant_part", "variant"}
 SHELLS = re.compile(r"(Cell|UnsafeCell|ManuallyDrop|MaybeUninit)<")
 # What the linker writes for the address of what it left out.
 LEFT_OUT = {0, 0xFFFFFFFF}
+# The variables at the places of calls, which the macro LIBLOG_HERE of liblog.h makes: call_places.py tells of them.
+AT_CALL = "liblog_call"
 
 
 @dataclass
@@ -68,7 +70,7 @@ class Layouts:
 
     def fill(self):
         for entry in self.entries.values():
-            if entry.tag == "variable" and (variable := self.variable_of(entry)):
+            if entry.tag == "variable" and entry.name() != AT_CALL and (variable := self.variable_of(entry)):
                 self.table.variables.append(variable)
         self.table.variables.sort(key=lambda variable: variable.name)
 

@@ -64,13 +64,25 @@ LIBLOG(unlock) int32_t liblog_unlock(uint32_t lock);
 // Has a function called for a signal from 1 to 31: 0, or -1.
 LIBLOG(on_signal) int32_t liblog_on_signal(uint32_t signal, liblog_function *handler);
 
-// With build --lines a variable has the line of the guest's file in which the process made its last call, which is the one
-// that waits for its event.
+// With build --lines a variable points to the line of the last call, which is the one that waits for its event. By that
+// address NAME.places tells the file and the function too.
 #ifdef LIBLOG_LINES
-static LIBLOG_WATCHED volatile uint32_t liblog_line;
-#define LIBLOG_HERE (liblog_line = __LINE__)
+extern const uint32_t *volatile liblog_last_call;
+#define LIBLOG_HERE                                   \
+    ({                                                \
+        static const uint32_t liblog_call = __LINE__; \
+        liblog_last_call = &liblog_call;              \
+    })
+// The last argument of a call. Calls that are made for an argument are over by then.
+#define LIBLOG_LAST(type, value)      \
+    ({                                \
+        type liblog_last = (value);   \
+        LIBLOG_HERE;                  \
+        liblog_last;                  \
+    })
 #else
 #define LIBLOG_HERE ((void)0)
+#define LIBLOG_LAST(type, value) (value)
 #endif
 
 #endif

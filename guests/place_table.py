@@ -59,6 +59,16 @@ class Struct:
     fields: list = field(default_factory=list)
 
 
+@dataclass(frozen=True)
+class CallPlace:
+    """A place in the source that makes calls, and the address that the guest keeps for it."""
+
+    file: str
+    line: int
+    function: str
+    address: int
+
+
 def array_of(type_):
     """The type of an element and the number of elements, or None where the type is no array."""
     found = re.fullmatch(r"(.*)\[(\d+)\]", type_)
@@ -76,6 +86,7 @@ class PlaceTable:
         self.digest = digest
         self.variables = []
         self.structs = {}
+        self.calls = []
 
     def size_of(self, type_):
         if type_.endswith("*"):
@@ -105,6 +116,7 @@ class PlaceTable:
         lines = ["# Where the variables of %s lie. Written by guests/build." % self.module]
         lines.append("module %s %s" % (self.module, self.digest))
         lines += ["variable %s %s%s" % (v.name, v.type, _spell_place(v, self)) for v in self.variables]
+        lines += ["call %s %d %s %d" % (c.file, c.line, c.function, c.address) for c in self.calls]
         for struct in self.structs.values():
             lines.append("struct %s %d" % (struct.name, struct.size))
             lines += [_spell_field(f) for f in struct.fields]
@@ -150,6 +162,8 @@ def _parse_table(lines):
         if words[0] == "variable":
             table.variables.append(Variable(words[1], words[2]))
             places.append(words[3:])
+        elif words[0] == "call":
+            table.calls.append(CallPlace(words[1], int(words[2]), words[3], int(words[4])))
         elif words[0] == "struct":
             struct = table.structs[words[1]] = Struct(words[1], int(words[2]))
         elif words[0] == "field":

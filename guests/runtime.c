@@ -61,8 +61,8 @@ uint32_t number_to_text(char *to, int64_t number) {
     return count;
 }
 
-int32_t print_text(const char *text) {
-    return liblog_print(text, strlen(text));
+int32_t (print_text)(const char *text) {
+    return KEEP_STACK((liblog_print)(text, strlen(text)));
 }
 
 static void keep_time(int32_t place) {
@@ -80,14 +80,14 @@ static void keep_time(int32_t place) {
     }
 }
 
-int32_t retry_begin(struct retry *retry) {
+int32_t (retry_begin)(struct retry *retry) {
     retry->left = 0;
-    retry->next = liblog_now() + retry->period;
-    return thread_start(keep_time, (int32_t)retry, retry->stack, sizeof retry->stack) < 0 ? -1 : 0;
+    retry->next = KEEP_STACK((liblog_now)()) + retry->period;
+    return (thread_start)(keep_time, (int32_t)retry, retry->stack, sizeof retry->stack) < 0 ? -1 : 0;
 }
 
-void retry_set(struct retry *retry, uint32_t times) {
-    retry->next = liblog_now() + retry->period;
+void (retry_set)(struct retry *retry, uint32_t times) {
+    retry->next = KEEP_STACK((liblog_now)()) + retry->period;
     retry->left = times;
 }
 

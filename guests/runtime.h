@@ -21,6 +21,7 @@ uint32_t number_to_text(char *to, int64_t number);
 
 // Prints a text up to its zero byte, as liblog_print does.
 int32_t print_text(const char *text);
+#define print_text(text) print_text(LIBLOG_LAST(const char *, text))
 
 enum { RETRY_STACK = 4096 };
 
@@ -39,9 +40,11 @@ struct retry {
 
 // Makes the thread of a timer, once for each: 0, or -1 where the process has all its threads.
 int32_t retry_begin(struct retry *retry);
+#define retry_begin(timer) retry_begin(LIBLOG_LAST(struct retry *, timer))
 
 // Has it act so many times, first when a period has passed from now on. It acts no more once it is stopped.
 void retry_set(struct retry *retry, uint32_t times);
+#define retry_set(timer, times) retry_set(timer, LIBLOG_LAST(uint32_t, times))
 void retry_stop(struct retry *retry);
 
 #endif
