@@ -1,3 +1,4 @@
+use crate::place::keep_place;
 use crate::raw;
 use crate::stack::keeping_stack;
 
@@ -24,18 +25,22 @@ pub struct Datagram {
 }
 
 /// Ends the process.
+#[cfg_attr(liblog_lines, track_caller)]
 pub fn exit(code: i32) -> ! {
+    keep_place();
     // SAFETY: the call takes no memory, and does not come back.
     unsafe { raw::exit(code) }
 }
 
 /// Notes a number in the log.
+#[cfg_attr(liblog_lines, track_caller)]
 pub fn note(value: i64) {
     // SAFETY: the call takes no memory.
     keeping_stack(|| unsafe { raw::note(value) })
 }
 
 /// Writes bytes.
+#[cfg_attr(liblog_lines, track_caller)]
 pub fn print(bytes: &[u8]) -> Result<(), TooLong> {
     // SAFETY: the bytes are read only.
     taken(keeping_stack(|| unsafe {
@@ -44,18 +49,21 @@ pub fn print(bytes: &[u8]) -> Result<(), TooLong> {
 }
 
 /// The wall time.
+#[cfg_attr(liblog_lines, track_caller)]
 pub fn now() -> i64 {
     // SAFETY: the call takes no memory.
     keeping_stack(|| unsafe { raw::now() })
 }
 
 /// Waits until the wall time is at least so late, and answers it.
+#[cfg_attr(liblog_lines, track_caller)]
 pub fn sleep_until(time: i64) -> i64 {
     // SAFETY: the call takes no memory.
     keeping_stack(|| unsafe { raw::sleep_until(time) })
 }
 
 /// Fills all the bytes at random.
+#[cfg_attr(liblog_lines, track_caller)]
 pub fn random(bytes: &mut [u8]) -> Result<(), TooLong> {
     // SAFETY: the bytes are the caller's to write.
     taken(keeping_stack(|| unsafe {
@@ -64,12 +72,14 @@ pub fn random(bytes: &mut [u8]) -> Result<(), TooLong> {
 }
 
 /// The number of the process in its group.
+#[cfg_attr(liblog_lines, track_caller)]
 pub fn me() -> u32 {
     // SAFETY: the call takes no memory.
     keeping_stack(|| unsafe { raw::me() }) as u32
 }
 
 /// Sends a datagram to a process, which may come never, late, or several times.
+#[cfg_attr(liblog_lines, track_caller)]
 pub fn send(to: u32, bytes: &[u8]) -> Result<(), TooLong> {
     // SAFETY: the bytes are read only.
     taken(keeping_stack(|| unsafe {
@@ -78,6 +88,7 @@ pub fn send(to: u32, bytes: &[u8]) -> Result<(), TooLong> {
 }
 
 /// Waits for a datagram and takes as much of it as there is room for.
+#[cfg_attr(liblog_lines, track_caller)]
 pub fn recv(room: &mut [u8]) -> Result<Datagram, TooLong> {
     let mut from = u32::MAX;
     // SAFETY: the bytes and `from` are the caller's to write.
@@ -87,6 +98,7 @@ pub fn recv(room: &mut [u8]) -> Result<Datagram, TooLong> {
 }
 
 /// Takes the next datagram where one waits.
+#[cfg_attr(liblog_lines, track_caller)]
 pub fn try_recv(room: &mut [u8]) -> Result<Option<Datagram>, TooLong> {
     let mut from = u32::MAX;
     // SAFETY: the bytes and `from` are the caller's to write.
@@ -99,15 +111,18 @@ pub fn try_recv(room: &mut [u8]) -> Result<Option<Datagram>, TooLong> {
 }
 
 /// Has a function called for a signal, in the midst of a thread, behind one of its calls.
+#[cfg_attr(liblog_lines, track_caller)]
 pub fn on_signal(signal: u32, handler: extern "C" fn(i32)) -> Result<(), NoSignal> {
     handle(signal, handler as usize as u32)
 }
 
 /// Takes the handler of a signal away.
+#[cfg_attr(liblog_lines, track_caller)]
 pub fn remove_handler(signal: u32) -> Result<(), NoSignal> {
     handle(signal, NO_HANDLER)
 }
 
+#[cfg_attr(liblog_lines, track_caller)]
 fn handle(signal: u32, handler: u32) -> Result<(), NoSignal> {
     // SAFETY: the handler is a function of this type, or none.
     match keeping_stack(|| unsafe { raw::on_signal(signal, handler) }) {

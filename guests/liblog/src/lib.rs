@@ -4,6 +4,7 @@
 
 mod calls;
 mod decimal;
+mod place;
 /// The imports themselves.
 pub mod raw;
 mod retry;

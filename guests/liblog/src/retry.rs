@@ -31,12 +31,14 @@ impl Retry {
     }
 
     /// Makes the thread of the timer, once.
+    #[cfg_attr(liblog_lines, track_caller)]
     pub fn begin(&'static self) -> Result<(), NoThread> {
         self.next.set(now().wrapping_add(self.period));
         start(&self.stack, keep_time, self as *const Retry as i32).map(|_| ())
     }
 
     /// Has it act so many times, first when a period has passed from now on.
+    #[cfg_attr(liblog_lines, track_caller)]
     pub fn set(&self, times: u32) {
         self.next.set(now().wrapping_add(self.period));
         self.left.set(times);

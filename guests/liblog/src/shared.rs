@@ -52,6 +52,7 @@ impl<T> Mutex<T> {
     }
 
     /// Waits until no other thread has the lock, and takes it; None where this thread has it already.
+    #[cfg_attr(liblog_lines, track_caller)]
     pub fn lock(&self) -> Option<Guard<'_, T>> {
         // SAFETY: the call takes no memory.
         match keeping_stack(|| unsafe { raw::lock(self.number) }) {

@@ -1,5 +1,6 @@
 use core::cell::{Cell, UnsafeCell};
 
+use crate::place::keep_place;
 use crate::raw;
 use crate::stack::keeping_stack;
 
@@ -36,6 +37,7 @@ pub struct NoThread;
 pub struct Thread(u32);
 
 /// Starts a thread on a stack, which is its own from then on.
+#[cfg_attr(liblog_lines, track_caller)]
 pub fn start<const SIZE: usize>(
     stack: &'static Stack<SIZE>,
     first: extern "C" fn(i32),
@@ -44,6 +46,7 @@ pub fn start<const SIZE: usize>(
     if stack.is_taken.replace(true) {
         return Err(NoThread);
     }
+    keep_place();
     // SAFETY: the bytes last for ever, and no other thread has them.
     match unsafe { raw::thread_start(first, argument, stack.bytes.get().cast(), SIZE as u32) } {
         number if number >= 0 => Ok(Thread(number as u32)),
@@ -61,6 +64,7 @@ impl Thread {
     }
 
     /// Waits for the end of the thread. A thread that waits for itself goes on at once.
+    #[cfg_attr(liblog_lines, track_caller)]
     pub fn join(self) {
         // SAFETY: the call takes no memory.
         keeping_stack(|| unsafe { raw::join(self.0) });
@@ -68,12 +72,14 @@ impl Thread {
 }
 
 /// The number of the thread that calls.
+#[cfg_attr(liblog_lines, track_caller)]
 pub fn this_thread() -> u32 {
     // SAFETY: the call takes no memory.
     keeping_stack(|| unsafe { raw::thread() }) as u32
 }
 
 /// Lets other threads run.
+#[cfg_attr(liblog_lines, track_caller)]
 pub fn yield_now() {
     // SAFETY: the call takes no memory.
     keeping_stack(|| unsafe { raw::yield_now() })
