@@ -1,4 +1,4 @@
-"""What the tab key offers: words of the session, processes, and the variables of a process."""
+"""What the tab key offers: words of the session, processes, and the variables of a process and its functions with calls."""
 
 from by_hand.commands import COMMANDS
 
@@ -11,7 +11,7 @@ def offered(names, start):
     node, dot, part = start.partition(".")
     if dot and node in names.tables:
         variables = [v.name for v in names.tables[node].variables]
-        short = [name.rsplit("::", 1)[-1] for name in variables]
+        short = [name.rsplit("::", 1)[-1] for name in variables] + [call.function for call in names.tables[node].calls]
         return ["%s.%s" % (node, name) for name in sorted(set(short + variables)) if name.startswith(part)]
     return [word for word in [*(node + "." for node in names.nodes), *WORDS] if word.startswith(start)]
 

@@ -1,6 +1,7 @@
 """Lines that show something: variables as a whole, bytes, threads, names, and where the session is."""
 
 from by_hand.names import Refusal
+from by_hand.places import STANDS, places_of_threads
 from by_hand.values import expressions, leaves, spelled
 
 LONGEST = 256
@@ -56,8 +57,15 @@ def print_dump(session, start, data):
 
 
 def show_threads(session, rest, form):
+    """How threads stand, with the place in the source where that is known."""
     for node in rest.split() or session.names.nodes:
-        session.send("threads " + node)
+        places = places_of_threads(session, node)
+
+        def behind(line):
+            stands = STANDS.match(line)
+            return places.get(stands[1]) if stands else None
+
+        session.send("threads " + node, behind=behind)
 
 
 def show_names(session, rest, form):

@@ -49,11 +49,6 @@ class Names:
         variables = self.tables[node].variables if node in self.tables else []
         return name not in OWN_PLACES or any(v.name == name or v.name.endswith("::" + name) for v in variables)
 
-    def variable_of_line(self, node):
-        """The variable that `guests/build --lines` keeps for the line of the last call, by its whole name, or None."""
-        variables = self.tables[node].variables if node in self.tables else []
-        return next((v.name for v in variables if v.name.endswith("::liblog_line")), None)
-
     def spelled(self, text):
         """The text as a script spells it: @NODE.{PATH} for NODE.PATH, and @NODE.clock for NODE.clock."""
         out, at = "", 0

@@ -7,6 +7,7 @@ import re
 from by_hand.commands import COMMANDS
 from by_hand.debugger import Ended
 from by_hand.names import Refusal
+from by_hand.places import where_stands
 from by_hand.state import State
 from by_hand.words import expanded
 from logs import in_group_order, read_log
@@ -32,6 +33,13 @@ class Session:
     def order(self):
         """The events of all logs, in the order of the positions."""
         return in_group_order([read_log(path) for path in self.names.paths])
+
+    def event_at(self, position):
+        """The event that led to a position, as the debugger lists it; None where the logs have none."""
+        if not 0 < position <= len(self.order):
+            return None
+        entry, log = self.order[position - 1]
+        return "%d: %s" % (position, entry.text(log.name))
 
     @functools.cached_property
     def called(self):
@@ -69,8 +77,9 @@ class Session:
         self.refused += 1
         self.print(text)
 
-    def send(self, line, typed=None):
-        """Sends a line with addresses in place of names, and prints the answer; whether it was accepted."""
+    def send(self, line, typed=None, behind=lambda answer: None):
+        """Sends a line with addresses in place of names, and prints the answer, with what is told behind each of its lines;
+        whether it was accepted."""
         sent = self.names.line(line)
         verb = sent.split(" ", 1)[0]
         if self.shows_sent:
@@ -83,7 +92,8 @@ class Session:
         answers = []
         for answer in self.debugger.ask(sent):
             answers.append(answer)
-            self.print(answer)
+            told = behind(answer)
+            self.print("%s %s" % (answer, told) if told else answer)
             if verb in TELLS_EVENTS and self.shows_bytes:
                 self.print_bytes(answer)
         if verb in MOVES:
@@ -100,21 +110,16 @@ class Session:
     def print_bytes(self, answer):
         """What the event of this line printed, sent or took."""
         found = EVENT.fullmatch(answer)
-        if found is None or not 0 < int(found[1]) <= len(self.order):
-            return
-        entry, log = self.order[int(found[1]) - 1]
-        if entry.text(log.name) == found[2]:
-            for line in bytes_lines(entry, self.called):
+        if found and self.event_at(int(found[1])) == "%s: %s" % found.groups():
+            for line in bytes_lines(self.order[int(found[1]) - 1][0], self.called):
                 self.print("    " + line)
 
     def print_line(self, answers):
-        """Where in its source the process of the last event stands now, if it was built to note that."""
+        """Where in its source the thread of the last event stands now, if its guest was built to keep that."""
         found = EVENT.fullmatch(answers[-1]) if answers else None
-        node = found[2].split()[1] if found else None
-        name = self.names.variable_of_line(node)
-        if name:
-            line = self.values([self.names.line("@%s.{%s}" % (node, name))])[0]
-            self.print("    %s stands at line %s now" % (node, line))
+        told = where_stands(self, *found[2].split()[1:3]) if found else None
+        if told:
+            self.print("    " + told)
 
     def explain(self, answer, sent, typed):
         """What helps beside the debugger's answer to a line that it refuses."""

@@ -11,6 +11,8 @@ class State:
         # By the numbers of the points: the lines as they were typed, and as they were sent.
         self.points, self.programs = {}, {}
         self.last_point = 0
+        # Of those at places in the source: the process, the place, and the test whether it stands there.
+        self.places = {}
         # The lines `$NAME VALUE` of `vars`, as they were before the last walk.
         self.variables = []
 
@@ -23,6 +25,7 @@ class State:
         elif found := re.fullmatch(r"deleted (\d+)", last):
             self.points.pop(int(found[1]), None)
             self.programs.pop(int(found[1]), None)
+            self.places.pop(int(found[1]), None)
         elif verb == "do":
             self.programs[int(sent.split()[1], 0)] = typed, sent
         elif found := re.match(r"at (\d+)(?:: |$)", last):
@@ -40,8 +43,9 @@ class State:
         lines = [setting(line) for line in self.variables]
         for point, (typed, _) in self.points.items():
             lines.append(typed)
-            if point in self.programs:
-                lines.append(re.sub(r"^\s*do\s+\S+", "do .", self.programs[point][0]))
+            program, _ = self.programs.get(point, (typed, ""))
+            if program != typed:
+                lines.append(re.sub(r"^\s*do\s+\S+", "do .", program))
         return "".join(line + "\n" for line in lines)
 
 
