@@ -157,6 +157,21 @@ def check_threads(source, folder):
     print("%s: %d interleavings note %d" % (source, TIMES, wanted[0]))
 
 
+# Behind the end of a process, the place that it keeps is that of its last call.
+def check_lines(source, folder):
+    name = source.split(".")[0]
+    run([os.path.join(here, "build"), "--lines", source], folder)
+    record(folder, [name, "answer"], list(items_of_group(random.Random(0))), "exited 0")
+    with open(os.path.join(folder, source)) as lines, open(os.path.join(folder, name + ".mem"), "rb") as image:
+        line, memory = next(number for number, text in enumerate(lines, 1) if "exit(0)" in text), image.read()
+    paths = ("liblog_last_call", "liblog_last_call[%d]" % (0 if source.endswith(".c") else 2))
+    script = run([os.path.join(here, "places"), name + ".places"], folder, "".join("@a.{%s}\n" % path for path in paths))
+    address, number = (value_of(expression, memory) for expression in script.splitlines())
+    with open(os.path.join(folder, name + ".places")) as file:
+        assert number == line and "call %s %d _start %d\n" % (source, line, address) in file.read(), (number, line, address)
+    print("%s: its last call is in line %d" % (source, line))
+
+
 # Tries of each thread, datagrams that are lost, repeated and late, and a clock that goes on.
 def items_of_group(chance):
     for moment in range(4000):
@@ -197,4 +212,5 @@ with tempfile.TemporaryDirectory() as folder:
     for source in ("ask.c", "ask.rs"):
         build(source, folder)
         check_group(source, folder)
+        check_lines(source, folder)
 PYTHON

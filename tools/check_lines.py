@@ -32,11 +32,12 @@ run 0 0
 clock 0 10
 run 0 3 3
 run 1 0 9
+clock 0 1000
+run 0 1
 """
 # Where each thread stands at the end: the call, the function, the file, and what its line is known by.
 AT_END = {
     "a 0": ("recv", "_start", "lines.c", "liblog_recv("),
-    "a 1": ("sleep_until", "wait_for", "lines.c", "liblog_sleep_until("),
     "a 2": ("join", "wait_in_header", "lines.h", "liblog_join("),
     "a 3": ("sleep_until", "keep_time", "kit/runtime.c", "liblog_sleep_until("),
     "b 0": ("recv", "_start", "lines.c", "liblog_recv("),
@@ -49,8 +50,9 @@ COURSE = (
     ("note", "inlined", "lines.c", "liblog_note(number"), ("note", "inlined", "lines.c", "liblog_note(number"),
     ("note", "_start", "lines.c", "liblog_note(10"), ("sleep_until", "wait_for", "lines.c", "liblog_sleep_until("),
     ("join", "wait_in_header", "lines.h", "liblog_join("), ("sleep_until", "keep_time", "kit/runtime.c", "liblog_sleep_until("),
-    ("print", "_start", "lines.c", "print_text("), ("recv", "_start", "lines.c", "liblog_recv("), ("note", "take_signal", "lines.c", "liblog_note(-"),
-    ("yield", "act", "lines.c", "liblog_yield("), ("sleep_until", "keep_time", "kit/runtime.c", "liblog_sleep_until("),
+    ("print", "_start", "lines.c", "print_text("), ("recv", "_start", "lines.c", "liblog_recv("),
+    ("note", "take_signal", "lines.c", "liblog_note(-"), ("yield", "act", "lines.c", "liblog_yield("),
+    ("sleep_until", "keep_time", "kit/runtime.c", "liblog_sleep_until("),
 )
 
 
@@ -76,14 +78,16 @@ def session(program, folder, typed, wanted=0):
 
 def check_threads(program, folder):
     told = session(program, folder, ["step 1000", "t"])
+    assert "\n    a 1 has ended\na running\n" in told and "\n1 ended\n" in told, told
     for thread, place in AT_END.items():
-        number = thread.split()[1]
-        assert re.search(r"\n%s at %s .*%s\n" % (number, *map(re.escape, spelled(place))), told[told.index(thread[0] + " running") :]), (thread, told)
+        node, number = thread.split()
+        form = r"\n%s at %s .*%s\n" % (number, *map(re.escape, spelled(place)))
+        assert re.search(form, told[told.index(node + " running") :]), (thread, told)
 
 
 def check_course(program, folder):
     """At each event of a its thread is told to stand where the source says that it does."""
-    told = session(program, folder, ["s"] * 28)
+    told = session(program, folder, ["s"] * 29)
     stands = re.findall(r"\n    a \d stands at (\w+) (.*)", told)
     assert stands == list(map(spelled, COURSE)), stands
 
@@ -91,13 +95,16 @@ def check_course(program, folder):
 def check_points(program, folder):
     """A point at a function stops at each of its calls, and never where it is left."""
     inlined = spelled(COURSE[6])[1]
-    told = session(program, folder, ["b a.inlined", "c", "c", "c", "rc"])
+    told = session(program, folder, ["b a.inlined", "c", "p a.liblog_last_call[0]", "c", "c", "rc"])
+    assert "\n%s\n" % inlined.split(":")[1] in told, told
     parts = re.split(r"break 1: a comes to a call in inlined\n", told)
     assert len(parts) == 4 and all("\n    a 0 stands at note %s\n" % inlined in part for part in parts[1:]), told
     assert "\nend\n" in parts[2] and parts[1].startswith("at ") and parts[3].splitlines()[0] == parts[2].splitlines()[0], told
     line = spelled(COURSE[3])[1].split(", ")[1]
-    told = session(program, folder, ["b %s if a.clock > 0 || b.clock > 0" % line, "l", "c", "do 1 say \"here\"", "d 2", "run", "c", "save points"])
-    assert told.count("comes to a call in " + line) == 1 and "\nhere\nhere\nend\n" in told and "point 2 is break b.%s if " % line in told, told
+    typed = ["b %s if a.clock > 0 || b.clock > 0" % line, "l", "c", 'do 1 say "here"', "d 2", "run", "c", "save points"]
+    told = session(program, folder, typed)
+    assert told.count("comes to a call in " + line) == 1 and "\nhere\nhere\nend\n" in told, told
+    assert "point 2 is break b.%s if " % line in told, told
     with open(os.path.join(folder, "points")) as file:
         assert "break a.%s if a.clock > 0 || b.clock > 0\ndo . say" % line in file.read()
 

@@ -13,7 +13,11 @@ def last_call(names, node):
     """The expression for the address of the place that a process keeps, or None where it keeps none."""
     if node not in names.tables or not names.tables[node].calls:
         return None
-    return names.script.expanded("@%s.{%s}" % (node, LAST_CALL))
+    try:
+        return names.script.expanded("@%s.{%s}" % (node, LAST_CALL))
+    except Refusal:
+        # The guest makes no call, so the linker left the variable out.
+        return None
 
 
 def in_words(names, node, address):

@@ -1,6 +1,8 @@
 //! What a guest in Rust calls: the functions of the module `liblog`, with safe wrappers, and a small runtime.
 //! Each call is an event of the guest's log. `guests/build` makes the modules.
 #![no_std]
+// cargo does not know liblog_lines, which guests/build sets.
+#![allow(unknown_lints, unexpected_cfgs)]
 
 mod calls;
 mod decimal;
