@@ -18,9 +18,10 @@ moving      s [N]  c  g K        step, continue, goto; back [N] and rcontinue go
 looking     p NODE.PATH          a variable by its name, also a whole struct or array: p a.peers[1].seen  p a.head->next
             p EXPR  p/x EXPR     any expression: p sum(@_.{served}) + 1; /x in hexadecimal
             x NODE.PATH          the bytes of a variable; x NODE ADDRESS LENGTH any bytes
-            e [N]  t [NODE]      the last events; how threads stand, of all processes without a name
+            e [N]  t [NODE]      the last events; where threads stand, of all processes without a name
             names [NODE] [PART]  the variables of a process; bytes on|off shows what events sent and took
 points      w EXPR [if EXPR]     stops where the value changes;  b NODE CALL [if EXPR] or b * CALL stops at a call
+            b NODE.FUNCTION      at calls in a function, b FILE:LINE in a line, of guests that guests/build --lines made
             do W PROGRAM         runs a program where point W fires;  condition W EXPR;  l  d W
             set $NAME EXPR       keeps a value; vars shows them
 keeping     save FILE  load FILE points, programs and variables, as they were typed
