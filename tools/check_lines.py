@@ -100,6 +100,12 @@ def check_points(program, folder):
     parts = re.split(r"break 1: a comes to a call in inlined\n", told)
     assert len(parts) == 4 and all("\n    a 0 stands at note %s\n" % inlined in part for part in parts[1:]), told
     assert "\nend\n" in parts[2] and parts[1].startswith("at ") and parts[3].splitlines()[0] == parts[2].splitlines()[0], told
+    told = session(program, folder, ["b a.inlined", "condition 1 a.clock > 7", "c", "c"])
+    assert told.count("comes to a call in inlined") == 1 and "\nat 15: 8 a 0 note 7\n" in told, told
+
+
+def check_kept(program, folder):
+    """A point at a line in each process, and a program in place of a condition, come back from a file."""
     line = spelled(COURSE[3])[1].split(", ")[1]
     typed = ["b %s if a.clock > 0 || b.clock > 0" % line, "l", "c", 'do 1 say "here"', "d 2", "run", "c", "save points"]
     told = session(program, folder, typed)
@@ -107,6 +113,8 @@ def check_points(program, folder):
     assert "point 2 is break b.%s if " % line in told, told
     with open(os.path.join(folder, "points")) as file:
         assert "break a.%s if a.clock > 0 || b.clock > 0\ndo . say" % line in file.read()
+    again = session(program, folder, ["load points", "l", "c"])
+    assert again.startswith("point 1\n1 watch ") and '    do 1 say "here"\nhere\nhere\nend\n' in again, again
 
 
 def check_refused(program, folder):
@@ -127,7 +135,7 @@ def main():
         with open(os.path.join(folder, "schedule"), "w") as file:
             file.write(SCHEDULE)
         run([program, "record", "schedule"], folder)
-        for check in (check_threads, check_course, check_points, check_refused):
+        for check in (check_threads, check_course, check_points, check_kept, check_refused):
             check(program, folder)
     print("lines: as expected")
 
