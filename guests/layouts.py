@@ -215,7 +215,7 @@ def _switch_of(location, type_):
     number = r"DW_OP_(?:lit(\d+)|const[us] (\S+))"
     form = r"DW_OP_addr (\S+), DW_OP_deref_size 0x1, %s, DW_OP_mul, %s, DW_OP_plus, DW_OP_stack_value"
     found = re.fullmatch(form % (number, number), location)
-    if not found or not re.fullmatch(r"[ui]\d+", type_):
+    if not found or not re.fullmatch(r"[ui]\d+", type_) or int(found[1], 0) in LEFT_OUT:
         return None
     address, *numbers = found.groups()
     factor, base = (int(next(n for n in pair if n), 0) for pair in (numbers[:2], numbers[2:]))
