@@ -19,6 +19,9 @@ ITEMS = ["clock 0 7", "run 0 0 3", "clock 0 50", "random 0 010203", "inject 0 61
 ITEMS += ["signal 0 5", "run 0 0 30"]
 NOTES = [7, 50, 0, 0, 1, 0x030201, 1, 3, -1, -2, 1, 1, 1, 5]
 
+# What heap.c notes: no byte is wrong, the heap grew, and so on.
+HEAP_NOTES = [0, 1, 0, 1, 1]
+
 TEXTS = ["0", "7", "-1", "1000000000000", str(2**63 - 1), str(-(2**63))]
 TEXTS += ["0123456789", "0101234789", "1012334789", "1xxx3abc89"]
 COMPARISONS = ["1", "0", "-1"]
@@ -102,6 +105,13 @@ def check_calls(folder):
     notes = notes_of(folder, "calls")
     assert notes == NOTES, notes
     print("calls.rs: %d notes" % len(notes))
+
+
+def check_heap(folder):
+    record(folder, ["heap"], ["run 0 0 200"], "trapped unreachable")
+    notes = notes_of(folder, "heap")
+    assert notes == HEAP_NOTES, notes
+    print("heap.c: %d notes" % len(notes))
 
 
 # What an expression of the debugger comes to in a memory.
@@ -198,6 +208,8 @@ def build(source, folder):
 with tempfile.TemporaryDirectory() as folder:
     build("calls.rs", folder)
     check_calls(folder)
+    build("heap.c", folder)
+    check_heap(folder)
     for source in ("texts.c", "texts.rs"):
         build(source, folder)
         check_texts(source, folder)

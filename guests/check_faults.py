@@ -63,6 +63,18 @@ def check_build(name, code, wanted, parts):
     assert os.path.exists(name + ".wasm") and os.path.exists(name + ".places")
 
 
+def check_folders():
+    """A header is found by -I, and a variable of a function that the linker left out has no place."""
+    os.mkdir("more")
+    with open(os.path.join("more", "gate.h"), "w") as file:
+        file.write("static int is_open;\nint open_gate(void) {\n    int was_open = is_open;\n    is_open = 1;\n    return was_open;\n}\n")
+    write("folders", '#include "gate.h"\n\nvoid _start(void) {\n    liblog_note(number);\n}')
+    status, told = run([os.path.join(KIT, "build"), "-I", "more", "folders.c"])
+    assert status == 0, told
+    with open("folders.places") as file:
+        assert "variable folders::is_open i32\n" in file.read()
+
+
 def check_words():
     for tool in ("check-module", "build", "places"):
         path = os.path.join(KIT, tool)
@@ -86,6 +98,7 @@ def main():
             check_clang(*case)
         for case in BY_BUILD:
             check_build(*case)
+        check_folders()
         check_words()
         os.chdir("/")
     print("check-module: %d modules as expected" % (len(BY_CLANG) + len(BY_BUILD)))

@@ -21,9 +21,14 @@ void *memmove(void *to, const void *from, size_t count) {
     return to;
 }
 
+// Eight bytes at a time, since each instruction of a guest is interpreted; WebAssembly stores them at any address.
 void *memset(void *to, int byte, size_t count) {
+    typedef uint64_t eight __attribute__((aligned(1), may_alias));
     uint8_t *target = to;
-    for (size_t i = 0; i < count; i++)
+    size_t i = 0;
+    for (; count - i >= sizeof(eight); i += sizeof(eight))
+        *(eight *)(target + i) = 0x0101010101010101u * (uint8_t)byte;
+    for (; i < count; i++)
         target[i] = (uint8_t)byte;
     return to;
 }

@@ -2,16 +2,8 @@
 #ifndef RUNTIME_H
 #define RUNTIME_H
 
+#include "include/string.h"
 #include "threads.h"
-
-#include <stddef.h>
-
-// clang calls the first four also by itself, as where a struct is copied.
-void *memcpy(void *to, const void *from, size_t count);
-void *memmove(void *to, const void *from, size_t count);
-void *memset(void *to, int byte, size_t count);
-int memcmp(const void *left, const void *right, size_t count);
-size_t strlen(const char *text);
 
 // How many bytes the longest number has in decimal digits.
 enum { LONGEST_NUMBER = 20 };
