@@ -2,7 +2,8 @@
 # The three hunts: puts the places into the debugger's scripts again, makes the schedules again from their seeds, records
 # and replays the group of each, lists what its processes printed and noted, and compares all of it with what lies beside
 # the guests. The memories and the prints that a replay comes to have to be those of the recording. Last, the debugger's
-# script is answered over the logs of the failing schedule, and its answers are compared too.
+# script is answered over the logs of the failing schedule, and its answers are compared too. Of ENet's hunt the schedules
+# alone are made again here: enet/check.sh does the rest.
 # Usage: check_hunts.sh [PROGRAM]   (the program that answers ./friday, if none is given)
 here=$(CDPATH='' cd -- "$(dirname -- "$0")" && pwd) || exit 1
 . "$here/../tools/usage.sh"
@@ -46,8 +47,18 @@ check() {
     diff "$here/$hunt/expected" printed && diff "$here/$hunt/answers" answers && echo "$hunt: as expected"
 }
 
+check_schedules_of_enet() {
+    mkdir "$folder/enet" && cd "$folder/enet" && cp "$here"/enet/*.wasm . || return 1
+    "$here/enet/schedules.sh" "$program" > printed || return 1
+    for schedule in good failing repaired; do
+        cmp "$here/enet/$schedule" "$schedule" || return 1
+    done
+    echo "enet: the schedules as expected"
+}
+
 status=0
 for hunt in register election bank; do
     check "$hunt" || { echo "$hunt: not as expected"; status=1; }
 done
+check_schedules_of_enet || { echo "enet: the schedules not as expected"; status=1; }
 exit $status

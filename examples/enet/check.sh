@@ -1,0 +1,32 @@
+#!/bin/sh
+# Puts the places into the debugger's script again, records and replays the group of each schedule beside this script, lists
+# what its processes printed, and goes to where the script's watch stops. The memories and the prints that a replay comes to
+# have to be those of the recording. Last, the whole script is answered over the logs of the failing schedule. What is printed
+# and answered is compared with what lies here. That schedules.sh makes these schedules ../check_hunts.sh checks.
+# Usage: check.sh [PROGRAM]   (the program that answers ./friday, if none is given)
+here=$(CDPATH='' cd -- "$(dirname -- "$0")" && pwd) || exit 1
+. "$here/../../tools/usage.sh"
+program=${1:-$("$here/../../friday" --program)} && program=$(realpath -- "$program") || exit 1
+folder=$(mktemp -d) || exit 1
+trap 'rm -rf "$folder"' EXIT
+cp "$here"/*.wasm "$here/good" "$here/failing" "$here/repaired" "$folder" && cd "$folder" || exit 1
+
+play() {
+    schedule=$1 module=$2
+    echo "$schedule:"
+    "$program" record --images "$schedule" || return 1
+    mkdir "of_$schedule" && mv ./*.mem ./*.out "of_$schedule" || return 1
+    set -- "$module" server.log "$module" a.log "$module" b.log
+    "$program" replay --images "$@" || return 1
+    for image in *.mem *.out; do cmp "of_$schedule/$image" "$image" || return 1; done
+    python3 "$here/../../tools/events.py" list --call print server.log a.log b.log || return 1
+    { grep '^watch' debug && echo continue; } | "$program" debug "$@"
+}
+
+for module in enet faulty; do
+    "$here/../../guests/places" "$here/$module.places" < "$here/debug.in" > debug || exit 1
+    cmp "$here/debug" debug || exit 1
+done
+{ play good faulty.wasm && play repaired enet.wasm && play failing faulty.wasm; } > printed || { tail -n 1 printed; exit 1; }
+"$program" debug faulty.wasm server.log faulty.wasm a.log faulty.wasm b.log < ./debug > answers || exit 1
+diff "$here/expected" printed && diff "$here/answers" answers && echo "as expected"
