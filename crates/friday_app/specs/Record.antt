@@ -8,7 +8,7 @@ use Rattle.group_record.specs.Images.{images_of}
 use Rattle.group_record.specs.Logs.{logs}
 use Rattle.group_record.specs.Run.{Group, Progress}
 use Rattle.friday_app.specs.declared.refusal.Reason.TheVariants as reason
-use Rattle.friday_shell.specs.Ends.{end_text}
+use Rattle.end_text.specs.Ends.{end_text}
 use Rattle.friday_app.specs.Outcome.{CommandOutcome, Refuses, Work}
 
 -- how a process stands, and `killed` where it was killed

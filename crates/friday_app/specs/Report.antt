@@ -13,7 +13,7 @@ use Rattle.group_state.specs.Image.{left_memory, left_print}
 use Rattle.group_state.specs.Place.{group_count}
 use Rattle.group_state.specs.Report.{all_accepted, report_line}
 use Rattle.group_state.specs.Tally.{tally}
-use Rattle.friday_shell.specs.Ends.{end_text}
+use Rattle.end_text.specs.Ends.{end_text}
 use Rattle.friday_app.specs.Outcome.{Work}
 
 -- a divergence by its number and name

@@ -5,8 +5,8 @@ ghost use Rattle.friday_app.specs.Report.{count_text, divergence_text, diverges,
 ghost use Rattle.friday_app.specs.Seen.{Says};
 
 use crate::refusal::Answer;
+use end_text::push_end;
 use fri_text::Text;
-use friday_shell::push_end;
 use group_state::{Report, ReportLine, Verdict};
 use guest_process::Divergence;
 use std::alloc::{AllocError, Global};

@@ -2,8 +2,8 @@
 ghost use Rattle.std.specs.Prelude.{◌≡◌, ◌++◌, IfOk, OnOk};
 ghost use Rattle.friday_app.specs.Record.{process_line, items_line, state_text, summary_text};
 
+use end_text::push_end;
 use fri_text::Text;
-use friday_shell::push_end;
 use group_record::{Summary, SummaryLine};
 use std::alloc::{AllocError, Global};
 

@@ -1,4 +1,3 @@
-pub mod Ends
 pub mod Texts
 pub mod Lines
 pub mod Refusals

@@ -16,7 +16,7 @@ use Rattle.group_order.specs.Order.{NodeEvent}
 use Rattle.proc_replay.specs.Replaying.{Replaying}
 use Rattle.group_state.specs.Moves.{last_event_of}
 use Rattle.group_state.specs.Place.{Place, events}
-use Rattle.friday_shell.specs.Ends.{end_text}
+use Rattle.end_text.specs.Ends.{end_text}
 
 -- ---- calls
 

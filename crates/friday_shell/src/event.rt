@@ -5,7 +5,7 @@ ghost use Rattle.guest_process.specs.State.{is_running, thread_at};
 ghost use Rattle.group_state.specs.Moves.{event_of};
 ghost use Rattle.friday_shell.specs.Texts.{arguments_text, call_text, event_line, event_text, node_name, position_line, process_lines, reply_text, signal_text, signed_text, stamp_text, standing_text, thread_lines, threads_text};
 
-use crate::end::push_end;
+use end_text::push_end;
 use fri_text::Text;
 use group_state::{Group, GroupEvent};
 use guest_process::{End, Process};

@@ -3,7 +3,6 @@
 
 mod answer;
 mod command;
-mod end;
 mod event;
 mod firing;
 mod laws;
@@ -19,6 +18,5 @@ mod variables;
 mod verbs;
 mod walk;
 
-pub use end::push_end;
 pub use laws::{exact_commands, refused_stays};
 pub use session::{Go, Session};

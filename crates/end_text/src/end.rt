@@ -1,6 +1,6 @@
 // How the end of a process is shown.
 ghost use Rattle.std.specs.Prelude.{◌≡◌, ◌++◌, IfOk, OnErr, OnOk};
-ghost use Rattle.friday_shell.specs.Ends.{end_text, trap_text};
+ghost use Rattle.end_text.specs.Ends.{end_text, trap_text};
 
 use fri_text::Text;
 use guest_process::End;
