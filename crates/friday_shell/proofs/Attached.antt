@@ -1,23 +1,14 @@
 -- What attaching a program answers.
-use Rattle.std.proofs.Common.{◌≡◌, ◌∙◌, ℕ, zero, suc, ◌<◌, Bool, true, false, cond, nat_le, List, [], ◌∷◌, length, map, get_or, Option, Some, None, refl, sym, ap, subst, arith}
-use Rattle.std.specs.Prelude.{slice_set}
-use Rattle.embed_cmds.specs.declared.program.Program.{Program}
+use Rattle.std.proofs.Common.{◌≡◌, ◌∙◌, ℕ, Bool, true, false, cond, nat_le, List, [], length, Option, Some, None, refl, sym, ap, subst}
 use Rattle.embed_cmds.specs.Faulty.{set_names}
-use Rattle.embed_cmds.specs.Tree.{Statements, body}
+use Rattle.embed_cmds.specs.Tree.{Statements}
 use Rattle.embed_cmds.specs.Variables.{Variable, mention_all}
-use Rattle.friday_shell.specs.declared.points.Point.{Point as Held}
-use Rattle.friday_shell.specs.declared.refusal.Refusal.TheVariants as refusal
+use Rattle.shell_lines.specs.Refusals.{refusal_line}
+use Rattle.shell_lines.specs.declared.refusal.Refusal.TheVariants as refusal
+use Rattle.shell_points.specs.Points.{Point, place_of_point, with_program}
 use Rattle.friday_shell.specs.Answer.{LineAnswer, attaches, attaches_at, most_variables, refuses, says}
-use Rattle.friday_shell.specs.Points.{Point, SessionState, place_of_point, with_program}
-use Rattle.friday_shell.specs.Refusals.{refusal_line}
-use Rattle.friday_shell.specs.Seen.{Performs, point}
-
--- the point at a place has a program
-pub put_same : (ps : List Held) (k : ℕ) (e : Held) (p : Program) → k < length ps → get_or ps k e ≡ e
-    → map {A = Held} point (slice_set ps k (record { number = e.number; text = e.text; trigger = e.trigger; program = Some p })) ≡ with_program (map {A = Held} point ps) k (body p)
-put_same [] k e p within here = absurd (omega (arith, within))
-put_same (q ∷ ps) zero e p within here = ap (λ (r : Held). point (record { number = r.number; text = r.text; trigger = r.trigger; program = Some p }) ∷ map {A = Held} point ps) (sym here)
-put_same (q ∷ ps) (suc k) e p within here = ap (λ (rest : List Point). point q ∷ rest) (put_same ps k e p (omega (arith, within)) here)
+use Rattle.friday_shell.specs.Points.{SessionState}
+use Rattle.friday_shell.specs.Seen.{Performs}
 
 -- no point has the number
 pub none_held : (state : SessionState) (n : ℕ) (program : Statements) (text : List ℕ) → None ≡ place_of_point state.points n → text ≡ refusal_line refusal.NoPoint

@@ -1,14 +1,7 @@
+pub mod Answered
 pub mod Attached
-pub mod Blanks
-pub mod Commands
-pub mod Forms
-pub mod Held
+pub mod Events
 pub mod Listed
 pub mod Named
-pub mod Parts
-pub mod Pieces
-pub mod Programs
+pub mod Starts
 pub mod Stays
-pub mod Trimmed
-pub mod Viable
-pub mod Walks

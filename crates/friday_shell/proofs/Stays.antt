@@ -1,25 +1,25 @@
 -- An answer that is the line of a refusal leaves the session as it was.
-use Rattle.std.proofs.Common.{◌≡◌, ℕ, zero, suc, ◌+◌, ◌/◌, ◌%◌, ◌<◌, Bool, true, false, cond, ◌&&◌, ◌||◌, nat_eq, nat_le, nat_lt, List, [], ◌∷◌, ◌++◌, length, take, drop, Option, Some, None, Result, Ok, Err, bytes_eq, codes, decimal, ℤ, inl, inr, refl, sym, ap, ◌∙◌, arith}
+use Rattle.std.proofs.Common.{◌≡◌, ℕ, zero, suc, ◌+◌, ◌/◌, ◌%◌, ◌<◌, Bool, true, false, cond, ◌&&◌, ◌||◌, nat_eq, nat_le, nat_lt, List, [], ◌∷◌, ◌++◌, length, take, drop, Option, Some, None, bytes_eq, codes, decimal, ℤ, inl, inr, refl, sym, ap, ◌∙◌, arith}
 use Rattle.std.proofs.lemmas.Bool.{cases_Bool, eqb-true, ltb-true, ltb-false, lt-ltb}
 use Rattle.std.specs.Fmt.{digit_glyph, digits, digits_onto}
-use Rattle.watch_expr.specs.Computed.{cut}
-use Rattle.watch_expr.specs.Lexing.{Lexed, Placed, is_too_deep, texts}
 use Rattle.call_table.specs.declared.kind.Kind.{Kind}
+use Rattle.group_state.specs.Moves.{last_event_of}
 use Rattle.group_state.specs.Place.{Place, events}
+use Rattle.group_texts.specs.Texts.{event_ending, position_line}
 use Rattle.embed_cmds.specs.Faulty.{set_names}
 use Rattle.embed_cmds.specs.Tree.{Statements}
 use Rattle.embed_cmds.specs.Variables.{is_mentioned, mention_all}
-use Rattle.friday_shell.specs.declared.refusal.Refusal.{Refusal}
-use Rattle.friday_shell.specs.declared.refusal.Refusal.TheVariants as refusal
-use Rattle.friday_shell.specs.Answer.{LineAnswer, adds, answer, arrives, attaches_at, breaks_at, by_command, by_cut, command_answer, command_answer_or_refusal, deletes, is_silent, most_points, most_variables, node_names, says, sets, walks}
-use Rattle.friday_shell.specs.Firing.{place_at}
+use Rattle.shell_lines.specs.Lines.{At, Break, LineCommand, Continue, Delete, Do, Events, Everywhere, Goto, ListPoints, ListVariables, Mem, Print, Quit, Scope, SetTo, Step, Threads, Watch}
+use Rattle.shell_lines.specs.Meaning.{Does, LineMeaning, Refuses, Silent, line_meaning, trimmed}
+use Rattle.shell_lines.specs.Refusals.{refusal_line}
+use Rattle.shell_lines.specs.declared.refusal.Refusal.{Refusal}
+use Rattle.shell_lines.specs.declared.refusal.Refusal.TheVariants as refusal
+use Rattle.shell_points.specs.Firing.{place_at}
+use Rattle.shell_points.specs.Points.{Trigger, has_point, place_of_point}
+use Rattle.shell_points.specs.Walking.{Walk, walk_from}
+use Rattle.friday_shell.specs.Answer.{LineAnswer, adds, answer_of, arrives, attaches_at, breaks_at, command_answer, deletes, most_points, most_variables, node_names, says, sets, walks}
 use Rattle.friday_shell.specs.Laws.{RefusedStays}
-use Rattle.friday_shell.specs.Lines.{At, Break, LineCommand, Continue, Delete, Do, Events, Everywhere, Goto, ListPoints, ListVariables, Mem, Print, Quit, Scope, SetTo, Step, Threads, Watch, command_spelled, has_nested, names_none, watches_variable}
-use Rattle.friday_shell.specs.Points.{SessionState, Trigger, has_point, place_of_point}
-use Rattle.friday_shell.specs.Refusals.{refusal_line}
-use Rattle.friday_shell.specs.Texts.{event_ending, position_line}
-use Rattle.friday_shell.specs.Walking.{Walk, walk_from}
-use Rattle.group_state.specs.Moves.{last_event_of}
+use Rattle.friday_shell.specs.Points.{SessionState}
 
 -- ---- decimal digits
 
@@ -206,24 +206,10 @@ module _ (state : SessionState) where
   commanding line Continue = walking (walk_from state.place state.points state.variables)
   commanding line Quit = other_byte_first _ (λ e. absurd (omega (arith, e)))
 
-  judging : (line : List ℕ) (c : LineCommand) → Stays (command_answer_or_refusal state line c)
-  judging line c =
-      either (has_nested c) _ _ (same _)
-      (either (names_none c) _ _ (same _)
-      (either (watches_variable c) _ _ (same _) (commanding line c)))
-
-  spelling : (line : List ℕ) (tokens : Lexed) (r : Result LineCommand ℕ) → Stays (by_command state line tokens r)
-  spelling line tokens (Err n) = same _
-  spelling line tokens (Ok c) = judging _ c
-
-  cutting : (line : List ℕ) (r : Result (List Placed) ℕ) → Stays (by_cut state line r)
-  cutting line (Err column) = same _
-  cutting line (Ok tokens) =
-      let lexed : Lexed = record { tokens = tokens; end = length line + 1 } in
-      either (is_too_deep (texts lexed)) _ _ (same _) (spelling line lexed (command_spelled (node_names state.place.start) (texts lexed)))
-
-  answering : (line : List ℕ) → Stays (answer state line)
-  answering line = either (nat_lt 4096 (length line)) _ _ (same _) (either (is_silent line) _ _ (same []) (cutting line (cut line)))
+  answering : (line : List ℕ) (m : LineMeaning) → Stays (answer_of state line m)
+  answering line Silent = same []
+  answering line (Refuses why) = same _
+  answering line (Does c) = commanding line c
 
 pub stays : RefusedStays
-stays state line why e = answering state line why e
+stays state line why e = answering state (trimmed line) (line_meaning (node_names state.place.start) line) why e

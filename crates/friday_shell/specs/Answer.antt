@@ -1,28 +1,28 @@
 -- What a line of a session answers, and what the session then keeps.
-use Rattle.std.specs.Prelude.{ℕ, ◌+◌, min, Bool, true, false, ◌||◌, nat_le, nat_lt, ◌==◌, List, [], ◌∷◌, ◌++◌, length, map, slice_get, codes, decimal, Option, Some, None, ℤ, Result, Ok, Err, if◌then◌else◌}
-use Rattle.std.specs.List.{flat_map, list_all}
+use Rattle.std.specs.Prelude.{ℕ, ◌+◌, min, Bool, true, false, ◌||◌, nat_le, nat_lt, List, [], ◌++◌, length, map, slice_get, codes, decimal, Option, Some, None, ℤ, if◌then◌else◌}
+use Rattle.std.specs.List.{flat_map}
 use Rattle.fri_text.specs.Hex.{hex_word}
 use Rattle.call_table.specs.declared.kind.Kind.{Kind}
 use Rattle.proc_replay.specs.Replaying.{Replaying}
 use Rattle.guest_process.specs.State.{State}
-use Rattle.watch_expr.specs.Computed.{cut}
-use Rattle.watch_expr.specs.Lexing.{Lexed, Placed, column_at, is_blank, is_too_deep, texts}
 use Rattle.watch_expr.specs.View.{bytes_of_node}
 use Rattle.group_state.specs.Place.{Place, events, states}
 use Rattle.group_state.specs.Seen.{nodes_at}
+use Rattle.group_texts.specs.Texts.{last_lines, node_name, position_line, process_lines}
 use Rattle.embed_cmds.specs.Faulty.{set_names}
 use Rattle.embed_cmds.specs.Running.{value_in, value_word}
 use Rattle.embed_cmds.specs.Tree.{Statements}
 use Rattle.embed_cmds.specs.Variables.{Variable, is_mentioned, mention_all, with_value}
-use Rattle.friday_shell.specs.Firing.{place_at}
-use Rattle.friday_shell.specs.Lines.{At, Break, LineCommand, Continue, Delete, Do, Events, Everywhere, Goto, ListPoints, ListVariables, Mem, Print, Quit, Scope, SetTo, Step, Threads, Watch, command_spelled, has_nested, names_none, watches_variable}
-use Rattle.friday_shell.specs.Points.{Point, SessionState, Trigger, has_point, place_of_point, with_point, with_program, without_point}
-use Rattle.friday_shell.specs.Points.{Break as OnCall, Watch as OnChange}
-use Rattle.friday_shell.specs.declared.refusal.Refusal.{Refusal}
-use Rattle.friday_shell.specs.declared.refusal.Refusal.TheVariants as refusal
-use Rattle.friday_shell.specs.Refusals.{refusal_line}
-use Rattle.friday_shell.specs.Texts.{last_lines, node_name, position_line, process_lines}
-use Rattle.friday_shell.specs.Walking.{Walk, walk_from}
+use Rattle.shell_lines.specs.Lines.{At, Break, LineCommand, Continue, Delete, Do, Events, Everywhere, Goto, ListPoints, ListVariables, Mem, Print, Quit, Scope, SetTo, Step, Threads, Watch}
+use Rattle.shell_lines.specs.Meaning.{Does, LineMeaning, Refuses, Silent, line_meaning, trimmed}
+use Rattle.shell_lines.specs.Refusals.{refusal_line}
+use Rattle.shell_lines.specs.declared.refusal.Refusal.{Refusal}
+use Rattle.shell_lines.specs.declared.refusal.Refusal.TheVariants as refusal
+use Rattle.shell_points.specs.Firing.{place_at}
+use Rattle.shell_points.specs.Points.{Trigger, has_point, place_of_point, point_text, with_program, without_point}
+use Rattle.shell_points.specs.Points.{Break as OnCall, Watch as OnChange}
+use Rattle.shell_points.specs.Walking.{Walk, walk_from}
+use Rattle.friday_shell.specs.Points.{SessionState, with_point}
 
 -- the text, the session after it, and whether the session ends
 pub record LineAnswer : Type 0 where
@@ -85,9 +85,6 @@ deletes state n =
     then record { text = codes "deleted " ++ (decimal n ++ codes "\n"); state = record state { points = without_point state.points n }; quits = false }
     else refuses state refusal.NoPoint
 
-abbrev pub point_text : Point → List ℕ
-point_text p = decimal p.number ++ (codes " " ++ (p.text ++ codes "\n"))
-
 -- a walk's lines, and then the position to which the session goes
 abbrev pub walks : SessionState → Walk → LineAnswer
 walks state w = record {
@@ -148,53 +145,16 @@ command_answer state line Quit = record { text = []; state = state; quits = true
 
 -- ---- the answer of a line
 
--- bytes without the blanks in front
-abbrev pub without_front_blanks : List ℕ → List ℕ
-without_front_blanks [] = []
-without_front_blanks (b ∷ bytes) = if is_blank b then without_front_blanks bytes else b ∷ bytes
-
--- bytes without the blanks at their end
-abbrev pub without_end_blanks : List ℕ → List ℕ
-without_end_blanks [] = []
-without_end_blanks (b ∷ bytes) = if list_all is_blank (b ∷ bytes) then [] else b ∷ without_end_blanks bytes
-
--- a line without its outer blanks
-abbrev pub trimmed : List ℕ → List ℕ
-trimmed line = without_end_blanks (without_front_blanks line)
-
--- a command of the grammar, unless something is wrong with it
-abbrev pub command_answer_or_refusal : SessionState → List ℕ → LineCommand → LineAnswer
-command_answer_or_refusal state line command =
-    if has_nested command then refuses state refusal.Nested
-    else if names_none command then refuses state refusal.NoNode
-    else if watches_variable command then refuses state refusal.NamesVariable
-    else command_answer state line command
-
-abbrev pub by_command : SessionState → List ℕ → Lexed → Result LineCommand ℕ → LineAnswer
-by_command state line tokens (Err n) = refuses state (refusal.Syntax (column_at tokens n))
-by_command state line tokens (Ok command) = command_answer_or_refusal state (trimmed line) command
-
 -- the names of the processes
 abbrev pub node_names : List Replaying → List (List ℕ)
 node_names start = map (λ r. r.head.name) start
 
-abbrev pub by_tokens : SessionState → List ℕ → Lexed → LineAnswer
-by_tokens state line tokens =
-    if is_too_deep (texts tokens) then refuses state refusal.TooDeep
-    else by_command state line tokens (command_spelled (node_names state.place.start) (texts tokens))
+-- what a line of this meaning answers, which without outer blanks is this
+abbrev pub answer_of : SessionState → List ℕ → LineMeaning → LineAnswer
+answer_of state line Silent = says state []
+answer_of state line (Refuses why) = refuses state why
+answer_of state line (Does command) = command_answer state line command
 
-abbrev pub by_cut : SessionState → List ℕ → Result (List Placed) ℕ → LineAnswer
-by_cut state line (Err column) = refuses state (refusal.Syntax column)
-by_cut state line (Ok tokens) = by_tokens state line (record { tokens = tokens; end = length line + 1 })
-
--- a line of blanks, or one whose first byte behind blanks is `#`
-abbrev pub is_silent : List ℕ → Bool
-is_silent [] = true
-is_silent (b ∷ bytes) = if is_blank b then is_silent bytes else b == 35
-
--- the answer of a line, in which the tests come in this order
+-- the answer of a line
 abbrev pub answer : SessionState → List ℕ → LineAnswer
-answer state line =
-    if nat_lt 4096 (length line) then refuses state refusal.TooLong
-    else if is_silent line then says state []
-    else by_cut state line (cut line)
+answer state line = answer_of state (trimmed line) (line_meaning (node_names state.place.start) line)

@@ -1,12 +1,5 @@
-pub mod Texts
-pub mod Lines
-pub mod Refusals
 pub mod Points
-pub mod Firing
 pub mod Answer
 pub mod Seen
 pub mod Session
-pub mod Reading
-pub mod Walking
-pub mod Grammar
 pub mod Laws

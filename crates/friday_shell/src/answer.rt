@@ -1,22 +1,22 @@
 // What a command answers.
-ghost use Rattle.std.specs.Prelude.{◌≡◌, ◌+◌, IfOk, Ok, [], length, min};
+ghost use Rattle.std.specs.Prelude.{◌≡◌, ◌+◌, IfOk, [], length, min};
 ghost use Rattle.friday_shell.specs.Answer.{command_answer};
-ghost use Rattle.friday_shell.specs.Firing.{place_at};
-ghost use Rattle.friday_shell.specs.Lines.{Continue, Events, Goto, Step};
-ghost use Rattle.friday_shell.specs.Seen.{Performs, command as command_meant, session_state};
-ghost use Rattle.friday_shell.specs.Texts.{last_lines, position_line};
+ghost use Rattle.friday_shell.specs.Seen.{Performs, session_state};
 ghost use Rattle.group_state.specs.Place.{events};
+ghost use Rattle.group_texts.specs.Texts.{last_lines};
+ghost use Rattle.shell_lines.specs.Lines.{Continue, Events, Goto, Step};
+ghost use Rattle.shell_lines.specs.Seen.{command as command_meant};
+ghost use Rattle.shell_points.specs.Firing.{place_at};
 
-use crate::command::Command;
-use crate::event::{push_event_line, push_position};
-use crate::points::{Trigger, add, add_breakpoint, attach, delete, list};
-use crate::refusal::{Refusal, refused};
-use crate::shown::{print, show_memory, show_threads};
-use crate::state::{Kept, State};
+use crate::points::{add, add_breakpoint, attach, delete};
+use crate::shown::{print, show_memory, show_position, show_threads};
+use crate::state::{Kept, State, told};
 use crate::variables::{list_variables, set};
-use crate::walk::walk;
 use fri_text::Text;
 use group_state::Group;
+use group_texts::push_event_line;
+use shell_lines::{Command, Refusal, refused};
+use shell_points::Trigger;
 use std::alloc::{AllocError, Global};
 
 /// What a command answers, whose line without outer blanks is this, and where the session then stands.
@@ -29,6 +29,19 @@ pub(crate) fn perform<'m, 'a>(
     ensures answer { IfOk result (λ done.
         Performs (command_answer (session_state state.entry) line.now (command_meant command)) (session_state done.0) done.1) }
     ensures start { IfOk result (λ done. done.0.group.start ≡ state.entry.group.start) }
+{
+    run(alloc, state, line, command)
+}
+
+// The same, by the kind of command.
+fn run<'m, 'a>(
+    alloc: Global,
+    state: State<'m, 'a>,
+    line: &[u8],
+    command: Command,
+) -> Result<(State<'m, 'a>, Text), AllocError>
+    ensures { IfOk result (λ done.
+        Performs (command_answer (session_state state.entry) line.now (command_meant command)) (session_state done.0) done.1) }
 {
     match command {
         Command::Goto(position) => go_to(alloc, state, position),
@@ -43,37 +56,12 @@ pub(crate) fn perform<'m, 'a>(
         Command::Break(scope, kind) => add_breakpoint(alloc, state, line, scope, kind),
         Command::Delete(number) => delete(alloc, state, number),
         Command::Do(number, program) => attach(alloc, state, number, program),
-        Command::List => told(list(alloc, &state.kept.points), state),
+        Command::List => told(state.kept.points.list(alloc), state),
         Command::Set(name, expression) => set(alloc, state, &name, &expression),
         Command::Vars => told(list_variables(alloc, &state.kept.variables), state),
         Command::Continue => go_on(alloc, state),
         Command::Quit => Ok((state, Text::new(alloc))),
     }
-}
-
-// A text, which leaves the session as it was.
-fn told<'m, 'a>(
-    text: Result<Text, AllocError>,
-    state: State<'m, 'a>,
-) -> Result<(State<'m, 'a>, Text), AllocError>
-    ensures state { IfOk result (λ done. done.0 ≡ state.entry) }
-    ensures text { IfOk result (λ done. text ≡ Ok done.1) }
-{
-    let text = text?;
-    Ok((state, text))
-}
-
-// The position at which a session stands.
-fn show_position<'m, 'a>(
-    alloc: Global,
-    state: State<'m, 'a>,
-) -> Result<(State<'m, 'a>, Text), AllocError>
-    ensures state { IfOk result (λ done. done.0 ≡ state.entry) }
-    ensures text { IfOk result (λ done. done.1 ≡ position_line state.entry.group) }
-{
-    let mut text = Text::new(alloc);
-    push_position(&mut text, &state.group)?;
-    Ok((state, text))
 }
 
 // Goes to a position.
@@ -82,17 +70,16 @@ fn go_to<'m, 'a>(
     state: State<'m, 'a>,
     position: u64,
 ) -> Result<(State<'m, 'a>, Text), AllocError>
-    ensures answer { IfOk result (λ done. Performs (command_answer (session_state state.entry) [] (Goto position)) (session_state done.0) done.1) }
-    ensures start { IfOk result (λ done. done.0.group.start ≡ state.entry.group.start) }
+    ensures { IfOk result (λ done. Performs (command_answer (session_state state.entry) [] (Goto position)) (session_state done.0) done.1) }
 {
     let State { group, kept } = state;
     let (group, there) = group.goto(alloc, position)?;
     let state = State { group, kept };
     if there {
-        return show_position(alloc, state);
+        told(show_position(alloc, &state.group), state)
+    } else {
+        told(refused(alloc, Refusal::NoPosition), state)
     }
-    let text = refused(alloc, Refusal::NoPosition)?;
-    Ok((state, text))
 }
 
 // Goes so many positions forward, and at most to the end.
@@ -101,12 +88,12 @@ fn step<'m, 'a>(
     state: State<'m, 'a>,
     count: u64,
 ) -> Result<(State<'m, 'a>, Text), AllocError>
-    ensures answer { IfOk result (λ done. Performs (command_answer (session_state state.entry) [] (Step count)) (session_state done.0) done.1) }
-    ensures start { IfOk result (λ done. done.0.group.start ≡ state.entry.group.start) }
+    ensures { IfOk result (λ done. Performs (command_answer (session_state state.entry) [] (Step count)) (session_state done.0) done.1) }
 {
     let State { group, kept } = state;
     let group = advance(group, count)?;
-    show_position(alloc, State { group, kept })
+    let state = State { group, kept };
+    told(show_position(alloc, &state.group), state)
 }
 
 // The group so many positions further, and at most at the end.
@@ -128,8 +115,7 @@ fn advance<'m, 'a>(group: Group<'m, 'a>, count: u64) -> Result<Group<'m, 'a>, Al
 
 // Goes on to where a point fires.
 fn go_on<'m, 'a>(alloc: Global, state: State<'m, 'a>) -> Result<(State<'m, 'a>, Text), AllocError>
-    ensures answer { IfOk result (λ done. Performs (command_answer (session_state state.entry) [] Continue) (session_state done.0) done.1) }
-    ensures start { IfOk result (λ done. done.0.group.start ≡ state.entry.group.start) }
+    ensures { IfOk result (λ done. Performs (command_answer (session_state state.entry) [] Continue) (session_state done.0) done.1) }
 {
     let State { group, kept } = state;
     let Kept {
@@ -137,7 +123,7 @@ fn go_on<'m, 'a>(alloc: Global, state: State<'m, 'a>) -> Result<(State<'m, 'a>, 
         made,
         variables,
     } = kept;
-    let walked = walk(alloc, group, &points, variables)?;
+    let walked = points.walk(alloc, group, variables)?;
     let kept = Kept {
         points,
         made,
@@ -156,8 +142,7 @@ fn show_events<'m, 'a>(
     state: State<'m, 'a>,
     count: u64,
 ) -> Result<(State<'m, 'a>, Text), AllocError>
-    ensures answer { IfOk result (λ done. Performs (command_answer (session_state state.entry) [] (Events count)) (session_state done.0) done.1) }
-    ensures start { IfOk result (λ done. done.0.group.start ≡ state.entry.group.start) }
+    ensures { IfOk result (λ done. Performs (command_answer (session_state state.entry) [] (Events count)) (session_state done.0) done.1) }
 {
     let State { group, kept } = state;
     let (group, text) = last_events(alloc, group, count)?;

@@ -1,22 +1,19 @@
-//! The shell of the debugger: what each line of a session answers, over the logs of a group.
+//! The shell of the debugger: a session over the logs of a group, and what it answers to each line.
+//!
+//! What a line says is read by shell_lines, what points do by shell_points, and how events are shown stands in
+//! group_texts; here is what a command does. Contracts see a session as the place of its group, its points, how many were
+//! ever made, and its variables (`SessionState` of `specs/Points`). `Session::line` promises, for any bytes, the answer,
+//! the session after it and whether it ends that `answer` of `specs/Answer` gives, and `refused_stays` that a line which
+//! is refused changes nothing.
 #![tactic(auto)]
 
 mod answer;
-mod command;
-mod event;
-mod firing;
 mod laws;
-mod line;
 mod points;
-mod read;
-mod refusal;
 mod session;
 mod shown;
 mod state;
-mod turn;
 mod variables;
-mod verbs;
-mod walk;
 
-pub use laws::{exact_commands, refused_stays};
+pub use laws::refused_stays;
 pub use session::{Go, Session};

@@ -1,20 +1,22 @@
 // A session of the debugger.
-ghost use Rattle.std.specs.Prelude.{◌≡◌, ℕ, ◌≤◌, IfOk, List, codes, length, true};
+ghost use Rattle.std.specs.Prelude.{◌≡◌, ℕ, ◌<◌, ◌≤◌, ◌^◌, IfOk, List, Ok, codes, length, true};
 ghost use Rattle.std.specs.Result.{IsOk};
-ghost use Rattle.friday_shell.specs.Answer.{answer, command_answer, is_silent, node_names};
+ghost use Rattle.friday_shell.specs.Answer.{answer, command_answer, node_names};
 ghost use Rattle.friday_shell.specs.Points.{SessionState};
-ghost use Rattle.friday_shell.specs.Seen.{IsLineAnswer, command, is_quit};
+ghost use Rattle.friday_shell.specs.Seen.{IsLine, IsLineAnswer, is_quit};
 ghost use Rattle.friday_shell.specs.Session.{opening};
+ghost use Rattle.shell_lines.specs.Meaning.{is_silent};
+ghost use Rattle.shell_lines.specs.Seen.{command};
+ghost use Rattle.shell_lines.specs.declared.line.Line.TheVariants.{Silent};
 
 use crate::answer::perform;
-use crate::command::Command;
-use crate::line::{Line, read_line, trimmed};
-use crate::refusal::refused;
 use crate::state::{Kept, State};
 use embed_cmds::Vars;
 use fri_bytes::Bytes;
 use fri_text::Text;
 use group_state::Group;
+use shell_lines::{Command, Line, read_line, refused, trimmed};
+use shell_points::Points;
 use std::alloc::{AllocError, Global};
 use std::marker::Model;
 
@@ -66,7 +68,7 @@ impl<'m, 'a> Session<'m, 'a> {
         let state = State {
             group,
             kept: Kept {
-                points: Vec::new(alloc),
+                points: Points::new(alloc),
                 made: 0,
                 variables: Vars::new(alloc),
             },
@@ -82,7 +84,7 @@ impl<'m, 'a> Session<'m, 'a> {
     {
         let Session { state, names } = self;
         let _ = state.group.nodes();
-        match read_line(alloc, line, &names)? {
+        match understood(alloc, line, &names)? {
             Line::Silent => Ok((Session { state, names }, Text::new(alloc), Go::On)),
             Line::Refused(why) => {
                 let text = refused(alloc, why)?;
@@ -102,6 +104,15 @@ impl<'m, 'a> Session<'m, 'a> {
     {
         &self.state.group
     }
+}
+
+// What a line is, over a group whose processes have these names, and so what it answers.
+fn understood(alloc: Global, bytes: &[u8], names: &[Bytes]) -> Result<Line, AllocError>
+    requires { length names.now < 2 ^ 32 }
+    ensures line { IfOk result (IsLine names.now bytes.now) }
+    ensures silent { length bytes.now ≤ 4096 → is_silent bytes.now ≡ true → result ≡ Ok Silent }
+{
+    read_line(alloc, bytes, names)
 }
 
 // Whether a session goes on after a command.

@@ -3,16 +3,26 @@ ghost use Rattle.std.specs.Prelude.{◌≡◌, IfOk};
 ghost use Rattle.friday_shell.specs.Answer.{memory_text, threads_of, value_text};
 ghost use Rattle.embed_cmds.specs.Running.{value_in};
 ghost use Rattle.group_state.specs.Seen.{nodes_at};
+ghost use Rattle.group_texts.specs.Texts.{position_line};
 ghost use Rattle.watch_expr.specs.Expression.{expression_of};
 
-use crate::event::push_process;
 use crate::state::State;
 use embed_cmds::push_value;
 use fri_text::Text;
 use group_state::Group;
+use group_texts::{push_position, push_process};
 use lib_calls::memory_part;
 use std::alloc::{AllocError, Global};
 use watch_expr::{Expr, eval};
+
+/// The position of a group.
+pub(crate) fn show_position(alloc: Global, group: &Group<'_, '_>) -> Result<Text, AllocError>
+    ensures { IfOk result (λ text. text ≡ position_line group.now) }
+{
+    let mut text = Text::new(alloc);
+    push_position(&mut text, group)?;
+    Ok(text)
+}
 
 /// The value of an expression.
 pub(crate) fn print(

@@ -1,14 +1,17 @@
 // Where a session stands.
+ghost use Rattle.std.specs.Prelude.{◌≡◌, IfOk, Ok};
 
-use crate::points::Point;
 use embed_cmds::Vars;
+use fri_text::Text;
 use group_state::Group;
+use shell_points::Points;
+use std::alloc::AllocError;
 
 /// What a session keeps beside its group: the points that are held in order of their numbers, how many were ever made,
 /// and the variables.
 #[derive(Drop)]
 pub(crate) struct Kept {
-    pub(crate) points: Vec<Point>,
+    pub(crate) points: Points,
     pub(crate) made: u64,
     pub(crate) variables: Vars,
 }
@@ -18,4 +21,16 @@ pub(crate) struct Kept {
 pub(crate) struct State<'m, 'a> {
     pub(crate) group: Group<'m, 'a>,
     pub(crate) kept: Kept,
+}
+
+/// A text, beside which the session stays as it is.
+pub(crate) fn told<'m, 'a>(
+    text: Result<Text, AllocError>,
+    state: State<'m, 'a>,
+) -> Result<(State<'m, 'a>, Text), AllocError>
+    ensures state { IfOk result (λ done. done.0 ≡ state.entry) }
+    ensures text { IfOk result (λ done. text ≡ Ok done.1) }
+{
+    let text = text?;
+    Ok((state, text))
 }

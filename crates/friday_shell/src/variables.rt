@@ -2,15 +2,15 @@
 ghost use Rattle.std.specs.Prelude.{◌≡◌, ◌++◌, [], IfOk, OnOk};
 ghost use Rattle.std.specs.List.{flat_map};
 ghost use Rattle.friday_shell.specs.Answer.{command_answer, variable_text};
-ghost use Rattle.friday_shell.specs.Lines.{SetTo};
 ghost use Rattle.friday_shell.specs.Seen.{Performs, session_state};
+ghost use Rattle.shell_lines.specs.Lines.{SetTo};
 ghost use Rattle.watch_expr.specs.Expression.{expression_of};
 
-use crate::refusal::{Refusal, refused};
-use crate::state::State;
+use crate::state::{State, told};
 use embed_cmds::{Vars, push_value};
 use fri_bytes::Bytes;
 use fri_text::Text;
+use shell_lines::{Refusal, refused};
 use std::alloc::{AllocError, Global};
 use watch_expr::{Expr, eval};
 
@@ -24,14 +24,12 @@ pub(crate) fn set<'m, 'a>(
     name: &Bytes,
     expression: &Expr,
 ) -> Result<(State<'m, 'a>, Text), AllocError>
-    ensures answer { IfOk result (λ done.
+    ensures { IfOk result (λ done.
         Performs (command_answer (session_state state.entry) [] (SetTo name.now (expression_of expression.now))) (session_state done.0) done.1) }
-    ensures group { IfOk result (λ done. done.0.group ≡ state.entry.group) }
 {
     let variables = &state.kept.variables;
     if !variables.is_mentioned(name.as_slice()) && variables.names() >= MOST_VARIABLES {
-        let text = refused(alloc, Refusal::TooMany)?;
-        return Ok((state, text));
+        return told(refused(alloc, Refusal::TooMany), state);
     }
     let value = eval(expression, &state.group, variables);
     let State { group, mut kept } = state;

@@ -3,8 +3,8 @@ use Rattle.std.specs.Prelude.{slice_get}
 use Rattle.proc_replay.specs.Replaying.{Replaying}
 use Rattle.group_state.specs.Moves.{event_of}
 use Rattle.group_state.specs.Place.{Place, events}
-use Rattle.friday_shell.specs.Texts.{event_line, last_lines}
-use Rattle.friday_shell.proofs.Pieces.{events_more}
+use Rattle.group_texts.specs.Texts.{event_line, last_lines}
+use Rattle.friday_shell.proofs.Events.{events_more}
 use Rattle.friday_shell.proofs.answer.last_events.Goals as goal
 
 pub events-preserved : goal.events-preserved

@@ -1,6 +1,6 @@
 use Rattle.std.proofs.Common.{◌≡◌, ◌-◌, ◌≤◌, ◌++◌, suc, drop, take, length}
 use Rattle.group_state.specs.Place.{events}
-use Rattle.friday_shell.specs.Texts.{event_lines, last_lines}
+use Rattle.group_texts.specs.Texts.{event_lines, last_lines}
 use Rattle.friday_shell.proofs.answer.last_events.Given as goal
 
 -- what is written, with the lines of the events still to come, is the whole

@@ -1,0 +1,8 @@
+use Rattle.shell_lines.specs.Seen.{command}
+use Rattle.friday_shell.specs.Seen.{session_state}
+use Rattle.friday_shell.proofs.Answered.{start_stays}
+use Rattle.friday_shell.proofs.answer.perform.Goals as goal
+
+pub returns-clause-start : goal.returns-clause-start
+returns-clause-start c =
+    start_stays (session_state c.args.state) c.args.line.now (command c.args.command) c.run.result (λ done. session_state done.0) (λ done. done.1) c.run.ensures

@@ -1,5 +1,0 @@
-use Rattle.friday_shell.proofs.Commands.{exact}
-use Rattle.friday_shell.proofs.laws.exact_commands.Goals as goal
-
-pub returns : goal.returns
-returns c = exact c.exact_reading.ensures c.exact_programs.ensures c.read_back.ensures.names

@@ -1,0 +1,11 @@
+//! How a group is shown at a position: its events, the position itself, and how a process stands and where it runs each
+//! of its threads.
+//!
+//! Contracts see a text as its bytes, and each text is one definition of `specs/Texts` over the place of the group
+//! (`Place` of group_state) or the state of a process. A call says which bytes it appends; where memory runs out, it says
+//! nothing of the text.
+#![tactic(auto)]
+
+mod event;
+
+pub use event::{push_event_line, push_position, push_process};

@@ -1,0 +1,45 @@
+-- The grammar of commands, over the texts of a line's tokens: a line for each form that a command has.
+use Rattle.std.specs.Prelude.{◌≡◌, ℕ, ◌+◌, ◌≤◌, ◌<◌, true, codes, List, [], ◌∷◌, ◌++◌, length, take, Some}
+use Rattle.call_table.specs.Table.{row}
+use Rattle.call_table.specs.declared.kind.Kind.{Kind}
+use Rattle.watch_expr.specs.Expression.{Expression}
+use Rattle.watch_expr.specs.Grammar.{IsExpr}
+use Rattle.watch_expr.specs.Spelling.{is_word, number_of}
+use Rattle.embed_cmds.specs.Grammar.{IsProgram}
+use Rattle.embed_cmds.specs.Tree.{Statements}
+use Rattle.shell_lines.specs.Lines.{At, Break, LineCommand, Continue, Delete, Do, Events, Everywhere, Goto, ListPoints, ListVariables, Mem, Print, Quit, SetTo, Step, Threads, Watch, node_called}
+
+-- With these names of processes, the tokens spell the command.
+pub data IsCommand (names : List (List ℕ)) : List (List ℕ) → LineCommand → Type 0 where
+  goto : (word : List ℕ) (k : ℕ) → number_of word ≡ Some k → IsCommand names (codes "goto" ∷ word ∷ []) (Goto k)
+  step_once : IsCommand names (codes "step" ∷ []) (Step 1)
+  step : (word : List ℕ) (n : ℕ) → number_of word ≡ Some n → IsCommand names (codes "step" ∷ word ∷ []) (Step n)
+  print : {ts : List (List ℕ)} {x : Expression} → IsExpr names ts x → IsCommand names (codes "print" ∷ ts) (Print x)
+  mem : (node from count : List ℕ) (addr len : ℕ) → is_word node ≡ true → number_of from ≡ Some addr → number_of count ≡ Some len → 1 ≤ len → len ≤ 256
+      → IsCommand names (codes "mem" ∷ node ∷ from ∷ count ∷ []) (Mem (node_called names node) addr len)
+  threads : (node : List ℕ) → is_word node ≡ true → IsCommand names (codes "threads" ∷ node ∷ []) (Threads (node_called names node))
+  last_events : IsCommand names (codes "events" ∷ []) (Events 10)
+  events : (word : List ℕ) (n : ℕ) → number_of word ≡ Some n → 1 ≤ n → n ≤ 1000 → IsCommand names (codes "events" ∷ word ∷ []) (Events n)
+  watch : {ts : List (List ℕ)} {x : Expression} → IsExpr names ts x → IsCommand names (codes "watch" ∷ ts) (Watch x)
+  break : (node : List ℕ) (kind : Kind) → is_word node ≡ true → IsCommand names (codes "break" ∷ node ∷ (row kind).name ∷ []) (Break (At (node_called names node)) kind)
+  break_everywhere : (kind : Kind) → IsCommand names (codes "break" ∷ codes "*" ∷ (row kind).name ∷ []) (Break Everywhere kind)
+  delete : (word : List ℕ) (n : ℕ) → number_of word ≡ Some n → IsCommand names (codes "delete" ∷ word ∷ []) (Delete n)
+  attach : {ts : List (List ℕ)} {p : Statements} (word : List ℕ) (n : ℕ) → number_of word ≡ Some n → IsProgram names ts p → IsCommand names (codes "do" ∷ word ∷ ts) (Do n p)
+  list : IsCommand names (codes "list" ∷ []) ListPoints
+  set : {ts : List (List ℕ)} {x : Expression} (name : List ℕ) → is_word name ≡ true → IsExpr names ts x → IsCommand names (codes "set" ∷ codes "$" ∷ name ∷ ts) (SetTo name x)
+  vars : IsCommand names (codes "vars" ∷ []) ListVariables
+  continue : IsCommand names (codes "continue" ∷ []) Continue
+  quit : IsCommand names (codes "quit" ∷ []) Quit
+
+-- the tokens begin some command
+pub record BeginsCommand (names ts : List (List ℕ)) : Type 0 where
+  pub rest : List (List ℕ)
+  pub whole : LineCommand
+  pub spelled : IsCommand names (ts ++ rest) whole
+
+-- The tokens are no command. The first n of them begin some command, and no more of them do.
+pub record StopsAtToken (names ts : List (List ℕ)) (n : ℕ) : Type 0 where
+  pub within : n ≤ length ts
+  pub begins : BeginsCommand names (take n ts)
+  pub longest : n < length ts → BeginsCommand names (take (n + 1) ts) → ⊥
+  pub none : (c : LineCommand) → IsCommand names ts c → ⊥

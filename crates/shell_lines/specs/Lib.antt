@@ -1,0 +1,6 @@
+pub mod Lines
+pub mod Refusals
+pub mod Meaning
+pub mod Seen
+pub mod Grammar
+pub mod Laws

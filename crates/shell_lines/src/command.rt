@@ -1,0 +1,53 @@
+// The commands of the shell.
+
+use embed_cmds::Program;
+use fri_bytes::Bytes;
+use lib_calls::Kind;
+use watch_expr::Expr;
+
+/// The word that a command begins with.
+#[derive(Clone, Copy, Debug, PartialEq, Eq)]
+pub(crate) enum Verb {
+    Goto,
+    Step,
+    Print,
+    Mem,
+    Threads,
+    Events,
+    Watch,
+    Break,
+    Delete,
+    Do,
+    List,
+    Set,
+    Vars,
+    Continue,
+    Quit,
+}
+
+/// Which nodes a breakpoint is for: all, or the one with a name, as which it is given by its number.
+#[derive(Clone, Copy, Debug, PartialEq, Eq)]
+pub enum Scope {
+    Everywhere,
+    At(Option<u32>),
+}
+
+/// A command. A node is given by its number, or none where no process has the name.
+#[derive(Drop)]
+pub enum Command {
+    Goto(u64),
+    Step(u64),
+    Print(Expr),
+    Mem(Option<u32>, u64, u64),
+    Threads(Option<u32>),
+    Events(u64),
+    Watch(Expr),
+    Break(Scope, Kind),
+    Delete(u64),
+    Do(u64, Program),
+    List,
+    Set(Bytes, Expr),
+    Vars,
+    Continue,
+    Quit,
+}

@@ -1,0 +1,20 @@
+//! What a line of a session is: nothing, a line that is refused and why, or a command of the debugger.
+//!
+//! That depends on its bytes and on the names of the processes alone, and is one definition, `line_meaning` of
+//! `specs/Meaning`; `read_line` gives it, or wants memory. Contracts see a command as a `LineCommand` of `specs/Lines`,
+//! in which a node is a number, or none where no process has the name. Which tokens are which command says
+//! `specs/Grammar`, and the law `exact_commands` ties it to `command_spelled`, which computes. What a command does stands
+//! in friday_shell.
+#![tactic(auto)]
+
+mod command;
+mod laws;
+mod line;
+mod read;
+mod refusal;
+mod verbs;
+
+pub use command::{Command, Scope};
+pub use laws::exact_commands;
+pub use line::{Line, read_line, trimmed};
+pub use refusal::{Refusal, refused};

@@ -1,0 +1,173 @@
+// What a line of a session is.
+ghost use Rattle.std.specs.Prelude.{◌≡◌, ◌<◌, ◌≤◌, ◌^◌, IfOk, Ok, length, not, true};
+ghost use Rattle.std.specs.List.{find};
+ghost use Rattle.shell_lines.specs.Lines.{has_nested, names_none, scopes_none, watches_variable};
+ghost use Rattle.shell_lines.specs.Meaning.{is_silent, judged, line_meaning, trimmed, without_end_blanks, without_front_blanks};
+ghost use Rattle.shell_lines.specs.declared.line.Line.TheVariants.{Silent};
+ghost use Rattle.shell_lines.specs.Seen.{SpellsCommand, command, meaning, scope};
+ghost use Rattle.watch_expr.specs.Lexing.{is_blank};
+
+use crate::command::{Command, Scope};
+use crate::refusal::Refusal;
+use crate::verbs::read_command;
+use embed_cmds::program_faults;
+use fri_bytes::Bytes;
+use std::alloc::{AllocError, Global};
+use watch_expr::{ExprError, exact_cut, find_faults, lex};
+
+// How many bytes a line has at most.
+const MOST_BYTES: usize = 4096;
+
+/// What a line is: nothing, a line that is refused, or a command.
+#[derive(Drop)]
+pub enum Line {
+    Silent,
+    Refused(Refusal),
+    Does(Command),
+}
+
+/// What a line is, over a group whose processes have these names.
+pub fn read_line(alloc: Global, bytes: &[u8], names: &[Bytes]) -> Result<Line, AllocError>
+    requires { length names.now < 2 ^ 32 }
+    ensures line { IfOk result (λ line. meaning line ≡ line_meaning names.now bytes.now) }
+    ensures silent { length bytes.now ≤ 4096 → is_silent bytes.now ≡ true → result ≡ Ok Silent }
+{
+    if bytes.len() > MOST_BYTES {
+        return Ok(Line::Refused(Refusal::TooLong));
+    }
+    if is_silent(bytes) {
+        return Ok(Line::Silent);
+    }
+    match spelled(alloc, bytes, names) {
+        Ok(command) => Ok(judge(command)),
+        Err(ExprError::Syntax(column)) => Ok(Line::Refused(Refusal::Syntax(column))),
+        Err(ExprError::TooDeep) => Ok(Line::Refused(Refusal::TooDeep)),
+        Err(ExprError::NoMemory) => Err(AllocError),
+        Err(ExprError::Nested) => Ok(Line::Refused(Refusal::Nested)),
+        Err(ExprError::NoNode) => Ok(Line::Refused(Refusal::NoNode)),
+    }
+}
+
+// The command that a line spells.
+fn spelled(alloc: Global, bytes: &[u8], names: &[Bytes]) -> Result<Command, ExprError>
+    requires few { length names.now < 2 ^ 32 }
+    requires short { length bytes.now ≤ 4096 }
+    ensures { SpellsCommand names.now bytes.now result }
+{
+    exact_cut();
+    let tokens = lex(alloc, bytes)?;
+    read_command(alloc, &tokens, names)
+}
+
+// A line of blanks, or one whose first byte behind blanks is `#`.
+fn is_silent(bytes: &[u8]) -> bool
+    ensures { result ≡ is_silent bytes.now }
+{
+    match front(bytes) {
+        Some(first) => first == b'#',
+        None => true,
+    }
+}
+
+// The first byte behind blanks.
+fn front(bytes: &[u8]) -> Option<u8>
+    ensures { result ≡ find (λ b. not (is_blank b)) bytes.now }
+{
+    bytes.iter().copied().find(|b| !is_blank(*b))
+}
+
+fn is_blank(b: u8) -> bool
+    ensures { result ≡ is_blank b }
+{
+    b == b' ' || b == b'\t'
+}
+
+// Whether an aggregate stands in an aggregate.
+fn has_nested(spelled: &Command) -> bool
+    ensures { result ≡ has_nested (command spelled.now) }
+{
+    match spelled {
+        Command::Print(expression) => find_faults(expression).nested,
+        Command::Watch(expression) => find_faults(expression).nested,
+        Command::Set(_, expression) => find_faults(expression).nested,
+        Command::Do(_, program) => program_faults(program).nested,
+        _ => false,
+    }
+}
+
+// Whether the command names no node where it is to name one.
+fn names_none(spelled: &Command) -> bool
+    ensures { result ≡ names_none (command spelled.now) }
+{
+    match spelled {
+        Command::Print(expression) => find_faults(expression).no_node,
+        Command::Watch(expression) => find_faults(expression).no_node,
+        Command::Set(_, expression) => find_faults(expression).no_node,
+        Command::Do(_, program) => program_faults(program).no_node,
+        Command::Mem(node, ..) => node.is_none(),
+        Command::Threads(node) => node.is_none(),
+        Command::Break(scope, _) => scopes_none(*scope),
+        _ => false,
+    }
+}
+
+fn scopes_none(spelled: Scope) -> bool
+    ensures { result ≡ scopes_none (scope spelled) }
+{
+    match spelled {
+        Scope::Everywhere => false,
+        Scope::At(node) => node.is_none(),
+    }
+}
+
+// Whether the command is a watchpoint whose expression names a variable.
+fn watches_variable(spelled: &Command) -> bool
+    ensures { result ≡ watches_variable (command spelled.now) }
+{
+    match spelled {
+        Command::Watch(expression) => find_faults(expression).variable,
+        _ => false,
+    }
+}
+
+// A command of the grammar, unless something is wrong with it.
+fn judge(spelled: Command) -> Line
+    ensures { meaning result ≡ judged (command spelled) }
+{
+    if has_nested(&spelled) {
+        Line::Refused(Refusal::Nested)
+    } else if names_none(&spelled) {
+        Line::Refused(Refusal::NoNode)
+    } else if watches_variable(&spelled) {
+        Line::Refused(Refusal::NamesVariable)
+    } else {
+        Line::Does(spelled)
+    }
+}
+
+/// A line without its outer blanks.
+pub fn trimmed(line: &[u8]) -> &[u8]
+    ensures { result.now ≡ trimmed line.now }
+{
+    without_end_blanks(without_front_blanks(line))
+}
+
+// Bytes without the blanks in front.
+fn without_front_blanks(bytes: &[u8]) -> &[u8]
+    ensures { result.now ≡ without_front_blanks bytes.now }
+{
+    match bytes.iter().position(|b| !is_blank(*b)) {
+        Some(first) => &bytes[first..],
+        None => &[],
+    }
+}
+
+// Bytes without the blanks at their end.
+fn without_end_blanks(bytes: &[u8]) -> &[u8]
+    ensures { result.now ≡ without_end_blanks bytes.now }
+{
+    match bytes.iter().rposition(|b| !is_blank(*b)) {
+        Some(last) => &bytes[..=last],
+        None => &[],
+    }
+}

@@ -1,0 +1,151 @@
+// What single tokens of a command are, and the expression behind its verb.
+ghost use Rattle.std.specs.Prelude.{◌≡◌, ◌<◌, ◌^◌, IfSome, bytes_eq, length, option_map, position};
+ghost use Rattle.call_table.specs.Table.{kind_named};
+ghost use Rattle.shell_lines.specs.Lines.{count_or, ends_at, expression_from, node_named, number_from, scope_named, token_at, variable_at};
+ghost use Rattle.shell_lines.specs.Seen.{ReadsAs, ReadsCommand, command, scope};
+ghost use Rattle.watch_expr.specs.Lexing.{texts};
+ghost use Rattle.watch_expr.specs.Expression.{expression_of};
+
+use crate::command::{Command, Scope};
+use fri_bytes::Bytes;
+use lib_calls::Kind;
+use std::alloc::Global;
+use watch_expr::{Expr, ExprError, Tokens, exact_reading, is_word, parse};
+
+/// The number that token n is, from the least to the most.
+pub(crate) fn read_number(
+    tokens: &Tokens<'_>,
+    n: usize,
+    least: u64,
+    most: u64,
+) -> Result<u64, ExprError>
+    ensures { ReadsAs (λ v. v) tokens.now (token_at (number_from least most) (texts tokens.now) n) result }
+{
+    match tokens.number(n) {
+        Some(number) if least <= number && number <= most => Ok(number),
+        _ => Err(ExprError::Syntax(tokens.column(n))),
+    }
+}
+
+/// The count behind the verb, where there is one.
+pub(crate) fn read_count(
+    tokens: &Tokens<'_>,
+    least: u64,
+    most: u64,
+    absent: u64,
+) -> Result<u64, ExprError>
+    ensures { ReadsAs (λ v. v) tokens.now (count_or least most absent (texts tokens.now)) result }
+{
+    if tokens.count() <= 1 {
+        Ok(absent)
+    } else {
+        read_number(tokens, 1, least, most)
+    }
+}
+
+/// The node that token n names, if it is a word.
+pub(crate) fn read_node(
+    tokens: &Tokens<'_>,
+    n: usize,
+    names: &[Bytes],
+) -> Result<Option<u32>, ExprError>
+    requires { length names.now < 2 ^ 32 }
+    ensures { ReadsAs (λ v. v) tokens.now (token_at (node_named names.now) (texts tokens.now) n) result }
+{
+    match tokens.text(n) {
+        Some(text) if is_word(text) => Ok(place_of(text, names)),
+        _ => Err(ExprError::Syntax(tokens.column(n))),
+    }
+}
+
+/// Which nodes token n is for: a star is for all, and a word for the one that it names.
+pub(crate) fn read_scope(tokens: &Tokens<'_>, n: usize, names: &[Bytes]) -> Result<Scope, ExprError>
+    requires { length names.now < 2 ^ 32 }
+    ensures { ReadsAs scope tokens.now (token_at (scope_named names.now) (texts tokens.now) n) result }
+{
+    let place = tokens.text(n).and_then(|text| scope_named(text, names));
+    place.ok_or(ExprError::Syntax(tokens.column(n)))
+}
+
+fn scope_named(text: &[u8], names: &[Bytes]) -> Option<Scope>
+    requires { length names.now < 2 ^ 32 }
+    ensures { option_map scope result ≡ scope_named names.now text.now }
+{
+    if text == b"*".as_slice() {
+        return Some(Scope::Everywhere);
+    }
+    if is_word(text) {
+        return Some(Scope::At(place_of(text, names)));
+    }
+    None
+}
+
+/// The kind of call that token n names.
+pub(crate) fn read_kind(tokens: &Tokens<'_>, n: usize) -> Result<Kind, ExprError>
+    ensures { ReadsAs (λ v. v) tokens.now (token_at kind_named (texts tokens.now) n) result }
+{
+    let kind = tokens.text(n).and_then(Kind::from_name);
+    kind.ok_or(ExprError::Syntax(tokens.column(n)))
+}
+
+// Which of the names this is.
+fn place_of(text: &[u8], names: &[Bytes]) -> Option<u32>
+    requires { length names.now < 2 ^ 32 }
+    ensures { result ≡ position (λ name. bytes_eq name text.now) names.now }
+{
+    let place = place_among(text, names)?;
+    Some(place as u32)
+}
+
+fn place_among(text: &[u8], names: &[Bytes]) -> Option<usize>
+    ensures place { result ≡ position (λ name. bytes_eq name text.now) names.now }
+    ensures within { IfSome result (λ n. n < length names.now) }
+{
+    names.iter().position(|name| name.as_slice() == text)
+}
+
+/// The variable that token n and the one behind it name: a dollar and a word.
+pub(crate) fn read_variable(
+    alloc: Global,
+    tokens: &Tokens<'_>,
+    n: usize,
+) -> Result<Bytes, ExprError>
+    ensures { ReadsAs (λ v. v) tokens.now (variable_at (texts tokens.now) n) result }
+{
+    if tokens.text(n) != Some(b"$".as_slice()) {
+        return Err(ExprError::Syntax(tokens.column(n)));
+    }
+    match tokens.text(n + 1) {
+        Some(text) if is_word(text) => Ok(Bytes::from_slice(alloc, text)?),
+        _ => Err(ExprError::Syntax(tokens.column(n + 1))),
+    }
+}
+
+/// The expression that all tokens from this one on are.
+pub(crate) fn read_expression(
+    alloc: Global,
+    tokens: &Tokens<'_>,
+    from: usize,
+    names: &[Bytes],
+) -> Result<Expr, ExprError>
+    requires { length names.now < 2 ^ 32 }
+    ensures { ReadsAs expression_of tokens.now (expression_from names.now (texts tokens.now) from) result }
+{
+    exact_reading();
+    let (expression, next) = parse(alloc, tokens, from, names)?;
+    if next < tokens.count() {
+        return Err(ExprError::Syntax(tokens.column(next)));
+    }
+    Ok(expression)
+}
+
+/// The command, where there are no more than so many tokens.
+pub(crate) fn ending(tokens: &Tokens<'_>, n: usize, spelled: Command) -> Result<Command, ExprError>
+    ensures { ReadsCommand tokens.now (ends_at (texts tokens.now) n (command spelled)) result }
+{
+    if tokens.count() <= n {
+        Ok(spelled)
+    } else {
+        Err(ExprError::Syntax(tokens.column(n)))
+    }
+}

@@ -1,0 +1,181 @@
+// Which command the tokens of a line spell: the verb in front, and what stands behind each verb.
+ghost use Rattle.std.specs.Prelude.{◌≡◌, ◌<◌, ◌^◌, length};
+ghost use Rattle.shell_lines.specs.Lines.{command_of_verb, command_spelled, token_at, verb_of};
+ghost use Rattle.shell_lines.specs.declared.command.Verb.TheVariants as verb;
+ghost use Rattle.shell_lines.specs.Seen.{ReadsAs, ReadsCommand};
+ghost use Rattle.watch_expr.specs.Lexing.{texts};
+
+use crate::command::{Command, Verb};
+use crate::read::{
+    ending, read_count, read_expression, read_kind, read_node, read_number, read_scope,
+    read_variable,
+};
+use embed_cmds::parse_program;
+use fri_bytes::Bytes;
+use std::alloc::Global;
+use watch_expr::{ExprError, Tokens};
+
+// The greatest number that a token is.
+const MOST_NUMBER: u64 = 9_223_372_036_854_775_807;
+
+const VERBS: [Verb; 15] = [
+    Verb::Goto,
+    Verb::Step,
+    Verb::Print,
+    Verb::Mem,
+    Verb::Threads,
+    Verb::Events,
+    Verb::Watch,
+    Verb::Break,
+    Verb::Delete,
+    Verb::Do,
+    Verb::List,
+    Verb::Set,
+    Verb::Vars,
+    Verb::Continue,
+    Verb::Quit,
+];
+
+impl Verb {
+    ghost use Rattle.shell_lines.specs.Lines.{verb_word};
+
+    fn word(self) -> &'static str
+        ensures { result.now ≡ verb_word self }
+    {
+        match self {
+            Verb::Goto => "goto",
+            Verb::Step => "step",
+            Verb::Print => "print",
+            Verb::Mem => "mem",
+            Verb::Threads => "threads",
+            Verb::Events => "events",
+            Verb::Watch => "watch",
+            Verb::Break => "break",
+            Verb::Delete => "delete",
+            Verb::Do => "do",
+            Verb::List => "list",
+            Verb::Set => "set",
+            Verb::Vars => "vars",
+            Verb::Continue => "continue",
+            Verb::Quit => "quit",
+        }
+    }
+}
+
+/// The command that the tokens spell, over a group whose processes have these names, or the column of the first token
+/// that no command could have there.
+pub(crate) fn read_command(
+    alloc: Global,
+    tokens: &Tokens<'_>,
+    names: &[Bytes],
+) -> Result<Command, ExprError>
+    requires { length names.now < 2 ^ 32 }
+    ensures { ReadsCommand tokens.now (command_spelled names.now (texts tokens.now)) result }
+{
+    let verb = read_verb(tokens)?;
+    read_behind(alloc, verb, tokens, names)
+}
+
+// The command of this verb.
+fn read_behind(
+    alloc: Global,
+    verb: Verb,
+    tokens: &Tokens<'_>,
+    names: &[Bytes],
+) -> Result<Command, ExprError>
+    requires { length names.now < 2 ^ 32 }
+    ensures { ReadsCommand tokens.now (command_of_verb names.now (texts tokens.now) verb) result }
+{
+    match verb {
+        Verb::Goto => {
+            let position = read_number(tokens, 1, 0, MOST_NUMBER)?;
+            ending(tokens, 2, Command::Goto(position))
+        }
+        Verb::Step => {
+            let count = read_count(tokens, 0, MOST_NUMBER, 1)?;
+            ending(tokens, 2, Command::Step(count))
+        }
+        Verb::Print => Ok(Command::Print(read_expression(alloc, tokens, 1, names)?)),
+        Verb::Mem => read_mem(tokens, names),
+        Verb::Threads => {
+            let node = read_node(tokens, 1, names)?;
+            ending(tokens, 2, Command::Threads(node))
+        }
+        Verb::Events => {
+            let count = read_count(tokens, 1, 1000, 10)?;
+            ending(tokens, 2, Command::Events(count))
+        }
+        Verb::Watch => Ok(Command::Watch(read_expression(alloc, tokens, 1, names)?)),
+        Verb::Break => read_break(tokens, names),
+        Verb::Delete => {
+            let number = read_number(tokens, 1, 0, MOST_NUMBER)?;
+            ending(tokens, 2, Command::Delete(number))
+        }
+        Verb::Do => read_do(alloc, tokens, names),
+        Verb::List => ending(tokens, 1, Command::List),
+        Verb::Set => read_set(alloc, tokens, names),
+        Verb::Vars => ending(tokens, 1, Command::Vars),
+        Verb::Continue => ending(tokens, 1, Command::Continue),
+        Verb::Quit => ending(tokens, 1, Command::Quit),
+    }
+}
+
+// A node, an address and a length.
+fn read_mem(tokens: &Tokens<'_>, names: &[Bytes]) -> Result<Command, ExprError>
+    requires { length names.now < 2 ^ 32 }
+    ensures { ReadsCommand tokens.now (command_of_verb names.now (texts tokens.now) verb.Mem) result }
+{
+    let node = read_node(tokens, 1, names)?;
+    let addr = read_number(tokens, 2, 0, MOST_NUMBER)?;
+    let len = read_number(tokens, 3, 1, 256)?;
+    ending(tokens, 4, Command::Mem(node, addr, len))
+}
+
+// Which nodes, and the kind of call.
+fn read_break(tokens: &Tokens<'_>, names: &[Bytes]) -> Result<Command, ExprError>
+    requires { length names.now < 2 ^ 32 }
+    ensures { ReadsCommand tokens.now (command_of_verb names.now (texts tokens.now) verb.Break) result }
+{
+    let place = read_scope(tokens, 1, names)?;
+    let kind = read_kind(tokens, 2)?;
+    ending(tokens, 3, Command::Break(place, kind))
+}
+
+// The number of a point, and a program.
+fn read_do(alloc: Global, tokens: &Tokens<'_>, names: &[Bytes]) -> Result<Command, ExprError>
+    requires { length names.now < 2 ^ 32 }
+    ensures { ReadsCommand tokens.now (command_of_verb names.now (texts tokens.now) verb.Do) result }
+{
+    let number = read_number(tokens, 1, 0, MOST_NUMBER)?;
+    let program = parse_program(alloc, tokens, 2, names)?;
+    Ok(Command::Do(number, program))
+}
+
+// A variable, and an expression.
+fn read_set(alloc: Global, tokens: &Tokens<'_>, names: &[Bytes]) -> Result<Command, ExprError>
+    requires { length names.now < 2 ^ 32 }
+    ensures { ReadsCommand tokens.now (command_of_verb names.now (texts tokens.now) verb.Set) result }
+{
+    let name = read_variable(alloc, tokens, 1)?;
+    let value = read_expression(alloc, tokens, 3, names)?;
+    Ok(Command::Set(name, value))
+}
+
+// The verb in front.
+fn read_verb(tokens: &Tokens<'_>) -> Result<Verb, ExprError>
+    ensures { ReadsAs (λ v. v) tokens.now (token_at verb_of (texts tokens.now) 0) result }
+{
+    let verb = tokens.text(0).and_then(named_verb);
+    verb.ok_or(ExprError::Syntax(tokens.column(0)))
+}
+
+// The verb with this word.
+#[tactic(auto, unfolding(crate::specs::Lines::verb_of))]
+fn named_verb(text: &[u8]) -> Option<Verb>
+    ensures { result ≡ verb_of text.now }
+{
+    VERBS
+        .iter()
+        .copied()
+        .find(|verb| verb.word().as_bytes() == text)
+}

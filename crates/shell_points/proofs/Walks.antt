@@ -1,0 +1,148 @@
+-- What points do at a position, by what they read, and how a walk goes on.
+use Rattle.std.proofs.Common.{◌≡◌, ℕ, ℤ, zero, suc, ◌+◌, ◌-◌, ◌<◌, ◌≤◌, Bool, true, false, cond, drop, List, [], ◌∷◌, ◌++◌, length, get_or, map, Option, Some, None, inl, inr, refl, sym, ap, ◌∙◌, arith}
+use Rattle.std.specs.Prelude.{codes, is_some, nat_le, slice_get}
+use Rattle.std.proofs.lemmas.Bool.{le-leb}
+use Rattle.std.proofs.lemmas.Bool.Decides.{leb_tells}
+use Rattle.std.proofs.lemmas.List.{drop_more}
+use Rattle.std.proofs.lemmas.List.Sums.{sum_by-append}
+use Rattle.std.proofs.lemmas.Option.{slice_get_within}
+use Rattle.fri_text.specs.Line.{is_line_feed}
+use Rattle.group_state.specs.declared.event.GroupEvent.{GroupEvent}
+use Rattle.group_state.specs.Moves.{Moves, event_of, last_event_of}
+use Rattle.group_state.specs.Place.{Place, events}
+use Rattle.group_state.specs.Seen.{nodes_at}
+use Rattle.proc_replay.specs.Replaying.{Replaying}
+use Rattle.embed_cmds.specs.Running.{ProgramState}
+use Rattle.embed_cmds.specs.Variables.{Variable}
+use Rattle.shell_points.specs.declared.point.Point.{Point as Held}
+use Rattle.shell_points.specs.Firing.{is_due_at, firing_line, place_at}
+use Rattle.shell_points.specs.Points.{Break, Point, Trigger, Watch}
+use Rattle.shell_points.specs.Reading.{is_due_by, line_by, reading, readings, treat_by}
+use Rattle.shell_points.specs.Seen.{Walks, point, trigger}
+use Rattle.group_texts.specs.Texts.{position_line}
+use Rattle.shell_points.specs.Walking.{Walk, fired, lines_in, most_lines, quiet, treat, treat_all, walk_ended, walk_from, walk_on, walk_over}
+
+-- ---- at one position
+
+due_is : (start : List Replaying) (k : ℕ) (t : Trigger) → is_due_by (reading start k t) (reading start (suc k) t) (last_event_of (place_at start (suc k))) t ≡ is_due_at start (suc k) t
+due_is start k (Watch x) = refl
+due_is start k (Break of_node kind) = refl
+
+line_is : (start : List Replaying) (k n : ℕ) (t : Trigger) → line_by (reading start k t) (reading start (suc k) t) n t ≡ firing_line start (suc k) n t
+line_is start k n (Watch x) = refl
+line_is start k n (Break of_node kind) = refl
+
+treat_is : (start : List Replaying) (k : ℕ) (r : ProgramState) (p : Point)
+    → treat_by (reading start k p.trigger) (reading start (suc k) p.trigger) (last_event_of (place_at start (suc k))) (nodes_at (place_at start (suc k))) r p ≡ treat start (suc k) r p
+treat_is start k r p =
+    let t = p.trigger in
+    let nodes = nodes_at (place_at start (suc k)) in
+    ap (λ (b : Bool). cond b (fired nodes r (line_by (reading start k t) (reading start (suc k) t) p.number t) p.program) r) (due_is start k t)
+    ∙ ap (λ (line : List ℕ). cond (is_due_at start (suc k) t) (fired nodes r line p.program) r) (line_is start k p.number t)
+
+-- what one point does, by what was read
+pub treated : (start : List Replaying) (at : ℕ) (r new : ProgramState) (p : Point) (before now : Option ℤ) → 0 < at
+    → before ≡ reading start (at - 1) p.trigger → now ≡ reading start at p.trigger
+    → new ≡ treat_by before now (last_event_of (place_at start at)) (nodes_at (place_at start at)) r p
+    → new ≡ treat start at r p
+treated start zero r new p before now moved was is did = absurd (omega (arith, moved))
+treated start (suc k) r new p before now moved was is did =
+    let e : suc k - 1 ≡ k = omega arith in
+    let event = last_event_of (place_at start (suc k)) in
+    let nodes = nodes_at (place_at start (suc k)) in
+    did ∙ ap (λ (b : Option ℤ). treat_by b now event nodes r p) (was ∙ ap (λ (m : ℕ). reading start m p.trigger) e)
+    ∙ ap (λ (b : Option ℤ). treat_by (reading start k p.trigger) b event nodes r p) is
+    ∙ treat_is start k r p
+
+among : (start : List Replaying) (k m : ℕ) (ps : List Held) (p : Held) (value : Option ℤ) → m < length ps → get_or ps m p ≡ p
+    → get_or (readings start k (map {A = Held} point ps)) m value ≡ reading start k (trigger p.trigger)
+among start k m [] p value lt e = absurd (omega (arith, lt))
+among start k zero (q ∷ ps) p value lt e = ap (λ (r : Held). reading start k (trigger r.trigger)) e
+among start k (suc m) (q ∷ ps) p value lt e = among start k m ps p value (omega (arith, lt)) e
+
+-- what one point reads, among all that are read
+pub read_at : (start : List Replaying) (k n : ℕ) (points : List Held) (p : Held) (values : List (Option ℤ)) (value : Option ℤ)
+    → values ≡ readings start k (map {A = Held} point points) → n < length points → get_or points n p ≡ p
+    → get_or values n value ≡ reading start k (trigger p.trigger)
+read_at start k n points p values value is within here =
+    ap (λ (vs : List (Option ℤ)). get_or vs n value) is ∙ among start k n points p value within here
+
+-- one point more was treated, of those that are still to come
+pub treated_more : (start : List Replaying) (at n : ℕ) (points : List Held) (p : Held) (r new whole : ProgramState) → n < length points → get_or points n p ≡ p
+    → new ≡ treat start at r (point p) → treat_all start at r (map {A = Held} point (drop n points)) ≡ whole
+    → treat_all start at new (map {A = Held} point (drop (n + 1) points)) ≡ whole
+treated_more start at n points p r new whole within here did so_far =
+    let rest = drop (n + 1) points in
+    ap (λ (q : ProgramState). treat_all start at q (map {A = Held} point rest)) did
+    ∙ ap (λ (q : Held). treat_all start at (treat start at r (point q)) (map {A = Held} point rest)) (sym here)
+    ∙ ap (λ (ps : List Held). treat_all start at r (map {A = Held} point ps)) (sym (drop_more points n p within))
+    ∙ so_far
+
+-- ---- from one position to the next
+
+pub place_is : (here : Place) (start : List Replaying) (k : ℕ) → here.start ≡ start → here.at ≡ k → here ≡ place_at start k
+place_is here start k same at = λ i. record { start = same i; at = at i }
+
+past : {A : Type 0} (xs : List A) (n : ℕ) → None ≡ slice_get xs n → length xs ≤ n
+past [] n e = omega arith
+past (x ∷ xs) zero e = absurd cc
+past (x ∷ xs) (suc n) e = omega (arith, past xs n e)
+
+-- an event is made
+pub moves_on : (old new : Place) (event : Option GroupEvent) → is_some event ≡ true → Moves old new event
+    → (new ≡ place_at old.start (suc old.at)) × (old.at < length (events old.start))
+moves_on old new None some moves = absurd cc
+moves_on old new (Some e) some moves =
+    let one : old.at + 1 ≡ suc old.at = omega arith in
+    (moves.place ∙ ap (place_at old.start) one, slice_get_within (events old.start) old.at (event_of e) (sym moves.gives))
+
+-- there is no event more
+pub stays : (old new : Place) (event : Option GroupEvent) → is_some event ≡ false → Moves old new event → (new ≡ old) × (length (events old.start) ≤ old.at)
+stays old new None none moves = (moves.place, past (events old.start) old.at moves.gives)
+stays old new (Some e) none moves = absurd cc
+
+-- what the walk over one position more is
+pub step : (start : List Replaying) (ps : List Point) (at end : ℕ) (variables : List Variable) (said : List ℕ) → at < end
+    → walk_over start ps at (end - at) variables said ≡ walk_on (walk_over start ps (suc at) (end - suc at)) (suc at) said (treat_all start (suc at) (quiet variables) ps)
+step start ps at end variables said before =
+    let e : end - at ≡ suc (end - suc at) = omega arith in
+    ap (λ (left : ℕ). walk_over start ps at left variables said) e
+
+-- ---- after all points of a position were treated
+
+pub stops_here : (rest : List Variable → List ℕ → Walk) (at : ℕ) (said : List ℕ) (r : ProgramState) → r.stopped ≡ true → walk_on rest at said r ≡ walk_ended at r.variables (said ++ r.text)
+stops_here rest at said r stops =
+    ap (λ (b : Bool). cond b (walk_ended at r.variables (said ++ r.text)) (cond (nat_le most_lines (lines_in (said ++ r.text))) (walk_ended at r.variables ((said ++ r.text) ++ codes "paused\n")) (rest r.variables (said ++ r.text)))) stops
+
+not_stopped : (rest : List Variable → List ℕ → Walk) (at : ℕ) (said : List ℕ) (r : ProgramState) → r.stopped ≡ false
+    → walk_on rest at said r ≡ cond (nat_le most_lines (lines_in (said ++ r.text))) (walk_ended at r.variables ((said ++ r.text) ++ codes "paused\n")) (rest r.variables (said ++ r.text))
+not_stopped rest at said r goes =
+    ap (λ (b : Bool). cond b (walk_ended at r.variables (said ++ r.text)) (cond (nat_le most_lines (lines_in (said ++ r.text))) (walk_ended at r.variables ((said ++ r.text) ++ codes "paused\n")) (rest r.variables (said ++ r.text)))) goes
+
+pub pauses_here : (rest : List Variable → List ℕ → Walk) (at : ℕ) (said : List ℕ) (r : ProgramState) → r.stopped ≡ false → most_lines ≤ lines_in (said ++ r.text)
+    → walk_on rest at said r ≡ walk_ended at r.variables ((said ++ r.text) ++ codes "paused\n")
+pauses_here rest at said r goes many =
+    not_stopped rest at said r goes
+    ∙ ap (λ (b : Bool). cond b (walk_ended at r.variables ((said ++ r.text) ++ codes "paused\n")) (rest r.variables (said ++ r.text))) (le-leb most_lines (lines_in (said ++ r.text)) many)
+
+few_lines : (n : ℕ) → n < most_lines → nat_le most_lines n ≡ false
+few_lines n few = elim (leb_tells most_lines n) [ inl t ↦ absurd (omega (arith, t.1, few)) | inr f ↦ f.0 ]
+
+pub rests_here : (rest : List Variable → List ℕ → Walk) (at : ℕ) (said : List ℕ) (r : ProgramState) → r.stopped ≡ false → lines_in (said ++ r.text) < most_lines
+    → walk_on rest at said r ≡ rest r.variables (said ++ r.text)
+rests_here rest at said r goes few =
+    not_stopped rest at said r goes
+    ∙ ap (λ (b : Bool). cond b (walk_ended at r.variables ((said ++ r.text) ++ codes "paused\n")) (rest r.variables (said ++ r.text))) (few_lines (lines_in (said ++ r.text)) few)
+
+pub lines_append : (a b : List ℕ) → lines_in (a ++ b) ≡ lines_in a + lines_in b
+lines_append a b = sum_by-append (λ (x : ℕ). cond (is_line_feed x) 1 0) a b
+
+-- a walk that ended came there
+pub arrives : (first : Place) (ps : List Point) (before after : List Variable) (at : ℕ) (said : List ℕ) → walk_from first ps before ≡ walk_ended at after said
+    → (new there : Place) (variables : List Variable) (text : List ℕ) → new ≡ place_at first.start at → there ≡ new → variables ≡ after → text ≡ said ++ position_line new
+    → Walks first ps before there variables text
+arrives first ps before after at said is new there variables text here same kept says = record {
+  place = same ∙ here ∙ ap (λ (w : Walk). place_at first.start w.at) (sym is);
+  variables = kept ∙ ap (λ (w : Walk). w.variables) (sym is);
+  text_is = says ∙ ap (λ (p : Place). said ++ position_line p) (sym same) ∙ ap (λ (w : Walk). w.text ++ position_line there) (sym is);
+}

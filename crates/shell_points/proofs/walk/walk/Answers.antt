@@ -1,0 +1,125 @@
+use Rattle.std.proofs.Common.{◌≡◌, ◌-◌, ◌<◌, ◌≤◌, ◌++◌, List, [], ℕ, Result, Ok, Err, suc, map, length, true, false, not, codes, sym, ap, ◌∙◌, arith}
+use Rattle.std.specs.Prelude.{IfOk, is_some}
+use Rattle.std.proofs.lemmas.List.{append-nil}
+use Rattle.proc_replay.specs.Replaying.{Replaying}
+use Rattle.group_state.specs.Place.{Place, events}
+use Rattle.shell_points.specs.declared.point.Point.{Point as Held}
+use Rattle.shell_points.specs.Firing.{place_at}
+use Rattle.shell_points.specs.Reading.{readings}
+use Rattle.shell_points.specs.Seen.{Walks, point, run_so_far}
+use Rattle.group_texts.specs.Texts.{position_line}
+use Rattle.shell_points.specs.Walking.{lines_in, most_lines, quiet, treat_all, walk_ended, walk_from, walk_on, walk_over}
+use Rattle.shell_points.proofs.Walks.{arrives, lines_append, moves_on, pauses_here, rests_here, stays, step, stops_here}
+use Rattle.shell_points.proofs.walk.walk.Goals as goal
+
+all_three : {A E : Type 0} (r : Result A E) (P Q R S : A → Type 0) → ((a : A) → P a → Q a → R a → S a) → IfOk r P → IfOk r Q → IfOk r R → IfOk r S
+all_three (Ok a) P Q R S joined p q r = joined a p q r
+all_three (Err e) P Q R S joined p q r = tt
+
+-- where a walk ended, what was said and the position came to be its text
+pub returns-then-is_none : goal.returns-then-is_none
+returns-then-is_none c =
+    let i = c.positions.invariant in
+    let first = c.args.group in
+    let old = c.positions.walked.group in
+    let new = c.in_ok-group.group in
+    let variables = c.positions.walked.variables in
+    let text = c.positions.walked.text in
+    let ps = map {A = Held} point c.args.points.now in
+    let none : is_some c.in_ok-group.event ≡ false = c.is_none.ensures ∙ ap not c.if-is_none.true in
+    let stay = stays old new c.in_ok-group.event none c.in_ok-group.ensures in
+    let all = ap (λ (s : List Replaying). length (events s)) i.start in
+    let end : length (events first.start) - old.at ≡ 0 = omega (arith, stay.1, all) in
+    let is : walk_from first ps c.args.variables ≡ walk_ended old.at variables (text ++ codes "end\n") =
+    sym i.ahead ∙ ap (λ (left : ℕ). walk_over first.start ps old.at left variables text) end in
+    let here : new ≡ place_at first.start old.at = stay.0 ∙ ap (λ (s : List Replaying). place_at s old.at) i.start in
+    all_three c.arrive.result (λ done. done.group ≡ new) (λ done. done.variables ≡ variables) (λ done. done.text ≡ (text ++ codes "end\n") ++ position_line new)
+    (λ done. Walks first ps c.args.variables done.group done.variables done.text)
+    (λ done same kept says. arrives first ps c.args.variables variables old.at (text ++ codes "end\n") is new done.group done.variables done.text here same kept says)
+    c.arrive.ensures.group c.arrive.ensures.variables c.arrive.ensures.text
+
+pub returns-then-turn : goal.returns-then-turn
+returns-then-turn c =
+    let i = c.positions.invariant in
+    let first = c.args.group in
+    let old = c.positions.walked.group in
+    let new = c.in_ok-group.group in
+    let turn = c.in_ok-turn.turn in
+    let text = c.positions.walked.text in
+    let ps = map {A = Held} point c.args.points.now in
+    let some : is_some c.in_ok-group.event ≡ true = c.is_none.ensures ∙ ap not c.if-is_none.false in
+    let went = moves_on old new c.in_ok-group.event some c.in_ok-group.ensures in
+    let here : new ≡ place_at first.start (suc old.at) = went.0 ∙ ap (λ (s : List Replaying). place_at s (suc old.at)) i.start in
+    let before : old.at < length (events first.start) = omega (arith, went.1, ap (λ (s : List Replaying). length (events s)) i.start) in
+    let did : treat_all first.start (suc old.at) (quiet c.positions.walked.variables) ps ≡ run_so_far turn =
+    sym (c.in_ok-turn.ensures ∙ ap (λ (p : Place). treat_all p.start p.at (quiet c.positions.walked.variables) ps) here) in
+    let rest = walk_over first.start ps (suc old.at) (length (events first.start) - suc old.at) in
+    let is : walk_from first ps c.args.variables ≡ walk_ended (suc old.at) turn.variables (text ++ turn.text) =
+    sym i.ahead ∙ step first.start ps old.at (length (events first.start)) c.positions.walked.variables text before ∙ ap (walk_on rest (suc old.at) text) did
+    ∙ stops_here rest (suc old.at) text (run_so_far turn) c.if-turn.true in
+    let said : c.push_bytes.new.self ≡ text ++ turn.text = c.in_ok-push_bytes.ensures.ok ∙ ap (λ (b : List ℕ). text ++ b) c.bytes.ensures in
+    all_three c.arrive-then-turn.result (λ done. done.group ≡ new) (λ done. done.variables ≡ turn.variables) (λ done. done.text ≡ (c.push_bytes.new.self ++ []) ++ position_line new)
+    (λ done. Walks first ps c.args.variables done.group done.variables done.text)
+    (λ done same kept says. arrives first ps c.args.variables turn.variables (suc old.at) (text ++ turn.text) is new done.group done.variables done.text here same kept
+    (says ∙ ap (λ (t : List ℕ). t ++ position_line new) (append-nil c.push_bytes.new.self ∙ said)))
+    c.arrive-then-turn.ensures.group c.arrive-then-turn.ensures.variables c.arrive-then-turn.ensures.text
+
+pub returns-then-said-ge-MOST_LINES : goal.returns-then-said-ge-MOST_LINES
+returns-then-said-ge-MOST_LINES c =
+    let i = c.positions.invariant in
+    let first = c.args.group in
+    let old = c.positions.walked.group in
+    let new = c.in_ok-group.group in
+    let turn = c.in_ok-turn.turn in
+    let text = c.positions.walked.text in
+    let ps = map {A = Held} point c.args.points.now in
+    let some : is_some c.in_ok-group.event ≡ true = c.is_none.ensures ∙ ap not c.if-is_none.false in
+    let went = moves_on old new c.in_ok-group.event some c.in_ok-group.ensures in
+    let here : new ≡ place_at first.start (suc old.at) = went.0 ∙ ap (λ (s : List Replaying). place_at s (suc old.at)) i.start in
+    let before : old.at < length (events first.start) = omega (arith, went.1, ap (λ (s : List Replaying). length (events s)) i.start) in
+    let did : treat_all first.start (suc old.at) (quiet c.positions.walked.variables) ps ≡ run_so_far turn =
+    sym (c.in_ok-turn.ensures ∙ ap (λ (p : Place). treat_all p.start p.at (quiet c.positions.walked.variables) ps) here) in
+    let many : most_lines ≤ lines_in (text ++ turn.text) = omega (arith, lines_append text turn.text, i.said, c.lines_in-said.ensures, c.if-said-ge-MOST_LINES.true) in
+    let rest = walk_over first.start ps (suc old.at) (length (events first.start) - suc old.at) in
+    let is : walk_from first ps c.args.variables ≡ walk_ended (suc old.at) turn.variables ((text ++ turn.text) ++ codes "paused\n") =
+    sym i.ahead ∙ step first.start ps old.at (length (events first.start)) c.positions.walked.variables text before ∙ ap (walk_on rest (suc old.at) text) did
+    ∙ pauses_here rest (suc old.at) text (run_so_far turn) c.if-turn.false many in
+    let said : c.push_bytes.new.self ≡ text ++ turn.text = c.in_ok-push_bytes.ensures.ok ∙ ap (λ (b : List ℕ). text ++ b) c.bytes.ensures in
+    all_three c.arrive-then-said-ge-MOST_LINES.result (λ done. done.group ≡ new) (λ done. done.variables ≡ turn.variables)
+    (λ done. done.text ≡ (c.push_bytes.new.self ++ codes "paused\n") ++ position_line new)
+    (λ done. Walks first ps c.args.variables done.group done.variables done.text)
+    (λ done same kept says. arrives first ps c.args.variables turn.variables (suc old.at) ((text ++ turn.text) ++ codes "paused\n") is new done.group done.variables done.text here same kept
+    (says ∙ ap (λ (t : List ℕ). (t ++ codes "paused\n") ++ position_line new) said))
+    c.arrive-then-said-ge-MOST_LINES.ensures.group c.arrive-then-said-ge-MOST_LINES.ensures.variables c.arrive-then-said-ge-MOST_LINES.ensures.text
+
+pub positions-preserved : goal.positions-preserved
+positions-preserved c =
+    let i = c.positions.invariant in
+    let first = c.args.group in
+    let old = c.positions.walked.group in
+    let new = c.in_ok-group.group in
+    let turn = c.in_ok-turn.turn in
+    let text = c.positions.walked.text in
+    let ps = map {A = Held} point c.args.points.now in
+    let some : is_some c.in_ok-group.event ≡ true = c.is_none.ensures ∙ ap not c.if-is_none.false in
+    let went = moves_on old new c.in_ok-group.event some c.in_ok-group.ensures in
+    let here : new ≡ place_at first.start (suc old.at) = went.0 ∙ ap (λ (s : List Replaying). place_at s (suc old.at)) i.start in
+    let same : new.start ≡ first.start = ap (λ (p : Place). p.start) here in
+    let at : new.at ≡ suc old.at = ap (λ (p : Place). p.at) here in
+    let before : old.at < length (events first.start) = omega (arith, went.1, ap (λ (s : List Replaying). length (events s)) i.start) in
+    let did : treat_all first.start (suc old.at) (quiet c.positions.walked.variables) ps ≡ run_so_far turn =
+    sym (c.in_ok-turn.ensures ∙ ap (λ (p : Place). treat_all p.start p.at (quiet c.positions.walked.variables) ps) here) in
+    let said : c.push_bytes.new.self ≡ text ++ turn.text = c.in_ok-push_bytes.ensures.ok ∙ ap (λ (b : List ℕ). text ++ b) c.bytes.ensures in
+    let few : lines_in (text ++ turn.text) < most_lines = omega (arith, lines_append text turn.text, i.said, c.lines_in-said.ensures, c.if-said-ge-MOST_LINES.false) in
+    let rest = walk_over first.start ps (suc old.at) (length (events first.start) - suc old.at) in
+    let is : walk_from first ps c.args.variables ≡ rest turn.variables (text ++ turn.text) =
+    sym i.ahead ∙ step first.start ps old.at (length (events first.start)) c.positions.walked.variables text before ∙ ap (walk_on rest (suc old.at) text) did
+    ∙ rests_here rest (suc old.at) text (run_so_far turn) c.if-turn.false few in
+    record {
+      start = same;
+      within = omega (arith, before, at);
+      read = c.in_ok-now.ensures ∙ ap (λ (s : List Replaying). readings s new.at ps) same;
+      said = omega (arith, lines_append text turn.text, i.said, c.lines_in-said.ensures, ap lines_in said);
+      ahead = ap (λ (t : List ℕ). walk_over first.start ps new.at (length (events first.start) - new.at) turn.variables t) said
+          ∙ ap (λ (n : ℕ). walk_over first.start ps n (length (events first.start) - n) turn.variables (text ++ turn.text)) at ∙ sym is;
+    }

@@ -1,0 +1,32 @@
+-- What the values of the code stand for.
+use Rattle.std.specs.Prelude.{◌≡◌, ℕ, List, ◌++◌, option_map}
+use Rattle.watch_expr.specs.Expression.{expression_of}
+use Rattle.group_state.specs.Place.{Place}
+use Rattle.group_texts.specs.Texts.{position_line}
+use Rattle.embed_cmds.specs.Running.{ProgramState}
+use Rattle.embed_cmds.specs.Tree.{body}
+use Rattle.embed_cmds.specs.Variables.{Variable}
+use Rattle.shell_points.specs.declared.point.Point.{Point as Held}
+use Rattle.shell_points.specs.declared.point.Trigger.{Trigger as HeldTrigger}
+use Rattle.shell_points.specs.declared.point.Trigger.TheVariants as held
+use Rattle.shell_points.specs.declared.turn.Turn.{Turn}
+use Rattle.shell_points.specs.Firing.{place_at}
+use Rattle.shell_points.specs.Points.{Break, Point, Trigger, Watch}
+use Rattle.shell_points.specs.Walking.{walk_from}
+
+abbrev pub trigger : HeldTrigger → Trigger
+trigger (held.Watch x) = Watch (expression_of x)
+trigger (held.Break of_node kind) = Break of_node kind
+
+abbrev pub point : Held → Point
+point p = record { number = p.number; text = p.text; trigger = trigger p.trigger; program = option_map body p.program }
+
+-- what points did so far at a position
+abbrev pub run_so_far : Turn → ProgramState
+run_so_far t = record { variables = t.variables; text = t.text; stopped = t.stops }
+
+-- a walk from a place came to where it comes
+pub record Walks (old : Place) (points : List Point) (before : List Variable) (new : Place) (after : List Variable) (text : List ℕ) : Type 0 where
+  pub place : new ≡ place_at old.start (walk_from old points before).at
+  pub variables : after ≡ (walk_from old points before).variables
+  pub text_is : text ≡ (walk_from old points before).text ++ position_line new

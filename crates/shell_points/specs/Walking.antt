@@ -1,0 +1,76 @@
+-- What points do where they fire, and where `continue` comes to.
+use Rattle.std.specs.Prelude.{ℕ, zero, suc, ◌-◌, nat_le, Bool, true, false, ◌||◌, List, [], ◌∷◌, ◌++◌, length, codes, count_by, Option, Some, None, if◌then◌else◌}
+use Rattle.fri_text.specs.Line.{is_line_feed}
+use Rattle.proc_replay.specs.Replaying.{Replaying}
+use Rattle.group_state.specs.Place.{Place, events}
+use Rattle.group_state.specs.Seen.{nodes_at}
+use Rattle.watch_expr.specs.View.{Node}
+use Rattle.embed_cmds.specs.Running.{ProgramState, after_statements}
+use Rattle.embed_cmds.specs.Tree.{Statements}
+use Rattle.embed_cmds.specs.Variables.{Variable}
+use Rattle.shell_points.specs.Firing.{is_due_at, firing_line, place_at}
+use Rattle.shell_points.specs.Points.{Point}
+
+-- ---- at one position
+
+abbrev pub with_stop : ProgramState → Bool → ProgramState
+with_stop r stopped = record { variables = r.variables; text = r.text; stopped = stopped }
+
+-- a program ran this way, where it was asked to stop before, or not
+abbrev pub with_earlier_stop : Bool → ProgramState → ProgramState
+with_earlier_stop asked r = with_stop r (asked || r.stopped)
+
+-- Without a program a point says its line and asks to stop. With one it runs it, and asks to stop where the program did.
+abbrev pub fired : List Node → ProgramState → List ℕ → Option Statements → ProgramState
+fired nodes r line None = record { variables = r.variables; text = r.text ++ line; stopped = true }
+fired nodes r line (Some body) = with_earlier_stop r.stopped (after_statements nodes (with_stop r false) body)
+
+-- what a point does at position k, if it fires there
+abbrev pub treat : List Replaying → ℕ → ProgramState → Point → ProgramState
+treat start k r p =
+    if is_due_at start k p.trigger then fired (nodes_at (place_at start k)) r (firing_line start k p.number p.trigger) p.program else r
+
+-- what points do at position k, one after the other
+abbrev pub treat_all : List Replaying → ℕ → ProgramState → List Point → ProgramState
+treat_all start k r [] = r
+treat_all start k r (p ∷ points) = treat_all start k (treat start k r p) points
+
+-- ---- from one position to the next
+
+-- where a walk ended, what it made of the variables, and what it said
+pub record Walk : Type 0 where
+  pub at : ℕ
+  pub variables : List Variable
+  pub text : List ℕ
+
+abbrev pub walk_ended : ℕ → List Variable → List ℕ → Walk
+walk_ended at variables text = record { at = at; variables = variables; text = text }
+
+-- a walk that has said so many lines pauses
+abbrev pub most_lines : ℕ
+most_lines = 10000
+
+abbrev pub lines_in : List ℕ → ℕ
+lines_in text = count_by is_line_feed text
+
+-- After all points of a position were treated: where none asked to stop, and no more was said than may be, the rest of the
+-- walk follows.
+abbrev pub walk_on : (List Variable → List ℕ → Walk) → ℕ → List ℕ → ProgramState → Walk
+walk_on rest at said r =
+    if r.stopped then walk_ended at r.variables (said ++ r.text)
+    else if nat_le most_lines (lines_in (said ++ r.text)) then walk_ended at r.variables ((said ++ r.text) ++ codes "paused\n")
+    else rest r.variables (said ++ r.text)
+
+-- nothing said, and not asked to stop
+abbrev pub quiet : List Variable → ProgramState
+quiet variables = record { variables = variables; text = []; stopped = false }
+
+-- the walk over so many positions behind this one, which has said this
+abbrev pub walk_over : List Replaying → List Point → ℕ → ℕ → List Variable → List ℕ → Walk
+walk_over start points at zero variables said = walk_ended at variables (said ++ codes "end\n")
+walk_over start points at (suc left) variables said =
+    walk_on (walk_over start points (suc at) left) (suc at) said (treat_all start (suc at) (quiet variables) points)
+
+-- the walk from a position, which may go on to the last
+abbrev pub walk_from : Place → List Point → List Variable → Walk
+walk_from place points variables = walk_over place.start points place.at (length (events place.start) - place.at) variables []

@@ -1,0 +1,121 @@
+// What points read at a position, and what they say where they fire.
+ghost use Rattle.std.specs.Prelude.{◌≡◌, ◌++◌, Some, IfOk, OnOk, map};
+ghost use Rattle.group_state.specs.Moves.{event_of, last_event_of};
+ghost use Rattle.shell_points.specs.Firing.{is_of, is_same_value};
+ghost use Rattle.shell_points.specs.Reading.{is_due_by, line_by, reading, readings};
+ghost use Rattle.shell_points.specs.Seen.{point as seen, trigger as seen_trigger};
+ghost use Rattle.shell_points.specs.declared.point.Point.{Point as Held};
+
+use crate::point::{Point, Trigger};
+use embed_cmds::push_value;
+use fri_text::Text;
+use group_state::{Group, GroupEvent};
+use lib_calls::Kind;
+use std::alloc::{AllocError, Global};
+use watch_expr::{Scope, eval};
+
+// A scope in which no variable has a value.
+struct NoVariables;
+
+impl Scope for NoVariables {
+    ghost use Rattle.shell_points.specs.Firing.{no_variable};
+
+    ghost variables = { λ _. no_variable };
+
+    fn value(&self, _: &[u8]) -> Option<i64> {
+        None
+    }
+}
+
+// What a point reads where the group stands.
+fn reading(trigger: &Trigger, group: &Group<'_, '_>) -> Option<i64>
+    ensures { result ≡ reading group.now.start group.now.at (seen_trigger trigger.now) }
+{
+    match trigger {
+        Trigger::Watch(expression) => eval(expression, group, &NoVariables),
+        Trigger::Break(_, _) => None,
+    }
+}
+
+/// What each point reads where the group stands.
+pub(crate) fn readings(
+    alloc: Global,
+    points: &[Point],
+    group: &Group<'_, '_>,
+) -> Result<Vec<Option<i64>>, AllocError>
+    ensures { IfOk result (λ values. values.items ≡ readings group.now.start group.now.at (map {A = Held} seen points.now)) }
+{
+    let mut values = Vec::new(alloc);
+    for point in points {
+        values.push(reading(&point.trigger, group))?;
+    }
+    Ok(values)
+}
+
+// Whether two values are the same, where `undef` is so to itself alone.
+fn is_same_value(before: Option<i64>, now: Option<i64>) -> bool
+    ensures { result ≡ is_same_value before now }
+{
+    match (before, now) {
+        (None, None) => true,
+        (Some(a), Some(b)) => a == b,
+        (None, Some(_)) => false,
+        (Some(_), None) => false,
+    }
+}
+
+// Whether an event is of this kind, and of the node where one is given.
+fn is_of(node: Option<u32>, kind: Kind, event: &GroupEvent<'_>) -> bool
+    ensures { result ≡ is_of node kind (Some (event_of event.now)) }
+{
+    let of_node = match node {
+        Some(wanted) => wanted == event.node,
+        None => true,
+    };
+    of_node && event.entry.call.kind == kind.number()
+}
+
+/// Whether a point fires where the group stands.
+pub(crate) fn is_due(
+    trigger: &Trigger,
+    before: Option<i64>,
+    now: Option<i64>,
+    group: &Group<'_, '_>,
+) -> bool
+    ensures { result ≡ is_due_by before now (last_event_of group.now) (seen_trigger trigger.now) }
+{
+    match trigger {
+        Trigger::Watch(_) => !is_same_value(before, now),
+        Trigger::Break(node, kind) => match group.last_event() {
+            Some(event) => is_of(*node, *kind, &event),
+            None => false,
+        },
+    }
+}
+
+/// What a point says that fires.
+pub(crate) fn push_line(
+    text: &mut Text,
+    point: &Point,
+    before: Option<i64>,
+    now: Option<i64>,
+) -> Result<(), AllocError>
+    ensures { OnOk result (text.new ≡ text.old ++ line_by before now point.now.number (seen_trigger point.now.trigger)) }
+{
+    match point.trigger {
+        Trigger::Watch(_) => {
+            text.push_str("watch ")?;
+            text.push_u64(point.number)?;
+            text.push_str(": ")?;
+            push_value(text, before)?;
+            text.push_str(" -> ")?;
+            push_value(text, now)?;
+            text.push_str("\n")
+        }
+        Trigger::Break(_, _) => {
+            text.push_str("break ")?;
+            text.push_u64(point.number)?;
+            text.push_str("\n")
+        }
+    }
+}

@@ -1,0 +1,176 @@
+// The points that a session holds.
+ghost use Rattle.std.specs.Prelude.{◌≡◌, ◌<◌, ◌++◌, ◌∷◌, ◌==◌, [], IfOk, IfSome, OnOk, length, map, position};
+ghost use Rattle.std.specs.List.{flat_map};
+ghost use Rattle.embed_cmds.specs.Tree.{body};
+ghost use Rattle.shell_points.specs.Points.{has_point, new_point, place_of_point, point_text, with_program, without_point};
+ghost use Rattle.shell_points.specs.Seen.{Walks, point as point_meant, trigger as trigger_meant};
+
+use crate::point::{Point, Trigger};
+use crate::walk::{Walked, walk};
+use embed_cmds::{Program, Vars};
+use fri_bytes::Bytes;
+use fri_text::Text;
+use group_state::Group;
+use std::alloc::{AllocError, Global};
+use std::marker::Model;
+
+/// The points that a session holds. Contracts see them as a list, in the order in which they were added.
+#[derive(Drop)]
+pub struct Points {
+    held: Vec<Point>,
+}
+
+impl Model for Points {
+    ghost use Rattle.std.specs.Prelude.{List};
+    ghost use Rattle.std.specs.Coded.{codes};
+    ghost use Rattle.watch_expr.specs.Coding.{expression_code};
+    ghost use Rattle.embed_cmds.specs.Coding.{statements_code};
+    ghost use Rattle.shell_points.specs.Points.{Point};
+
+    ghost Value = { List Point };
+
+    ghost coded = { Prim.hlevel (codes, expression_code, statements_code) };
+
+    ghost use Rattle.std.specs.Prelude.{map};
+    ghost use Rattle.shell_points.specs.Seen.{point};
+    ghost use Rattle.shell_points.specs.declared.point.Point.{Point as Held};
+
+    ghost view = { λ p. map {A = Held} point p.held.items };
+}
+
+impl Points {
+    /// No points. It takes no memory.
+    pub fn new(alloc: Global) -> Points
+        ensures { result ≡ [] }
+    {
+        Points {
+            held: Vec::new(alloc),
+        }
+    }
+
+    /// How many points there are.
+    pub fn count(&self) -> usize
+        ensures { result ≡ length self.now }
+    {
+        self.held.len()
+    }
+
+    /// A point more, which this line makes, with this number and without a program.
+    pub fn add(
+        &mut self,
+        alloc: Global,
+        number: u64,
+        line: &[u8],
+        trigger: Trigger,
+    ) -> Result<(), AllocError>
+        ensures { OnOk result (self.new ≡ self.old ++ new_point number line.now (trigger_meant trigger) ∷ []) }
+    {
+        let text = Bytes::from_slice(alloc, line)?;
+        self.held.push(Point {
+            number,
+            text,
+            trigger,
+            program: None,
+        })?;
+        Ok(())
+    }
+
+    /// Whether a point has this number.
+    pub fn is_held(&self, number: u64) -> bool
+        ensures { result ≡ has_point self.now number }
+    {
+        is_held(&self.held, number)
+    }
+
+    /// Takes away all points with this number.
+    pub fn remove(&mut self, number: u64)
+        ensures { self.new ≡ without_point self.old number }
+    {
+        remove(&mut self.held, number);
+    }
+
+    /// Where the first point with this number stands.
+    pub fn place_of(&self, number: u64) -> Option<usize>
+        ensures place { result ≡ place_of_point self.now number }
+        ensures within { IfSome result (λ place. place < length self.now) }
+    {
+        place_of_point(&self.held, number)
+    }
+
+    /// Attaches a program to the point at this place, in place of an older one.
+    pub fn attach(&mut self, place: usize, program: Program)
+        requires { place < length self.old }
+        ensures { self.new ≡ with_program self.old place (body program) }
+    {
+        put(&mut self.held, place, program);
+    }
+
+    /// The number of each point, and the line that made it.
+    pub fn list(&self, alloc: Global) -> Result<Text, AllocError>
+        ensures { IfOk result (λ text. text ≡ flat_map point_text self.now) }
+    {
+        list(alloc, &self.held)
+    }
+
+    /// Goes to the first position behind this one at which a point asks to stop or enough was said, or to the last.
+    pub fn walk<'m, 'a>(
+        &self,
+        alloc: Global,
+        group: Group<'m, 'a>,
+        variables: Vars,
+    ) -> Result<Walked<'m, 'a>, AllocError>
+        ensures { IfOk result (λ done. Walks group.entry self.now variables done.group done.variables done.text) }
+    {
+        walk(alloc, group, &self.held, variables)
+    }
+}
+
+// Whether a point with this number is held.
+fn is_held(points: &[Point], number: u64) -> bool
+    ensures { result ≡ has_point (map point_meant points.now) number }
+{
+    points.iter().any(|point| point.number == number)
+}
+
+// Where the first point with this number stands.
+fn place_of_point(points: &[Point], number: u64) -> Option<usize>
+    ensures place { result ≡ position (λ p. p.number == number) points.now }
+    ensures within { IfSome result (λ place. place < length points.now) }
+{
+    points.iter().position(|point| point.number == number)
+}
+
+// The program is attached to the point at this place.
+fn put(points: &mut Vec<Point>, place: usize, program: Program)
+    requires { place < length points.now.items }
+    ensures { map point_meant points.new.items ≡ with_program (map point_meant points.old.items) place (body program) }
+{
+    points[place].program = Some(program);
+}
+
+// All points but those with this number.
+fn remove(points: &mut Vec<Point>, number: u64)
+    ensures { map point_meant points.new.items ≡ without_point (map point_meant points.old.items) number }
+{
+    points.retain(|point| point.number != number);
+}
+
+// The number of each point, and the line that made it.
+fn list(alloc: Global, points: &[Point]) -> Result<Text, AllocError>
+    ensures { IfOk result (λ text. text ≡ flat_map point_text (map point_meant points.now)) }
+{
+    let mut text = Text::new(alloc);
+    for point in points {
+        push_point(&mut text, point)?;
+    }
+    Ok(text)
+}
+
+fn push_point(text: &mut Text, point: &Point) -> Result<(), AllocError>
+    ensures { OnOk result (text.new ≡ text.old ++ point_text (point_meant point.now)) }
+{
+    text.push_u64(point.number)?;
+    text.push_str(" ")?;
+    text.push_bytes(point.text.as_slice())?;
+    text.push_str("\n")
+}

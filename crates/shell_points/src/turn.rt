@@ -1,0 +1,77 @@
+// What points do at a position.
+ghost use Rattle.std.specs.Prelude.{◌≡◌, ◌<◌, ◌-◌, IfOk, OnOk, map};
+ghost use Rattle.shell_points.specs.Reading.{readings, treat_by};
+ghost use Rattle.shell_points.specs.Seen.{point as seen, run_so_far};
+ghost use Rattle.shell_points.specs.Walking.{quiet, treat_all};
+ghost use Rattle.shell_points.specs.declared.point.Point.{Point as Held};
+ghost use Rattle.group_state.specs.Moves.{last_event_of};
+ghost use Rattle.group_state.specs.Seen.{nodes_at};
+
+use crate::firing::{is_due, push_line};
+use crate::point::Point;
+use embed_cmds::{Vars, run_program};
+use fri_text::Text;
+use group_state::Group;
+use std::alloc::{AllocError, Global};
+
+/// What points did so far at a position: what programs made of the variables, what was said, and whether a point asked to
+/// stop.
+#[derive(Drop)]
+pub(crate) struct Turn {
+    pub(crate) variables: Vars,
+    pub(crate) text: Text,
+    pub(crate) stops: bool,
+}
+
+/// What all points do where the group stands, in their order, by what they read at the position before and what they read
+/// now.
+pub(crate) fn treat_all(
+    alloc: Global,
+    points: &[Point],
+    before: &[Option<i64>],
+    now: &[Option<i64>],
+    group: &Group<'_, '_>,
+    variables: Vars,
+) -> Result<Turn, AllocError>
+    requires moved { 0 < group.now.at }
+    requires before { before.now ≡ readings group.now.start (group.now.at - 1) (map {A = Held} seen points.now) }
+    requires now { now.now ≡ readings group.now.start group.now.at (map {A = Held} seen points.now) }
+    ensures { IfOk result (λ turn. run_so_far turn ≡ treat_all group.now.start group.now.at (quiet variables) (map {A = Held} seen points.now)) }
+{
+    let mut turn = Turn {
+        variables,
+        text: Text::new(alloc),
+        stops: false,
+    };
+    for (n, point) in points.iter().enumerate() {
+        treat(alloc, point, before[n], now[n], group, &mut turn)?;
+    }
+    Ok(turn)
+}
+
+// What a point does where the group stands, if it fires there.
+fn treat(
+    alloc: Global,
+    point: &Point,
+    before: Option<i64>,
+    now: Option<i64>,
+    group: &Group<'_, '_>,
+    turn: &mut Turn,
+) -> Result<(), AllocError>
+    ensures { OnOk result (run_so_far turn.new ≡ treat_by before now (last_event_of group.now) (nodes_at group.now) (run_so_far turn.old) (seen point.now)) }
+{
+    if !is_due(&point.trigger, before, now, group) {
+        return Ok(());
+    }
+    match &point.program {
+        Some(program) => {
+            let stops = run_program(alloc, program, group, &mut turn.variables, &mut turn.text)?;
+            turn.stops = turn.stops || stops;
+        }
+        None => {
+            push_line(&mut turn.text, point, before, now)?;
+            turn.stops = true;
+        }
+    }
+    Ok(())
+}

@@ -1,0 +1,100 @@
+// Goes on to where a point asks to stop.
+ghost use Rattle.std.specs.Prelude.{◌≡◌, ◌++◌, IfOk, map};
+ghost use Rattle.shell_points.specs.Seen.{Walks, point as seen};
+ghost use Rattle.group_texts.specs.Texts.{position_line};
+ghost use Rattle.shell_points.specs.Walking.{lines_in};
+ghost use Rattle.shell_points.specs.declared.point.Point.{Point as Held};
+
+use crate::firing::readings;
+use crate::point::Point;
+use crate::turn::treat_all;
+use embed_cmds::Vars;
+use fri_text::Text;
+use group_state::Group;
+use group_texts::push_position;
+use std::alloc::{AllocError, Global};
+
+// A walk that has said so many lines pauses.
+const MOST_LINES: usize = 10_000;
+
+/// Where a walk came to, what it made of the variables, and what it said.
+#[derive(Drop)]
+pub struct Walked<'m, 'a> {
+    pub group: Group<'m, 'a>,
+    pub variables: Vars,
+    pub text: Text,
+}
+
+/// Goes to the first position behind this one at which a point asks to stop or enough was said, or to the last.
+pub(crate) fn walk<'m, 'a>(
+    alloc: Global,
+    group: Group<'m, 'a>,
+    points: &[Point],
+    variables: Vars,
+) -> Result<Walked<'m, 'a>, AllocError>
+    ensures { IfOk result (λ done. Walks group.entry (map {A = Held} seen points.now) variables done.group done.variables done.text) }
+{
+    let _ = group.position();
+    let mut walked = Walked {
+        group,
+        variables,
+        text: Text::new(alloc),
+    };
+    let mut before = readings(alloc, points, &walked.group)?;
+    let mut said = 0;
+    'positions: loop {
+        let Walked {
+            group,
+            variables,
+            mut text,
+        } = walked;
+        let (group, event) = group.forward()?;
+        if event.is_none() {
+            return arrive(group, variables, text, "end\n");
+        }
+        let now = readings(alloc, points, &group)?;
+        let turn = treat_all(alloc, points, &before, &now, &group, variables)?;
+        text.push_bytes(turn.text.bytes())?;
+        if turn.stops {
+            return arrive(group, turn.variables, text, "");
+        }
+        said += lines_in(&turn.text);
+        if said >= MOST_LINES {
+            return arrive(group, turn.variables, text, "paused\n");
+        }
+        before = now;
+        walked = Walked {
+            group,
+            variables: turn.variables,
+            text,
+        };
+    }
+}
+
+// How many lines a text has.
+fn lines_in(text: &Text) -> usize
+    ensures { result ≡ lines_in text.now }
+{
+    text.bytes().iter().filter(|b| **b == b'\n').count()
+}
+
+// The word with which a walk ends, and the position of the group.
+fn arrive<'m, 'a>(
+    group: Group<'m, 'a>,
+    variables: Vars,
+    text: Text,
+    word: &str,
+) -> Result<Walked<'m, 'a>, AllocError>
+    ensures group { IfOk result (λ done. done.group ≡ group.entry) }
+    ensures variables { IfOk result (λ done. done.variables ≡ variables) }
+    ensures text { IfOk result (λ done. done.text ≡ (text ++ word.now) ++ position_line group.entry) }
+{
+    let mut text = text;
+    text.push_str(word)?;
+    push_position(&mut text, &group)?;
+    Ok(Walked {
+        group,
+        variables,
+        text,
+    })
+}
