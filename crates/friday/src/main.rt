@@ -3,7 +3,7 @@
 #![tactic(auto)]
 
 ghost use Rattle.std.specs.Prelude.{◌≡◌, OnErr, OnOk};
-ghost use Rattle.friday_app.specs.Call.{IsAnswerStatus};
+ghost use Rattle.command_run.specs.Call.{IsAnswerStatus};
 
 use fri_outside::{Console, ReaderSource, RealFiles, WriteError, WriterSink};
 use friday_app::{Status, friday};

@@ -1,11 +1,7 @@
 -- The commands, and the words that name them.
 use Rattle.std.specs.Prelude.{ℕ, List, [], ◌∷◌, ◌==◌, ◌&&◌, Bool, false, not, nat_le, length, filter, Option, Some, None, option_map, codes, bytes_eq, if◌then◌else◌}
 use Rattle.std.specs.List.{list_all}
-
--- the files of a module and of a log of its process
-pub record Pair : Type 0 where
-  pub module_name : List ℕ
-  pub log_name : List ℕ
+use Rattle.log_pairs.specs.Pairs.{Pair}
 
 pub data Command : Type 0 where
   Record : (images : Bool) → (schedule_name : List ℕ) → Command

@@ -1,62 +1,11 @@
 -- What each command comes to, given the files and the input.
-use Rattle.std.specs.List.{slice_index_or}
-use Rattle.std.specs.Prelude.{ℕ, List, [], ◌∷◌, Bool, Option, Some, None, map, option_map, option_and_then, Result, Ok, Err}
+use Rattle.std.specs.Prelude.{ℕ, List, [], Option, Some, None, option_map, option_and_then, Err}
 use Rattle.fri_outside.specs.Outside.{Folder}
-use Rattle.wasm_types.specs.Modules.{Module}
-use Rattle.schedule_text.specs.declared.process.ProcessLine.{ProcessLine}
-use Rattle.schedule_text.specs.Reading.{Refusal, BadLineAt, TooManyRuns, schedule_of}
-use Rattle.schedule_text.specs.Schedule.{Schedule}
-use Rattle.guest_process.specs.State.{State}
-use Rattle.group_record.specs.Answer.{first_states, group_of}
-use Rattle.group_record.specs.Run.{run}
-use Rattle.friday_app.specs.declared.refusal.Reason.TheVariants as reason
-use Rattle.friday_app.specs.Limits.{most_schedule}
-use Rattle.friday_app.specs.Command.{Command, Debug, Pair, Record, Replay}
-use Rattle.friday_app.specs.Debug.{debug_outcome}
-use Rattle.friday_app.specs.Inputs.{module_in}
-use Rattle.friday_app.specs.Pairs.{replays_of_pairs}
-use Rattle.friday_app.specs.Outcome.{Stop, NotACommand, CommandOutcome, refuses_at_once, and_then, file_of, written_names}
-use Rattle.friday_app.specs.Record.{run_outcome}
-use Rattle.friday_app.specs.Report.{replay_work}
-
--- THE COMMANDS, each with its refusals in their order
-
-abbrev pub replay_outcome : Bool → List Pair → Folder → CommandOutcome
-replay_outcome images pairs folder = and_then (replays_of_pairs folder pairs) (λ start. Ok (replay_work images start))
-
--- the schedule of a schedule file
-abbrev pub schedule_or_refusal : List ℕ → Result Schedule Refusal → Result Schedule Stop
-schedule_or_refusal name (Ok schedule) = Ok schedule
-schedule_or_refusal name (Err (BadLineAt line)) = Err (refuses_at_once name (reason.BadLine line))
-schedule_or_refusal name (Err TooManyRuns) = Err (refuses_at_once name reason.TooMany)
-
-abbrev pub schedule_in : Folder → List ℕ → Result Schedule Stop
-schedule_in folder name = and_then (file_of folder name most_schedule) (λ bytes. schedule_or_refusal name (schedule_of bytes))
-
--- the modules of these processes, in their order
-abbrev pub modules_of : Folder → List ProcessLine → Result (List Module) Stop
-modules_of folder [] = Ok []
-modules_of folder (line ∷ lines) = and_then (module_in folder line.«module») (λ m. and_then (modules_of folder lines) (λ ms. Ok (m ∷ ms)))
-
--- the file of the module of process p
-abbrev pub module_name : Schedule → ℕ → List ℕ
-module_name schedule p = slice_index_or (map (λ line. line.«module») schedule.processes) p []
-
--- the first states of all processes, or the refusal of the first module with which none begins
-abbrev pub states_or_bad_segment : Schedule → Result (List State) ℕ → Result (List State) Stop
-states_or_bad_segment schedule (Ok first) = Ok first
-states_or_bad_segment schedule (Err p) = Err (refuses_at_once (module_name schedule p) reason.BadSegment)
-
--- what the recording of a group comes to, whose processes begin so
-abbrev pub group_outcome : Bool → List ℕ → Schedule → Result (List State) ℕ → CommandOutcome
-group_outcome images schedule_name schedule states =
-    and_then (states_or_bad_segment schedule states) (λ first.
-    run_outcome images schedule_name (group_of schedule first) (run (group_of schedule first) schedule.items))
-
-abbrev pub record_outcome : Bool → List ℕ → Folder → CommandOutcome
-record_outcome images schedule_name folder =
-    and_then (schedule_in folder schedule_name) (λ schedule.
-    and_then (modules_of folder schedule.processes) (λ modules. group_outcome images schedule_name schedule (first_states schedule modules)))
+use Rattle.command_run.specs.Outcome.{CommandOutcome, NotACommand, written_names}
+use Rattle.record_command.specs.Expected.{record_outcome}
+use Rattle.replay_command.specs.Report.{replay_outcome}
+use Rattle.debug_command.specs.Debug.{debug_outcome}
+use Rattle.friday_app.specs.Command.{Command, Debug, Record, Replay}
 
 -- the outcome, as far as the folder and the input tell what it depends on
 abbrev pub expected : Option Command → Option Folder → Option (List ℕ) → Option CommandOutcome

@@ -2,28 +2,17 @@
 ghost use Rattle.std.specs.Prelude.{◌≡◌, length, map, option_map, string_bytes, IfOk};
 ghost use Rattle.std.specs.List.{list_all};
 ghost use Rattle.friday_app.specs.Command.{command_by, command_of, debugging, is_file_word, is_images, names_in, options_in, pairs_of, recording, replaying};
-ghost use Rattle.friday_app.specs.Seen.{meaning, pair_of};
+ghost use Rattle.friday_app.specs.Seen.{meaning};
+ghost use Rattle.log_pairs.specs.Seen.{pair_of};
 
+use log_pairs::Pair;
 use std::alloc::{AllocError, Global};
 
-/// The files of a module and of a log of its process.
-#[derive(Clone, Copy)]
-pub struct Pair<'a> {
-    pub module_file: &'a str,
-    pub log_file: &'a str,
-}
-
-/// A command that prints once, at its end, with the names that its words give, and whether images are asked for.
-#[derive(Drop)]
-pub enum Batch<'a> {
-    Record(bool, &'a str),
-    Replay(bool, Vec<Pair<'a>>),
-}
-
-/// A command, with the names that its words give.
+/// A command, with the names that its words give; `true` where images are asked for.
 #[derive(Drop)]
 pub enum Command<'a> {
-    Batch(Batch<'a>),
+    Record(bool, &'a str),
+    Replay(bool, Vec<Pair<'a>>),
     Debug(Vec<Pair<'a>>),
 }
 
@@ -108,7 +97,7 @@ fn record_command<'a>(images: bool, names: &[&'a str]) -> Option<Command<'a>>
     ensures { option_map meaning result ≡ recording images (map (λ name. name.now) names.now) }
 {
     match names {
-        [schedule_file] => Some(Command::Batch(Batch::Record(images, schedule_file))),
+        [schedule_file] => Some(Command::Record(images, schedule_file)),
         _ => None,
     }
 }
@@ -124,7 +113,7 @@ fn replay_command<'a>(
         return Ok(None);
     }
     let pairs = pairs_of(alloc, names)?;
-    Ok(pairs.map(|pairs| Command::Batch(Batch::Replay(images, pairs))))
+    Ok(pairs.map(|pairs| Command::Replay(images, pairs)))
 }
 
 fn debug_command<'a>(

@@ -1,21 +1,13 @@
 //! The program as one call: the words of the command line, the files, an input and an output are handed in.
+//!
+//! `friday` reads which command the words name (`specs/Command`) and has its crate do it: `record_command`,
+//! `replay_command` or `debug_command`. What the call promises stands once, as the fields of `CommandRun` (`specs/Run`),
+//! over the outcome of the command (`specs/Expected`). A further command is a crate beside those three, a case in the
+//! definitions here, and a line in `run`.
 #![tactic(auto)]
 
 mod command;
-mod converse;
-mod debug;
-mod finish;
-mod inputs;
-mod laws;
-mod pairs;
-mod record;
-mod refusal;
-mod replay;
-mod report;
-mod settle;
-mod status;
-mod summary;
 mod top;
 
-pub use status::Status;
+pub use command_run::Status;
 pub use top::friday;

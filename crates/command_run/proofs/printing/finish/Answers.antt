@@ -1,0 +1,6 @@
+use Rattle.command_run.proofs.Ends.{finishes}
+use Rattle.command_run.proofs.printing.finish.Goals as goal
+
+pub returns : goal.returns
+returns g c = λ expected written may_diverge before after counts counts_after performed.
+    finishes expected written may_diverge c.args.ended c.print_end.result _ _ performed c.print_end.ensures.ends c.print_end.ensures.heard

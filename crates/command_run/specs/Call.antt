@@ -1,0 +1,187 @@
+-- What a call says of its status, of what it printed, and of the files after it.
+use Rattle.std.specs.Prelude.{◌≡◌, ◌≢◌, ◌⊎◌, ℕ, List, [], ◌++◌, string_bytes, Bool, IsTrue, Option, Some, None, take, IfSome, IfNone, Result, Ok, Err, true, false}
+use Rattle.std.specs.Io.KnownBytes.{append_known}
+use Rattle.fri_outside.specs.Outside.{Folder, Counts, Rose, raised}
+use Rattle.fri_outside.specs.Several.{with_files, ChangesOnly}
+use Rattle.fri_outside.specs.declared.files.WriteError.{WriteError}
+use Rattle.fri_outside.specs.declared.files.WriteError.TheVariants as writing
+use Rattle.command_run.specs.declared.status.Status.{Status}
+use Rattle.command_run.specs.declared.status.Status.TheVariants as ends
+use Rattle.command_run.specs.declared.refusal.Answer.{Answer}
+use Rattle.command_run.specs.declared.refusal.Answer.TheVariants as answered
+use Rattle.command_run.specs.declared.refusal.Reason.{Reason}
+use Rattle.command_run.specs.declared.refusal.Reason.TheVariants as reason
+use Rattle.command_run.specs.declared.refusal.Refusal.{Refusal}
+use Rattle.command_run.specs.declared.refusal.Refusal.TheVariants as refusal
+use Rattle.command_run.specs.Outcome.{CommandOutcome, Work, Stop, Refuses, Lacks, refuses_at_once, refused_line, absent_line}
+
+-- statuses 0 to 4: the call came to its end, with no fault and no want of memory
+abbrev pub IsAnswerStatus : Status → Type 0
+IsAnswerStatus ends.ReadFault = ⊥
+IsAnswerStatus ends.WriteFault = ⊥
+IsAnswerStatus ends.NoMemory = ⊥
+IsAnswerStatus answer = Unit {0}
+
+-- after an answer the sink took the whole text, and else some of its front
+pub record Prints (answer : Status) (text : List ℕ) (before after : Option (List ℕ)) : Type 0 where
+  pub whole : IsAnswerStatus answer → after ≡ append_known before text
+  pub part : (n : ℕ) × (after ≡ append_known before (take n text))
+
+-- after an answer the files of the work are made; at any status they alone change, each to some of its front
+pub record LeavesFiles (answer : Status) (files : List (List ℕ × List ℕ)) (before after : Option Folder) : Type 0 where
+  pub whole : IsAnswerStatus answer → after ≡ with_files files before
+  pub part : ChangesOnly before files after
+
+-- statuses 2, 4 and 5, after which no file has changed. After status 3 the files are those of the refusal
+abbrev pub IsIdle : Status → Type 0
+IsIdle ends.Usage = Unit {0}
+IsIdle ends.Absent = Unit {0}
+IsIdle ends.ReadFault = Unit {0}
+IsIdle answer = ⊥
+
+-- a sink took the line that refuses a file: for its size only where that file's cause held
+abbrev pub PrintsRefusal : Option (List ℕ) → Option (List ℕ) → (List ℕ → Type 0) → Type 0
+PrintsRefusal before after cause =
+    (earlier file : List ℕ) × ((why : Reason) × (after ≡ append_known before (earlier ++ refused_line file why))
+    × (why ≡ reason.TooLarge → cause file))
+
+-- a sink took the line that says of some file that it is absent
+abbrev pub PrintsAbsent : Option (List ℕ) → Option (List ℕ) → Type 0
+PrintsAbsent before after = (file : List ℕ) × (after ≡ append_known before (absent_line file))
+
+-- nothing was printed, or all files that were to be made were made before
+abbrev pub PrintsLast : List (List ℕ × List ℕ) → Option (List ℕ) → Option (List ℕ) → Option Folder → Option Folder → Type 0
+PrintsLast files printed printed_after before after = (printed_after ≡ printed) ⊎ (after ≡ with_files files before)
+
+-- A COMMAND'S RESULT, before its text is written
+
+-- a command came to an answer: its work, or a refusal
+abbrev pub IsAnswerResult : Result Answer Refusal → Type 0
+IsAnswerResult (Ok answer) = Unit {0}
+IsAnswerResult (Err (refusal.Refused file why)) = Unit {0}
+IsAnswerResult (Err (refusal.Absent file)) = Unit {0}
+IsAnswerResult (Err refusal.ReadFault) = ⊥
+IsAnswerResult (Err refusal.WriteFault) = ⊥
+IsAnswerResult (Err refusal.NoMemory) = ⊥
+
+-- a refusal tells the stop at which this comes to no value
+abbrev pub StopsAs : {A : Type 0} → Result A Stop → Refusal → Type 0
+StopsAs wanted (refusal.Refused file why) = wanted ≡ Err (refuses_at_once (string_bytes file) why)
+StopsAs wanted (refusal.Absent file) = wanted ≡ Err (Lacks (string_bytes file))
+StopsAs wanted refusal.ReadFault = Unit {0}
+StopsAs wanted refusal.WriteFault = Unit {0}
+StopsAs wanted refusal.NoMemory = Unit {0}
+
+-- a refusal that came before anything was printed
+abbrev pub RefusesWith : CommandOutcome → List ℕ → Reason → Type 0
+RefusesWith outcome file why = (done : Work) × (outcome ≡ Err (Refuses file why done)) × (done.text ≡ [])
+
+-- what a failed write comes to
+abbrev pub write_refusal : WriteError → Refusal
+write_refusal writing.Failed = refusal.WriteFault
+write_refusal writing.NoMemory = refusal.NoMemory
+
+-- this refusal of this file, or want of memory
+abbrev pub RefusesFile : List ℕ → Reason → Refusal → Type 0
+RefusesFile name why (refusal.Refused file reason) = (string_bytes file ≡ name) × (reason ≡ why)
+RefusesFile name why refusal.NoMemory = Unit {0}
+RefusesFile name why other = ⊥
+
+-- that this file is absent, or want of memory
+abbrev pub NamesAbsent : List ℕ → Refusal → Type 0
+NamesAbsent name (refusal.Absent file) = string_bytes file ≡ name
+NamesAbsent name refusal.NoMemory = Unit {0}
+NamesAbsent name other = ⊥
+
+-- a command's result tells this outcome
+abbrev pub TellsOutcome : CommandOutcome → Result Answer Refusal → Type 0
+TellsOutcome outcome (Ok (answered.Done text)) = (work : Work) × (outcome ≡ Ok work) × (text ≡ work.text) × (work.diverged ≡ false)
+TellsOutcome outcome (Ok (answered.Diverged text)) = (work : Work) × (outcome ≡ Ok work) × (text ≡ work.text) × (work.diverged ≡ true)
+TellsOutcome outcome (Err (refusal.Refused file why)) = RefusesWith outcome (string_bytes file) why
+TellsOutcome outcome (Err (refusal.Absent file)) = outcome ≡ Err (Lacks (string_bytes file))
+TellsOutcome outcome (Err refusal.ReadFault) = Unit {0}
+TellsOutcome outcome (Err refusal.WriteFault) = Unit {0}
+TellsOutcome outcome (Err refusal.NoMemory) = Unit {0}
+
+-- a refusal has its cause in the counts
+abbrev pub Raises : Counts → Counts → Refusal → Type 0
+Raises old new (refusal.Refused file why) = why ≡ reason.TooLarge → Rose old.misses new.misses
+Raises old new (refusal.Absent file) = Rose old.misses new.misses
+Raises old new refusal.ReadFault = Rose old.reads new.reads
+Raises old new refusal.WriteFault = Rose old.writes new.writes
+Raises old new refusal.NoMemory = Unit {0}
+
+-- how many reads failed once a command, or a part of one, came to this: a fault that ended it was counted once, and no
+-- other was
+abbrev pub reads_after : {T : Type 0} → ℕ → Result T Refusal → ℕ
+reads_after count (Err refusal.ReadFault) = raised count
+reads_after count result = count
+
+-- how many writes failed, alike
+abbrev pub writes_after : {T : Type 0} → ℕ → Result T Refusal → ℕ
+writes_after count (Err refusal.WriteFault) = raised count
+writes_after count result = count
+
+-- no miss was counted where it came to a value
+abbrev pub KeepsMisses : {T : Type 0} → Counts → Counts → Result T Refusal → Type 0
+KeepsMisses old new (Ok value) = new.misses ≡ old.misses
+KeepsMisses old new (Err e) = Unit {0}
+
+-- the counts of files, once it came to this
+pub record CountsFaults {T : Type 0} (old new : Counts) (result : Result T Refusal) : Type 0 where
+  pub reads : new.reads ≡ reads_after old.reads result
+  pub writes : new.writes ≡ writes_after old.writes result
+  pub misses : KeepsMisses old new result
+
+-- no file changed where a command found no file or could not read, whatever the folder
+abbrev pub Keeps : Result Answer Refusal → Option Folder → Option Folder → Type 0
+Keeps (Err (refusal.Absent file)) before after = after ≡ before
+Keeps (Err refusal.ReadFault) before after = after ≡ before
+Keeps result before after = Unit {0}
+
+-- the files that were to be made are made at an answer, and some of them in part where a write or memory failed
+abbrev pub Makes : Result Answer Refusal → List (List ℕ × List ℕ) → Option Folder → Option Folder → Type 0
+Makes (Ok answer) files before after = after ≡ with_files files before
+Makes (Err (refusal.Refused file why)) files before after = after ≡ with_files files before
+Makes (Err (refusal.Absent file)) files before after = after ≡ with_files files before
+Makes (Err refusal.ReadFault) files before after = ChangesOnly before files after
+Makes (Err refusal.WriteFault) files before after = ChangesOnly before files after
+Makes (Err refusal.NoMemory) files before after = ChangesOnly before files after
+
+-- a divergence is told only where it may be
+abbrev pub DivergesOnlyIf : Bool → Result Answer Refusal → Type 0
+DivergesOnlyIf may_diverge (Ok (answered.Diverged text)) = IsTrue may_diverge
+DivergesOnlyIf may_diverge result = Unit {0}
+
+-- the status and the text that a command's result comes to, unless a fault or want of memory ended it
+abbrev pub status_and_text : Result Answer Refusal → Option (Status × List ℕ)
+status_and_text (Ok (answered.Done text)) = Some (ends.Done, text)
+status_and_text (Ok (answered.Diverged text)) = Some (ends.Diverged, text)
+status_and_text (Err (refusal.Refused file why)) = Some (ends.Refused, refused_line (string_bytes file) why)
+status_and_text (Err (refusal.Absent file)) = Some (ends.Absent, absent_line (string_bytes file))
+status_and_text (Err refusal.ReadFault) = None
+status_and_text (Err refusal.WriteFault) = None
+status_and_text (Err refusal.NoMemory) = None
+
+-- the status of a fault, and of want of memory
+abbrev pub FaultStatus : Result Answer Refusal → Status → Type 0
+FaultStatus (Err refusal.ReadFault) answer = answer ≡ ends.ReadFault
+FaultStatus (Err refusal.WriteFault) answer = answer ≡ ends.WriteFault
+FaultStatus (Err refusal.NoMemory) answer = answer ≡ ends.NoMemory
+FaultStatus result answer = Unit {0}
+
+-- how many writes of a sink failed by a call that ended so: one, exactly where it ended for that
+abbrev pub said_after : ℕ → Status → ℕ
+said_after count ends.WriteFault = raised count
+said_after count answer = count
+
+-- what a command's result comes to, with its text written
+pub record FinishesCall (ended : Result Answer Refusal) (answer : Status) (before after : Option (List ℕ)) (faults_before faults_after : ℕ) : Type 0 where
+  pub status : IfSome (status_and_text ended) (λ a. IsAnswerStatus answer → answer ≡ a.0)
+  pub text : IfSome (status_and_text ended) (λ a. Prints answer a.1 before after)
+  pub silent : IfNone (status_and_text ended) (after ≡ before)
+  pub fault : FaultStatus ended answer
+  pub read_fault : IfSome (status_and_text ended) (λ _. answer ≢ ends.ReadFault)
+  pub write_fault : IfSome (status_and_text ended) (λ _. answer ≡ ends.WriteFault → Rose faults_before faults_after)
+  pub counted : IfSome (status_and_text ended) (λ _. faults_after ≡ said_after faults_before answer)
+  pub quiet : IfNone (status_and_text ended) (faults_after ≡ faults_before)

@@ -1,0 +1,13 @@
+pub mod Numbers
+pub mod Fault
+pub mod Limits
+pub mod Outcome
+pub mod OutcomeLaws
+pub mod Inputs
+pub mod Call
+pub mod CountLaws
+pub mod FileLaws
+pub mod LineLaws
+pub mod Run
+pub mod Valid
+pub mod Laws

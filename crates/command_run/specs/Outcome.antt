@@ -1,0 +1,96 @@
+-- What a command comes to: the work that it does, or the stop at which it ends.
+use Rattle.std.specs.Prelude.{ℕ, List, [], ◌++◌, Bool, false, map, decimal, codes, Result, Ok, Err, if◌then◌else◌}
+use Rattle.fri_outside.specs.Outside.{Folder, Found, Missing, Over, Held, found}
+use Rattle.command_run.specs.declared.status.Status.{Status}
+use Rattle.command_run.specs.declared.status.Status.TheVariants as status
+use Rattle.command_run.specs.declared.refusal.Reason.{Reason}
+use Rattle.command_run.specs.declared.refusal.Reason.TheVariants as reason
+
+-- what a command does: the text that it prints, the files that it makes, each with its bytes and in their order, and whether a log diverged
+pub record Work : Type 0 where
+  pub text : List ℕ
+  pub writes : List (List ℕ × List ℕ)
+  pub diverged : Bool
+
+-- what was done before a stop, where it comes before all work
+abbrev pub nothing_done : Work
+nothing_done = record { text = []; writes = []; diverged = false }
+
+-- why a command does not do its work. A refusal says what was printed and written before it
+pub data Stop : Type 0 where
+  NotACommand : Stop
+  Refuses : (file : List ℕ) → Reason → (done : Work) → Stop
+  Lacks : (file : List ℕ) → Stop
+
+-- a refusal before all work
+abbrev pub refuses_at_once : List ℕ → Reason → Stop
+refuses_at_once file why = Refuses file why nothing_done
+
+abbrev pub CommandOutcome : Type 0
+CommandOutcome = Result Work Stop
+
+-- what follows, unless there is a stop
+abbrev pub and_then : {A B : Type 0} → Result A Stop → (A → Result B Stop) → Result B Stop
+and_then (Ok value) next = next value
+and_then (Err stop) next = Err stop
+
+-- the bytes of a file, where it is there and within its limit
+abbrev pub bytes_or_stop : List ℕ → Found → Result (List ℕ) Stop
+bytes_or_stop name Missing = Err (Lacks name)
+bytes_or_stop name Over = Err (refuses_at_once name reason.TooLarge)
+bytes_or_stop name (Held bytes) = Ok bytes
+
+abbrev pub file_of : Folder → List ℕ → ℕ → Result (List ℕ) Stop
+file_of folder name limit = bytes_or_stop name (found folder name limit)
+
+-- why a file is refused, as it is printed
+abbrev pub reason_text : Reason → List ℕ
+reason_text reason.TooLarge = codes "TooLarge"
+reason_text (reason.BadLine line) = codes "line " ++ (decimal line ++ codes " BadLine")
+reason_text reason.TooMany = codes "TooMany"
+reason_text (reason.LogFull item) = codes "item " ++ (decimal item ++ codes " LogFull")
+reason_text reason.Malformed = codes "1 Malformed"
+reason_text reason.HasFloat = codes "2 HasFloat"
+reason_text reason.BadImport = codes "3 BadImport"
+reason_text reason.Untyped = codes "4 Untyped"
+reason_text reason.OverLimit = codes "5 OverLimit"
+reason_text reason.NoStart = codes "6 NoStart"
+reason_text reason.BadSegment = codes "7 BadSegment"
+reason_text reason.BadHead = codes "1 BadHead"
+reason_text reason.OtherGroup = codes "2 OtherGroup"
+reason_text reason.SameProcess = codes "3 SameProcess"
+reason_text reason.SameName = codes "4 SameName"
+
+abbrev pub usage_line : List ℕ
+usage_line = codes "friday: these words are not a command\n"
+
+abbrev pub refused_with : List ℕ → List ℕ → List ℕ
+refused_with file why = codes "friday: refused " ++ (file ++ (codes ": " ++ (why ++ codes "\n")))
+
+abbrev pub refused_line : List ℕ → Reason → List ℕ
+refused_line file why = refused_with file (reason_text why)
+
+abbrev pub absent_line : List ℕ → List ℕ
+absent_line file = codes "friday: absent " ++ (file ++ codes "\n")
+
+abbrev pub outcome_status : CommandOutcome → Status
+outcome_status (Ok work) = if work.diverged then status.Diverged else status.Done
+outcome_status (Err NotACommand) = status.Usage
+outcome_status (Err (Refuses file why done)) = status.Refused
+outcome_status (Err (Lacks file)) = status.Absent
+
+abbrev pub outcome_text : CommandOutcome → List ℕ
+outcome_text (Ok work) = work.text
+outcome_text (Err NotACommand) = usage_line
+outcome_text (Err (Refuses file why done)) = done.text ++ refused_line file why
+outcome_text (Err (Lacks file)) = absent_line file
+
+abbrev pub writes_of : CommandOutcome → List (List ℕ × List ℕ)
+writes_of (Ok work) = work.writes
+writes_of (Err NotACommand) = []
+writes_of (Err (Refuses file why done)) = done.writes
+writes_of (Err (Lacks file)) = []
+
+-- the names of the files that it makes
+abbrev pub written_names : CommandOutcome → List (List ℕ)
+written_names outcome = map (λ file. file.0) (writes_of outcome)

@@ -1,0 +1,104 @@
+-- What a run of a command says, from one state of the outside to another.
+use Rattle.std.specs.Prelude.{◌≡◌, ◌≢◌, ◌⊎◌, ℕ, Bool, IsTrue, List, Option, Some, Result, IfErr}
+use Rattle.std.specs.Result.{IsOk}
+use Rattle.fri_outside.specs.Outside.{Folder, WhenTold, Counts, Rose, raised}
+use Rattle.fri_outside.specs.Terminal.{Hearing}
+use Rattle.fri_outside.specs.Several.{with_files, OthersStay}
+use Rattle.command_run.specs.declared.status.Status.{Status}
+use Rattle.command_run.specs.declared.status.Status.TheVariants as ends
+use Rattle.command_run.specs.declared.refusal.Answer.{Answer}
+use Rattle.command_run.specs.declared.refusal.Refusal.{Refusal}
+use Rattle.command_run.specs.Outcome.{CommandOutcome, outcome_status, outcome_text, writes_of, written_names}
+use Rattle.command_run.specs.Call.{CountsFaults, DivergesOnlyIf, IsAnswerResult, IsAnswerStatus, IsIdle, Keeps, LeavesFiles, Makes, Prints, PrintsAbsent, PrintsLast, PrintsRefusal, Raises, TellsOutcome}
+
+-- what is handed in, as far as it tells
+pub record Outside : Type 0 where
+  pub told : Option Folder
+  pub counts : Counts
+  pub hearing : Hearing
+  pub taken : Option (List ℕ)
+  pub out_faults : ℕ
+
+-- all of it at one moment
+abbrev pub outside : Option Folder → Counts → Hearing → Option (List ℕ) → ℕ → Outside
+outside told counts hearing taken out_faults = record {
+  told = told;
+  counts = counts;
+  hearing = hearing;
+  taken = taken;
+  out_faults = out_faults;
+}
+
+-- ---- faults
+
+-- no count of faults rose
+pub record NoFault (old new : Outside) : Type 0 where
+  pub reads : Rose old.counts.reads new.counts.reads → ⊥
+  pub writes : Rose old.counts.writes new.counts.writes → ⊥
+  pub input : Rose old.hearing.faults new.hearing.faults → ⊥
+  pub out : Rose old.out_faults new.out_faults → ⊥
+
+-- how often a read of files failed, and a write, a read of the input, and a write of the output
+abbrev pub faults_of : Outside → (ℕ × ℕ) × (ℕ × ℕ)
+faults_of o = ((o.counts.reads, o.counts.writes), (o.hearing.faults, o.out_faults))
+
+-- a fault is told by the status, and a status of a fault tells one: exactly one was counted. At each other status no
+-- count of faults is another than before
+abbrev pub FaultsTold : Status → Outside → Outside → Type 0
+FaultsTold ends.ReadFault old new =
+    (faults_of new ≡ ((raised old.counts.reads, old.counts.writes), (old.hearing.faults, old.out_faults)))
+    ⊎ (faults_of new ≡ ((old.counts.reads, old.counts.writes), (raised old.hearing.faults, old.out_faults)))
+FaultsTold ends.WriteFault old new =
+    (faults_of new ≡ ((old.counts.reads, raised old.counts.writes), (old.hearing.faults, old.out_faults)))
+    ⊎ (faults_of new ≡ ((old.counts.reads, old.counts.writes), (old.hearing.faults, raised old.out_faults)))
+FaultsTold answer old new = faults_of new ≡ faults_of old
+
+-- ---- the end of a call, whatever its command
+
+-- a command of which this is expected, as far as files and input tell it, and which may write these names, came to its
+-- end with this status
+pub record CallEnds (expected : Option CommandOutcome) (written : Folder → List (List ℕ)) (old new : Outside) (answer : Status) : Type 0 where
+  pub status : WhenTold expected (λ outcome. IsAnswerStatus answer → answer ≡ outcome_status outcome)
+  pub text : WhenTold expected (λ outcome. Prints answer (outcome_text outcome) old.taken new.taken)
+  pub files : WhenTold expected (λ outcome. LeavesFiles answer (writes_of outcome) old.told new.told)
+  pub others : OthersStay written old.told new.told
+  pub idle : IsIdle answer → new.told ≡ old.told
+  -- nothing is printed before the files are made
+  pub prints_last : WhenTold expected (λ outcome. PrintsLast (writes_of outcome) old.taken new.taken old.told new.told)
+  pub faults : FaultsTold answer old new
+  pub absent : answer ≡ ends.Absent → Rose old.counts.misses new.counts.misses
+  pub absent_text : answer ≡ ends.Absent → PrintsAbsent old.taken new.taken
+  pub read_fault : answer ≡ ends.ReadFault → Rose old.counts.reads new.counts.reads ⊎ Rose old.hearing.faults new.hearing.faults
+  pub write_fault : answer ≡ ends.WriteFault → Rose old.counts.writes new.counts.writes ⊎ Rose old.out_faults new.out_faults
+  pub out_fault : WhenTold expected (λ outcome. answer ≡ ends.WriteFault
+      → Rose old.counts.writes new.counts.writes ⊎ (new.told ≡ with_files (writes_of outcome) old.told))
+
+-- ---- a command that prints once, at its end
+
+-- nothing changed, or what may be written are the names of the files that are expected
+abbrev pub WritesOnly : (Folder → List (List ℕ)) → Option CommandOutcome → Option Folder → Option Folder → Folder → Type 0
+WritesOnly written expected before after folder =
+    (after ≡ before) ⊎ ((outcome : CommandOutcome) × (expected ≡ Some outcome) × (written folder ≡ written_names outcome))
+
+-- its work is done or was stopped, and nothing is printed yet
+pub record Performed (expected : Option CommandOutcome) (written : Folder → List (List ℕ)) (may_diverge : Bool)
+    (before after : Option Folder) (counts counts_after : Counts) (ended : Result Answer Refusal) : Type 0 where
+  pub tells : WhenTold expected (λ outcome. TellsOutcome outcome ended)
+  pub makes : WhenTold expected (λ outcome. Makes ended (writes_of outcome) before after)
+  pub names : WhenTold before (WritesOnly written expected before after)
+  pub keeps : Keeps ended before after
+  pub diverges : DivergesOnlyIf may_diverge ended
+  pub counted : CountsFaults counts counts_after ended
+  pub cause : IfErr ended (Raises counts counts_after)
+
+-- and its text was printed. It read no input
+pub record Finished (expected : Option CommandOutcome) (written : Folder → List (List ℕ)) (may_diverge : Bool)
+    (ended : Result Answer Refusal) (old new : Outside) (answer : Status) : Type 0 where
+  pub call : CallEnds expected written old new answer
+  pub is_command : answer ≢ ends.Usage
+  pub diverged : answer ≡ ends.Diverged → IsTrue may_diverge
+  pub done : answer ≡ ends.Done → IsOk ended
+  pub came_to_end : IsAnswerStatus answer → IsAnswerResult ended
+  pub refused : answer ≡ ends.Refused → PrintsRefusal old.taken new.taken (λ file. Rose old.counts.misses new.counts.misses)
+  pub read : answer ≡ ends.ReadFault → Rose old.counts.reads new.counts.reads
+  pub unheard : new.hearing ≡ old.hearing

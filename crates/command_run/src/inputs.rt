@@ -1,0 +1,132 @@
+// Reads files, and the modules in them.
+ghost use Rattle.std.specs.Prelude.{◌≡◌, ℕ, ◌<◌, ◌≤◌, vec_len, Ok, IfOk, IfErr, MatchResult};
+ghost use Rattle.fri_outside.specs.Outside.{WhenTold, Counts};
+ghost use Rattle.wasm_types.specs.Modules.{module_of as shown};
+ghost use Rattle.wasm_decode.specs.Sections.{module_of_bytes};
+ghost use Rattle.command_run.specs.Outcome.{and_then, file_of};
+ghost use Rattle.guest_process.specs.EventCount.{IsFresh};
+ghost use Rattle.command_run.specs.Inputs.{first_state_of, module_in, spelled_module, valid_module};
+ghost use Rattle.command_run.specs.Call.{CountsFaults, StopsAs, Raises, reads_after, writes_after};
+
+use crate::refusal::{Reason, Refusal};
+use fri_outside::{FileError, Files};
+use guest_process::{Process, counting};
+use std::alloc::Global;
+use wasm_decode::{DecodeError, decode};
+use wasm_step::StartError;
+use wasm_types::{Module, ValidModule};
+use wasm_validate::{Invalid, exact_fault, validate};
+
+const MODULE_LIMIT: usize = 4_194_304;
+
+/// All bytes of a file, within its limit.
+pub fn take_file<F: Files>(
+    alloc: Global,
+    name: &str,
+    limit: usize,
+    files: &mut F,
+) -> Result<Vec<u8>, Refusal>
+    ensures within { IfOk result (λ bytes. vec_len bytes ≤ limit) }
+    ensures answer { WhenTold (F.told files.old) (λ folder. MatchResult result
+        (λ bytes. file_of folder name.now limit ≡ Ok bytes.items) (StopsAs (file_of folder name.now limit))) }
+    ensures same { F.told files.new ≡ F.told files.old }
+    ensures counts { CountsFaults (F.counts files.old) (F.counts files.new) result }
+    ensures cause { IfErr result (Raises (F.counts files.old) (F.counts files.new)) }
+{
+    match files.read(alloc, name, limit) {
+        Ok(bytes) => Ok(bytes),
+        Err(FileError::Absent) => Err(Refusal::absent(alloc, name)),
+        Err(FileError::TooLarge) => Err(Refusal::refuse(alloc, name, Reason::TooLarge)),
+        Err(FileError::Failed) => Err(Refusal::ReadFault),
+        Err(FileError::NoMemory) => Err(Refusal::NoMemory),
+    }
+}
+
+// The module that the bytes of a file spell.
+fn spelled(alloc: Global, name: &str, bytes: &[u8]) -> Result<Module, Refusal>
+    ensures answer { MatchResult result
+        (λ m. spelled_module name.now (module_of_bytes bytes.now) ≡ Ok (shown m))
+        (StopsAs (spelled_module name.now (module_of_bytes bytes.now))) }
+    ensures cause { (old new : Counts) → IfErr result (Raises old new) }
+    ensures still { (n : ℕ) → (reads_after n result ≡ n) × (writes_after n result ≡ n) }
+{
+    match decode(alloc, bytes) {
+        Ok(module) => Ok(module),
+        Err(DecodeError::Malformed) => Err(Refusal::refuse(alloc, name, Reason::Malformed)),
+        Err(DecodeError::NoMemory) => Err(Refusal::NoMemory),
+    }
+}
+
+// The module, where it is valid.
+#[tactic(auto, using(crate::proofs::Faults::no_fault, crate::proofs::Faults::has_float, crate::proofs::Faults::bad_import, crate::proofs::Faults::untyped, crate::proofs::Faults::over_limit, crate::proofs::Faults::no_start))]
+fn valid(alloc: Global, name: &str, module: Module) -> Result<ValidModule, Refusal>
+    ensures answer { MatchResult result
+        (λ v. valid_module name.now (shown «module») ≡ Ok (shown v))
+        (StopsAs (valid_module name.now (shown «module»))) }
+    ensures cause { (old new : Counts) → IfErr result (Raises old new) }
+    ensures still { (n : ℕ) → (reads_after n result ≡ n) × (writes_after n result ≡ n) }
+{
+    exact_fault();
+    match validate(alloc, module) {
+        Ok(valid) => Ok(valid),
+        Err(Invalid::HasFloat) => Err(Refusal::refuse(alloc, name, Reason::HasFloat)),
+        Err(Invalid::BadImport) => Err(Refusal::refuse(alloc, name, Reason::BadImport)),
+        Err(Invalid::Untyped) => Err(Refusal::refuse(alloc, name, Reason::Untyped)),
+        Err(Invalid::OverLimit) => Err(Refusal::refuse(alloc, name, Reason::OverLimit)),
+        Err(Invalid::NoStart) => Err(Refusal::refuse(alloc, name, Reason::NoStart)),
+        Err(Invalid::NoMemory) => Err(Refusal::NoMemory),
+    }
+}
+
+// The valid module that the bytes of a file spell.
+fn read_module(alloc: Global, name: &str, bytes: &[u8]) -> Result<ValidModule, Refusal>
+    ensures answer { MatchResult result
+        (λ v. and_then (spelled_module name.now (module_of_bytes bytes.now)) (valid_module name.now) ≡ Ok (shown v))
+        (StopsAs (and_then (spelled_module name.now (module_of_bytes bytes.now)) (valid_module name.now))) }
+    ensures cause { (old new : Counts) → IfErr result (Raises old new) }
+    ensures still { (n : ℕ) → (reads_after n result ≡ n) × (writes_after n result ≡ n) }
+{
+    let spelled = spelled(alloc, name, bytes)?;
+    valid(alloc, name, spelled)
+}
+
+/// The valid module that a file holds.
+pub fn take_module<F: Files>(
+    alloc: Global,
+    name: &str,
+    files: &mut F,
+) -> Result<ValidModule, Refusal>
+    ensures answer { WhenTold (F.told files.old) (λ folder. MatchResult result
+        (λ m. module_in folder name.now ≡ Ok (shown m)) (StopsAs (module_in folder name.now))) }
+    ensures same { F.told files.new ≡ F.told files.old }
+    ensures counts { CountsFaults (F.counts files.old) (F.counts files.new) result }
+    ensures cause { IfErr result (Raises (F.counts files.old) (F.counts files.new)) }
+{
+    let bytes = take_file(alloc, name, MODULE_LIMIT, files)?;
+    read_module(alloc, name, &bytes)
+}
+
+/// Process `who` of a group of `count`, of the module that the file of this name holds.
+pub fn begin_process<'m>(
+    alloc: Global,
+    name: &str,
+    module: &'m ValidModule,
+    who: u32,
+    count: u32,
+) -> Result<Process<'m>, Refusal>
+    requires who { who < count }
+    requires count { count ≤ 16 }
+    ensures answer { MatchResult result
+        (λ begun. first_state_of name.now (shown «module».now) who count ≡ Ok begun)
+        (StopsAs (first_state_of name.now (shown «module».now) who count)) }
+    ensures fresh { IfOk result (IsFresh who count) }
+    ensures cause { (old new : Counts) → IfErr result (Raises old new) }
+    ensures still { (n : ℕ) → (reads_after n result ≡ n) × (writes_after n result ≡ n) }
+{
+    counting();
+    match Process::start(alloc, module, who, count) {
+        Ok(process) => Ok(process),
+        Err(StartError::BadSegment) => Err(Refusal::refuse(alloc, name, Reason::BadSegment)),
+        Err(StartError::NoMemory) => Err(Refusal::NoMemory),
+    }
+}

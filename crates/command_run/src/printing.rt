@@ -1,0 +1,163 @@
+// Writes the text that a call ends with, and gives its status.
+ghost use Rattle.std.specs.Prelude.{◌≡◌, ◌≢◌, ◌++◌, [], Bool, ℕ, List, Option, Some, Err, IfOk, OnOk};
+ghost use Rattle.fri_outside.specs.Outside.{Counts, Folder};
+ghost use Rattle.command_run.specs.Outcome.{CommandOutcome, NotACommand, absent_line, reason_text, refused_line};
+ghost use Rattle.command_run.specs.Call.{IsAnswerStatus, Prints, FinishesCall, said_after};
+ghost use Rattle.command_run.specs.Run.{CallEnds, Finished, Outside, Performed, outside};
+
+use crate::refusal::{Answer, Reason, Refusal};
+use crate::status::Status;
+use fri_outside::{Sink, WriteError, write_whole};
+use fri_text::Text;
+use std::alloc::{AllocError, Global};
+
+fn push_reason(text: &mut Text, reason: Reason) -> Result<(), AllocError>
+    ensures { OnOk result (text.new ≡ text.old ++ reason_text reason) }
+{
+    match reason {
+        Reason::TooLarge => text.push_str("TooLarge"),
+        Reason::BadLine(line) => {
+            text.push_str("line ")?;
+            text.push_u64(line)?;
+            text.push_str(" BadLine")?;
+            Ok(())
+        }
+        Reason::TooMany => text.push_str("TooMany"),
+        Reason::LogFull(item) => {
+            text.push_str("item ")?;
+            text.push_u64(item)?;
+            text.push_str(" LogFull")?;
+            Ok(())
+        }
+        Reason::Malformed => text.push_str("1 Malformed"),
+        Reason::HasFloat => text.push_str("2 HasFloat"),
+        Reason::BadImport => text.push_str("3 BadImport"),
+        Reason::Untyped => text.push_str("4 Untyped"),
+        Reason::OverLimit => text.push_str("5 OverLimit"),
+        Reason::NoStart => text.push_str("6 NoStart"),
+        Reason::BadSegment => text.push_str("7 BadSegment"),
+        Reason::BadHead => text.push_str("1 BadHead"),
+        Reason::OtherGroup => text.push_str("2 OtherGroup"),
+        Reason::SameProcess => text.push_str("3 SameProcess"),
+        Reason::SameName => text.push_str("4 SameName"),
+    }
+}
+
+fn print_refused(alloc: Global, file: &str, reason: Reason) -> Result<Text, AllocError>
+    ensures { IfOk result (λ text. text ≡ refused_line file.now reason) }
+{
+    let mut text = Text::new(alloc);
+    text.push_str("friday: refused ")?;
+    text.push_str(file)?;
+    text.push_str(": ")?;
+    push_reason(&mut text, reason)?;
+    text.push_str("\n")?;
+    Ok(text)
+}
+
+fn print_absent(alloc: Global, file: &str) -> Result<Text, AllocError>
+    ensures { IfOk result (λ text. text ≡ absent_line file.now) }
+{
+    let mut text = Text::new(alloc);
+    text.push_str("friday: absent ")?;
+    text.push_str(file)?;
+    text.push_str("\n")?;
+    Ok(text)
+}
+
+// Writes a text, and gives the status that the call then has.
+fn say<K: Sink>(out: &mut K, text: &[u8], status: Status) -> Status
+    requires { IsAnswerStatus status }
+    ensures status { IsAnswerStatus result → result ≡ status }
+    ensures text { Prints result text.now (K.taken out.old) (K.taken out.new) }
+    ensures read_fault { result ≢ Status.ReadFault }
+    ensures counted { K.faults out.new ≡ said_after (K.faults out.old) result }
+    ensures heard { K.hearing out.new ≡ K.hearing out.old }
+{
+    match write_whole(out, text) {
+        Ok(()) => status,
+        Err(WriteError::Failed) => Status::WriteFault,
+        Err(WriteError::NoMemory) => Status::NoMemory,
+    }
+}
+
+/// Writes the line that refuses a file.
+pub fn say_refused<K: Sink>(alloc: Global, file: &str, reason: Reason, out: &mut K) -> Status
+    ensures status { IsAnswerStatus result → result ≡ Status.Refused }
+    ensures text { Prints result (refused_line file.now reason) (K.taken out.old) (K.taken out.new) }
+    ensures read_fault { result ≢ Status.ReadFault }
+    ensures counted { K.faults out.new ≡ said_after (K.faults out.old) result }
+    ensures heard { K.hearing out.new ≡ K.hearing out.old }
+{
+    match print_refused(alloc, file, reason) {
+        Ok(line) => say(out, line.bytes(), Status::Refused),
+        Err(_) => Status::NoMemory,
+    }
+}
+
+fn say_absent<K: Sink>(alloc: Global, file: &str, out: &mut K) -> Status
+    ensures status { IsAnswerStatus result → result ≡ Status.Absent }
+    ensures text { Prints result (absent_line file.now) (K.taken out.old) (K.taken out.new) }
+    ensures read_fault { result ≢ Status.ReadFault }
+    ensures counted { K.faults out.new ≡ said_after (K.faults out.old) result }
+    ensures heard { K.hearing out.new ≡ K.hearing out.old }
+{
+    match print_absent(alloc, file) {
+        Ok(line) => say(out, line.bytes(), Status::Absent),
+        Err(_) => Status::NoMemory,
+    }
+}
+
+// Writes what a command's result comes to.
+fn print_end<K: Sink>(alloc: Global, ended: Result<Answer, Refusal>, out: &mut K) -> Status
+    ensures ends { FinishesCall ended result (K.taken out.old) (K.taken out.new) (K.faults out.old) (K.faults out.new) }
+    ensures heard { K.hearing out.new ≡ K.hearing out.old }
+{
+    match ended {
+        Ok(Answer::Done(text)) => say(out, text.bytes(), Status::Done),
+        Ok(Answer::Diverged(text)) => say(out, text.bytes(), Status::Diverged),
+        Err(Refusal::Refused(file, reason)) => say_refused(alloc, &file, reason, out),
+        Err(Refusal::Absent(file)) => say_absent(alloc, &file, out),
+        Err(Refusal::ReadFault) => Status::ReadFault,
+        Err(Refusal::WriteFault) => Status::WriteFault,
+        Err(Refusal::NoMemory) => Status::NoMemory,
+    }
+}
+
+/// Writes what a command's result comes to, and ends the call. What the files were before the command and are behind it,
+/// and how their faults were counted, is what the command says of its result.
+pub fn finish<K: Sink>(alloc: Global, ended: Result<Answer, Refusal>, out: &mut K) -> Status
+    ensures { (expected : Option CommandOutcome) (written : Folder → List (List ℕ)) (may_diverge : Bool) (before after : Option Folder) (counts counts_after : Counts)
+        → Performed expected written may_diverge before after counts counts_after ended
+        → Finished expected written may_diverge ended
+        (outside before counts (K.hearing out.old) (K.taken out.old) (K.faults out.old))
+        (outside after counts_after (K.hearing out.new) (K.taken out.new) (K.faults out.new))
+        result }
+{
+    print_end(alloc, ended, out)
+}
+
+/// Says that the words are no command.
+pub fn refuse_words<K: Sink>(out: &mut K) -> Status
+    ensures ends { (told : Option Folder) (counts : Counts) → CallEnds (Some (Err NotACommand)) (λ folder. [])
+        (outside told counts (K.hearing out.old) (K.taken out.old) (K.faults out.old))
+        (outside told counts (K.hearing out.new) (K.taken out.new) (K.faults out.new))
+        result }
+    ensures status { IsAnswerStatus result → result ≡ Status.Usage }
+    ensures read_fault { result ≢ Status.ReadFault }
+    ensures heard { K.hearing out.new ≡ K.hearing out.old }
+{
+    say(
+        out,
+        b"friday: these words are not a command\n",
+        Status::Usage,
+    )
+}
+
+/// Ends a call for want of memory, before anything was read.
+pub fn give_up() -> Status
+    ensures ends { (expected : Option CommandOutcome) (written : Folder → List (List ℕ)) (o : Outside) → CallEnds expected written o o result }
+    ensures status { result ≡ Status.NoMemory }
+{
+    Status::NoMemory
+}

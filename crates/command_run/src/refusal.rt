@@ -1,0 +1,100 @@
+// What a command comes to, before its text is written.
+ghost use Rattle.std.specs.Prelude.{◌≡◌};
+ghost use Rattle.command_run.specs.declared.refusal.Refusal.TheVariants as refusal;
+ghost use Rattle.command_run.specs.Call.{write_refusal};
+
+use fri_outside::WriteError;
+use fri_text::Text;
+use std::alloc::{AllocError, AllocFailed, Global};
+
+/// Why a file is refused.
+#[derive(Clone, Copy, Debug, PartialEq, Eq)]
+pub enum Reason {
+    TooLarge,
+    BadLine(u64),
+    TooMany,
+    /// The next event of the item with this number, from 1, would carry a log past its limit.
+    LogFull(u64),
+    Malformed,
+    HasFloat,
+    BadImport,
+    Untyped,
+    OverLimit,
+    NoStart,
+    BadSegment,
+    BadHead,
+    /// The log is of a group of another number of processes than the first log.
+    OtherGroup,
+    /// An earlier log is of the same process.
+    SameProcess,
+    /// An earlier log is of a process of the same name.
+    SameName,
+}
+
+/// What a command prints at the end of its work, at which a log may have diverged.
+#[derive(Drop)]
+pub enum Answer {
+    Done(Text),
+    Diverged(Text),
+}
+
+/// Why a command does not come to its end. A file's name is kept, since it may come from another file.
+#[derive(Drop)]
+pub enum Refusal {
+    Refused(String, Reason),
+    Absent(String),
+    ReadFault,
+    WriteFault,
+    NoMemory,
+}
+
+impl Refusal {
+    ghost use Rattle.command_run.specs.Call.{NamesAbsent, RefusesFile};
+
+    /// The refusal of a file, or want of memory for its name.
+    pub fn refuse(alloc: Global, file: &str, reason: Reason) -> Refusal
+        ensures { RefusesFile file.now reason result }
+    {
+        match String::from_str(alloc, file) {
+            Ok(file) => Refusal::Refused(file, reason),
+            Err(_) => Refusal::NoMemory,
+        }
+    }
+
+    /// That a file is absent, or want of memory for its name.
+    pub fn absent(alloc: Global, file: &str) -> Refusal
+        ensures { NamesAbsent file.now result }
+    {
+        match String::from_str(alloc, file) {
+            Ok(file) => Refusal::Absent(file),
+            Err(_) => Refusal::NoMemory,
+        }
+    }
+}
+
+impl From<AllocError> for Refusal {
+    ghost from_gives = { λ _ e. e ≡ refusal.NoMemory };
+
+    fn from(_: AllocError) -> Self {
+        Refusal::NoMemory
+    }
+}
+
+impl<T: Drop> From<AllocFailed<T>> for Refusal {
+    ghost from_gives = { λ _ e. e ≡ refusal.NoMemory };
+
+    fn from(_: AllocFailed<T>) -> Self {
+        Refusal::NoMemory
+    }
+}
+
+impl From<WriteError> for Refusal {
+    ghost from_gives = { λ error e. e ≡ write_refusal error };
+
+    fn from(error: WriteError) -> Self {
+        match error {
+            WriteError::Failed => Refusal::WriteFault,
+            WriteError::NoMemory => Refusal::NoMemory,
+        }
+    }
+}

@@ -1,0 +1,199 @@
+-- What a session has printed where bytes are taken, and what it then comes to.
+use Rattle.std.proofs.Common.{◌≡◌, ℕ, ◌+◌, ◌-◌, ◌≤◌, ◌<◌, Bool, true, false, List, [], ◌∷◌, ◌++◌, length, take, Option, Some, None, refl, sym, ap, ◌∙◌, append_assoc, append-nil, length-append, arith, inl, inr}
+use Rattle.std.specs.Prelude.{◌&&◌, not, nat_lt, if◌then◌else◌, Ok, Err}
+use Rattle.std.specs.List.{list_any}
+use Rattle.std.specs.Io.KnownBytes.{append_known}
+use Rattle.std.proofs.lemmas.Bool.{cases_Bool, ltb-true, ltb-false}
+use Rattle.std.proofs.lemmas.List.{take-append-le, take_all}
+use Rattle.std.proofs.Math.Seq.{take-append-add, take-append_seam, take-length}
+use Rattle.fri_text.specs.Line.{is_line_feed, lines_of}
+use Rattle.proc_replay.specs.Replaying.{Replaying}
+use Rattle.friday_shell.specs.Points.{SessionState}
+use Rattle.friday_shell.specs.Session.{answers, ends, opening, session_text, whole_lines, whole_part}
+use Rattle.command_run.specs.declared.refusal.Reason.TheVariants as reason
+use Rattle.debug_command.specs.Debug.{early_lines, input_name, is_large, session_outcome, spoken}
+use Rattle.debug_command.specs.Limits.{most_input}
+use Rattle.command_run.specs.Outcome.{CommandOutcome, Refuses, outcome_text, refused_line}
+use Rattle.debug_command.specs.Talk.{PrintsPart, Overruns, Quits, SaysPart, SessionStands, state_after_lines}
+use Rattle.debug_command.proofs.WholeLines.{Fronts, FrontsText, after-append, ends-append, has_feed-append, ends_fronts, few_lines-ended, lines_front, session_ended, session_front, session_more, whole_lines-ended, whole_lines-same, whole_lines_front, whole_part-append_none, whole_part-ended}
+
+-- ---- what a sink took
+
+pub append_twice : (known : Option (List ℕ)) (a b : List ℕ) → append_known (append_known known a) b ≡ append_known known (a ++ b)
+append_twice None a b = refl
+append_twice (Some xs) a b = ap Some (append_assoc xs a b)
+
+pub append_none : (known : Option (List ℕ)) → append_known known [] ≡ known
+append_none None = refl
+append_none (Some xs) = ap Some (append-nil xs)
+
+-- so much of a text that is the front of another is so much of the other, or the whole front
+pub take_front : (n : ℕ) (front whole : List ℕ) → FrontsText front whole → (k : ℕ) × (take n front ≡ take k whole)
+take_front n front whole f =
+    elim (cases_Bool (nat_lt (length front) n)) [
+      | inl past ↦ (length front, take_all n front (omega (arith, ltb-true)) ∙ sym (ap (take (length front)) f.1 ∙ take-append_seam front f.0))
+      | inr within ↦ (n, sym (ap (take n) f.1 ∙ take-append-le n front f.0 (omega (arith, ltb-false))))
+    ]
+
+-- ---- the limit, as a variable
+
+abbrev pub is_large_at : ℕ → List Replaying → List ℕ → Bool
+is_large_at m start input = nat_lt m (length input) && not (ends (opening start) (whole_lines (take m input)))
+
+abbrev pub outcome_at : ℕ → List Replaying → List ℕ → CommandOutcome
+outcome_at m start input =
+    if is_large_at m start input then Err (Refuses input_name reason.TooLarge (spoken (session_text start (whole_lines (take m input)))))
+    else Ok (spoken (session_text start (lines_of input)))
+
+take_past : (m : ℕ) (got rest : List ℕ) → length got ≤ m → take m (got ++ rest) ≡ got ++ take (m - length got) rest
+take_past m got rest within =
+    let e : length got + (m - length got) ≡ m = omega arith in
+    ap (λ (k : ℕ). take k (got ++ rest)) (sym e) ∙ take-append-add got rest (m - length got)
+
+-- the lines that end within the limit begin with these
+early_front : (m : ℕ) (got rest : List ℕ) → length got ≤ m → Fronts (whole_lines got) (whole_lines (take m (got ++ rest)))
+early_front m got rest within =
+    let f = whole_lines_front got (take (m - length got) rest) in
+    (f.0, ap whole_lines (take_past m got rest within) ∙ f.1)
+
+pub fits_ended : (m : ℕ) (start : List Replaying) (got rest : List ℕ) → length got ≤ m → ends (opening start) (whole_lines got) ≡ true → is_large_at m start (got ++ rest) ≡ false
+fits_ended m start got rest within ended =
+    let e = ends_fronts start (whole_lines got) (whole_lines (take m (got ++ rest))) (early_front m got rest within) ended in
+    rw e (grind (arith))
+
+pub fits_short : (m : ℕ) (start : List Replaying) (input : List ℕ) → length input ≤ m → is_large_at m start input ≡ false
+fits_short m start input within =
+    let e : nat_lt m (length input) ≡ false = grind (arith) in
+    rw e refl
+
+pub large_past : (m : ℕ) (start : List Replaying) (got more : List ℕ) → length got ≡ m → 0 < length more → ends (opening start) (whole_lines got) ≡ false → is_large_at m start (got ++ more) ≡ true
+large_past m start got more at some on =
+    let e : take m (got ++ more) ≡ got = ap (λ (k : ℕ). take k (got ++ more)) (sym at) ∙ take-append_seam got more in
+    let longer : nat_lt m (length (got ++ more)) ≡ true = rw length-append (grind (arith)) in
+    rw (longer, e, on) refl
+
+pub early_at : (m : ℕ) (got more : List ℕ) → length got ≡ m → whole_lines (take m (got ++ more)) ≡ whole_lines got
+early_at m got more at = ap whole_lines (ap (λ (k : ℕ). take k (got ++ more)) (sym at) ∙ take-append_seam got more)
+
+-- what is said to the whole lines within the limit is a front of all that is printed
+pub outcome_front : (m : ℕ) (start : List Replaying) (got rest : List ℕ) → length got ≤ m → FrontsText (session_text start (whole_lines got)) (outcome_text (outcome_at m start (got ++ rest)))
+outcome_front m start got rest within =
+    elim (cases_Bool (is_large_at m start (got ++ rest))) [
+      | inl large ↦ (let f = session_front start (whole_lines got) (whole_lines (take m (got ++ rest))) (early_front m got rest within) in
+          let refusal : List ℕ = refused_line input_name reason.TooLarge in (
+            f.0 ++ refusal,
+            ap (λ (b : Bool). outcome_text (if b then Err (Refuses input_name reason.TooLarge (spoken (session_text start (whole_lines (take m (got ++ rest)))))) else Ok (spoken (session_text start (lines_of (got ++ rest)))))) large
+                ∙ ap (λ (l : List ℕ). l ++ refusal) f.1 ∙ append_assoc (session_text start (whole_lines got)) f.0 refusal,
+          ))
+      | inr fits ↦ (let f = session_front start (whole_lines got) (lines_of (got ++ rest)) (lines_front got rest) in
+          (f.0, ap (λ (b : Bool). outcome_text (if b then Err (Refuses input_name reason.TooLarge (spoken (session_text start (whole_lines (take m (got ++ rest)))))) else Ok (spoken (session_text start (lines_of (got ++ rest)))))) fits ∙ f.1))
+    ]
+
+-- ---- a part of what is to be printed
+
+pub part_of : (start : List Replaying) (printed now : Option (List ℕ)) (got : List ℕ) (n : ℕ) → length got ≤ most_input → now ≡ append_known printed (take n (session_text start (whole_lines got))) → SaysPart start printed now got
+part_of start printed now got n within e = λ rest.
+    let f = take_front n (session_text start (whole_lines got)) (outcome_text (session_outcome start (got ++ rest))) (outcome_front most_input start got rest within) in
+    (f.0, e ∙ ap (append_known printed) f.1)
+
+-- the same where more bytes were taken
+pub part_more : (start : List Replaying) (printed now : Option (List ℕ)) (got more : List ℕ) → SaysPart start printed now got → SaysPart start printed now (got ++ more)
+part_more start printed now got more part = λ rest.
+    let p = part (more ++ rest) in
+    (p.0, p.1 ∙ ap (λ (l : List ℕ). append_known printed (take p.0 (outcome_text (session_outcome start l)))) (sym (append_assoc got more rest)))
+
+pub quits_more : (start : List Replaying) (printed now : Option (List ℕ)) (got more : List ℕ) → Quits start printed now got → Quits start printed now (got ++ more)
+quits_more start printed now got more q = record {
+  ended = ends_fronts start (whole_lines got) (whole_lines (got ++ more)) (whole_lines_front got more) q.ended;
+  fits = λ rest. ap (is_large start) (append_assoc got more rest) ∙ q.fits (more ++ rest);
+  text = λ rest. q.text (more ++ rest) ∙ ap (λ (l : List ℕ). append_known printed (session_text start (lines_of l))) (sym (append_assoc got more rest));
+}
+
+pub overruns_more : (start : List Replaying) (printed now : Option (List ℕ)) (got more : List ℕ) → Overruns start printed now got → Overruns start printed now (got ++ more)
+overruns_more start printed now got more o = record {
+  large = λ rest. ap (is_large start) (append_assoc got more rest) ∙ o.large (more ++ rest);
+  text = λ rest. o.text (more ++ rest) ∙ ap (λ (l : List ℕ). append_known printed (session_text start (early_lines l))) (sym (append_assoc got more rest));
+}
+
+-- ---- a byte is taken
+
+module _ (start : List Replaying) (printed now : Option (List ℕ)) (state : SessionState) (begun : List ℕ) (count : ℕ) (taken : List ℕ) (s : SessionStands start printed now state begun count taken) (b : ℕ) where
+  -- a byte that ends no line
+  pub stands_other : is_line_feed b ≡ false → count < most_input → SessionStands start printed now state (begun ++ b ∷ []) (count + 1) (taken ++ b ∷ [])
+  stands_other other room =
+      let none : list_any is_line_feed (b ∷ []) ≡ false = rw other refl in
+      let part = whole_part-append_none taken (b ∷ []) none in
+      let lines = whole_lines-same taken (b ∷ []) none in
+      record {
+        whole = ap (λ (l : List ℕ). l ++ b ∷ []) s.whole ∙ append_assoc (whole_part taken) begun (b ∷ []) ∙ ap (λ (l : List ℕ). l ++ (begun ++ b ∷ [])) (sym part);
+        open_line = has_feed-append begun (b ∷ []) ∙ (rw (s.open_line, other) refl);
+        state_is = s.state_is ∙ ap (state_after_lines (opening start)) (sym lines);
+        goes_on = ap (ends (opening start)) lines ∙ s.goes_on;
+        text = s.text ∙ ap (λ (l : List (List ℕ)). append_known printed (session_text start l)) (sym lines);
+        count_is = rw length-append (ap (λ (n : ℕ). n + 1) s.count_is);
+        within = omega (arith, room);
+      }
+
+  -- the line that a line feed ends
+  module _ (new : Option (List ℕ)) (feed : is_line_feed b ≡ true) (room : count < most_input) where
+    lines : whole_lines (taken ++ b ∷ []) ≡ whole_lines taken ++ take 1 (lines_of (begun ++ b ∷ []))
+    lines = whole_lines-ended taken begun b s.whole feed ∙ ap (λ (l : List (List ℕ)). whole_lines taken ++ l) (sym (few_lines-ended begun b s.open_line feed))
+
+    fits : length (taken ++ b ∷ []) ≤ most_input
+    fits = rw length-append (omega (arith, room, s.count_is))
+
+    ends_is : ends (opening start) (whole_lines (taken ++ b ∷ [])) ≡ ends state (take 1 (lines_of (begun ++ b ∷ [])))
+    ends_is = ap (ends (opening start)) lines ∙ ends-append (opening start) (whole_lines taken) (take 1 (lines_of (begun ++ b ∷ []))) s.goes_on
+        ∙ ap (λ (p : SessionState). ends p (take 1 (lines_of (begun ++ b ∷ [])))) (sym s.state_is)
+
+    text_is : session_text start (whole_lines (taken ++ b ∷ [])) ≡ session_text start (whole_lines taken) ++ answers state (take 1 (lines_of (begun ++ b ∷ [])))
+    text_is = ap (session_text start) lines ∙ session_more start (whole_lines taken) (take 1 (lines_of (begun ++ b ∷ []))) s.goes_on
+        ∙ ap (λ (p : SessionState). session_text start (whole_lines taken) ++ answers p (take 1 (lines_of (begun ++ b ∷ [])))) (sym s.state_is)
+
+    printed_is : new ≡ append_known now (answers state (take 1 (lines_of (begun ++ b ∷ [])))) → new ≡ append_known printed (session_text start (whole_lines (taken ++ b ∷ [])))
+    printed_is e = e ∙ ap (λ (k : Option (List ℕ)). append_known k (answers state (take 1 (lines_of (begun ++ b ∷ []))))) s.text
+        ∙ append_twice printed (session_text start (whole_lines taken)) (answers state (take 1 (lines_of (begun ++ b ∷ []))))
+        ∙ ap (append_known printed) (sym text_is)
+
+    pub stands_ended : (next : SessionState) → new ≡ append_known now (answers state (take 1 (lines_of (begun ++ b ∷ [])))) → ends state (take 1 (lines_of (begun ++ b ∷ []))) ≡ false → next ≡ state_after_lines state (take 1 (lines_of (begun ++ b ∷ []))) → SessionStands start printed new next [] (count + 1) (taken ++ b ∷ [])
+    stands_ended next e on there = record {
+      whole = sym (append-nil _ ∙ whole_part-ended taken b feed);
+      open_line = refl;
+      state_is = there ∙ ap (λ (p : SessionState). state_after_lines p (take 1 (lines_of (begun ++ b ∷ [])))) s.state_is
+          ∙ sym (after-append (opening start) (whole_lines taken) (take 1 (lines_of (begun ++ b ∷ [])))) ∙ ap (state_after_lines (opening start)) (sym lines);
+      goes_on = ends_is ∙ on;
+      text = printed_is e;
+      count_is = rw length-append (ap (λ (n : ℕ). n + 1) s.count_is);
+      within = omega (arith, room);
+    }
+
+    pub quits_ended : new ≡ append_known now (answers state (take 1 (lines_of (begun ++ b ∷ [])))) → ends state (take 1 (lines_of (begun ++ b ∷ []))) ≡ true → Quits start printed new (taken ++ b ∷ [])
+    quits_ended e ended =
+        let over = ends_is ∙ ended in
+        record {
+          ended = over;
+          fits = λ rest. fits_ended most_input start (taken ++ b ∷ []) rest fits over;
+          text = λ rest. printed_is e ∙ ap (append_known printed) (sym (session_ended start (whole_lines (taken ++ b ∷ [])) (lines_of ((taken ++ b ∷ []) ++ rest)) (lines_front (taken ++ b ∷ []) rest) over));
+        }
+
+    pub part_ended : PrintsPart state (take 1 (lines_of (begun ++ b ∷ []))) now new → SaysPart start printed new (taken ++ b ∷ [])
+    part_ended p =
+        let said = session_text start (whole_lines taken) in
+        let told = answers state (take 1 (lines_of (begun ++ b ∷ []))) in
+        part_of start printed new (taken ++ b ∷ []) (length said + p.0) fits
+        (p.1 ∙ ap (λ (k : Option (List ℕ)). append_known k (take p.0 told)) s.text
+        ∙ append_twice printed said (take p.0 told)
+        ∙ ap (append_known printed) (sym (take-append-add said told p.0) ∙ ap (take (length said + p.0)) (sym text_is)))
+
+  -- nothing more was printed
+  pub part_kept : SaysPart start printed now (taken ++ b ∷ [])
+  part_kept = part_more start printed now taken (b ∷ []) (part_of start printed now taken (length (session_text start (whole_lines taken))) (omega (arith, s.count_is, s.within))
+      (s.text ∙ ap (append_known printed) (sym (take-length (session_text start (whole_lines taken))))))
+
+  pub overruns : most_input ≤ count → Overruns start printed now (taken ++ b ∷ [])
+  overruns full =
+      let at : length taken ≡ most_input = omega (arith, s.count_is, s.within) in
+      record {
+        large = λ rest. ap (is_large start) (append_assoc taken (b ∷ []) rest) ∙ large_past most_input start taken (b ∷ rest) at (omega arith) s.goes_on;
+        text = λ rest. s.text ∙ ap (λ (l : List (List ℕ)). append_known printed (session_text start l)) (sym (ap early_lines (append_assoc taken (b ∷ []) rest) ∙ early_at most_input taken (b ∷ rest) at));
+      }

@@ -1,0 +1,24 @@
+use Rattle.std.proofs.Common.{◌∙◌, ℕ, ap, sym}
+use Rattle.std.proofs.lemmas.Result.{err_from_is_err_and}
+use Rattle.fri_outside.specs.Terminal.{Hearing}
+use Rattle.debug_command.specs.Talk.{why_of}
+use Rattle.debug_command.proofs.Listening.{held, held_unopened, none_counted, opens_read}
+use Rattle.debug_command.proofs.converse.hold.Goals as goal
+
+pub returns-in_err-talk-clause-said : goal.returns-in_err-talk-clause-said
+returns-in_err-talk-clause-said g c =
+    let p = err_from_is_err_and c.from_residual.result c.from_residual.ensures.1 in
+    rw (p.1, p.2) (held_unopened c.args.parts.items (g.T.Sink.taken c.args.io.now) (g.T.Sink.taken c.begin.new.out) (g.T.Sink.hearing c.args.io.now) (g.T.Sink.hearing c.begin.new.out) c.in_err-talk.field-0.0 c.begin.ensures.heard c.in_err-talk.ensures.said)
+
+pub returns-in_err-talk-clause-reads : goal.returns-in_err-talk-clause-reads
+returns-in_err-talk-clause-reads g c =
+    let why = c.in_err-talk.field-0.0 in
+    let p = err_from_is_err_and c.from_residual.result c.from_residual.ensures.1 in
+    rw (p.1, p.2) (ap (λ (h : Hearing). h.faults) c.begin.ensures.heard
+    ∙ sym (none_counted ℕ (g.T.Sink.hearing c.args.io.now).faults why (λ is. opens_read c.args.parts.items (g.T.Sink.taken c.args.io.now) (g.T.Sink.taken c.begin.new.out) why c.in_err-talk.ensures.said is)))
+
+pub returns-clause-said : goal.returns-clause-said
+returns-clause-said g c =
+    let talk = c.in_ok-talk.talk in
+    held c.args.parts.items (g.T.Sink.taken c.args.io.now) (g.T.Sink.taken c.begin.new.out) (g.T.Sink.taken c.listen.new.io) talk.session talk.begun.items talk.count
+    (g.T.Sink.hearing c.args.io.now) (g.T.Sink.hearing c.begin.new.out) (g.T.Sink.hearing c.listen.new.io) (why_of c.listen.result) c.begin.ensures.heard c.in_ok-talk.ensures.said c.listen.ensures.said

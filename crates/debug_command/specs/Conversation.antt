@@ -1,0 +1,124 @@
+-- What is said of the input of a session, and of what is answered before more of it is asked for.
+use Rattle.std.specs.Prelude.{◌≡◌, ◌≢◌, ◌⊎◌, ◌≤◌, ℕ, ◌+◌, List, [], ◌∷◌, ◌++◌, length, Option, Some, true, false}
+use Rattle.std.specs.Io.KnownBytes.{append_known}
+use Rattle.fri_outside.specs.Outside.{Folder, WhenTold, raised}
+use Rattle.fri_outside.specs.Terminal.{Asking, Hearing, given_in}
+use Rattle.proc_replay.specs.Replaying.{Replaying}
+use Rattle.friday_shell.specs.Session.{ends, opening, session_text, whole_lines}
+use Rattle.command_run.specs.declared.refusal.Reason.TheVariants as reason
+use Rattle.command_run.specs.declared.status.Status.{Status}
+use Rattle.command_run.specs.declared.status.Status.TheVariants as status
+use Rattle.command_run.specs.Call.{IsAnswerStatus, Prints, said_after}
+use Rattle.log_pairs.specs.Pairs.{Pair}
+use Rattle.debug_command.specs.Debug.{input_name, is_large, session_outcome}
+use Rattle.debug_command.specs.Limits.{most_input}
+use Rattle.command_run.specs.Outcome.{outcome_status, outcome_text, refused_line}
+use Rattle.log_pairs.specs.Pairs.{WasOpened}
+
+-- ---- what was taken of an input
+
+-- of an input that told these bytes, these ones were taken, and the others are left
+pub record TakesOfInput (input : List ℕ) (after : Option (List ℕ)) (taken : List ℕ) : Type 0 where
+  pub rest : List ℕ
+  pub left : after ≡ Some rest
+  pub whole : input ≡ taken ++ rest
+
+-- the last piece was asked for only where no whole line before it ends the session, and no byte past the next one
+-- behind the limit
+pub record Asks (start : List Replaying) (taken : List ℕ) : Type 0 where
+  pub earlier : List ℕ
+  pub piece : List ℕ
+  pub parts : taken ≡ earlier ++ piece
+  pub short : length piece ≤ 4096
+  pub within : length taken ≤ most_input + 1
+  pub goes_on : ends (opening start) (whole_lines earlier) ≡ false
+
+-- a session asked for no more than it needed, and was done at the end of the input, or at a whole line that ends it
+pub record HasRead (start : List Replaying) (input : List ℕ) (after : Option (List ℕ)) (answer : Status) : Type 0 where
+  pub taken : List ℕ
+  pub is_taken : TakesOfInput input after taken
+  pub asks : Asks start taken
+  pub at_end : answer ≡ status.Done → (input ≡ taken) ⊎ (ends (opening start) (whole_lines taken) ≡ true)
+
+-- all whole lines that were taken are answered, and none of them ends the session
+pub record HasAnswered (start : List Replaying) (input : List ℕ) (after printed printed_after : Option (List ℕ)) : Type 0 where
+  pub taken : List ℕ
+  pub is_taken : TakesOfInput input after taken
+  pub text : printed_after ≡ append_known printed (session_text start (whole_lines taken))
+  pub goes_on : ends (opening start) (whole_lines taken) ≡ false
+
+-- ---- in which order
+
+-- when more was asked for all whole lines that had been typed were answered, and none of them ends the session. No more
+-- than this came
+pub record IsInTurn (start : List Replaying) (printed : Option (List ℕ)) (typed : List ℕ) (asking : Asking) : Type 0 where
+  pub answered : asking.said ≡ append_known printed (session_text start (whole_lines typed))
+  pub goes_on : ends (opening start) (whole_lines typed) ≡ false
+  pub short : length asking.given ≤ 4096
+
+-- so it was each time, where this had been typed before the first
+abbrev pub AreInTurn : List Replaying → Option (List ℕ) → List ℕ → List Asking → Type 0
+AreInTurn start printed typed [] = Unit {0}
+AreInTurn start printed typed (asking ∷ later) = IsInTurn start printed typed asking × AreInTurn start printed (typed ++ asking.given) later
+
+-- of a terminal that tells when it was read, each time of this session is one in turn, and what came is what was taken
+-- of the input
+pub record TakesTurns (start : List Replaying) (before after : Hearing) (printed : Option (List ℕ)) (earlier : List Asking) : Type 0 where
+  pub askings : List Asking
+  pub noted : after.asked ≡ Some (earlier ++ askings)
+  pub in_turn : AreInTurn start printed [] askings
+  pub taken : WhenTold before.left (λ input. TakesOfInput input after.left (given_in askings))
+
+-- ---- what a session says, which begins over these replays
+
+-- a sink took the line that says of the input that it is too large
+abbrev pub SaysLarge : Option (List ℕ) → Option (List ℕ) → Type 0
+SaysLarge printed printed_after = (earlier : List ℕ) × (printed_after ≡ append_known printed (earlier ++ refused_line input_name reason.TooLarge))
+
+-- statuses with which a session never ends
+abbrev pub IsNone : Status → Type 0
+IsNone status.Diverged = Unit {0}
+IsNone status.Usage = Unit {0}
+IsNone status.Absent = Unit {0}
+IsNone answer = ⊥
+
+-- how many reads of an input failed by a session that ended so: one, exactly where it ended for that
+abbrev pub heard_after : ℕ → Status → ℕ
+heard_after count status.ReadFault = raised count
+heard_after count answer = count
+
+-- a session read an input, answered it, and ended with this status
+pub record Converses (start : List Replaying) (before after : Hearing) (printed printed_after : Option (List ℕ))
+    (out_faults out_faults_after : ℕ) (answer : Status) : Type 0 where
+  pub ended : WhenTold before.left (λ input. IsAnswerStatus answer → answer ≡ outcome_status (session_outcome start input))
+  pub text : WhenTold before.left (λ input. Prints answer (outcome_text (session_outcome start input)) printed printed_after)
+  pub input : WhenTold before.left (λ input. HasRead start input after.left answer)
+  pub turns : WhenTold before.asked (TakesTurns start before after printed)
+  pub answered : answer ≡ status.ReadFault → WhenTold before.left (λ input. HasAnswered start input after.left printed printed_after)
+  pub other : IsNone answer → ⊥
+  pub refused : answer ≡ status.Refused → SaysLarge printed printed_after
+  pub reads : after.faults ≡ heard_after before.faults answer
+  pub writes : out_faults_after ≡ said_after out_faults answer
+
+-- ---- what `debug` says of the input
+
+-- a session read an input, by turns with what it printed. It began over the replays of these pairs
+pub record ReadsOpened (pairs : List Pair) (told : Option Folder) (before after : Hearing) (printed : Option (List ℕ)) (answer : Status) : Type 0 where
+  pub start : List Replaying
+  pub opened : WasOpened pairs told start
+  pub read : WhenTold before.left (λ input. HasRead start input after.left answer)
+  pub turns : WhenTold before.asked (TakesTurns start before after printed)
+
+-- only a session reads the input, and without one `debug` is not done
+abbrev pub TakesInput : List Pair → Option Folder → Hearing → Hearing → Option (List ℕ) → Status → Type 0
+TakesInput pairs told before after printed answer = ((after ≡ before) × (answer ≢ status.Done)) ⊎ ReadsOpened pairs told before after printed answer
+
+-- a session over these pairs had begun, and all that was taken was answered
+abbrev pub HadAnswered : List Pair → Option Folder → Option (List ℕ) → Option (List ℕ) → Option (List ℕ) → Option (List ℕ) → Type 0
+HadAnswered pairs told left after printed printed_after =
+    (start : List Replaying) × (WasOpened pairs told start × WhenTold left (λ input. HasAnswered start input after printed printed_after))
+
+-- this file is the input, and it is too large for a session over these pairs
+abbrev pub IsTooLarge : List Pair → Option Folder → Option (List ℕ) → List ℕ → Type 0
+IsTooLarge pairs told left file =
+    (file ≡ input_name) × ((start : List Replaying) × (WasOpened pairs told start × WhenTold left (λ input. is_large start input ≡ true)))

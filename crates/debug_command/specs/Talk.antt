@@ -1,0 +1,226 @@
+-- How a session stands between the bytes that it takes, and how it stops.
+use Rattle.std.specs.Prelude.{◌≡◌, ◌⊎◌, ◌≤◌, ℕ, ◌+◌, Bool, true, false, List, [], ◌∷◌, ◌++◌, length, take, ⊤, Option, Some, Result, Ok, Err}
+use Rattle.std.specs.List.{list_any}
+use Rattle.std.specs.Io.KnownBytes.{append_known}
+use Rattle.fri_outside.specs.Outside.{WhenTold, raised}
+use Rattle.fri_outside.specs.Terminal.{Asking, Hearing, given_in, with_asking}
+use Rattle.fri_outside.specs.declared.files.WriteError.{WriteError}
+use Rattle.fri_outside.specs.declared.files.WriteError.TheVariants as writing
+use Rattle.fri_text.specs.Line.{is_line_feed, lines_of}
+use Rattle.proc_replay.specs.Replaying.{Replaying}
+use Rattle.friday_shell.specs.Answer.{answer}
+use Rattle.friday_shell.specs.Points.{SessionState}
+use Rattle.friday_shell.specs.Session.{answers, ends, opening, session_text, whole_lines, whole_part}
+use Rattle.debug_command.specs.declared.converse.Ended.{Ended}
+use Rattle.debug_command.specs.declared.converse.Ended.TheVariants as cause
+use Rattle.debug_command.specs.Conversation.{AreInTurn, Asks, TakesOfInput}
+use Rattle.debug_command.specs.Debug.{early_lines, is_large, session_outcome}
+use Rattle.debug_command.specs.Limits.{most_input}
+use Rattle.command_run.specs.Outcome.{outcome_text}
+
+-- how many writes failed once a session, or a part of one, came to this
+abbrev pub spoken_after : {T : Type 0} → ℕ → Result T Ended → ℕ
+spoken_after count (Err cause.WriteFault) = raised count
+spoken_after count result = count
+
+-- how many reads of the input failed, alike
+abbrev pub listened_after : {T : Type 0} → ℕ → Result T Ended → ℕ
+listened_after count (Err cause.ReadFault) = raised count
+listened_after count result = count
+
+-- how a failed write ends a session
+abbrev pub ended_by : WriteError → Ended
+ended_by writing.Failed = cause.WriteFault
+ended_by writing.NoMemory = cause.NoMemory
+
+-- a session that did not begin failed to print, or ran out of memory
+abbrev pub FailsAtOpening : Ended → Type 0
+FailsAtOpening cause.Done = ⊥
+FailsAtOpening cause.TooLarge = ⊥
+FailsAtOpening cause.ReadFault = ⊥
+FailsAtOpening cause.WriteFault = Unit {0}
+FailsAtOpening cause.NoMemory = Unit {0}
+
+-- where a session stands after these lines
+abbrev pub state_after_lines : SessionState → List (List ℕ) → SessionState
+state_after_lines state [] = state
+state_after_lines state (line ∷ lines) = state_after_lines (answer state line).state lines
+
+-- some of the front of these lines' answers was printed
+abbrev pub PrintsPart : SessionState → List (List ℕ) → Option (List ℕ) → Option (List ℕ) → Type 0
+PrintsPart state lines printed printed_after = (n : ℕ) × (printed_after ≡ append_known printed (take n (answers state lines)))
+
+-- a session was told these lines: it goes on, or ends, or could not say all
+abbrev pub Spoke : SessionState → List (List ℕ) → Option (List ℕ) → Option (List ℕ) → Result SessionState Ended → Type 0
+Spoke state lines printed printed_after (Ok new) =
+    (printed_after ≡ append_known printed (answers state lines)) × ((ends state lines ≡ false) × (new ≡ state_after_lines state lines))
+Spoke state lines printed printed_after (Err cause.Done) = (printed_after ≡ append_known printed (answers state lines)) × (ends state lines ≡ true)
+Spoke state lines printed printed_after (Err cause.TooLarge) = ⊥
+Spoke state lines printed printed_after (Err cause.ReadFault) = ⊥
+Spoke state lines printed printed_after (Err cause.WriteFault) = PrintsPart state lines printed printed_after
+Spoke state lines printed printed_after (Err cause.NoMemory) = PrintsPart state lines printed printed_after
+
+-- a session over these replays took these bytes, and answered each whole line of them; none of them ends it
+pub record SessionStands (start : List Replaying) (printed now : Option (List ℕ)) (state : SessionState)
+    (begun : List ℕ) (count : ℕ) (taken : List ℕ) : Type 0 where
+  pub whole : taken ≡ whole_part taken ++ begun
+  pub open_line : list_any is_line_feed begun ≡ false
+  pub state_is : state ≡ state_after_lines (opening start) (whole_lines taken)
+  pub goes_on : ends (opening start) (whole_lines taken) ≡ false
+  pub text : now ≡ append_known printed (session_text start (whole_lines taken))
+  pub count_is : count ≡ length taken
+  pub within : count ≤ most_input
+
+-- some of the front of what is to be printed was printed, whatever comes behind the bytes that were taken
+abbrev pub SaysPart : List Replaying → Option (List ℕ) → Option (List ℕ) → List ℕ → Type 0
+SaysPart start printed now taken = (rest : List ℕ) → (n : ℕ) × (now ≡ append_known printed (take n (outcome_text (session_outcome start (taken ++ rest)))))
+
+-- a line ended the session, whatever comes behind it
+pub record Quits (start : List Replaying) (printed now : Option (List ℕ)) (taken : List ℕ) : Type 0 where
+  pub ended : ends (opening start) (whole_lines taken) ≡ true
+  pub fits : (rest : List ℕ) → is_large start (taken ++ rest) ≡ false
+  pub text : (rest : List ℕ) → now ≡ append_known printed (session_text start (lines_of (taken ++ rest)))
+
+-- there are too many bytes, and all lines before the limit are answered
+pub record Overruns (start : List Replaying) (printed now : Option (List ℕ)) (taken : List ℕ) : Type 0 where
+  pub large : (rest : List ℕ) → is_large start (taken ++ rest) ≡ true
+  pub text : (rest : List ℕ) → now ≡ append_known printed (session_text start (early_lines (taken ++ rest)))
+
+-- why a session stopped in these bytes
+abbrev pub Stops : List Replaying → Option (List ℕ) → Option (List ℕ) → List ℕ → Ended → Type 0
+Stops start printed now taken cause.Done = Quits start printed now taken
+Stops start printed now taken cause.TooLarge = Overruns start printed now taken
+Stops start printed now taken cause.ReadFault = ⊥
+Stops start printed now taken cause.WriteFault = SaysPart start printed now taken
+Stops start printed now taken cause.NoMemory = SaysPart start printed now taken
+
+-- from where a session stood on, it stands so after more bytes
+unfoldable pub GoesOn : List ℕ → Option (List ℕ) → Option (List ℕ) → SessionState → List ℕ → ℕ → SessionState → List ℕ → ℕ → Type 0
+GoesOn bytes before now state begun count new new_begun new_count =
+    (start : List Replaying) (printed : Option (List ℕ)) (taken : List ℕ)
+    → SessionStands start printed before state begun count taken → SessionStands start printed now new new_begun new_count (taken ++ bytes)
+
+-- no read failed
+abbrev pub ReadsOn : Ended → Type 0
+ReadsOn cause.Done = Unit {0}
+ReadsOn cause.TooLarge = Unit {0}
+ReadsOn cause.ReadFault = ⊥
+ReadsOn cause.WriteFault = Unit {0}
+ReadsOn cause.NoMemory = Unit {0}
+
+-- from where a session stood on, it stopped in these bytes
+unfoldable pub StopsIn : List ℕ → Option (List ℕ) → Option (List ℕ) → SessionState → List ℕ → ℕ → Ended → Type 0
+StopsIn bytes before now state begun count why =
+    ReadsOn why × ((start : List Replaying) (printed : Option (List ℕ)) (taken : List ℕ)
+    → SessionStands start printed before state begun count taken → Stops start printed now (taken ++ bytes) why)
+
+-- ---- a piece of the input
+
+-- a piece was read and taken, or there was none left. What had been printed before was noted with it
+pub record Hears (start : List Replaying) (printed before now : Option (List ℕ)) (state : SessionState) (begun : List ℕ) (count : ℕ)
+    (taken : List ℕ) (old new : Hearing) (more : Bool) (size : ℕ) : Type 0 where
+  pub piece : List ℕ
+  pub short : length piece ≤ size
+  pub stands : SessionStands start printed now state begun count (taken ++ piece)
+  pub read : WhenTold old.left (λ input. TakesOfInput input new.left piece)
+  pub noted : new.asked ≡ with_asking before piece old.asked
+  pub at_end : more ≡ false → (piece ≡ []) × WhenTold old.left (λ input. input ≡ [])
+
+-- all whole lines of these bytes are answered
+pub record Pauses (start : List Replaying) (printed now : Option (List ℕ)) (taken : List ℕ) : Type 0 where
+  pub text : now ≡ append_known printed (session_text start (whole_lines taken))
+  pub goes_on : ends (opening start) (whole_lines taken) ≡ false
+  pub within : length taken ≤ most_input
+
+-- why a session stopped at a piece
+abbrev pub StopsAtPiece : List Replaying → Option (List ℕ) → Option (List ℕ) → List ℕ → Ended → Type 0
+StopsAtPiece start printed now taken cause.Done = Quits start printed now taken
+StopsAtPiece start printed now taken cause.TooLarge = Overruns start printed now taken
+StopsAtPiece start printed now taken cause.ReadFault = Pauses start printed now taken
+StopsAtPiece start printed now taken cause.WriteFault = SaysPart start printed now taken
+StopsAtPiece start printed now taken cause.NoMemory = SaysPart start printed now taken
+
+-- this piece came and was noted, or none came
+abbrev pub NotesPiece : Option (List ℕ) → List ℕ → Option (List Asking) → Option (List Asking) → Type 0
+NotesPiece before piece asked asked_after = (asked_after ≡ with_asking before piece asked) ⊎ ((piece ≡ []) × (asked_after ≡ asked))
+
+-- no piece was read, or the session stopped in it
+pub record Breaks (start : List Replaying) (printed before now : Option (List ℕ)) (taken : List ℕ) (old new : Hearing) (size : ℕ) (why : Ended) : Type 0 where
+  pub piece : List ℕ
+  pub short : length piece ≤ size
+  pub read : WhenTold old.left (λ input. TakesOfInput input new.left piece)
+  pub noted : NotesPiece before piece old.asked new.asked
+  pub stops : StopsAtPiece start printed now (taken ++ piece) why
+
+-- from where a session stood on, it hears so
+unfoldable pub HearsFrom : Option (List ℕ) → Option (List ℕ) → SessionState → List ℕ → ℕ
+    → SessionState → List ℕ → ℕ → Hearing → Hearing → Bool → ℕ → Type 0
+HearsFrom before now state begun count state_after begun_after count_after old new more size =
+    (start : List Replaying) (printed : Option (List ℕ)) (taken : List ℕ)
+    → SessionStands start printed before state begun count taken → Hears start printed before now state_after begun_after count_after taken old new more size
+
+-- from where a session stood on, it breaks so
+unfoldable pub BreaksFrom : Option (List ℕ) → Option (List ℕ) → SessionState → List ℕ → ℕ → Hearing → Hearing → ℕ → Ended → Type 0
+BreaksFrom before now state begun count old new size why =
+    (start : List Replaying) (printed : Option (List ℕ)) (taken : List ℕ)
+    → SessionStands start printed before state begun count taken → Breaks start printed before now taken old new size why
+
+-- ---- the whole session
+
+-- why a session is over, where nothing went wrong at its end
+abbrev pub why_of : Result ⊤ Ended → Ended
+why_of (Ok _) = cause.Done
+why_of (Err why) = why
+
+-- a session is done: it printed the whole text, at the end of the input or behind a line that ends it
+pub record Concludes (start : List Replaying) (printed now : Option (List ℕ)) (taken input : List ℕ) : Type 0 where
+  pub fits : is_large start input ≡ false
+  pub text : now ≡ append_known printed (session_text start (lines_of input))
+  pub at_end : (input ≡ taken) ⊎ (ends (opening start) (whole_lines taken) ≡ true)
+
+-- some of the front of what was to be printed
+abbrev pub SaysSome : List Replaying → Option (List ℕ) → Option (List ℕ) → List ℕ → Type 0
+SaysSome start printed now input = (n : ℕ) × (now ≡ append_known printed (take n (outcome_text (session_outcome start input))))
+
+-- what was said of an input of which these bytes were taken
+abbrev pub Said : List Replaying → Option (List ℕ) → Option (List ℕ) → List ℕ → List ℕ → Ended → Type 0
+Said start printed now taken input cause.Done = Concludes start printed now taken input
+Said start printed now taken input cause.TooLarge =
+    (is_large start input ≡ true) × (now ≡ append_known printed (session_text start (early_lines input)))
+Said start printed now taken input cause.ReadFault = Pauses start printed now taken
+Said start printed now taken input cause.WriteFault = SaysSome start printed now input
+Said start printed now taken input cause.NoMemory = SaysSome start printed now input
+
+-- these bytes came in turn, each piece once all whole lines before it were answered
+pub record CameInTurn (start : List Replaying) (printed : Option (List ℕ)) (taken : List ℕ) (earlier : List Asking) (asked_after : Option (List Asking)) : Type 0 where
+  pub askings : List Asking
+  pub noted : asked_after ≡ Some (earlier ++ askings)
+  pub in_turn : AreInTurn start printed [] askings
+  pub given : given_in askings ≡ taken
+
+-- a session over these replays read some of an input, and is over
+pub record SessionHolds (start : List Replaying) (old new : Hearing) (printed now : Option (List ℕ)) (why : Ended) : Type 0 where
+  pub taken : List ℕ
+  pub asks : Asks start taken
+  pub read : WhenTold old.left (λ input. TakesOfInput input new.left taken)
+  pub turns : WhenTold old.asked (λ earlier. CameInTurn start printed taken earlier new.asked)
+  pub said : WhenTold old.left (λ input. Said start printed now taken input why)
+  pub large : why ≡ cause.TooLarge → (earlier : List ℕ) × (now ≡ append_known printed earlier)
+
+-- from its opening on, a session is held so
+unfoldable pub HoldsFrom : Option (List ℕ) → Option (List ℕ) → SessionState → List ℕ → ℕ → Hearing → Hearing → Ended → Type 0
+HoldsFrom before now state begun count old new why =
+    (start : List Replaying) (printed : Option (List ℕ))
+    → SessionStands start printed before state begun count [] → SessionHolds start old new printed now why
+
+-- a session is open, and no byte was taken
+unfoldable pub Opens : List Replaying → Option (List ℕ) → Option (List ℕ) → SessionState → List ℕ → ℕ → Type 0
+Opens start printed now state begun count = SessionStands start printed now state begun count []
+
+-- a session did not open
+unfoldable pub OpensPart : List Replaying → Option (List ℕ) → Option (List ℕ) → Ended → Type 0
+OpensPart start printed now why = SaysPart start printed now [] × FailsAtOpening why
+
+-- a session was held
+unfoldable pub Held : List Replaying → Hearing → Hearing → Option (List ℕ) → Option (List ℕ) → Ended → Type 0
+Held start old new printed now why = SessionHolds start old new printed now why

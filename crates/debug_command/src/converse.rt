@@ -1,0 +1,263 @@
+// A session that is read from an input, and answered line by line.
+ghost use Rattle.std.specs.Prelude.{◌≡◌, ◌∷◌, ◌≤◌, ◌<◌, ◌+◌, [], length, take, IfOk, IsTrue, MatchResult};
+ghost use Rattle.fri_text.specs.Line.{lines_of};
+ghost use Rattle.group_state.specs.Place.{AreParts};
+ghost use Rattle.debug_command.specs.declared.converse.Ended.TheVariants as cause;
+ghost use Rattle.debug_command.specs.Conversation.{Converses};
+ghost use Rattle.debug_command.specs.Talk.{BreaksFrom, GoesOn, HearsFrom, Held, HoldsFrom, Opens, OpensPart, Spoke, StopsIn, ended_by, listened_after, spoken_after, why_of};
+
+use command_run::{Reason, Status, say_refused};
+use fri_bytes::Cursor;
+use fri_outside::{Failed, Sink, Terminal, WriteError, write_whole};
+use fri_text::next_line;
+use friday_shell::{Go, Session};
+use group_state::Group;
+use proc_replay::Replayer;
+use std::alloc::{AllocError, AllocFailed, Global};
+
+// How many bytes are asked for at once.
+const PIECE: usize = 4096;
+
+// How many bytes may be read before a line ends the session.
+const INPUT_LIMIT: usize = 16_777_216;
+
+// Why a session ends.
+#[derive(Clone, Copy)]
+enum Ended {
+    Done,
+    TooLarge,
+    ReadFault,
+    WriteFault,
+    NoMemory,
+}
+
+impl From<AllocError> for Ended {
+    ghost from_gives = { λ _ e. e ≡ cause.NoMemory };
+
+    fn from(_: AllocError) -> Self {
+        Ended::NoMemory
+    }
+}
+
+impl<T: Drop> From<AllocFailed<T>> for Ended {
+    ghost from_gives = { λ _ e. e ≡ cause.NoMemory };
+
+    fn from(_: AllocFailed<T>) -> Self {
+        Ended::NoMemory
+    }
+}
+
+impl From<Failed> for Ended {
+    ghost from_gives = { λ _ e. e ≡ cause.ReadFault };
+
+    fn from(_: Failed) -> Self {
+        Ended::ReadFault
+    }
+}
+
+impl From<WriteError> for Ended {
+    ghost from_gives = { λ error e. e ≡ ended_by error };
+
+    fn from(error: WriteError) -> Self {
+        match error {
+            WriteError::Failed => Ended::WriteFault,
+            WriteError::NoMemory => Ended::NoMemory,
+        }
+    }
+}
+
+// A session, the bytes of the line that has begun, and how many bytes were taken.
+#[derive(Drop)]
+struct Talk<'m, 'a> {
+    session: Session<'m, 'a>,
+    begun: Vec<u8>,
+    count: usize,
+}
+
+// Begins a session over these replays, and says so.
+fn begin<'m, 'a, K: Sink>(
+    alloc: Global,
+    parts: Vec<Replayer<'m, 'a>>,
+    out: &mut K,
+) -> Result<Talk<'m, 'a>, Ended>
+    requires { AreParts parts.items }
+    ensures said { MatchResult result
+        (λ talk. Opens parts.entry.items (K.taken out.old) (K.taken out.new) talk.session talk.begun.items talk.count)
+        (OpensPart parts.entry.items (K.taken out.old) (K.taken out.new)) }
+    ensures count { IfOk result (λ talk. talk.count ≡ 0) }
+    ensures counted { K.faults out.new ≡ spoken_after (K.faults out.old) result }
+    ensures heard { K.hearing out.new ≡ K.hearing out.old }
+{
+    let group = Group::begin(alloc, parts)?;
+    let (session, text) = Session::begin(alloc, group)?;
+    write_whole(out, text.bytes())?;
+    Ok(Talk {
+        session,
+        begun: Vec::new(alloc),
+        count: 0,
+    })
+}
+
+// Answers the line of these bytes, if they have one.
+fn answer<'m, 'a, K: Sink>(
+    alloc: Global,
+    session: Session<'m, 'a>,
+    bytes: &[u8],
+    out: &mut K,
+) -> Result<Session<'m, 'a>, Ended>
+    ensures said { Spoke session.entry (take 1 (lines_of bytes.now)) (K.taken out.old) (K.taken out.new) result }
+    ensures counted { K.faults out.new ≡ spoken_after (K.faults out.old) result }
+    ensures heard { K.hearing out.new ≡ K.hearing out.old }
+{
+    let Some(line) = next_line(&mut Cursor::new(bytes)) else {
+        return Ok(session);
+    };
+    let (session, text, goes) = session.line(alloc, line)?;
+    write_whole(out, text.bytes())?;
+    match goes {
+        Go::On => Ok(session),
+        Go::Quit => Err(Ended::Done),
+    }
+}
+
+// Takes a byte, and answers the line that it ends.
+fn take_byte<'m, 'a, K: Sink>(
+    alloc: Global,
+    talk: Talk<'m, 'a>,
+    b: u8,
+    out: &mut K,
+) -> Result<Talk<'m, 'a>, Ended>
+    ensures said { MatchResult result
+        (λ new. GoesOn (b ∷ []) (K.taken out.old) (K.taken out.new) talk.entry.session talk.entry.begun.items talk.entry.count
+        new.session new.begun.items new.count)
+        (StopsIn (b ∷ []) (K.taken out.old) (K.taken out.new) talk.entry.session talk.entry.begun.items talk.entry.count) }
+    ensures count { IfOk result (λ new. new.count ≡ talk.entry.count + 1) }
+    ensures within { IfOk result (λ new. new.count ≤ INPUT_LIMIT) }
+    ensures counted { K.faults out.new ≡ spoken_after (K.faults out.old) result }
+    ensures heard { K.hearing out.new ≡ K.hearing out.old }
+{
+    let Talk {
+        session,
+        mut begun,
+        count,
+    } = talk;
+    if count >= INPUT_LIMIT {
+        return Err(Ended::TooLarge);
+    }
+    begun.push(b)?;
+    let count = count + 1;
+    if b != b'\n' {
+        return Ok(Talk {
+            session,
+            begun,
+            count,
+        });
+    }
+    let session = answer(alloc, session, begun.as_slice(), out)?;
+    Ok(Talk {
+        session,
+        begun: Vec::new(alloc),
+        count,
+    })
+}
+
+// Takes the bytes of a piece.
+fn take_piece<'m, 'a, K: Sink>(
+    alloc: Global,
+    talk: Talk<'m, 'a>,
+    piece: &[u8],
+    out: &mut K,
+) -> Result<Talk<'m, 'a>, Ended>
+    requires { talk.count ≤ INPUT_LIMIT }
+    ensures said { MatchResult result
+        (λ new. GoesOn piece.now (K.taken out.old) (K.taken out.new) talk.entry.session talk.entry.begun.items talk.entry.count
+        new.session new.begun.items new.count)
+        (StopsIn piece.now (K.taken out.old) (K.taken out.new) talk.entry.session talk.entry.begun.items talk.entry.count) }
+    ensures count { IfOk result (λ new. new.count ≡ talk.entry.count + length piece.now) }
+    ensures within { IfOk result (λ new. new.count ≤ INPUT_LIMIT) }
+    ensures counted { K.faults out.new ≡ spoken_after (K.faults out.old) result }
+    ensures heard { K.hearing out.new ≡ K.hearing out.old }
+{
+    let mut talk = talk;
+    for b in piece {
+        talk = take_byte(alloc, talk, *b, out)?;
+    }
+    Ok(talk)
+}
+
+// Reads a piece of the input and takes it. False comes at the end of the input, where there is none.
+fn hear<'m, 'a, T: Terminal>(
+    alloc: Global,
+    talk: Talk<'m, 'a>,
+    piece: &mut [u8],
+    io: &mut T,
+) -> Result<(Talk<'m, 'a>, bool), Ended>
+    requires within { talk.count ≤ INPUT_LIMIT }
+    requires room { 0 < length piece.old }
+    ensures said { MatchResult result
+        (λ heard. HearsFrom (T.taken io.old) (T.taken io.new) talk.entry.session talk.entry.begun.items talk.entry.count
+        heard.0.session heard.0.begun.items heard.0.count (T.hearing io.old) (T.hearing io.new) heard.1 (length piece.old))
+        (BreaksFrom (T.taken io.old) (T.taken io.new) talk.entry.session talk.entry.begun.items talk.entry.count
+        (T.hearing io.old) (T.hearing io.new) (length piece.old)) }
+    ensures count { IfOk result (λ heard. IsTrue heard.1 → talk.entry.count < heard.0.count) }
+    ensures within { IfOk result (λ heard. heard.0.count ≤ INPUT_LIMIT) }
+    ensures reads { (T.hearing io.new).faults ≡ listened_after (T.hearing io.old).faults result }
+    ensures counted { T.faults io.new ≡ spoken_after (T.faults io.old) result }
+{
+    let count = io.read(piece)?;
+    let talk = take_piece(alloc, talk, &piece[..count], io)?;
+    Ok((talk, count > 0))
+}
+
+// Answers what is typed, up to the end of the input or of the session.
+fn listen<T: Terminal>(alloc: Global, talk: Talk<'_, '_>, io: &mut T) -> Result<(), Ended>
+    requires { talk.count ≡ 0 }
+    ensures said { HoldsFrom (T.taken io.old) (T.taken io.new) talk.entry.session talk.entry.begun.items talk.entry.count
+        (T.hearing io.old) (T.hearing io.new) (why_of result) }
+    ensures reads { (T.hearing io.new).faults ≡ listened_after (T.hearing io.old).faults result }
+    ensures counted { T.faults io.new ≡ spoken_after (T.faults io.old) result }
+{
+    let mut talk = talk;
+    let mut piece = [0; PIECE];
+    'hearing: loop {
+        let room = PIECE.min(INPUT_LIMIT + 1 - talk.count);
+        let (next, more) = hear(alloc, talk, &mut piece[..room], io)?;
+        if !more {
+            answer(alloc, next.session, next.begun.as_slice(), io)?;
+            return Ok(());
+        }
+        talk = next;
+    }
+}
+
+// Begins a session, and holds it to its end.
+fn hold<T: Terminal>(alloc: Global, parts: Vec<Replayer<'_, '_>>, io: &mut T) -> Result<(), Ended>
+    requires { AreParts parts.items }
+    ensures said { Held parts.entry.items (T.hearing io.old) (T.hearing io.new) (T.taken io.old) (T.taken io.new) (why_of result) }
+    ensures reads { (T.hearing io.new).faults ≡ listened_after (T.hearing io.old).faults result }
+    ensures counted { T.faults io.new ≡ spoken_after (T.faults io.old) result }
+{
+    let talk = begin(alloc, parts, io)?;
+    listen(alloc, talk, io)
+}
+
+/// Answers each whole line of the input before it asks for more, and ends after a line that ends the session, or
+/// behind the last line.
+pub(crate) fn converse<T: Terminal>(
+    alloc: Global,
+    parts: Vec<Replayer<'_, '_>>,
+    io: &mut T,
+) -> Status
+    requires { AreParts parts.items }
+    ensures { Converses parts.entry.items (T.hearing io.old) (T.hearing io.new) (T.taken io.old) (T.taken io.new)
+        (T.faults io.old) (T.faults io.new) result }
+{
+    match hold(alloc, parts, io) {
+        Ok(()) => Status::Done,
+        Err(Ended::Done) => Status::Done,
+        Err(Ended::TooLarge) => say_refused(alloc, "input", Reason::TooLarge, io),
+        Err(Ended::ReadFault) => Status::ReadFault,
+        Err(Ended::WriteFault) => Status::WriteFault,
+        Err(Ended::NoMemory) => Status::NoMemory,
+    }
+}

@@ -1,0 +1,146 @@
+-- The run of each command, from what its crate says of it.
+use Rattle.std.proofs.Common.{◌≡◌, ◌≢◌, ◌⊎◌, ◌∙◌, ℕ, Bool, false, true, List, Option, Some, None, option_map, Result, Ok, Err, IfErr, refl, sym, ap, subst, inl, inr}
+use Rattle.fri_outside.specs.Outside.{Folder, Counts, Rose, WhenTold}
+use Rattle.command_run.specs.declared.status.Status.{Status}
+use Rattle.command_run.specs.declared.status.Status.TheVariants as ends
+use Rattle.command_run.specs.declared.refusal.Answer.{Answer}
+use Rattle.command_run.specs.declared.refusal.Answer.TheVariants as answered
+use Rattle.command_run.specs.declared.refusal.Refusal.{Refusal}
+use Rattle.command_run.specs.Call.{CountsFaults, DivergesOnlyIf, IsAnswerResult, IsAnswerStatus, Keeps, Makes, PrintsRefusal, Raises, TellsOutcome}
+use Rattle.command_run.specs.Outcome.{CommandOutcome, writes_of, written_names}
+use Rattle.command_run.specs.Run.{CallEnds, Finished, Outside, Performed}
+use Rattle.record_command.specs.Agreement.{LeavesMoment, LeavesRecording}
+use Rattle.record_command.specs.Expected.{record_outcome}
+use Rattle.record_command.specs.Laws.{RecordingsRest}
+use Rattle.replay_command.specs.Report.{replay_outcome}
+use Rattle.log_pairs.specs.Pairs.{Pair}
+use Rattle.debug_command.specs.Run.{DebugRun}
+use Rattle.friday_app.specs.Agreement.{KeepsMoment}
+use Rattle.friday_app.specs.Command.{Command, Debug, Record, Replay}
+use Rattle.friday_app.specs.Expected.{expected, written_by}
+use Rattle.friday_app.specs.Input.{KeepsInput}
+use Rattle.friday_app.specs.Run.{CommandRun}
+
+-- the same of words that come to that
+pub run_same : {command said : Option Command} {old new : Outside} {answer : Status} → command ≡ said → CommandRun command old new answer → CommandRun said old new answer
+run_same {old = old} {new = new} {answer = answer} is run = subst (λ k. CommandRun k old new answer) is run
+
+-- ---- a command that prints once, at its end
+
+-- what it did, where its outcome depends on the folder alone
+pub performed : (f : Folder → CommandOutcome) (may_diverge : Bool) (before after : Option Folder) (counts counts_after : Counts) (ended : Result Answer Refusal)
+    → ((o : CommandOutcome) → option_map f before ≡ Some o → TellsOutcome o ended)
+    → ((o : CommandOutcome) → option_map f before ≡ Some o → Makes ended (writes_of o) before after)
+    → Keeps ended before after → DivergesOnlyIf may_diverge ended → CountsFaults counts counts_after ended → IfErr ended (Raises counts counts_after)
+    → Performed (option_map f before) (λ folder. written_names (f folder)) may_diverge before after counts counts_after ended
+performed f may_diverge before after counts counts_after ended tells makes keeps diverges counted cause = record {
+  tells = tells;
+  makes = makes;
+  names = λ folder is. inr (f folder, ap (option_map f) is, refl);
+  keeps = keeps;
+  diverges = diverges;
+  counted = counted;
+  cause = cause;
+}
+
+-- its refusal names no input
+refused_file : {Large : List ℕ → Type 0} (old new : Outside) → PrintsRefusal old.taken new.taken (λ file. Rose old.counts.misses new.counts.misses)
+    → PrintsRefusal old.taken new.taken (λ file. Rose old.counts.misses new.counts.misses ⊎ Large file)
+refused_file old new (earlier, file, (why, is, cause)) = (earlier, file, (why, is, λ large. inl (cause large)))
+
+pub run_recorded : (images : Bool) (name : List ℕ) (ended : Result Answer Refusal) (answer : Status) (old new : Outside)
+    → Finished (option_map (record_outcome images name) old.told) (λ folder. written_names (record_outcome images name folder)) false ended old new answer
+    → (IsAnswerResult ended → WhenTold old.told (λ before. WhenTold new.told (LeavesRecording name before)))
+    → WhenTold old.told (λ before. LeavesMoment images name before new.told)
+    → CommandRun (Some (Record images name)) old new answer
+run_recorded images name ended answer old new f recorded moment = record {
+  call = f.call;
+  usage = record { only = λ is. absurd (f.is_command is); always = λ none h. cc };
+  diverged = λ is. let never = f.diverged is in cc;
+  recorded = λ is. recorded (f.came_to_end is);
+  moment = moment;
+  input = f.unheard;
+  answered = λ is quiet. quiet (f.read is);
+  refused = λ is. refused_file old new (f.refused is);
+}
+
+-- a replay may tell that a log diverged
+pub may_diverge : (ended : Result Answer Refusal) → DivergesOnlyIf true ended
+may_diverge (Ok (answered.Done text)) = tt
+may_diverge (Ok (answered.Diverged text)) = refl
+may_diverge (Err e) = tt
+
+pub run_replayed : (images : Bool) (pairs : List Pair) (ended : Result Answer Refusal) (answer : Status) (old new : Outside)
+    → Finished (option_map (replay_outcome images pairs) old.told) (λ folder. written_names (replay_outcome images pairs folder)) true ended old new answer
+    → CommandRun (Some (Replay images pairs)) old new answer
+run_replayed images pairs ended answer old new f = record {
+  call = f.call;
+  usage = record { only = λ is. absurd (f.is_command is); always = λ none h. cc };
+  diverged = λ is. tt;
+  recorded = λ is before told after here. tt;
+  moment = λ before told. tt;
+  input = f.unheard;
+  answered = λ is quiet. quiet (f.read is);
+  refused = λ is. refused_file old new (f.refused is);
+}
+
+-- ---- a session, and no command
+
+pub run_debugged : (pairs : List Pair) (answer : Status) (old new : Outside) → DebugRun pairs old new answer → CommandRun (Some (Debug pairs)) old new answer
+run_debugged pairs answer old new r = record {
+  call = r.call;
+  usage = record { only = λ is. absurd (r.is_command is); always = λ none h. cc };
+  diverged = λ is. r.no_divergence is;
+  recorded = λ is before told after here. tt;
+  moment = λ before told. tt;
+  input = r.input;
+  answered = r.answered;
+  refused = r.refused;
+}
+
+pub run_none : (answer : Status) (old new : Outside) → CallEnds (expected None old.told old.hearing.left) (written_by None) old new answer
+    → (IsAnswerStatus answer → answer ≡ ends.Usage) → (answer ≢ ends.ReadFault) → new.hearing ≡ old.hearing → CommandRun None old new answer
+run_none answer old new call usage reads unheard = record {
+  call = call;
+  usage = record { only = λ _. refl; always = λ _ h. usage h };
+  diverged = λ is. let e : ends.Diverged ≡ ends.Usage = sym is ∙ usage (subst IsAnswerStatus (sym is) tt) in never_diverged e;
+  recorded = λ is before told after here. tt;
+  moment = λ before told. tt;
+  input = unheard;
+  answered = λ is quiet. reads is;
+  refused = λ is. let e : ends.Refused ≡ ends.Usage = sym is ∙ usage (subst IsAnswerStatus (sym is) tt) in absurd (never_refused e);
+} where
+  never_diverged : ends.Diverged ≡ ends.Usage → ⊥
+  never_diverged e = cc
+
+  never_refused : ends.Refused ≡ ends.Usage → ⊥
+  never_refused e = cc
+
+-- ---- want of memory, before anything was read
+
+pub run_stopped : RecordingsRest → (command : Option Command) (o : Outside) (answer : Status) → answer ≡ ends.NoMemory → CallEnds (expected command o.told o.hearing.left) (written_by command) o o answer
+    → CommandRun command o o answer
+run_stopped rest command o answer is call = subst (λ (a : Status). CommandRun command o o a) (sym is) (record {
+  call = subst (λ (a : Status). CallEnds (expected command o.told o.hearing.left) (written_by command) o o a) is call;
+  usage = record { only = λ e. absurd cc; always = λ none h. absurd h };
+  diverged = λ e. absurd cc;
+  recorded = λ h. absurd h;
+  moment = untouched command;
+  input = unread command;
+  answered = λ e. absurd cc;
+  refused = λ e. absurd cc;
+}) where
+  untouched : (command : Option Command) → WhenTold o.told (λ before. KeepsMoment command before o.told)
+  untouched None before told = tt
+  untouched (Some (Record images schedule_name)) before told = subst (λ (after : Option Folder). LeavesMoment images schedule_name before after) (sym told) (rest images schedule_name before)
+  untouched (Some (Replay images pairs)) before told = tt
+  untouched (Some (Debug pairs)) before told = tt
+
+  not_done : ends.NoMemory ≡ ends.Done → ⊥
+  not_done e = cc
+
+  unread : (command : Option Command) → KeepsInput command o.told o.hearing o.hearing o.taken ends.NoMemory
+  unread None = refl
+  unread (Some (Record images schedule_name)) = refl
+  unread (Some (Replay images pairs)) = refl
+  unread (Some (Debug pairs)) = inl (refl, not_done)

@@ -1,7 +1,0 @@
-use Rattle.std.proofs.lemmas.Result.{err_from_is_err_and}
-use Rattle.friday_app.proofs.inputs.read_module.Goals as goal
-
-pub returns-in_err-spelled-clause-cause : goal.returns-in_err-spelled-clause-cause
-returns-in_err-spelled-clause-cause c =
-    let p = err_from_is_err_and c.from_residual.result c.from_residual.ensures.1 in
-    rw (p.1, p.2) c.in_err-spelled.ensures.cause

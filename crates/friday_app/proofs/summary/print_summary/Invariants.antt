@@ -1,7 +1,0 @@
-use Rattle.std.proofs.Common.{◌≡◌, ◌++◌, drop}
-use Rattle.std.specs.List.{flat_map}
-use Rattle.friday_app.specs.Record.{process_line}
-use Rattle.friday_app.proofs.summary.print_summary.Given as goal
-
-abbrev pub invariant-loop-line : goal.invariant-loop-line
-invariant-loop-line l = l.text ++ flat_map process_line (drop l.line-index l.line-items) ≡ flat_map process_line l.line-items

@@ -1,0 +1,7 @@
+pub mod Beginning
+pub mod Clashing
+pub mod Groups
+pub mod Loading
+pub mod Opening
+pub mod Placing
+pub mod Together

@@ -1,0 +1,5 @@
+use Rattle.log_pairs.proofs.Groups.{groups_open}
+use Rattle.log_pairs.proofs.laws.opens_groups.Goals as goal
+
+pub returns : goal.returns
+returns c = groups_open c.reads_modules.ensures c.exact_logs.ensures

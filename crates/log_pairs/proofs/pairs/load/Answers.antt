@@ -1,0 +1,51 @@
+use Rattle.std.proofs.Common.{◌≡◌, ◌∙◌, ◌≤◌, None, Err, Ok, ap, arith, length, refl, rules, sym}
+use Rattle.std.proofs.lemmas.Result.{err_from_is_err_and}
+use Rattle.wasm_types.specs.Modules.{module_of as shown}
+use Rattle.call_log.specs.Limits.{most_log}
+use Rattle.log_pairs.specs.Pairs.{clash}
+use Rattle.log_pairs.specs.Seen.{pair_of}
+use Rattle.command_run.specs.CountLaws.{counts_later, counts_none, counts_still}
+use Rattle.log_pairs.proofs.Loading.{is_loaded, pair_read, read_as}
+use Rattle.log_pairs.proofs.pairs.load.Goals as goal
+
+pub returns-in_err-begin_log-clause-cause : goal.returns-in_err-begin_log-clause-cause
+returns-in_err-begin_log-clause-cause g c =
+    let p = err_from_is_err_and c.from_residual-in_err-begin_log.result c.from_residual-in_err-begin_log.ensures.1 in
+    rw (p.1, p.2) (c.in_err-begin_log.ensures.cause (g.F.Files.counts c.args.files.now) (g.F.Files.counts c.take_log.new.files))
+
+pub returns-in_err-begin_log-clause-counts : goal.returns-in_err-begin_log-clause-counts
+returns-in_err-begin_log-clause-counts g c =
+    let e = c.in_err-begin_log.field-0.0 in
+    let both = counts_later _ _ _ (Ok tt) (counts_none _ _ _ c.in_ok-module.ensures.counts) (counts_none _ _ _ c.in_ok-log.ensures.counts) in
+    let p = err_from_is_err_and c.from_residual-in_err-begin_log.result c.from_residual-in_err-begin_log.ensures.1 in
+    rw (p.1, p.2) (counts_still _ _ _ (Err e) c.in_err-begin_log.ensures.still both)
+
+pub returns-clause-answer : goal.returns-clause-answer
+returns-clause-answer g c folder told ls are =
+    let log = c.in_ok-begin_log.field-0 in
+    let unclashed : c.clash.result ≡ None = search rules in
+    let few : length c.deref.result.now ≤ most_log = omega (arith, c.in_ok-log.ensures.within, c.deref.ensures.len) in
+    let none : clash ls log.head ≡ None = ap (clash ls) (sym c.head-head.ensures) ∙ sym (c.clash.ensures.answer ls are) ∙ unclashed in (
+      read_as (pair_of c.args.pair) (shown c.in_ok-module.module) (log.head, log.left),
+      (
+        pair_read folder ls (pair_of c.args.pair) (shown c.in_ok-module.module) c.deref.result.now (log.head, log.left)
+            (c.in_ok-module.ensures.answer folder told)
+            (c.in_ok-log.ensures.answer folder (c.take_module.ensures.same ∙ told) ∙ ap Ok (sym c.deref.ensures.value))
+            c.in_ok-begin_log.ensures.answer none,
+        is_loaded _ (pair_of c.args.pair) c.deref.result.now (log.head, log.left) c.head-head.result refl c.deref.ensures.value c.in_ok-begin_log.ensures.answer c.in_ok-begin_log.ensures.head c.head-head.ensures refl refl c.in_ok-name.ensures
+            c.in_ok-begin_log.ensures.shorter few,
+      ),
+    )
+
+pub returns-clause-fits : goal.returns-clause-fits
+returns-clause-fits g c ls are =
+    let log = c.in_ok-begin_log.field-0 in
+    let few : length c.deref.result.now ≤ most_log = omega (arith, c.in_ok-log.ensures.within, c.deref.ensures.len) in
+    let unclashed : c.clash.result ≡ None = search rules in (
+      read_as (pair_of c.args.pair) (shown c.in_ok-module.module) (log.head, log.left),
+      (
+        is_loaded _ (pair_of c.args.pair) c.deref.result.now (log.head, log.left) c.head-head.result refl c.deref.ensures.value c.in_ok-begin_log.ensures.answer c.in_ok-begin_log.ensures.head c.head-head.ensures refl refl c.in_ok-name.ensures
+            c.in_ok-begin_log.ensures.shorter few,
+        ap (clash ls) (sym c.head-head.ensures) ∙ sym (c.clash.ensures.answer ls are) ∙ unclashed,
+      ),
+    )

@@ -1,0 +1,5 @@
+pub mod Logs
+pub mod Pairs
+pub mod Seen
+pub mod Valid
+pub mod Laws

@@ -1,0 +1,46 @@
+-- What the values of the code stand for.
+use Rattle.std.specs.List.{AllByRecursion}
+use Rattle.std.specs.Prelude.{◌≡◌, ◌≢◌, ◌≤◌, List, [], ◌∷◌, length, Option, Some, Ok}
+use Rattle.fri_outside.specs.Outside.{Folder, WhenTold}
+use Rattle.wasm_types.specs.Modules.{module_of}
+use Rattle.call_log.specs.Head.{IsHead}
+use Rattle.call_log.specs.Limits.{most_log}
+use Rattle.call_log.specs.Log.{head_at}
+use Rattle.log_pairs.specs.declared.pairs.Loaded.{Loaded as LoadedFiles}
+use Rattle.log_pairs.specs.declared.pairs.Pair.{Pair as PairOfWords}
+use Rattle.log_pairs.specs.Pairs.{Loaded, Pair, loaded_pairs}
+
+abbrev pub pair_of : PairOfWords → Pair
+pair_of pair = record { module_name = pair.module_file.now; log_name = pair.log_file.now }
+
+-- the files of a pair hold this
+pub record IsLoaded (l : LoadedFiles) (is : Loaded) : Type 0 where
+  pub name : l.module_file.now ≡ is.module_name
+  pub «module» : module_of l.«module» ≡ is.«module»
+  pub log : head_at l.log.items ≡ Some (is.head, is.left)
+  pub head : IsHead is.head
+  pub count : l.count ≡ is.head.count
+  pub process : l.process ≡ is.head.process
+  pub head_name : l.name ≡ is.head.name
+  pub within : length is.left ≤ most_log
+
+-- so many pairs hold so many of these
+abbrev pub AreLoaded : List LoadedFiles → List Loaded → Type 0
+AreLoaded [] [] = Unit {0}
+AreLoaded (l ∷ ls) (is ∷ all) = IsLoaded l is × AreLoaded ls all
+AreLoaded [] (is ∷ all) = ⊥
+AreLoaded (l ∷ ls) [] = ⊥
+
+-- they are of one group, and each of another process with another name
+pub record IsApart (l other : LoadedFiles) : Type 0 where
+  pub count : l.count ≡ other.count
+  pub process : l.process ≢ other.process
+  pub name : l.name ≢ other.name
+
+abbrev pub AreOneGroup : List LoadedFiles → Type 0
+AreOneGroup [] = Unit {0}
+AreOneGroup (l ∷ ls) = AllByRecursion (IsApart l) ls × AreOneGroup ls
+
+-- the files of these pairs were read, as far as the folder tells them
+abbrev pub WereLoaded : List Pair → Option Folder → List LoadedFiles → Type 0
+WereLoaded pairs told all = WhenTold told (λ folder. (ls : List Loaded) × ((loaded_pairs folder [] pairs ≡ Ok ls) × AreLoaded all ls))

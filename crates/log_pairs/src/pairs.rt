@@ -1,0 +1,194 @@
+// The modules and logs of a group, and the replays of the logs.
+ghost use Rattle.std.specs.Prelude.{◌≡◌, ℕ, ◌≢◌, List, None, Ok, Option, All, IfErr, IfOk, IfSome, MatchResult, OnOk, length, map, nat_lt};
+ghost use Rattle.std.specs.List.{take_while};
+ghost use Rattle.fri_outside.specs.Outside.{Counts, Folder, WhenTold};
+ghost use Rattle.call_log.specs.Head.{IsHead, head_of};
+ghost use Rattle.group_state.specs.Place.{AreParts};
+ghost use Rattle.command_run.specs.Call.{CountsFaults, StopsAs, Raises, reads_after, writes_after};
+ghost use Rattle.log_pairs.specs.Pairs.{Loaded as LoadedOf, NoneOpened, Pair as PairOf, WasOpened, clash, has_name, has_process, insert_replay, is_other_group, loaded_pair, replay_of_log};
+ghost use Rattle.log_pairs.specs.Seen.{AreLoaded, AreOneGroup, IsLoaded, WereLoaded, pair_of};
+
+use crate::logs::{begin_log, take_log};
+use call_log::{LogHead, LogView};
+use command_run::{Reason, Refusal, begin_process, take_module};
+use fri_bytes::Bytes;
+use fri_outside::Files;
+use proc_replay::Replayer;
+use std::alloc::{AllocError, Global};
+use wasm_types::ValidModule;
+
+/// The names of the files of a module and of a log of its process.
+#[derive(Clone, Copy)]
+pub struct Pair<'a> {
+    pub module_file: &'a str,
+    pub log_file: &'a str,
+}
+
+/// A pair that was read: the name of the module's file, the module, the bytes of the log, and what the log's head
+/// says.
+#[derive(Drop)]
+pub struct Loaded<'a> {
+    pub(crate) module_file: &'a str,
+    pub(crate) module: ValidModule,
+    pub(crate) log: Vec<u8>,
+    pub(crate) count: u32,
+    pub(crate) process: u32,
+    pub(crate) name: Bytes,
+}
+
+// Why a log does not go with the pairs before it.
+fn clash(earlier: &[Loaded<'_>], head: &LogHead<'_>) -> Option<Reason>
+    ensures answer { (ls : List LoadedOf) → AreLoaded earlier.now ls → result ≡ clash ls (head_of head.now) }
+    ensures cause { IfSome result (λ why. why ≢ Reason.TooLarge) }
+{
+    if is_other_group(earlier, head.count) {
+        return Some(Reason::OtherGroup);
+    }
+    if has_process(earlier, head.process) {
+        return Some(Reason::SameProcess);
+    }
+    if has_name(earlier, head.name) {
+        return Some(Reason::SameName);
+    }
+    None
+}
+
+// Whether the first pair is of a group of another number of processes.
+fn is_other_group(earlier: &[Loaded<'_>], count: u32) -> bool
+    ensures { (ls : List LoadedOf) → AreLoaded earlier.now ls → result ≡ is_other_group ls count }
+{
+    match earlier {
+        [] => false,
+        [first, ..] => first.count != count,
+    }
+}
+
+// Whether a pair is of this process.
+fn has_process(earlier: &[Loaded<'_>], process: u32) -> bool
+    ensures { (ls : List LoadedOf) → AreLoaded earlier.now ls → result ≡ has_process ls process }
+{
+    earlier.iter().any(|l| l.process == process)
+}
+
+// Whether a pair is of a process of this name.
+fn has_name(earlier: &[Loaded<'_>], name: &[u8]) -> bool
+    ensures { (ls : List LoadedOf) → AreLoaded earlier.now ls → result ≡ has_name ls name.now }
+{
+    earlier.iter().any(|l| l.name.as_slice() == name)
+}
+
+// Reads the files of a pair: the module's, then the log's; then the log against the pairs before it.
+fn load<'a, F: Files>(
+    alloc: Global,
+    pair: Pair<'a>,
+    earlier: &[Loaded<'a>],
+    files: &mut F,
+) -> Result<Loaded<'a>, Refusal>
+    ensures answer { WhenTold (F.told files.old) (λ folder. (ls : List LoadedOf) → AreLoaded earlier.now ls → MatchResult result
+        (λ l. (is : LoadedOf) × ((loaded_pair folder ls (pair_of pair.entry) ≡ Ok is) × IsLoaded l is))
+        (StopsAs (loaded_pair folder ls (pair_of pair.entry)))) }
+    ensures fits { IfOk result (λ l. (ls : List LoadedOf) → AreLoaded earlier.now ls
+        → (is : LoadedOf) × (IsLoaded l is × (clash ls is.head ≡ None))) }
+    ensures same { F.told files.new ≡ F.told files.old }
+    ensures counts { CountsFaults (F.counts files.old) (F.counts files.new) result }
+    ensures cause { IfErr result (Raises (F.counts files.old) (F.counts files.new)) }
+{
+    let module = take_module(alloc, pair.module_file, files)?;
+    let log = take_log(alloc, pair.log_file, files)?;
+    let head = begin_log(alloc, pair.log_file, &log)?.head();
+    if let Some(why) = clash(earlier, &head) {
+        return Err(Refusal::refuse(alloc, pair.log_file, why));
+    }
+    let name = Bytes::from_slice(alloc, head.name)?;
+    let LogHead { count, process, .. } = head;
+    Ok(Loaded {
+        module_file: pair.module_file,
+        module,
+        log,
+        count,
+        process,
+        name,
+    })
+}
+
+/// Reads the files of all pairs, pair after pair.
+pub fn load_all<'a, F: Files>(
+    alloc: Global,
+    pairs: &[Pair<'a>],
+    files: &mut F,
+) -> Result<Vec<Loaded<'a>>, Refusal>
+    ensures answer { MatchResult result (λ all. WereLoaded (map pair_of pairs.now) (F.told files.old) all.items)
+        (NoneOpened (map pair_of pairs.now) (F.told files.old)) }
+    ensures loaded { IfOk result (λ all. (ls : List LoadedOf) × AreLoaded all.items ls) }
+    ensures apart { IfOk result (λ all. AreOneGroup all.items) }
+    ensures same { F.told files.new ≡ F.told files.old }
+    ensures counts { CountsFaults (F.counts files.old) (F.counts files.new) result }
+    ensures cause { IfErr result (Raises (F.counts files.old) (F.counts files.new)) }
+{
+    let mut all = Vec::new(alloc);
+    for pair in pairs {
+        let loaded = load(alloc, *pair, &all, files)?;
+        all.push(loaded)?;
+    }
+    Ok(all)
+}
+
+// The replay of a log from the first state of its process.
+fn begin_replay<'m>(alloc: Global, loaded: &'m Loaded<'_>) -> Result<Replayer<'m, 'm>, Refusal>
+    requires { (is : LoadedOf) × IsLoaded loaded.now is }
+    ensures answer { (is : LoadedOf) → IsLoaded loaded.now is → MatchResult result
+        (λ replay. replay_of_log is ≡ Ok replay) (StopsAs (replay_of_log is)) }
+    ensures fresh { IfOk result (λ replay. replay.state.events ≡ 0) }
+    ensures cause { (old new : Counts) → IfErr result (Raises old new) }
+    ensures still { (n : ℕ) → (reads_after n result ≡ n) × (writes_after n result ≡ n) }
+{
+    let Ok(log) = LogView::begin(&loaded.log) else {
+        unreachable!();
+    };
+    let begun = begin_process(
+        alloc,
+        loaded.module_file,
+        &loaded.module,
+        loaded.process,
+        loaded.count,
+    )?;
+    Ok(Replayer::begin(begun, log))
+}
+
+// How many replays at the front are of processes with lower numbers.
+fn place_of(sorted: &[Replayer<'_, '_>], process: u32) -> usize
+    ensures { result ≡ length (take_while (λ other. nat_lt other.head.process process) sorted.now) }
+{
+    sorted
+        .iter()
+        .take_while(|other| other.head().process < process)
+        .count()
+}
+
+// Puts a replay in its place by the number of its process.
+fn place<'m>(sorted: &mut Vec<Replayer<'m, 'm>>, replay: Replayer<'m, 'm>) -> Result<(), AllocError>
+    ensures { OnOk result (sorted.new.items ≡ insert_replay replay.entry sorted.old.items) }
+{
+    let place = place_of(sorted, replay.head().process);
+    sorted.insert(place, replay)?;
+    Ok(())
+}
+
+/// The replays of the logs of a group, in order of their processes' numbers.
+pub fn begin_all<'m>(alloc: Global, all: &'m [Loaded<'_>]) -> Result<Vec<Replayer<'m, 'm>>, Refusal>
+    requires loaded { (ls : List LoadedOf) × AreLoaded all.now ls }
+    requires apart { AreOneGroup all.now }
+    ensures answer { (pairs : List PairOf) (told : Option Folder) → WereLoaded pairs told all.now → MatchResult result
+        (λ replays. WasOpened pairs told replays.items) (NoneOpened pairs told) }
+    ensures parts { IfOk result (λ replays. AreParts replays.items) }
+    ensures heads { IfOk result (λ replays. All (λ r. IsHead r.head) replays.items) }
+    ensures cause { (old new : Counts) → IfErr result (Raises old new) }
+    ensures still { (n : ℕ) → (reads_after n result ≡ n) × (writes_after n result ≡ n) }
+{
+    let mut sorted = Vec::new(alloc);
+    for loaded in all {
+        let replay = begin_replay(alloc, loaded)?;
+        place(&mut sorted, replay)?;
+    }
+    Ok(sorted)
+}

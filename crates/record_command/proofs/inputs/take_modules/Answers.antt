@@ -1,0 +1,23 @@
+use Rattle.std.proofs.Common.{◌≡◌, ◌∙◌, ◌∷◌, ◌++◌, ◌+◌, List, [], ap, drop, map, subst, sym}
+use Rattle.std.proofs.lemmas.List.{drop_more, map-append}
+use Rattle.wasm_types.specs.Modules.{Module, module_of as shown}
+use Rattle.schedule_text.specs.declared.process.ProcessLine.{ProcessLine}
+use Rattle.command_run.specs.CountLaws.{counts_later, counts_none}
+use Rattle.record_command.proofs.Modules.{AreTaken, one_taken}
+use Rattle.record_command.proofs.inputs.take_modules.Goals as goal
+
+pub loop-line-preserved : goal.loop-line-preserved
+loop-line-preserved g c =
+    let taken = c.loop-line.invariant in
+    let told = g.F.Files.told c.args.files.now in
+    let lines = c.args.lines.now in
+    let i = c.loop-line.line-index in
+    let items = c.loop-line.modules.items in
+    let m = c.in_ok-take_module_of.field-0 in
+    let pushed : map shown c.push.new.self.items ≡ map shown items ++ shown m ∷ [] = ap (map shown) c.in_ok-push.ensures.items ∙ map-append shown items (m ∷ []) in
+    let next : drop i lines ≡ c.line-item.result ∷ drop (i + 1) lines = drop_more lines i _ c.loop-line-test.true ∙ ap (λ (line : ProcessLine). line ∷ drop (i + 1) lines) (sym c.line-item.is) in (
+      subst (λ (ms : List Module). AreTaken told lines (i + 1) ms) (sym pushed)
+          (one_taken told lines i (map shown items) c.line-item.result (shown m) taken.0 next (λ folder is. c.in_ok-take_module_of.ensures.answer folder (taken.1 ∙ is))),
+      c.take_module_of.ensures.same ∙ taken.1,
+      counts_later _ _ _ _ taken.2 (counts_none _ _ _ c.in_ok-take_module_of.ensures.counts),
+    )

@@ -1,0 +1,12 @@
+use Rattle.std.proofs.Common.{◌≡◌, map}
+use Rattle.std.specs.Prelude.{⊤, Ok}
+use Rattle.wasm_types.specs.Modules.{module_of as shown}
+use Rattle.record_command.proofs.Modules.{AreTaken}
+use Rattle.command_run.specs.Call.{CountsFaults}
+use Rattle.record_command.proofs.inputs.take_modules.Given as goal
+
+abbrev pub invariant-loop-line : goal.invariant-loop-line
+invariant-loop-line g l =
+    AreTaken (g.F.Files.told l.initial.files) l.lines l.line-index (map shown l.modules.items)
+    × (g.F.Files.told l.files ≡ g.F.Files.told l.initial.files)
+    × CountsFaults {T = ⊤} (g.F.Files.counts l.initial.files) (g.F.Files.counts l.files) (Ok tt)

@@ -1,0 +1,66 @@
+-- The logs that a recording leaves tell what was recorded, wherever it was stopped.
+use Rattle.std.specs.Prelude.{◌≡◌, ℕ, ◌<◌, Bool, IsTrue, List, ◌∷◌, ◌++◌, Option, Some, Ok}
+use Rattle.std.specs.FinMap.{get}
+use Rattle.fri_outside.specs.Outside.{Folder}
+use Rattle.lib_calls.specs.Traffic.{is_taken}
+use Rattle.wasm_types.specs.Modules.{Module}
+use Rattle.guest_process.specs.Live.{Event}
+use Rattle.guest_process.specs.State.{State}
+use Rattle.schedule_text.specs.Schedule.{Schedule}
+use Rattle.group_record.specs.Answer.{first_states, group_of}
+use Rattle.group_record.specs.Files.{IsStopped}
+use Rattle.group_record.specs.Images.{images_of}
+use Rattle.group_record.specs.Laws.{RandomIsDrawn, TakesDatagram, TellsCut, WaitingIsTaken}
+use Rattle.group_record.specs.Logs.{TellsEvents, log_name}
+use Rattle.group_record.specs.Run.{Group, Had, IsMoment, Progress, Step, log_of, name_of, run, size}
+use Rattle.record_command.specs.Expected.{modules_of, schedule_in}
+
+-- the files spell a schedule and modules with which its processes begin
+pub record IsRecordable (folder : Folder) (schedule_name : List ℕ) : Type 0 where
+  pub schedule : Schedule
+  pub spelled : schedule_in folder schedule_name ≡ Ok schedule
+  pub modules : List Module
+  pub found : modules_of folder schedule.processes ≡ Ok modules
+  pub first : List State
+  pub begins : first_states schedule modules ≡ Ok first
+
+-- its group, and its run
+abbrev pub group_in : {folder : Folder} {schedule_name : List ℕ} → IsRecordable folder schedule_name → Group
+group_in r = group_of r.schedule r.first
+
+abbrev pub run_in : {folder : Folder} {schedule_name : List ℕ} → IsRecordable folder schedule_name → Progress
+run_in r = run (group_in r) r.schedule.items
+
+abbrev pub steps_in : {folder : Folder} {schedule_name : List ℕ} → IsRecordable folder schedule_name → List Step
+steps_in r = (run_in r).steps
+
+-- each process has its log afterwards
+abbrev pub LeavesLogs : Group → List Step → Folder → Type 0
+LeavesLogs group steps after = (p : ℕ) → p < size group → get after (log_name (name_of group p)) ≡ Some (log_of group steps p)
+
+-- at each moment of the run the logs tell its events, also the log behind which the next entry stands in part. Each
+-- datagram that was taken came first in the mailbox, and from outside or by a send that an item delivered; what waits
+-- is taken, and so are the first of the random bytes
+pub record LogsAgree (group : Group) (steps : List Step) : Type 0 where
+  pub logs : (early : List Step) → IsMoment early steps → (p : ℕ) → p < size group → TellsEvents group early p
+  pub cut : TellsCut group steps
+  pub datagrams : (later early : List Step) (p : ℕ) (e : Event) → steps ≡ later ++ (Had p e ∷ early) → IsTrue (is_taken e.entry)
+      → TakesDatagram (size group) early p e
+  pub waiting : WaitingIsTaken group steps
+  pub random : RandomIsDrawn group steps
+
+-- so it is with each recording
+abbrev pub RecordingsAgree : Type 0
+RecordingsAgree = (folder : Folder) (schedule_name : List ℕ) (r : IsRecordable folder schedule_name) → LogsAgree (group_in r) (steps_in r)
+
+-- where the files can be recorded, the logs that an answer leaves are those of the whole run, which agree with it
+abbrev pub LeavesRecording : List ℕ → Folder → Folder → Type 0
+LeavesRecording schedule_name before after =
+    (r : IsRecordable before schedule_name) → LeavesLogs (group_in r) (steps_in r) after × LogsAgree (group_in r) (steps_in r)
+
+-- wherever it is stopped, the logs are those of a moment of its run, but for a first part of the next entry; or the
+-- whole logs stand, and some of the images that were asked for
+abbrev pub LeavesMoment : Bool → List ℕ → Folder → Option Folder → Type 0
+LeavesMoment images schedule_name before after =
+    (r : IsRecordable before schedule_name)
+    → IsStopped (group_in r) (steps_in r) (images_of images (group_in r) (run_in r)) (Some before) after × LogsAgree (group_in r) (steps_in r)

@@ -1,0 +1,78 @@
+// Reads a schedule, and the modules of its processes.
+ghost use Rattle.std.specs.Prelude.{◌≡◌, All, length, map, Ok, IfOk, IfErr, MatchResult};
+ghost use Rattle.fri_outside.specs.Outside.{WhenTold};
+ghost use Rattle.wasm_types.specs.Modules.{module_of as shown};
+ghost use Rattle.schedule_text.specs.Schedule.{IsProcess, IsSchedule};
+ghost use Rattle.command_run.specs.Call.{CountsFaults, StopsAs, Raises};
+ghost use Rattle.command_run.specs.Inputs.{module_in};
+ghost use Rattle.record_command.specs.Expected.{modules_of, schedule_in};
+
+use command_run::{Reason, Refusal, take_file, take_module};
+use fri_outside::Files;
+use schedule_text::{ProcessLine, Schedule, ScheduleError, read_schedule};
+use std::alloc::Global;
+use wasm_types::ValidModule;
+
+const SCHEDULE_LIMIT: usize = 16_777_216;
+
+// The module of a process.
+fn take_module_of<F: Files>(
+    alloc: Global,
+    line: &ProcessLine,
+    files: &mut F,
+) -> Result<ValidModule, Refusal>
+    requires { IsProcess line.now }
+    ensures answer { WhenTold (F.told files.old) (λ folder. MatchResult result
+        (λ m. module_in folder line.now.«module» ≡ Ok (shown m)) (StopsAs (module_in folder line.now.«module»))) }
+    ensures same { F.told files.new ≡ F.told files.old }
+    ensures counts { CountsFaults (F.counts files.old) (F.counts files.new) result }
+    ensures cause { IfErr result (Raises (F.counts files.old) (F.counts files.new)) }
+{
+    let file = String::from_utf8_lossy(alloc, line.module.as_slice())?;
+    take_module(alloc, &file, files)
+}
+
+/// The valid modules of these processes, in their order.
+pub fn take_modules<F: Files>(
+    alloc: Global,
+    lines: &[ProcessLine],
+    files: &mut F,
+) -> Result<Vec<ValidModule>, Refusal>
+    requires { All IsProcess lines.now }
+    ensures answer { WhenTold (F.told files.old) (λ folder. MatchResult result
+        (λ modules. modules_of folder lines.now ≡ Ok (map shown modules.items)) (StopsAs (modules_of folder lines.now))) }
+    ensures count { IfOk result (λ modules. length modules.items ≡ length lines.now) }
+    ensures same { F.told files.new ≡ F.told files.old }
+    ensures counts { CountsFaults (F.counts files.old) (F.counts files.new) result }
+    ensures cause { IfErr result (Raises (F.counts files.old) (F.counts files.new)) }
+{
+    let mut modules = Vec::new(alloc);
+    for line in lines {
+        modules.push(take_module_of(alloc, line, files)?)?;
+    }
+    Ok(modules)
+}
+
+/// The schedule of a schedule file.
+pub fn take_schedule<F: Files>(
+    alloc: Global,
+    name: &str,
+    files: &mut F,
+) -> Result<Schedule, Refusal>
+    ensures in_range { IfOk result IsSchedule }
+    ensures answer { WhenTold (F.told files.old) (λ folder. MatchResult result
+        (λ schedule. schedule_in folder name.now ≡ Ok schedule) (StopsAs (schedule_in folder name.now))) }
+    ensures same { F.told files.new ≡ F.told files.old }
+    ensures counts { CountsFaults (F.counts files.old) (F.counts files.new) result }
+    ensures cause { IfErr result (Raises (F.counts files.old) (F.counts files.new)) }
+{
+    let bytes = take_file(alloc, name, SCHEDULE_LIMIT, files)?;
+    match read_schedule(alloc, &bytes) {
+        Ok(schedule) => Ok(schedule),
+        Err(ScheduleError::BadLine(line)) => {
+            Err(Refusal::refuse(alloc, name, Reason::BadLine(line)))
+        }
+        Err(ScheduleError::TooMany) => Err(Refusal::refuse(alloc, name, Reason::TooMany)),
+        Err(ScheduleError::NoMemory) => Err(Refusal::NoMemory),
+    }
+}

@@ -1,0 +1,35 @@
+// What is so of all recordings, as calls that do nothing.
+ghost use Rattle.record_command.specs.Agreement.{RecordingsAgree};
+ghost use Rattle.record_command.specs.Laws.{RecordingsRest, RecordingsWork};
+
+use command_run::reads_modules;
+use group_record::{agreement, beginning, delivery, taking};
+use schedule_text::exact_outcome;
+
+/// The logs of a recording tell its events at each moment, also where the next entry stands behind one in part. Each
+/// datagram that was taken came from outside or is one that was sent; what waits is taken, and nothing twice.
+pub fn recordings_agree()
+    ensures { RecordingsAgree }
+{
+    reads_modules();
+    exact_outcome();
+    beginning();
+    agreement();
+    delivery();
+    taking();
+}
+
+/// A schedule and modules that can be recorded whole have an outcome that is work.
+pub fn recordings_work()
+    ensures { RecordingsWork }
+{
+    reads_modules();
+    exact_outcome();
+}
+
+/// Before anything is made, a folder stands as at a moment of the run.
+pub fn recordings_rest()
+    ensures { RecordingsRest }
+{
+    recordings_agree();
+}

@@ -1,0 +1,134 @@
+// `record [--images] SCHEDULE`: runs a group as the schedule says, and writes the log of each
+// process, and the images where they are asked for.
+ghost use Rattle.std.specs.Prelude.{◌≡◌, ◌<◌, Bool, ℕ, false, length, map, option_map, IfErr, IfOk, MatchResult};
+ghost use Rattle.fri_outside.specs.Outside.{WhenTold};
+ghost use Rattle.wasm_types.specs.Modules.{module_of as shown};
+ghost use Rattle.group_record.specs.Answer.{StoppedWhere, first_states};
+ghost use Rattle.command_run.specs.Outcome.{writes_of};
+ghost use Rattle.record_command.specs.Expected.{group_outcome, module_name, record_outcome};
+ghost use Rattle.record_command.specs.Agreement.{LeavesMoment, LeavesRecording};
+ghost use Rattle.command_run.specs.Call.{CountsFaults, StopsAs, TellsOutcome, Makes, Keeps, DivergesOnlyIf, IsAnswerResult, RefusesFile, Raises};
+ghost use Rattle.record_command.specs.Seen.{Gathers, RefusesAs};
+
+use crate::inputs::{take_modules, take_schedule};
+use crate::laws::recordings_agree;
+use crate::summary::print_summary;
+use command_run::{Answer, Reason, Refusal};
+use fri_outside::{Files, keeps_files};
+use group_record::{RecordError, run_record};
+use schedule_text::{Schedule, exact_outcome};
+use std::alloc::Global;
+use wasm_types::ValidModule;
+
+// Refuses the module of process p, with which it does not begin.
+fn refuse_module(alloc: Global, schedule: &Schedule, p: u32) -> Refusal
+    requires { p < length schedule.now.processes }
+    ensures { RefusesFile (module_name schedule.now p) Reason.BadSegment result }
+{
+    let module = &schedule.processes()[p as usize].module;
+    match String::from_utf8_lossy(alloc, module.as_slice()) {
+        Ok(file) => Refusal::Refused(file, Reason::BadSegment),
+        Err(_) => Refusal::NoMemory,
+    }
+}
+
+// What a recording that was not done comes to.
+fn refusal_of(
+    alloc: Global,
+    schedule_file: &str,
+    schedule: &Schedule,
+    error: RecordError,
+) -> Refusal
+    requires { (p : ℕ) → error ≡ RecordError.BadSegment p → p < length schedule.now.processes }
+    ensures { RefusesAs schedule_file.now schedule.now error result }
+{
+    match error {
+        RecordError::BadSegment(p) => refuse_module(alloc, schedule, p),
+        RecordError::LogFull(item) => Refusal::refuse(alloc, schedule_file, Reason::LogFull(item)),
+        RecordError::WriteFault => Refusal::WriteFault,
+        RecordError::NoMemory => Refusal::NoMemory,
+    }
+}
+
+// A schedule, and the module of each of its processes.
+#[derive(Drop)]
+struct Inputs {
+    schedule: Schedule,
+    modules: Vec<ValidModule>,
+}
+
+// Reads what a recording needs. No file has changed.
+fn gather<F: Files>(alloc: Global, schedule_file: &str, files: &mut F) -> Result<Inputs, Refusal>
+    ensures answer { WhenTold (F.told files.old) (λ folder. MatchResult result
+        (λ inputs. Gathers folder schedule_file.now inputs.schedule (map shown inputs.modules.items))
+        (λ e. (images : Bool) → StopsAs (record_outcome images schedule_file.now folder) e)) }
+    ensures count { IfOk result (λ inputs. length inputs.modules.items ≡ length inputs.schedule.processes) }
+    ensures same { F.told files.new ≡ F.told files.old }
+    ensures counts { CountsFaults (F.counts files.old) (F.counts files.new) result }
+    ensures cause { IfErr result (Raises (F.counts files.old) (F.counts files.new)) }
+{
+    let schedule = take_schedule(alloc, schedule_file, files)?;
+    let modules = take_modules(alloc, schedule.processes(), files)?;
+    Ok(Inputs { schedule, modules })
+}
+
+// Records a group, and prints what came of it.
+fn record_group<F: Files>(
+    alloc: Global,
+    images: bool,
+    schedule_file: &str,
+    schedule: &Schedule,
+    modules: &[ValidModule],
+    files: &mut F,
+) -> Result<Answer, Refusal>
+    requires { length modules.now ≡ length schedule.now.processes }
+    ensures tells { TellsOutcome (group_outcome images schedule_file.now schedule.now (first_states schedule.now (map shown modules.now))) result }
+    ensures makes { Makes result (writes_of (group_outcome images schedule_file.now schedule.now (first_states schedule.now (map shown modules.now))))
+        (F.told files.old) (F.told files.new) }
+    ensures stopped { StoppedWhere schedule.now images (first_states schedule.now (map shown modules.now)) (F.told files.old) (F.told files.new) }
+    ensures keeps { Keeps result (F.told files.old) (F.told files.new) }
+    ensures done { DivergesOnlyIf false result }
+    ensures counts { CountsFaults (F.counts files.old) (F.counts files.new) result }
+    ensures cause { IfErr result (Raises (F.counts files.old) (F.counts files.new)) }
+{
+    keeps_files();
+    match run_record(alloc, schedule, modules, files, images) {
+        Ok(summary) => {
+            let text = print_summary(alloc, &summary)?;
+            Ok(Answer::Done(text))
+        }
+        Err(error) => Err(refusal_of(alloc, schedule_file, schedule, error)),
+    }
+}
+
+/// Runs the group of a schedule file, of the modules that it names, and makes the log of each process, and with
+/// `images` the files of what each leaves. At a fault, and where a log is full, the logs stay as they stand.
+pub fn record<F: Files>(
+    alloc: Global,
+    images: bool,
+    schedule_file: &str,
+    files: &mut F,
+) -> Result<Answer, Refusal>
+    ensures tells { WhenTold (option_map (record_outcome images schedule_file.now) (F.told files.old)) (λ outcome. TellsOutcome outcome result) }
+    ensures makes { WhenTold (option_map (record_outcome images schedule_file.now) (F.told files.old)) (λ outcome.
+        Makes result (writes_of outcome) (F.told files.old) (F.told files.new)) }
+    ensures keeps { Keeps result (F.told files.old) (F.told files.new) }
+    ensures done { DivergesOnlyIf false result }
+    ensures recorded { IsAnswerResult result → WhenTold (F.told files.old) (λ before. WhenTold (F.told files.new) (LeavesRecording schedule_file.now before)) }
+    ensures moment { WhenTold (F.told files.old) (λ before. LeavesMoment images schedule_file.now before (F.told files.new)) }
+    ensures counts { CountsFaults (F.counts files.old) (F.counts files.new) result }
+    ensures cause { IfErr result (Raises (F.counts files.old) (F.counts files.new)) }
+{
+    keeps_files();
+    exact_outcome();
+    recordings_agree();
+    let inputs = gather(alloc, schedule_file, files)?;
+    record_group(
+        alloc,
+        images,
+        schedule_file,
+        &inputs.schedule,
+        &inputs.modules,
+        files,
+    )
+}

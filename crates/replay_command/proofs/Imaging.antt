@@ -1,0 +1,139 @@
+-- The images that a replay makes, one process after the other.
+use Rattle.std.proofs.Common.{◌≡◌, ◌∙◌, ◌+◌, ◌++◌, ℕ, zero, suc, List, [], ◌∷◌, map, take, drop, slice_get, true, Option, Some, None, option_map, Err, refl, ap, subst, sym, inl, inr, arith, append-nil}
+use Rattle.std.specs.Prelude.{All}
+use Rattle.std.proofs.lemmas.Option.{get_or_from_slice_get, same_Some, slice_get_within}
+use Rattle.fri_outside.specs.Laws.{KeepsFiles}
+use Rattle.fri_outside.specs.Outside.{Folder}
+use Rattle.fri_outside.specs.Several.{AreFronts, ChangesOnly, with_files}
+use Rattle.fri_outside.specs.declared.files.WriteError.{WriteError}
+use Rattle.fri_outside.specs.declared.files.WriteError.TheVariants as writing
+use Rattle.call_log.specs.Head.{IsHead}
+use Rattle.fri_text.specs.Name.{is_name}
+use Rattle.group_record.specs.Images.{AreMadeInPart, image_files, made_in_part}
+use Rattle.proc_replay.specs.Replaying.{Replaying}
+use Rattle.group_state.specs.declared.image.Image.{Image}
+use Rattle.group_state.specs.Image.{image_of, left_memory, left_print}
+use Rattle.command_run.specs.Call.{write_refusal}
+use Rattle.replay_command.specs.Report.{images_in}
+use Rattle.replay_command.specs.Seen.{MakesAll}
+use Rattle.replay_command.proofs.Fronts.{fronts_behind, fronts_of_more, part_fronts, with_more}
+
+-- the two files of a process
+abbrev pub files_of : Replaying → List (List ℕ × List ℕ)
+files_of r = image_files r.head.name (left_memory r) (left_print r)
+
+-- ---- the process of a node
+
+-- it is there where it has a name
+pub has_image : (start : List Replaying) (node : ℕ) (name : List ℕ) → Some name ≡ slice_get (map (λ r. r.head.name) start) node → None ≡ option_map image_of (slice_get start node) → ⊥
+has_image [] node name named none = cc
+has_image (r ∷ start) zero name named none = cc
+has_image (r ∷ start) (suc node) name named none = has_image start node name named none
+
+record IsNode (start : List Replaying) (node : ℕ) (name : List ℕ) (image : Image) : Type 0 where
+  replay : Replaying
+  is : slice_get start node ≡ Some replay
+  named : name ≡ replay.head.name
+  leaves : image ≡ image_of replay
+
+node_is : (start : List Replaying) (node : ℕ) (name : List ℕ) (image : Image) → Some name ≡ slice_get (map (λ r. r.head.name) start) node → Some image ≡ option_map image_of (slice_get start node) → IsNode start node name image
+node_is [] node name image named leaves = cc
+node_is (r ∷ start) zero name image named leaves = record { replay = r; is = refl; named = same_Some _ _ named; leaves = same_Some _ _ leaves }
+node_is (r ∷ start) (suc node) name image named leaves =
+    let rest = node_is start node name image named leaves in
+    record { replay = rest.replay; is = rest.is; named = rest.named; leaves = rest.leaves }
+
+-- the files that are made of it are its own
+pub record AreOwn (start : List Replaying) (node : ℕ) (files : List (List ℕ × List ℕ)) : Type 0 where
+  pub replay : Replaying
+  pub is : slice_get start node ≡ Some replay
+  pub own : files ≡ files_of replay
+
+pub own_files : (start : List Replaying) (node : ℕ) (name memory printed : List ℕ) (image : Image) → Some name ≡ slice_get (map (λ r. r.head.name) start) node → Some image ≡ option_map image_of (slice_get start node)
+    → memory ≡ image.memory → printed ≡ image.printed → AreOwn start node (image_files name memory printed)
+own_files start node name memory printed image named leaves has prints =
+    let n = node_is start node name image named leaves in record {
+      replay = n.replay;
+      is = n.is;
+      own = ap (λ (name : List ℕ). image_files name memory printed) n.named
+          ∙ ap (λ (memory : List ℕ). image_files n.replay.head.name memory printed) (has ∙ ap (λ (i : Image). i.memory) n.leaves)
+          ∙ ap (λ (printed : List ℕ). image_files n.replay.head.name (left_memory n.replay) printed) (prints ∙ ap (λ (i : Image). i.printed) n.leaves);
+    }
+
+head_of_node : (start : List Replaying) (node : ℕ) (r : Replaying) → All (λ r. IsHead r.head) start → slice_get start node ≡ Some r → IsHead r.head
+head_of_node start node r heads is =
+    subst (λ (r : Replaying). IsHead r.head) (get_or_from_slice_get start node r r is) (heads node r (slice_get_within start node r is))
+
+-- its name is one
+pub node_named : (start : List Replaying) (node : ℕ) (name : List ℕ) (image : Image) → All (λ r. IsHead r.head) start → Some name ≡ slice_get (map (λ r. r.head.name) start) node → Some image ≡ option_map image_of (slice_get start node)
+    → is_name name ≡ true
+node_named start node name image heads named leaves =
+    let n = node_is start node name image named leaves in ap is_name n.named ∙ (head_of_node start node n.replay heads n.is).named
+
+-- ---- the files of the first nodes
+
+-- those of one node more
+more_images : (start : List Replaying) (node : ℕ) (r : Replaying) → slice_get start node ≡ Some r → images_in (take (suc node) start) ≡ images_in (take node start) ++ files_of r
+more_images [] node r is = cc
+more_images (s ∷ start) zero r is = ap files_of (same_Some _ _ is)
+more_images (s ∷ start) (suc node) r is = ap (λ (files : List (List ℕ × List ℕ)). files_of s ++ files) (more_images start node r is)
+
+-- those of a node stand behind those of the nodes before it
+images_around : (start : List Replaying) (node : ℕ) (r : Replaying) → slice_get start node ≡ Some r → images_in start ≡ images_in (take node start) ++ (files_of r ++ images_in (drop (suc node) start))
+images_around [] node r is = cc
+images_around (s ∷ start) zero r is = ap (λ (s : Replaying). files_of s ++ images_in start) (same_Some _ _ is)
+images_around (s ∷ start) (suc node) r is = ap (λ (files : List (List ℕ × List ℕ)). files_of s ++ files) (images_around start node r is)
+
+images_before : (start : List Replaying) (node : ℕ) → images_in start ≡ images_in (take node start) ++ images_in (drop node start)
+images_before start zero = refl
+images_before [] (suc node) = refl
+images_before (s ∷ start) (suc node) = ap (λ (files : List (List ℕ × List ℕ)). files_of s ++ files) (images_before start node)
+
+-- ---- what was made
+
+-- the two files of a node, too
+pub one_made : (start : List Replaying) (node : ℕ) (files : List (List ℕ × List ℕ)) (before mid after : Option Folder) → AreOwn start node files → mid ≡ with_files (images_in (take node start)) before
+    → after ≡ with_files files mid → after ≡ with_files (images_in (take (node + 1) start)) before
+one_made start node files before mid after a so_far made =
+    let first = images_in (take node start) in
+    let next : suc node ≡ node + 1 = omega arith in
+    made ∙ ap (λ (f : List (List ℕ × List ℕ)). with_files f mid) a.own ∙ ap (with_files (files_of a.replay)) so_far ∙ sym (with_more first (files_of a.replay) before)
+    ∙ ap (λ (f : List (List ℕ × List ℕ)). with_files f before) (sym (more_images start node a.replay a.is))
+    ∙ ap (λ (k : ℕ). with_files (images_in (take k start)) before) next
+
+no_fronts : (files : List (List ℕ × List ℕ)) → AreFronts [] files
+no_fronts files place name bytes at = cc
+
+-- those of the first nodes alone
+pub first_made : KeepsFiles → (start : List Replaying) (node : ℕ) (before mid : Option Folder) → mid ≡ with_files (images_in (take node start)) before → ChangesOnly before (images_in start) mid
+first_made keeps start node before mid so_far =
+    let first = images_in (take node start) in
+    let rest = images_in (drop node start) in
+    let made : mid ≡ with_files (first ++ []) before = so_far ∙ ap (λ (files : List (List ℕ × List ℕ)). with_files files before) (sym (append-nil first)) in
+    subst (λ (t : Option Folder). ChangesOnly before (images_in start) t) (sym made)
+    (keeps.left before (first ++ []) (images_in start)
+    (subst (AreFronts (first ++ [])) (sym (images_before start node)) (fronts_behind first [] rest (no_fronts rest))))
+
+part_of_own : KeepsFiles → (start : List Replaying) (node : ℕ) (r : Replaying) (before mid after : Option Folder) → slice_get start node ≡ Some r → mid ≡ with_files (images_in (take node start)) before
+    → AreMadeInPart (files_of r) mid after → ChangesOnly before (images_in start) after
+part_of_own keeps start node r before mid after is so_far (inl same) = first_made keeps start node before after (same ∙ so_far)
+part_of_own keeps start node r before mid after is so_far (inr (n, m, made)) =
+    let first = images_in (take node start) in
+    let part = made_in_part (files_of r) n m in
+    let rest = images_in (drop (suc node) start) in
+    let all : after ≡ with_files (first ++ part) before = made ∙ ap (with_files part) so_far ∙ sym (with_more first part before) in
+    subst (λ (t : Option Folder). ChangesOnly before (images_in start) t) (sym all)
+    (keeps.left before (first ++ part) (images_in start)
+    (subst (AreFronts (first ++ part)) (sym (images_around start node r is))
+    (fronts_behind first part (files_of r ++ rest) (fronts_of_more part (files_of r) rest (part_fronts (files_of r) n m)))))
+
+-- and a part of the next one's
+pub part_made : KeepsFiles → (start : List Replaying) (node : ℕ) (files : List (List ℕ × List ℕ)) (before mid after : Option Folder) → AreOwn start node files → mid ≡ with_files (images_in (take node start)) before
+    → AreMadeInPart files mid after → ChangesOnly before (images_in start) after
+part_made keeps start node files before mid after a so_far part =
+    part_of_own keeps start node a.replay before mid after a.is so_far (subst (λ (f : List (List ℕ × List ℕ)). AreMadeInPart f mid after) a.own part)
+
+-- a failed write makes some of them
+pub failed_makes : (error : WriteError) (files : List (List ℕ × List ℕ)) (before after : Option Folder) → ChangesOnly before files after → MakesAll (Err (write_refusal error)) files before after
+failed_makes writing.Failed files before after changes = changes
+failed_makes writing.NoMemory files before after changes = changes

@@ -1,0 +1,66 @@
+-- What `replay` comes to, from what it read and made.
+use Rattle.std.proofs.Common.{◌≡◌, ◌∙◌, ℕ, Bool, List, Option, Some, option_map, Ok, Err, Result, ap, subst, sym}
+use Rattle.fri_outside.specs.Outside.{Folder, WhenTold}
+use Rattle.proc_replay.specs.Replaying.{Replaying}
+use Rattle.group_state.specs.declared.report.Report.{Report}
+use Rattle.group_state.specs.declared.report.ReportLine.{ReportLine}
+use Rattle.group_state.specs.declared.tally.GroupCounts.{GroupCounts}
+use Rattle.group_state.specs.Place.{group_count}
+use Rattle.group_state.specs.Report.{IsReport, all_accepted, counts_in}
+use Rattle.group_state.specs.Tally.{tally}
+use Rattle.command_run.specs.declared.refusal.Answer.{Answer}
+use Rattle.command_run.specs.declared.refusal.Answer.TheVariants as answered
+use Rattle.command_run.specs.declared.refusal.Refusal.{Refusal}
+use Rattle.command_run.specs.declared.refusal.Refusal.TheVariants as refusal
+use Rattle.command_run.specs.Call.{Makes, StopsAs, TellsOutcome}
+use Rattle.replay_command.specs.Report.{replay_outcome}
+use Rattle.command_run.specs.Outcome.{CommandOutcome, Stop, and_then, writes_of}
+use Rattle.log_pairs.specs.Pairs.{NoneOpened, Pair, WasOpened, replays_of_pairs}
+use Rattle.replay_command.specs.Report.{diverges, images_if, replay_work, report_text}
+use Rattle.replay_command.specs.Seen.{MakesAll, Says}
+use Rattle.command_run.specs.OutcomeLaws.{outcome_at, stops_then}
+
+-- ---- the files were refused
+
+pub opening_stops : (images : Bool) (pairs : List Pair) (told : Option Folder) (e : Refusal) → NoneOpened pairs told e → WhenTold told (λ folder. StopsAs (replay_outcome images pairs folder) e)
+opening_stops images pairs told e stops folder is = stops_then (replays_of_pairs folder pairs) _ e (stops folder is)
+
+-- ---- the replays began
+
+pub opened_works : (images : Bool) (pairs : List Pair) (told : Option Folder) (start : List Replaying) → WasOpened pairs told start
+    → (o : CommandOutcome) → option_map (replay_outcome images pairs) told ≡ Some o → o ≡ Ok (replay_work images start)
+opened_works images pairs told start opens o is =
+    let h = outcome_at (replay_outcome images pairs) told o is in
+    h.2 ∙ ap (λ (r : Result (List Replaying) Stop). and_then r (λ start. Ok (replay_work images start))) (opens h.0 h.1)
+
+-- ---- what is made
+
+-- the images were made, and whatever comes then
+pub replay_makes : (images : Bool) (pairs : List Pair) (told after : Option Folder) (start : List Replaying) (result : Result Answer Refusal) → WasOpened pairs told start
+    → Makes result (images_if images start) told after → (o : CommandOutcome) → option_map (replay_outcome images pairs) told ≡ Some o → Makes result (writes_of o) told after
+replay_makes images pairs told after start result opens makes o here =
+    subst (λ (o : CommandOutcome). Makes result (writes_of o) told after) (sym (opened_works images pairs told start opens o here)) makes
+
+-- they were not all made
+pub some_made : (e : Refusal) (files : List (List ℕ × List ℕ)) (before after : Option Folder) → MakesAll (Err e) files before after → Makes (Err e) files before after
+some_made (refusal.Refused file why) files before after made = absurd made
+some_made (refusal.Absent file) files before after made = absurd made
+some_made refusal.ReadFault files before after made = absurd made
+some_made refusal.WriteFault files before after made = made
+some_made refusal.NoMemory files before after made = made
+
+-- ---- what is said
+
+says_of : (images : Bool) (start : List Replaying) (o : CommandOutcome) (answer : Answer) → o ≡ Ok (replay_work images start)
+    → Says (replay_work images start).text (replay_work images start).diverged answer → TellsOutcome o (Ok answer)
+says_of images start o (answered.Done text) is says = (replay_work images start, is, says.0, says.1)
+says_of images start o (answered.Diverged text) is says = (replay_work images start, is, says.0, says.1)
+
+-- the report was printed
+pub report_tells : (images : Bool) (pairs : List Pair) (told : Option Folder) (start : List Replaying) (report : Report) (answer : Answer) → WasOpened pairs told start → IsReport start report
+    → Says (report_text report.lines.items (counts_in report)) (diverges report.lines.items) answer
+    → (o : CommandOutcome) → option_map (replay_outcome images pairs) told ≡ Some o → TellsOutcome o (Ok answer)
+report_tells images pairs told start report answer opens is says o here =
+    says_of images start o answer (opened_works images pairs told start opens o here)
+    (subst (λ (lines : List ReportLine). Says (report_text lines (tally (group_count start) (all_accepted start))) (diverges lines) answer) is.lines
+    (subst (λ (counts : GroupCounts). Says (report_text report.lines.items counts) (diverges report.lines.items) answer) is.counts says))

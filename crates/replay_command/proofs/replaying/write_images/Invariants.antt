@@ -1,0 +1,11 @@
+use Rattle.std.proofs.Common.{◌≡◌, take}
+use Rattle.std.specs.Prelude.{⊤, Ok}
+use Rattle.fri_outside.specs.Several.{with_files}
+use Rattle.replay_command.specs.Report.{images_in}
+use Rattle.command_run.specs.Call.{CountsFaults}
+use Rattle.replay_command.proofs.replaying.write_images.Given as goal
+
+abbrev pub invariant-loop-node : goal.invariant-loop-node
+invariant-loop-node g l =
+    (g.F.Files.told l.files ≡ with_files (images_in (take l.node l.group.start)) (g.F.Files.told l.initial.files))
+    × CountsFaults {T = ⊤} (g.F.Files.counts l.initial.files) (g.F.Files.counts l.files) (Ok tt)

@@ -1,0 +1,89 @@
+// `replay [--images] MODULE LOG ..`: the events of a group's logs, made again.
+ghost use Rattle.std.specs.Prelude.{◌≡◌, All, List, map, option_map, IfErr};
+ghost use Rattle.fri_outside.specs.Outside.{WhenTold};
+ghost use Rattle.call_log.specs.Head.{IsHead};
+ghost use Rattle.command_run.specs.Call.{CountsFaults, Keeps, Makes, Raises, TellsOutcome};
+ghost use Rattle.command_run.specs.Outcome.{writes_of};
+ghost use Rattle.replay_command.specs.Report.{images_if, images_in, replay_outcome};
+ghost use Rattle.replay_command.specs.Seen.{MakesAll};
+ghost use Rattle.log_pairs.specs.Seen.{pair_of};
+
+use crate::report::print_report;
+use command_run::{Answer, Refusal};
+use fri_outside::{Files, keeps_files};
+use group_record::write_image;
+use group_state::Group;
+use log_pairs::{Pair, begin_all, load_all};
+use std::alloc::Global;
+
+// Writes what each process leaves, in order of the processes' numbers.
+fn write_images<F: Files>(
+    alloc: Global,
+    group: &Group<'_, '_>,
+    files: &mut F,
+) -> Result<(), Refusal>
+    requires { All (λ r. IsHead r.head) group.now.start }
+    ensures made { MakesAll result (images_in group.now.start) (F.told files.old) (F.told files.new) }
+    ensures counts { CountsFaults (F.counts files.old) (F.counts files.new) result }
+    ensures cause { IfErr result (Raises (F.counts files.old) (F.counts files.new)) }
+{
+    keeps_files();
+    for node in 0..group.nodes() {
+        let Some(name) = group.node_name(node) else {
+            unreachable!();
+        };
+        let Some(image) = group.image(alloc, node)? else {
+            unreachable!();
+        };
+        write_image(
+            alloc,
+            name,
+            image.memory.as_slice(),
+            image.printed.as_slice(),
+            files,
+        )?;
+    }
+    Ok(())
+}
+
+// The same where images were asked for, and else none.
+fn write_asked<F: Files>(
+    alloc: Global,
+    images: bool,
+    group: &Group<'_, '_>,
+    files: &mut F,
+) -> Result<(), Refusal>
+    requires { All (λ r. IsHead r.head) group.now.start }
+    ensures made { MakesAll result (images_if images group.now.start) (F.told files.old) (F.told files.new) }
+    ensures counts { CountsFaults (F.counts files.old) (F.counts files.new) result }
+    ensures cause { IfErr result (Raises (F.counts files.old) (F.counts files.new)) }
+{
+    if images {
+        write_images(alloc, group, files)
+    } else {
+        Ok(())
+    }
+}
+
+/// Replays the logs of a group, each by its module, and says what came of each and of all. With `images` the files
+/// of what the processes leave are made before.
+pub fn replay<F: Files>(
+    alloc: Global,
+    images: bool,
+    pairs: &[Pair<'_>],
+    files: &mut F,
+) -> Result<Answer, Refusal>
+    ensures tells { WhenTold (option_map (replay_outcome images (map pair_of pairs.now)) (F.told files.old)) (λ outcome. TellsOutcome outcome result) }
+    ensures makes { WhenTold (option_map (replay_outcome images (map pair_of pairs.now)) (F.told files.old)) (λ outcome.
+        Makes result (writes_of outcome) (F.told files.old) (F.told files.new)) }
+    ensures keeps { Keeps result (F.told files.old) (F.told files.new) }
+    ensures counts { CountsFaults (F.counts files.old) (F.counts files.new) result }
+    ensures cause { IfErr result (Raises (F.counts files.old) (F.counts files.new)) }
+{
+    keeps_files();
+    let all = load_all(alloc, pairs, files)?;
+    let group = Group::begin(alloc, begin_all(alloc, &all)?)?;
+    write_asked(alloc, images, &group, files)?;
+    let report = group.report(alloc)?;
+    Ok(print_report(alloc, &report)?)
+}
