@@ -1,4 +1,4 @@
-"""The instructions of a function, and of which feature after WebAssembly 1.0 each is, if it is of one."""
+"""The instructions of a function, and of which feature after WebAssembly 1.0 each is, if it is of one that friday refuses."""
 from wasm_reader import Reader
 
 # Those on floats, by their codes in 1.0.
@@ -6,7 +6,6 @@ FLOATS = [0x2A, 0x2B, 0x38, 0x39, 0x43, 0x44, *range(0x5B, 0x67), *range(0x8B, 0
 NOT_FLOAT = {0xAC, 0xAD, 0xA7}
 FLOAT_CODES = set(FLOATS) - NOT_FLOAT
 FEATURES = {
-    **{code: "sign-ext" for code in range(0xC0, 0xC5)},
     **{code: "reference-types" for code in (0x1C, 0x25, 0x26, 0xD0, 0xD1, 0xD2)},
     0x12: "tail-call", 0x13: "tail-call", 0xFD: "simd128", 0xFE: "atomics",
 }
@@ -18,7 +17,6 @@ OPERANDS = {
 }
 LONG_OPERANDS = {8: "nn", 9: "n", 10: "nn", 11: "n", 12: "nn", 13: "n", 14: "nn", 15: "n", 16: "n", 17: "n"}
 BLOCKS = (0x02, 0x03, 0x04)
-NAMES = {0xC0: "i32.extend8_s", 0xC1: "i32.extend16_s", 0xC2: "i64.extend8_s", 0xC3: "i64.extend16_s", 0xC4: "i64.extend32_s"}
 LONG_NAMES = {8: "memory.init", 9: "data.drop", 10: "memory.copy", 11: "memory.fill", 12: "table.init", 13: "elem.drop",
               14: "table.copy", 15: "table.grow", 16: "table.size", 17: "table.fill"}
 
@@ -38,7 +36,7 @@ def faults_of(function):
         if code in FLOAT_CODES:
             yield at, "float", "an instruction on floats (%#x)" % code
         elif code in FEATURES:
-            yield at, FEATURES[code], NAMES.get(code, "instruction %#x" % code)
+            yield at, FEATURES[code], "instruction %#x" % code
         if code in (0xFD, 0xFE):
             # What stands behind is of many forms, and the function is refused already.
             return

@@ -19,7 +19,6 @@ MOST_TOLD = 3
 WIDTHS = {"i": "i32", "l": "i64"}
 HELP = {
     "float": "no flag helps: friday has no floats, so count in whole numbers, as thousandths in an int64_t",
-    "sign-ext": "compile with -mcpu=mvp, or -mno-sign-ext",
     "bulk-memory": "compile with -mcpu=mvp, or -mno-bulk-memory, and libraries too",
     "reference-types": "compile and link with -mcpu=mvp, or -mno-reference-types",
     "multivalue": "compile with -mcpu=mvp, or -mno-multivalue",

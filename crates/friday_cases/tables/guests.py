@@ -12,6 +12,7 @@ TOLD = (
     "i64_compare",
     "i64_arithmetic",
     "widths",
+    "sign_extension",
     "loads",
     "stores",
     "grow",

@@ -159,7 +159,7 @@ memory_is_plain opcode bytes low high =
     let memory : leb opcode 0x40 ≡ true = le-leb opcode 0x40 (omega (arith, high)) in
     rw (no_control, no_variable, memory) refl
 
-op_again : (n opcode : ℕ) (rest : List ℕ) → 0x45 ≤ opcode → opcode ≤ 0xbf → instr_at (levels_at n) opcode rest ≡ Some (Op opcode, rest)
+op_again : (n opcode : ℕ) (rest : List ℕ) → 0x45 ≤ opcode → opcode ≤ 0xc4 → instr_at (levels_at n) opcode rest ≡ Some (Op opcode, rest)
 unfolding plain_at numeric_at
 op_again n opcode rest low high =
     let no_control : leb opcode 0x11 ≡ false = lt-leb opcode 0x11 (omega (arith, low)) in
@@ -170,7 +170,7 @@ op_again n opcode rest low high =
     let not43 : eqb opcode 0x43 ≡ false = ne_eqb opcode 0x43 (λ is. omega (arith, low)) in
     let not44 : eqb opcode 0x44 ≡ false = ne_eqb opcode 0x44 (λ is. omega (arith, low)) in
     let from : leb 0x45 opcode ≡ true = le-leb 0x45 opcode low in
-    let to : leb opcode 0xbf ≡ true = le-leb opcode 0xbf high in
+    let to : leb opcode 0xc4 ≡ true = le-leb opcode 0xc4 high in
     instr_is_plain n opcode rest (omega (arith, low)) ∙ rw (no_control, no_variable, no_memory, not41, not42, not43, not44, from, to) refl
 
 -- ---- instructions one after the other
@@ -270,9 +270,9 @@ module _ (readers : ExactReaders) where
       case_takes R 0x42 opcode bytes t rest _ _ e1 (λ here. one_takes R 0x42 bytes t rest IsI64 i64_at ConstI64 (i64_reads readers) here (λ s k h. ((s, refl, h), tt))) (λ e2.
       case_takes R 0x43 opcode bytes t rest _ _ e2 (λ here. one_takes R 0x43 bytes t rest IsF32 f32_at ConstF32 (f32_reads readers) here (λ s k h. ((s, refl, h), tt))) (λ e3.
       case_takes R 0x44 opcode bytes t rest _ _ e3 (λ here. one_takes R 0x44 bytes t rest IsF64 f64_at ConstF64 (f64_reads readers) here (λ s k h. ((s, refl, h), tt))) (λ e4.
-      let g = guard_some (leb 0x45 opcode && leb opcode 0xbf) (Op opcode, bytes) (t, rest) e4 in
-      let ends = and_parts (leb 0x45 opcode) (leb opcode 0xbf) g.0 in
-      subst (λ (y : Tree × List ℕ). Behind R opcode bytes y.0 y.1) g.1 ([], refl, ((refl, leb-true 0x45 opcode ends.0, leb-true opcode 0xbf ends.1), tt))))))
+      let g = guard_some (leb 0x45 opcode && leb opcode 0xc4) (Op opcode, bytes) (t, rest) e4 in
+      let ends = and_parts (leb 0x45 opcode) (leb opcode 0xc4) g.0 in
+      subst (λ (y : Tree × List ℕ). Behind R opcode bytes y.0 y.1) g.1 ([], refl, ((refl, leb-true 0x45 opcode ends.0, leb-true opcode 0xc4 ends.1), tt))))))
 
   plain_takes : (n opcode : ℕ) (bytes : List ℕ) (t : Tree) (rest : List ℕ) → plain_at opcode bytes ≡ Some (t, rest) → Behind (Nested n) opcode bytes t rest
   unfolding plain_at

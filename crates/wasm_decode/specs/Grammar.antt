@@ -138,7 +138,7 @@ abbrev mutual
   IsInstr bytes (ConstI64 bits) = (number : List ℕ) × (bytes ≡ 0x42 ∷ number) × IsI64 number bits
   IsInstr bytes (ConstF32 bits) = (number : List ℕ) × (bytes ≡ 0x43 ∷ number) × IsF32 number bits
   IsInstr bytes (ConstF64 bits) = (number : List ℕ) × (bytes ≡ 0x44 ∷ number) × IsF64 number bits
-  IsInstr bytes (Op opcode) = (bytes ≡ opcode ∷ []) × (0x45 ≤ opcode) × (opcode ≤ 0xbf)
+  IsInstr bytes (Op opcode) = (bytes ≡ opcode ∷ []) × (0x45 ≤ opcode) × (opcode ≤ 0xc4)
 
   -- one instruction after the other
   pub IsInstrs : List ℕ → Trees → Type 0

@@ -103,7 +103,7 @@ numeric_at opcode bytes =
     (if opcode == 0x42 then with_number i64_at ConstI64 bytes else
     (if opcode == 0x43 then with_number f32_at ConstF32 bytes else
     (if opcode == 0x44 then with_number f64_at ConstF64 bytes else
-    (if nat_le 0x45 opcode && nat_le opcode 0xbf then Some (Op opcode, bytes) else None))))
+    (if nat_le 0x45 opcode && nat_le opcode 0xc4 then Some (Op opcode, bytes) else None))))
 
 -- one of these
 unfoldable pub plain_at : ℕ → Reader Tree

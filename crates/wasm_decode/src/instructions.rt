@@ -199,7 +199,7 @@ fn numeric(cursor: &mut Cursor, opcode: u8) -> Result<Instr, DecodeError>
         0x42 => Ok(Instr::ConstI64(bits_of_i64(cursor)?)),
         0x43 => Ok(Instr::ConstF32(bits_of_f32(cursor)?)),
         0x44 => Ok(Instr::ConstF64(bits_of_f64(cursor)?)),
-        0x45..=0xbf => Ok(Instr::Op(opcode)),
+        0x45..=0xc4 => Ok(Instr::Op(opcode)),
         _ => Err(DecodeError::Malformed),
     }
 }

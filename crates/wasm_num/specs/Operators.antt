@@ -160,3 +160,8 @@ extend_u i = i
 -- the pattern of N bits of the signed number that the pattern of M bits stands for
 abbrev pub extend_s : Width → Width → ℕ → ℕ
 extend_s m n i = unsigned n (signed m i)
+
+-- the same of the lowest M bits of a pattern of N bits: an operator that came after version 1.0 (version 2.0, the
+-- same section)
+abbrev pub iextend_s : Width → Width → ℕ → ℕ
+iextend_s m n i = extend_s m n (wrap m i)

@@ -19,7 +19,10 @@ pub use bits_64::{
     i64_popcnt, i64_rem_s, i64_rem_u, i64_rotl, i64_rotr, i64_shl, i64_shr_s, i64_shr_u, i64_sub,
     i64_xor,
 };
-pub use convert::{i32_wrap_i64, i64_extend_i32_s, i64_extend_i32_u};
+pub use convert::{
+    i32_extend8_s, i32_extend16_s, i32_wrap_i64, i64_extend8_s, i64_extend16_s, i64_extend32_s,
+    i64_extend_i32_s, i64_extend_i32_u,
+};
 
 /// Why a division has no result.
 #[derive(Clone, Copy, Debug, PartialEq, Eq)]

@@ -223,7 +223,7 @@ from_A5 op h rest =
     each OpFits 0xB4 op h (λ h. absurd (never h)) (λ h.
     rest h))))))))))))))))
 
-from_B5 : (op : ℕ) → 0xB5 ≤ op → (0xC0 ≤ op → OpFits op) → OpFits op
+from_B5 : (op : ℕ) → 0xB5 ≤ op → (0xC5 ≤ op → OpFits op) → OpFits op
 unfolding is_unary
 from_B5 op h rest =
     each OpFits 0xB5 op h (λ h. absurd (never h)) (λ h.
@@ -237,9 +237,14 @@ from_B5 op h rest =
     each OpFits 0xBD op h (λ h. absurd (never h)) (λ h.
     each OpFits 0xBE op h (λ h. absurd (never h)) (λ h.
     each OpFits 0xBF op h (λ h. absurd (never h)) (λ h.
-    rest h)))))))))))
+    each OpFits 0xC0 op h (λ _. (refl, on_32 0xC0 types.I32 (λ x. refl))) (λ h.
+    each OpFits 0xC1 op h (λ _. (refl, on_32 0xC1 types.I32 (λ x. refl))) (λ h.
+    each OpFits 0xC2 op h (λ _. (refl, on_64 0xC2 types.I64 (λ x. refl))) (λ h.
+    each OpFits 0xC3 op h (λ _. (refl, on_64 0xC3 types.I64 (λ x. refl))) (λ h.
+    each OpFits 0xC4 op h (λ _. (refl, on_64 0xC4 types.I64 (λ x. refl))) (λ h.
+    rest h))))))))))))))))
 
-past_all : (op : ℕ) → 0xC0 ≤ op → OpFits op
+past_all : (op : ℕ) → 0xC5 ≤ op → OpFits op
 past_all op h =
     let none : operator_of op ≡ None = search (rules, tests) in
     subst (λ (o : Option Operator). FitsOf op o) (sym none) tt

@@ -33,7 +33,7 @@ const INSTRUCTIONS: &[(&[u8], &str)] = &[
         b"C\0\0\x80?D\0\0\0\0\0\0\xf0?",
         "[ConstF32(1065353216), ConstF64(4607182418800017408)]",
     ),
-    (b"E|\xbf", "[Op(69), Op(124), Op(191)]"),
+    (b"E|\xbf\xc0\xc4", "[Op(69), Op(124), Op(191), Op(192), Op(196)]"),
     (
         b"\x03}\x02|\x0b\x01\x0b",
         "[Loop(Some(F32), [Block(Some(F64), []), Nop])]",
@@ -47,7 +47,7 @@ const INSTRUCTIONS: &[(&[u8], &str)] = &[
     (b"\x12", "Malformed"),
     (b"\x1c", "Malformed"),
     (b"'\0\0", "Malformed"),
-    (b"\xc0", "Malformed"),
+    (b"\xc5", "Malformed"),
     (b"\xff", "Malformed"),
     // The byte after them has to be 00.
     (b"?\x01", "Malformed"),

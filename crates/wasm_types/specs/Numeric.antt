@@ -48,4 +48,6 @@ operator_of n =
     if nat_le n 0xBD then unary_operator F64 I64 else
     if nat_le n 0xBE then unary_operator I32 F32 else
     if nat_le n 0xBF then unary_operator I64 F64 else
+    if nat_le n 0xC1 then unary_operator I32 I32 else
+    if nat_le n 0xC4 then unary_operator I64 I64 else
     None

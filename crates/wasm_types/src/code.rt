@@ -71,6 +71,6 @@ pub enum Instr {
     ConstI64(u64),
     ConstF32(u32),
     ConstF64(u64),
-    /// A numeric instruction without immediates, as its opcode from 0x45 to 0xBF.
+    /// A numeric instruction without immediates, as its opcode from 0x45 to 0xC4.
     Op(u8),
 }

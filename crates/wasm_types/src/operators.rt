@@ -53,6 +53,8 @@ pub fn operator_of(opcode: u8) -> Option<Operator>
         0xBD => unary_operator(F64, I64),
         0xBE => unary_operator(I32, F32),
         0xBF => unary_operator(I64, F64),
+        0xC0..=0xC1 => unary_operator(I32, I32),
+        0xC2..=0xC4 => unary_operator(I64, I64),
         _ => None,
     }
 }

@@ -1,9 +1,10 @@
 -- What the numeric instructions compute, by their opcodes: the operators of the WebAssembly
--- specification, version 1.0, section 4.3.2, in the order of its section 5.4.5.
+-- specification, version 1.0, section 4.3.2, in the order of its section 5.4.5, and the five on the signed number of
+-- the lowest bits, which came with version 2.0.
 use Rattle.std.specs.Prelude.{ℕ, Bool, false, ◌&&◌, nat_eq, nat_le, length, if◌then◌else◌, Option, Some, None, Result, Ok, Err}
-use Rattle.std.specs.Int.{w32, w64}
+use Rattle.std.specs.Int.{w8, w16, w32, w64}
 use Rattle.std.specs.Option.{option_map_or}
-use Rattle.wasm_num.specs.Operators.{ieqz, ieq, ine, ilt_s, ilt_u, igt_s, igt_u, ile_s, ile_u, ige_s, ige_u, iclz, ictz, ipopcnt, iadd, isub, imul, idiv_s, idiv_u, irem_s, irem_u, iand, ior, ixor, ishl, ishr_s, ishr_u, irotl, irotr, wrap, extend_s, extend_u}
+use Rattle.wasm_num.specs.Operators.{ieqz, ieq, ine, ilt_s, ilt_u, igt_s, igt_u, ile_s, ile_u, ige_s, ige_u, iclz, ictz, ipopcnt, iadd, isub, imul, idiv_s, idiv_u, irem_s, irem_u, iand, ior, ixor, ishl, ishr_s, ishr_u, irotl, irotr, wrap, extend_s, extend_u, iextend_s}
 use Rattle.wasm_num.specs.declared.Trap.{Trap as NoResult}
 use Rattle.wasm_num.specs.declared.Trap.TheVariants as num
 use Rattle.wasm_types.specs.declared.code.Value.{Value}
@@ -57,6 +58,8 @@ unary_32 op x =
     if nat_eq op 0x69 then Gives (I32 (ipopcnt x)) else
     if nat_eq op 0xAC then Gives (I64 (extend_s w32 w64 x)) else
     if nat_eq op 0xAD then Gives (I64 (extend_u x)) else
+    if nat_eq op 0xC0 then Gives (I32 (iextend_s w8 w32 x)) else
+    if nat_eq op 0xC1 then Gives (I32 (iextend_s w16 w32 x)) else
     IsNone
 
 abbrev pub unary_64 : ℕ → ℕ → Computed
@@ -66,6 +69,9 @@ unary_64 op x =
     if nat_eq op 0x7A then Gives (I64 (ictz w64 x)) else
     if nat_eq op 0x7B then Gives (I64 (ipopcnt x)) else
     if nat_eq op 0xA7 then Gives (I32 (wrap w32 x)) else
+    if nat_eq op 0xC2 then Gives (I64 (iextend_s w8 w64 x)) else
+    if nat_eq op 0xC3 then Gives (I64 (iextend_s w16 w64 x)) else
+    if nat_eq op 0xC4 then Gives (I64 (iextend_s w32 w64 x)) else
     IsNone
 
 abbrev pub unary : ℕ → Value → Computed

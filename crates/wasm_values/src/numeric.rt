@@ -3,11 +3,11 @@ ghost use Rattle.std.specs.Prelude.{◌≡◌, IfSome, false, true};
 ghost use Rattle.wasm_values.specs.Numeric.{Gives, binary, binary_32, binary_64, combine_32, combine_64, compare_32, compare_64, computed_of, divide_32, divide_64, divided_32, divided_64, gives_32, gives_64, is_unary, trap_of, unary, unary_32, unary_64};
 
 use wasm_num::{
-    i32_add, i32_and, i32_clz, i32_ctz, i32_div_s, i32_div_u, i32_eq, i32_eqz, i32_ge_s, i32_ge_u,
+    i32_add, i32_and, i32_clz, i32_ctz, i32_div_s, i32_div_u, i32_eq, i32_eqz, i32_extend8_s, i32_extend16_s, i32_ge_s, i32_ge_u,
     i32_gt_s, i32_gt_u, i32_le_s, i32_le_u, i32_lt_s, i32_lt_u, i32_mul, i32_ne, i32_or,
     i32_popcnt, i32_rem_s, i32_rem_u, i32_rotl, i32_rotr, i32_shl, i32_shr_s, i32_shr_u, i32_sub,
     i32_wrap_i64, i32_xor, i64_add, i64_and, i64_clz, i64_ctz, i64_div_s, i64_div_u, i64_eq,
-    i64_eqz, i64_extend_i32_s, i64_extend_i32_u, i64_ge_s, i64_ge_u, i64_gt_s, i64_gt_u, i64_le_s,
+    i64_eqz, i64_extend8_s, i64_extend16_s, i64_extend32_s, i64_extend_i32_s, i64_extend_i32_u, i64_ge_s, i64_ge_u, i64_gt_s, i64_gt_u, i64_le_s,
     i64_le_u, i64_lt_s, i64_lt_u, i64_mul, i64_ne, i64_or, i64_popcnt, i64_rem_s, i64_rem_u,
     i64_rotl, i64_rotr, i64_shl, i64_shr_s, i64_shr_u, i64_sub, i64_xor,
 };
@@ -146,6 +146,8 @@ fn changed_32(op: u8, x: u32) -> Option<Slot>
         0x69 => Some(Slot::narrow(i32_popcnt(x))),
         0xAC => Some(Slot::long(i64_extend_i32_s(x))),
         0xAD => Some(Slot::long(i64_extend_i32_u(x))),
+        0xC0 => Some(Slot::narrow(i32_extend8_s(x))),
+        0xC1 => Some(Slot::narrow(i32_extend16_s(x))),
         _ => None,
     }
 }
@@ -162,6 +164,9 @@ fn changed_64(op: u8, x: u64) -> Option<Slot>
         0x7A => Some(Slot::long(i64_ctz(x))),
         0x7B => Some(Slot::long(i64_popcnt(x))),
         0xA7 => Some(Slot::narrow(i32_wrap_i64(x))),
+        0xC2 => Some(Slot::long(i64_extend8_s(x))),
+        0xC3 => Some(Slot::long(i64_extend16_s(x))),
+        0xC4 => Some(Slot::long(i64_extend32_s(x))),
         _ => None,
     }
 }
@@ -187,6 +192,8 @@ fn unary_32(op: u8, x: u32) -> Number
         0x69 => Number::Given(Value::I32(i32_popcnt(x))),
         0xAC => Number::Given(Value::I64(i64_extend_i32_s(x))),
         0xAD => Number::Given(Value::I64(i64_extend_i32_u(x))),
+        0xC0 => Number::Given(Value::I32(i32_extend8_s(x))),
+        0xC1 => Number::Given(Value::I32(i32_extend16_s(x))),
         _ => Number::Missing,
     }
 }
@@ -200,6 +207,9 @@ fn unary_64(op: u8, x: u64) -> Number
         0x7A => Number::Given(Value::I64(i64_ctz(x))),
         0x7B => Number::Given(Value::I64(i64_popcnt(x))),
         0xA7 => Number::Given(Value::I32(i32_wrap_i64(x))),
+        0xC2 => Number::Given(Value::I64(i64_extend8_s(x))),
+        0xC3 => Number::Given(Value::I64(i64_extend16_s(x))),
+        0xC4 => Number::Given(Value::I64(i64_extend32_s(x))),
         _ => Number::Missing,
     }
 }
