@@ -15,7 +15,7 @@ use Rattle.guest_process.specs.State.{State}
 use Rattle.group_order.specs.Order.{AreMerged, NodeEvent, of_node}
 use Rattle.proc_replay.specs.Course.{AreReplays, AreTurns}
 use Rattle.proc_replay.specs.Replaying.{Makes, Replaying, after, after_at, move_by, moved, turn, turn_at}
-use Rattle.group_state.specs.At.{parts_from}
+use Rattle.group_state.specs.Stands.{parts_from}
 use Rattle.group_state.specs.Laws.{IsStep}
 use Rattle.group_state.specs.Place.{AreParts, PartsFit, events, states, states_from}
 use Rattle.group_state.proofs.Coming.{made_first}
