@@ -9,7 +9,7 @@ use Rattle.lib_calls.specs.declared.entry.Entry.{Entry}
 use Rattle.lib_calls.specs.declared.entry.EntryView.{EntryView}
 use Rattle.guest_process.specs.OneEvent.{IsKept, Rises as AreRising}
 use Rattle.group_order.specs.Heads.{IsFirstNode}
-use Rattle.group_order.specs.Order.{AreMerged, NodeEvent, node_event}
+use Rattle.group_order.specs.Order.{AreMerged, node_event}
 use Rattle.proc_replay.specs.Course.{AreTurns}
 use Rattle.proc_replay.specs.Replaying.{Makes, Replaying, after, turn}
 use Rattle.proc_replay.specs.Seen.{move_of}
