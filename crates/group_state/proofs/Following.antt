@@ -13,7 +13,7 @@ use Rattle.group_order.specs.Heads.{AreNone, IsFirstNode}
 use Rattle.group_order.specs.Order.{AreMerged, ClocksRise, IsMerged, NodeEvent, events_from, list_of, node_event, of_node, order}
 use Rattle.proc_replay.specs.Course.{AreReplays, AreTurns, ahead}
 use Rattle.proc_replay.specs.Replaying.{Makes, Replaying, after, turn}
-use Rattle.group_state.specs.At.{parts_from}
+use Rattle.group_state.specs.Stands.{parts_from}
 use Rattle.group_state.specs.Place.{PartsFit, entry_clock, events, head, node_event_count, states}
 use Rattle.group_state.proofs.Coming.{ahead_room, made_first}
 use Rattle.group_state.proofs.Nodes.{among_own, count_take, length_sort, of_node-drop, sorted_drop}

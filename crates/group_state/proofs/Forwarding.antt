@@ -1,6 +1,6 @@
 -- A group's step: the node that comes next has its turn.
 use Rattle.std.proofs.Common.{◌≡◌, ℕ, ◌+◌, ◌-◌, ◌<◌, List, [], ◌∷◌, ◌++◌, map, length, take, get_or, set, Option, Some, refl, sym, ap, subst, ◌∙◌, add-one, arith}
-use Rattle.std.specs.Prelude.{slice_get}
+use Rattle.std.specs.Prelude.{option_map, slice_get}
 use Rattle.std.specs.List.{swap, swap_remove}
 use Rattle.std.proofs.lemmas.List.{get_or-set_same, length-set, map-append, map-set, take_more, take_more_set}
 use Rattle.std.proofs.lemmas.Option.{get_or_from_slice_get, slice_get_within}
@@ -9,15 +9,16 @@ use Rattle.lib_calls.specs.declared.entry.Entry.{Entry}
 use Rattle.lib_calls.specs.declared.entry.EntryView.{EntryView}
 use Rattle.guest_process.specs.OneEvent.{IsKept, Rises as AreRising}
 use Rattle.group_order.specs.Heads.{IsFirstNode}
-use Rattle.group_order.specs.Order.{AreMerged, NodeEvent, node_event}
+use Rattle.group_order.specs.Order.{AreMerged, node_event}
 use Rattle.proc_replay.specs.Course.{AreTurns}
 use Rattle.proc_replay.specs.Replaying.{Makes, Replaying, after, turn}
 use Rattle.proc_replay.specs.Seen.{move_of}
 use Rattle.proc_replay.specs.declared.turn.Turn.{Turn}
 use Rattle.proc_replay.specs.declared.turn.Turn.TheVariants as code
-use Rattle.group_state.specs.At.{parts_from}
-use Rattle.group_state.specs.Moves.{Turns, event_before}
+use Rattle.group_state.specs.declared.stand.Stand.{Stand}
+use Rattle.group_state.specs.Moves.{Turns, event_before, event_of}
 use Rattle.group_state.specs.Place.{PartsFit, events, head}
+use Rattle.group_state.specs.Stands.{IsStand, parts_from}
 use Rattle.group_state.proofs.Following.{goes}
 use Rattle.group_state.proofs.Swaps.{put_back}
 
@@ -76,10 +77,16 @@ is_event (code.Event v) e is not = not v refl
 is_event code.LogEnd e is not = cc
 is_event (code.Diverged at why) e is not = cc
 
-pub last_after : (es : List (NodeEvent Entry)) (at : ℕ) → event_before es (at + 1) ≡ slice_get es at
-last_after es at = ap (event_before es) (add-one at)
+-- so the group stands at the next position
+pub stands_on : (start new : List Replaying) (heads : List (Option ℕ)) (at node : ℕ) (t : Turn) (v : EntryView) (stand : Stand) → Forwarded start new heads at node t → t ≡ code.Event v
+    → stand.parts.items ≡ new → stand.at ≡ at + 1 → stand.last ≡ Some (record { node = node; entry = v }) → IsStand start stand
+stands_on start new heads at node t v stand f is parts at_is last_is = record {
+  parts = parts ∙ f.stand ∙ ap (λ n. parts_from 0 start (take n (events start))) (sym at_is);
+  within = omega (arith, at_is, f.within);
+  last = ap (option_map event_of) last_is ∙ given start new heads at node t v f is ∙ sym (ap (event_before (events start)) (at_is ∙ add-one at));
+}
 
--- ---- the heads at the beginning
+-- ---- the heads of some replays
 
 pub headed : (parts : List Replaying) (node : ℕ) (part : Replaying) (merge more : List (Option ℕ)) (h : Option ℕ) → node < length parts → length merge ≡ length parts
     → part ≡ get_or parts node part → h ≡ head part → more ≡ set merge node h → take node merge ≡ map head (take node parts) → take (node + 1) more ≡ map head (take (node + 1) parts)

@@ -1,4 +1,5 @@
 pub mod Coming
+pub mod Copying
 pub mod Counting
 pub mod Folding
 pub mod Following

@@ -9,7 +9,7 @@ use Rattle.guest_process.specs.Replay.{accepted}
 use Rattle.group_order.specs.Order.{ClocksRise, NodeEvent, first_clocks, list_of}
 use Rattle.proc_replay.specs.Course.{AreReplays, AreTurns, ahead, turns}
 use Rattle.proc_replay.specs.Replaying.{Replaying, after}
-use Rattle.group_state.specs.At.{parts_from}
+use Rattle.group_state.specs.Stands.{parts_from}
 use Rattle.group_state.specs.Place.{entry_clock, head, node_event_count, states_from}
 use Rattle.group_state.proofs.Coming.{ahead_turns, drop_none, head_ahead, turns_more}
 use Rattle.group_state.proofs.Nodes.{count_other, count_own}

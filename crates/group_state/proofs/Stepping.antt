@@ -3,7 +3,6 @@ use Rattle.std.proofs.Common.{◌≡◌, ℕ, zero, suc, List, [], ◌∷◌, ma
 use Rattle.std.specs.Prelude.{option_map, slice_get}
 use Rattle.std.proofs.lemmas.List.{map-set}
 use Rattle.std.proofs.lemmas.Option.{slice_get-map}
-use Rattle.lib_calls.specs.Entry.{IsShaped}
 use Rattle.lib_calls.specs.declared.entry.Entry.{Entry}
 use Rattle.call_log.specs.Laws.{FindsEntries}
 use Rattle.call_log.specs.Log.{entry_at}
@@ -15,7 +14,7 @@ use Rattle.guest_process.specs.State.{State}
 use Rattle.group_order.specs.Order.{AreMerged, NodeEvent, of_node}
 use Rattle.proc_replay.specs.Course.{AreReplays, AreTurns}
 use Rattle.proc_replay.specs.Replaying.{Makes, Replaying, after, after_at, move_by, moved, turn, turn_at}
-use Rattle.group_state.specs.At.{parts_from}
+use Rattle.group_state.specs.Stands.{parts_from}
 use Rattle.group_state.specs.Laws.{IsStep}
 use Rattle.group_state.specs.Place.{AreParts, PartsFit, events, states, states_from}
 use Rattle.group_state.proofs.Coming.{made_first}

@@ -1,5 +1,6 @@
 pub mod Place
 pub mod Moves
+pub mod Stands
 pub mod At
 pub mod Tally
 pub mod Tallying

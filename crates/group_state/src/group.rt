@@ -2,9 +2,13 @@
 ghost use Rattle.std.specs.Prelude.{◌≡◌, ◌≤◌, ◌-◌, ℕ, Some, None, IfOk, IsTrue, IsFalse, ◌↔◌, length, map, option_map, slice_get};
 ghost use Rattle.group_state.specs.Place.{AreParts, PartsFit, Place, events, states};
 ghost use Rattle.group_state.specs.Moves.{IsThere, Moves, event_of, last_event_of};
+ghost use Rattle.group_state.specs.Stands.{IsSooner};
 
+use crate::checkpoints::Checkpoints;
 use crate::event::GroupEvent;
 use crate::forward::{head_of, take_turn};
+use crate::stand::{Stand, merge_of};
+use crate::work::Counter;
 use group_order::{Merge, merges};
 use guest_process::{Process, kept, rises};
 use lib_calls::Entry;
@@ -16,11 +20,13 @@ use std::marker::Model;
 /// clock and then by node. Contracts see the replays at position 0, and the position.
 #[derive(Drop)]
 pub struct Group<'m, 'a> {
+    alloc: Global,
+    // Where the group begins is a checkpoint too.
     pub(crate) first: Vec<Replayer<'m, 'a>>,
-    pub(crate) parts: Vec<Replayer<'m, 'a>>,
+    pub(crate) checkpoints: Checkpoints<'m, 'a>,
+    pub(crate) here: Stand<'m, 'a>,
     merge: Merge,
-    at: u64,
-    last: Option<GroupEvent<'a>>,
+    pub(crate) counter: Counter,
 }
 
 impl<'m, 'a> Model for Group<'m, 'a> {
@@ -46,19 +52,15 @@ impl<'m, 'a> Group<'m, 'a> {
         ensures { IfOk result (λ group. group ≡ record { start = parts.entry.items; at = 0 }) }
     {
         replays();
-        let mut merge = Merge::new(alloc, parts.len() as u32)?;
-        let mut first = Vec::new(alloc);
-        for (node, part) in parts.iter().enumerate() {
-            let _ = part.process().events();
-            merge.set_head(node as u32, head_of(part));
-            first.push(part.copy(alloc)?)?;
-        }
+        let here = Stand::first(alloc, &parts)?;
+        let merge = merge_of(alloc, &here.parts)?;
         Ok(Group {
-            first,
-            parts,
+            alloc,
+            first: parts,
+            checkpoints: Checkpoints::new(alloc),
+            here,
             merge,
-            at: 0,
-            last: None,
+            counter: Counter::new(),
         })
     }
 
@@ -75,50 +77,81 @@ impl<'m, 'a> Group<'m, 'a> {
             return Ok((self, None));
         };
         let Group {
+            alloc,
             first,
-            mut parts,
+            mut checkpoints,
+            mut here,
             mut merge,
-            at,
-            ..
+            mut counter,
         } = self;
-        let turn = take_turn(&mut parts, node)?;
-        merge.set_head(node, head_of(&parts[node as usize]));
+        let turn = take_turn(&mut here.parts, node)?;
+        merge.set_head(node, head_of(&here.parts[node as usize]));
         let Turn::Event(entry) = turn else {
             unreachable!();
         };
         let event = GroupEvent { node, entry };
+        here.at += 1;
+        here.last = Some(event);
+        checkpoints.keep(alloc, &here)?;
+        counter.count_event();
         let group = Group {
+            alloc,
             first,
-            parts,
+            checkpoints,
+            here,
             merge,
-            at: at + 1,
-            last: Some(event),
+            counter,
         };
         Ok((group, Some(event)))
     }
 
     /// The group at position k, and true. False comes exactly where there are fewer than k events, and the
-    /// group is then as it was. A position behind the present one is reached from position 0 on.
+    /// group is then as it was. It is replayed from where it stands, or from the last checkpoint that is not past
+    /// the position.
     pub fn goto(self, alloc: Global, k: u64) -> Result<(Group<'m, 'a>, bool), AllocError>
         ensures { IfOk result (λ went. IsThere self.entry k went.0 went.1) }
     {
-        let at = self.at;
-        let begun = if k < at { self.restart(alloc)? } else { self };
-        let (reached, there) = begun.advance_to(k)?;
+        let at = self.here.at;
+        let (reached, there) = self.near(alloc, k)?.advance_to(k)?;
         if there {
             return Ok((reached, true));
         }
-        let (back, _) = reached.restart(alloc)?.advance_to(at)?;
+        let (back, _) = reached.near(alloc, at)?.advance_to(at)?;
         Ok((back, false))
     }
 
-    // The group at position 0.
-    fn restart(self, alloc: Global) -> Result<Group<'m, 'a>, AllocError>
-        ensures { IfOk result (λ group. group ≡ record { start = self.entry.start; at = 0 }) }
+    // The group from where it comes to position k soonest: as it is, or at a checkpoint.
+    fn near(self, alloc: Global, k: u64) -> Result<Group<'m, 'a>, AllocError>
+        ensures start { IfOk result (λ group. group.start ≡ self.entry.start) }
+        ensures at { IfOk result (λ group. group.at ≤ k) }
     {
-        let Group { first, parts, .. } = self;
-        drop(parts);
-        Group::begin(alloc, first)
+        let Some(stand) = self.sooner(alloc, k)? else {
+            return Ok(self);
+        };
+        let merge = merge_of(alloc, &stand.parts)?;
+        Ok(Group {
+            here: stand,
+            merge,
+            ..self
+        })
+    }
+
+    // The last checkpoint that is not past position k. None comes where it is no nearer than the group.
+    fn sooner(&self, alloc: Global, k: u64) -> Result<Option<Stand<'m, 'a>>, AllocError>
+        ensures { IfOk result (IsSooner self.now k) }
+    {
+        let nearest = self.checkpoints.nearest(k);
+        let from = match nearest {
+            Some(stand) => stand.at,
+            None => 0,
+        };
+        if from <= self.here.at && self.here.at <= k {
+            return Ok(None);
+        }
+        match nearest {
+            Some(stand) => Ok(Some(stand.copy(alloc)?)),
+            None => Ok(Some(Stand::first(alloc, &self.first)?)),
+        }
     }
 
     // The group at position k, which is not behind it, and true; or at its end, and false.
@@ -129,7 +162,7 @@ impl<'m, 'a> Group<'m, 'a> {
         ensures within { IfOk result (λ went. IsTrue went.1 ↔ k ≤ length (events self.entry.start)) }
     {
         let mut group = self;
-        'events: while group.at < k {
+        'events: while group.here.at < k {
             let (next, event) = group.forward()?;
             group = next;
             if event.is_none() {
@@ -146,14 +179,14 @@ impl<'m, 'a> Group<'m, 'a> {
         ensures parts { AreParts self.now.start }
         ensures fits { PartsFit self.now.start }
     {
-        self.at
+        self.here.at
     }
 
     /// The event that was made last. None comes exactly at position 0.
     pub fn last_event(&self) -> Option<GroupEvent<'a>>
         ensures { option_map event_of result ≡ last_event_of self.now }
     {
-        self.last
+        self.here.last
     }
 
     /// How many logs there are.
@@ -185,7 +218,7 @@ impl<'m, 'a> Group<'m, 'a> {
         replays();
         rises();
         kept();
-        let part = self.parts.get(node as usize)?;
+        let part = self.here.parts.get(node as usize)?;
         Some(part)
     }
 }

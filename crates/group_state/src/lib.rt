@@ -2,6 +2,7 @@
 //! and then by process; what is said of the whole; and what the processes leave.
 #![tactic(auto)]
 
+mod checkpoints;
 mod event;
 mod forward;
 mod group;
@@ -9,11 +10,14 @@ mod image;
 mod laws;
 mod part;
 mod report;
+mod stand;
 mod tally;
 mod view;
+mod work;
 
 pub use event::GroupEvent;
 pub use group::Group;
 pub use image::Image;
 pub use laws::{ordered, stepwise};
 pub use report::{Report, ReportLine, Verdict};
+pub use work::Work;

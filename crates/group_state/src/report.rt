@@ -84,8 +84,14 @@ impl<'m, 'a> Group<'m, 'a> {
     {
         rises();
         kept();
-        let Group { first, parts, .. } = self;
-        drop(parts);
+        let Group {
+            first,
+            checkpoints,
+            here,
+            ..
+        } = self;
+        drop(checkpoints);
+        drop(here);
         let mut tally = Tally::new(alloc, group_count(&first));
         let mut lines = Vec::new(alloc);
         for part in first {

@@ -45,6 +45,7 @@ impl<'m, 'a> View for Group<'m, 'a> {
     }
 
     fn part(&self, node: u32, addr: u64, len: u64) -> Option<&[u8]> {
+        self.counter.count_load();
         self.at(node).memory().part(addr, len)
     }
 

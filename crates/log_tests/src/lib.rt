@@ -5,6 +5,8 @@
 #[cfg(test)]
 mod calls;
 #[cfg(test)]
+mod groups;
+#[cfg(test)]
 mod logs;
 #[cfg(test)]
 mod processes;

@@ -1,0 +1,43 @@
+-- Where groups stand.
+use Rattle.std.specs.Prelude.{◌≡◌, ℕ, suc, ◌≤◌, List, [], ◌∷◌, All, length, option_map, take, Option, Some, None}
+use Rattle.lib_calls.specs.declared.entry.Entry.{Entry}
+use Rattle.group_order.specs.Order.{NodeEvent}
+use Rattle.proc_replay.specs.Course.{turns}
+use Rattle.proc_replay.specs.Replaying.{Replaying}
+use Rattle.group_state.specs.declared.stand.Stand.{Stand}
+use Rattle.group_state.specs.Moves.{event_of, last_event_of}
+use Rattle.group_state.specs.Place.{Place, events, node_event_count}
+
+-- each replay from this node on, after as many turns as it has events among these
+abbrev pub parts_from : ℕ → List Replaying → List (NodeEvent Entry) → List Replaying
+parts_from node [] es = []
+parts_from node (r ∷ rs) es = turns r (node_event_count node es) ∷ parts_from (suc node) rs es
+
+-- the group of these replays stands so at some position: the parts had the turns of the events before it
+pub record IsStand (start : List Replaying) (stand : Stand) : Type 0 where
+  pub parts : stand.parts.items ≡ parts_from 0 start (take stand.at (events start))
+  pub within : stand.at ≤ length (events start)
+  pub last : option_map event_of stand.last ≡ last_event_of (record { start = start; at = stand.at })
+
+-- and so it does at each of several
+abbrev pub AreStands : List Replaying → List Stand → Type 0
+AreStands start stands = All (IsStand start) stands
+
+-- both are where the group stands
+pub record SameStand (stand copy : Stand) : Type 0 where
+  pub parts : copy.parts.items ≡ stand.parts.items
+  pub at : copy.at ≡ stand.at
+  pub last : copy.last ≡ stand.last
+
+-- the new ones are where a group stands, if the old are
+abbrev pub StillStand : List Stand → List Stand → Type 0
+StillStand old new = (start : List Replaying) → AreStands start old → AreStands start new
+
+-- if the old are and this one is
+abbrev pub Keeps : List Stand → Stand → List Stand → Type 0
+Keeps old here new = (start : List Replaying) → AreStands start old → IsStand start here → AreStands start new
+
+-- where the group stands at a position that is not past k; none where its own is not past k
+abbrev pub IsSooner : Place → ℕ → Option Stand → Type 0
+IsSooner place k None = place.at ≤ k
+IsSooner place k (Some stand) = IsStand place.start stand × (stand.at ≤ k)

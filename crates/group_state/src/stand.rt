@@ -1,0 +1,75 @@
+// Where a group stands.
+ghost use Rattle.std.specs.Prelude.{◌≡◌, ◌≤◌, IfOk, length, map};
+ghost use Rattle.group_state.specs.Place.{PartsFit, head};
+ghost use Rattle.group_state.specs.Stands.{IsStand, SameStand};
+
+use crate::event::GroupEvent;
+use crate::forward::head_of;
+use group_order::Merge;
+use proc_replay::Replayer;
+use std::alloc::{AllocError, Global};
+
+/// The replays of a group's logs after so many of its events, and the last of these.
+#[derive(Drop)]
+pub(crate) struct Stand<'m, 'a> {
+    pub parts: Vec<Replayer<'m, 'a>>,
+    pub at: u64,
+    pub last: Option<GroupEvent<'a>>,
+}
+
+impl<'m, 'a> Stand<'m, 'a> {
+    /// Where the group of these replays begins.
+    pub(crate) fn first(
+        alloc: Global,
+        parts: &[Replayer<'m, 'a>],
+    ) -> Result<Stand<'m, 'a>, AllocError>
+        ensures stand { IfOk result (IsStand parts.now) }
+        ensures at { IfOk result (λ stand. stand.at ≡ 0) }
+        ensures fits { IfOk result (λ _. PartsFit parts.now) }
+    {
+        Ok(Stand {
+            parts: copy_parts(alloc, parts)?,
+            at: 0,
+            last: None,
+        })
+    }
+
+    /// The same, with replays of its own.
+    pub(crate) fn copy(&self, alloc: Global) -> Result<Stand<'m, 'a>, AllocError>
+        ensures { IfOk result (SameStand self.now) }
+    {
+        Ok(Stand {
+            parts: copy_parts(alloc, &self.parts)?,
+            at: self.at,
+            last: self.last,
+        })
+    }
+}
+
+// Equal replays, and that the process of each is in the ranges of its module.
+fn copy_parts<'m, 'a>(
+    alloc: Global,
+    parts: &[Replayer<'m, 'a>],
+) -> Result<Vec<Replayer<'m, 'a>>, AllocError>
+    ensures items { IfOk result (λ copies. copies.items ≡ parts.now) }
+    ensures fits { IfOk result (λ _. PartsFit parts.now) }
+{
+    let mut copies = Vec::new(alloc);
+    for part in parts {
+        let _ = part.process().events();
+        copies.push(part.copy(alloc)?)?;
+    }
+    Ok(copies)
+}
+
+/// Which of these replays has the next event of their group.
+pub(crate) fn merge_of(alloc: Global, parts: &[Replayer<'_, '_>]) -> Result<Merge, AllocError>
+    requires { length parts.now ≤ 16 }
+    ensures { IfOk result (λ merge. merge ≡ map head parts.now) }
+{
+    let mut merge = Merge::new(alloc, parts.len() as u32)?;
+    for (node, part) in parts.iter().enumerate() {
+        merge.set_head(node as u32, head_of(part));
+    }
+    Ok(merge)
+}

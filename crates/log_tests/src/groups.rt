@@ -1,0 +1,198 @@
+// A group that goes forwards and backwards over the logs of a ring.
+ghost use Rattle.std.specs.Prelude.{List};
+ghost use Rattle.group_state.specs.Place.{AreParts};
+ghost use Rattle.log_pairs.specs.Pairs.{Loaded as LoadedOf};
+ghost use Rattle.log_pairs.specs.Seen.{AreLoaded, AreOneGroup};
+
+use fri_outside::MemFiles;
+use fri_text::Text;
+use group_record::run_record;
+use group_state::Group;
+use lib_calls::memory_bytes;
+use log_pairs::{Loaded, Pair, begin_all, load_all};
+use schedule_text::{Schedule, read_schedule};
+use std::alloc::{AllocError, Global};
+use std::process::Abort;
+use std::test::Fail;
+use wasm_decode::decode;
+use wasm_types::ValidModule;
+use wasm_validate::validate;
+use watch_expr::View;
+
+// Each process of the ring takes a datagram, counts it at 64 and at 1024, and sends what stands at 64 to the next.
+const RING: &[u8] = b"\0asm\x01\0\0\0\x01\x0f\x03`\0\x01\x7f`\x03\x7f\x7f\x7f\x01\x7f`\0\0\
+    \x02)\x03\x06liblog\x02me\0\0\x06liblog\x04send\0\x01\x06liblog\x04recv\0\x01\x03\x02\x01\x02\
+    \x05\x03\x01\0\x01\x07\x0a\x01\x06_start\0\x03\x0aW\x01U\x01\x01\x7f\x10\0!\0 \0E\x04@A\x01A\xc0\0A\x08\x10\x01\x1a\x0b\
+    \x03@A\xc0\0A\x08A \x10\x02\x1aA\xc0\0A\xc0\0)\x03\0B\x01|7\x03\0A\x80\x08A\x80\x08)\x03\0B\x01|7\x03\0\
+     \0A\x01jA\x03qA\xc0\0A\x08\x10\x01\x1a\x0c\0\x0b\x0b";
+
+const PAIRS: &[Pair<'static>] = &[
+    Pair {
+        module_file: "ring.wasm",
+        log_file: "n0.log",
+    },
+    Pair {
+        module_file: "ring.wasm",
+        log_file: "n1.log",
+    },
+    Pair {
+        module_file: "ring.wasm",
+        log_file: "n2.log",
+    },
+    Pair {
+        module_file: "ring.wasm",
+        log_file: "n3.log",
+    },
+];
+
+const BEGINNING: &str = "friday 1\nprocess n0 ring.wasm\nprocess n1 ring.wasm\n\
+    process n2 ring.wasm\nprocess n3 ring.wasm\nrun 0 0 3\nrun 1 0 2\nrun 2 0 2\nrun 3 0 2\n";
+
+// So many datagrams go round.
+const ROUNDS: u64 = 2000;
+
+// A process tries to go on with nothing to take.
+fn push_idle(text: &mut Text, process: u64) -> Result<(), AllocError> {
+    text.push_str("run ")?;
+    text.push_u64(process)?;
+    text.push_str(" 0 1\n")
+}
+
+// A process takes the datagram of this number that another sent, and sends the next.
+fn push_turn(text: &mut Text, sender: u64, number: u64, process: u64) -> Result<(), AllocError> {
+    text.push_str("deliver ")?;
+    text.push_u64(sender)?;
+    text.push_str(" ")?;
+    text.push_u64(number)?;
+    text.push_str("\nrun ")?;
+    text.push_u64(process)?;
+    text.push_str(" 0 2\n")
+}
+
+fn schedule(alloc: Global) -> Result<Schedule, Fail> {
+    let mut text = Text::new(alloc);
+    text.push_str(BEGINNING)?;
+    for round in 0..ROUNDS {
+        let process = (round + 1) % 4;
+        if (round + 1) % 3 == 0 {
+            push_idle(&mut text, process)?;
+        }
+        push_turn(&mut text, round % 4, round / 4 + 1, process)?;
+    }
+    Ok(read_schedule(alloc, text.bytes())?)
+}
+
+fn modules(alloc: Global, count: usize) -> Result<Vec<ValidModule>, Fail> {
+    let mut modules = Vec::new(alloc);
+    for _ in 0..count {
+        let decoded = decode(alloc, RING)?;
+        modules.push(validate(alloc, decoded)?)?;
+    }
+    Ok(modules)
+}
+
+// The ring's module and the logs of its processes.
+fn files(rt: &(impl Abort + AllocGlobal)) -> Result<MemFiles, Fail> {
+    let alloc = rt.alloc();
+    let schedule = schedule(alloc)?;
+    let modules = modules(alloc, schedule.processes().len())?;
+    let mut files = MemFiles::new(alloc);
+    files.put("ring.wasm", RING)?;
+    assert_eq!(rt; modules.len(), schedule.processes().len());
+    run_record(alloc, &schedule, &modules, &mut files, false)?;
+    Ok(files)
+}
+
+fn begin<'m>(alloc: Global, all: &'m [Loaded<'_>]) -> Result<Group<'m, 'm>, Fail>
+    requires loaded { (ls : List LoadedOf) × AreLoaded all.now ls }
+    requires apart { AreOneGroup all.now }
+{
+    let Ok(parts) = begin_all(alloc, all) else {
+        return Err("no replays".into());
+    };
+    Ok(Group::begin(alloc, parts)?)
+}
+
+// The bytes of all memories.
+fn memories(alloc: Global, group: &Group<'_, '_>) -> Result<Vec<u8>, Fail> {
+    let mut all = Vec::new(alloc);
+    for node in 0..group.nodes() {
+        let process = group.process(node).ok_or("no process")?;
+        all.extend_from_slice(memory_bytes(alloc, process.memory())?.as_slice())?;
+    }
+    Ok(all)
+}
+
+// The group came to the same memories as one that goes there from the beginning.
+fn assert_straight(
+    rt: &(impl Abort + AllocGlobal),
+    group: &Group<'_, '_>,
+    begun: Group<'_, '_>,
+) -> Result<(), Fail> {
+    let (straight, _) = begun.goto(rt.alloc(), group.position())?;
+    let here = memories(rt.alloc(), group)?;
+    let there = memories(rt.alloc(), &straight)?;
+    assert_eq!(rt; straight.position(), group.position());
+    assert!(rt; here == there);
+    Ok(())
+}
+
+// A position to go to, whether it is there, and how many events are replayed on the way.
+type Way = (u64, bool, u64);
+
+// Checkpoints come at 256 and its multiples up to 1,792. At 2,048 there would be nine, and from there on they are 512
+// apart.
+const WAYS: &[Way] = &[
+    (3000, true, 3000),
+    (2999, true, 439),
+    (1, true, 1),
+    (3000, true, 440),
+    (2560, true, 0),
+    (2561, true, 1),
+    (2559, true, 511),
+    (1792, true, 256),
+    (5000, false, 1449 + 256),
+    (4009, true, 425),
+    (4010, false, 0),
+];
+
+fn go<'m>(
+    rt: &(impl Abort + AllocGlobal),
+    group: Group<'m, 'm>,
+    way: &Way,
+) -> Result<Group<'m, 'm>, Fail> {
+    let at = group.position();
+    let before = group.work().events;
+    let (group, there) = group.goto(rt.alloc(), way.0)?;
+    assert_eq!(rt; there, way.1);
+    assert_eq!(rt; group.position(), if there { way.0 } else { at });
+    assert_eq!(rt; group.work().events.wrapping_sub(before), way.2);
+    Ok(group)
+}
+
+#[test]
+fn a_group_goes_back_from_its_checkpoints(rt: HostRuntime) -> Result<(), Fail> {
+    let mut files = files(&rt)?;
+    let Ok(all) = load_all(rt.alloc(), PAIRS, &mut files) else {
+        return Err("no logs".into());
+    };
+    let mut group = begin(rt.alloc(), &all)?;
+    for way in WAYS {
+        group = go(&rt, group, way)?;
+        assert_straight(&rt, &group, begin(rt.alloc(), &all)?)?;
+    }
+    Ok(())
+}
+
+#[test]
+fn parts_that_are_asked_for_are_counted(rt: HostRuntime) -> Result<(), Fail> {
+    let mut files = files(&rt)?;
+    let Ok(all) = load_all(rt.alloc(), PAIRS, &mut files) else {
+        return Err("no logs".into());
+    };
+    let group = begin(rt.alloc(), &all)?;
+    assert!(rt; group.nodes() > 0);
+    assert!(rt; group.part(0, 64, 8).is_some());
+    assert_eq!(rt; group.work().loads, 1);
+    Ok(())
+}
