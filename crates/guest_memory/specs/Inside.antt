@@ -1,11 +1,16 @@
 -- The fields of a memory.
-use Rattle.guest_memory.specs.Memory.{Memory, IsMemory}
+use Rattle.std.specs.Prelude.{◌≡◌, ◌≤◌, ◌*◌, ◌%◌, length}
+use Rattle.guest_memory.specs.Memory.{Memory}
+use Rattle.guest_memory.specs.Pages.{AreWhole, flat}
 use Rattle.guest_memory.specs.declared.memory.Memory.TheInside.{Inside}
 
 -- the memory that the fields tell
 abbrev pub memory_of : Inside → Memory
-memory_of inside = record { bytes = inside.bytes.items; max = inside.max }
+memory_of inside = record { bytes = flat inside.pages.items; max = inside.max }
 
--- they are those of a memory
-abbrev pub HasMemory : Inside → Type 0
-HasMemory inside = IsMemory (memory_of inside)
+-- they are those of a memory: whole watch pages, 16 of them for each page of the guest
+pub record HasMemory (inside : Inside) : Type 0 where
+  pub whole : AreWhole inside.pages.items
+  pub even : length inside.pages.items % 16 ≡ 0
+  pub within : length inside.pages.items ≤ 16 * inside.max
+  pub most : inside.max ≤ 256

@@ -1,3 +1,4 @@
 pub mod Inside
 pub mod LittleEndian
 pub mod Memory
+pub mod Pages

@@ -3,21 +3,23 @@ ghost use Rattle.std.specs.Prelude.{◌≡◌, ◌↔◌, ◌+◌, ◌≤◌, le
 ghost use Rattle.guest_memory.specs.LittleEndian.{low_bytes, IsWidth};
 ghost use Rattle.guest_memory.specs.Memory.{IsMemory, WritesPrefix, after_store, after_write_at, bytes_from, fresh, growth, after_grow, is_inside, loaded, size_of, stretch};
 
-use crate::little_endian::{number_at, put_number, put_piece};
+use crate::page::{PAGE as WATCH_PAGE, SharedPage};
+use crate::pages::{
+    add_zeros, number_across, number_in, part_in, put_all, put_number_across, put_number_in,
+    share_all,
+};
 use std::alloc::{AllocError, Global};
 use std::marker::Model;
 
-// How many bytes a page has.
-const PAGE: usize = 65536;
-
-// How many bytes a watch page has.
-const WATCH_PAGE: u64 = 4096;
+// How many watch pages a page has.
+const WATCH_PAGES: usize = 16;
 
 /// The linear memory of a guest: pages of 65,536 bytes, and the number of pages that it may grow
 /// to. It is seen as the list of its bytes and that number.
-#[derive(Debug, Drop)]
+#[derive(Drop)]
 pub struct Memory {
-    bytes: Vec<u8>,
+    alloc: Global,
+    pages: Vec<SharedPage>,
     max: u32,
 }
 
@@ -40,17 +42,23 @@ impl Memory {
         requires most { max ≤ 256 }
         ensures { IfOk result (λ memory. memory ≡ fresh pages max) }
     {
-        let bytes = vec![in alloc; 0; pages as usize * PAGE]?;
-        Ok(Memory { bytes, max })
+        let mut list = Vec::new(alloc);
+        add_zeros(alloc, &mut list, pages)?;
+        Ok(Memory {
+            alloc,
+            pages: list,
+            max,
+        })
     }
 
     /// An equal memory.
     pub fn copy(&self) -> Result<Memory, AllocError>
         ensures { IfOk result (λ copy. copy ≡ self.now) }
     {
-        let bytes = self.bytes.clone()?;
+        let pages = share_all(self.alloc, &self.pages)?;
         Ok(Memory {
-            bytes,
+            alloc: self.alloc,
+            pages,
             max: self.max,
         })
     }
@@ -60,7 +68,7 @@ impl Memory {
         ensures size { result ≡ size_of self.now }
         ensures sound { IsMemory self.now }
     {
-        (self.bytes.len() / PAGE) as u32
+        (self.pages.len() / WATCH_PAGES) as u32
     }
 
     // Whether each byte of the range lies in the memory.
@@ -68,7 +76,7 @@ impl Memory {
     fn contains(&self, addr: u64, len: u64) -> bool
         ensures { result ≡ is_inside self.now addr len }
     {
-        let count = self.bytes.len() as u64;
+        let count = (self.pages.len() * WATCH_PAGE) as u64;
         addr <= count && len <= count - addr
     }
 
@@ -79,10 +87,25 @@ impl Memory {
         requires { IsWidth width }
         ensures { result ≡ loaded self.now addr width }
     {
+        if addr as usize % WATCH_PAGE + width as usize > WATCH_PAGE {
+            return self.load_across(addr, width);
+        }
+        if addr as usize / WATCH_PAGE >= self.pages.len() {
+            return None;
+        }
+        Some(number_in(&self.pages, addr as usize, width))
+    }
+
+    // The same, where the bytes stand in two watch pages.
+    #[inline(never)]
+    fn load_across(&self, addr: u64, width: u32) -> Option<u64>
+        requires { IsWidth width }
+        ensures { result ≡ loaded self.now addr width }
+    {
         if !self.contains(addr, u64::from(width)) {
             return None;
         }
-        Some(number_at(&self.bytes, addr as usize, width))
+        Some(number_across(&self.pages, addr as usize, width))
     }
 
     /// Writes so many bytes of the number at the address, the lowest byte first. `Ok(false)` comes
@@ -94,10 +117,28 @@ impl Memory {
         ensures ok { OnOk result (self.new ≡ after_store self.old addr width value) }
         ensures err { OnErr result (WritesPrefix self.old self.new addr (low_bytes width value)) }
     {
+        if addr as usize % WATCH_PAGE + width as usize > WATCH_PAGE {
+            return self.store_across(addr, width, value);
+        }
+        if addr as usize / WATCH_PAGE >= self.pages.len() {
+            return Ok(false);
+        }
+        put_number_in(&mut self.pages, addr as usize, width, value)?;
+        Ok(true)
+    }
+
+    // The same, where the bytes stand in two watch pages.
+    #[inline(never)]
+    fn store_across(&mut self, addr: u64, width: u32, value: u64) -> Result<bool, AllocError>
+        requires { IsWidth width }
+        ensures answer { IfOk result (λ stands. stands ≡ is_inside self.old addr width) }
+        ensures ok { OnOk result (self.new ≡ after_store self.old addr width value) }
+        ensures err { OnErr result (WritesPrefix self.old self.new addr (low_bytes width value)) }
+    {
         if !self.contains(addr, u64::from(width)) {
             return Ok(false);
         }
-        put_number(&mut self.bytes, addr as usize, width, value);
+        put_number_across(&mut self.pages, addr as usize, width, value)?;
         Ok(true)
     }
 
@@ -111,7 +152,7 @@ impl Memory {
         if !self.contains(addr, piece.len() as u64) {
             return Ok(false);
         }
-        put_piece(&mut self.bytes, addr as usize, piece);
+        put_all(&mut self.pages, addr as usize, piece)?;
         Ok(true)
     }
 
@@ -123,8 +164,7 @@ impl Memory {
         if !self.contains(addr, len) {
             return None;
         }
-        let count = len.min(WATCH_PAGE - addr % WATCH_PAGE);
-        Some(&self.bytes[addr as usize..(addr + count) as usize])
+        Some(part_in(&self.pages, addr as usize, len as usize))
     }
 
     /// Adds so many pages of zeros, and gives the number of pages before. `Ok(None)` comes exactly
@@ -139,7 +179,7 @@ impl Memory {
         if pages > self.max - before {
             return Ok(None);
         }
-        self.bytes.resize((before + pages) as usize * PAGE, 0)?;
+        add_zeros(self.alloc, &mut self.pages, pages)?;
         Ok(Some(before))
     }
 }

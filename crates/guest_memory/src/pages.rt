@@ -1,0 +1,148 @@
+// Lists of watch pages, as the bytes that they make end to end.
+ghost use Rattle.std.specs.Prelude.{◌≡◌, ◌+◌, ◌*◌, ◌-◌, ◌/◌, ◌%◌, ◌≤◌, ◌<◌, ◌++◌, IfOk, OnErr, OnOk, length, min, take, drop, vec_len};
+ghost use Rattle.guest_memory.specs.LittleEndian.{little_endian, low_bytes, IsWidth};
+ghost use Rattle.guest_memory.specs.Memory.{put_piece, zero_bytes};
+ghost use Rattle.guest_memory.specs.Pages.{AreWhole, PutsPrefix, flat};
+
+use crate::little_endian::{number_at, put_piece};
+use crate::page::{PAGE, SharedPage};
+use std::alloc::{AllocError, Global};
+
+// The number of so many bytes that stands in one page.
+#[inline(always)]
+pub(crate) fn number_in(pages: &[SharedPage], addr: usize, width: u32) -> u64
+    requires width { IsWidth width }
+    requires whole { AreWhole pages.now }
+    requires one { addr % 4096 + width ≤ 4096 }
+    requires inside { addr / 4096 < length pages.now }
+    ensures { result ≡ little_endian (take width (drop addr (flat pages.now))) }
+{
+    number_at(pages[addr / PAGE].bytes(), addr % PAGE, width)
+}
+
+// The number of so many bytes that stands in two pages.
+pub(crate) fn number_across(pages: &[SharedPage], addr: usize, width: u32) -> u64
+    requires width { IsWidth width }
+    requires whole { AreWhole pages.now }
+    requires inside { addr + width ≤ length (flat pages.now) }
+    requires few { length (flat pages.now) ≤ 16777216 }
+    ensures { result ≡ little_endian (take width (drop addr (flat pages.now))) }
+{
+    let front = part_in(pages, addr, width as usize);
+    let back = part_in(pages, addr + front.len(), width as usize - front.len());
+    let mut bytes = [0; 8];
+    put_piece(&mut bytes, 0, front);
+    put_piece(&mut bytes, front.len(), back);
+    number_at(&bytes, 0, width)
+}
+
+// The longest first part of the range that stays in one page.
+pub(crate) fn part_in(pages: &[SharedPage], addr: usize, len: usize) -> &[u8]
+    requires whole { AreWhole pages.now }
+    requires within { addr + len ≤ length (flat pages.now) }
+    ensures { result.now ≡ take (min len (4096 - addr % 4096)) (drop addr (flat pages.now)) }
+{
+    let index = addr / PAGE;
+    let at = addr % PAGE;
+    if index == pages.len() {
+        return &[];
+    }
+    let count = len.min(PAGE - at);
+    &pages[index].bytes()[at..at + count]
+}
+
+// Writes so many bytes of the number into one page.
+#[inline(always)]
+pub(crate) fn put_number_in(
+    pages: &mut [SharedPage],
+    addr: usize,
+    width: u32,
+    value: u64,
+) -> Result<(), AllocError>
+    requires width { IsWidth width }
+    requires whole { AreWhole pages.old }
+    requires one { addr % 4096 + width ≤ 4096 }
+    requires inside { addr / 4096 < length pages.old }
+    ensures whole { AreWhole pages.new }
+    ensures len { length pages.new ≡ length pages.old }
+    ensures bytes { OnOk result (flat pages.new ≡ put_piece (flat pages.old) addr (low_bytes width value)) }
+    ensures err { OnErr result (PutsPrefix pages.old pages.new addr (low_bytes width value)) }
+{
+    pages[addr / PAGE].put_number(addr % PAGE, width, value)?;
+    Ok(())
+}
+
+// Writes so many bytes of the number over the pages.
+#[inline(never)]
+pub(crate) fn put_number_across(
+    pages: &mut [SharedPage],
+    addr: usize,
+    width: u32,
+    value: u64,
+) -> Result<(), AllocError>
+    requires width { IsWidth width }
+    requires whole { AreWhole pages.old }
+    requires within { addr + width ≤ length (flat pages.old) }
+    requires few { length (flat pages.old) ≤ 16777216 }
+    ensures whole { AreWhole pages.new }
+    ensures len { length pages.new ≡ length pages.old }
+    ensures bytes { OnOk result (flat pages.new ≡ put_piece (flat pages.old) addr (low_bytes width value)) }
+    ensures err { OnErr result (PutsPrefix pages.old pages.new addr (low_bytes width value)) }
+{
+    let all = value.to_le_bytes();
+    put_all(pages, addr, &all[..width as usize])
+}
+
+// Writes the piece over the pages.
+#[inline(never)]
+pub(crate) fn put_all(pages: &mut [SharedPage], addr: usize, piece: &[u8]) -> Result<(), AllocError>
+    requires whole { AreWhole pages.old }
+    requires within { addr + length piece.now ≤ length (flat pages.old) }
+    requires few { length (flat pages.old) ≤ 16777216 }
+    ensures whole { AreWhole pages.new }
+    ensures len { length pages.new ≡ length pages.old }
+    ensures bytes { OnOk result (flat pages.new ≡ put_piece (flat pages.old) addr piece.now) }
+    ensures err { OnErr result (PutsPrefix pages.old pages.new addr piece.now) }
+{
+    let mut done = 0;
+    while done < piece.len() {
+        let at = (addr + done) % PAGE;
+        let count = (PAGE - at).min(piece.len() - done);
+        pages[(addr + done) / PAGE].put(at, &piece[done..done + count])?;
+        done += count;
+    }
+    Ok(())
+}
+
+// Adds pages of zeros at the end, 16 for each page of the guest. They are one page, which is shared
+// until it is written to.
+pub(crate) fn add_zeros(
+    alloc: Global,
+    pages: &mut Vec<SharedPage>,
+    count: u32,
+) -> Result<(), AllocError>
+    requires { count ≤ 256 }
+    ensures whole { AreWhole pages.old.items → AreWhole pages.new.items }
+    ensures len { OnOk result (vec_len pages.new ≡ vec_len pages.old + 16 * count) }
+    ensures bytes { OnOk result (flat pages.new.items ≡ flat pages.old.items ++ zero_bytes (65536 * count)) }
+    ensures err { OnErr result (pages.new.items ≡ pages.old.items) }
+{
+    let zeros = SharedPage::zeros(alloc)?;
+    let mut more = Vec::with_capacity(alloc, 16 * count as usize)?;
+    for _i in 0..16 * count {
+        more.push(zeros.share()?)?;
+    }
+    pages.append(&mut more)?;
+    Ok(())
+}
+
+// The same pages.
+pub(crate) fn share_all(alloc: Global, pages: &[SharedPage]) -> Result<Vec<SharedPage>, AllocError>
+    ensures { IfOk result (λ copy. copy.items ≡ pages.now) }
+{
+    let mut copy = Vec::with_capacity(alloc, pages.len())?;
+    for page in pages {
+        copy.push(page.share()?)?;
+    }
+    Ok(copy)
+}
