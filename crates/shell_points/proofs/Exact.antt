@@ -1,26 +1,24 @@
 -- Where points fire and where walks end, by the definitions that compute it.
-use Rattle.std.proofs.Common.{◌≡◌, ◌↔◌, ◌⊎◌, ℕ, ℤ, zero, suc, ◌+◌, ◌-◌, ◌<◌, ◌≤◌, Bool, true, false, ◌||◌, ◌&&◌, not, cond, nat_eq, nat_le, List, [], ◌∷◌, ◌++◌, length, Option, Some, None, inl, inr, refl, sym, ap, ◌∙◌, subst, append_assoc, arith}
-use Rattle.std.proofs.lemmas.Bool.{cases_Bool}
+use Rattle.std.proofs.Common.{◌≡◌, ◌↔◌, ◌⊎◌, ℕ, ℤ, zero, suc, ◌+◌, ◌-◌, ◌<◌, ◌≤◌, Bool, true, false, ◌||◌, ◌&&◌, not, cond, nat_le, List, [], ◌∷◌, ◌++◌, length, Option, Some, None, inl, inr, refl, sym, ap, ◌∙◌, subst, append_assoc, arith}
 use Rattle.std.proofs.lemmas.Bool.Decides.{leb_tells}
 use Rattle.std.proofs.lemmas.List.{append-nil}
 use Rattle.std.proofs.lemmas.List.Elements.{recursion_from_All}
 use Rattle.std.proofs.Math.Bool.{or_assoc}
 use Rattle.std.specs.List.{AllByRecursion}
-use Rattle.std.specs.Prelude.{All, codes, int_le, negsuc, pos}
+use Rattle.std.specs.Prelude.{codes, negsuc, pos}
 use Rattle.embed_cmds.specs.Running.{ProgramState}
 use Rattle.embed_cmds.specs.Tree.{Statements}
 use Rattle.embed_cmds.specs.Variables.{Variable}
-use Rattle.group_state.specs.Place.{Place, events}
+use Rattle.group_state.specs.Place.{events}
 use Rattle.group_state.specs.Seen.{nodes_at}
 use Rattle.proc_replay.specs.Replaying.{Replaying}
-use Rattle.watch_expr.specs.Expression.{Expression}
 use Rattle.watch_expr.specs.Value.{equal}
 use Rattle.watch_expr.specs.View.{Node}
 use Rattle.shell_points.specs.Firing.{firing_line, firing_lines, has_due, is_due_at, is_same_value, place_at, said_at, value_at_position}
-use Rattle.shell_points.specs.Laws.{ExactFiring, IsContinued, IsLastDue, IsNextDue, NoneAfter, NoneBelow, ends, stops}
+use Rattle.shell_points.specs.Laws.{ExactFiring, IsContinued, IsLastDue, IsNextDue, NoneBelow, ends, stops}
 use Rattle.shell_points.specs.Points.{Point}
 use Rattle.shell_points.specs.Returning.{last_due}
-use Rattle.shell_points.specs.Walking.{Walk, fired, quiet, treat, treat_all, walk_ended, walk_from, walk_on, walk_over}
+use Rattle.shell_points.specs.Walking.{Walk, fired, quiet, treat, treat_all, walk_ended, walk_on, walk_over}
 use Rattle.shell_points.proofs.Returning.{empty, none_at_start, silent_is}
 use Rattle.shell_points.proofs.Walks.{rests_here}
 
@@ -250,12 +248,17 @@ module _ (start : List Replaying) (points : List Point) where
         by : (b : Bool) → has_due start points (suc at) ≡ b
             → walk_over start points at (suc left) variables [] ≡ walk_on (walk_over start points (suc at) left) (suc at) [] (adds (quiet variables) (firing_lines start points (suc at)) b)
             → Comes (suc at) (walk_over start points (suc at) left variables []) → Comes at (walk_over start points at (suc left) variables [])
-        by true is did further = (suc at, firing_lines start points (suc at), did, stops (suc at) (record {
-          after = omega arith;
-          within = omega (arith, all);
-          due = is;
-          none_between = λ m low high. absurd (omega (arith, low, high));
-        }))
+        by true is did further = (
+          suc at,
+          firing_lines start points (suc at),
+          did,
+          stops (suc at) (record {
+            after = omega arith;
+            within = omega (arith, all);
+            due = is;
+            none_between = λ m low high. absurd (omega (arith, low, high));
+          }),
+        )
         by false is did further =
             let next = suc at in
             let rest = walk_over start points next left in
@@ -271,11 +274,11 @@ module _ (start : List Replaying) (points : List Point) where
       let walk = walk_over start points at (length (events start) - at) variables [] in
       let w = comes none variables (length (events start) - at) at (omega (arith, within)) in (
         λ (e : walk ≡ walk_ended k variables text).
-          let one : walk_ended w.0 variables w.1 ≡ walk_ended k variables text = sym w.2 ∙ e in
-          subst (λ (v : Walk). After at v.at v.text) one w.3,
+            let one : walk_ended w.0 variables w.1 ≡ walk_ended k variables text = sym w.2 ∙ e in
+            subst (λ (v : Walk). After at v.at v.text) one w.3,
         λ (h : After at k text).
-          let one = one_end at w.3 h in
-          w.2 ∙ (λ i. walk_ended (one.0 i) variables (one.1 i)),
+            let one = one_end at w.3 h in
+            w.2 ∙ (λ i. walk_ended (one.0 i) variables (one.1 i)),
       )
 
 pub exact : ExactFiring

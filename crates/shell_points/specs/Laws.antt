@@ -1,5 +1,5 @@
 -- What holds of where points fire, and of where walks end, whatever the logs are.
-use Rattle.std.specs.Prelude.{◌≡◌, ◌↔◌, ℕ, suc, ◌<◌, ◌≤◌, true, false, List, All, length, codes, Option, Some, None}
+use Rattle.std.specs.Prelude.{◌≡◌, ◌↔◌, ℕ, suc, ◌<◌, ◌≤◌, true, false, List, All, length, codes, Some, None}
 use Rattle.proc_replay.specs.Replaying.{Replaying}
 use Rattle.group_state.specs.Place.{Place, events}
 use Rattle.watch_expr.specs.Expression.{Expression}
