@@ -22,7 +22,6 @@ COMMANDS = {
     "do": pointing.attach,
     "list": pointing.show_points,
     "set": pointing.set_variable,
-    "back": pointing.go_back,
     "rcontinue": pointing.go_back_to_point,
     "from_start": pointing.go_to_start,
     "save": keeping.save,

@@ -90,24 +90,13 @@ def set_variable(session, rest, form):
     session.send("set " + re.sub(r"^(\$\w+)\s*=(?!=)\s*", r"\1 ", rest))
 
 
-def go_back(session, rest, form):
-    """Back by the program's own line, or by `goto` where it has none yet."""
-    count = rest or "1"
-    if not count.isdigit():
-        raise Refusal("back wants a number of events")
-    if list(session.debugger.ask("back 0")) == ["? 1 syntax at column 1"]:
-        session.send("goto %d" % max(0, session.state.position - int(count)))
-    else:
-        session.send("back " + count)
-
-
 def go_back_to_point(session, rest, form):
-    """Back to where a point fires, by the program's own line; or by walks from the beginning, where no program hears of it."""
-    if list(session.debugger.ask("rcontinue 0")) != ["? 1 syntax at column 1"]:
-        session.send("rcontinue")
+    """Back to where a point fires. The debugger's own line passes conditions over, since they are programs to it, so where
+    all programs are conditions it is walks from the beginning that find where one of them holds."""
+    programs = [sent for _, sent in session.state.programs.values()]
+    if rest or not programs or not all(map(CONDITION.fullmatch, programs)):
+        session.send(("rcontinue " + rest).strip())
         return
-    if not all(CONDITION.fullmatch(sent) for _, sent in session.state.programs.values()):
-        raise Refusal("the program has no rcontinue yet, and without it the programs of points would run once more")
     fired, place = last_stop_before(session, session.state.position)
     for line in fired:
         session.print(line)

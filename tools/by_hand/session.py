@@ -15,7 +15,7 @@ from wording import bytes_lines
 
 EVENT = re.compile(r"(?:at )?(\d+): (.*)")
 # Lines that can go on for long, and whose programs may change variables.
-WALKS = ("continue",)
+WALKS = ("continue", "rcontinue")
 TELLS_EVENTS = ("goto", "step", "back", "continue", "rcontinue", "events")
 MOVES = ("goto", "step", "back", "continue", "rcontinue")
 # Logs of more bytes than this take some seconds to read, so that is not done unasked.

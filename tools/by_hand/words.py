@@ -6,7 +6,8 @@ SHORT = {
     "b": "break", "br": "break", "c": "continue", "cont": "continue", "n": "step", "next": "step", "s": "step", "si": "step",
     "p": "print", "d": "delete", "del": "delete", "e": "events", "g": "goto", "h": "help", "?": "help", "l": "list", "q": "quit",
     "exit": "quit", "t": "threads", "w": "watch", "x": "bytes_at", "rc": "rcontinue", "reverse-continue": "rcontinue",
-    "rs": "back", "rn": "back", "reverse-step": "back", "reverse-next": "back", "run": "from_start", "r": "from_start",
+    "rs": "back", "rn": "back", "rsi": "back", "reverse-step": "back", "reverse-next": "back", "reverse-stepi": "back",
+    "run": "from_start", "r": "from_start",
     "commands": "do", "source": "load", "bt": "threads", "backtrace": "threads", "cond": "condition", "when": "where",
 }
 INFO = {"b": "list", "break": "list", "breakpoints": "list", "watchpoints": "list", "threads": "threads", "t": "threads",

@@ -110,6 +110,13 @@ OTHERS = (
     "continue^;",
     "continue ^continue",
     "continue ^$n",
+    "^Rcontinue",
+    "^rcont",
+    "rcontinue ^1",
+    "rcontinue^;",
+    "rcontinue ^continue",
+    "back ^$n",
+    "back 1 ^2",
 )
 MEANT = (
     ("watch @pang.clock", NO_NODE),
@@ -159,6 +166,6 @@ def refused(script, name, rows):
 
 def table(script):
     script.title("Lines about points that the debugger refuses")
-    for name, rows in (("watch", WATCHES), ("break", BREAKS), ("delete, list and continue", OTHERS)):
+    for name, rows in (("watch", WATCHES), ("break", BREAKS), ("delete, list, continue and lines that go back", OTHERS)):
         refused(script, name, map(marked, rows))
     refused(script, "nodes, nesting, variables and points", MEANT)

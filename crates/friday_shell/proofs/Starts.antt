@@ -5,7 +5,7 @@ use Rattle.group_state.specs.Place.{events}
 use Rattle.embed_cmds.specs.Faulty.{set_names}
 use Rattle.embed_cmds.specs.Tree.{Statements}
 use Rattle.embed_cmds.specs.Variables.{is_mentioned, mention_all}
-use Rattle.shell_lines.specs.Lines.{At, Break, LineCommand, Continue, Delete, Do, Events, Everywhere, Goto, ListPoints, ListVariables, Mem, Print, Quit, Scope, SetTo, Step, Threads, Watch}
+use Rattle.shell_lines.specs.Lines.{At, Back, Break, LineCommand, Continue, Delete, Do, Events, Everywhere, Goto, ListPoints, ListVariables, Mem, Print, Quit, Rcontinue, Scope, SetTo, Step, Threads, Watch}
 use Rattle.shell_points.specs.Points.{Trigger, has_point, place_of_point}
 use Rattle.friday_shell.specs.Answer.{LineAnswer, adds, attaches_at, breaks_at, command_answer, deletes, most_points, most_variables, sets}
 use Rattle.friday_shell.specs.Points.{SessionState}
@@ -39,6 +39,7 @@ module _ (state : SessionState) where
   pub kept_start : (line : List ℕ) (c : LineCommand) → Keeps (command_answer state line c)
   kept_start line (Goto k) = either (nat_le k (length (events state.place.start))) _ _ refl refl
   kept_start line (Step n) = refl
+  kept_start line (Back n) = refl
   kept_start line (Print x) = refl
   kept_start line (Mem n addr len) = refl
   kept_start line (Threads n) = refl
@@ -51,4 +52,5 @@ module _ (state : SessionState) where
   kept_start line (SetTo name x) = setting name _
   kept_start line ListVariables = refl
   kept_start line Continue = refl
+  kept_start line Rcontinue = refl
   kept_start line Quit = refl

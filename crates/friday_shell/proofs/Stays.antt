@@ -9,13 +9,14 @@ use Rattle.group_texts.specs.Texts.{event_ending, position_line}
 use Rattle.embed_cmds.specs.Faulty.{set_names}
 use Rattle.embed_cmds.specs.Tree.{Statements}
 use Rattle.embed_cmds.specs.Variables.{is_mentioned, mention_all}
-use Rattle.shell_lines.specs.Lines.{At, Break, LineCommand, Continue, Delete, Do, Events, Everywhere, Goto, ListPoints, ListVariables, Mem, Print, Quit, Scope, SetTo, Step, Threads, Watch}
+use Rattle.shell_lines.specs.Lines.{At, Back, Break, LineCommand, Continue, Delete, Do, Events, Everywhere, Goto, ListPoints, ListVariables, Mem, Print, Quit, Rcontinue, Scope, SetTo, Step, Threads, Watch}
 use Rattle.shell_lines.specs.Meaning.{Does, LineMeaning, Refuses, Silent, line_meaning, trimmed}
 use Rattle.shell_lines.specs.Refusals.{refusal_line}
 use Rattle.shell_lines.specs.declared.refusal.Refusal.{Refusal}
 use Rattle.shell_lines.specs.declared.refusal.Refusal.TheVariants as refusal
 use Rattle.shell_points.specs.Firing.{place_at}
 use Rattle.shell_points.specs.Points.{Trigger, has_point, place_of_point}
+use Rattle.shell_points.specs.Returning.{return_from}
 use Rattle.shell_points.specs.Walking.{Walk, walk_from}
 use Rattle.friday_shell.specs.Answer.{LineAnswer, adds, answer_of, arrives, attaches_at, breaks_at, command_answer, deletes, most_points, most_variables, node_names, says, sets, walks}
 use Rattle.friday_shell.specs.Laws.{RefusedStays}
@@ -165,8 +166,8 @@ module _ (state : SessionState) where
   other_byte_first : (a : LineAnswer) → (head a.text ≡ 63 → ⊥) → Stays a
   other_byte_first a other = apart a (λ why. other_text a.text why other)
 
-  arriving : (k : ℕ) → Stays (arrives state [] k)
-  arriving k = apart (arrives state [] k) (no_position [] (place_at state.place.start k))
+  arriving : (lines : List ℕ) (k : ℕ) → Stays (arrives state lines k)
+  arriving lines k = apart (arrives state lines k) (no_position lines (place_at state.place.start k))
 
   walking : (w : Walk) → Stays (walks state w)
   walking w = apart (walks state w) (no_position w.text (place_at state.place.start w.at))
@@ -190,8 +191,9 @@ module _ (state : SessionState) where
   breaking line kind (At (Some n)) = adding line _
 
   commanding : (line : List ℕ) (c : LineCommand) → Stays (command_answer state line c)
-  commanding line (Goto k) = either (nat_le k (length (events state.place.start))) _ _ (arriving k) (same _)
-  commanding line (Step n) = arriving _
+  commanding line (Goto k) = either (nat_le k (length (events state.place.start))) _ _ (arriving [] k) (same _)
+  commanding line (Step n) = arriving [] _
+  commanding line (Back n) = arriving [] _
   commanding line (Print x) = same _
   commanding line (Mem n addr len) = same _
   commanding line (Threads n) = same _
@@ -204,6 +206,7 @@ module _ (state : SessionState) where
   commanding line (SetTo name x) = setting name _
   commanding line ListVariables = same _
   commanding line Continue = walking (walk_from state.place state.points state.variables)
+  commanding line Rcontinue = let r = return_from state.place state.points in arriving r.text r.at
   commanding line Quit = other_byte_first _ (λ e. absurd (omega (arith, e)))
 
   answering : (line : List ℕ) (m : LineMeaning) → Stays (answer_of state line m)

@@ -1,5 +1,5 @@
 -- What a line of a session answers, and what the session then keeps.
-use Rattle.std.specs.Prelude.{ℕ, ◌+◌, min, Bool, true, false, ◌||◌, nat_le, nat_lt, List, [], ◌++◌, length, map, slice_get, codes, decimal, Option, Some, None, ℤ, if◌then◌else◌}
+use Rattle.std.specs.Prelude.{ℕ, ◌+◌, ◌-◌, min, Bool, true, false, ◌||◌, nat_le, nat_lt, List, [], ◌++◌, length, map, slice_get, codes, decimal, Option, Some, None, ℤ, if◌then◌else◌}
 use Rattle.std.specs.List.{flat_map}
 use Rattle.fri_text.specs.Hex.{hex_word}
 use Rattle.call_table.specs.declared.kind.Kind.{Kind}
@@ -13,7 +13,7 @@ use Rattle.embed_cmds.specs.Faulty.{set_names}
 use Rattle.embed_cmds.specs.Running.{value_in, value_word}
 use Rattle.embed_cmds.specs.Tree.{Statements}
 use Rattle.embed_cmds.specs.Variables.{Variable, is_mentioned, mention_all, with_value}
-use Rattle.shell_lines.specs.Lines.{At, Break, LineCommand, Continue, Delete, Do, Events, Everywhere, Goto, ListPoints, ListVariables, Mem, Print, Quit, Scope, SetTo, Step, Threads, Watch}
+use Rattle.shell_lines.specs.Lines.{At, Back, Break, LineCommand, Continue, Delete, Do, Events, Everywhere, Goto, ListPoints, ListVariables, Mem, Print, Quit, Rcontinue, Scope, SetTo, Step, Threads, Watch}
 use Rattle.shell_lines.specs.Meaning.{Does, LineMeaning, Refuses, Silent, line_meaning, trimmed}
 use Rattle.shell_lines.specs.Refusals.{refusal_line}
 use Rattle.shell_lines.specs.declared.refusal.Refusal.{Refusal}
@@ -21,6 +21,7 @@ use Rattle.shell_lines.specs.declared.refusal.Refusal.TheVariants as refusal
 use Rattle.shell_points.specs.Firing.{place_at}
 use Rattle.shell_points.specs.Points.{Trigger, has_point, place_of_point, point_text, with_program, without_point}
 use Rattle.shell_points.specs.Points.{Break as OnCall, Watch as OnChange}
+use Rattle.shell_points.specs.Returning.{Return, return_from}
 use Rattle.shell_points.specs.Walking.{Walk, walk_from}
 use Rattle.friday_shell.specs.Points.{SessionState, with_point}
 
@@ -93,6 +94,10 @@ walks state w = record {
   quits = false;
 }
 
+-- the lines of a walk back, and then the position to which the session goes
+abbrev pub returns : SessionState → Return → LineAnswer
+returns state r = arrives state r.text r.at
+
 -- how many variables there may be
 abbrev pub most_variables : ℕ
 most_variables = 256
@@ -129,6 +134,7 @@ breaks_at state text kind (At (Some n)) = adds state text (OnCall (Some n) kind)
 abbrev pub command_answer : SessionState → List ℕ → LineCommand → LineAnswer
 command_answer state line (Goto k) = if nat_le k (length (events state.place.start)) then arrives state [] k else refuses state refusal.NoPosition
 command_answer state line (Step n) = arrives state [] (min (state.place.at + n) (length (events state.place.start)))
+command_answer state line (Back n) = arrives state [] (state.place.at - n)
 command_answer state line (Print x) = says state (value_text (value_in (nodes_at state.place) state.variables x))
 command_answer state line (Mem node addr len) = says state (memory_text state.place node addr len)
 command_answer state line (Threads node) = says state (threads_of state.place node)
@@ -141,6 +147,7 @@ command_answer state line ListPoints = says state (flat_map point_text state.poi
 command_answer state line (SetTo name x) = sets state name (value_in (nodes_at state.place) state.variables x)
 command_answer state line ListVariables = says state (flat_map variable_text state.variables)
 command_answer state line Continue = walks state (walk_from state.place state.points state.variables)
+command_answer state line Rcontinue = returns state (return_from state.place state.points)
 command_answer state line Quit = record { text = []; state = state; quits = true }
 
 -- ---- the answer of a line

@@ -4,7 +4,7 @@ ghost use Rattle.friday_shell.specs.Answer.{command_answer};
 ghost use Rattle.friday_shell.specs.Seen.{Performs, session_state};
 ghost use Rattle.group_state.specs.Place.{events};
 ghost use Rattle.group_texts.specs.Texts.{last_lines};
-ghost use Rattle.shell_lines.specs.Lines.{Continue, Events, Goto, Step};
+ghost use Rattle.shell_lines.specs.Lines.{Back, Continue, Events, Goto, Rcontinue, Step};
 ghost use Rattle.shell_lines.specs.Seen.{command as command_meant};
 ghost use Rattle.shell_points.specs.Firing.{place_at};
 
@@ -46,6 +46,7 @@ fn run<'m, 'a>(
     match command {
         Command::Goto(position) => go_to(alloc, state, position),
         Command::Step(count) => step(alloc, state, count),
+        Command::Back(count) => back(alloc, state, count),
         Command::Print(expression) => told(print(alloc, &state, &expression), state),
         Command::Mem(node, addr, len) => {
             told(show_memory(alloc, &state.group, node, addr, len), state)
@@ -60,6 +61,7 @@ fn run<'m, 'a>(
         Command::Set(name, expression) => set(alloc, state, &name, &expression),
         Command::Vars => told(list_variables(alloc, &state.kept.variables), state),
         Command::Continue => go_on(alloc, state),
+        Command::Rcontinue => go_back(alloc, state),
         Command::Quit => Ok((state, Text::new(alloc))),
     }
 }
@@ -113,6 +115,18 @@ fn advance<'m, 'a>(group: Group<'m, 'a>, count: u64) -> Result<Group<'m, 'a>, Al
     Ok(group)
 }
 
+// Goes so many positions back, and at most to position 0.
+fn back<'m, 'a>(
+    alloc: Global,
+    state: State<'m, 'a>,
+    count: u64,
+) -> Result<(State<'m, 'a>, Text), AllocError>
+    ensures { IfOk result (λ done. Performs (command_answer (session_state state.entry) [] (Back count)) (session_state done.0) done.1) }
+{
+    let position = state.group.position().saturating_sub(count);
+    go_to(alloc, state, position)
+}
+
 // Goes on to where a point fires.
 fn go_on<'m, 'a>(alloc: Global, state: State<'m, 'a>) -> Result<(State<'m, 'a>, Text), AllocError>
     ensures { IfOk result (λ done. Performs (command_answer (session_state state.entry) [] Continue) (session_state done.0) done.1) }
@@ -134,6 +148,18 @@ fn go_on<'m, 'a>(alloc: Global, state: State<'m, 'a>) -> Result<(State<'m, 'a>, 
         kept,
     };
     Ok((state, walked.text))
+}
+
+// Goes back to where a point fired last.
+fn go_back<'m, 'a>(
+    alloc: Global,
+    state: State<'m, 'a>,
+) -> Result<(State<'m, 'a>, Text), AllocError>
+    ensures { IfOk result (λ done. Performs (command_answer (session_state state.entry) [] Rcontinue) (session_state done.0) done.1) }
+{
+    let State { group, kept } = state;
+    let (group, text) = kept.points.walk_back(alloc, group)?;
+    Ok((State { group, kept }, text))
 }
 
 // The last events up to the position.

@@ -17,9 +17,9 @@ use Rattle.embed_cmds.specs.Laws.{ExactPrograms}
 use Rattle.embed_cmds.specs.Reading.{word_of}
 use Rattle.shell_lines.specs.declared.command.Verb.{Verb}
 use Rattle.shell_lines.specs.declared.command.Verb.TheVariants as verb
-use Rattle.shell_lines.specs.Grammar.{IsCommand, BeginsCommand, StopsAtToken, goto, step_once, step, print, mem, threads, last_events, events, watch, break, break_everywhere, delete, attach, list, set, vars, continue, quit}
+use Rattle.shell_lines.specs.Grammar.{IsCommand, BeginsCommand, StopsAtToken, goto, step_once, step, back_once, back, print, mem, threads, last_events, events, watch, break, break_everywhere, delete, attach, list, set, vars, continue, rcontinue, quit}
 use Rattle.shell_lines.specs.Laws.{ExactCommands}
-use Rattle.shell_lines.specs.Lines.{At, Break, LineCommand, Continue, Delete, Do, Events, Everywhere, Goto, ListPoints, ListVariables, Mem, Print, Quit, Scope, SetTo, Step, Threads, Watch, command_of_verb, command_spelled, ends_at, expression_from, most_number, node_called, node_named, number_from, number_in_range, program_from, scope_named, sign_of, then_takes, token_at, verb_of, verb_word, verbs}
+use Rattle.shell_lines.specs.Lines.{At, Back, Break, LineCommand, Continue, Delete, Do, Events, Everywhere, Goto, ListPoints, ListVariables, Mem, Print, Quit, Rcontinue, Scope, SetTo, Step, Threads, Watch, command_of_verb, command_spelled, ends_at, expression_from, most_number, node_called, node_named, number_from, number_in_range, program_from, scope_named, sign_of, then_takes, token_at, verb_of, verb_word, verbs}
 use Rattle.shell_lines.proofs.Forms.{Ends, Form, Stop, Then, Tokens, as_form, ends_form, then_form}
 use Rattle.shell_lines.proofs.Parts.{Body, Count, Value, body_form, count_form, value_form}
 
@@ -109,6 +109,7 @@ verb_again : (v : Verb) → verb_of (verb_word v) ≡ Some v
 unfolding verb_of
 verb_again verb.Goto = refl
 verb_again verb.Step = refl
+verb_again verb.Back = refl
 verb_again verb.Print = refl
 verb_again verb.Mem = refl
 verb_again verb.Threads = refl
@@ -121,6 +122,7 @@ verb_again verb.List = refl
 verb_again verb.Set = refl
 verb_again verb.Vars = refl
 verb_again verb.Continue = refl
+verb_again verb.Rcontinue = refl
 verb_again verb.Quit = refl
 
 -- the word itself, where it passes
@@ -171,6 +173,7 @@ module _ (names : Tokens) where
 abbrev Behind : Tokens → Verb → Tokens → LineCommand → Type 0
 Behind names verb.Goto = Then (number_from 0 most_number) (λ k. Ends (Goto k))
 Behind names verb.Step = Count 0 most_number 1 Step
+Behind names verb.Back = Count 0 most_number 1 Back
 Behind names verb.Print = Value names Print
 Behind names verb.Mem = Then (node_named names) (λ node. Then (number_from 0 most_number) (λ addr. Then (number_from 1 256) (λ len. Ends (Mem node addr len))))
 Behind names verb.Threads = Then (node_named names) (λ node. Ends (Threads node))
@@ -183,6 +186,7 @@ Behind names verb.List = Ends ListPoints
 Behind names verb.Set = Then (sign_of (codes "$")) (λ _. Then word_of (λ name. Value names (SetTo name)))
 Behind names verb.Vars = Ends ListVariables
 Behind names verb.Continue = Ends Continue
+Behind names verb.Rcontinue = Ends Rcontinue
 Behind names verb.Quit = Ends Quit
 
 nested : {A B C : Type 0} (r : Result A ℕ) (g : A → Result B ℕ) (h : B → Result C ℕ) → then_takes (then_takes r g) h ≡ then_takes r (λ a. then_takes (g a) h)
@@ -231,6 +235,7 @@ module _ (reading : ExactReading) (programs : ExactPrograms) (kinds : (kind : Ki
   verb_form : (v : Verb) → Form 1 (λ ts. command_of_verb names ts v) (Behind names v)
   verb_form verb.Goto = number_form Goto
   verb_form verb.Step = count_form 0 most_number 1 Step (codes "0") 0 (any_number (codes "0") 0 zero_word)
+  verb_form verb.Back = count_form 0 most_number 1 Back (codes "0") 0 (any_number (codes "0") 0 zero_word)
   verb_form verb.Print = value_form reading names 1 Print
   verb_form verb.Mem = mem_form
   verb_form verb.Threads = then_form (Option ℕ) (node_named names) (λ node ts. ends_at ts 2 (Threads node)) 1 (λ node. Ends (Threads node)) (λ node. ends_form 2 (Threads node)) (codes "a") (node_called names (codes "a")) refl
@@ -245,6 +250,7 @@ module _ (reading : ExactReading) (programs : ExactPrograms) (kinds : (kind : Ki
   verb_form verb.Set = set_form
   verb_form verb.Vars = ends_form 1 ListVariables
   verb_form verb.Continue = ends_form 1 Continue
+  verb_form verb.Rcontinue = ends_form 1 Rcontinue
   verb_form verb.Quit = ends_form 1 Quit
 
   abbrev Whole : Tokens → LineCommand → Type 0
@@ -276,6 +282,9 @@ module _ (reading : ExactReading) (programs : ExactPrograms) (kinds : (kind : Ki
   spelled_by verb.Step [] c h = read_as step_once h
   spelled_by verb.Step (w ∷ []) c h = read_as (step w h.0 (any w h.0 h.1)) h.2
   spelled_by verb.Step (w ∷ (t ∷ rest)) c h = absurd h.2
+  spelled_by verb.Back [] c h = read_as back_once h
+  spelled_by verb.Back (w ∷ []) c h = read_as (back w h.0 (any w h.0 h.1)) h.2
+  spelled_by verb.Back (w ∷ (t ∷ rest)) c h = absurd h.2
   spelled_by verb.Print rest c h = read_as (print h.1) h.2
   spelled_by verb.Mem [] c h = absurd h
   spelled_by verb.Mem (a ∷ []) c h = absurd h.2
@@ -313,6 +322,8 @@ module _ (reading : ExactReading) (programs : ExactPrograms) (kinds : (kind : Ki
   spelled_by verb.Vars (t ∷ rest) c h = absurd h
   spelled_by verb.Continue [] c h = read_as continue h
   spelled_by verb.Continue (t ∷ rest) c h = absurd h
+  spelled_by verb.Rcontinue [] c h = read_as rcontinue h
+  spelled_by verb.Rcontinue (t ∷ rest) c h = absurd h
   spelled_by verb.Quit [] c h = read_as quit h
   spelled_by verb.Quit (t ∷ rest) c h = absurd h
 
@@ -324,6 +335,8 @@ module _ (reading : ExactReading) (programs : ExactPrograms) (kinds : (kind : Ki
   is_whole (goto w k e) = (verb.Goto, verb_again verb.Goto, (k, any_number w k e, refl))
   is_whole step_once = (verb.Step, verb_again verb.Step, refl)
   is_whole (step w n e) = (verb.Step, verb_again verb.Step, (n, any_number w n e, refl))
+  is_whole back_once = (verb.Back, verb_again verb.Back, refl)
+  is_whole (back w n e) = (verb.Back, verb_again verb.Back, (n, any_number w n e, refl))
   is_whole (print {ts} {x} h) = (verb.Print, verb_again verb.Print, (x, h, refl))
   is_whole (mem node from count addr len word e f low high) = (verb.Mem, verb_again verb.Mem, (node_called names node, node_again names node word, (addr, any_number from addr e, (len, number_again 1 256 count len f low high, refl))))
   is_whole (threads node word) = (verb.Threads, verb_again verb.Threads, (node_called names node, node_again names node word, refl))
@@ -338,6 +351,7 @@ module _ (reading : ExactReading) (programs : ExactPrograms) (kinds : (kind : Ki
   is_whole (set {ts} {x} name word h) = (verb.Set, verb_again verb.Set, (codes "$", refl, (name, word_again name word, (x, h, refl))))
   is_whole vars = (verb.Vars, verb_again verb.Vars, refl)
   is_whole continue = (verb.Continue, verb_again verb.Continue, refl)
+  is_whole rcontinue = (verb.Rcontinue, verb_again verb.Rcontinue, refl)
   is_whole quit = (verb.Quit, verb_again verb.Quit, refl)
 
   -- ---- the laws

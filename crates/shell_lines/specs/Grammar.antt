@@ -7,13 +7,15 @@ use Rattle.watch_expr.specs.Grammar.{IsExpr}
 use Rattle.watch_expr.specs.Spelling.{is_word, number_of}
 use Rattle.embed_cmds.specs.Grammar.{IsProgram}
 use Rattle.embed_cmds.specs.Tree.{Statements}
-use Rattle.shell_lines.specs.Lines.{At, Break, LineCommand, Continue, Delete, Do, Events, Everywhere, Goto, ListPoints, ListVariables, Mem, Print, Quit, SetTo, Step, Threads, Watch, node_called}
+use Rattle.shell_lines.specs.Lines.{At, Back, Break, LineCommand, Continue, Delete, Do, Events, Everywhere, Goto, ListPoints, ListVariables, Mem, Print, Quit, Rcontinue, SetTo, Step, Threads, Watch, node_called}
 
 -- With these names of processes, the tokens spell the command.
 pub data IsCommand (names : List (List ℕ)) : List (List ℕ) → LineCommand → Type 0 where
   goto : (word : List ℕ) (k : ℕ) → number_of word ≡ Some k → IsCommand names (codes "goto" ∷ word ∷ []) (Goto k)
   step_once : IsCommand names (codes "step" ∷ []) (Step 1)
   step : (word : List ℕ) (n : ℕ) → number_of word ≡ Some n → IsCommand names (codes "step" ∷ word ∷ []) (Step n)
+  back_once : IsCommand names (codes "back" ∷ []) (Back 1)
+  back : (word : List ℕ) (n : ℕ) → number_of word ≡ Some n → IsCommand names (codes "back" ∷ word ∷ []) (Back n)
   print : {ts : List (List ℕ)} {x : Expression} → IsExpr names ts x → IsCommand names (codes "print" ∷ ts) (Print x)
   mem : (node from count : List ℕ) (addr len : ℕ) → is_word node ≡ true → number_of from ≡ Some addr → number_of count ≡ Some len → 1 ≤ len → len ≤ 256
       → IsCommand names (codes "mem" ∷ node ∷ from ∷ count ∷ []) (Mem (node_called names node) addr len)
@@ -29,6 +31,7 @@ pub data IsCommand (names : List (List ℕ)) : List (List ℕ) → LineCommand �
   set : {ts : List (List ℕ)} {x : Expression} (name : List ℕ) → is_word name ≡ true → IsExpr names ts x → IsCommand names (codes "set" ∷ codes "$" ∷ name ∷ ts) (SetTo name x)
   vars : IsCommand names (codes "vars" ∷ []) ListVariables
   continue : IsCommand names (codes "continue" ∷ []) Continue
+  rcontinue : IsCommand names (codes "rcontinue" ∷ []) Rcontinue
   quit : IsCommand names (codes "quit" ∷ []) Quit
 
 -- the tokens begin some command

@@ -22,6 +22,7 @@ pub data Scope : Type 0 where
 pub data LineCommand : Type 0 where
   Goto : (position : ℕ) → LineCommand
   Step : (count : ℕ) → LineCommand
+  Back : (count : ℕ) → LineCommand
   Print : (x : Expression) → LineCommand
   Mem : (node : Option ℕ) → (addr len : ℕ) → LineCommand
   Threads : (node : Option ℕ) → LineCommand
@@ -34,6 +35,7 @@ pub data LineCommand : Type 0 where
   SetTo : (name : List ℕ) → (x : Expression) → LineCommand
   ListVariables : LineCommand
   Continue : LineCommand
+  Rcontinue : LineCommand
   Quit : LineCommand
 
 -- ---- one token
@@ -41,6 +43,7 @@ pub data LineCommand : Type 0 where
 abbrev pub verb_word : Verb → List ℕ
 verb_word verb.Goto = codes "goto"
 verb_word verb.Step = codes "step"
+verb_word verb.Back = codes "back"
 verb_word verb.Print = codes "print"
 verb_word verb.Mem = codes "mem"
 verb_word verb.Threads = codes "threads"
@@ -53,12 +56,13 @@ verb_word verb.List = codes "list"
 verb_word verb.Set = codes "set"
 verb_word verb.Vars = codes "vars"
 verb_word verb.Continue = codes "continue"
+verb_word verb.Rcontinue = codes "rcontinue"
 verb_word verb.Quit = codes "quit"
 
 abbrev pub verbs : List Verb
 verbs =
-    verb.Goto ∷ verb.Step ∷ verb.Print ∷ verb.Mem ∷ verb.Threads ∷ verb.Events ∷ verb.Watch ∷ verb.Break ∷ verb.Delete ∷ verb.Do
-    ∷ verb.List ∷ verb.Set ∷ verb.Vars ∷ verb.Continue ∷ verb.Quit ∷ []
+    verb.Goto ∷ verb.Step ∷ verb.Back ∷ verb.Print ∷ verb.Mem ∷ verb.Threads ∷ verb.Events ∷ verb.Watch ∷ verb.Break ∷ verb.Delete ∷ verb.Do
+    ∷ verb.List ∷ verb.Set ∷ verb.Vars ∷ verb.Continue ∷ verb.Rcontinue ∷ verb.Quit ∷ []
 
 unfoldable pub verb_of : List ℕ → Option Verb
 verb_of text = find (λ v. bytes_eq (verb_word v) text) verbs
@@ -138,6 +142,7 @@ count_or least most absent texts = if nat_le (length texts) 1 then Ok absent els
 abbrev pub command_of_verb : List (List ℕ) → List (List ℕ) → Verb → Result LineCommand ℕ
 command_of_verb names texts verb.Goto = then_takes (token_at (number_from 0 most_number) texts 1) (λ k. ends_at texts 2 (Goto k))
 command_of_verb names texts verb.Step = then_takes (count_or 0 most_number 1 texts) (λ n. ends_at texts 2 (Step n))
+command_of_verb names texts verb.Back = then_takes (count_or 0 most_number 1 texts) (λ n. ends_at texts 2 (Back n))
 command_of_verb names texts verb.Print = then_takes (expression_from names texts 1) (λ x. Ok (Print x))
 command_of_verb names texts verb.Mem =
     then_takes (token_at (node_named names) texts 1) (λ node. then_takes (token_at (number_from 0 most_number) texts 2) (λ addr.
@@ -155,6 +160,7 @@ command_of_verb names texts verb.Set =
     then_takes (variable_at texts 1) (λ name. then_takes (expression_from names texts 3) (λ x. Ok (SetTo name x)))
 command_of_verb names texts verb.Vars = ends_at texts 1 ListVariables
 command_of_verb names texts verb.Continue = ends_at texts 1 Continue
+command_of_verb names texts verb.Rcontinue = ends_at texts 1 Rcontinue
 command_of_verb names texts verb.Quit = ends_at texts 1 Quit
 
 -- the command that the tokens spell, over a group whose processes have these names
@@ -174,8 +180,10 @@ has_nested ListPoints = false
 has_nested (SetTo name x) = is_nested x
 has_nested ListVariables = false
 has_nested Continue = false
+has_nested Rcontinue = false
 has_nested (Goto k) = false
 has_nested (Step n) = false
+has_nested (Back n) = false
 has_nested (Mem place addr len) = false
 has_nested (Threads place) = false
 has_nested (Events n) = false
@@ -196,10 +204,12 @@ names_none ListPoints = false
 names_none (SetTo name x) = lacks_node false x
 names_none ListVariables = false
 names_none Continue = false
+names_none Rcontinue = false
 names_none (Mem node addr len) = is_none node
 names_none (Threads node) = is_none node
 names_none (Goto k) = false
 names_none (Step n) = false
+names_none (Back n) = false
 names_none (Events n) = false
 names_none Quit = false
 
@@ -214,8 +224,10 @@ watches_variable ListPoints = false
 watches_variable (SetTo name x) = false
 watches_variable ListVariables = false
 watches_variable Continue = false
+watches_variable Rcontinue = false
 watches_variable (Goto k) = false
 watches_variable (Step n) = false
+watches_variable (Back n) = false
 watches_variable (Mem place addr len) = false
 watches_variable (Threads place) = false
 watches_variable (Events n) = false

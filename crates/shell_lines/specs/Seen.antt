@@ -1,5 +1,5 @@
 -- What the values of the code stand for.
-use Rattle.std.specs.Prelude.{◌≡◌, ℕ, Bool, true, false, List, Result, Ok, Err}
+use Rattle.std.specs.Prelude.{◌≡◌, ℕ, true, false, List, Result, Ok, Err}
 use Rattle.watch_expr.specs.declared.error.ExprError.{ExprError}
 use Rattle.watch_expr.specs.declared.error.ExprError.TheVariants.{Syntax, NoNode, TooDeep, Nested, NoMemory}
 use Rattle.watch_expr.specs.Computed.{cut}
@@ -13,7 +13,7 @@ use Rattle.shell_lines.specs.declared.command.Scope.TheVariants as scopes
 use Rattle.shell_lines.specs.declared.line.Line.{Line}
 use Rattle.shell_lines.specs.declared.line.Line.TheVariants as line
 use Rattle.shell_lines.specs.declared.refusal.Refusal.TheVariants as refusal
-use Rattle.shell_lines.specs.Lines.{At, Break, LineCommand, Continue, Delete, Do, Events, Everywhere, Goto, ListPoints, ListVariables, Mem, Print, Quit, Scope, SetTo, Step, Threads, Watch, has_nested, names_none}
+use Rattle.shell_lines.specs.Lines.{At, Back, Break, LineCommand, Continue, Delete, Do, Events, Everywhere, Goto, ListPoints, ListVariables, Mem, Print, Quit, Rcontinue, Scope, SetTo, Step, Threads, Watch, has_nested, names_none}
 use Rattle.shell_lines.specs.Meaning.{Does, LineMeaning, Refuses, Silent, by_cut, judged}
 
 abbrev pub scope : ScopeSpelled → Scope
@@ -23,6 +23,7 @@ scope (scopes.At n) = At n
 abbrev pub command : Spelled → LineCommand
 command (spelled.Goto position) = Goto position
 command (spelled.Step count) = Step count
+command (spelled.Back count) = Back count
 command (spelled.Print x) = Print (expression_of x)
 command (spelled.Mem node addr len) = Mem node addr len
 command (spelled.Threads node) = Threads node
@@ -35,6 +36,7 @@ command spelled.List = ListPoints
 command (spelled.Set name x) = SetTo name (expression_of x)
 command spelled.Vars = ListVariables
 command spelled.Continue = Continue
+command spelled.Rcontinue = Rcontinue
 command spelled.Quit = Quit
 
 abbrev pub meaning : Line → LineMeaning

@@ -10,6 +10,7 @@ use watch_expr::Expr;
 pub(crate) enum Verb {
     Goto,
     Step,
+    Back,
     Print,
     Mem,
     Threads,
@@ -22,6 +23,7 @@ pub(crate) enum Verb {
     Set,
     Vars,
     Continue,
+    Rcontinue,
     Quit,
 }
 
@@ -37,6 +39,7 @@ pub enum Scope {
 pub enum Command {
     Goto(u64),
     Step(u64),
+    Back(u64),
     Print(Expr),
     Mem(Option<u32>, u64, u64),
     Threads(Option<u32>),
@@ -49,5 +52,6 @@ pub enum Command {
     Set(Bytes, Expr),
     Vars,
     Continue,
+    Rcontinue,
     Quit,
 }

@@ -18,9 +18,10 @@ use watch_expr::{ExprError, Tokens};
 // The greatest number that a token is.
 const MOST_NUMBER: u64 = 9_223_372_036_854_775_807;
 
-const VERBS: [Verb; 15] = [
+const VERBS: [Verb; 17] = [
     Verb::Goto,
     Verb::Step,
+    Verb::Back,
     Verb::Print,
     Verb::Mem,
     Verb::Threads,
@@ -33,6 +34,7 @@ const VERBS: [Verb; 15] = [
     Verb::Set,
     Verb::Vars,
     Verb::Continue,
+    Verb::Rcontinue,
     Verb::Quit,
 ];
 
@@ -45,6 +47,7 @@ impl Verb {
         match self {
             Verb::Goto => "goto",
             Verb::Step => "step",
+            Verb::Back => "back",
             Verb::Print => "print",
             Verb::Mem => "mem",
             Verb::Threads => "threads",
@@ -57,6 +60,7 @@ impl Verb {
             Verb::Set => "set",
             Verb::Vars => "vars",
             Verb::Continue => "continue",
+            Verb::Rcontinue => "rcontinue",
             Verb::Quit => "quit",
         }
     }
@@ -95,6 +99,10 @@ fn read_behind(
             let count = read_count(tokens, 0, MOST_NUMBER, 1)?;
             ending(tokens, 2, Command::Step(count))
         }
+        Verb::Back => {
+            let count = read_count(tokens, 0, MOST_NUMBER, 1)?;
+            ending(tokens, 2, Command::Back(count))
+        }
         Verb::Print => Ok(Command::Print(read_expression(alloc, tokens, 1, names)?)),
         Verb::Mem => read_mem(tokens, names),
         Verb::Threads => {
@@ -116,6 +124,7 @@ fn read_behind(
         Verb::Set => read_set(alloc, tokens, names),
         Verb::Vars => ending(tokens, 1, Command::Vars),
         Verb::Continue => ending(tokens, 1, Command::Continue),
+        Verb::Rcontinue => ending(tokens, 1, Command::Rcontinue),
         Verb::Quit => ending(tokens, 1, Command::Quit),
     }
 }

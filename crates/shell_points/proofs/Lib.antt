@@ -1,2 +1,4 @@
+pub mod Exact
 pub mod Held
+pub mod Returning
 pub mod Walks

@@ -1,5 +1,5 @@
 -- What points do at a position, by what they read, and how a walk goes on.
-use Rattle.std.proofs.Common.{◌≡◌, ℕ, ℤ, zero, suc, ◌+◌, ◌-◌, ◌<◌, ◌≤◌, Bool, true, false, cond, drop, List, [], ◌∷◌, ◌++◌, length, get_or, map, Option, Some, None, inl, inr, refl, sym, ap, ◌∙◌, arith}
+use Rattle.std.proofs.Common.{◌≡◌, ℕ, ℤ, zero, suc, ◌+◌, ◌-◌, ◌<◌, ◌≤◌, Bool, true, false, cond, drop, List, [], ◌∷◌, ◌++◌, length, get_or, map, Option, Some, None, inl, inr, sym, ap, ◌∙◌, arith}
 use Rattle.std.specs.Prelude.{codes, is_some, nat_le, slice_get}
 use Rattle.std.proofs.lemmas.Bool.{le-leb}
 use Rattle.std.proofs.lemmas.Bool.Decides.{leb_tells}
@@ -15,30 +15,14 @@ use Rattle.proc_replay.specs.Replaying.{Replaying}
 use Rattle.embed_cmds.specs.Running.{ProgramState}
 use Rattle.embed_cmds.specs.Variables.{Variable}
 use Rattle.shell_points.specs.declared.point.Point.{Point as Held}
-use Rattle.shell_points.specs.Firing.{is_due_at, firing_line, place_at}
-use Rattle.shell_points.specs.Points.{Break, Point, Trigger, Watch}
-use Rattle.shell_points.specs.Reading.{is_due_by, line_by, reading, readings, treat_by}
+use Rattle.shell_points.specs.Firing.{place_at, reading, said_at}
+use Rattle.shell_points.specs.Points.{Point}
+use Rattle.shell_points.specs.Reading.{readings, said_by, treat_by}
 use Rattle.shell_points.specs.Seen.{Walks, point, trigger}
 use Rattle.group_texts.specs.Texts.{position_line}
-use Rattle.shell_points.specs.Walking.{Walk, fired, lines_in, most_lines, quiet, treat, treat_all, walk_ended, walk_from, walk_on, walk_over}
+use Rattle.shell_points.specs.Walking.{Walk, lines_in, most_lines, quiet, treat, treat_all, walk_ended, walk_from, walk_on, walk_over}
 
 -- ---- at one position
-
-due_is : (start : List Replaying) (k : ℕ) (t : Trigger) → is_due_by (reading start k t) (reading start (suc k) t) (last_event_of (place_at start (suc k))) t ≡ is_due_at start (suc k) t
-due_is start k (Watch x) = refl
-due_is start k (Break of_node kind) = refl
-
-line_is : (start : List Replaying) (k n : ℕ) (t : Trigger) → line_by (reading start k t) (reading start (suc k) t) n t ≡ firing_line start (suc k) n t
-line_is start k n (Watch x) = refl
-line_is start k n (Break of_node kind) = refl
-
-treat_is : (start : List Replaying) (k : ℕ) (r : ProgramState) (p : Point)
-    → treat_by (reading start k p.trigger) (reading start (suc k) p.trigger) (last_event_of (place_at start (suc k))) (nodes_at (place_at start (suc k))) r p ≡ treat start (suc k) r p
-treat_is start k r p =
-    let t = p.trigger in
-    let nodes = nodes_at (place_at start (suc k)) in
-    ap (λ (b : Bool). cond b (fired nodes r (line_by (reading start k t) (reading start (suc k) t) p.number t) p.program) r) (due_is start k t)
-    ∙ ap (λ (line : List ℕ). cond (is_due_at start (suc k) t) (fired nodes r line p.program) r) (line_is start k p.number t)
 
 -- what one point does, by what was read
 pub treated : (start : List Replaying) (at : ℕ) (r new : ProgramState) (p : Point) (before now : Option ℤ) → 0 < at
@@ -52,7 +36,16 @@ treated start (suc k) r new p before now moved was is did =
     let nodes = nodes_at (place_at start (suc k)) in
     did ∙ ap (λ (b : Option ℤ). treat_by b now event nodes r p) (was ∙ ap (λ (m : ℕ). reading start m p.trigger) e)
     ∙ ap (λ (b : Option ℤ). treat_by (reading start k p.trigger) b event nodes r p) is
-    ∙ treat_is start k r p
+
+-- what one point says, by what was read
+pub said : (start : List Replaying) (at : ℕ) (p : Point) (before now : Option ℤ) → 0 < at → before ≡ reading start (at - 1) p.trigger → now ≡ reading start at p.trigger
+    → said_by before now (last_event_of (place_at start at)) p ≡ said_at start at p
+said start zero p before now moved was is = absurd (omega (arith, moved))
+said start (suc k) p before now moved was is =
+    let e : suc k - 1 ≡ k = omega arith in
+    let event = last_event_of (place_at start (suc k)) in
+    ap (λ (b : Option ℤ). said_by b now event p) (was ∙ ap (λ (m : ℕ). reading start m p.trigger) e)
+    ∙ ap (λ (b : Option ℤ). said_by (reading start k p.trigger) b event p) is
 
 among : (start : List Replaying) (k m : ℕ) (ps : List Held) (p : Held) (value : Option ℤ) → m < length ps → get_or ps m p ≡ p
     → get_or (readings start k (map {A = Held} point ps)) m value ≡ reading start k (trigger p.trigger)
@@ -83,7 +76,7 @@ treated_more start at n points p r new whole within here did so_far =
 pub place_is : (here : Place) (start : List Replaying) (k : ℕ) → here.start ≡ start → here.at ≡ k → here ≡ place_at start k
 place_is here start k same at = λ i. record { start = same i; at = at i }
 
-past : {A : Type 0} (xs : List A) (n : ℕ) → None ≡ slice_get xs n → length xs ≤ n
+pub past : {A : Type 0} (xs : List A) (n : ℕ) → None ≡ slice_get xs n → length xs ≤ n
 past [] n e = omega arith
 past (x ∷ xs) zero e = absurd cc
 past (x ∷ xs) (suc n) e = omega (arith, past xs n e)

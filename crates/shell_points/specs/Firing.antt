@@ -1,5 +1,6 @@
 -- Where points fire, and what they say there.
-use Rattle.std.specs.Prelude.{ℕ, zero, suc, ◌==◌, ◌&&◌, Bool, true, false, not, List, [], ◌++◌, codes, decimal, Option, Some, None, ℤ}
+use Rattle.std.specs.Prelude.{ℕ, zero, suc, ◌==◌, ◌&&◌, Bool, true, false, not, List, [], ◌++◌, codes, decimal, Option, Some, None, ℤ, if◌then◌else◌}
+use Rattle.std.specs.List.{flat_map, list_any}
 use Rattle.call_table.specs.Table.{row}
 use Rattle.call_table.specs.declared.kind.Kind.{Kind}
 use Rattle.group_order.specs.Order.{NodeEvent}
@@ -11,7 +12,7 @@ use Rattle.group_state.specs.Seen.{nodes_at}
 use Rattle.watch_expr.specs.Expression.{Expression}
 use Rattle.watch_expr.specs.Value.{equal, value}
 use Rattle.embed_cmds.specs.Running.{value_word}
-use Rattle.shell_points.specs.Points.{Break, Trigger, Watch}
+use Rattle.shell_points.specs.Points.{Break, Point, Trigger, Watch}
 
 abbrev pub no_variable : List ℕ → Option ℤ
 no_variable name = None
@@ -20,11 +21,18 @@ no_variable name = None
 abbrev pub place_at : List Replaying → ℕ → Place
 place_at start k = record { start = start; at = k }
 
--- ---- watchpoints
+-- ---- what a point reads
 
 -- the value of an expression at position k
 abbrev pub value_at_position : List Replaying → Expression → ℕ → Option ℤ
 value_at_position start x k = value (nodes_at (place_at start k)) no_variable x
+
+-- the value of a watchpoint's expression at position k; a breakpoint reads nothing
+abbrev pub reading : List Replaying → ℕ → Trigger → Option ℤ
+reading start k (Watch x) = value_at_position start x k
+reading start k (Break of_node kind) = None
+
+-- ---- where it fires, by what it read before and reads now
 
 -- `undef` is equal to itself alone
 abbrev pub is_same_value : Option ℤ → Option ℤ → Bool
@@ -32,13 +40,6 @@ is_same_value None None = true
 is_same_value None (Some b) = false
 is_same_value (Some a) None = false
 is_same_value (Some a) (Some b) = equal a b
-
--- the value at position k, from 1, is another one than at the position before
-abbrev pub fires : List Replaying → Expression → ℕ → Bool
-fires start x zero = false
-fires start x (suc k) = not (is_same_value (value_at_position start x k) (value_at_position start x (suc k)))
-
--- ---- breakpoints
 
 abbrev pub is_of_node : Option ℕ → ℕ → Bool
 is_of_node None n = true
@@ -48,21 +49,43 @@ abbrev pub is_of : Option ℕ → Kind → Option (NodeEvent Entry) → Bool
 is_of of_node kind None = false
 is_of of_node kind (Some e) = is_of_node of_node e.node && e.entry.call.kind == (row kind).number
 
--- the event that led to position k is of this kind and node
-abbrev pub breaks : List Replaying → Option ℕ → Kind → ℕ → Bool
-breaks start of_node kind k = is_of of_node kind (last_event_of (place_at start k))
+-- A watchpoint fires where it reads another value than before, a breakpoint where the event between is of its kind and node.
+abbrev pub is_due_by : Option ℤ → Option ℤ → Option (NodeEvent Entry) → Trigger → Bool
+is_due_by before now event (Watch x) = not (is_same_value before now)
+is_due_by before now event (Break of_node kind) = is_of of_node kind event
 
--- ---- what a point says where it fires
+-- from one value to another
+abbrev pub change_by : Option ℤ → Option ℤ → List ℕ
+change_by before now = value_word before ++ (codes " -> " ++ value_word now)
 
+-- the line that it then says
+abbrev pub line_by : Option ℤ → Option ℤ → ℕ → Trigger → List ℕ
+line_by before now number (Watch x) = codes "watch " ++ (decimal number ++ (codes ": " ++ (change_by before now ++ codes "\n")))
+line_by before now number (Break of_node kind) = codes "break " ++ (decimal number ++ codes "\n")
+
+-- ---- at a position
+
+-- position k is compared with the one before, so none fires at position 0
 abbrev pub is_due_at : List Replaying → ℕ → Trigger → Bool
-is_due_at start k (Watch x) = fires start x k
-is_due_at start k (Break of_node kind) = breaks start of_node kind k
+is_due_at start zero t = false
+is_due_at start (suc k) t = is_due_by (reading start k t) (reading start (suc k) t) (last_event_of (place_at start (suc k))) t
 
--- the value at position k, and that at the position before
-abbrev pub change_text : List Replaying → Expression → ℕ → List ℕ
-change_text start x zero = []
-change_text start x (suc k) = value_word (value_at_position start x k) ++ (codes " -> " ++ value_word (value_at_position start x (suc k)))
+-- a watchpoint on this expression fires at position k
+abbrev pub fires : List Replaying → Expression → ℕ → Bool
+fires start x k = is_due_at start k (Watch x)
 
 abbrev pub firing_line : List Replaying → ℕ → ℕ → Trigger → List ℕ
-firing_line start k number (Watch x) = codes "watch " ++ (decimal number ++ (codes ": " ++ (change_text start x k ++ codes "\n")))
-firing_line start k number (Break of_node kind) = codes "break " ++ (decimal number ++ codes "\n")
+firing_line start zero number t = []
+firing_line start (suc k) number t = line_by (reading start k t) (reading start (suc k) t) number t
+
+-- some point fires at position k
+abbrev pub has_due : List Replaying → List Point → ℕ → Bool
+has_due start points k = list_any (λ p. is_due_at start k p.trigger) points
+
+-- the line of a point at position k, if it fires there
+abbrev pub said_at : List Replaying → ℕ → Point → List ℕ
+said_at start k p = if is_due_at start k p.trigger then firing_line start k p.number p.trigger else []
+
+-- the lines of all points that fire at position k, in their order, whether programs are attached to them or not
+abbrev pub firing_lines : List Replaying → List Point → ℕ → List ℕ
+firing_lines start points k = flat_map (said_at start k) points

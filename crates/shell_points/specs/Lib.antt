@@ -2,4 +2,6 @@ pub mod Points
 pub mod Firing
 pub mod Walking
 pub mod Reading
+pub mod Returning
 pub mod Seen
+pub mod Laws

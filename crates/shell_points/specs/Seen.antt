@@ -6,12 +6,14 @@ use Rattle.group_texts.specs.Texts.{position_line}
 use Rattle.embed_cmds.specs.Running.{ProgramState}
 use Rattle.embed_cmds.specs.Tree.{body}
 use Rattle.embed_cmds.specs.Variables.{Variable}
+use Rattle.shell_points.specs.declared.back.Return.{Return as Ended}
 use Rattle.shell_points.specs.declared.point.Point.{Point as Held}
 use Rattle.shell_points.specs.declared.point.Trigger.{Trigger as HeldTrigger}
 use Rattle.shell_points.specs.declared.point.Trigger.TheVariants as held
 use Rattle.shell_points.specs.declared.turn.Turn.{Turn}
 use Rattle.shell_points.specs.Firing.{place_at}
 use Rattle.shell_points.specs.Points.{Break, Point, Trigger, Watch}
+use Rattle.shell_points.specs.Returning.{Return, return_from}
 use Rattle.shell_points.specs.Walking.{walk_from}
 
 abbrev pub trigger : HeldTrigger → Trigger
@@ -25,8 +27,17 @@ point p = record { number = p.number; text = p.text; trigger = trigger p.trigger
 abbrev pub run_so_far : Turn → ProgramState
 run_so_far t = record { variables = t.variables; text = t.text; stopped = t.stops }
 
+-- where a walk back ends
+abbrev pub return_of : Ended → Return
+return_of r = record { at = r.at; text = r.text }
+
 -- a walk from a place came to where it comes
 pub record Walks (old : Place) (points : List Point) (before : List Variable) (new : Place) (after : List Variable) (text : List ℕ) : Type 0 where
   pub place : new ≡ place_at old.start (walk_from old points before).at
   pub variables : after ≡ (walk_from old points before).variables
   pub text_is : text ≡ (walk_from old points before).text ++ position_line new
+
+-- a walk back from a place came to where it comes
+pub record Returns (old : Place) (points : List Point) (new : Place) (text : List ℕ) : Type 0 where
+  pub place : new ≡ place_at old.start (return_from old points).at
+  pub text_is : text ≡ (return_from old points).text ++ position_line new

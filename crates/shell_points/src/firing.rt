@@ -1,8 +1,8 @@
 // What points read at a position, and what they say where they fire.
 ghost use Rattle.std.specs.Prelude.{◌≡◌, ◌++◌, Some, IfOk, OnOk, map};
 ghost use Rattle.group_state.specs.Moves.{event_of, last_event_of};
-ghost use Rattle.shell_points.specs.Firing.{is_of, is_same_value};
-ghost use Rattle.shell_points.specs.Reading.{is_due_by, line_by, reading, readings};
+ghost use Rattle.shell_points.specs.Firing.{is_due_by, is_of, is_same_value, line_by, reading};
+ghost use Rattle.shell_points.specs.Reading.{readings};
 ghost use Rattle.shell_points.specs.Seen.{point as seen, trigger as seen_trigger};
 ghost use Rattle.shell_points.specs.declared.point.Point.{Point as Held};
 

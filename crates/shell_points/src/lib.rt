@@ -1,18 +1,22 @@
 //! The points of a session, watchpoints and breakpoints: which are held, where each fires, what it does there, and where
-//! `continue` comes to.
+//! `continue` and `rcontinue` come to.
 //!
 //! Contracts see `Points` as a list of the points of `specs/Points`. A point fires by the values at two positions of the
 //! logs, or by the event between them (`specs/Firing`), as if nothing had come before. A walk is promised to end at the
-//! position, with the variables and the text, that `walk_from` of `specs/Walking` gives, or to want memory. How many
-//! points there may be, and what a line answers that changes them, stands in friday_shell.
+//! position, with the variables and the text, that `walk_from` of `specs/Walking` gives, or to want memory; a walk back at
+//! that of `return_from` of `specs/Returning`. The law `exact_firing` says which positions these are. How many points there
+//! may be, and what a line answers that changes them, stands in friday_shell.
 #![tactic(auto)]
 
+mod back;
 mod firing;
+mod laws;
 mod point;
 mod points;
 mod turn;
 mod walk;
 
+pub use laws::exact_firing;
 pub use point::Trigger;
 pub use points::Points;
 pub use walk::Walked;

@@ -3,8 +3,9 @@ ghost use Rattle.std.specs.Prelude.{◌≡◌, ◌<◌, ◌++◌, ◌∷◌, ◌
 ghost use Rattle.std.specs.List.{flat_map};
 ghost use Rattle.embed_cmds.specs.Tree.{body};
 ghost use Rattle.shell_points.specs.Points.{has_point, new_point, place_of_point, point_text, with_program, without_point};
-ghost use Rattle.shell_points.specs.Seen.{Walks, point as point_meant, trigger as trigger_meant};
+ghost use Rattle.shell_points.specs.Seen.{Returns, Walks, point as point_meant, trigger as trigger_meant};
 
+use crate::back::walk_back;
 use crate::point::{Point, Trigger};
 use crate::walk::{Walked, walk};
 use embed_cmds::{Program, Vars};
@@ -122,6 +123,18 @@ impl Points {
         ensures { IfOk result (λ done. Walks group.entry self.now variables done.group done.variables done.text) }
     {
         walk(alloc, group, &self.held, variables)
+    }
+
+    /// Goes to the last position in front of this one at which a point fires, and says what all say that fire there, or
+    /// else goes to position 0. No program runs.
+    pub fn walk_back<'m, 'a>(
+        &self,
+        alloc: Global,
+        group: Group<'m, 'a>,
+    ) -> Result<(Group<'m, 'a>, Text), AllocError>
+        ensures { IfOk result (λ done. Returns group.entry self.now done.0 done.1) }
+    {
+        walk_back(alloc, group, &self.held)
     }
 }
 

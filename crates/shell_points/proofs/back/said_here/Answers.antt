@@ -1,0 +1,20 @@
+use Rattle.std.proofs.Common.{◌≡◌, ◌<◌, ◌-◌, None, length, get_or, map, sym, arith}
+use Rattle.shell_points.specs.declared.point.Point.{Point as Held}
+use Rattle.shell_points.specs.Firing.{firing_lines}
+use Rattle.shell_points.specs.Seen.{point}
+use Rattle.shell_points.proofs.Returning.{said_more}
+use Rattle.shell_points.proofs.Walks.{read_at, said}
+use Rattle.shell_points.proofs.back.said_here.Goals as goal
+
+pub loop-n-preserved : goal.loop-n-preserved
+loop-n-preserved c =
+    let start = c.args.group.now.start in
+    let at = c.args.group.now.at in
+    let points = c.args.points.now in
+    let n = c.loop-n.n in
+    let p = c.index-points-n.result in
+    let within : n < length points = omega (arith, c.loop-n-test.true) in
+    let here : get_or points n p ≡ p = sym c.index-points-n.is in
+    let line = said start at (point p) (get_or c.args.before.now n None) (get_or c.args.now.now n None) c.requires.moved
+    (read_at start (at - 1) n points p c.args.before.now None c.requires.before within here) (read_at start at n points p c.args.now.now None c.requires.now within here) in
+    said_more start at n points p c.loop-n.text c.push_said.new.text (firing_lines start (map {A = Held} point points) at) _ within here c.in_ok-push_said.ensures line c.loop-n.invariant

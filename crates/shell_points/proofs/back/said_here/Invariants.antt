@@ -1,0 +1,10 @@
+use Rattle.std.proofs.Common.{◌≡◌, ◌++◌, drop, map}
+use Rattle.shell_points.specs.declared.point.Point.{Point as Held}
+use Rattle.shell_points.specs.Firing.{firing_lines}
+use Rattle.shell_points.specs.Seen.{point}
+use Rattle.shell_points.proofs.back.said_here.Given as goal
+
+-- what was said, with what the points still to come say, is the whole
+abbrev pub invariant-loop-n : goal.invariant-loop-n
+invariant-loop-n l =
+    l.text ++ firing_lines l.group.start (map {A = Held} point (drop l.n l.points)) l.group.at ≡ firing_lines l.group.start (map {A = Held} point l.points) l.group.at

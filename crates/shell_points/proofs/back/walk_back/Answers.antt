@@ -1,0 +1,27 @@
+use Rattle.std.proofs.Common.{◌≡◌, ◌∙◌, ◌-◌, ◌≤◌, ℕ, List, length, map, suc, ap, arith}
+use Rattle.proc_replay.specs.Replaying.{Replaying}
+use Rattle.group_state.specs.Place.{Place, events}
+use Rattle.shell_points.specs.declared.point.Point.{Point as Held}
+use Rattle.shell_points.specs.Firing.{place_at}
+use Rattle.shell_points.specs.Returning.{return_from}
+use Rattle.shell_points.specs.Seen.{point, return_of}
+use Rattle.shell_points.proofs.Returning.{gone_to, last_within, returns_there}
+use Rattle.shell_points.proofs.back.walk_back.Goals as goal
+
+pub returns : goal.returns
+returns c =
+    let first = c.args.group in
+    let ps = map {A = Held} point c.args.points.now in
+    let count = c.saturating_sub-count.result in
+    let r = return_of c.in_ok-group-2.last in
+    let begun = gone_to first c.in_ok-group.group 0 c.in_ok-group.field-0-1 (omega arith) c.in_ok-group.ensures in
+    let same : c.in_ok-group.group.start ≡ first.start = ap (λ (p : Place). p.start) begun in
+    let walked : c.in_ok-group-2.group.start ≡ first.start = c.in_ok-group-2.ensures.start ∙ same in
+    let front : count ≡ first.at - 1 = c.saturating_sub-count.ensures ∙ ap (λ (n : ℕ). n - 1) c.position.ensures.position in
+    let within : count ≤ length (events first.start) = omega (arith, front, c.position.ensures.within) in
+    let last : r ≡ return_from (place_at first.start (suc count)) ps = c.in_ok-group-2.ensures.last ∙ ap (λ (s : List Replaying). return_from (place_at s (suc count)) ps) same in
+    let below : r.at ≤ length (events c.in_ok-group-2.group.start) =
+    omega (arith, last_within first.start ps count (length (events first.start)) r within last, ap (λ (s : List Replaying). length (events s)) walked) in
+    let came : c.in_ok-group-3.group ≡ place_at first.start r.at =
+    gone_to c.in_ok-group-2.group c.in_ok-group-3.group r.at c.in_ok-group-3.field-0-1 below c.in_ok-group-3.ensures ∙ ap (λ (s : List Replaying). place_at s r.at) walked in
+    returns_there first c.in_ok-group-3.group ps count r c.push_position.new.text front last came c.in_ok-push_position.ensures

@@ -1,0 +1,5 @@
+use Rattle.shell_points.proofs.Exact.{exact}
+use Rattle.shell_points.proofs.laws.exact_firing.Goals as goal
+
+pub returns : goal.returns
+returns c = exact

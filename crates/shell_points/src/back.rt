@@ -1,0 +1,117 @@
+// Goes back to where points fired last.
+ghost use Rattle.std.specs.Prelude.{◌≡◌, ◌<◌, ◌≤◌, ◌-◌, ◌++◌, ◌==◌, IfOk, OnOk, if◌then◌else◌, length, map, suc};
+ghost use Rattle.group_state.specs.Moves.{last_event_of};
+ghost use Rattle.group_state.specs.Place.{events};
+ghost use Rattle.shell_points.specs.Firing.{firing_lines, place_at};
+ghost use Rattle.shell_points.specs.Reading.{readings, said_by};
+ghost use Rattle.shell_points.specs.Returning.{return_from};
+ghost use Rattle.shell_points.specs.Seen.{Returns, point as seen, return_of};
+ghost use Rattle.shell_points.specs.declared.point.Point.{Point as Held};
+
+use crate::firing::{is_due, push_line, readings};
+use crate::point::Point;
+use fri_text::Text;
+use group_state::Group;
+use group_texts::push_position;
+use std::alloc::{AllocError, Global};
+
+/// Where a walk back ends, and what it says in front of the position.
+#[derive(Drop)]
+pub(crate) struct Return {
+    at: u64,
+    text: Text,
+}
+
+/// Goes to the last position in front of this one at which a point fires, or else to position 0.
+pub(crate) fn walk_back<'m, 'a>(
+    alloc: Global,
+    group: Group<'m, 'a>,
+    points: &[Point],
+) -> Result<(Group<'m, 'a>, Text), AllocError>
+    ensures { IfOk result (λ done. Returns group.entry (map {A = Held} seen points.now) done.0 done.1) }
+{
+    let count = group.position().saturating_sub(1);
+    let (group, _) = group.goto(alloc, 0)?;
+    let (group, last) = last_firing(alloc, group, points, count)?;
+    let Return { at, mut text } = last;
+    let (group, _) = group.goto(alloc, at)?;
+    push_position(&mut text, &group)?;
+    Ok((group, text))
+}
+
+// Where points fire last among so many positions behind position 0, at which the group stands. What they said before that
+// is not kept.
+fn last_firing<'m, 'a>(
+    alloc: Global,
+    group: Group<'m, 'a>,
+    points: &[Point],
+    count: u64,
+) -> Result<(Group<'m, 'a>, Return), AllocError>
+    requires begins { group.at ≡ 0 }
+    requires within { count ≤ length (events group.start) }
+    ensures start { IfOk result (λ done. done.0.start ≡ group.entry.start) }
+    ensures last { IfOk result (λ done. return_of done.1 ≡ return_from (place_at group.entry.start (suc count)) (map {A = Held} seen points.now)) }
+{
+    let mut text = Text::new(alloc);
+    text.push_str("start\n")?;
+    let mut last = Return { at: 0, text };
+    let mut group = group;
+    let mut before = readings(alloc, points, &group)?;
+    'positions: while group.position() < count {
+        let (next, _) = group.forward()?;
+        group = next;
+        let now = readings(alloc, points, &group)?;
+        let text = said_here(alloc, points, &before, &now, &group)?;
+        last = later(last, group.position(), text);
+        before = now;
+    }
+    Ok((group, last))
+}
+
+// What was said at a position, if anything was, and else what was said last.
+fn later(last: Return, at: u64, text: Text) -> Return
+    ensures { return_of result ≡ (if length text == 0 then return_of last else record { at = at; text = text }) }
+{
+    if text.bytes().is_empty() {
+        last
+    } else {
+        Return { at, text }
+    }
+}
+
+// What all points say that fire where the group stands, in their order, by what they read at the position before and what
+// they read now.
+fn said_here(
+    alloc: Global,
+    points: &[Point],
+    before: &[Option<i64>],
+    now: &[Option<i64>],
+    group: &Group<'_, '_>,
+) -> Result<Text, AllocError>
+    requires moved { 0 < group.now.at }
+    requires before { before.now ≡ readings group.now.start (group.now.at - 1) (map {A = Held} seen points.now) }
+    requires now { now.now ≡ readings group.now.start group.now.at (map {A = Held} seen points.now) }
+    ensures { IfOk result (λ text. text ≡ firing_lines group.now.start (map {A = Held} seen points.now) group.now.at) }
+{
+    let mut text = Text::new(alloc);
+    for (n, point) in points.iter().enumerate() {
+        push_said(&mut text, point, before[n], now[n], group)?;
+    }
+    Ok(text)
+}
+
+// What a point says, if it fires where the group stands.
+fn push_said(
+    text: &mut Text,
+    point: &Point,
+    before: Option<i64>,
+    now: Option<i64>,
+    group: &Group<'_, '_>,
+) -> Result<(), AllocError>
+    ensures { OnOk result (text.new ≡ text.old ++ said_by before now (last_event_of group.now) (seen point.now)) }
+{
+    if is_due(&point.trigger, before, now, group) {
+        push_line(text, point, before, now)?;
+    }
+    Ok(())
+}
