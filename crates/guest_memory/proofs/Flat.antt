@@ -2,7 +2,7 @@
 use Rattle.std.proofs.Common.{◌≡◌, ◌<◌, ◌≤◌, ℕ, ◌+◌, ◌*◌, zero, suc, List, [], ◌∷◌, ◌++◌, length, get_or, take, drop, replicate, append_assoc, length-append, zero-add, refl, ap, sym, ◌∙◌, arith}
 use Rattle.std.proofs.Math.ListN.{set}
 use Rattle.guest_memory.specs.Memory.{put_piece}
-use Rattle.guest_memory.specs.Pages.{AreWhole, flat, put_in}
+use Rattle.guest_memory.specs.Pages.{AreWhole, flat, put_in, stamps_of}
 use Rattle.guest_memory.specs.declared.page.Page.{Page}
 use Rattle.guest_memory.proofs.Pieces.{drop-past, part-left, put-left, put-right}
 
@@ -26,13 +26,13 @@ set-same (p ∷ ps) zero d h = refl
 set-same (p ∷ ps) (suc q) d h = ap (λ l. p ∷ l) (set-same ps q d (omega arith))
 
 -- a piece that stays in the page q
-pub flat-put : (ps : List Page) (q r a : ℕ) (piece : List ℕ) (d : Page) → AreWhole ps → q < length ps → r + length piece ≤ 4096 → a ≡ 4096 * q + r
-    → put_piece (flat ps) a piece ≡ flat (set ps q (put_in (get_or ps q d) r piece))
-flat-put [] q r a piece d w h k e = absurd (omega arith)
-flat-put (p ∷ ps) zero r a piece d w h k e = let s : a ≡ r = omega arith in rw s (put-left p.bytes (flat ps) r piece (omega (arith, w.0)))
-flat-put (p ∷ ps) (suc q) r a piece d w h k e =
+pub flat-put : (ps : List Page) (q r a : ℕ) (piece : List ℕ) (number : ℕ) (d : Page) → AreWhole ps → q < length ps → r + length piece ≤ 4096 → a ≡ 4096 * q + r
+    → put_piece (flat ps) a piece ≡ flat (set ps q (put_in (get_or ps q d) r piece number))
+flat-put [] q r a piece number d w h k e = absurd (omega arith)
+flat-put (p ∷ ps) zero r a piece number d w h k e = let s : a ≡ r = omega arith in rw s (put-left p.bytes (flat ps) r piece (omega (arith, w.0)))
+flat-put (p ∷ ps) (suc q) r a piece number d w h k e =
     put-right p.bytes (flat ps) a (4096 * q + r) piece (omega (arith, w.0))
-    ∙ ap (λ l. p.bytes ++ l) (flat-put ps q r (4096 * q + r) piece d w.1 (omega arith) k refl)
+    ∙ ap (λ l. p.bytes ++ l) (flat-put ps q r (4096 * q + r) piece number d w.1 (omega arith) k refl)
 
 -- a part that stays in the page q
 pub flat-part : (ps : List Page) (q r a n : ℕ) (d : Page) → AreWhole ps → q < length ps → r + n ≤ 4096 → a ≡ 4096 * q + r
@@ -49,14 +49,14 @@ flat-append (p ∷ ps) qs = rw (flat-append ps qs) (sym (append_assoc p.bytes (f
 
 -- ---- pages of zeros, at a length that is a variable: a list of 4,096 zeros is never written out
 
--- pages of n zeros
+-- pages of n zeros that no event wrote to
 abbrev pub AreZeros : ℕ → List Page → Type 0
 AreZeros n [] = Unit {0}
-AreZeros n (p ∷ ps) = (p.bytes ≡ replicate n 0) × AreZeros n ps
+AreZeros n (p ∷ ps) = (p.stamp ≡ 0) × (p.bytes ≡ replicate n 0) × AreZeros n ps
 
-pub zeros-more : (n : ℕ) (ps : List Page) (p : Page) → AreZeros n ps → p.bytes ≡ replicate n 0 → AreZeros n (ps ++ p ∷ [])
-zeros-more n [] p z k = (k, tt)
-zeros-more n (a ∷ ps) p z k = (z.0, zeros-more n ps p z.1 k)
+pub zeros-more : (n : ℕ) (ps : List Page) (p : Page) → AreZeros n ps → p.stamp ≡ 0 → p.bytes ≡ replicate n 0 → AreZeros n (ps ++ p ∷ [])
+zeros-more n [] p z h k = (h, k, tt)
+zeros-more n (a ∷ ps) p z h k = (z.0, z.1, zeros-more n ps p z.2 h k)
 
 replicate-more : (n m : ℕ) → replicate {A = ℕ} n 0 ++ replicate {A = ℕ} m 0 ≡ replicate {A = ℕ} (n + m) 0
 replicate-more zero m = rw zero-add refl
@@ -66,7 +66,11 @@ pub zeros-flat : (n : ℕ) (ps : List Page) → AreZeros n ps → flat ps ≡ re
 zeros-flat n [] z = let e : n * 0 ≡ 0 = omega arith in rw e refl
 zeros-flat n (p ∷ ps) z =
     let e : n * suc (length ps) ≡ n + n * length ps = omega arith in
-    rw (z.0, e, zeros-flat n ps z.1) (replicate-more n (n * length ps))
+    rw (z.1, e, zeros-flat n ps z.2) (replicate-more n (n * length ps))
+
+pub zeros-stamps : (n : ℕ) (ps : List Page) → AreZeros n ps → stamps_of ps ≡ replicate (length ps) 0
+zeros-stamps n [] z = refl
+zeros-stamps n (p ∷ ps) z = rw z.0 (ap (λ (l : List ℕ). 0 ∷ l) (zeros-stamps n ps z.2))
 
 length-replicate : (n : ℕ) → length (replicate {A = ℕ} n 0) ≡ n
 length-replicate zero = refl
@@ -78,7 +82,7 @@ AreSized n (p ∷ ps) = (length p.bytes ≡ n) × AreSized n ps
 
 sized-append : (n : ℕ) (ps qs : List Page) → AreSized n ps → AreZeros n qs → AreSized n (ps ++ qs)
 sized-append n [] [] w z = tt
-sized-append n [] (q ∷ qs) w z = (ap length z.0 ∙ length-replicate n, sized-append n [] qs tt z.1)
+sized-append n [] (q ∷ qs) w z = (ap length z.1 ∙ length-replicate n, sized-append n [] qs tt z.2)
 sized-append n (p ∷ ps) qs w z = (w.0, sized-append n ps qs w.1 z)
 
 to-sized : (ps : List Page) → AreWhole ps → AreSized 4096 ps

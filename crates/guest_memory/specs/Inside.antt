@@ -1,12 +1,17 @@
 -- The fields of a memory.
 use Rattle.std.specs.Prelude.{◌≡◌, ◌≤◌, ◌*◌, ◌%◌, length}
 use Rattle.guest_memory.specs.Memory.{Memory}
-use Rattle.guest_memory.specs.Pages.{AreWhole, flat}
+use Rattle.guest_memory.specs.Pages.{AreWhole, flat, stamps_of}
 use Rattle.guest_memory.specs.declared.memory.Memory.TheInside.{Inside}
 
 -- the memory that the fields tell
 abbrev pub memory_of : Inside → Memory
-memory_of inside = record { bytes = flat inside.pages.items; max = inside.max }
+memory_of inside = record {
+  bytes = flat inside.pages.items;
+  max = inside.max;
+  stamps = stamps_of inside.pages.items;
+  number = inside.number;
+}
 
 -- they are those of a memory: whole watch pages, 16 of them for each page of the guest
 pub record HasMemory (inside : Inside) : Type 0 where

@@ -1,12 +1,12 @@
 // A linear memory.
 ghost use Rattle.std.specs.Prelude.{◌≡◌, ◌↔◌, ◌+◌, ◌≤◌, length, IsSome, IfSome, IfOk, OnOk, OnErr, Ok, None};
 ghost use Rattle.guest_memory.specs.LittleEndian.{low_bytes, IsWidth};
-ghost use Rattle.guest_memory.specs.Memory.{IsMemory, WritesPrefix, after_store, after_write_at, bytes_from, fresh, growth, after_grow, is_inside, loaded, size_of, stretch};
+ghost use Rattle.guest_memory.specs.Memory.{IsMemory, WritesPrefix, after_store, after_write_at, bytes_from, fresh, growth, after_grow, is_inside, loaded, size_of, stamp_of, stretch};
 
 use crate::page::{PAGE as WATCH_PAGE, SharedPage};
 use crate::pages::{
     add_zeros, number_across, number_in, part_in, put_all, put_number_across, put_number_in,
-    share_all,
+    share_all, stamp_at,
 };
 use std::alloc::{AllocError, Global};
 use std::marker::Model;
@@ -15,12 +15,14 @@ use std::marker::Model;
 const WATCH_PAGES: usize = 16;
 
 /// The linear memory of a guest: pages of 65,536 bytes, and the number of pages that it may grow
-/// to. It is seen as the list of its bytes and that number.
+/// to. It is seen as the list of its bytes, that number, the stamp of each watch page of 4,096 bytes and
+/// the number of the event that writes now.
 #[derive(Drop)]
 pub struct Memory {
     alloc: Global,
     pages: Vec<SharedPage>,
     max: u32,
+    number: u64,
 }
 
 impl Model for Memory {
@@ -48,11 +50,12 @@ impl Memory {
             alloc,
             pages: list,
             max,
+            number: 0,
         })
     }
 
-    /// An equal memory.
-    pub fn copy(&self) -> Result<Memory, AllocError>
+    /// An equal memory. The two share each page until one of them writes to it.
+    pub fn snapshot(&self) -> Result<Memory, AllocError>
         ensures { IfOk result (λ copy. copy ≡ self.now) }
     {
         let pages = share_all(self.alloc, &self.pages)?;
@@ -60,7 +63,24 @@ impl Memory {
             alloc: self.alloc,
             pages,
             max: self.max,
+            number: self.number,
         })
+    }
+
+    /// Later writes are those of the event of this number.
+    #[inline]
+    pub fn begin_event(&mut self, number: u64)
+        ensures { self.new ≡ record self.old { number = number } }
+    {
+        self.number = number;
+    }
+
+    /// The number of the last event that wrote to a byte of the watch page. It is 0 where none did, and
+    /// where there is no such page.
+    pub fn stamp(&self, page: u32) -> u64
+        ensures { result ≡ stamp_of self.now page }
+    {
+        stamp_at(&self.pages, page as usize)
     }
 
     /// The number of its pages, as `memory.size` answers it.
@@ -123,7 +143,7 @@ impl Memory {
         if addr as usize / WATCH_PAGE >= self.pages.len() {
             return Ok(false);
         }
-        put_number_in(&mut self.pages, addr as usize, width, value)?;
+        put_number_in(&mut self.pages, addr as usize, width, value, self.number)?;
         Ok(true)
     }
 
@@ -138,7 +158,7 @@ impl Memory {
         if !self.contains(addr, u64::from(width)) {
             return Ok(false);
         }
-        put_number_across(&mut self.pages, addr as usize, width, value)?;
+        put_number_across(&mut self.pages, addr as usize, width, value, self.number)?;
         Ok(true)
     }
 
@@ -152,7 +172,7 @@ impl Memory {
         if !self.contains(addr, piece.len() as u64) {
             return Ok(false);
         }
-        put_all(&mut self.pages, addr as usize, piece)?;
+        put_all(&mut self.pages, addr as usize, piece, self.number)?;
         Ok(true)
     }
 

@@ -11,28 +11,32 @@ use std::rc::Rc;
 // How many bytes a watch page has.
 pub(crate) const PAGE: usize = 4096;
 
-/// The bytes of a watch page.
+/// The bytes of a watch page, and its stamp: the number of the last event that wrote to them, or 0. It
+/// stands in the page, so that who holds the page has both.
 #[derive(Clone, Copy)]
 pub struct Page {
+    pub stamp: u64,
     pub bytes: [u8; 4096],
 }
 
 impl Page {
     #[inline(always)]
-    fn put_number(&mut self, at: usize, width: u32, value: u64)
+    fn put_number(&mut self, at: usize, width: u32, value: u64, number: u64)
         requires width { IsWidth width }
         requires inside { at + width ≤ 4096 }
-        ensures { self.new ≡ put_in self.old at (low_bytes width value) }
+        ensures { self.new ≡ put_in self.old at (low_bytes width value) number }
     {
         put_number(&mut self.bytes, at, width, value);
+        self.stamp = number;
     }
 
     #[inline]
-    fn put(&mut self, at: usize, piece: &[u8])
+    fn put(&mut self, at: usize, piece: &[u8], number: u64)
         requires { at + length piece.now ≤ 4096 }
-        ensures { self.new ≡ put_in self.old at piece.now }
+        ensures { self.new ≡ put_in self.old at piece.now number }
     {
         put_piece(&mut self.bytes, at, piece);
+        self.stamp = number;
     }
 }
 
@@ -52,9 +56,13 @@ impl Model for SharedPage {
 
 impl SharedPage {
     pub fn zeros(alloc: Global) -> Result<SharedPage, AllocError>
-        ensures { IfOk result (λ page. page.bytes ≡ replicate 4096 0) }
+        ensures { IfOk result (λ page. (page.stamp ≡ 0) × (page.bytes ≡ replicate 4096 0)) }
     {
-        let page = Rc::new(alloc, Page { bytes: [0; 4096] })?;
+        let zeros = Page {
+            stamp: 0,
+            bytes: [0; 4096],
+        };
+        let page = Rc::new(alloc, zeros)?;
         Ok(SharedPage { page })
     }
 
@@ -63,6 +71,12 @@ impl SharedPage {
         ensures { result.now ≡ self.now.bytes }
     {
         &self.page.bytes
+    }
+
+    pub fn stamp(&self) -> u64
+        ensures { result ≡ self.now.stamp }
+    {
+        self.page.stamp
     }
 
     // The same page.
@@ -74,55 +88,67 @@ impl SharedPage {
         Ok(SharedPage { page })
     }
 
-    // Writes so many bytes of the number. It is the page's own where no other holds it.
+    // Writes so many bytes of the value, by the event of this number.
     #[inline(always)]
-    pub fn put_number(&mut self, at: usize, width: u32, value: u64) -> Result<(), AllocError>
+    pub fn put_number(
+        &mut self,
+        at: usize,
+        width: u32,
+        value: u64,
+        number: u64,
+    ) -> Result<(), AllocError>
         requires width { IsWidth width }
         requires inside { at + width ≤ 4096 }
-        ensures { self.new ≡ (if is_ok result then put_in self.old at (low_bytes width value) else self.old) }
+        ensures { self.new ≡ (if is_ok result then put_in self.old at (low_bytes width value) number else self.old) }
     {
         match Rc::get_mut(&mut self.page) {
             Some(page) => {
-                page.put_number(at, width, value);
+                page.put_number(at, width, value, number);
                 Ok(())
             }
-            None => self.put_number_shared(at, width, value),
+            None => self.put_number_shared(at, width, value, number),
         }
     }
 
     // The same where others hold the page: apart, so that a store in place keeps its registers.
     #[inline(never)]
-    fn put_number_shared(&mut self, at: usize, width: u32, value: u64) -> Result<(), AllocError>
+    fn put_number_shared(
+        &mut self,
+        at: usize,
+        width: u32,
+        value: u64,
+        number: u64,
+    ) -> Result<(), AllocError>
         requires width { IsWidth width }
         requires inside { at + width ≤ 4096 }
-        ensures { self.new ≡ (if is_ok result then put_in self.old at (low_bytes width value) else self.old) }
+        ensures { self.new ≡ (if is_ok result then put_in self.old at (low_bytes width value) number else self.old) }
     {
         let page = Rc::make_mut(&mut self.page)?;
-        page.put_number(at, width, value);
+        page.put_number(at, width, value, number);
         Ok(())
     }
 
-    // Writes the piece.
-    pub fn put(&mut self, at: usize, piece: &[u8]) -> Result<(), AllocError>
+    // Writes the piece, by the event of this number.
+    pub fn put(&mut self, at: usize, piece: &[u8], number: u64) -> Result<(), AllocError>
         requires { at + length piece.now ≤ 4096 }
-        ensures { self.new ≡ (if is_ok result then put_in self.old at piece.now else self.old) }
+        ensures { self.new ≡ (if is_ok result then put_in self.old at piece.now number else self.old) }
     {
         match Rc::get_mut(&mut self.page) {
             Some(page) => {
-                page.put(at, piece);
+                page.put(at, piece, number);
                 Ok(())
             }
-            None => self.put_shared(at, piece),
+            None => self.put_shared(at, piece, number),
         }
     }
 
     #[inline(never)]
-    fn put_shared(&mut self, at: usize, piece: &[u8]) -> Result<(), AllocError>
+    fn put_shared(&mut self, at: usize, piece: &[u8], number: u64) -> Result<(), AllocError>
         requires { at + length piece.now ≤ 4096 }
-        ensures { self.new ≡ (if is_ok result then put_in self.old at piece.now else self.old) }
+        ensures { self.new ≡ (if is_ok result then put_in self.old at piece.now number else self.old) }
     {
         let page = Rc::make_mut(&mut self.page)?;
-        page.put(at, piece);
+        page.put(at, piece, number);
         Ok(())
     }
 }

@@ -1,8 +1,9 @@
 // Lists of watch pages, as the bytes that they make end to end.
-ghost use Rattle.std.specs.Prelude.{◌≡◌, ◌+◌, ◌*◌, ◌-◌, ◌/◌, ◌%◌, ◌≤◌, ◌<◌, ◌++◌, IfOk, OnErr, OnOk, length, min, take, drop, vec_len};
+ghost use Rattle.std.specs.Prelude.{◌≡◌, ◌+◌, ◌*◌, ◌-◌, ◌/◌, ◌%◌, ◌≤◌, ◌<◌, ◌++◌, IfOk, OnErr, OnOk, length, min, slice_index_or, take, drop, vec_len};
 ghost use Rattle.guest_memory.specs.LittleEndian.{little_endian, low_bytes, IsWidth};
-ghost use Rattle.guest_memory.specs.Memory.{put_piece, zero_bytes};
-ghost use Rattle.guest_memory.specs.Pages.{AreWhole, PutsPrefix, flat};
+ghost use Rattle.guest_memory.specs.Memory.{no_stamps, put_piece, zero_bytes};
+ghost use Rattle.guest_memory.specs.Pages.{AreWhole, PutsPrefix, flat, stamps_of};
+ghost use Rattle.guest_memory.specs.Stamps.{stamped};
 
 use crate::little_endian::{number_at, put_piece};
 use crate::page::{PAGE, SharedPage};
@@ -51,13 +52,24 @@ pub(crate) fn part_in(pages: &[SharedPage], addr: usize, len: usize) -> &[u8]
     &pages[index].bytes()[at..at + count]
 }
 
-// Writes so many bytes of the number into one page.
+// The stamp of a page, or 0 where there is no such page.
+pub(crate) fn stamp_at(pages: &[SharedPage], page: usize) -> u64
+    ensures { result ≡ slice_index_or (stamps_of pages.now) page 0 }
+{
+    if page >= pages.len() {
+        return 0;
+    }
+    pages[page].stamp()
+}
+
+// Writes so many bytes of the value into one page, by the event of this number.
 #[inline(always)]
 pub(crate) fn put_number_in(
     pages: &mut [SharedPage],
     addr: usize,
     width: u32,
     value: u64,
+    number: u64,
 ) -> Result<(), AllocError>
     requires width { IsWidth width }
     requires whole { AreWhole pages.old }
@@ -66,19 +78,21 @@ pub(crate) fn put_number_in(
     ensures whole { AreWhole pages.new }
     ensures len { length pages.new ≡ length pages.old }
     ensures bytes { OnOk result (flat pages.new ≡ put_piece (flat pages.old) addr (low_bytes width value)) }
-    ensures err { OnErr result (PutsPrefix pages.old pages.new addr (low_bytes width value)) }
+    ensures stamps { OnOk result (stamps_of pages.new ≡ stamped (stamps_of pages.old) addr (length (low_bytes width value)) number) }
+    ensures err { OnErr result (PutsPrefix pages.old pages.new addr (low_bytes width value) number) }
 {
-    pages[addr / PAGE].put_number(addr % PAGE, width, value)?;
+    pages[addr / PAGE].put_number(addr % PAGE, width, value, number)?;
     Ok(())
 }
 
-// Writes so many bytes of the number over the pages.
+// Writes so many bytes of the value over the pages, by the event of this number.
 #[inline(never)]
 pub(crate) fn put_number_across(
     pages: &mut [SharedPage],
     addr: usize,
     width: u32,
     value: u64,
+    number: u64,
 ) -> Result<(), AllocError>
     requires width { IsWidth width }
     requires whole { AreWhole pages.old }
@@ -87,28 +101,35 @@ pub(crate) fn put_number_across(
     ensures whole { AreWhole pages.new }
     ensures len { length pages.new ≡ length pages.old }
     ensures bytes { OnOk result (flat pages.new ≡ put_piece (flat pages.old) addr (low_bytes width value)) }
-    ensures err { OnErr result (PutsPrefix pages.old pages.new addr (low_bytes width value)) }
+    ensures stamps { OnOk result (stamps_of pages.new ≡ stamped (stamps_of pages.old) addr (length (low_bytes width value)) number) }
+    ensures err { OnErr result (PutsPrefix pages.old pages.new addr (low_bytes width value) number) }
 {
     let all = value.to_le_bytes();
-    put_all(pages, addr, &all[..width as usize])
+    put_all(pages, addr, &all[..width as usize], number)
 }
 
-// Writes the piece over the pages.
+// Writes the piece over the pages, by the event of this number.
 #[inline(never)]
-pub(crate) fn put_all(pages: &mut [SharedPage], addr: usize, piece: &[u8]) -> Result<(), AllocError>
+pub(crate) fn put_all(
+    pages: &mut [SharedPage],
+    addr: usize,
+    piece: &[u8],
+    number: u64,
+) -> Result<(), AllocError>
     requires whole { AreWhole pages.old }
     requires within { addr + length piece.now ≤ length (flat pages.old) }
     requires few { length (flat pages.old) ≤ 16777216 }
     ensures whole { AreWhole pages.new }
     ensures len { length pages.new ≡ length pages.old }
     ensures bytes { OnOk result (flat pages.new ≡ put_piece (flat pages.old) addr piece.now) }
-    ensures err { OnErr result (PutsPrefix pages.old pages.new addr piece.now) }
+    ensures stamps { OnOk result (stamps_of pages.new ≡ stamped (stamps_of pages.old) addr (length piece.now) number) }
+    ensures err { OnErr result (PutsPrefix pages.old pages.new addr piece.now number) }
 {
     let mut done = 0;
     while done < piece.len() {
         let at = (addr + done) % PAGE;
         let count = (PAGE - at).min(piece.len() - done);
-        pages[(addr + done) / PAGE].put(at, &piece[done..done + count])?;
+        pages[(addr + done) / PAGE].put(at, &piece[done..done + count], number)?;
         done += count;
     }
     Ok(())
@@ -125,6 +146,7 @@ pub(crate) fn add_zeros(
     ensures whole { AreWhole pages.old.items → AreWhole pages.new.items }
     ensures len { OnOk result (vec_len pages.new ≡ vec_len pages.old + 16 * count) }
     ensures bytes { OnOk result (flat pages.new.items ≡ flat pages.old.items ++ zero_bytes (65536 * count)) }
+    ensures stamps { OnOk result (stamps_of pages.new.items ≡ stamps_of pages.old.items ++ no_stamps count) }
     ensures err { OnErr result (pages.new.items ≡ pages.old.items) }
 {
     let zeros = SharedPage::zeros(alloc)?;

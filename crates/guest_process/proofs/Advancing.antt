@@ -15,7 +15,8 @@ use Rattle.wasm_step.specs.Reduce.{Halt, Calls, Ends, Traps, Sticks}
 use Rattle.wasm_step.specs.Strand.{Strand, answered}
 use Rattle.wasm_step.specs.Burst.{burst}
 use Rattle.wasm_step.specs.Suits.{Suits}
-use Rattle.wasm_step.specs.Laws.{KeepsModule}
+use Rattle.guest_memory.specs.Laws.{NoLaterWhenWritten}
+use Rattle.wasm_step.specs.Laws.{KeepsModule, KeepsStamps}
 use Rattle.wasm_step.specs.Thread.{Thread}
 use Rattle.wasm_step.specs.declared.call.CallSite.{CallSite}
 use Rattle.guest_process.specs.declared.end.End.{End}
@@ -28,14 +29,14 @@ use Rattle.guest_process.specs.declared.waiting.Waiting.{Waiting}
 use Rattle.lib_calls.specs.Answer.{Answer, answer_of}
 use Rattle.guest_process.specs.Answers.{acted, effects, exited, narrow}
 use Rattle.guest_process.specs.Fits.{Each, StateFits, live_has}
-use Rattle.guest_process.specs.GoesOn.{after_running, budget, counted, finished_if_over, goes_on, handler, stands, stopped, stopped_at_call, with_handler_frame}
+use Rattle.guest_process.specs.GoesOn.{after_running, budget, counted, finished_if_over, handler, runs_on, stands, stopped, stopped_at_call, with_handler_frame}
 use Rattle.guest_process.specs.Kinds.{ends_process, reply_value}
 use Rattle.guest_process.specs.Legal.{reason, reason_at}
 use Rattle.guest_process.specs.Next.{next, next_at}
 use Rattle.guest_process.specs.Seen.{IsOfModule, state_of}
 use Rattle.guest_process.specs.Sound.{IsSound, IsStanding}
 use Rattle.guest_process.specs.Start.{beginning}
-use Rattle.guest_process.specs.State.{State, is_running, pending_kind as kind_of, thread_at, with_thread}
+use Rattle.guest_process.specs.State.{State, awaits_event, is_running, pending_kind as kind_of, thread_at, with_thread}
 use Rattle.guest_process.proofs.KeptFits.{state_kept}
 use Rattle.guest_process.proofs.KeptSound.{next_module, sound_kept}
 use Rattle.guest_process.proofs.Failing.{unless_none}
@@ -101,7 +102,7 @@ runs_out S t (Some thread) =
     stopped_out (record S { store = run.store }) t run.stop
 
 exits_by : (k : Kind) (S : State) (t : ℕ) (w : Waiting) (a : Answer) (signal clock : ℕ) → kind_numbered w.call.kind ≡ Some k → ends_process k ≡ true
-    → exited (counted (with_thread (acted (Some k) S t w.call a) t Lent) clock) t w.call.a0 ≡ goes_on k (effects k S t w.call a) t w.strand a.reply signal clock
+    → exited (counted (with_thread (acted (Some k) S t w.call a) t Lent) clock) t w.call.a0 ≡ runs_on k (effects k S t w.call a) t w.strand a.reply signal clock
 exits_by Exit S t w a signal clock e h =
     ap (λ S'. exited (counted (with_thread S' t Lent) clock) t w.call.a0) (exit_written S w.call a e)
     ∙ ap (λ S'. record (counted S' clock) { end = Exited (cast_signed w32 (w.call.a0 % 2 ^ 32)) }) (with_again S t Over)
@@ -112,7 +113,7 @@ abbrev pub goes_out : Kind → State → ℕ → Strand → ℕ → ℕ → ℕ 
 goes_out k S t strand reply signal clock =
     after_running (counted (with_thread S t Lent) clock) t (with_handler_frame S.store.«module» (answered strand (reply_value k reply)) signal (handler S.handlers signal))
 
-runs_by : (k : Kind) (S : State) (t : ℕ) (strand : Strand) (reply signal clock : ℕ) → ends_process k ≡ false → goes_out k S t strand reply signal clock ≡ goes_on k S t strand reply signal clock
+runs_by : (k : Kind) (S : State) (t : ℕ) (strand : Strand) (reply signal clock : ℕ) → ends_process k ≡ false → goes_out k S t strand reply signal clock ≡ runs_on k S t strand reply signal clock
 runs_by k S t strand reply signal clock h =
     let thread = with_handler_frame S.store.«module» (answered strand (reply_value k reply)) signal (handler S.handlers signal) in
     runs_out (counted S clock) t thread
@@ -165,30 +166,30 @@ acted_handlers S e o sound =
 
 -- the event of a thread that calls `exit`
 pub exits : (S : State) (e : Entry) (w : Waiting) → StateFits S → reason S e ≡ None → thread_at S e.thread ≡ Some w → ends_process w.kind ≡ true
-    → exited (counted (with_thread (acted (kind_of S e.thread) S e.thread e.call (answer_of e)) e.thread Lent) e.clock) e.thread w.call.a0 ≡ next S e
+    → awaits_event (exited (counted (with_thread (acted (kind_of S e.thread) S e.thread e.call (answer_of e)) e.thread Lent) e.clock) e.thread w.call.a0) ≡ next S e
 exits S e w s legal at h =
-    ap (λ o. exited (counted (with_thread (acted (option_map (λ w. w.kind) o) S e.thread e.call (answer_of e)) e.thread Lent) e.clock) e.thread w.call.a0) at
+    ap awaits_event (ap (λ o. exited (counted (with_thread (acted (option_map (λ w. w.kind) o) S e.thread e.call (answer_of e)) e.thread Lent) e.clock) e.thread w.call.a0) at
     ∙ ap (λ call. exited (counted (with_thread (acted (Some w.kind) S e.thread call (answer_of e)) e.thread Lent) e.clock) e.thread w.call.a0) (call_told S e w (legal_at S e w legal at))
-    ∙ exits_by w.kind S e.thread w (answer_of e) e.signal e.clock (fits_at S e.thread w s at).kind h
+    ∙ exits_by w.kind S e.thread w (answer_of e) e.signal e.clock (fits_at S e.thread w s at).kind h)
     ∙ ap (next_at S e) (sym at)
 
 -- the event of another
 pub goes : (S : State) (e : Entry) (w : Waiting) → StateFits S → reason S e ≡ None → thread_at S e.thread ≡ Some w → ends_process w.kind ≡ false
-    → goes_out w.kind (acted (kind_of S e.thread) S e.thread e.call (answer_of e)) e.thread w.strand e.reply e.signal e.clock ≡ next S e
+    → awaits_event (goes_out w.kind (acted (kind_of S e.thread) S e.thread e.call (answer_of e)) e.thread w.strand e.reply e.signal e.clock) ≡ next S e
 goes S e w s legal at h =
     let effect = effects_acted w.kind S e.thread w.call (answer_of e) (fits_at S e.thread w s at).kind h in
-    ap (λ o. goes_out w.kind (acted (option_map (λ w. w.kind) o) S e.thread e.call (answer_of e)) e.thread w.strand e.reply e.signal e.clock) at
+    ap awaits_event (ap (λ o. goes_out w.kind (acted (option_map (λ w. w.kind) o) S e.thread e.call (answer_of e)) e.thread w.strand e.reply e.signal e.clock) at
     ∙ ap (λ call. goes_out w.kind (acted (Some w.kind) S e.thread call (answer_of e)) e.thread w.strand e.reply e.signal e.clock) (call_told S e w (legal_at S e w legal at))
     ∙ ap (λ S'. goes_out w.kind S' e.thread w.strand e.reply e.signal e.clock) (sym effect)
-    ∙ runs_by w.kind (effects w.kind S e.thread w.call (answer_of e)) e.thread w.strand e.reply e.signal e.clock h
+    ∙ runs_by w.kind (effects w.kind S e.thread w.call (answer_of e)) e.thread w.strand e.reply e.signal e.clock h)
     ∙ ap (next_at S e) (sym at)
 
 -- ---- the parts after a legal entry's event are those of a process
 
-pub process_kept : KeepsModule → (p q : Parts) (e : Entry) → IsOfModule p → reason (state_of p) e ≡ None → state_of q ≡ next (state_of p) e → q.«module» ≡ p.«module» → Suits q.store → IsOfModule q
-process_kept keeps p q e is h state same_module suits = record {
+pub process_kept : KeepsModule → KeepsStamps → NoLaterWhenWritten → (p q : Parts) (e : Entry) → IsOfModule p → reason (state_of p) e ≡ None → state_of q ≡ next (state_of p) e → q.«module» ≡ p.«module» → Suits q.store → IsOfModule q
+process_kept keeps stamps written p q e is h state same_module suits = record {
   suits = suits;
   same_module = ap (λ r. module_of r.now) same_module ∙ is.same_module ∙ sym (ap (λ S. S.store.«module») state ∙ next_module keeps (state_of p) e is.sound);
-  fits = subst StateFits (sym state) (state_kept keeps (state_of p) e is.fits h);
+  fits = subst StateFits (sym state) (state_kept keeps stamps written (state_of p) e is.fits h);
   sound = subst IsSound (sym state) (sound_kept keeps (state_of p) e is.sound h);
 }

@@ -20,10 +20,10 @@ use Rattle.guest_process.specs.declared.waiting.Waiting.{Waiting}
 use Rattle.lib_calls.specs.Answer.{Answer}
 use Rattle.guest_process.specs.Answers.{effects, narrow}
 use Rattle.guest_process.specs.Fits.{Each, Slotted}
-use Rattle.guest_process.specs.GoesOn.{after_burst, after_running, all_over, budget, counted, goes_on, handler, stands, stopped, stopped_at_call, with_handler_frame}
+use Rattle.guest_process.specs.GoesOn.{after_burst, after_running, all_over, budget, counted, goes_on, handler, runs_on, stands, stopped, stopped_at_call, with_handler_frame}
 use Rattle.guest_process.specs.Kinds.{ends_process, reply_value}
 use Rattle.guest_process.specs.Start.{beginning}
-use Rattle.guest_process.specs.State.{State, with_new_thread, with_thread}
+use Rattle.guest_process.specs.State.{State, awaits_event, with_new_thread, with_thread}
 use Rattle.guest_process.proofs.Effects.{effects_has}
 use Rattle.guest_process.proofs.Spawning.{has_room}
 
@@ -132,10 +132,14 @@ module _ (P : Waiting → Type 0) where
   event_kept keeps true S t o f g = kept_same t S f
   event_kept keeps false S t o f g = runs_kept keeps S t o f g
 
+  awaits_kept : (t : ℕ) (S S' : State) → Keeps P t S S' → Keeps P t S (awaits_event S')
+  awaits_kept t S S' k = record { who = k.who; count = k.count; «module» = k.«module»; room = k.room; threads = k.threads; others = k.others; holders = k.holders; handlers = k.handlers; clock = k.clock; events = k.events }
+
   -- as it goes on after the answer
   pub went_on : KeepsModule → (k : Kind) (S : State) (t : ℕ) (w : Waiting) (reply signal clock : ℕ) → Each P S.crew.threads → Stand S.store.«module» → Keeps P t (counted S clock) (goes_on k S t w.strand reply signal clock)
   went_on keeps k S t w reply signal clock f g =
-      event_kept keeps (ends_process k) (counted S clock) t (with_handler_frame S.store.«module» (answered w.strand (reply_value k reply)) signal (handler S.handlers signal)) f g
+      awaits_kept t (counted S clock) (runs_on k S t w.strand reply signal clock)
+      (event_kept keeps (ends_process k) (counted S clock) t (with_handler_frame S.store.«module» (answered w.strand (reply_value k reply)) signal (handler S.handlers signal)) f g)
 
   -- ---- the answer
 

@@ -1,9 +1,9 @@
 -- The process before its first event is one of its module.
-use Rattle.std.proofs.Common.{◌≡◌, ℕ, zero, suc, true, false, cond, ◌<◌, ◌≤◌, Bool, ◌&&◌, Option, Some, None, refl, ap, sym, subst, arith}
+use Rattle.std.proofs.Common.{◌≡◌, ℕ, zero, suc, true, false, cond, ◌<◌, ◌≤◌, Bool, ◌&&◌, Option, Some, None, refl, ap, sym, subst, ◌∙◌, arith}
 use Rattle.std.specs.Prelude.{All, ◌==◌, length, replicate}
 use Rattle.std.specs.List.{list_all, slice_index_or}
 use Rattle.std.proofs.lemmas.Option.{same_Some}
-use Rattle.coop_threads.specs.Crew.{empty, with_live}
+use Rattle.guest_memory.specs.Laws.{FreshIsUnstamped, NoLaterWhenWritten}
 use Rattle.wasm_types.specs.Modules.{Module, module_of}
 use Rattle.wasm_types.specs.Library.{IsOfLibrary}
 use Rattle.wasm_types.specs.Valid.{IsValid}
@@ -20,9 +20,9 @@ use Rattle.guest_process.specs.Sound.{IsSound, IsStanding}
 use Rattle.guest_process.specs.Start.{beginning, begun, begun_with}
 use Rattle.guest_process.specs.declared.parts.Parts.{Parts}
 use Rattle.guest_process.specs.OneEvent.{IsStarted}
-use Rattle.guest_process.specs.declared.end.End.TheVariants.{Running}
 use Rattle.guest_process.proofs.Failing.{kept}
 use Rattle.guest_process.proofs.KeptFits.{begin_fits}
+use Rattle.guest_process.proofs.Stamped.{first_stamps, numbered_suits}
 
 store_module : (m : Module) (g : Store) → first_store m ≡ Some g → g.«module» ≡ m
 store_module m g h =
@@ -47,11 +47,11 @@ no_handler signal func h = by_test (signal == 0) h
     by_test true h = cc
     by_test false h = let none = none_in 32 signal in cc
 
-begun_holds : (m : Module) (who count : ℕ) (g : Store) (thread : Thread) → who < count → count ≤ 16 → first_store m ≡ Some g → IsValid m → StateFits (begun m who count g thread) × IsSound (begun m who count g thread)
-begun_holds m who count g thread low few store valid =
+begun_holds : NoLaterWhenWritten → FreshIsUnstamped → (m : Module) (who count : ℕ) (g : Store) (thread : Thread) → who < count → count ≤ 16 → first_store m ≡ Some g → IsValid m → StateFits (begun m who count g thread) × IsSound (begun m who count g thread)
+begun_holds writes unstamped m who count g thread low few store valid =
     let same : g.«module» ≡ m = store_module m g store in
     let begin_stands : IsStanding g.«module» (beginning m thread) = record { same_module = sym same; stands = refl } in (
-      record { clock = omega arith; room = omega arith; count = few; who = low; threads = (begin_fits m thread, tt) },
+      record { clock = omega arith; room = omega arith; count = few; who = low; threads = (begin_fits m thread, tt); number = refl; stamps = first_stamps writes unstamped m g store },
       record {
         imports = subst (λ m. All (IsOfLibrary m.types) m.imports) (sym same) valid.imports;
         threads = (begin_stands, tt);
@@ -60,22 +60,25 @@ begun_holds m who count g thread low few store valid =
     )
 
 -- how a process of a valid module begins is such a state
-pub started : IsStarted
-started m who count S valid low few h = by_store (first_store m) refl (first_thread m) h
+pub started : NoLaterWhenWritten → FreshIsUnstamped → IsStarted
+started writes unstamped m who count S valid low few h = by_store (first_store m) refl (first_thread m) h
   where
     by_store : (o : Option Store) → first_store m ≡ o → (thread : Option Thread) → begun_with m who count o thread ≡ Some S → StateFits S × IsSound S
     by_store None e thread h = cc
     by_store (Some g) e None h = cc
     by_store (Some g) e (Some thread) h =
-        subst (λ S. StateFits S × IsSound S) (same_Some _ _ h) (begun_holds m who count g thread low few e valid)
+        subst (λ S. StateFits S × IsSound S) (same_Some _ _ h) (begun_holds writes unstamped m who count g thread low few e valid)
 
-begun_process : (p : Parts) (thread : Thread) → p.who < p.count → p.count ≤ 16 → first_store (module_of p.«module».now) ≡ Some p.store → IsValid (module_of p.«module».now) → Suits p.store → state_of p ≡ begun (module_of p.«module».now) p.who p.count p.store thread → IsOfModule p
-begun_process p thread low few store valid suits state =
+-- the parts with which the code begins, over the store g, are those of a process
+pub is_process : NoLaterWhenWritten → FreshIsUnstamped → (p : Parts) (g : Store) (thread : Thread) → p.who < p.count → p.count ≤ 16 → first_store (module_of p.«module».now) ≡ Some g → IsValid (module_of p.«module».now) → Suits g
+    → state_of p ≡ begun (module_of p.«module».now) p.who p.count g thread → IsOfModule p
+is_process writes unstamped p g thread low few store valid suits state =
     let m = module_of p.«module».now in
-    let holds = begun_holds m p.who p.count p.store thread low few store valid in
-    record { same_module = sym (store_module m p.store store); suits = suits; fits = subst StateFits (sym state) holds.0; sound = subst IsSound (sym state) holds.1 }
-
--- the parts with which the code begins are those of a process
-pub is_process : (p : Parts) (thread : Thread) → p.who < p.count → p.count ≤ 16 → first_store (module_of p.«module».now) ≡ Some p.store → IsValid (module_of p.«module».now) → Suits p.store → p.crew ≡ with_live empty (beginning (module_of p.«module».now) thread) → p.handlers ≡ no_handlers → p.clock ≡ 0 → p.events ≡ 0 → p.end ≡ Running → IsOfModule p
-is_process p thread low few store valid suits crew handlers clock events end =
-    begun_process p thread low few store valid suits (rw (crew, handlers, clock, events, end) refl)
+    let holds = begun_holds writes unstamped m p.who p.count g thread low few store valid in
+    let same : p.store ≡ record g { memory = record g.memory { number = 1 } } = ap (λ S. S.store) state in
+    record {
+      same_module = sym (ap (λ g. g.«module») same ∙ store_module m g store);
+      suits = subst Suits (sym same) (numbered_suits g 1 suits);
+      fits = subst StateFits (sym state) holds.0;
+      sound = subst IsSound (sym state) holds.1;
+    }

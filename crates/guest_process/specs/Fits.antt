@@ -2,6 +2,7 @@
 use Rattle.std.proofs.Common.{subst}
 use Rattle.std.proofs.lemmas.Option.{same_Some}
 use Rattle.std.specs.Prelude.{◌≡◌, ℕ, zero, suc, ◌+◌, ◌^◌, ◌<◌, ◌≤◌, List, [], ◌∷◌, length, slice_get, option_and_then, Some}
+use Rattle.guest_memory.specs.Stamps.{AreWithin}
 use Rattle.call_table.specs.Table.{kind_numbered}
 use Rattle.coop_threads.specs.Crew.{value_of}
 use Rattle.coop_threads.specs.declared.slot.Slot.{Slot}
@@ -36,13 +37,16 @@ live_has P (Lent ∷ slots) zero f w h = cc
 live_has P (Over ∷ slots) zero f w h = cc
 live_has P (slot ∷ slots) (suc t) f w h = live_has P slots t f.1 w h
 
--- no tag bears a clock past 2 ^ 62, so a process's clock passes that only by its own events
+-- no tag bears a clock past 2 ^ 62, so a process's clock passes that only by its own events; its memory is
+-- written next by the event after these, and bears no stamp of a later one than the last
 pub record StateFits (S : State) : Type 0 where
   pub clock : S.clock ≤ 2 ^ 62 + S.events
   pub room : length S.crew.threads ≤ most_threads
   pub count : S.count ≤ 16
   pub who : S.who < S.count
   pub threads : Each WaitingFits S.crew.threads
+  pub number : S.store.memory.number ≡ S.events + 1
+  pub stamps : AreWithin S.events S.store.memory.stamps
 
 -- the world's numbers are in range
 pub record EnvFits (env : Env) : Type 0 where

@@ -19,7 +19,7 @@ use Rattle.wasm_step.specs.declared.call.CallSite.{CallSite}
 use Rattle.guest_process.specs.declared.end.End.TheVariants.{Finished, Trapped}
 use Rattle.guest_process.specs.declared.waiting.Waiting.{Waiting}
 use Rattle.guest_process.specs.Kinds.{ends_process, reply_value}
-use Rattle.guest_process.specs.State.{State, with_thread}
+use Rattle.guest_process.specs.State.{State, awaits_event, with_thread}
 
 -- a burst has at most so many instructions
 unfoldable pub budget : ℕ
@@ -96,8 +96,12 @@ abbrev pub counted : State → ℕ → State
 counted S clock = record S { clock = clock; events = S.events + 1 }
 
 -- the reply's value goes on the operand stack, then a signal's handler is entered, then the thread runs
-abbrev pub goes_on : Kind → State → ℕ → Strand → ℕ → ℕ → ℕ → State
-goes_on kind S t strand reply signal clock =
+abbrev pub runs_on : Kind → State → ℕ → Strand → ℕ → ℕ → ℕ → State
+runs_on kind S t strand reply signal clock =
     if ends_process kind
     then counted S clock
     else after_running (counted S clock) t (with_handler_frame S.store.«module» (answered strand (reply_value kind reply)) signal (handler S.handlers signal))
+
+-- and the event is over
+abbrev pub goes_on : Kind → State → ℕ → Strand → ℕ → ℕ → ℕ → State
+goes_on kind S t strand reply signal clock = awaits_event (runs_on kind S t strand reply signal clock)

@@ -12,7 +12,7 @@ use Rattle.wasm_step.specs.Strand.{Strand, first_thread}
 use Rattle.wasm_step.specs.Thread.{Thread}
 use Rattle.guest_process.specs.declared.end.End.TheVariants.{Running}
 use Rattle.guest_process.specs.declared.waiting.Waiting.{Waiting}
-use Rattle.guest_process.specs.State.{State}
+use Rattle.guest_process.specs.State.{State, awaits_event}
 
 -- the call `begin`
 abbrev pub begin : Call
@@ -28,7 +28,7 @@ beginning m thread = waits (record { «module» = m; thread = thread; call = Non
 
 -- thread 0 stands at `begin`, and nothing has happened
 abbrev pub begun : Module → ℕ → ℕ → Store → Thread → State
-begun m who count store thread = record {
+begun m who count store thread = awaits_event (record {
   who = who;
   count = count;
   store = store;
@@ -37,7 +37,7 @@ begun m who count store thread = record {
   clock = 0;
   events = 0;
   end = Running;
-}
+})
 
 abbrev pub begun_with : Module → ℕ → ℕ → Option Store → Option Thread → Option State
 begun_with m who count None thread = None

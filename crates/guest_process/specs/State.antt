@@ -1,5 +1,5 @@
 -- The state of a process.
-use Rattle.std.specs.Prelude.{ℕ, Bool, true, false, List, Option, option_map}
+use Rattle.std.specs.Prelude.{ℕ, ◌+◌, Bool, true, false, List, Option, option_map}
 use Rattle.call_table.specs.declared.kind.Kind.{Kind}
 use Rattle.coop_threads.specs.Crew.{Crew, live_at, after_lock, with_live, with_slot, after_unlock}
 use Rattle.coop_threads.specs.declared.slot.Slot.{Slot}
@@ -53,6 +53,10 @@ with_handlers S handlers = record S { handlers = handlers }
 -- the memory is this one
 abbrev pub with_memory : State → Memory → State
 with_memory S memory = record S { store = record S.store { memory = memory } }
+
+-- what is written from now on is written by the event after those that it has had
+abbrev pub awaits_event : State → State
+awaits_event S = with_memory S (record S.store.memory { number = S.events + 1 })
 
 abbrev pub is_running_end : End → Bool
 is_running_end Running = true

@@ -14,7 +14,7 @@ ghost use Rattle.guest_process.specs.Legal.{reason};
 ghost use Rattle.guest_process.specs.Next.{acted_by, gone_on, next};
 ghost use Rattle.guest_process.specs.Seen.{IsOfModule, state_of};
 ghost use Rattle.guest_process.specs.Sound.{StandsAtKind};
-ghost use Rattle.guest_process.specs.State.{pending_kind};
+ghost use Rattle.guest_process.specs.State.{awaits_event, pending_kind};
 
 use crate::answer::{answered, entered, handler};
 use crate::judge::ends_process;
@@ -33,6 +33,20 @@ impl<'m> Parts<'m> {
         requires legal { reason (state_of self.old) (entry_of entry.now) ≡ None }
         requires few { self.old.events < 2 ^ 61 }
         ensures state { OnOk result (state_of self.new ≡ next (state_of self.old) (entry_of entry.now)) }
+        ensures same_module { OnOk result (self.new.«module» ≡ self.old.«module») }
+        ensures suits { OnOk result (Suits self.new.store) }
+    {
+        self.make_event(entry)?;
+        self.store.begin_event(self.events + 1);
+        Ok(())
+    }
+
+    // The event, but that the memory still bears its number.
+    fn make_event(&mut self, entry: &EntryView<'_>) -> Result<(), AllocError>
+        requires process { IsOfModule self.old }
+        requires legal { reason (state_of self.old) (entry_of entry.now) ≡ None }
+        requires few { self.old.events < 2 ^ 61 }
+        ensures state { OnOk result (awaits_event (state_of self.new) ≡ next (state_of self.old) (entry_of entry.now)) }
         ensures same_module { OnOk result (self.new.«module» ≡ self.old.«module») }
         ensures suits { OnOk result (Suits self.new.store) }
     {

@@ -2,6 +2,7 @@
 ghost use Rattle.guest_process.specs.Crews.{LockKept, OnlySpawnAdds, OtherThreadsStay};
 ghost use Rattle.guest_process.specs.OneEvent.{IsKept, IsKeptSound, IsStarted, OneEvent, Possible, Rises, WorldIsThere};
 
+use guest_memory::stamps_no_later;
 use lamport_tag::{cut_short, tags_read_back};
 use wasm_step::never_stuck;
 
@@ -57,4 +58,5 @@ pub fn kept()
     ensures sound { IsKeptSound }
 {
     never_stuck();
+    stamps_no_later();
 }

@@ -1,6 +1,7 @@
 // A process.
 ghost use Rattle.std.specs.Prelude.{◌≡◌, ◌≢◌, ◌<◌, ◌≤◌, ◌^◌, IfOk, Err, None, Some, Option, option_copied, option_map, length, slice_get, is_some};
 ghost use Rattle.coop_threads.specs.Crew.{status_of};
+ghost use Rattle.guest_memory.specs.Memory.{stamp_of};
 ghost use Rattle.lib_calls.specs.Answer.{Answer};
 ghost use Rattle.lib_calls.specs.Entry.{entry_of};
 ghost use Rattle.wasm_types.specs.Modules.{module_of};
@@ -22,7 +23,7 @@ use crate::need::Need;
 use crate::parts::Parts;
 use crate::waiting::{Waiting, beginning};
 use coop_threads::{Crew, Status};
-use guest_memory::Memory;
+use guest_memory::{Memory, stamps_no_later};
 use lib_calls::{Call, EntryView};
 use signal_points::Handlers;
 use std::alloc::{AllocError, Global};
@@ -147,8 +148,9 @@ impl<'m> Process<'m> {
         requires few { self.events < 2 ^ 61 }
         ensures { IfOk result (λ p. p ≡ next self.entry (entry_of entry.now)) }
     {
-        // Its `ensures` tells the proof that a burst leaves the module as it is.
+        // Their laws tell the proof what a burst and a write leave as it is.
         never_stuck();
+        stamps_no_later();
         let mut parts = self.parts;
         parts.advance(entry)?;
         Ok(Process { parts })
@@ -159,6 +161,14 @@ impl<'m> Process<'m> {
         ensures { result.now ≡ self.now.store.memory }
     {
         self.parts.store.memory()
+    }
+
+    /// The number of the last event that wrote to a byte of the watch page. It is 0 where none did, and
+    /// where there is no such page.
+    pub fn page_mark(&self, page: u32) -> u64
+        ensures { result ≡ stamp_of self.now.store.memory page }
+    {
+        self.parts.store.memory().stamp(page)
     }
 
     /// The value of a global. `None` comes exactly where the module has no global of that index.
@@ -209,13 +219,12 @@ impl<'m> Process<'m> {
 }
 
 // The process before its first event.
-#[tactic(auto, using(crate::proofs::Starting::is_process))]
 fn begin<'m>(
     alloc: Global,
     module: &'m ValidModule,
     who: u32,
     count: u32,
-    store: Store<'m>,
+    mut store: Store<'m>,
 ) -> Result<Process<'m>, AllocError>
     requires who { who < count }
     requires count { count ≤ 16 }
@@ -223,6 +232,8 @@ fn begin<'m>(
     requires suits { Suits store }
     ensures { IfOk result (λ p. start (module_of «module».now) who count ≡ Some p) }
 {
+    // Its laws tell the proof that no page bears an event's number.
+    stamps_no_later();
     let strand = Strand::first(alloc, module)?;
     let mut crew = Crew::new(alloc);
     match crew.spawn(beginning(strand)) {
@@ -230,6 +241,7 @@ fn begin<'m>(
         Err(_) => return Err(AllocError),
     }
     let _ = module.module();
+    store.begin_event(1);
     let parts = Parts {
         alloc,
         module,

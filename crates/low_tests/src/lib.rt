@@ -3,9 +3,13 @@
 #![tactic(auto)]
 
 #[cfg(test)]
+mod beside;
+#[cfg(test)]
 mod bytes;
 #[cfg(test)]
 mod datagrams;
+#[cfg(test)]
+mod memories;
 #[cfg(test)]
 mod order;
 #[cfg(test)]

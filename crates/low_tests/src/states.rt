@@ -1,6 +1,5 @@
-// What a process has: its threads and locks, its signals, and its memory.
+// What a process has: its threads and locks, and its signals.
 use coop_threads::{CopyOut, Crew, Grip, SpawnError, Status};
-use guest_memory::Memory;
 use signal_points::{Handlers, Pending};
 use std::alloc::AllocError;
 use std::test::Fail;
@@ -78,35 +77,4 @@ fn pending_signals_are_kept(rt: HostRuntime) {
     assert!(rt; !pending.has(3));
     pending.clear(31);
     assert!(rt; pending.is_empty());
-}
-
-#[test]
-fn memories_end_with_their_last_byte(rt: HostRuntime) -> Result<(), Fail> {
-    let mut memory = Memory::new(rt.alloc(), 1, 1)?;
-    assert!(rt; memory.store(65_534, 2, 0x0102)?);
-    assert!(rt; !memory.store(65_535, 2, 0x0304)?);
-    assert_eq!(rt; memory.load(65_534, 2), Some(0x0102));
-    assert_eq!(rt; memory.load(65_535, 2), None);
-    Ok(())
-}
-
-#[test]
-fn a_memory_is_lent_in_parts(rt: HostRuntime) -> Result<(), Fail> {
-    let mut memory = Memory::new(rt.alloc(), 1, 1)?;
-    assert!(rt; memory.write(4094, b"debug")?);
-    // A part ends with its page of 4,096 bytes.
-    assert_eq!(rt; memory.part(4094, 5), Some(b"de".as_slice()));
-    assert_eq!(rt; memory.part(4096, 3), Some(b"bug".as_slice()));
-    Ok(())
-}
-
-#[test]
-fn a_copy_of_a_memory_grows_by_itself(rt: HostRuntime) -> Result<(), Fail> {
-    let memory = Memory::new(rt.alloc(), 1, 2)?;
-    let mut copy = memory.copy()?;
-    assert_eq!(rt; copy.grow(2)?, None);
-    assert_eq!(rt; copy.grow(1)?, Some(1));
-    assert_eq!(rt; copy.size(), 2);
-    assert_eq!(rt; memory.size(), 1);
-    Ok(())
 }

@@ -12,6 +12,7 @@ pub mod Opcodes
 pub mod Plain
 pub mod Runs
 pub mod SameModule
+pub mod Stamped
 pub mod Starts
 pub mod Stored
 pub mod Todo

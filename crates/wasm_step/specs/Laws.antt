@@ -1,5 +1,6 @@
 -- Laws of bursts.
 use Rattle.std.specs.Prelude.{◌≡◌, ℕ}
+use Rattle.guest_memory.specs.Laws.{StampsNoLater}
 use Rattle.wasm_types.specs.Modules.{Module}
 use Rattle.wasm_types.specs.Valid.{IsValid}
 use Rattle.wasm_store.specs.Store.{Store}
@@ -17,3 +18,7 @@ NeverSticks =
 -- a burst leaves the module as it is
 abbrev pub KeepsModule : Type 0
 KeepsModule = (n : ℕ) (t : Thread) (g : Store) → (burst n t g).store.«module» ≡ g.«module»
+
+-- a burst stamps nothing later than the event that writes
+abbrev pub KeepsStamps : Type 0
+KeepsStamps = (n : ℕ) (t : Thread) (g : Store) → StampsNoLater g.memory (burst n t g).store.memory

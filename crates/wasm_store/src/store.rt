@@ -70,13 +70,13 @@ impl<'m> Store<'m> {
         }
     }
 
-    /// An equal store.
+    /// An equal store. Its memory shares each page with this one's until one of them writes to it.
     pub fn copy(&self) -> Result<Store<'m>, AllocError>
         ensures { IfOk result (λ g. g ≡ self.now) }
     {
         Ok(Store {
             module: self.module,
-            memory: self.memory.copy()?,
+            memory: self.memory.snapshot()?,
             globals: self.globals.clone()?,
             table: self.table.clone()?,
         })
@@ -169,6 +169,14 @@ impl<'m> Store<'m> {
     {
         let is_in = self.memory.store(addr, width, bits)?;
         Ok(is_in)
+    }
+
+    /// Later writes to the memory are those of the event of this number.
+    #[inline]
+    pub fn begin_event(&mut self, number: u64)
+        ensures { self.new ≡ record self.old { memory = record self.old.memory { number = number } } }
+    {
+        self.memory.begin_event(number);
     }
 
     /// More pages, if the maximum allows them, and the number of pages before.

@@ -1,12 +1,11 @@
-use Rattle.std.proofs.Common.{rules, ◌≡◌, ◌<◌, ◌≤◌, ◌+◌, ◌*◌, ◌-◌, ◌/◌, ◌%◌, arith, refl, sym, length}
+use Rattle.std.proofs.Common.{rules, ◌≡◌, ◌<◌, ◌≤◌, ◌+◌, ◌*◌, ◌-◌, ◌/◌, ◌%◌, arith, refl, length}
 use Rattle.guest_memory.specs.Pages.{flat}
 use Rattle.guest_memory.proofs.Flat.{flat-length}
-use Rattle.guest_memory.proofs.Pieces.{put-none}
-use Rattle.guest_memory.proofs.Writes.{puts-more}
+use Rattle.guest_memory.proofs.Writes.{puts-more, puts-none}
 use Rattle.guest_memory.proofs.pages.put_all.Goals as goal
 
 pub loop-done-init : goal.loop-done-init
-loop-done-init c = record { done = omega arith; len = refl; puts = record { whole = c.requires.whole; bytes = sym (put-none _ c.args.addr) } }
+loop-done-init c = record { done = omega arith; len = refl; puts = puts-none c.args.pages.now c.args.addr c.args.number c.requires.whole }
 
 pub bounds-pages-addr : goal.bounds-pages-addr
 bounds-pages-addr c =
@@ -19,12 +18,13 @@ loop-done-preserved c =
     let all : length (flat c.args.pages.now) ≡ 4096 * length c.args.pages.now = flat-length _ c.requires.whole in
     let room : (c.args.addr + c.loop-done.done) / 4096 < length c.loop-done.pages = omega (arith, all, i.len) in
     let most : c.loop-done.done + c.min-count.result ≤ length c.args.piece.now = omega arith in
+    let some : 0 < c.min-count.result = omega arith in
     let fits : (c.args.addr + c.loop-done.done) % 4096 + c.min-count.result ≤ 4096 = omega arith in
     let n : (c.loop-done.done + c.min-count.result) - c.loop-done.done ≡ c.min-count.result = omega arith in
     let new = rw n at c.in_ok-put.ensures in
     record {
       done = omega arith;
       len = search rules;
-      puts = puts-more c.args.pages.now c.loop-done.pages c.args.addr c.args.piece.now c.loop-done.done c.min-count.result ((c.args.addr + c.loop-done.done) / 4096) ((c.args.addr + c.loop-done.done) % 4096) c.index-pages-addr.result c.put.new.self
-          i.puts c.requires.within most (omega arith) fits room new;
+      puts = puts-more c.args.pages.now c.loop-done.pages c.args.addr c.args.piece.now c.loop-done.done c.min-count.result c.args.number ((c.args.addr + c.loop-done.done) / 4096) ((c.args.addr + c.loop-done.done) % 4096) c.index-pages-addr.result c.put.new.self
+          i.puts i.len c.requires.within most some (omega arith) fits room new;
     }

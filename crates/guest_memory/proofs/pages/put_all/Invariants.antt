@@ -6,7 +6,7 @@ abbrev pub invariant-loop-done : goal.invariant-loop-done
 invariant-loop-done l = record {
   done : l.done ≤ length l.piece;
   len : length l.pages ≡ length l.initial.pages;
-  puts : Puts l.initial.pages l.pages l.addr (take l.done l.piece);
+  puts : Puts l.initial.pages l.pages l.addr (take l.done l.piece) l.number;
 }
 
 abbrev pub decreases-loop-done : goal.decreases-loop-done

@@ -12,3 +12,6 @@ returns-clause-bytes c = rw (← taken _ c.args.width c.args.value c.requires.wi
 
 pub returns-clause-err : goal.returns-clause-err
 returns-clause-err c = rw (← taken _ c.args.width c.args.value c.requires.width c.to_le_bytes-all.ensures) c.put_all.ensures.err
+
+pub returns-clause-stamps : goal.returns-clause-stamps
+returns-clause-stamps c = rw (← taken _ c.args.width c.args.value c.requires.width c.to_le_bytes-all.ensures) c.put_all.ensures.stamps

@@ -4,10 +4,10 @@ use Rattle.guest_process.proofs.Starting.{started}
 use Rattle.guest_process.proofs.laws.kept.Goals as goal
 
 pub returns-clause-ranges : goal.returns-clause-ranges
-returns-clause-ranges c = state_kept c.never_stuck.ensures.same_module
+returns-clause-ranges c = state_kept c.never_stuck.ensures.same_module c.never_stuck.ensures.stamps c.stamps_no_later.ensures.written
 
 pub returns-clause-sound : goal.returns-clause-sound
 returns-clause-sound c = sound_kept c.never_stuck.ensures.same_module
 
 pub returns-clause-started : goal.returns-clause-started
-returns-clause-started c = started
+returns-clause-started c = started c.stamps_no_later.ensures.written c.stamps_no_later.ensures.fresh

@@ -24,11 +24,11 @@ invariant_of-result c =
       «module» = c.args.«module»;
       who = c.args.who;
       count = c.args.count;
-      store = c.args.store;
+      store = c.begin_event.new.self;
       crew = c.spawn.new.self;
       handlers = c.new.result;
       clock = 0;
       events = 0;
       end = Running;
     } in
-    subst IsOfModule (sym c.in_ok-parts.ensures.ok) (is_process p s.thread c.requires.who c.requires.count c.requires.store valid c.requires.suits crew c.new.ensures refl refl refl)
+    subst IsOfModule (sym c.in_ok-parts.ensures.ok) (is_process c.stamps_no_later.ensures.written c.stamps_no_later.ensures.fresh p c.args.store s.thread c.requires.who c.requires.count c.requires.store valid c.requires.suits (rw (c.begin_event.ensures, crew, c.new.ensures) refl))

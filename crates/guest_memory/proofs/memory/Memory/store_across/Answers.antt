@@ -18,4 +18,4 @@ returns-in_err-put_number_across-clause-err c =
     let seen = rw (← c.self.view_is) at c.contains.ensures in
     let inside : c.args.addr + c.args.width ≤ length (flat c.self.inside.pages.items) = grind (arith, nat_tests, seen) in
     let items = with_items_is c.self.inside.pages c.put_number_across.new.pages (omega (arith, c.in_err-put_number_across.ensures.len)) in
-    rw (← c.self.view_is) (on_err c.from_residual.result (rw items (prefix-seen c.self.inside.pages.items c.put_number_across.new.pages c.self.inside.max c.args.addr (low_bytes c.args.width c.args.value) p (omega (arith, inside, length-low_bytes c.args.width c.args.value)))))
+    rw (← c.self.view_is) (on_err c.from_residual.result (rw items (prefix-seen c.self.inside.pages.items c.put_number_across.new.pages c.self.inside.max c.args.addr c.self.inside.number (low_bytes c.args.width c.args.value) p (omega (arith, inside, length-low_bytes c.args.width c.args.value)))))

@@ -11,4 +11,4 @@ invariant_of-result c =
     let same = c.deref_mut.ensures.value in
     let is = subst IsOfModule (sym same) c.self.invariant in
     let legal = subst (λ S. reason S e ≡ None) (sym (ap state_of same ∙ c.self.view_is)) c.requires.legal in
-    process_kept c.never_stuck.ensures.same_module c.deref_mut.result.now c.advance.new.self e is legal c.in_ok-advance.ensures.state c.in_ok-advance.ensures.same_module c.in_ok-advance.ensures.suits
+    process_kept c.never_stuck.ensures.same_module c.never_stuck.ensures.stamps c.stamps_no_later.ensures.written c.deref_mut.result.now c.advance.new.self e is legal c.in_ok-advance.ensures.state c.in_ok-advance.ensures.same_module c.in_ok-advance.ensures.suits
