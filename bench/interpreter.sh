@@ -38,6 +38,8 @@ GUESTS = {
         14,
         700000,
     ),
+    "edge loads": ("(memory 1)", "i32.const 4092 i64.load drop " * 8, 29, 340000),
+    "edge stores": ("(memory 1)", "i32.const 4092 i64.const 7 i64.store " * 8, 29, 340000),
     "calls": (
         "(func $triple (param i32) (result i32) local.get 0 i32.const 3 i32.mul)",
         "local.get $i call $triple drop",
