@@ -1,14 +1,11 @@
 -- What a line answers, by what it means, and what stays after it.
-use Rattle.std.proofs.Common.{◌≡◌, ◌∙◌, ℕ, ◌-◌, ◌≤◌, Bool, cond, List, [], length, Result, Ok, Err, sym, ap, subst, arith}
-use Rattle.std.proofs.lemmas.Bool.{le-leb}
+use Rattle.std.proofs.Common.{◌≡◌, ◌∙◌, ℕ, List, Result, Ok, Err, sym, ap}
 use Rattle.std.specs.Prelude.{IfOk}
-use Rattle.group_state.specs.Place.{events}
-use Rattle.shell_lines.specs.Lines.{Back, Goto, LineCommand}
+use Rattle.shell_lines.specs.Lines.{LineCommand}
 use Rattle.shell_lines.specs.Meaning.{line_meaning, trimmed}
 use Rattle.shell_lines.specs.Seen.{meaning}
 use Rattle.shell_lines.specs.declared.line.Line.{Line}
-use Rattle.shell_lines.specs.declared.refusal.Refusal.TheVariants as refusal
-use Rattle.friday_shell.specs.Answer.{LineAnswer, answer_of, arrives, command_answer, refuses}
+use Rattle.friday_shell.specs.Answer.{answer_of, command_answer}
 use Rattle.friday_shell.specs.Points.{SessionState}
 use Rattle.friday_shell.specs.Seen.{IsLine, Performs}
 use Rattle.friday_shell.proofs.Starts.{kept_start}
@@ -23,14 +20,3 @@ pub start_stays : {A E : Type 0} (state : SessionState) (line : List ℕ) (comma
     → IfOk r (λ done. Performs (command_answer state line command) (new done) (text done)) → IfOk r (λ done. (new done).place.start ≡ state.place.start)
 start_stays state line command (Ok done) new text did = ap (λ (s : SessionState). s.place.start) did.state ∙ kept_start state line command
 start_stays state line command (Err e) new text did = tt
-
--- so many positions back is a position that there is
-back_is : (state : SessionState) (n k : ℕ) → k ≡ state.place.at - n → state.place.at ≤ length (events state.place.start) → command_answer state [] (Goto k) ≡ command_answer state [] (Back n)
-back_is state n k is within =
-    let there : k ≤ length (events state.place.start) = omega (arith, is, within) in
-    ap (λ (b : Bool). cond b (arrives state [] k) (refuses state refusal.NoPosition)) (le-leb k (length (events state.place.start)) there) ∙ ap (arrives state []) is
-
-pub goes_back : {A E : Type 0} (state : SessionState) (n k : ℕ) (r : Result A E) (new : A → SessionState) (text : A → List ℕ) → k ≡ state.place.at - n
-    → state.place.at ≤ length (events state.place.start) → IfOk r (λ done. Performs (command_answer state [] (Goto k)) (new done) (text done))
-    → IfOk r (λ done. Performs (command_answer state [] (Back n)) (new done) (text done))
-goes_back state n k r new text is within did = subst (λ (a : LineAnswer). IfOk r (λ done. Performs a (new done) (text done))) (back_is state n k is within) did

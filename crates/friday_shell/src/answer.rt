@@ -151,10 +151,7 @@ fn go_on<'m, 'a>(alloc: Global, state: State<'m, 'a>) -> Result<(State<'m, 'a>, 
 }
 
 // Goes back to where a point fired last.
-fn go_back<'m, 'a>(
-    alloc: Global,
-    state: State<'m, 'a>,
-) -> Result<(State<'m, 'a>, Text), AllocError>
+fn go_back<'m, 'a>(alloc: Global, state: State<'m, 'a>) -> Result<(State<'m, 'a>, Text), AllocError>
     ensures { IfOk result (λ done. Performs (command_answer (session_state state.entry) [] Rcontinue) (session_state done.0) done.1) }
 {
     let State { group, kept } = state;
