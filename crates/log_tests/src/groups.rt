@@ -22,9 +22,10 @@ use watch_expr::View;
 // Each process of the ring takes a datagram, counts it at 64 and at 1024, and sends what stands at 64 to the next.
 const RING: &[u8] = b"\0asm\x01\0\0\0\x01\x0f\x03`\0\x01\x7f`\x03\x7f\x7f\x7f\x01\x7f`\0\0\
     \x02)\x03\x06liblog\x02me\0\0\x06liblog\x04send\0\x01\x06liblog\x04recv\0\x01\x03\x02\x01\x02\
-    \x05\x03\x01\0\x01\x07\x0a\x01\x06_start\0\x03\x0aW\x01U\x01\x01\x7f\x10\0!\0 \0E\x04@A\x01A\xc0\0A\x08\x10\x01\x1a\x0b\
-    \x03@A\xc0\0A\x08A \x10\x02\x1aA\xc0\0A\xc0\0)\x03\0B\x01|7\x03\0A\x80\x08A\x80\x08)\x03\0B\x01|7\x03\0\
-     \0A\x01jA\x03qA\xc0\0A\x08\x10\x01\x1a\x0c\0\x0b\x0b";
+    \x05\x03\x01\0\x01\x07\x0a\x01\x06_start\0\x03\x0aW\x01U\x01\x01\x7f\x10\0!\0\x20\0E\x04@\
+    A\x01A\xc0\0A\x08\x10\x01\x1a\x0b\x03@A\xc0\0A\x08A\x20\x10\x02\x1a\
+    A\xc0\0A\xc0\0)\x03\0B\x01|7\x03\0A\x80\x08A\x80\x08)\x03\0B\x01|7\x03\0\
+    \x20\0A\x01jA\x03qA\xc0\0A\x08\x10\x01\x1a\x0c\0\x0b\x0b";
 
 const PAIRS: &[Pair<'static>] = &[
     Pair {
@@ -191,7 +192,7 @@ fn parts_that_are_asked_for_are_counted(rt: HostRuntime) -> Result<(), Fail> {
         return Err("no logs".into());
     };
     let group = begin(rt.alloc(), &all)?;
-    assert!(rt; group.nodes() > 0);
+    assert!(rt; group.node_count() > 0);
     assert!(rt; group.part(0, 64, 8).is_some());
     assert_eq!(rt; group.work().loads, 1);
     Ok(())
