@@ -1,4 +1,4 @@
-"""Groups: what the items of a schedule do to them, and their logs, wherever a recording is stopped."""
+"""Groups: what the items of a schedule do to them, and their logs."""
 
 import logs
 from common import refused
@@ -88,32 +88,6 @@ def ping_and_pong(script):
     assert tuple(map(len, whole)) == (351, 295)
     script.run("record s", "Done", *SUMMARY)
     shown(script, *whole)
-
-
-def half(data):
-    return data[: len(data) // 2]
-
-
-def stopped_at(call):
-    """How the logs stand where this call fails, of which the first three read, two make the logs, two write the
-    heads, and each other writes an entry."""
-    if call < 6:
-        return [b"" if 4 + p < call else None for p in (0, 1)]
-    if call < 8:
-        return [head(p) if 6 + p < call else half(head(p)) if 6 + p == call else b"" for p in (0, 1)]
-    turns, p = TURNS[: call - 8], TURNS[call - 8]
-    counts = [turns.count(0), turns.count(1)]
-    part = half((PINGS, PONGS)[p][counts[p]])
-    return [log(q, counts[q]) + (part if p == q else b"") for q in (0, 1)]
-
-
-def each_call(script):
-    assert list(map(len, stopped_at(12))) == [101, 142]
-    for call in range(1, 19):
-        group(script, "ping and pong, and call %d fails" % call)
-        script.fail("files", call)
-        script.run("record s", "ReadFault" if call < 4 else "WriteFault")
-        shown(script, *stopped_at(call))
 
 
 def alone(script, name, injected, events):
@@ -207,5 +181,5 @@ def table(script):
     script.title("Groups")
     script.keep("ping", PING.module)
     script.keep("pong", PONG.module)
-    for part in (ping_and_pong, each_call, from_outside, cut_short, random_bytes, kills, order, full_log):
+    for part in (ping_and_pong, from_outside, cut_short, random_bytes, kills, order, full_log):
         part(script)

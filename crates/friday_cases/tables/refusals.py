@@ -56,6 +56,7 @@ MALFORMED = (
     ("memory.size of another memory", bodied("3f01 1a")),
     ("a value type that is none", MAGIC + section(1, vector(b"\x60\1\x70\0")) + FUNCTIONS + EXPORTS + code(b"")),
     ("locals of 2^32 in all", with_locals("02 ffffffff0f 7f 01 7f")),
+    ("2^32 - 1 types, none of which is there", MAGIC + section(1, leb(2**32 - 1))),
     ("1,001 open blocks", bodied("0240" * 1001 + "0b" * 1001)),
 )
 

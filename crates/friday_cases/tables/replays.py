@@ -63,6 +63,8 @@ def each_byte(script):
     turned = [refused("a.wasm", "4 Untyped" if at == 74 else "1 Malformed") for at in range(78)]
     script.each("turns", "a.wasm", "replay a.wasm a.log", turned)
     replays(script, 3, "finished")
+    script.add("a.log", digits(b"\xff" * 4))
+    replays(script, 3, "finished", "4 bytes left over")
 
 
 def begin(script, name):
