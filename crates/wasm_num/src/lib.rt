@@ -20,8 +20,8 @@ pub use bits_64::{
     i64_xor,
 };
 pub use convert::{
-    i32_extend8_s, i32_extend16_s, i32_wrap_i64, i64_extend8_s, i64_extend16_s, i64_extend32_s,
-    i64_extend_i32_s, i64_extend_i32_u,
+    i32_extend8_s, i32_extend16_s, i32_wrap_i64, i64_extend_i32_s, i64_extend_i32_u, i64_extend8_s,
+    i64_extend16_s, i64_extend32_s,
 };
 
 /// Why a division has no result.

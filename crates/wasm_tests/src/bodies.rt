@@ -33,7 +33,10 @@ const INSTRUCTIONS: &[(&[u8], &str)] = &[
         b"C\0\0\x80?D\0\0\0\0\0\0\xf0?",
         "[ConstF32(1065353216), ConstF64(4607182418800017408)]",
     ),
-    (b"E|\xbf\xc0\xc4", "[Op(69), Op(124), Op(191), Op(192), Op(196)]"),
+    (
+        b"E|\xbf\xc0\xc4",
+        "[Op(69), Op(124), Op(191), Op(192), Op(196)]",
+    ),
     (
         b"\x03}\x02|\x0b\x01\x0b",
         "[Loop(Some(F32), [Block(Some(F64), []), Nop])]",
