@@ -52,7 +52,7 @@ def item(draw, count):
     if kind == "deliver":
         return "deliver %d %d" % (process, draw.randint(1, 8))
     if kind == "inject" or kind == "random":
-        return "%s %d %s" % (kind, process, draw.randbytes(draw.randint(1, 24)).hex())
+        return "%s %d %s" % (kind, process, bytes(draw.randrange(256) for _ in range(draw.randint(1, 24))).hex())
     if kind == "clock":
         return "clock %d %d" % (process, draw.randint(0, 1000))
     return "signal %d %d" % (process, draw.randint(1, 31)) if kind == "signal" else "kill %d" % process
@@ -117,7 +117,7 @@ def owner(event):
     return event.split(" ")[1]
 
 
-def check_debug(program, draw, folder, chosen, whole):
+def check_debug(program, draw, folder, chosen, whole, alone):
     """The order is that of the group without the events of the others, and at each position each process has the memory that it
     has alone after as many of its own events."""
     names = {name for name, _ in chosen}
@@ -125,11 +125,9 @@ def check_debug(program, draw, folder, chosen, whole):
     positions = sorted(draw.sample(range(len(order) + 1), min(4, len(order) + 1)))
     events, answers = memories(program, folder, chosen, positions)
     assert events == order, chosen
-    for name, module in chosen:
-        counts = [sum(owner(event) == name for event in order[:at]) for at in positions]
-        _, alone = memories(program, folder, [(name, module)], sorted(set(counts)))
-        for at, count in zip(positions, counts):
-            assert answers[at, name] == alone[count, name], (chosen, name, at)
+    for (at, name), memory in answers.items():
+        count = sum(owner(event) == name for event in order[:at])
+        assert memory == alone[name][count, name], (chosen, name, at)
 
 
 def check_group(program, draw):
@@ -142,15 +140,17 @@ def check_group(program, draw):
             os.rename(os.path.join(here, name), os.path.join(there, name))
         group = list(zip(names, modules))
         whole, _ = memories(program, there, group, [])
+        alone = {}
+        for name, module in group:
+            count = sum(owner(event) == name for event in whole)
+            _, alone[name] = memories(program, there, [(name, module)], range(count + 1))
         for size in range(1, len(group) + 1):
             for chosen in itertools.combinations(group, size):
                 texts = set()
                 for _ in range(ORDERS if size > 1 else 1):
                     shuffled = draw.sample(chosen, size)
                     texts.add(tuple(check_replay(program, there, shuffled, summary, images)))
-                    state = draw.getstate()
-                    check_debug(program, draw, there, shuffled, whole)
-                    draw.setstate(state)
+                    check_debug(program, draw, there, shuffled, whole, alone)
                 assert len(texts) == 1, chosen
         assert set(os.listdir(there)) == {*modules, *(name + ".log" for name in names)}
         return len(whole)
