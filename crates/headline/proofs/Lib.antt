@@ -1,0 +1,10 @@
+pub mod Course
+pub mod Told
+pub mod Showing
+pub mod Reporting
+pub mod Sorting
+pub mod Loading
+pub mod Beginning
+pub mod Ordering
+pub mod Receiving
+pub mod Whole

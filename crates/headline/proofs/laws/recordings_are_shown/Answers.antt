@@ -1,0 +1,6 @@
+use Rattle.headline.proofs.Whole.{headline}
+use Rattle.headline.proofs.laws.recordings_are_shown.Goals as goal
+
+pub returns : goal.returns
+returns c =
+    headline c.reads_modules.ensures c.exact_outcome.ensures.schedules c.beginning.ensures c.standing.ensures c.recordings_agree.ensures c.ordered.ensures.order c.ordered.ensures.sends

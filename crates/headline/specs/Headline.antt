@@ -1,0 +1,78 @@
+-- The main theorem: the modules and the logs of a recording, and these alone, make `replay` and `debug` show what was recorded.
+use Rattle.std.specs.Prelude.{◌≡◌, ◌≢◌, ◌<◌, ◌↔◌, ℕ, Bool, List, [], ◌∷◌, length, map, Option, Some, Ok, Contains}
+use Rattle.std.specs.FinMap.{get}
+use Rattle.std.specs.List.{AllByRecursion, slice_index_or}
+use Rattle.fri_outside.specs.Outside.{Folder}
+use Rattle.schedule_text.specs.Schedule.{Schedule}
+use Rattle.group_record.specs.Answer.{names_of}
+use Rattle.group_record.specs.Images.{images as all_images}
+use Rattle.group_record.specs.Logs.{log_name}
+use Rattle.group_record.specs.Run.{Group, IsMoment, Step, log_of, name_of, size}
+use Rattle.proc_replay.specs.Replaying.{Replaying}
+use Rattle.log_pairs.specs.Pairs.{Pair, replays_of_pairs}
+use Rattle.record_command.specs.Agreement.{IsRecordable, group_in, steps_in}
+use Rattle.record_command.specs.Expected.{module_name}
+use Rattle.replay_command.specs.Report.{replay_outcome}
+use Rattle.debug_command.specs.Debug.{debug_outcome, session_outcome}
+use Rattle.headline.specs.Shown.{AreShown, ShowsGroup, recorded_images, recorded_report}
+
+-- ---- the words that name some of a recording
+
+-- the numbers differ from each other
+abbrev pub AreApart : List ℕ → Type 0
+AreApart [] = Unit {0}
+AreApart (p ∷ ps) = AllByRecursion (λ q. p ≢ q) ps × AreApart ps
+
+-- some of so many processes, each once, in any order
+pub record AreProcesses (count : ℕ) (ps : List ℕ) : Type 0 where
+  pub within : AllByRecursion (λ p. p < count) ps
+  pub apart : AreApart ps
+
+-- the files of process p: its module's, and its log's
+abbrev pub pair_of_process : Schedule → ℕ → Pair
+pair_of_process schedule p = record { module_name = module_name schedule p; log_name = log_name (slice_index_or (names_of schedule) p []) }
+
+abbrev pub pairs_of_processes : Schedule → List ℕ → List Pair
+pairs_of_processes schedule ps = map (pair_of_process schedule) ps
+
+-- each number is below those behind it
+abbrev pub Ascend : List ℕ → Type 0
+Ascend [] = Unit {0}
+Ascend (p ∷ ps) = AllByRecursion (λ q. p < q) ps × Ascend ps
+
+-- the same numbers in order
+pub record AreInOrder (ps sorted : List ℕ) : Type 0 where
+  pub ascend : Ascend sorted
+  pub count : length sorted ≡ length ps
+  pub same : (p : ℕ) → Contains ps p ↔ Contains sorted p
+
+-- ---- the folder
+
+-- of process p a folder has the module, as the recording found it, and the log of these steps. Nothing else of it matters
+pub record HoldsProcess {before : Folder} {schedule_name : List ℕ} (r : IsRecordable before schedule_name) (steps : List Step) (folder : Folder) (p : ℕ) : Type 0 where
+  pub «module» : get folder (module_name r.schedule p) ≡ get before (module_name r.schedule p)
+  pub log : get folder (log_name (name_of (group_in r) p)) ≡ Some (log_of (group_in r) steps p)
+
+-- ---- the whole
+
+-- the pairs of these processes are read to replays, which show what was recorded
+pub record IsShown (group : Group) (steps : List Step) (folder : Folder) (ps : List ℕ) (pairs : List Pair) : Type 0 where
+  -- the processes in the order of their numbers, and their replays
+  pub sorted : List ℕ
+  pub in_order : AreInOrder ps sorted
+  pub start : List Replaying
+  pub opened : replays_of_pairs folder pairs ≡ Ok start
+  pub each : AreShown group steps sorted start
+  -- `replay` says what was recorded, and leaves the images of it: with all processes those of the recording
+  pub replay : (images : Bool) → replay_outcome images pairs folder ≡ Ok (recorded_report images group steps sorted)
+  pub images : length ps ≡ size group → recorded_images group steps sorted ≡ all_images group steps
+  -- `debug` answers each line by the group of these replays alone, which shows the recording
+  pub debug : (input : List ℕ) → debug_outcome pairs (Some input) folder ≡ Some (session_outcome start input)
+  pub shows : ShowsGroup group steps sorted start
+
+-- At each moment of the run of a schedule that can be recorded, so also where the recording was stopped or a log was full:
+-- in every folder that holds the modules and the logs of some processes, these are shown as they were recorded
+abbrev pub Headline : Type 0
+Headline = (before folder : Folder) (schedule_name : List ℕ) (r : IsRecordable before schedule_name) (steps : List Step) → IsMoment steps (steps_in r)
+    → (ps : List ℕ) → AreProcesses (size (group_in r)) ps → AllByRecursion (HoldsProcess r steps folder) ps
+    → IsShown (group_in r) steps folder ps (pairs_of_processes r.schedule ps)

@@ -1,0 +1,109 @@
+-- What `replay` and `debug` show of a recording.
+use Rattle.std.specs.Prelude.{◌≡◌, ◌<◌, ◌≤◌, ◌^◌, ℕ, ◌++◌, Bool, false, IsTrue, List, [], ◌∷◌, length, map, take, slice_get, Option, Some, Ok, Contains, if◌then◌else◌}
+use Rattle.std.specs.List.{flat_map}
+use Rattle.std.specs.Option.{option_to_list}
+use Rattle.fri_outside.specs.Outside.{Folder}
+use Rattle.lamport_tag.specs.Tag.{read_datagram}
+use Rattle.lib_calls.specs.Traffic.{is_sent, is_taken, prints}
+use Rattle.lib_calls.specs.declared.entry.Entry.{Entry}
+use Rattle.call_log.specs.Log.{entries_of, rest_of}
+use Rattle.guest_process.specs.State.{State}
+use Rattle.group_order.specs.Order.{IsOrder, NodeEvent, node_event}
+use Rattle.group_world.specs.History.{Inject}
+use Rattle.group_record.specs.Answer.{end_after}
+use Rattle.group_record.specs.Images.{image_files, memory_in}
+use Rattle.group_record.specs.Laws.{TellsSend}
+use Rattle.group_record.specs.Run.{Group, Step, entries, head_of_log, history, name_of, process_after, process_states, size}
+use Rattle.proc_replay.specs.Course.{ahead}
+use Rattle.proc_replay.specs.Replaying.{Replaying}
+use Rattle.group_state.specs.declared.report.ReportLine.{ReportLine}
+use Rattle.group_state.specs.declared.report.Verdict.TheVariants as said
+use Rattle.group_state.specs.Place.{after_entries, entry_clock, events, node_event_count, states}
+use Rattle.group_state.specs.Tally.{Accepted, of_process, tally}
+use Rattle.command_run.specs.Outcome.{Work}
+use Rattle.replay_command.specs.Report.{report_text}
+
+-- ---- one process
+
+-- the states of a process in the recording: the first one, and that after each of its events
+abbrev pub recorded_states : Group → List Step → ℕ → List State
+recorded_states group steps p = option_to_list (slice_get group.first p) ++ process_states steps p
+
+-- a replay is that of a process of the recording. It has all events of the process and no other, each is accepted, and
+-- after each n of them it is in the recorded state
+pub record ShowsProcess (group : Group) (steps : List Step) (p : ℕ) (r : Replaying) : Type 0 where
+  pub head : r.head ≡ head_of_log group p
+  pub begun : slice_get group.first p ≡ Some r.state
+  pub told : entries_of r.left ≡ entries steps p
+  pub rest : rest_of r.left ≡ []
+  pub accepted : ahead r ≡ entries steps p
+  pub moments : (n : ℕ) → n ≤ length (entries steps p) → slice_get (recorded_states group steps p) n ≡ Some (after_entries r n)
+
+-- so are these replays those of these processes
+abbrev pub AreShown : Group → List Step → List ℕ → List Replaying → Type 0
+AreShown group steps [] [] = Unit {0}
+AreShown group steps (p ∷ ps) (r ∷ rs) = ShowsProcess group steps p r × AreShown group steps ps rs
+AreShown group steps [] (r ∷ rs) = ⊥
+AreShown group steps (p ∷ ps) [] = ⊥
+
+-- ---- what `replay` says
+
+-- the line of a process: how many events were recorded, how it stood after them, and that the log is whole
+abbrev pub recorded_line : Group → List Step → ℕ → ReportLine
+recorded_line group steps p = record {
+  name = name_of group p;
+  events = length (entries steps p);
+  end = end_after (process_after group steps p);
+  verdict = said.Whole;
+}
+
+-- the recorded events of these processes
+abbrev pub recorded_events : List Step → List ℕ → List Accepted
+recorded_events steps ps = flat_map (λ p. of_process p (entries steps p)) ps
+
+-- the files of what each of these processes left
+abbrev pub recorded_images : Group → List Step → List ℕ → List (List ℕ × List ℕ)
+recorded_images group steps ps = flat_map (λ p. image_files (name_of group p) (memory_in (process_after group steps p)) (prints (entries steps p))) ps
+
+-- the lines and the counts of these processes, and no divergence; and their images, where they are asked for
+abbrev pub recorded_report : Bool → Group → List Step → List ℕ → Work
+recorded_report images group steps ps = record {
+  text = report_text (map (recorded_line group steps) ps) (tally (size group) (recorded_events steps ps));
+  writes = if images then recorded_images group steps ps else [];
+  diverged = false;
+}
+
+-- ---- what `debug` shows
+
+-- after n events a process stood in the recording as this node does
+pub record IsRecorded (group : Group) (steps : List Step) (p n : ℕ) (now : List State) (node : ℕ) : Type 0 where
+  pub state : State
+  pub shown : slice_get now node ≡ Some state
+  pub recorded : slice_get (recorded_states group steps p) n ≡ Some state
+
+-- where the process q is one of these, this event of its own stands before place j of the order
+abbrev pub StandsBefore : List ℕ → List (NodeEvent Entry) → ℕ → ℕ → Entry → Type 0
+StandsBefore ps order j q sent =
+    (node : ℕ) → slice_get ps node ≡ Some q → (i : ℕ) × (i < j) × (slice_get order i ≡ Some (node_event node sent))
+
+-- the datagram that an event of process p took, at place j of the order, came from outside, or a process had sent it to p.
+-- Then the event names the send and tells a first part of what went out, and the send stands before it, unless the
+-- send's clock is past those that a tag can bear
+pub data Received (group : Group) (steps : List Step) (ps : List ℕ) (order : List (NodeEvent Entry)) (j p : ℕ) (e : Entry) : Type 0 where
+  FromOutside : (bytes : List ℕ) → Contains (history steps) (Inject p bytes) → e.tag ≡ (read_datagram (size group) bytes).0
+      → e.incoming ≡ take e.call.a1 (read_datagram (size group) bytes).1 → Received group steps ps order j p e
+  FromSend : (q k : ℕ) → (sent : Entry) → slice_get (entries steps q) k ≡ Some sent → IsTrue (is_sent (size group) sent) → sent.call.a0 ≡ p
+      → (sent.clock ≤ 2 ^ 62 → TellsSend e q sent) → (sent.clock ≤ 2 ^ 62 → StandsBefore ps order j q sent)
+      → Received group steps ps order j p e
+
+-- replays of these processes, as one group
+pub record ShowsGroup (group : Group) (steps : List Step) (ps : List ℕ) (start : List Replaying) : Type 0 where
+  -- the order is the one list of all their recorded events that is sorted by clock and then by process
+  pub order : IsOrder entry_clock (map (entries steps) ps) (events start)
+  pub only : (es : List (NodeEvent Entry)) → IsOrder entry_clock (map (entries steps) ps) es → es ≡ events start
+  -- at position k each process is as it was in the recording after as many of its events as stand among the first k
+  pub moments : (k node p : ℕ) → slice_get ps node ≡ Some p
+      → IsRecorded group steps p (node_event_count node (take k (events start))) (states start k) node
+  -- each taken datagram is one from outside, or its send stands before it
+  pub receives : (j node p : ℕ) (e : Entry) → slice_get ps node ≡ Some p → slice_get (events start) j ≡ Some (node_event node e)
+      → IsTrue (is_taken e) → Received group steps ps (events start) j p e
