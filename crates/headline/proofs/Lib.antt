@@ -8,3 +8,5 @@ pub mod Beginning
 pub mod Ordering
 pub mod Receiving
 pub mod Whole
+pub mod Leaving
+pub mod Calling

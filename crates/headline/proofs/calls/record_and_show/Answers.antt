@@ -1,0 +1,15 @@
+use Rattle.headline.proofs.Calling.{shows_recorded}
+use Rattle.headline.proofs.calls.record_and_show.Goals as goal
+
+pub returns-in-Done-clause-shown : goal.returns-in-Done-clause-shown
+returns-in-Done-clause-shown g c =
+    shows_recorded c.exact_outcome.ensures.schedules c.recordings_are_shown.ensures _ _ _ _ _ _ _ c.friday.ensures.run c.in-Done.is c.friday-in-Done.ensures.run
+
+pub returns-in-Done-clause-stopped : goal.returns-in-Done-clause-stopped
+returns-in-Done-clause-stopped g c = tt
+
+pub returns-in_default-clause-shown : goal.returns-in_default-clause-shown
+returns-in_default-clause-shown g c = tt
+
+pub returns-in_default-clause-stopped : goal.returns-in_default-clause-stopped
+returns-in_default-clause-stopped g c = c.in_default.not-Done

@@ -1,0 +1,49 @@
+-- Two calls of `friday`, of which the first records and the second shows what was recorded.
+use Rattle.std.specs.Prelude.{◌≡◌, ◌++◌, ℕ, Bool, List, Option, Some, None, Ok}
+use Rattle.std.specs.Io.KnownBytes.{append_known}
+use Rattle.fri_outside.specs.Outside.{Folder, WhenTold}
+use Rattle.fri_outside.specs.Several.{with_files}
+use Rattle.group_record.specs.Images.{images_of}
+use Rattle.group_record.specs.Logs.{logs}
+use Rattle.group_record.specs.Run.{size}
+use Rattle.command_run.specs.declared.status.Status.{Status}
+use Rattle.command_run.specs.Call.{IsAnswerStatus}
+use Rattle.command_run.specs.Outcome.{CommandOutcome, outcome_status, outcome_text, writes_of}
+use Rattle.command_run.specs.Run.{Outside}
+use Rattle.record_command.specs.Agreement.{IsRecordable, group_in, run_in, steps_in}
+use Rattle.record_command.specs.Record.{recorded_work}
+use Rattle.debug_command.specs.Debug.{session_outcome}
+use Rattle.friday_app.specs.Command.{Command, Debug, Record, Replay}
+use Rattle.headline.specs.Headline.{AreProcesses, IsShown, pairs_of_processes}
+use Rattle.headline.specs.Shown.{recorded_report}
+
+-- a call came to this outcome: its text stands behind what was printed before, and its files in the folder that was there
+pub record CameTo (outcome : CommandOutcome) (folder : Folder) (printed : Option (List ℕ)) (new : Outside) (answer : Status) : Type 0 where
+  pub status : answer ≡ outcome_status outcome
+  pub text : new.taken ≡ append_known printed (outcome_text outcome)
+  pub files : new.told ≡ with_files (writes_of outcome) (Some folder)
+
+-- what was printed by the end of a recording
+abbrev pub printed_by : {before : Folder} {schedule_name : List ℕ} → Bool → IsRecordable before schedule_name → Option (List ℕ) → Option (List ℕ)
+printed_by images r printed = append_known printed (recorded_work images (group_in r) (run_in r)).text
+
+-- A recording was done. The folder that it left shows these processes as they were recorded, and the second command, where
+-- it names their pairs, comes to what that is: to the report of the recorded lines, or to the session over the replays
+-- that show the recording
+pub record ShowsThese {before : Folder} {schedule_name : List ℕ} (images : Bool) (r : IsRecordable before schedule_name) (ps : List ℕ)
+    (second : Option Command) (old new : Outside) (answer : Status) : Type 0 where
+  pub whole : (run_in r).full ≡ None
+  pub folder : Folder
+  pub left : with_files (logs (group_in r) (steps_in r) ++ images_of images (group_in r) (run_in r)) (Some before) ≡ Some folder
+  pub shown : IsShown (group_in r) (steps_in r) folder ps (pairs_of_processes r.schedule ps)
+  pub replayed : (asked : Bool) → second ≡ Some (Replay asked (pairs_of_processes r.schedule ps)) → IsAnswerStatus answer
+      → CameTo (Ok (recorded_report asked (group_in r) (steps_in r) shown.sorted)) folder (printed_by images r old.taken) new answer
+  pub debugged : second ≡ Some (Debug (pairs_of_processes r.schedule ps)) → IsAnswerStatus answer
+      → WhenTold old.hearing.left (λ input. CameTo (session_outcome shown.start input) folder (printed_by images r old.taken) new answer)
+
+-- so it is with each schedule that can be recorded, and with the pairs of any of its processes, in any order
+abbrev pub ShowsRecorded : Option Command → Option Command → Outside → Outside → Status → Type 0
+ShowsRecorded first second old new answer =
+    (images : Bool) (schedule_name : List ℕ) → first ≡ Some (Record images schedule_name)
+    → WhenTold old.told (λ before. (r : IsRecordable before schedule_name) (ps : List ℕ) → AreProcesses (size (group_in r)) ps
+    → ShowsThese images r ps second old new answer)
