@@ -1,10 +1,8 @@
 -- A recording's group, and each of its processes: its module, its first state, and its log.
-use Rattle.std.proofs.Common.{◌≡◌, ◌≢◌, ◌⊎◌, ◌∙◌, ◌≤◌, ◌<◌, ◌+◌, ℕ, zero, suc, List, [], ◌∷◌, ◌++◌, length, map, slice_get, Option, Some, None, Result, Ok, Err, inl, inr, ap, arith, refl, subst, sym}
+use Rattle.std.proofs.Common.{◌≡◌, ◌≢◌, ◌⊎◌, ◌∙◌, ◌<◌, ◌+◌, ℕ, zero, suc, List, [], ◌∷◌, length, map, slice_get, Option, Some, None, Result, Ok, Err, inl, inr, ap, arith, refl, subst, sym}
 use Rattle.std.specs.Prelude.{All, AllPairs, slice_index_or}
-use Rattle.std.specs.List.{AllByRecursion}
 use Rattle.std.specs.FinMap.{get}
 use Rattle.std.proofs.lemmas.List.{length-map}
-use Rattle.std.proofs.lemmas.Option.{same_Some}
 use Rattle.fri_outside.specs.Outside.{Folder, found_within}
 use Rattle.wasm_types.specs.Modules.{Module}
 use Rattle.wasm_types.specs.Valid.{IsValid}
@@ -16,7 +14,7 @@ use Rattle.schedule_text.specs.Reading.{Refusal as ScheduleRefusal, BadLineAt, T
 use Rattle.schedule_text.specs.Schedule.{IsInRange, IsWellFormed, Schedule}
 use Rattle.guest_process.specs.Start.{start}
 use Rattle.guest_process.specs.State.{State}
-use Rattle.group_record.specs.Answer.{first_states, first_states_from, group_of, with_first_state}
+use Rattle.group_record.specs.Answer.{first_states_from, group_of, with_first_state}
 use Rattle.group_record.specs.Laws.{Beginning, IsBegun}
 use Rattle.group_record.specs.Logs.{TellsEvents, log_name}
 use Rattle.group_record.specs.Run.{Group, Step, head_of_log, log_of, name_of, size}

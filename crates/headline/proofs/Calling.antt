@@ -1,11 +1,11 @@
 -- The second call shows what the first recorded.
-use Rattle.std.proofs.Common.{◌≡◌, ◌∙◌, ◌<◌, ℕ, Bool, List, [], ◌∷◌, ◌++◌, length, map, Option, Some, None, option_map, Result, Ok, ap, arith, refl, subst, sym}
-use Rattle.std.specs.Prelude.{Contains, option_and_then}
+use Rattle.std.proofs.Common.{◌≡◌, ◌∙◌, ◌<◌, ℕ, Bool, List, [], ◌∷◌, ◌++◌, Option, Some, option_map, Ok, ap, arith, refl, subst, sym}
+use Rattle.std.specs.Prelude.{option_and_then}
 use Rattle.std.specs.Io.KnownBytes.{append_known}
 use Rattle.std.specs.FinMap.{get}
 use Rattle.std.specs.List.{AllByRecursion}
 use Rattle.std.proofs.lemmas.List.{length-map}
-use Rattle.fri_outside.specs.Outside.{Folder, WhenTold}
+use Rattle.fri_outside.specs.Outside.{Folder}
 use Rattle.fri_outside.specs.Several.{with_files}
 use Rattle.fri_outside.specs.Terminal.{Hearing}
 use Rattle.schedule_text.specs.Laws.{GivesSchedules}
@@ -15,20 +15,18 @@ use Rattle.group_record.specs.Logs.{logs}
 use Rattle.group_record.specs.Run.{size}
 use Rattle.command_run.specs.declared.status.Status.{Status}
 use Rattle.command_run.specs.declared.status.Status.TheVariants as ends
-use Rattle.command_run.specs.Call.{IsAnswerStatus, LeavesFiles, Prints}
-use Rattle.command_run.specs.Outcome.{CommandOutcome, outcome_status, outcome_text, writes_of}
-use Rattle.command_run.specs.Run.{CallEnds, Outside}
-use Rattle.log_pairs.specs.Pairs.{Pair}
+use Rattle.command_run.specs.Call.{IsAnswerStatus}
+use Rattle.command_run.specs.Outcome.{CommandOutcome, outcome_text, writes_of}
+use Rattle.command_run.specs.Run.{Outside}
 use Rattle.record_command.specs.Agreement.{IsRecordable, LeavesLogs, group_in, run_in, steps_in}
 use Rattle.record_command.specs.Expected.{module_name, record_outcome}
-use Rattle.record_command.specs.Record.{recorded_work}
 use Rattle.replay_command.specs.Report.{replay_outcome}
 use Rattle.debug_command.specs.Debug.{debug_outcome, session_outcome}
 use Rattle.friday_app.specs.Command.{Command, Debug, Record, Replay}
-use Rattle.friday_app.specs.Expected.{expected, written_by}
+use Rattle.friday_app.specs.Expected.{expected}
 use Rattle.friday_app.specs.Run.{CommandRun}
 use Rattle.headline.specs.Calls.{CameTo, ShowsRecorded, ShowsThese, printed_by}
-use Rattle.headline.specs.Headline.{AreProcesses, Headline, HoldsProcess, IsShown, pairs_of_processes}
+use Rattle.headline.specs.Headline.{AreProcesses, Headline, HoldsProcess, pairs_of_processes}
 use Rattle.headline.specs.Shown.{recorded_report}
 use Rattle.headline.proofs.Beginning.{schedule_formed}
 use Rattle.headline.proofs.Leaving.{IsDone, is_done, module_not_written}

@@ -1,10 +1,8 @@
 -- The events of a process and the states after them, in the steps of a run.
-use Rattle.std.proofs.Common.{◌≡◌, ◌⊎◌, ◌∙◌, ◌≤◌, ◌<◌, ◌+◌, ℕ, zero, suc, Bool, true, false, List, [], ◌∷◌, ◌++◌, length, length-append, slice_get, Some, inl, inr, ap, arith, refl, subst, sym}
+use Rattle.std.proofs.Common.{◌≡◌, ◌⊎◌, ℕ, zero, suc, Bool, true, false, List, [], ◌∷◌, ◌++◌, length, length-append, slice_get, Some, inl, inr, arith, refl}
 use Rattle.std.specs.Prelude.{◌==◌}
-use Rattle.std.proofs.lemmas.Bool.{eqb-true}
 use Rattle.std.proofs.lemmas.Option.{same_Some}
 use Rattle.lib_calls.specs.declared.entry.Entry.{Entry}
-use Rattle.guest_process.specs.Live.{Event}
 use Rattle.group_world.specs.History.{Act, put_last_if}
 use Rattle.group_world.specs.History as world
 use Rattle.group_record.specs.Run.{Group, Had, Did, Step, entries, process_states}

@@ -1,26 +1,24 @@
 -- What a recording leaves: its files, and the modules as they stood.
 use lib.Pointwise.{pointwise}
-use Rattle.std.proofs.Common.{◌≡◌, ◌≢◌, ◌⊎◌, eqb, ◌∙◌, ◌≤◌, ◌<◌, ◌+◌, ◌-◌, ℕ, zero, suc, Bool, true, false, cond, not, List, [], ◌∷◌, ◌++◌, length, drop, map, slice_get, Option, Some, None, Result, Ok, inl, inr, ap, arith, refl, subst, sym}
-use Rattle.std.specs.Prelude.{All, Contains, IsTrue, ◌&&◌, codes, is_none, nat_eq, nat_le, slice_index_or}
+use Rattle.std.proofs.Common.{◌≡◌, ◌≢◌, ◌⊎◌, eqb, ◌∙◌, ◌<◌, ◌-◌, ℕ, zero, suc, Bool, true, false, cond, not, List, [], ◌∷◌, ◌++◌, length, drop, map, Option, Some, None, Result, Ok, inl, inr, ap, arith, refl, subst}
+use Rattle.std.specs.Prelude.{Contains, IsTrue, ◌&&◌, codes, is_none, nat_eq, nat_le, slice_index_or}
 use Rattle.std.specs.List.{AllByRecursion, ends_with, list_all}
 use Rattle.std.proofs.Math.Seq.{drop-append_seam}
 use Rattle.std.proofs.lemmas.Bool.{and_parts}
 use Rattle.std.proofs.lemmas.Bool.Decides.{eqb_tells}
-use Rattle.std.proofs.lemmas.List.{length-append, length-map}
+use Rattle.std.proofs.lemmas.List.{length-append}
 use Rattle.fri_outside.specs.Outside.{Folder}
 use Rattle.wasm_types.specs.Modules.{Module}
-use Rattle.schedule_text.specs.Schedule.{IsProcess, IsWellFormed, Schedule, is_module_name, is_visible}
+use Rattle.schedule_text.specs.Schedule.{IsWellFormed, Schedule, is_module_name, is_visible}
 use Rattle.schedule_text.specs.declared.process.ProcessLine.{ProcessLine}
-use Rattle.guest_process.specs.State.{State}
 use Rattle.group_record.specs.Answer.{first_states}
-use Rattle.group_record.specs.Images.{image_files, images_from, images_of, mem_name, out_name, images as all_images}
+use Rattle.group_record.specs.Images.{images_from, images_of, mem_name, out_name, images as all_images}
 use Rattle.group_record.specs.Logs.{files_from, log_name, logs}
 use Rattle.group_record.specs.Run.{Group, Progress, Step, log_of}
-use Rattle.command_run.specs.declared.status.Status.{Status}
 use Rattle.command_run.specs.declared.status.Status.TheVariants as ends
-use Rattle.command_run.specs.Outcome.{CommandOutcome, Stop, Work, and_then, outcome_status, writes_of, written_names}
+use Rattle.command_run.specs.Outcome.{CommandOutcome, Stop, and_then, outcome_status, written_names}
 use Rattle.record_command.specs.Agreement.{IsRecordable, group_in, run_in, steps_in}
-use Rattle.record_command.specs.Expected.{group_outcome, module_name, modules_of, record_outcome, schedule_in}
+use Rattle.record_command.specs.Expected.{group_outcome, module_name, modules_of, record_outcome}
 use Rattle.record_command.specs.Record.{outcome_by_room, recorded_work}
 
 -- ---- the outcome of a recording that is done

@@ -1,14 +1,10 @@
 -- The order of recorded events, and the group at each of its positions.
-use Rattle.std.proofs.Common.{◌≡◌, ◌≢◌, ◌⊎◌, ◌∙◌, ◌≤◌, ◌<◌, ◌+◌, ℕ, zero, suc, Bool, true, false, cond, eqb, inl, inr, List, [], ◌∷◌, ◌++◌, length, map, take, slice_get, Option, Some, ap, arith, refl, subst, sym}
-use Rattle.std.specs.Prelude.{All, ◌==◌, filter, slice_index_or}
-use Rattle.std.specs.List.{AllByRecursion}
+use Rattle.std.proofs.Common.{◌≡◌, ◌≢◌, ◌⊎◌, ◌∙◌, ◌≤◌, ◌+◌, ℕ, zero, suc, Bool, true, false, cond, eqb, inl, inr, List, [], ◌∷◌, length, map, take, slice_get, Some, ap, arith, refl, subst, sym}
+use Rattle.std.specs.Prelude.{◌==◌, filter}
 use Rattle.std.proofs.lemmas.Bool.{eqb-true}
 use Rattle.std.proofs.lemmas.Bool.Decides.{eqb_tells}
-use Rattle.std.proofs.lemmas.List.{length-map}
 use Rattle.std.proofs.lemmas.Option.{same_Some}
 use Rattle.lib_calls.specs.declared.entry.Entry.{Entry}
-use Rattle.guest_process.specs.Fits.{StateFits}
-use Rattle.guest_process.specs.State.{State}
 use Rattle.group_order.specs.Order.{IsOrder, NodeEvent, list_of, node_event, of_node}
 use Rattle.proc_replay.specs.Course.{ahead}
 use Rattle.proc_replay.specs.Replaying.{Replaying}

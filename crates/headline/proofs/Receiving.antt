@@ -1,21 +1,20 @@
 -- Each datagram that was taken came from outside, or its send stands before it in the order.
-use Rattle.std.proofs.Common.{◌≡◌, ◌∙◌, ◌≤◌, ◌<◌, ◌+◌, ◌^◌, ℕ, zero, suc, Bool, true, false, cond, List, [], ◌∷◌, ◌++◌, length, map, take, slice_get, Option, Some, ap, append_assoc, arith, refl, subst, sym}
-use Rattle.std.specs.Prelude.{Contains, IsTrue, ◌==◌, slice_index_or}
+use Rattle.std.proofs.Common.{◌≡◌, ◌∙◌, ◌≤◌, ◌^◌, ℕ, Bool, true, false, cond, List, [], ◌∷◌, ◌++◌, length, map, take, slice_get, Some, ap, append_assoc, arith, refl, subst, sym}
+use Rattle.std.specs.Prelude.{Contains, IsTrue, ◌==◌}
 use Rattle.std.proofs.Math.Seq.{get_or-append_seam}
 use Rattle.std.proofs.lemmas.Bool.{eqb-true}
 use Rattle.std.proofs.lemmas.List.{length-append, map-append}
 use Rattle.std.proofs.lemmas.Option.{slice_get-get_or}
 use Rattle.lamport_tag.specs.Tag.{read_datagram}
-use Rattle.lamport_tag.specs.declared.Tag.{Tag}
 use Rattle.lib_calls.specs.Traffic.{is_taken}
 use Rattle.lib_calls.specs.declared.entry.Entry.{Entry}
 use Rattle.guest_process.specs.Live.{Event}
-use Rattle.group_order.specs.Order.{IsOrder, NodeEvent, node_event, of_node}
+use Rattle.group_order.specs.Order.{IsOrder, node_event}
 use Rattle.proc_replay.specs.Replaying.{Replaying}
 use Rattle.group_world.specs.History.{Act, Deliver, History, Inject}
 use Rattle.group_world.specs.History as world
 use Rattle.group_world.specs.Laws.{gives}
-use Rattle.group_record.specs.Laws.{IsSend, TakesDatagram, TellsSend}
+use Rattle.group_record.specs.Laws.{TakesDatagram, TellsSend}
 use Rattle.group_record.specs.Run.{Group, Had, Step, act_of, entries, history, size}
 use Rattle.group_record.specs.Standing.{IsRun}
 use Rattle.group_state.specs.Laws.{SendsFirst}
@@ -23,7 +22,7 @@ use Rattle.group_state.specs.Place.{PartsFit, entry_clock, events}
 use Rattle.headline.specs.Shown.{FromOutside, FromSend, Received, StandsBefore}
 use Rattle.headline.proofs.Course.{entries_stay}
 use Rattle.headline.proofs.Ordering.{own_is, own_of, place_of}
-use Rattle.headline.proofs.Told.{WasHad, nth_is_sent, was_had}
+use Rattle.headline.proofs.Told.{nth_is_sent, was_had}
 
 -- ---- acts that stand in a history
 

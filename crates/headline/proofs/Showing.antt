@@ -1,5 +1,5 @@
 -- The replay of a log that a recording left shows its process.
-use Rattle.std.proofs.Common.{◌≡◌, ◌∙◌, ◌≤◌, ◌<◌, ◌+◌, ℕ, zero, suc, List, [], ◌∷◌, ◌++◌, length, take, slice_get, Option, Some, None, ap, arith, refl, subst, sym}
+use Rattle.std.proofs.Common.{◌≡◌, ◌∙◌, ◌≤◌, ◌<◌, ℕ, zero, suc, List, [], ◌∷◌, ◌++◌, length, take, slice_get, Option, Some, None, ap, arith, refl, sym}
 use Rattle.std.specs.Option.{option_to_list}
 use Rattle.std.proofs.Math.Seq.{take-length}
 use Rattle.std.proofs.lemmas.Option.{same_Some}
@@ -9,9 +9,8 @@ use Rattle.call_log.specs.Log.{entries_of, rest_of}
 use Rattle.guest_process.specs.declared.divergence.Divergence.{Divergence}
 use Rattle.guest_process.specs.Legal.{reason}
 use Rattle.guest_process.specs.Next.{next}
-use Rattle.guest_process.specs.Replay.{Reach, Verdict, Whole, accepted, last_state, left_over, reach, reach_then, replayed, state_after, verdict, verdict_of}
+use Rattle.guest_process.specs.Replay.{Verdict, Whole, accepted, last_state, left_over, reach, reach_then, replayed, state_after, verdict, verdict_of}
 use Rattle.guest_process.specs.State.{State}
-use Rattle.proc_replay.specs.Course.{ahead}
 use Rattle.proc_replay.specs.Replaying.{Replaying}
 use Rattle.group_record.specs.Logs.{TellsEvents}
 use Rattle.group_record.specs.Run.{Group, Step, entries, head_of_log, process_after, process_states, size}

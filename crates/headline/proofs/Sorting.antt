@@ -1,16 +1,12 @@
 -- Replays are put in order by their processes' numbers as those numbers are.
-use Rattle.std.proofs.Common.{◌≡◌, ◌≢◌, ◌⊎◌, ◌∙◌, ◌≤◌, ◌<◌, ◌+◌, ℕ, zero, suc, Bool, true, false, cond, List, [], ◌∷◌, ◌++◌, length, slice_get, Some, inl, inr, ap, arith, refl, subst, sym}
-use Rattle.std.specs.Prelude.{Contains, ◌↔◌, if◌then◌else◌, nat_lt, slice_index_or}
+use Rattle.std.proofs.Common.{◌≡◌, ◌≢◌, ◌⊎◌, ◌∙◌, ◌≤◌, ◌<◌, ◌+◌, ℕ, zero, suc, Bool, true, false, cond, List, [], ◌∷◌, length, slice_get, Some, inl, inr, ap, arith, refl, sym}
+use Rattle.std.specs.Prelude.{Contains, if◌then◌else◌, nat_lt, slice_index_or}
 use Rattle.std.specs.List.{AllByRecursion}
 use Rattle.std.proofs.lemmas.Bool.{ltb-false, ltb-true}
-use Rattle.call_log.specs.Head.{Head}
 use Rattle.proc_replay.specs.Replaying.{Replaying}
-use Rattle.group_record.specs.Run.{Group, Step, head_of_log}
+use Rattle.group_record.specs.Run.{Group, Step}
 use Rattle.log_pairs.specs.Pairs.{insert_replay, sort_replays}
 use Rattle.headline.specs.Headline.{AreApart, AreInOrder, Ascend}
-use Rattle.headline.specs.Shown.{AreShown, ShowsProcess}
-use Rattle.headline.proofs.Reporting.{AllCome}
-use Rattle.headline.proofs.Showing.{ComesTo}
 
 abbrev pub insert_number : ℕ → List ℕ → List ℕ
 insert_number p [] = p ∷ []

@@ -1,8 +1,8 @@
 -- The recording is shown.
-use Rattle.std.proofs.Common.{◌≡◌, ◌≢◌, ◌∙◌, ◌≤◌, ◌<◌, ◌+◌, ℕ, zero, suc, Bool, List, [], ◌∷◌, ◌++◌, length, map, slice_get, Option, Some, Result, Ok, ap, append-nil, append_assoc, arith, refl, subst, sym}
-use Rattle.std.specs.Prelude.{All, IsTrue}
+use Rattle.std.proofs.Common.{◌≡◌, ◌≢◌, ◌∙◌, ◌<◌, ℕ, zero, suc, List, [], ◌∷◌, ◌++◌, slice_get, Some, Result, Ok, ap, append-nil, append_assoc, arith, subst, sym}
+use Rattle.std.specs.Prelude.{IsTrue}
 use Rattle.std.specs.List.{AllByRecursion}
-use Rattle.std.proofs.lemmas.Option.{same_Some, slice_get_within}
+use Rattle.std.proofs.lemmas.Option.{same_Some}
 use Rattle.fri_outside.specs.Outside.{Folder}
 use Rattle.schedule_text.specs.Laws.{GivesSchedules}
 use Rattle.guest_process.specs.Fits.{StateFits}
@@ -17,16 +17,16 @@ use Rattle.group_record.specs.Standing.{RunIs, Standing}
 use Rattle.group_state.specs.Laws.{Ordered, SendsFirst}
 use Rattle.group_state.specs.Place.{PartsFit}
 use Rattle.command_run.specs.Laws.{ReadsModules}
-use Rattle.command_run.specs.Outcome.{CommandOutcome, Stop, Work, and_then}
-use Rattle.log_pairs.specs.Pairs.{Loaded, Pair, loaded_pairs, replays_of, replays_of_pairs, sort_replays}
+use Rattle.command_run.specs.Outcome.{Stop, Work, and_then}
+use Rattle.log_pairs.specs.Pairs.{Loaded, replays_of, replays_of_pairs, sort_replays}
 use Rattle.log_pairs.specs.Valid.{GoTogether}
 use Rattle.record_command.specs.Agreement.{IsRecordable, LogsAgree, RecordingsAgree, group_in, steps_in}
 use Rattle.replay_command.specs.Report.{replay_work}
 use Rattle.debug_command.specs.Debug.{opened_outcome}
-use Rattle.headline.specs.Headline.{AreApart, AreInOrder, AreProcesses, Headline, HoldsProcess, IsShown, pair_of_process, pairs_of_processes}
+use Rattle.headline.specs.Headline.{AreApart, AreProcesses, Headline, HoldsProcess, IsShown, pairs_of_processes}
 use Rattle.headline.specs.Shown.{AreShown, ShowsProcess}
 use Rattle.headline.proofs.Beginning.{HasBegun, has_begun, pair_stands, schedule_formed, together}
-use Rattle.headline.proofs.Loading.{AllStand, AllTogether, Opened, opened}
+use Rattle.headline.proofs.Loading.{AllStand, AllTogether, opened}
 use Rattle.headline.proofs.Ordering.{is_recorded, order_is}
 use Rattle.headline.proofs.Receiving.{received}
 use Rattle.headline.proofs.Reporting.{AllCome, all_of_them, report_is}

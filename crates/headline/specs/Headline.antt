@@ -1,5 +1,5 @@
 -- The main theorem: the modules and the logs of a recording, and these alone, make `replay` and `debug` show what was recorded.
-use Rattle.std.specs.Prelude.{◌≡◌, ◌≢◌, ◌<◌, ◌↔◌, ℕ, Bool, List, [], ◌∷◌, length, map, Option, Some, Ok, Contains}
+use Rattle.std.specs.Prelude.{◌≡◌, ◌≢◌, ◌<◌, ◌↔◌, ℕ, Bool, List, [], ◌∷◌, length, map, Some, Ok, Contains}
 use Rattle.std.specs.FinMap.{get}
 use Rattle.std.specs.List.{AllByRecursion, slice_index_or}
 use Rattle.fri_outside.specs.Outside.{Folder}
