@@ -1,7 +1,7 @@
 #!/bin/sh
 # `continue` over 16 processes that pass datagrams round in a ring, from position 0 to the end, with 0, 1 and 10 watchpoints
-# that never fire, in logs of 100,000 and 1,000,000 events; beside `goto` to the end, and a walk with a break point whose
-# program counts the sends. The watchpoints read a number of one process, or add up one of each process. Prints the
+# that never fire, in logs of 100,000 and 1,000,000 events; beside `goto` to the end, a walk with a break point whose
+# program counts the sends, and `rcontinue` over the same positions from the end. The watchpoints read a number of one process, or add up one of each process. Prints the
 # processor's time for each event, and that for each value of a watchpoint or run of the program, which is what the walk
 # takes longer than without points; instructions by valgrind for the shorter logs; and the peak of memory. The guest is built
 # with wat2wasm of the package wabt.
@@ -102,6 +102,25 @@ def costs(folder, lines, counted):
     return spent - still, peak, instructions(folder, lines) - instructions(folder, ["# nothing"])
 
 
+# What `rcontinue` takes from the end, over all positions up to there, since nothing fires.
+def costs_back(folder, expressions, events, counted):
+    there = ["watch " + expression for expression in expressions] + ["goto %d" % events]
+    (spent, _), (both, peak) = least(folder, there), least(folder, there + ["rcontinue"])
+    if not counted or shutil.which("valgrind") is None:
+        return both - spent, peak, None
+    return both - spent, peak, instructions(folder, there + ["rcontinue"]) - instructions(folder, there)
+
+
+def table_back(folder, events, counted):
+    bare = costs_back(folder, [], events, counted)
+    for name, expressions in (("none", []), ("of each process", EACH[:1]), ("of each process", EACH)):
+        points = len(expressions)
+        spent, peak, count = costs_back(folder, expressions, events, counted) if points else bare
+        each, value = shared(spent * 1e9, bare[0] * 1e9, events, points)
+        each_count, value_count = shared(count, bare[2], events, points)
+        print("%8d  back %2d %-11.11s %9s %9s %12s %12s %8.1f" % (events, points, name, each, value, each_count, value_count, peak / 1e6), flush=True)
+
+
 def table(folder, events, counted):
     bare = costs(folder, walk([]), counted)
     rows = [("none", []), *((name, some) for name, made in (("of one process", ONE), ("of each process", EACH)) for some in (made[:1], made))]
@@ -127,5 +146,7 @@ with tempfile.TemporaryDirectory() as folder:
     print("%8s  %-19s %9s %9s %12s %12s %8s" % ("", "", "ns", "ns", "instructions", "instructions", "peak"))
     print("%8s  %-19s %9s %9s %12s %12s %8s" % ("events", "watchpoints", "an event", "a value", "an event", "a value", "MB"))
     for wanted in (100_000, 1_000_000):
-        table(folder, record(folder, wanted), wanted <= 100_000)
+        events = record(folder, wanted)
+        table(folder, events, wanted <= 100_000)
+        table_back(folder, events, wanted <= 100_000)
 PYTHON
