@@ -1,6 +1,6 @@
 -- The schedule of the drill is within the limits.
-use Rattle.std.proofs.Common.{◌≡◌, ◌≢◌, ℕ, zero, suc, ◌+◌, ◌-◌, ◌*◌, ◌/◌, ◌%◌, ◌<◌, ◌≤◌, ◌==◌, Bool, true, false, cond, get_or, List, [], ◌∷◌, ◌++◌, length, flat_map, refl, sym, ap, subst, ◌∙◌, arith, append_assoc, append-nil}
-use Rattle.std.specs.Prelude.{codes, All, AllPairs, IsTrue, sum_by}
+use Rattle.std.proofs.Common.{◌≡◌, ◌≢◌, ℕ, zero, suc, ◌+◌, ◌-◌, ◌*◌, ◌/◌, ◌%◌, ◌<◌, ◌≤◌, ◌==◌, Bool, true, false, cond, get_or, List, [], ◌∷◌, ◌++◌, flat_map, refl, sym, ap, ◌∙◌, arith, append_assoc, append-nil}
+use Rattle.std.specs.Prelude.{codes, All, AllPairs, IsTrue}
 use Rattle.std.specs.List.{AllByRecursion, range_with_len}
 use Rattle.std.proofs.lemmas.List.Elements.{All-append}
 use Rattle.std.proofs.lemmas.Grind.{flat_map-append}
@@ -57,9 +57,12 @@ n3 = ring_line (codes "n3")
 
 named : AllPairs Apart drill_processes
 named = pairs drill_processes (
-    (unlike n0 n1 (λ (e : 48 ≡ 49). omega (arith, e)), (unlike n0 n2 (λ (e : 48 ≡ 50). omega (arith, e)), (unlike n0 n3 (λ (e : 48 ≡ 51). omega (arith, e)), tt))),
-    ((unlike n1 n2 (λ (e : 49 ≡ 50). omega (arith, e)), (unlike n1 n3 (λ (e : 49 ≡ 51). omega (arith, e)), tt)),
-    ((unlike n2 n3 (λ (e : 50 ≡ 51). omega (arith, e)), tt), (tt, tt))))
+  (unlike n0 n1 (λ (e : 48 ≡ 49). omega (arith, e)), (unlike n0 n2 (λ (e : 48 ≡ 50). omega (arith, e)), (unlike n0 n3 (λ (e : 48 ≡ 51). omega (arith, e)), tt))),
+  (
+    (unlike n1 n2 (λ (e : 49 ≡ 50). omega (arith, e)), (unlike n1 n3 (λ (e : 49 ≡ 51). omega (arith, e)), tt)),
+    ((unlike n2 n3 (λ (e : 50 ≡ 51). omega (arith, e)), tt), (tt, tt)),
+  ),
+)
 
 may_run : (name : List ℕ) → IsTrue (is_name name) → IsProcess (ring_line name)
 may_run name is = record { name = is; file = refl }
@@ -74,8 +77,12 @@ run_in p times within some few = (within, omega arith, some, few)
 
 start_in : All (IsInRange 4) drill_start
 start_in = each (IsInRange 4) drill_start (
-    run_in 0 3 (omega arith) (omega arith) (omega arith), (run_in 1 2 (omega arith) (omega arith) (omega arith),
-    (run_in 2 2 (omega arith) (omega arith) (omega arith), (run_in 3 2 (omega arith) (omega arith) (omega arith), tt))))
+  run_in 0 3 (omega arith) (omega arith) (omega arith),
+  (
+    run_in 1 2 (omega arith) (omega arith) (omega arith),
+    (run_in 2 2 (omega arith) (omega arith) (omega arith), (run_in 3 2 (omega arith) (omega arith) (omega arith), tt)),
+  ),
+)
 
 idle_in : (idle : Bool) (p : ℕ) → p < 4 → All (IsInRange 4) (cond idle (Run p 0 1 ∷ []) [])
 idle_in true p within = each (IsInRange 4) (Run p 0 1 ∷ []) (run_in p 1 within (omega arith) (omega arith), tt)
