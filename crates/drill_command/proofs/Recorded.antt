@@ -73,9 +73,12 @@ logs_are steps = refl
 
 logs_apart : (steps : List Step) → AreApart (all_logs steps)
 logs_apart steps = all_apart (all_logs steps) (
-    (unlike (log_at steps 0) (log_at steps 1) (λ (e : 48 ≡ 49). omega (arith, e)), (unlike (log_at steps 0) (log_at steps 2) (λ (e : 48 ≡ 50). omega (arith, e)), (unlike (log_at steps 0) (log_at steps 3) (λ (e : 48 ≡ 51). omega (arith, e)), tt))),
-    ((unlike (log_at steps 1) (log_at steps 2) (λ (e : 49 ≡ 50). omega (arith, e)), (unlike (log_at steps 1) (log_at steps 3) (λ (e : 49 ≡ 51). omega (arith, e)), tt)),
-    ((unlike (log_at steps 2) (log_at steps 3) (λ (e : 50 ≡ 51). omega (arith, e)), tt), (tt, tt))))
+  (unlike (log_at steps 0) (log_at steps 1) (λ (e : 48 ≡ 49). omega (arith, e)), (unlike (log_at steps 0) (log_at steps 2) (λ (e : 48 ≡ 50). omega (arith, e)), (unlike (log_at steps 0) (log_at steps 3) (λ (e : 48 ≡ 51). omega (arith, e)), tt))),
+  (
+    (unlike (log_at steps 1) (log_at steps 2) (λ (e : 49 ≡ 50). omega (arith, e)), (unlike (log_at steps 1) (log_at steps 3) (λ (e : 49 ≡ 51). omega (arith, e)), tt)),
+    ((unlike (log_at steps 2) (log_at steps 3) (λ (e : 50 ≡ 51). omega (arith, e)), tt), (tt, tt)),
+  ),
+)
 
 logs_held : KeepsFiles → (steps : List Step) (folder : Folder) → Some folder ≡ with_files (all_logs steps) (Some empty)
     → (p : ℕ) → p < 4 → get folder (log_name (name_of drill_group p)) ≡ Some (log_of drill_group steps p)

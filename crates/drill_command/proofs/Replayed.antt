@@ -52,11 +52,20 @@ left_within steps p tells = omega (arith, length-drop (length (head_bytes (head_
 pub are_parts : (steps : List Step) (files : FilesInMemory) → HoldLogs steps files → (n0 n1 n2 n3 : State) → n0.events ≡ 0 → n1.events ≡ 0 → n2.events ≡ 0 → n3.events ≡ 0
     → AreParts (replays_of steps n0 n1 n2 n3)
 are_parts steps files holds n0 n1 n2 n3 fresh0 fresh1 fresh2 fresh3 = record {
-  few = omega arith;
+  few = few;
   fresh = each (λ r. r.state.events ≡ 0) (replays_of steps n0 n1 n2 n3) (fresh0, (fresh1, (fresh2, (fresh3, tt))));
   one = each (λ r. r.head.count ≡ group_count (replays_of steps n0 n1 n2 n3)) (replays_of steps n0 n1 n2 n3) (refl, (refl, (refl, (refl, tt))));
-  ascends = ((omega arith, (omega arith, (omega arith, tt))), ((omega arith, (omega arith, tt)), ((omega arith, tt), (tt, tt))));
+  ascends = ((below 0 1 (omega arith), (below 0 2 (omega arith), (below 0 3 (omega arith), tt))), ((below 1 2 (omega arith), (below 1 3 (omega arith), tt)), ((below 2 3 (omega arith), tt), (tt, tt))));
   within = each (λ r. length r.left ≤ most_log) (replays_of steps n0 n1 n2 n3) (
-      left_within steps 0 (holds.tells 0 (omega arith)), (left_within steps 1 (holds.tells 1 (omega arith)),
-      (left_within steps 2 (holds.tells 2 (omega arith)), (left_within steps 3 (holds.tells 3 (omega arith)), tt))));
-}
+    left_within steps 0 (holds.tells 0 (omega arith)),
+    (
+      left_within steps 1 (holds.tells 1 (omega arith)),
+      (left_within steps 2 (holds.tells 2 (omega arith)), (left_within steps 3 (holds.tells 3 (omega arith)), tt)),
+    ),
+  );
+} where
+  few : 4 ≤ 16
+  few = omega arith
+
+  below : (a b : ℕ) → a < b → a < b
+  below a b h = h

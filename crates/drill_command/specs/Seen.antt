@@ -42,6 +42,6 @@ StopsDrill rounds other = ⊥
 
 -- all positions were walked
 pub record IsWatched (start : List Replaying) (w : Watched) : Type 0 where
-  pub events : w.events ≡ length (events start)
+  pub walked : w.events ≡ length (events start)
   pub firings : w.firings ≡ firing_count start
   pub last : w.last ≡ value_at_position start drill_watch (length (events start))

@@ -14,6 +14,7 @@ use command_run::{Answer, Refusal};
 use group_state::Group;
 use std::alloc::Global;
 
+#[tactic(auto, using(crate::proofs::Performs::done_performs, crate::proofs::Performs::stop_performs))]
 /// Records so many rounds into files in memory, replays the logs, and walks all positions with a watchpoint. No other
 /// file is read or made.
 pub fn drill(alloc: Global, rounds: u32) -> Result<Answer, Refusal>

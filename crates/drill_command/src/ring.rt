@@ -13,8 +13,11 @@ use wasm_types::{
 use wasm_validate::exact_fault;
 
 const ME: u32 = 0;
+
 const SEND: u32 = 1;
+
 const RECV: u32 = 2;
+
 const START: u32 = 3;
 
 fn eqz() -> Instr
@@ -208,7 +211,6 @@ fn ring(alloc: Global) -> Result<Module, AllocError>
     })
 }
 
-#[tactic(auto, using(crate::proofs::Valid::is_valid))]
 fn valid_ring(alloc: Global) -> Result<ValidModule, AllocError>
     ensures { IfOk result (λ m. module_of m ≡ ring) }
 {
