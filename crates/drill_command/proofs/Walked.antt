@@ -38,7 +38,7 @@ fired_more start at =
     ap (sum_by (once start)) (one_more 1 at) ∙ sum_by-append (once start) (range_with_len 1 at) ((1 + at) ∷ [])
     ∙ ap (λ n. sum_by (once start) (range_with_len 1 at) + n) (alone ∙ ap (once start) last)
   where
-    plus-zero : (n : ℕ) → n + 0 ≡ n
+    plus-zero : (n : ℕ) → 0 + n ≡ n
     plus-zero n = omega arith
 
 -- ---- one event
