@@ -20,6 +20,7 @@ value_of (Ok states) there = refl
 value_of (Err p) there = cc
 
 pub all_begin : first_states_from 4 0 drill_modules ≡ Ok drill_states
+unfolding drill_states
 all_begin = value_of (first_states_from 4 0 drill_modules) refl
 
 four : (a b c d : Option State) (n0 n1 n2 n3 : State) → a ≡ Some n0 → b ≡ Some n1 → c ≡ Some n2 → d ≡ Some n3
@@ -29,4 +30,5 @@ four a b c d n0 n1 n2 n3 is_a is_b is_c is_d = rw (is_a, is_b, is_c, is_d) refl
 -- their first states, one after the other
 pub states_are : (n0 n1 n2 n3 : State) → start ring 0 4 ≡ Some n0 → start ring 1 4 ≡ Some n1 → start ring 2 4 ≡ Some n2 → start ring 3 4 ≡ Some n3
     → drill_states ≡ n0 ∷ n1 ∷ n2 ∷ n3 ∷ []
+unfolding drill_states
 states_are n0 n1 n2 n3 = four (start ring 0 4) (start ring 1 4) (start ring 2 4) (start ring 3 4) n0 n1 n2 n3

@@ -13,7 +13,7 @@ use Rattle.wasm_types.specs.Modules.{Module}
 use Rattle.wasm_types.specs.Valid.{IsValid}
 use Rattle.wasm_validate.specs.Fault.{ExactFault}
 use Rattle.schedule_text.specs.Drill.{drill_schedule}
-use Rattle.schedule_text.specs.Schedule.{IsInRange, IsSchedule}
+use Rattle.schedule_text.specs.Schedule.{IsInRange, IsSchedule, Schedule}
 use Rattle.guest_process.specs.State.{State}
 use Rattle.group_record.specs.declared.error.RecordError.TheVariants as errors
 use Rattle.group_record.specs.declared.summary.Summary.{Summary}
@@ -120,6 +120,16 @@ recorded keeps exact beginning agreement rounds schedule ms are summary files (f
         tells = logs_tell exact beginning agreement rounds schedule;
       };
     }
+
+-- the same of a schedule and a folder that are these
+pub recorded_by : KeepsFiles → ExactFault → Beginning → Agreement → (rounds : ℕ) → IsSchedule (drill_schedule rounds) → (ms : List Module) → ms ≡ drill_modules
+    → (s : Schedule) → s ≡ drill_schedule rounds → (before : Folder) → before ≡ empty
+    → (summary : Summary) (files : FilesInMemory) → RecordAnswers s false (first_states s ms) (Ok summary) (Some before) (Some files.folder)
+    → IsRecorded rounds (record { files = files; idle = summary.idle })
+recorded_by keeps exact beginning agreement rounds schedule ms are s is before fresh summary files answers =
+    recorded keeps exact beginning agreement rounds schedule ms are summary files
+    (subst (λ (f : Folder). RecordAnswers (drill_schedule rounds) false (first_states (drill_schedule rounds) ms) (Ok summary) (Some f) (Some files.folder)) fresh
+    (subst (λ (x : Schedule). RecordAnswers x false (first_states x ms) (Ok summary) (Some before) (Some files.folder)) is answers))
 
 pub never_bad : (rounds : ℕ) (ms : List Module) → ms ≡ drill_modules → (p : ℕ) (before after : Option Folder)
     → RecordAnswers (drill_schedule rounds) false (first_states (drill_schedule rounds) ms) (Err (errors.BadSegment p)) before after → ⊥

@@ -27,7 +27,7 @@ abbrev pub drill_modules : List Module
 drill_modules = ring ∷ ring ∷ ring ∷ ring ∷ []
 
 -- all of them begin
-abbrev pub drill_states : List State
+unfoldable pub drill_states : List State
 drill_states = unwrap_or (result_ok (first_states_from 4 0 drill_modules)) []
 
 abbrev pub drill_group : Group

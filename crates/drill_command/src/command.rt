@@ -25,7 +25,7 @@ pub fn drill(alloc: Global, rounds: u32) -> Result<Answer, Refusal>
 {
     let modules = modules(alloc)?;
     let recording = record(alloc, rounds, &modules)?;
-    let replays = begin_all(alloc, &modules, &recording.files)?;
+    let replays = begin_all(alloc, &modules[0], &recording.files)?;
     let watched = watch(alloc, Group::begin(alloc, replays)?)?;
     Ok(Answer::Done(print(alloc, rounds, recording.idle, &watched)?))
 }

@@ -1,12 +1,12 @@
 // The replays of the logs that were recorded.
-ghost use Rattle.std.specs.Prelude.{◌≡◌, ◌<◌, ℕ, List, IfOk, Some, map};
+ghost use Rattle.std.specs.Prelude.{◌≡◌, ◌<◌, ℕ, List, IfOk, Some};
 ghost use Rattle.wasm_types.specs.Modules.{module_of};
 ghost use Rattle.guest_process.specs.Start.{start};
 ghost use Rattle.guest_process.specs.State.{State};
 ghost use Rattle.group_record.specs.Logs.{log_name};
 ghost use Rattle.group_record.specs.Run.{Step, name_of};
 ghost use Rattle.group_state.specs.Place.{AreParts};
-ghost use Rattle.drill_command.specs.Drill.{drill_group, drill_modules, replay_of_log, replays_of_logs};
+ghost use Rattle.drill_command.specs.Drill.{drill_group, replay_of_log, replays_of_logs};
 ghost use Rattle.drill_command.specs.Ring.{ring};
 ghost use Rattle.drill_command.specs.Seen.{HoldLogs};
 
@@ -50,21 +50,21 @@ fn begin<'m, 'a>(
     }
 }
 
-/// The replays of the four logs.
+/// The replays of the four logs, whose processes are of one module.
 pub(crate) fn begin_all<'m, 'a>(
     alloc: Global,
-    modules: &'m [ValidModule],
+    module: &'m ValidModule,
     files: &'a MemFiles,
 ) -> Result<Vec<Replayer<'m, 'a>>, AllocError>
-    requires modules { map module_of modules.now ≡ drill_modules }
+    requires module { module_of «module».now ≡ ring }
     requires held { (steps : List Step) × HoldLogs steps files.now }
     ensures parts { IfOk result (λ parts. AreParts parts.items) }
     ensures replays { IfOk result (λ parts. (steps : List Step) → HoldLogs steps files.now → parts.items ≡ replays_of_logs drill_group steps) }
 {
     counting();
-    let n0 = begin(alloc, &modules[0], files, 0, "n0.log")?;
-    let n1 = begin(alloc, &modules[1], files, 1, "n1.log")?;
-    let n2 = begin(alloc, &modules[2], files, 2, "n2.log")?;
-    let n3 = begin(alloc, &modules[3], files, 3, "n3.log")?;
+    let n0 = begin(alloc, module, files, 0, "n0.log")?;
+    let n1 = begin(alloc, module, files, 1, "n1.log")?;
+    let n2 = begin(alloc, module, files, 2, "n2.log")?;
+    let n3 = begin(alloc, module, files, 3, "n3.log")?;
     Ok(vec![in alloc; n0, n1, n2, n3]?)
 }
