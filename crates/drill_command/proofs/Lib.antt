@@ -5,3 +5,4 @@ pub mod Recorded
 pub mod Replayed
 pub mod Valid
 pub mod Walked
+pub mod Told

@@ -15,6 +15,7 @@ use Rattle.wasm_validate.specs.Fault.{ExactFault}
 use Rattle.schedule_text.specs.Drill.{drill_schedule}
 use Rattle.schedule_text.specs.Schedule.{IsInRange, IsSchedule, Schedule}
 use Rattle.guest_process.specs.State.{State}
+use Rattle.group_record.specs.declared.error.RecordError.{RecordError}
 use Rattle.group_record.specs.declared.error.RecordError.TheVariants as errors
 use Rattle.group_record.specs.declared.summary.Summary.{Summary}
 use Rattle.group_record.specs.Answer.{IsDone, IsFull, RecordAnswers, first_states, first_states_from, group_of}
@@ -97,6 +98,7 @@ logs_held keeps steps folder is = at
 
 -- the logs of the whole run tell its events
 logs_tell : ExactFault → Beginning → Agreement → (rounds : ℕ) → IsSchedule (drill_schedule rounds) → (p : ℕ) → p < 4 → TellsEvents drill_group (drill_run rounds).steps p
+unfolding drill_run
 logs_tell exact beginning agreement rounds schedule p below =
     let valid = ring_is_valid exact in
     let begun : IsBegun drill_group × All (IsInRange (size drill_group)) (drill_schedule rounds).items =
@@ -108,6 +110,7 @@ logs_tell exact beginning agreement rounds schedule p below =
 pub recorded : KeepsFiles → ExactFault → Beginning → Agreement → (rounds : ℕ) → IsSchedule (drill_schedule rounds) → (ms : List Module) → ms ≡ drill_modules
     → (summary : Summary) (files : FilesInMemory) → RecordAnswers (drill_schedule rounds) false (first_states (drill_schedule rounds) ms) (Ok summary) (Some empty) (Some files.folder)
     → IsRecorded rounds (record { files = files; idle = summary.idle })
+unfolding drill_run
 recorded keeps exact beginning agreement rounds schedule ms are summary files (first, begun, done) =
     let same : first ≡ drill_states = same_Ok (first_states_from 4 0 ms) first drill_states begun (ap (first_states_from 4 0) are ∙ all_begin) in
     let is : IsDone false drill_group (drill_run rounds) summary (Some empty) (Some files.folder) =
@@ -141,6 +144,7 @@ never_bad rounds ms are p before after answers = refuted (sym answers.0 ∙ ap (
 pub full_stops : (rounds : ℕ) (ms : List Module) → ms ≡ drill_modules → (item : ℕ) (before after : Option Folder)
     → RecordAnswers (drill_schedule rounds) false (first_states (drill_schedule rounds) ms) (Err (errors.LogFull item)) before after
     → (e : Refusal) → RefusesFile (codes "drill") (reason.LogFull item) e → StopsDrill rounds e
+unfolding drill_run
 full_stops rounds ms are item before after (first, begun, full) e refuses = stops e refuses
   where
     same : first ≡ drill_states
@@ -153,3 +157,12 @@ full_stops rounds ms are item before after (first, begun, full) e refuses = stop
     stops (refusal.Refused file why) (named, because) = rw because (named, is)
     stops refusal.NoMemory refuses = tt
     stops other refuses = absurd refuses
+
+-- the same of a schedule and an answer that are these
+pub full_stops_by : (rounds : ℕ) (ms : List Module) → ms ≡ drill_modules → (s : Schedule) → s ≡ drill_schedule rounds → (item : ℕ) (error : RecordError) → error ≡ errors.LogFull item
+    → (before after : Option Folder) → RecordAnswers s false (first_states s ms) (Err error) before after
+    → (e : Refusal) → RefusesFile (codes "drill") (reason.LogFull item) e → StopsDrill rounds e
+full_stops_by rounds ms are s is item error full before after answers =
+    full_stops rounds ms are item before after
+    (subst (λ (x : RecordError). RecordAnswers (drill_schedule rounds) false (first_states (drill_schedule rounds) ms) (Err x) before after) full
+    (subst (λ (x : Schedule). RecordAnswers x false (first_states x ms) (Err error) before after) is answers))

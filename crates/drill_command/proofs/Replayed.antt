@@ -21,6 +21,7 @@ use Rattle.group_record.specs.Run.{Step, head_of_log, log_of, name_of}
 use Rattle.drill_command.specs.Drill.{drill_group, drill_states, left_of_log, replay_of_log, replays_from, replays_of_logs}
 use Rattle.drill_command.specs.Ring.{ring}
 use Rattle.drill_command.specs.Seen.{HoldLogs}
+use Rattle.drill_command.proofs.Begins.{states_are}
 use Rattle.drill_command.proofs.Recorded.{each}
 
 -- the head and the rest that are found in a log
@@ -108,3 +109,11 @@ pub parts_are : BeginsFresh → (steps : List Step) (files : FilesInMemory) → 
     → (items : List Replaying) → items ≡ r0 ∷ r1 ∷ r2 ∷ r3 ∷ [] → AreParts items
 parts_are fresh steps files holds n0 n1 n2 n3 r0 r1 r2 r3 s0 s1 s2 s3 is0 is1 is2 is3 items are =
     rw (are, is0, is1, is2, is3) (are_parts steps files holds n0 n1 n2 n3 (fresh ring 0 4 n0 s0).events (fresh ring 1 4 n1 s1).events (fresh ring 2 4 n2 s2).events (fresh ring 3 4 n3 s3).events)
+
+-- and they are the replays of the logs
+pub replays_are : (steps : List Step) (n0 n1 n2 n3 : State) (r0 r1 r2 r3 : Replaying)
+    → start ring 0 4 ≡ Some n0 → start ring 1 4 ≡ Some n1 → start ring 2 4 ≡ Some n2 → start ring 3 4 ≡ Some n3
+    → r0 ≡ replay_of_log drill_group steps 0 n0 → r1 ≡ replay_of_log drill_group steps 1 n1 → r2 ≡ replay_of_log drill_group steps 2 n2 → r3 ≡ replay_of_log drill_group steps 3 n3
+    → (items : List Replaying) → items ≡ r0 ∷ r1 ∷ r2 ∷ r3 ∷ [] → items ≡ replays_of_logs drill_group steps
+replays_are steps n0 n1 n2 n3 r0 r1 r2 r3 s0 s1 s2 s3 is0 is1 is2 is3 items are =
+    rw (are, is0, is1, is2, is3) (all_replays steps n0 n1 n2 n3 (states_are n0 n1 n2 n3 s0 s1 s2 s3))

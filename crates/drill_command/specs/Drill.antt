@@ -33,7 +33,7 @@ drill_states = unwrap_or (result_ok (first_states_from 4 0 drill_modules)) []
 abbrev pub drill_group : Group
 drill_group = record { names = map (λ line. line.name) drill_processes; first = drill_states }
 
-abbrev pub drill_run : ℕ → Progress
+unfoldable pub drill_run : ℕ → Progress
 drill_run rounds = run drill_group (drill_schedule rounds).items
 
 -- ---- the replays of its logs

@@ -13,7 +13,7 @@ use Rattle.command_run.specs.declared.refusal.Refusal.{Refusal}
 use Rattle.command_run.specs.declared.refusal.Refusal.TheVariants as refusal
 use Rattle.drill_command.specs.declared.recording.Recording.{Recording}
 use Rattle.drill_command.specs.declared.watching.Watched.{Watched}
-use Rattle.drill_command.specs.Drill.{drill_group, drill_run, drill_watch, firing_count}
+use Rattle.drill_command.specs.Drill.{drill_group, drill_run, drill_text, drill_watch, firing_count, replays_of_logs}
 
 -- ---- the recording
 
@@ -45,3 +45,10 @@ pub record IsWatched (start : List Replaying) (w : Watched) : Type 0 where
   pub walked : w.events ≡ length (events start)
   pub firings : w.firings ≡ firing_count start
   pub last : w.last ≡ value_at_position start drill_watch (length (events start))
+
+-- ---- the whole
+
+-- the text is that of the rounds, all of which were recorded
+pub record TellsDrill (rounds : ℕ) (text : List ℕ) : Type 0 where
+  pub room : (drill_run rounds).full ≡ None
+  pub told : text ≡ drill_text rounds (drill_run rounds).idle (replays_of_logs drill_group (drill_run rounds).steps)
