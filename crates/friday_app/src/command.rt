@@ -140,7 +140,7 @@ fn drill_command<'a>(images: bool, words: &[&'a str]) -> Option<Command<'a>>
     ensures rounds { IfSome result HasRounds }
 {
     match words {
-        [word] if !images => rounds_of(word).map(Command::Drill),
+        [word] if !images => Some(Command::Drill(rounds_of(word)?)),
         _ => None,
     }
 }
