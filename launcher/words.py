@@ -2,11 +2,14 @@
 import os
 
 NO_COMMAND, ABSENT = 2, 4
+MOST_ROUNDS = 100000
 
 
 def is_command(words):
     """Whether they are a command, by "The command line" of docs/formats.md."""
     verb, rest = words[0], list(words[1:])
+    if verb == "drill":
+        return len(rest) == 1 and is_decimal(rest[0]) and 1 <= int(rest[0].lstrip("0")[:7] or "0") <= MOST_ROUNDS
     if verb not in ("record", "replay", "debug"):
         return False
     if verb != "debug" and "--images" in rest:
@@ -16,8 +19,15 @@ def is_command(words):
     return len(rest) == 1 if verb == "record" else len(rest) > 0 and len(rest) % 2 == 0
 
 
+def is_decimal(word):
+    """Whether it is digits alone, with any zeros in front."""
+    return word.isascii() and word.isdigit()
+
+
 def files_of(words):
     """The files that a command reads, in its order."""
+    if words[0] == "drill":
+        return []
     names = [word for word in words[1:] if word != "--images"]
     return names + modules_of(names[0]) if words[0] == "record" else names
 

@@ -9,7 +9,8 @@ use Rattle.command_run.specs.Run.{NoFault, Outside}
 use Rattle.record_command.specs.Laws.{RecordingsWork}
 use Rattle.replay_command.specs.Laws.{ReplaysWork}
 use Rattle.debug_command.specs.Laws.{SessionsWork}
-use Rattle.friday_app.specs.Command.{Command, Debug, Record, Replay}
+use Rattle.drill_command.specs.Drill.{drill_run, drill_work, outcome_by_room}
+use Rattle.friday_app.specs.Command.{Command, Debug, Drill, Record, Replay}
 use Rattle.friday_app.specs.Expected.{expected}
 use Rattle.friday_app.specs.Run.{CommandRun, Works}
 use Rattle.friday_app.specs.Valid.{IsValidCall}
@@ -35,6 +36,7 @@ module _ (recordings : RecordingsWork) (replays : ReplaysWork) (sessions : Sessi
   has_work (Record images schedule_name) folder left h = let w = recordings images schedule_name folder h in (w.0, ap Some w.1)
   has_work (Replay images pairs) folder left h = let w = replays images pairs folder h in (w.0, ap Some w.1)
   has_work (Debug pairs) folder left h = sessions pairs folder left h
+  has_work (Drill rounds) folder left h = (drill_work rounds (drill_run rounds), ap (λ full. Some (outcome_by_room rounds (drill_run rounds) full)) h)
 
   pub run_completes : (command : Option Command) (old new : Outside) (answer : Status) (folder : Folder) → CommandRun command old new answer → old.told ≡ Some folder → IsValidCall command folder old.hearing.left → NoFault old new
       → Works command old.told old.hearing.left answer

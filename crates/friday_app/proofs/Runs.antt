@@ -1,5 +1,5 @@
 -- The run of each command, from what its crate says of it.
-use Rattle.std.proofs.Common.{◌≡◌, ◌≢◌, ◌⊎◌, ◌∙◌, ℕ, Bool, false, true, List, Option, Some, None, option_map, Result, Ok, Err, IfErr, refl, sym, ap, subst, inl, inr}
+use Rattle.std.proofs.Common.{◌≡◌, ◌≢◌, ◌⊎◌, ◌∙◌, ℕ, Bool, false, true, List, [], Option, Some, None, option_map, Result, Ok, Err, IfErr, refl, sym, ap, subst, inl, inr}
 use Rattle.fri_outside.specs.Outside.{Folder, Counts, Rose, WhenTold}
 use Rattle.command_run.specs.declared.status.Status.{Status}
 use Rattle.command_run.specs.declared.status.Status.TheVariants as ends
@@ -15,8 +15,9 @@ use Rattle.record_command.specs.Laws.{RecordingsRest}
 use Rattle.replay_command.specs.Report.{replay_outcome}
 use Rattle.log_pairs.specs.Pairs.{Pair}
 use Rattle.debug_command.specs.Run.{DebugRun}
+use Rattle.drill_command.specs.Drill.{drill_outcome}
 use Rattle.friday_app.specs.Agreement.{KeepsMoment}
-use Rattle.friday_app.specs.Command.{Command, Debug, Record, Replay}
+use Rattle.friday_app.specs.Command.{Command, Debug, Drill, Record, Replay}
 use Rattle.friday_app.specs.Expected.{expected, written_by}
 use Rattle.friday_app.specs.Input.{KeepsInput}
 use Rattle.friday_app.specs.Run.{CommandRun}
@@ -84,6 +85,19 @@ run_replayed images pairs ended answer old new f = record {
   refused = λ is. refused_file old new (f.refused is);
 }
 
+pub run_drilled : (rounds : ℕ) (ended : Result Answer Refusal) (answer : Status) (old new : Outside)
+    → Finished (Some (drill_outcome rounds)) (λ folder. []) false ended old new answer → CommandRun (Some (Drill rounds)) old new answer
+run_drilled rounds ended answer old new f = record {
+  call = f.call;
+  usage = record { only = λ is. absurd (f.is_command is); always = λ none h. cc };
+  diverged = λ is. let never = f.diverged is in cc;
+  recorded = λ is before told after here. tt;
+  moment = λ before told. tt;
+  input = f.unheard;
+  answered = λ is quiet. quiet (f.read is);
+  refused = λ is. refused_file old new (f.refused is);
+}
+
 -- ---- a session, and no command
 
 pub run_debugged : (pairs : List Pair) (answer : Status) (old new : Outside) → DebugRun pairs old new answer → CommandRun (Some (Debug pairs)) old new answer
@@ -135,6 +149,7 @@ run_stopped rest command o answer is call = subst (λ (a : Status). CommandRun c
   untouched (Some (Record images schedule_name)) before told = subst (λ (after : Option Folder). LeavesMoment images schedule_name before after) (sym told) (rest images schedule_name before)
   untouched (Some (Replay images pairs)) before told = tt
   untouched (Some (Debug pairs)) before told = tt
+  untouched (Some (Drill rounds)) before told = tt
 
   not_done : ends.NoMemory ≡ ends.Done → ⊥
   not_done e = cc
@@ -144,3 +159,4 @@ run_stopped rest command o answer is call = subst (λ (a : Status). CommandRun c
   unread (Some (Record images schedule_name)) = refl
   unread (Some (Replay images pairs)) = refl
   unread (Some (Debug pairs)) = inl (refl, not_done)
+  unread (Some (Drill rounds)) = refl

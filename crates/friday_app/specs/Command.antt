@@ -2,11 +2,13 @@
 use Rattle.std.specs.Prelude.{ℕ, List, [], ◌∷◌, ◌==◌, ◌&&◌, Bool, false, not, nat_le, length, filter, Option, Some, None, option_map, codes, bytes_eq, if◌then◌else◌}
 use Rattle.std.specs.List.{list_all}
 use Rattle.log_pairs.specs.Pairs.{Pair}
+use Rattle.drill_command.specs.Rounds.{rounds_of}
 
 pub data Command : Type 0 where
   Record : (images : Bool) → (schedule_name : List ℕ) → Command
   Replay : (images : Bool) → (pairs : List Pair) → Command
   Debug : (pairs : List Pair) → Command
+  Drill : (rounds : ℕ) → Command
 
 -- a word that may name a file: it is not empty, and does not begin with `-`
 abbrev pub is_file_word : List ℕ → Bool
@@ -42,12 +44,17 @@ abbrev pub debugging : Bool → List (List ℕ) → Option Command
 debugging images [] = None
 debugging images names = if images then None else option_map Debug (pairs_of names)
 
--- the command of this verb, of these names of files
+abbrev pub drilling : Bool → List (List ℕ) → Option Command
+drilling images (word ∷ []) = if images then None else option_map Drill (rounds_of word)
+drilling images words = None
+
+-- the command of this verb, of these words beside the option
 abbrev pub command_by : List ℕ → Bool → List (List ℕ) → Option Command
 command_by verb images names =
     if bytes_eq verb (codes "record") then recording images names
     else if bytes_eq verb (codes "replay") then replaying images names
     else if bytes_eq verb (codes "debug") then debugging images names
+    else if bytes_eq verb (codes "drill") then drilling images names
     else None
 
 -- the command that the words name: a verb, and behind it names of files, and once at most the option for images
@@ -62,4 +69,5 @@ abbrev pub IsReplayCommand : Option Command → Type 0
 IsReplayCommand (Some (Replay images pairs)) = Unit {0}
 IsReplayCommand (Some (Record images schedule_name)) = ⊥
 IsReplayCommand (Some (Debug pairs)) = ⊥
+IsReplayCommand (Some (Drill rounds)) = ⊥
 IsReplayCommand None = ⊥

@@ -1,11 +1,20 @@
 -- Which command the words of the code stand for.
-use Rattle.std.specs.Prelude.{map}
+use Rattle.std.specs.Prelude.{◌≤◌, map}
 use Rattle.log_pairs.specs.Seen.{pair_of}
+use Rattle.schedule_text.specs.Limits.{most_rounds}
 use Rattle.friday_app.specs.declared.command.Command.{Command as Words}
 use Rattle.friday_app.specs.declared.command.Command.TheVariants as words
-use Rattle.friday_app.specs.Command.{Command, Debug, Record, Replay}
+use Rattle.friday_app.specs.Command.{Command, Debug, Drill, Record, Replay}
 
 abbrev pub meaning : Words → Command
 meaning (words.Record images schedule_name) = Record images schedule_name.now
 meaning (words.Replay images pairs) = Replay images (map pair_of pairs.items)
 meaning (words.Debug pairs) = Debug (map pair_of pairs.items)
+meaning (words.Drill rounds) = Drill rounds
+
+-- a drill of so many rounds as there may be
+abbrev pub HasRounds : Words → Type 0
+HasRounds (words.Record images schedule_name) = Unit {0}
+HasRounds (words.Replay images pairs) = Unit {0}
+HasRounds (words.Debug pairs) = Unit {0}
+HasRounds (words.Drill rounds) = (1 ≤ rounds) × (rounds ≤ most_rounds)

@@ -1,13 +1,15 @@
 -- Words, files and an input at which a command does its work.
-use Rattle.std.specs.Prelude.{ℕ, List, Option, Some, None}
+use Rattle.std.specs.Prelude.{◌≡◌, ℕ, List, Option, Some, None}
 use Rattle.fri_outside.specs.Outside.{Folder}
 use Rattle.log_pairs.specs.Valid.{IsGroup}
 use Rattle.record_command.specs.Valid.{RecordsWhole}
 use Rattle.debug_command.specs.Valid.{IsSession}
-use Rattle.friday_app.specs.Command.{Command, Debug, Record, Replay}
+use Rattle.drill_command.specs.Drill.{drill_run}
+use Rattle.friday_app.specs.Command.{Command, Debug, Drill, Record, Replay}
 
 abbrev pub IsValidCall : Option Command → Folder → Option (List ℕ) → Type 0
 IsValidCall None folder left = ⊥
 IsValidCall (Some (Record images schedule_name)) folder left = RecordsWhole folder schedule_name
 IsValidCall (Some (Replay images pairs)) folder left = IsGroup folder pairs
 IsValidCall (Some (Debug pairs)) folder left = IsSession folder pairs left
+IsValidCall (Some (Drill rounds)) folder left = (drill_run rounds).full ≡ None

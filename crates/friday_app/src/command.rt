@@ -1,19 +1,21 @@
 // Which command the words name.
-ghost use Rattle.std.specs.Prelude.{◌≡◌, length, map, option_map, string_bytes, IfOk};
+ghost use Rattle.std.specs.Prelude.{◌≡◌, length, map, option_map, string_bytes, IfOk, IfSome};
 ghost use Rattle.std.specs.List.{list_all};
-ghost use Rattle.friday_app.specs.Command.{command_by, command_of, debugging, is_file_word, is_images, names_in, options_in, pairs_of, recording, replaying};
-ghost use Rattle.friday_app.specs.Seen.{meaning};
+ghost use Rattle.friday_app.specs.Command.{command_by, command_of, debugging, drilling, is_file_word, is_images, names_in, options_in, pairs_of, recording, replaying};
+ghost use Rattle.friday_app.specs.Seen.{HasRounds, meaning};
 ghost use Rattle.log_pairs.specs.Seen.{pair_of};
 
+use drill_command::rounds_of;
 use log_pairs::Pair;
 use std::alloc::{AllocError, Global};
 
-/// A command, with the names that its words give; `true` where images are asked for.
+/// A command, with what its words give: names, whether images are asked for, and how many rounds.
 #[derive(Drop)]
 pub enum Command<'a> {
     Record(bool, &'a str),
     Replay(bool, Vec<Pair<'a>>),
     Debug(Vec<Pair<'a>>),
+    Drill(u32),
 }
 
 // Whether the word may name a file.
@@ -33,9 +35,10 @@ fn is_images(word: &str) -> bool
     word == "--images"
 }
 
-/// The command that the words name: a verb, and behind it names of files, and once at most `--images`.
+/// The command that the words name: a verb, and behind it names of files or a number, and once at most `--images`.
 pub fn parse(alloc: Global, words: &[String]) -> Result<Option<Command<'_>>, AllocError>
-    ensures { IfOk result (λ command. option_map meaning command ≡ command_of (map string_bytes words.now)) }
+    ensures names { IfOk result (λ command. option_map meaning command ≡ command_of (map string_bytes words.now)) }
+    ensures rounds { IfOk result (λ command. IfSome command HasRounds) }
 {
     let [verb, words @ ..] = words else {
         return Ok(None);
@@ -76,19 +79,21 @@ fn names_in(alloc: Global, words: &[String]) -> Result<Vec<&str>, AllocError>
     Ok(names)
 }
 
-// The command of this verb, of these names of files.
+// The command of this verb, of these words beside the option.
 fn command_by<'a>(
     alloc: Global,
     verb: &str,
     images: bool,
     names: &[&'a str],
 ) -> Result<Option<Command<'a>>, AllocError>
-    ensures { IfOk result (λ command. option_map meaning command ≡ command_by verb.now images (map (λ name. name.now) names.now)) }
+    ensures names { IfOk result (λ command. option_map meaning command ≡ command_by verb.now images (map (λ name. name.now) names.now)) }
+    ensures rounds { IfOk result (λ command. IfSome command HasRounds) }
 {
     match verb {
         "record" => Ok(record_command(images, names)),
         "replay" => replay_command(alloc, images, names),
         "debug" => debug_command(alloc, images, names),
+        "drill" => Ok(drill_command(images, names)),
         _ => Ok(None),
     }
 }
@@ -128,6 +133,16 @@ fn debug_command<'a>(
     }
     let pairs = pairs_of(alloc, names)?;
     Ok(pairs.map(Command::Debug))
+}
+
+fn drill_command<'a>(images: bool, words: &[&'a str]) -> Option<Command<'a>>
+    ensures names { option_map meaning result ≡ drilling images (map (λ word. word.now) words.now) }
+    ensures rounds { IfSome result HasRounds }
+{
+    match words {
+        [word] if !images => Some(Command::Drill(rounds_of(word)?)),
+        _ => None,
+    }
 }
 
 // A module and a log, two by two. None comes exactly where a name is left over.

@@ -9,6 +9,7 @@ ghost use Rattle.friday_app.specs.Valid.{IsValidCall};
 use crate::command::{Command, parse};
 use command_run::{Status, finish, give_up, refuse_words};
 use debug_command::{debug, sessions_work};
+use drill_command::drill;
 use fri_outside::{Files, Terminal};
 use record_command::{record, recordings_rest, recordings_work};
 use replay_command::{replay, replays_work};
@@ -33,6 +34,10 @@ fn run<F: Files, T: Terminal>(alloc: Global, words: &[String], files: &mut F, io
             finish(alloc, ended, io)
         }
         Ok(Some(Command::Debug(pairs))) => debug(alloc, &pairs, files, io),
+        Ok(Some(Command::Drill(rounds))) => {
+            let ended = drill(alloc, rounds);
+            finish(alloc, ended, io)
+        }
         Err(AllocError) => give_up(),
     }
 }

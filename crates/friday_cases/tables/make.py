@@ -6,8 +6,8 @@ What the program is to print is put together here from the rules of docs/formats
 
 import os
 
-import commands, crowds, debug_inputs, debug_pauses, debug_points, debug_programs, debug_returns, debugger, groups, guests, hostile
-import images, large_memories, large_modules, limits, long_bytes, long_schedules, long_sessions, many_datagrams
+import commands, crowds, debug_inputs, debug_pauses, debug_points, debug_programs, debug_returns, debugger, drills, groups
+import guests, hostile, images, large_memories, large_modules, limits, long_bytes, long_schedules, long_sessions, many_datagrams
 import many_events, pair_refusals, pairs, point_refusals, program_limits, program_refusals, program_values
 import program_walks, refusals, replays, schedules, shell_refusals, shell_values, stopped, threads
 from script import Script
@@ -16,7 +16,7 @@ PARTS = (
     *(commands, schedules, groups, stopped, pairs, pair_refusals, images, hostile, replays, refusals, guests, threads, limits),
     *(debugger, debug_points, debug_returns, shell_values, shell_refusals, point_refusals, debug_inputs),
     *(debug_programs, program_walks, program_values, program_refusals, program_limits, debug_pauses),
-    *(long_schedules, long_sessions, long_bytes, many_datagrams, crowds, large_modules, large_memories, many_events),
+    *(long_schedules, long_sessions, long_bytes, many_datagrams, crowds, large_modules, large_memories, many_events, drills),
 )
 HERE = os.path.dirname(os.path.abspath(__file__))
 

@@ -1,3 +1,4 @@
+pub mod DrillLaws
 pub mod FieldLaws
 pub mod ItemLaws
 pub mod LineLaws

@@ -1,3 +1,4 @@
+pub mod Drill
 pub mod Fields
 pub mod Grammar
 pub mod Laws

@@ -20,3 +20,7 @@ most_signal = 31
 -- How many run items a schedule may have, where each counts as often as it tries. So none tries more often.
 abbrev pub most_runs : ℕ
 most_runs = 1000000
+
+-- how many rounds the made group may go
+abbrev pub most_rounds : ℕ
+most_rounds = 100000

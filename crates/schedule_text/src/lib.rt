@@ -14,6 +14,8 @@
 //! `MOST_DATAGRAM` behind `deliver`, S is 1 to `MOST_SIGNAL`, and V is a signed number of 64 bits. Numbers
 //! are written in decimal digits, with any zeros in front; a negative V has one minus. HEX is two hexadecimal digits of either
 //! case for each byte, or `-` for no bytes. `ProcessLine` says what NAME and MODULE may be.
+//!
+//! One schedule is made and not read: that of a group of four processes that hand a number round (`drill`).
 #![tactic(auto)]
 
 mod draft;
@@ -24,6 +26,7 @@ mod laws;
 mod limits;
 mod process;
 mod read;
+mod ring;
 mod schedule;
 mod word;
 mod write;
@@ -31,8 +34,9 @@ mod write;
 pub use error::ScheduleError;
 pub use item::Item;
 pub use laws::{exact_outcome, one_schedule, spelled_or_bad, written_is_read};
-pub use limits::{MOST_DATAGRAM, MOST_PROCESSES, MOST_RUNS, MOST_SIGNAL, MOST_THREAD};
+pub use limits::{MOST_DATAGRAM, MOST_PROCESSES, MOST_ROUNDS, MOST_RUNS, MOST_SIGNAL, MOST_THREAD};
 pub use process::ProcessLine;
 pub use read::read_schedule;
+pub use ring::drill;
 pub use schedule::Schedule;
 pub use write::write_schedule;

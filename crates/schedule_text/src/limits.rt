@@ -15,3 +15,6 @@ pub const MOST_SIGNAL: u8 = 31;
 /// How many run items a schedule may have, where each counts as often as it tries. So none tries more
 /// often.
 pub const MOST_RUNS: u64 = 1_000_000;
+
+/// How many rounds the made group may go.
+pub const MOST_ROUNDS: u32 = 100_000;

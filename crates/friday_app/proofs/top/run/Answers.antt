@@ -6,7 +6,7 @@ use Rattle.record_command.specs.Expected.{record_outcome}
 use Rattle.replay_command.specs.Report.{replay_outcome}
 use Rattle.friday_app.specs.Command.{Debug, Replay}
 use Rattle.friday_app.specs.Seen.{meaning}
-use Rattle.friday_app.proofs.Runs.{may_diverge, performed, run_debugged, run_none, run_recorded, run_replayed, run_same, run_stopped}
+use Rattle.friday_app.proofs.Runs.{may_diverge, performed, run_debugged, run_drilled, run_none, run_recorded, run_replayed, run_same, run_stopped}
 use Rattle.friday_app.proofs.top.run.Goals as goal
 
 pub returns-in-Ok-None : goal.returns-in-Ok-None
@@ -16,7 +16,7 @@ returns-in-Ok-None g c =
     let counts = g.F.Files.counts c.args.files.now in
     let old : Outside = outside told counts (g.T.Sink.hearing c.args.io.now) (g.T.Sink.taken c.args.io.now) (g.T.Sink.faults c.args.io.now) in
     let new : Outside = outside told counts (g.T.Sink.hearing c.refuse_words.new.out) (g.T.Sink.taken c.refuse_words.new.out) (g.T.Sink.faults c.refuse_words.new.out) in
-    run_same (sym (ap (option_map meaning) c.in-Ok-None.field-0-is) ∙ c.in-Ok-None.ensures)
+    run_same (sym (ap (option_map meaning) c.in-Ok-None.field-0-is) ∙ c.in-Ok-None.ensures.names)
     (run_none c.refuse_words.result old new (e.ends told counts) e.status e.read_fault e.heard)
 
 pub returns-in-Ok-Some-Record : goal.returns-in-Ok-Some-Record
@@ -25,7 +25,7 @@ returns-in-Ok-Some-Record g c =
     let arm = c.in-Ok-Some-Record in
     let old : Outside = outside (g.F.Files.told c.args.files.now) (g.F.Files.counts c.args.files.now) (g.T.Sink.hearing c.args.io.now) (g.T.Sink.taken c.args.io.now) (g.T.Sink.faults c.args.io.now) in
     let new : Outside = outside (g.F.Files.told c.record-ended.new.files) (g.F.Files.counts c.record-ended.new.files) (g.T.Sink.hearing c.finish.new.out) (g.T.Sink.taken c.finish.new.out) (g.T.Sink.faults c.finish.new.out) in
-    run_same (sym (ap (option_map meaning) (arm.field-0-is ∙ ap Some arm.field-0-0-is)) ∙ arm.ensures)
+    run_same (sym (ap (option_map meaning) (arm.field-0-is ∙ ap Some arm.field-0-0-is)) ∙ arm.ensures.names)
     (run_recorded arm.images arm.schedule_file.now c.record-ended.result c.finish.result old new
     (c.finish.ensures _ _ _ _ _ _ _ (performed (record_outcome arm.images arm.schedule_file.now) false old.told new.told old.counts new.counts c.record-ended.result e.tells e.makes e.keeps e.done e.counts e.cause))
     e.recorded e.moment)
@@ -37,7 +37,7 @@ returns-in-Ok-Some-Replay g c =
     let pairs = map pair_of c.deref.result.now in
     let old : Outside = outside (g.F.Files.told c.args.files.now) (g.F.Files.counts c.args.files.now) (g.T.Sink.hearing c.args.io.now) (g.T.Sink.taken c.args.io.now) (g.T.Sink.faults c.args.io.now) in
     let new : Outside = outside (g.F.Files.told c.replay-ended.new.files) (g.F.Files.counts c.replay-ended.new.files) (g.T.Sink.hearing c.finish-in-Ok-Some-Replay.new.out) (g.T.Sink.taken c.finish-in-Ok-Some-Replay.new.out) (g.T.Sink.faults c.finish-in-Ok-Some-Replay.new.out) in
-    run_same (ap (λ (ps : List Pair). Some (Replay arm.images (map pair_of ps))) c.deref.ensures.value ∙ sym (ap (option_map meaning) (arm.field-0-is ∙ ap Some arm.field-0-0-is)) ∙ arm.ensures)
+    run_same (ap (λ (ps : List Pair). Some (Replay arm.images (map pair_of ps))) c.deref.ensures.value ∙ sym (ap (option_map meaning) (arm.field-0-is ∙ ap Some arm.field-0-0-is)) ∙ arm.ensures.names)
     (run_replayed arm.images pairs c.replay-ended.result c.finish-in-Ok-Some-Replay.result old new
     (c.finish-in-Ok-Some-Replay.ensures _ _ _ _ _ _ _ (performed (replay_outcome arm.images pairs) true old.told new.told old.counts new.counts c.replay-ended.result e.tells e.makes e.keeps (may_diverge c.replay-ended.result) e.counts e.cause)))
 
@@ -45,8 +45,17 @@ pub returns-in-Ok-Some-Debug : goal.returns-in-Ok-Some-Debug
 returns-in-Ok-Some-Debug g c =
     let arm = c.in-Ok-Some-Debug in
     let deref = c.deref-in-Ok-Some-Debug in
-    run_same (ap (λ (ps : List Pair). Some (Debug (map pair_of ps))) deref.ensures.value ∙ sym (ap (option_map meaning) (arm.field-0-is ∙ ap Some arm.field-0-0-is)) ∙ arm.ensures)
+    run_same (ap (λ (ps : List Pair). Some (Debug (map pair_of ps))) deref.ensures.value ∙ sym (ap (option_map meaning) (arm.field-0-is ∙ ap Some arm.field-0-0-is)) ∙ arm.ensures.names)
     (run_debugged (map pair_of deref.result.now) c.debug.result _ _ c.debug.ensures)
+
+pub returns-in-Ok-Some-Drill : goal.returns-in-Ok-Some-Drill
+returns-in-Ok-Some-Drill g c =
+    let arm = c.in-Ok-Some-Drill in
+    let finish = c.finish-in-Ok-Some-Drill in
+    let told = g.F.Files.told c.args.files.now in
+    let counts = g.F.Files.counts c.args.files.now in
+    run_same (sym (ap (option_map meaning) (arm.field-0-is ∙ ap Some arm.field-0-0-is)) ∙ arm.ensures.names)
+    (run_drilled arm.rounds c.drill-ended.result finish.result _ _ (finish.ensures _ _ _ _ _ _ _ (c.drill-ended.ensures told counts)))
 
 pub returns-in-Err : goal.returns-in-Err
 returns-in-Err g c =

@@ -1,0 +1,4 @@
+pub mod Ring
+pub mod Rounds
+pub mod Drill
+pub mod Seen

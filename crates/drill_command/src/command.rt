@@ -1,0 +1,45 @@
+// `drill N`: records, replays and watches a group that hands a number round.
+ghost use Rattle.std.specs.Prelude.{◌≤◌, [], false, MatchResult, Option, Some};
+ghost use Rattle.fri_outside.specs.Outside.{Counts, Folder};
+ghost use Rattle.schedule_text.specs.Limits.{most_rounds};
+ghost use Rattle.command_run.specs.Run.{Performed};
+ghost use Rattle.drill_command.specs.Drill.{drill_outcome};
+ghost use Rattle.drill_command.specs.Seen.{StopsDrill, TellsDrill};
+
+use crate::recording::record;
+use crate::replays::begin_all;
+use crate::ring::modules;
+use crate::text::print;
+use crate::watching::watch;
+use command_run::{Answer, Refusal};
+use fri_text::Text;
+use group_state::Group;
+use std::alloc::Global;
+
+// Records, replays and walks, and prints what came of it.
+fn perform(alloc: Global, rounds: u32) -> Result<Text, Refusal>
+    requires some { 1 ≤ rounds }
+    requires few { rounds ≤ most_rounds }
+    ensures { MatchResult result (TellsDrill rounds) (StopsDrill rounds) }
+{
+    let modules = modules(alloc)?;
+    let recording = record(alloc, rounds, &modules)?;
+    let replays = begin_all(alloc, &modules[0], &recording.files)?;
+    let watched = watch(alloc, Group::begin(alloc, replays)?)?;
+    Ok(print(alloc, rounds, recording.idle, &watched)?)
+}
+
+#[tactic(none)]
+/// Records so many rounds into files in memory, replays the logs, and walks all positions with a watchpoint. No other
+/// file is read or made.
+pub fn drill(alloc: Global, rounds: u32) -> Result<Answer, Refusal>
+    requires some { 1 ≤ rounds }
+    requires few { rounds ≤ most_rounds }
+    ensures { (told : Option Folder) (counts : Counts)
+        → Performed (Some (drill_outcome rounds)) (λ folder. []) false told told counts counts result }
+{
+    match perform(alloc, rounds) {
+        Ok(text) => Ok(Answer::Done(text)),
+        Err(refusal) => Err(refusal),
+    }
+}

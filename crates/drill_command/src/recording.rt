@@ -1,0 +1,51 @@
+// The recording of the group, into files in memory.
+ghost use Rattle.std.specs.Prelude.{◌≡◌, ◌≤◌, MatchResult, map};
+ghost use Rattle.wasm_types.specs.Modules.{module_of};
+ghost use Rattle.schedule_text.specs.Limits.{most_rounds};
+ghost use Rattle.drill_command.specs.Drill.{drill_modules};
+ghost use Rattle.drill_command.specs.Seen.{IsRecorded, StopsDrill};
+
+use command_run::{Reason, Refusal};
+use fri_outside::{MemFiles, keeps_files};
+use group_record::{RecordError, agreement, beginning, run_record};
+use std::alloc::Global;
+use wasm_types::ValidModule;
+use wasm_validate::exact_fault;
+
+/// The logs of a recording, and how many of its tries and items were idle.
+#[derive(Drop)]
+pub(crate) struct Recording {
+    pub(crate) files: MemFiles,
+    pub(crate) idle: u64,
+}
+
+/// Records so many rounds. A log without room for an event refuses the item of that event.
+pub(crate) fn record(
+    alloc: Global,
+    rounds: u32,
+    modules: &[ValidModule],
+) -> Result<Recording, Refusal>
+    requires some { 1 ≤ rounds }
+    requires few { rounds ≤ most_rounds }
+    requires modules { map module_of modules.now ≡ drill_modules }
+    ensures { MatchResult result (IsRecorded rounds) (StopsDrill rounds) }
+{
+    keeps_files();
+    exact_fault();
+    beginning();
+    agreement();
+    let schedule = schedule_text::drill(alloc, rounds)?;
+    let mut files = MemFiles::new(alloc);
+    match run_record(alloc, &schedule, modules, &mut files, false) {
+        Ok(summary) => Ok(Recording {
+            files,
+            idle: summary.idle,
+        }),
+        Err(RecordError::LogFull(item)) => {
+            Err(Refusal::refuse(alloc, "drill", Reason::LogFull(item)))
+        }
+        Err(RecordError::BadSegment(_)) => unreachable!(),
+        // No call on these files is to fail, so a write fails for want of memory alone.
+        Err(RecordError::WriteFault | RecordError::NoMemory) => Err(Refusal::NoMemory),
+    }
+}

@@ -1,0 +1,70 @@
+// The replays of the logs that were recorded.
+ghost use Rattle.std.specs.Prelude.{◌≡◌, ◌<◌, ℕ, List, IfOk, Some};
+ghost use Rattle.wasm_types.specs.Modules.{module_of};
+ghost use Rattle.guest_process.specs.Start.{start};
+ghost use Rattle.guest_process.specs.State.{State};
+ghost use Rattle.group_record.specs.Logs.{log_name};
+ghost use Rattle.group_record.specs.Run.{Step, name_of};
+ghost use Rattle.group_state.specs.Place.{AreParts};
+ghost use Rattle.drill_command.specs.Drill.{drill_group, replay_of_log, replays_of_logs};
+ghost use Rattle.drill_command.specs.Ring.{ring};
+ghost use Rattle.drill_command.specs.Seen.{HoldLogs};
+
+use call_log::{LogView, exact_logs};
+use fri_outside::MemFiles;
+use guest_process::{Process, counting};
+use proc_replay::Replayer;
+use std::alloc::{AllocError, Global};
+use wasm_step::StartError;
+use wasm_types::ValidModule;
+
+const COUNT: u32 = 4;
+
+// The replay of process p, whose log has this name.
+fn begin<'m, 'a>(
+    alloc: Global,
+    module: &'m ValidModule,
+    files: &'a MemFiles,
+    p: u32,
+    log: &str,
+) -> Result<Replayer<'m, 'a>, AllocError>
+    requires module { module_of «module».now ≡ ring }
+    requires process { p < 4 }
+    requires log { log.now ≡ log_name (name_of drill_group p) }
+    requires held { (steps : List Step) × HoldLogs steps files.now }
+    ensures { IfOk result (λ r. (S : State) × (start ring p 4 ≡ Some S)
+        × ((steps : List Step) → HoldLogs steps files.now → r ≡ replay_of_log drill_group steps p S)) }
+{
+    exact_logs();
+    counting();
+    let Some(bytes) = files.bytes(log) else {
+        unreachable!();
+    };
+    let Ok(log) = LogView::begin(bytes) else {
+        unreachable!();
+    };
+    match Process::start(alloc, module, p, COUNT) {
+        Ok(process) => Ok(Replayer::begin(process, log)),
+        Err(StartError::BadSegment) => unreachable!(),
+        Err(StartError::NoMemory) => Err(AllocError),
+    }
+}
+
+/// The replays of the four logs, whose processes are of one module.
+pub(crate) fn begin_all<'m, 'a>(
+    alloc: Global,
+    module: &'m ValidModule,
+    files: &'a MemFiles,
+) -> Result<Vec<Replayer<'m, 'a>>, AllocError>
+    requires module { module_of «module».now ≡ ring }
+    requires held { (steps : List Step) × HoldLogs steps files.now }
+    ensures parts { IfOk result (λ parts. AreParts parts.items) }
+    ensures replays { IfOk result (λ parts. (steps : List Step) → HoldLogs steps files.now → parts.items ≡ replays_of_logs drill_group steps) }
+{
+    counting();
+    let n0 = begin(alloc, module, files, 0, "n0.log")?;
+    let n1 = begin(alloc, module, files, 1, "n1.log")?;
+    let n2 = begin(alloc, module, files, 2, "n2.log")?;
+    let n3 = begin(alloc, module, files, 3, "n3.log")?;
+    Ok(vec![in alloc; n0, n1, n2, n3]?)
+}
