@@ -60,7 +60,7 @@ drop-past (x ∷ xs) ys a b e = let s : a ≡ suc (length xs + b) = omega arith 
 pub part-left : (xs ys : List ℕ) (r n : ℕ) → r + n ≤ length xs → take n (drop r (xs ++ ys)) ≡ take n (drop r xs)
 part-left xs ys r n h = grind (arith, common_steps)
 
-drop-add : (xs : List ℕ) (a n : ℕ) → drop n (drop a xs) ≡ drop (a + n) xs
+pub drop-add : (xs : List ℕ) (a n : ℕ) → drop n (drop a xs) ≡ drop (a + n) xs
 drop-add xs a n = grind (arith, common_steps)
 
 take-front : (xs ys : List ℕ) (n : ℕ) → n ≡ length xs → take n (xs ++ ys) ≡ xs

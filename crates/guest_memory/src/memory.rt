@@ -75,6 +75,14 @@ impl Memory {
         self.number = number;
     }
 
+    /// The number of the event that writes now.
+    #[inline]
+    pub fn number(&self) -> u64
+        ensures { result ≡ self.now.number }
+    {
+        self.number
+    }
+
     /// The number of the last event that wrote to a byte of the watch page. It is 0 where none did, and
     /// where there is no such page.
     pub fn stamp(&self, page: u32) -> u64

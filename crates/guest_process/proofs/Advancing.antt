@@ -15,8 +15,7 @@ use Rattle.wasm_step.specs.Reduce.{Halt, Calls, Ends, Traps, Sticks}
 use Rattle.wasm_step.specs.Strand.{Strand, answered}
 use Rattle.wasm_step.specs.Burst.{burst}
 use Rattle.wasm_step.specs.Suits.{Suits}
-use Rattle.guest_memory.specs.Laws.{NoLaterWhenWritten}
-use Rattle.wasm_step.specs.Laws.{KeepsModule, KeepsStamps}
+use Rattle.wasm_step.specs.Laws.{KeepsModule}
 use Rattle.wasm_step.specs.Thread.{Thread}
 use Rattle.wasm_step.specs.declared.call.CallSite.{CallSite}
 use Rattle.guest_process.specs.declared.end.End.{End}
@@ -37,6 +36,7 @@ use Rattle.guest_process.specs.Seen.{IsOfModule, state_of}
 use Rattle.guest_process.specs.Sound.{IsSound, IsStanding}
 use Rattle.guest_process.specs.Start.{beginning}
 use Rattle.guest_process.specs.State.{State, awaits_event, is_running, pending_kind as kind_of, thread_at, with_thread}
+use Rattle.guest_process.proofs.Marking.{MarkLaws}
 use Rattle.guest_process.proofs.KeptFits.{state_kept}
 use Rattle.guest_process.proofs.KeptSound.{next_module, sound_kept}
 use Rattle.guest_process.proofs.Failing.{unless_none}
@@ -186,10 +186,10 @@ goes S e w s legal at h =
 
 -- ---- the parts after a legal entry's event are those of a process
 
-pub process_kept : KeepsModule → KeepsStamps → NoLaterWhenWritten → (p q : Parts) (e : Entry) → IsOfModule p → reason (state_of p) e ≡ None → state_of q ≡ next (state_of p) e → q.«module» ≡ p.«module» → Suits q.store → IsOfModule q
-process_kept keeps stamps written p q e is h state same_module suits = record {
+pub process_kept : KeepsModule → MarkLaws → (p q : Parts) (e : Entry) → IsOfModule p → reason (state_of p) e ≡ None → state_of q ≡ next (state_of p) e → q.«module» ≡ p.«module» → Suits q.store → IsOfModule q
+process_kept keeps marks p q e is h state same_module suits = record {
   suits = suits;
   same_module = ap (λ r. module_of r.now) same_module ∙ is.same_module ∙ sym (ap (λ S. S.store.«module») state ∙ next_module keeps (state_of p) e is.sound);
-  fits = subst StateFits (sym state) (state_kept keeps stamps written (state_of p) e is.fits h);
+  fits = subst StateFits (sym state) (state_kept keeps marks (state_of p) e is.fits h);
   sound = subst IsSound (sym state) (sound_kept keeps (state_of p) e is.sound h);
 }

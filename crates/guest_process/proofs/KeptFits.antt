@@ -14,8 +14,7 @@ use Rattle.lib_calls.specs.Kinds.{argument_count}
 use Rattle.lib_calls.specs.declared.entry.Entry.{Entry}
 use Rattle.wasm_types.specs.Library.{kind_at}
 use Rattle.wasm_types.specs.Modules.{Module}
-use Rattle.guest_memory.specs.Laws.{NoLaterWhenWritten}
-use Rattle.wasm_step.specs.Laws.{KeepsModule, KeepsStamps}
+use Rattle.wasm_step.specs.Laws.{KeepsModule}
 use Rattle.wasm_step.specs.Thread.{Thread}
 use Rattle.wasm_step.specs.declared.call.CallSite.{CallSite}
 use Rattle.guest_process.specs.declared.waiting.Waiting.{Waiting}
@@ -30,7 +29,7 @@ use Rattle.guest_process.specs.State.{State, is_running, thread_at}
 use Rattle.guest_process.proofs.EachKind.{answer_clock}
 use Rattle.guest_process.proofs.Changes.{Affects, event_affects}
 use Rattle.guest_process.proofs.Failing.{all_hold, unless_none}
-use Rattle.guest_process.proofs.Stamped.{next_stamps}
+use Rattle.guest_process.proofs.Marking.{MarkLaws, next_within}
 
 argument_fits : (b : Bool) (bits : ℕ) → IsNumberIf b (cond b (bits % 2 ^ 64) 0)
 argument_fits true bits = omega arith
@@ -79,11 +78,12 @@ next_clock S e w h =
       clock = eqb-true e.clock (next_clock_of S.clock e.tag) holds.clock;
     }
 
-fits_at : KeepsModule → KeepsStamps → NoLaterWhenWritten → (S : State) (e : Entry) → StateFits S → (o : Option Waiting) → reason_at S e o ≡ None → StateFits (next_at S e o)
-fits_at keeps stamps written S e s None h = cc
-fits_at keeps stamps written S e s (Some w) h =
+fits_at : KeepsModule → MarkLaws → (S : State) (e : Entry) → StateFits S → (o : Option Waiting) → reason_at S e o ≡ None → StateFits (next_at S e o)
+fits_at keeps marks S e s None h = cc
+fits_at keeps marks S e s (Some w) h =
     let told = next_clock S e w h in
     let kept = event_keeps keeps S e s w in
+    let within = next_within marks S e w s kept.events in
     record {
       clock = omega (arith, kept.clock, kept.events, told.clock, told.tag, s.clock);
       room = kept.room s.room;
@@ -91,11 +91,14 @@ fits_at keeps stamps written S e s (Some w) h =
       who = omega (arith, kept.who, kept.count, s.who);
       threads = kept.threads;
       number = refl;
-      stamps = next_stamps stamps written S e w s.number s.stamps kept.events;
+      stamps = within.stamps;
+      global_stamps = within.global_stamps;
+      size_stamp = within.size_stamp;
+      even = within.even;
     }
 
-pub state_kept : KeepsModule → KeepsStamps → NoLaterWhenWritten → IsKept
-state_kept keeps stamps written S e s h = fits_at keeps stamps written S e s (thread_at S e.thread) (unless_none (is_running S) _ _ h).1
+pub state_kept : KeepsModule → MarkLaws → IsKept
+state_kept keeps marks S e s h = fits_at keeps marks S e s (thread_at S e.thread) (unless_none (is_running S) _ _ h).1
 
 rises_at : KeepsModule → (S : State) (e : Entry) → StateFits S → (o : Option Waiting) → reason_at S e o ≡ None → RisesTo S e (next_at S e o)
 rises_at keeps S e s None h = cc

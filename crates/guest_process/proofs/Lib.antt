@@ -14,7 +14,7 @@ pub mod Answering
 pub mod Changes
 pub mod EventCounts
 pub mod Judging
-pub mod Stamped
+pub mod Marking
 pub mod KeptFits
 pub mod KeptSound
 pub mod CrewLaws

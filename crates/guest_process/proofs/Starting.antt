@@ -22,7 +22,7 @@ use Rattle.guest_process.specs.declared.parts.Parts.{Parts}
 use Rattle.guest_process.specs.OneEvent.{IsStarted}
 use Rattle.guest_process.proofs.Failing.{kept}
 use Rattle.guest_process.proofs.KeptFits.{begin_fits}
-use Rattle.guest_process.proofs.Stamped.{first_stamps, numbered_suits}
+use Rattle.guest_process.proofs.Marking.{first_marks, numbered_suits}
 
 store_module : (m : Module) (g : Store) → first_store m ≡ Some g → g.«module» ≡ m
 store_module m g h =
@@ -50,8 +50,9 @@ no_handler signal func h = by_test (signal == 0) h
 begun_holds : NoLaterWhenWritten → FreshIsUnstamped → (m : Module) (who count : ℕ) (g : Store) (thread : Thread) → who < count → count ≤ 16 → first_store m ≡ Some g → IsValid m → StateFits (begun m who count g thread) × IsSound (begun m who count g thread)
 begun_holds writes unstamped m who count g thread low few store valid =
     let same : g.«module» ≡ m = store_module m g store in
+    let marks = first_marks writes unstamped m g store in
     let begin_stands : IsStanding g.«module» (beginning m thread) = record { same_module = sym same; stands = refl } in (
-      record { clock = omega arith; room = omega arith; count = few; who = low; threads = (begin_fits m thread, tt); number = refl; stamps = first_stamps writes unstamped m g store },
+      record { clock = omega arith; room = omega arith; count = few; who = low; threads = (begin_fits m thread, tt); number = refl; stamps = marks.stamps; global_stamps = marks.global_stamps; size_stamp = marks.size_stamp; even = marks.even },
       record {
         imports = subst (λ m. All (IsOfLibrary m.types) m.imports) (sym same) valid.imports;
         threads = (begin_stands, tt);

@@ -37,8 +37,9 @@ live_has P (Lent ∷ slots) zero f w h = cc
 live_has P (Over ∷ slots) zero f w h = cc
 live_has P (slot ∷ slots) (suc t) f w h = live_has P slots t f.1 w h
 
--- no tag bears a clock past 2 ^ 62, so a process's clock passes that only by its own events; its memory is
--- written next by the event after these, and bears no stamp of a later one than the last
+-- no tag bears a clock past 2 ^ 62, so a process's clock passes that only by its own events; the event after
+-- these is what writes next, and no page, no global and not the memory's size bears the mark of a later one than
+-- the last
 pub record StateFits (S : State) : Type 0 where
   pub clock : S.clock ≤ 2 ^ 62 + S.events
   pub room : length S.crew.threads ≤ most_threads
@@ -47,6 +48,9 @@ pub record StateFits (S : State) : Type 0 where
   pub threads : Each WaitingFits S.crew.threads
   pub number : S.store.memory.number ≡ S.events + 1
   pub stamps : AreWithin S.events S.store.memory.stamps
+  pub global_stamps : AreWithin S.events S.store.global_stamps
+  pub size_stamp : S.store.size_stamp ≤ S.events
+  pub even : length S.store.global_stamps ≡ length S.store.globals
 
 -- the world's numbers are in range
 pub record EnvFits (env : Env) : Type 0 where

@@ -7,6 +7,7 @@ pub mod GoesOn
 pub mod Kinds
 pub mod Legal
 pub mod Live
+pub mod Marks
 pub mod Next
 pub mod OneEvent
 pub mod Replay

@@ -1,10 +1,11 @@
 // The laws over one event, as calls that do nothing.
 ghost use Rattle.guest_process.specs.Crews.{LockKept, OnlySpawnAdds, OtherThreadsStay};
+ghost use Rattle.guest_process.specs.Marks.{UnmarkedStays};
 ghost use Rattle.guest_process.specs.OneEvent.{IsKept, IsKeptSound, IsStarted, OneEvent, Possible, Rises, WorldIsThere};
 
 use guest_memory::stamps_no_later;
 use lamport_tag::{cut_short, tags_read_back};
-use wasm_step::never_stuck;
+use wasm_step::{marked, never_stuck};
 
 /// An event that the world let a process have has the shape of its kind and is legal where it comes,
 /// and the state after it is the one that its entry alone tells.
@@ -59,4 +60,14 @@ pub fn kept()
 {
     never_stuck();
     stamps_no_later();
+    marked();
+}
+
+/// A page, a global and the memory's size that a legal event does not mark are as they were before it, and none
+/// is gone.
+pub fn unmarked_stays()
+    ensures { UnmarkedStays }
+{
+    never_stuck();
+    marked();
 }

@@ -23,6 +23,6 @@ pub use answer::is_due;
 pub use count::counting;
 pub use divergence::Divergence;
 pub use end::End;
-pub use laws::{kept, lock_kept, one_event, others_stay, possible, rises};
+pub use laws::{kept, lock_kept, one_event, others_stay, possible, rises, unmarked_stays};
 pub use need::Need;
 pub use process::Process;

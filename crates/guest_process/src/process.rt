@@ -7,6 +7,7 @@ ghost use Rattle.lib_calls.specs.Entry.{entry_of};
 ghost use Rattle.wasm_types.specs.Modules.{module_of};
 ghost use Rattle.wasm_step.specs.Suits.{Suits};
 ghost use Rattle.wasm_step.specs.Start.{first_store};
+ghost use Rattle.wasm_step.specs.Store.{global_stamp_of};
 ghost use Rattle.guest_process.specs.Answers.{need};
 ghost use Rattle.guest_process.specs.Fits.{StateFits};
 ghost use Rattle.guest_process.specs.GoesOn.{handler as handler_of};
@@ -28,7 +29,7 @@ use lib_calls::{Call, EntryView};
 use signal_points::Handlers;
 use std::alloc::{AllocError, Global};
 use std::marker::Model;
-use wasm_step::{StartError, Store, Strand, never_stuck};
+use wasm_step::{StartError, Store, Strand, marked, never_stuck};
 use wasm_types::{ValidModule, Value};
 
 /// A process of a guest.
@@ -148,9 +149,9 @@ impl<'m> Process<'m> {
         requires few { self.events < 2 ^ 61 }
         ensures { IfOk result (λ p. p ≡ next self.entry (entry_of entry.now)) }
     {
-        // Their laws tell the proof what a burst and a write leave as it is.
+        // Their laws tell the proof what a burst and a write leave as it is, and what they mark.
         never_stuck();
-        stamps_no_later();
+        marked();
         let mut parts = self.parts;
         parts.advance(entry)?;
         Ok(Process { parts })
@@ -169,6 +170,21 @@ impl<'m> Process<'m> {
         ensures { result ≡ stamp_of self.now.store.memory page }
     {
         self.parts.store.memory().stamp(page)
+    }
+
+    /// The number of the last event that set the global, also to an equal value. It is 0 where none did, and
+    /// where there is no such global.
+    pub fn global_mark(&self, n: u32) -> u64
+        ensures { result ≡ global_stamp_of self.now.store n }
+    {
+        self.parts.store.global_stamp(n)
+    }
+
+    /// The number of the last event that made the memory larger, or 0.
+    pub fn size_mark(&self) -> u64
+        ensures { result ≡ self.now.store.size_stamp }
+    {
+        self.parts.store.size_stamp()
     }
 
     /// The value of a global. `None` comes exactly where the module has no global of that index.

@@ -8,11 +8,11 @@ pub mod Fits
 pub mod Frames
 pub mod InPlace
 pub mod LevelEnds
+pub mod Marking
 pub mod Opcodes
 pub mod Plain
 pub mod Runs
 pub mod SameModule
-pub mod Stamped
 pub mod Starts
 pub mod Stored
 pub mod Todo

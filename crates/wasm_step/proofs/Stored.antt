@@ -1,6 +1,6 @@
 -- The rows on globals and on the memory keep what fits.
 use Rattle.std.proofs.Common.{◌≡◌, ℕ, ◌+◌, ◌-◌, ◌^◌, Bool, true, false, List, [], ◌∷◌, Option, Some, None, refl, sym, ap, ◌∙◌, subst}
-use Rattle.std.specs.Prelude.{map, slice_get, slice_set, IsSome, if◌then◌else◌}
+use Rattle.std.specs.Prelude.{map, slice_get, IsSome, if◌then◌else◌}
 use Rattle.std.specs.Option.{option_map}
 use Rattle.std.proofs.lemmas.Option.{slice_get-map}
 use Rattle.guest_memory.specs.Memory.{Memory, is_inside, loaded, after_store, can_grow, growth, after_grow, size_of}
@@ -22,7 +22,7 @@ use Rattle.wasm_store.specs.Suits.{Suits}
 use Rattle.wasm_step.specs.Fits.{known, IsContext, Fits, AfterFits}
 use Rattle.wasm_step.specs.Reduce as Reduce
 use Rattle.wasm_step.specs.Reduce.{Both, After, Goes, Stops, Sticks, keep, at_trap}
-use Rattle.wasm_store.specs.Store.{Store}
+use Rattle.wasm_store.specs.Store.{Store, with_global, with_growth}
 use Rattle.wasm_step.specs.Thread.{Thread, with_operand}
 use Rattle.wasm_step.proofs.Fits.{never_none, pops_type, RestOf, LeavesAt, goes}
 use Rattle.wasm_step.proofs.Opcodes.{LoadFitsOf, LoadFits, StoreFitsOf, StoreFits, load_fits, store_fits}
@@ -52,6 +52,9 @@ grown_most memory pages = choice_most (can_grow memory pages) memory _ refl
 other_memory : (g : Store) (memory : Memory) → Suits g → memory.max ≡ g.memory.max → Suits (record g { memory = memory })
 other_memory g memory s e = record { most = e ∙ s.most; places = s.places; globals = s.globals; elements = s.elements }
 
+grown_suits : (g : Store) (pages : ℕ) → Suits g → Suits (with_growth g pages)
+grown_suits g pages s = record { most = grown_most g.memory pages ∙ s.most; places = s.places; globals = s.globals; elements = s.elements }
+
 module _ (m : Module) (c : Context) (g : Store) (same : g.«module» ≡ m) (suits : Suits g) where
   abbrev pub BothFit : Both → Type 0
   BothFit b = AfterFits m b.after × Suits b.store
@@ -74,7 +77,7 @@ module _ (m : Module) (c : Context) (g : Store) (same : g.«module» ≡ m) (sui
       let kv : type_of_value v ≡ k = cc in
       let kr : types_of_values rest ≡ ks = cc in
       let at' : slice_get value_types x ≡ Some (type_of_value v) = at ∙ ap Some (sym kv) in
-      subst (λ b. BothFit (if b then record { after = Goes (record t { stack = rest }); store = record g { globals = slice_set g.globals x v } } else keep g (Stops Sticks))) (sym (written_within g.globals value_types x k suits.globals at)) (
+      subst (λ b. BothFit (if b then record { after = Goes (record t { stack = rest }); store = with_global g x v } else keep g (Stops Sticks))) (sym (written_within g.globals value_types x k suits.globals at)) (
         goes m c (record t { stack = rest }) r (subst (λ ks. LeavesAt m c t ks) (sym kr) l),
         record { most = suits.most; places = suits.places; globals = written_value_types g.globals value_types x v suits.globals at'; elements = suits.elements },
       )
@@ -189,7 +192,7 @@ module _ (m : Module) (c : Context) (g : Store) (same : g.«module» ≡ m) (sui
   grow_top_fits ks (I32 pages ∷ rest) t r e l =
       let kr : types_of_values rest ≡ ks = cc in (
         by_answer (growth g.memory pages) (subst (λ ks. LeavesAt m c t (types.I32 ∷ ks)) (sym kr) l),
-        other_memory g (after_grow g.memory pages) suits (grown_most g.memory pages),
+        grown_suits g pages suits,
       )
     where
       by_answer : (o : Option ℕ) → LeavesAt m c t (types.I32 ∷ types_of_values rest) → Fits m (with_operand (record t { stack = rest }) (Reduce.grow_answer o))

@@ -1,8 +1,8 @@
 -- Laws of bursts.
 use Rattle.std.specs.Prelude.{◌≡◌, ℕ}
-use Rattle.guest_memory.specs.Laws.{StampsNoLater}
 use Rattle.wasm_types.specs.Modules.{Module}
 use Rattle.wasm_types.specs.Valid.{IsValid}
+use Rattle.wasm_store.specs.Marks.{MarksNoLater, MarksTell}
 use Rattle.wasm_store.specs.Store.{Store}
 use Rattle.wasm_store.specs.Suits.{Suits}
 use Rattle.wasm_step.specs.Burst.{burst}
@@ -19,6 +19,10 @@ NeverSticks =
 abbrev pub KeepsModule : Type 0
 KeepsModule = (n : ℕ) (t : Thread) (g : Store) → (burst n t g).store.«module» ≡ g.«module»
 
--- a burst stamps nothing later than the event that writes
+-- a burst marks nothing later than the event that writes
 abbrev pub KeepsStamps : Type 0
-KeepsStamps = (n : ℕ) (t : Thread) (g : Store) → StampsNoLater g.memory (burst n t g).store.memory
+KeepsStamps = (n : ℕ) (t : Thread) (g : Store) → MarksNoLater g (burst n t g).store
+
+-- what does not bear the number of the event that writes is as it was before the burst
+abbrev pub TellsMarks : Type 0
+TellsMarks = (n : ℕ) (t : Thread) (g : Store) → MarksTell g.memory.number g (burst n t g).store

@@ -11,6 +11,7 @@ pub mod Strand
 pub mod Target
 pub mod Thread
 pub mod View
+pub use Rattle.wasm_store.specs.Marks
 pub use Rattle.wasm_store.specs.Start
 pub use Rattle.wasm_store.specs.Store
 pub use Rattle.wasm_store.specs.Suits

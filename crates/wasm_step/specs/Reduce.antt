@@ -1,7 +1,7 @@
 -- What one instruction does to a thread and to the store, and what the end of a level or of a frame does
 -- to a thread (WebAssembly 1.0, section 4.4).
 use Rattle.std.specs.Prelude.{ℕ, zero, suc, ◌+◌, ◌-◌, ◌^◌, Bool, true, false, List, [], ◌∷◌, Option, Some, None, is_some, slice_get, slice_set, length, nat_lt, if◌then◌else◌}
-use Rattle.guest_memory.specs.Memory.{Memory, size_of, loaded, is_inside, after_store, growth, after_grow}
+use Rattle.guest_memory.specs.Memory.{Memory, size_of, loaded, is_inside, after_store, growth}
 use Rattle.wasm_types.specs.declared.code.Value.{Value}
 use Rattle.wasm_types.specs.declared.code.Value.TheVariants.{I32, I64}
 use Rattle.wasm_types.specs.declared.code.ValType.{ValType}
@@ -15,7 +15,7 @@ use Rattle.wasm_values.specs.Values.{bits_of}
 use Rattle.wasm_step.specs.Call.{site_of}
 use Rattle.wasm_values.specs.Numeric.{Computed, Gives, Fails, IsNone, is_unary, unary, binary}
 use Rattle.wasm_values.specs.Access.{load_width, load_value, store_width}
-use Rattle.wasm_store.specs.Store.{Store}
+use Rattle.wasm_store.specs.Store.{Store, with_global, with_growth}
 use Rattle.wasm_step.specs.Thread.{Thread, with_operand, opened, closed, left, called, arguments, without, is_within, has_room}
 
 -- how a thread stops: at a call of the library, at its end, by a trap, or where no row is for it
@@ -111,7 +111,7 @@ abbrev pub set_global : ℕ → Store → List Value → Thread → Both
 set_global x g [] t = keep g (Stops Sticks)
 set_global x g (v ∷ rest) t =
     if nat_lt x (length g.globals)
-    then record { after = Goes (record t { stack = rest }); store = record g { globals = slice_set g.globals x v } }
+    then record { after = Goes (record t { stack = rest }); store = with_global g x v }
     else keep g (Stops Sticks)
 
 abbrev pub global_set : ℕ → Store → Thread → Both
@@ -164,7 +164,7 @@ grow_top [] g t = keep g (Stops Sticks)
 grow_top (I64 x ∷ rest) g t = keep g (Stops Sticks)
 grow_top (I32 pages ∷ rest) g t = record {
   after = Goes (with_operand (record t { stack = rest }) (grow_answer (growth g.memory pages)));
-  store = record g { memory = after_grow g.memory pages };
+  store = with_growth g pages;
 }
 
 abbrev pub memory_grow : Store → Thread → Both

@@ -19,4 +19,4 @@ mod strand;
 pub use call::CallSite;
 pub use laws::never_stuck;
 pub use strand::{HandlerError, Pause, Strand};
-pub use wasm_store::{StartError, Store};
+pub use wasm_store::{StartError, Store, marked};

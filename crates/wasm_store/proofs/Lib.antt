@@ -1,3 +1,5 @@
 pub mod Declared
 mod Fitting
+pub mod Globals
+pub mod Marking
 pub mod Suited

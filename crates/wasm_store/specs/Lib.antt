@@ -1,4 +1,6 @@
+pub mod Globals
 pub mod Lending
+pub mod Marks
 pub mod Parts
 pub mod Start
 pub mod Store

@@ -31,6 +31,10 @@ initial g = initial_in g.init (zero_of g.value_type)
 abbrev pub initial_globals : Module → List Value
 initial_globals m = map initial m.globals
 
+-- no event has set any of them
+abbrev pub unset : List GlobalDef → List ℕ
+unset globals = map (λ (d : GlobalDef). 0) globals
+
 -- ---- where segments begin
 
 -- a constant, or the value of a global; the offsets of a valid module are all such
@@ -102,13 +106,15 @@ segments_fit m =
     list_all (is_elem_inside (initial_globals m) (length (empty_table m))) m.elems
     && list_all (is_segment_inside (initial_globals m) (empty_memory m)) m.segments
 
--- the globals with their first values, and the table and the memory with their segments
+-- the globals with their first values, and the table and the memory with their segments; they are no event's work
 abbrev pub initial_store : Module → Store
 initial_store m = record {
   «module» = m;
   memory = put_segments (initial_globals m) m.segments (empty_memory m);
   globals = initial_globals m;
+  global_stamps = unset m.globals;
   table = put_elems (initial_globals m) m.elems (empty_table m);
+  size_stamp = 0;
 }
 
 -- what the threads of a module share at first, unless some segment ends past the table or the memory

@@ -5,10 +5,11 @@ ghost use Rattle.guest_memory.specs.Memory.{fresh};
 ghost use Rattle.wasm_types.specs.Code.{tree, trees};
 ghost use Rattle.wasm_types.specs.Modules.{elem, global_def, module_of, segment as segment_of};
 ghost use Rattle.wasm_store.specs.Start.{constant, first_min, first_most, initial, initial_store, is_elem_inside, is_segment_within, offset_at, offset_in, put_elems, put_funcs, put_segments, segments_fit};
-ghost use Rattle.wasm_store.specs.Parts.{first_values, store_of_parts};
+ghost use Rattle.wasm_store.specs.Parts.{first_globals, first_values, store_of_parts};
 
+use crate::global::Global;
 use guest_memory::Memory;
-use std::alloc::{AllocError, Global};
+use std::alloc::{AllocError, Global as Heap};
 use wasm_types::{Elem, GlobalDef, Instr, Limits, Module, Segment, ValidModule, Value, zero_of};
 use wasm_values::bits;
 
@@ -22,15 +23,18 @@ fn is_within(at: u64, count: u64, len: u64) -> bool
     at <= len && count <= len - at
 }
 
-/// The first values of the globals.
-fn first_values(alloc: Global, globals: &[GlobalDef]) -> Result<Vec<Value>, AllocError>
-    ensures { IfOk result (λ values. values.items ≡ first_values globals.now) }
+/// The globals with their first values, which no event has set.
+fn first_globals(alloc: Heap, globals: &[GlobalDef]) -> Result<Vec<Global>, AllocError>
+    ensures { IfOk result (λ first. first.items ≡ first_globals globals.now) }
 {
-    let mut values = Vec::new(alloc);
+    let mut first = Vec::new(alloc);
     for global in globals {
-        values.push(initial(global))?;
+        first.push(Global {
+            value: initial(global),
+            stamp: 0,
+        })?;
     }
-    Ok(values)
+    Ok(first)
 }
 
 fn initial(global: &GlobalDef) -> Value
@@ -83,7 +87,7 @@ fn offset_in(globals: &[GlobalDef], offset: &[Instr]) -> u64
 }
 
 /// The table, all of whose places are empty.
-fn empty_table(alloc: Global, tables: &[Limits]) -> Result<Vec<Option<u32>>, AllocError>
+fn empty_table(alloc: Heap, tables: &[Limits]) -> Result<Vec<Option<u32>>, AllocError>
     ensures { IfOk result (λ table. table.items ≡ replicate (first_min tables.now) None) }
 {
     vec![in alloc; None; first_min(tables) as usize]
@@ -181,7 +185,7 @@ fn put_segments(
 }
 
 /// The memory without its segments.
-fn empty_memory(alloc: Global, mems: &[Limits]) -> Result<Memory, AllocError>
+fn empty_memory(alloc: Heap, mems: &[Limits]) -> Result<Memory, AllocError>
     requires { first_min mems.now ≤ first_most mems.now }
     ensures { IfOk result (λ memory. memory ≡ fresh (first_min mems.now) (first_most mems.now)) }
 {
@@ -207,17 +211,17 @@ fn first_most(limits: &[Limits]) -> u32
 #[derive(Drop)]
 pub(crate) struct Parts {
     pub memory: Memory,
-    pub globals: Vec<Value>,
+    pub globals: Vec<Global>,
     pub table: Vec<Option<u32>>,
 }
 
 /// What the threads of a module share at first.
-pub(crate) fn begin(alloc: Global, module: &ValidModule) -> Result<Parts, AllocError>
+pub(crate) fn begin(alloc: Heap, module: &ValidModule) -> Result<Parts, AllocError>
     requires { IsTrue (segments_fit (module_of «module».now)) }
     ensures { IfOk result (λ parts. store_of_parts (module_of «module».now) parts ≡ initial_store (module_of «module».now)) }
 {
     let inner = module.module();
-    let globals = first_values(alloc, &inner.globals)?;
+    let globals = first_globals(alloc, &inner.globals)?;
     let mut table = empty_table(alloc, &inner.tables)?;
     let mut memory = empty_memory(alloc, &inner.mems)?;
     put_elems(&inner.globals, &mut table, &inner.elems);

@@ -1,33 +1,37 @@
 // What the threads of a module share: its memory, its globals and its table.
-ghost use Rattle.std.specs.Prelude.{◌≡◌, ◌↔◌, Err, IfOk, None, OnOk, Some, length, nat_lt, if◌then◌else◌, slice_get, slice_set};
+ghost use Rattle.std.specs.Prelude.{◌≡◌, ◌↔◌, Err, IfOk, None, OnOk, Some, length, nat_lt, if◌then◌else◌, slice_get};
 ghost use Rattle.std.specs.Borrow.{sem};
-ghost use Rattle.guest_memory.specs.Memory.{after_store, growth, after_grow, is_inside};
+ghost use Rattle.guest_memory.specs.Memory.{after_store, growth, is_inside};
 ghost use Rattle.guest_memory.specs.LittleEndian.{IsWidth};
 ghost use Rattle.wasm_types.specs.Modules.{module_of};
 ghost use Rattle.wasm_store.specs.Suits.{Suits};
 ghost use Rattle.wasm_store.specs.Start.{first_store};
-ghost use Rattle.wasm_store.specs.Store.{func_in_table, handler_at};
+ghost use Rattle.wasm_store.specs.Store.{func_in_table, global_stamp_of, handler_at, with_global, with_growth};
 ghost use Rattle.wasm_store.specs.Lending.{LendsMemory};
 
 use crate::functions::is_handler;
+use crate::global::Global;
 use crate::start::{begin, segments_fit};
 use guest_memory::Memory;
-use std::alloc::{AllocError, Global};
+use std::alloc::{AllocError, Global as Heap};
 use std::marker::Model;
 use wasm_types::{Module, ValidModule, Value};
 
-/// A module's memory, the values of its globals, and its table.
+/// A module's memory, its globals and its table, with the numbers of the events that last set each global and
+/// made the memory larger.
 #[derive(Drop)]
 pub struct Store<'m> {
     module: &'m ValidModule,
     memory: Memory,
-    globals: Vec<Value>,
+    globals: Vec<Global>,
     table: Vec<Option<u32>>,
+    size_stamp: u64,
 }
 
 impl<'m> Model for Store<'m> {
     ghost use Rattle.std.specs.Coded.{codes};
     ghost use Rattle.wasm_types.specs.Coding.{trees_code};
+    ghost use Rattle.wasm_store.specs.Globals.{stamps_of, values_of};
     ghost use Rattle.wasm_store.specs.Store.{Store};
 
     ghost Value = { Store };
@@ -36,7 +40,7 @@ impl<'m> Model for Store<'m> {
 
     ghost use Rattle.wasm_types.specs.Modules.{module_of};
 
-    ghost view = { λ s. record { «module» = module_of s.«module».now; memory = s.memory; globals = s.globals.items; table = s.table.items } };
+    ghost view = { λ s. record { «module» = module_of s.«module».now; memory = s.memory; globals = values_of s.globals.items; global_stamps = stamps_of s.globals.items; table = s.table.items; size_stamp = s.size_stamp } };
 }
 
 /// Why a module does not begin.
@@ -50,7 +54,7 @@ pub enum StartError {
 impl<'m> Store<'m> {
     /// What the threads of a module share at first. `BadSegment` comes exactly where an element segment
     /// ends past the table or a data segment past the memory, and is found without memory.
-    pub fn start(alloc: Global, module: &'m ValidModule) -> Result<Store<'m>, StartError>
+    pub fn start(alloc: Heap, module: &'m ValidModule) -> Result<Store<'m>, StartError>
         ensures ok { IfOk result (λ g. first_store (module_of «module».now) ≡ Some g) }
         ensures suits { IfOk result (λ g. Suits g) }
         ensures same_module { IfOk result (λ g. g.«module» ≡ module_of «module».now) }
@@ -65,6 +69,7 @@ impl<'m> Store<'m> {
                 memory: parts.memory,
                 globals: parts.globals,
                 table: parts.table,
+                size_stamp: 0,
             }),
             Err(AllocError) => Err(StartError::NoMemory),
         }
@@ -79,6 +84,7 @@ impl<'m> Store<'m> {
             memory: self.memory.snapshot()?,
             globals: self.globals.clone()?,
             table: self.table.clone()?,
+            size_stamp: self.size_stamp,
         })
     }
 
@@ -112,7 +118,26 @@ impl<'m> Store<'m> {
     pub fn global(&self, n: u32) -> Option<Value>
         ensures { result ≡ slice_get self.now.globals n }
     {
-        self.globals.get(n as usize).copied()
+        let global = self.globals.get(n as usize)?;
+        Some(global.value)
+    }
+
+    /// The number of the last event that set the global. It is 0 where none did, and where there is no such
+    /// global.
+    pub fn global_stamp(&self, n: u32) -> u64
+        ensures { result ≡ global_stamp_of self.now n }
+    {
+        match self.globals.get(n as usize) {
+            Some(global) => global.stamp,
+            None => 0,
+        }
+    }
+
+    /// The number of the last event that made the memory larger, or 0.
+    pub fn size_stamp(&self) -> u64
+        ensures { result ≡ self.now.size_stamp }
+    {
+        self.size_stamp
     }
 
     /// What the table holds at this place.
@@ -147,16 +172,19 @@ impl<'m> Store<'m> {
         }
     }
 
-    /// A new value of a global, if there is one of that index.
+    /// A new value of a global, if there is one of that index, by the event that writes now.
     #[inline]
     pub fn set_global(&mut self, n: usize, v: Value) -> bool
         ensures is { result ≡ nat_lt n (length self.old.globals) }
-        ensures new { self.new ≡ (if result then record self.old { globals = slice_set self.old.globals n v } else self.old) }
+        ensures new { self.new ≡ (if result then with_global self.old n v else self.old) }
     {
         if n >= self.globals.len() {
             return false;
         }
-        self.globals[n] = v;
+        self.globals[n] = Global {
+            value: v,
+            stamp: self.memory.number(),
+        };
         true
     }
 
@@ -171,7 +199,7 @@ impl<'m> Store<'m> {
         Ok(is_in)
     }
 
-    /// Later writes to the memory are those of the event of this number.
+    /// What is written, set or added from now on is the work of the event of this number.
     #[inline]
     pub fn begin_event(&mut self, number: u64)
         ensures { self.new ≡ record self.old { memory = record self.old.memory { number = number } } }
@@ -179,13 +207,17 @@ impl<'m> Store<'m> {
         self.memory.begin_event(number);
     }
 
-    /// More pages, if the maximum allows them, and the number of pages before.
+    /// More pages, if the maximum allows them, and the number of pages before. With none, the size bears no
+    /// new stamp.
     #[inline]
     pub fn grow(&mut self, pages: u32) -> Result<Option<u32>, AllocError>
         ensures before { IfOk result (λ before. before ≡ growth self.old.memory pages) }
-        ensures new { OnOk result (self.new ≡ record self.old { memory = after_grow self.old.memory pages }) }
+        ensures new { OnOk result (self.new ≡ with_growth self.old pages) }
     {
         let before = self.memory.grow(pages)?;
+        if pages > 0 && before.is_some() {
+            self.size_stamp = self.memory.number();
+        }
         Ok(before)
     }
 }

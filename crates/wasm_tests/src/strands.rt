@@ -77,3 +77,28 @@ fn a_copy_of_a_store_has_a_memory_of_its_own(rt: HostRuntime) -> Result<(), Fail
     assert_eq!(rt; store.memory().part(8, 3), Some(b"log".as_slice()));
     Ok(())
 }
+
+// Also an equal value marks a global. Growth by no page, and one past the maximum, mark nothing.
+#[test]
+fn each_change_bears_the_number_of_its_event(rt: HostRuntime) -> Result<(), Fail> {
+    let module = module(rt.alloc())?;
+    let mut store = Store::start(rt.alloc(), &module)?;
+    store.begin_event(3);
+    assert_eq!(rt; [store.global_stamp(0), store.size_stamp()], [0, 0]);
+    assert!(rt; store.set_global(0, Value::I32(7)));
+    assert_eq!(rt; store.grow(0)?, Some(1));
+    assert_eq!(rt;
+        [
+            store.global_stamp(0),
+            store.global_stamp(1),
+            store.size_stamp()
+        ],
+        [3, 0, 0]
+    );
+    store.begin_event(4);
+    assert_eq!(rt; store.grow(1)?, Some(1));
+    store.begin_event(5);
+    assert_eq!(rt; store.grow(1)?, None);
+    assert_eq!(rt; [store.global_stamp(0), store.size_stamp()], [3, 4]);
+    Ok(())
+}

@@ -7,8 +7,14 @@ use Rattle.schedule_text.specs.declared.process.ProcessLine.{ProcessLine}
 use Rattle.wasm_types.specs.Modules.{module_of}
 use Rattle.group_record.specs.declared.member.Member.{Member}
 use Rattle.group_record.proofs.Small.{at_place}
-use Rattle.group_record.proofs.Starting.{HaveStarted, all_begun, member_fails, name_at, next_started}
+use Rattle.group_record.proofs.Starting.{HaveStarted, all_begun, member_fails, name_at, next_started, none_started}
 use Rattle.group_record.proofs.begin.begin_members.Goals as goal
+
+pub loop-p-init : goal.loop-p-init
+loop-p-init c =
+    let names = map (λ (line : ProcessLine). line.name) c.args.lines.now in
+    let modules = map module_of c.args.modules.now in
+    subst (λ (ms : List Member). HaveStarted names modules 0 ms) (sym c.new-members.ensures.items) (none_started names modules)
 
 pub returns-in_err-member : goal.returns-in_err-member
 returns-in_err-member c =

@@ -4,7 +4,14 @@ use Rattle.guest_process.proofs.Starting.{started}
 use Rattle.guest_process.proofs.laws.kept.Goals as goal
 
 pub returns-clause-ranges : goal.returns-clause-ranges
-returns-clause-ranges c = state_kept c.never_stuck.ensures.same_module c.never_stuck.ensures.stamps c.stamps_no_later.ensures.written
+returns-clause-ranges c =
+    state_kept c.never_stuck.ensures.same_module (record {
+      keeps = c.never_stuck.ensures.stamps;
+      tells = c.never_stuck.ensures.marks;
+      written = c.marked.ensures.written;
+      nothing = c.marked.ensures.nothing;
+      follow = c.marked.ensures.follow;
+    })
 
 pub returns-clause-sound : goal.returns-clause-sound
 returns-clause-sound c = sound_kept c.never_stuck.ensures.same_module

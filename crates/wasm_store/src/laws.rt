@@ -1,0 +1,17 @@
+// The laws of marks, as a call that does nothing.
+ghost use Rattle.wasm_store.specs.Marks.{GrowthMarks, MarksFollow, NothingMarks, SetMarks, WritesMark};
+
+use guest_memory::{stamps_no_later, stamps_tell};
+
+/// What sets a global, makes the memory larger or writes to it marks nothing later than the event that does so,
+/// and leaves what that event has not marked as it was; also one after the other.
+pub fn marked()
+    ensures set { SetMarks }
+    ensures grown { GrowthMarks }
+    ensures written { WritesMark }
+    ensures nothing { NothingMarks }
+    ensures follow { MarksFollow }
+{
+    stamps_no_later();
+    stamps_tell();
+}
