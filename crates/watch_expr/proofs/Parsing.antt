@@ -12,7 +12,7 @@ use Rattle.watch_expr.specs.Expression.{Expression, expression_of}
 use Rattle.watch_expr.specs.Lexing.{Lexed, texts}
 use Rattle.watch_expr.specs.Grammar.{IsExpr, TakesExpr, ParsedExpr}
 use Rattle.watch_expr.specs.Machine.{MachineState, Want, step, steps, whole, state, Finishes, Steps}
-use Rattle.watch_expr.proofs.Reading.{Stands, steps_append, steps_keep, stands_begins, whole_says, whole_again, begins_reads}
+use Rattle.watch_expr.proofs.MachineReads.{Stands, steps_append, steps_keep, stands_begins, whole_says, whole_again, begins_reads}
 
 -- ---- lists
 

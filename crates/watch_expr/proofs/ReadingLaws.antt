@@ -1,11 +1,11 @@
 -- What is computed of tokens is what they spell.
-use Rattle.std.proofs.Common.{◌≡◌, ◌↔◌, ℕ, zero, suc, ◌+◌, ◌<◌, ◌≤◌, Bool, true, false, List, [], ◌∷◌, ◌++◌, length, take, Option, Some, None, ◌⊎◌, inl, inr, refl, sym, ap, ◌∙◌, subst, append_assoc, arith, add-one}
+use Rattle.std.proofs.Common.{◌≡◌, ◌↔◌, ℕ, zero, suc, ◌<◌, ◌≤◌, Bool, true, false, List, [], ◌∷◌, ◌++◌, length, take, Option, Some, None, ◌⊎◌, inl, inr, refl, sym, ap, ◌∙◌, subst, append_assoc, arith, add-one}
 use Rattle.std.specs.Prelude.{is_some}
 use Rattle.watch_expr.specs.Expression.{Expression}
 use Rattle.watch_expr.specs.Grammar.{IsExpr, BeginsExpr, TakesExpr}
 use Rattle.watch_expr.specs.Machine.{MachineState, Want, steps}
 use Rattle.watch_expr.specs.Computed.{whole_if, expression_spelled, begins_some, viable}
-use Rattle.watch_expr.proofs.Reading.{steps_keep, stands_begins, whole_says, whole_again, begins_reads}
+use Rattle.watch_expr.proofs.MachineReads.{steps_keep, stands_begins, whole_says, whole_again, begins_reads}
 
 says : (names ts : List (List ℕ)) (x : Expression) (o : Option MachineState) → steps names (Some (Want [])) ts ≡ o → whole_if o ≡ Some x → IsExpr names ts x
 says names ts x None e w = absurd cc

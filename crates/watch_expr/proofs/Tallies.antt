@@ -45,7 +45,7 @@ total_says agg.Count ws = ap total (counts 0 ws)
 abbrev pub ending : Setting → Expression → Tally → ℕ → ℕ → Option ℤ
 ending s x tally k n = all_numbers (map (λ node. value_at s (Some node) x) (range_with_len k (n - k))) >>= λ ws. total (fold added tally ws)
 
-range_next : (k n : ℕ) → k < n → range_with_len k (n - k) ≡ k ∷ range_with_len (k + 1) (n - (k + 1))
+pub range_next : (k n : ℕ) → k < n → range_with_len k (n - k) ≡ k ∷ range_with_len (k + 1) (n - (k + 1))
 range_next k n lt = let e : n - k ≡ suc (n - (k + 1)) = omega arith in ap (range_with_len k) e
 
 front : (tally : Tally) (a : ℤ) (o : Option (List ℤ))
@@ -53,7 +53,7 @@ front : (tally : Tally) (a : ℤ) (o : Option (List ℤ))
 front tally a None = refl
 front tally a (Some ws) = refl
 
-ending_some : (s : Setting) (x : Expression) (tally : Tally) (k n : ℕ) (a : ℤ) → k < n → value_at s (Some k) x ≡ Some a
+pub ending_some : (s : Setting) (x : Expression) (tally : Tally) (k n : ℕ) (a : ℤ) → k < n → value_at s (Some k) x ≡ Some a
     → ending s x tally k n ≡ ending s x (added tally a) (k + 1) n
 ending_some s x tally k n a lt e =
     let rest = all_numbers (map (λ node. value_at s (Some node) x) (range_with_len (k + 1) (n - (k + 1)))) in
@@ -61,12 +61,12 @@ ending_some s x tally k n a lt e =
     ∙ ap (λ (o : Option ℤ). all_numbers (o ∷ map (λ node. value_at s (Some node) x) (range_with_len (k + 1) (n - (k + 1)))) >>= λ ws. total (fold added tally ws)) e
     ∙ front tally a rest
 
-ending_none : (s : Setting) (x : Expression) (tally : Tally) (k n : ℕ) → k < n → value_at s (Some k) x ≡ None → ending s x tally k n ≡ None
+pub ending_none : (s : Setting) (x : Expression) (tally : Tally) (k n : ℕ) → k < n → value_at s (Some k) x ≡ None → ending s x tally k n ≡ None
 ending_none s x tally k n lt e =
     ap (λ (ks : List ℕ). all_numbers (map (λ node. value_at s (Some node) x) ks) >>= λ ws. total (fold added tally ws)) (range_next k n lt)
     ∙ ap (λ (o : Option ℤ). all_numbers (o ∷ map (λ node. value_at s (Some node) x) (range_with_len (k + 1) (n - (k + 1)))) >>= λ ws. total (fold added tally ws)) e
 
-ending_all : (s : Setting) (x : Expression) (tally : Tally) (k n : ℕ) → n ≤ k → ending s x tally k n ≡ total tally
+pub ending_all : (s : Setting) (x : Expression) (tally : Tally) (k n : ℕ) → n ≤ k → ending s x tally k n ≡ total tally
 ending_all s x tally k n le =
     let e : n - k ≡ 0 = omega arith in
     ap (λ (m : ℕ). all_numbers (map (λ node. value_at s (Some node) x) (range_with_len k m)) >>= λ ws. total (fold added tally ws)) e
@@ -75,14 +75,14 @@ begun : (a : Agg) (o : Option (List ℤ)) → ◌≡◌ {A = Option ℤ} (o >>= 
 begun a None = refl
 begun a (Some ws) = total_says a ws
 
-ending_first : (s : Setting) (x : Expression) (a : Agg) (each : Option ℕ) → ending s x (empty_tally a) 0 (length s.nodes) ≡ value_at s each (Over a x)
+pub ending_first : (s : Setting) (x : Expression) (a : Agg) (each : Option ℕ) → ending s x (empty_tally a) 0 (length s.nodes) ≡ value_at s each (Over a x)
 ending_first s x a each =
     let z : length s.nodes - 0 ≡ length s.nodes = omega arith in
     ap (λ (m : ℕ). all_numbers (map (λ node. value_at s (Some node) x) (range_with_len 0 m)) >>= λ ws. total (fold added (empty_tally a) ws)) z ∙ begun a _
 
 -- ---- how far a tally can have come
 
-within_more : (tally : Tally) (k : ℕ) (a : ℤ) → FitsSigned w64 a → IsWithin tally k → IsWithin (added tally a) (k + 1)
+pub within_more : (tally : Tally) (k : ℕ) (a : ℤ) → FitsSigned w64 a → IsWithin tally k → IsWithin (added tally a) (k + 1)
 within_more (Sum z) k a fit within = (omega (arith, ints, fit, within.0, within.1), omega (arith, ints, fit, within.0, within.1))
 within_more (Min o) k a fit within = tt
 within_more (Max o) k a fit within = tt

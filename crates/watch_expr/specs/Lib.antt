@@ -6,6 +6,7 @@ pub mod Grammar
 pub mod Laws
 pub mod Lexing
 pub mod Machine
+pub mod Reads
 pub mod Spelling
 pub mod Expression
 pub mod Value

@@ -25,6 +25,12 @@ added (Min least) z = Min (Some (best int_min least z))
 added (Max greatest) z = Max (Some (best int_max greatest z))
 added (Count count) z = Count (count + (if not (is_zero z) then 1 else 0))
 
+-- with one more value, and none where a value is undef
+abbrev pub added_if : Option Tally → Option ℤ → Option Tally
+added_if None o = None
+added_if (Some tally) None = None
+added_if (Some tally) (Some z) = Some (added tally z)
+
 abbrev pub total : Tally → Option ℤ
 total (Sum sum) = fit sum
 total (Min least) = least

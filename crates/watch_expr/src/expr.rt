@@ -1,6 +1,7 @@
 // The tree of an expression.
 
 use fri_bytes::Bytes;
+use std::alloc::{AllocError, Global};
 
 /// The node that a place belongs to: by its number, or none where no node has the name that was given; or
 /// the node that an aggregate stands at.
@@ -69,4 +70,35 @@ pub enum Expr {
     Clock(NodeName),
     Events(NodeName),
     Size(NodeName),
+}
+
+impl Expr {
+    ghost use Rattle.std.specs.Prelude.{◌≡◌, IfOk};
+    ghost use Rattle.watch_expr.specs.Expression.{expression_of};
+
+    /// The same expression, in memory of its own.
+    pub fn copy(&self, alloc: Global) -> Result<Expr, AllocError>
+        ensures { IfOk result (λ x. expression_of x ≡ expression_of self.now) }
+    {
+        Ok(match self {
+            Expr::Number(n) => Expr::Number(*n),
+            Expr::Var(name) => Expr::Var(Bytes::from_slice(alloc, name.as_slice())?),
+            Expr::One(op, x) => Expr::One(*op, Box::new(alloc, x.copy(alloc)?)?),
+            Expr::Two(op, x, y) => Expr::Two(
+                *op,
+                Box::new(alloc, x.copy(alloc)?)?,
+                Box::new(alloc, y.copy(alloc)?)?,
+            ),
+            Expr::Over(agg, x) => Expr::Over(*agg, Box::new(alloc, x.copy(alloc)?)?),
+            Expr::Load(name, width, x) => Expr::Load(
+                *name,
+                *width,
+                Box::new(alloc, x.copy(alloc)?)?,
+            ),
+            Expr::Global(name, n) => Expr::Global(*name, *n),
+            Expr::Clock(name) => Expr::Clock(*name),
+            Expr::Events(name) => Expr::Events(*name),
+            Expr::Size(name) => Expr::Size(*name),
+        })
+    }
 }

@@ -1,5 +1,6 @@
 // What holds of lines and expressions, whatever they are. These calls do nothing.
 ghost use Rattle.watch_expr.specs.Laws.{ExactCut, ExactReading, NoneApart};
+ghost use Rattle.watch_expr.specs.Reads.{ReadsLow, ReadsTell};
 
 /// A line has its tokens or a first byte that begins none, and `cut` computes which.
 pub fn exact_cut()
@@ -14,4 +15,14 @@ pub fn exact_reading()
 /// No comma, semicolon, brace or string stands in an expression.
 pub fn none_apart()
     ensures { NoneApart }
+{}
+
+/// Every global that an expression reads has a number below 2^32.
+pub fn reads_low()
+    ensures { ReadsLow }
+{}
+
+/// Where all that an expression reads is the same in two states, its value and what it reads are the same in both.
+pub fn reads_tell()
+    ensures { ReadsTell }
 {}

@@ -3,10 +3,10 @@ ghost use Rattle.std.specs.Prelude.{◌≡◌};
 ghost use Rattle.watch_expr.specs.Expression.{expression_of};
 ghost use Rattle.watch_expr.specs.Value.{setting, value, value_at};
 
-mod loads;
-mod operators;
-mod places;
-mod tally;
+pub(crate) mod loads;
+pub(crate) mod operators;
+pub(crate) mod places;
+pub(crate) mod tally;
 
 use crate::expr::Expr;
 use crate::value::loads::load;

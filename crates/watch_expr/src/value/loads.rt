@@ -45,7 +45,7 @@ fn put(bytes: &mut [u8], at: usize, piece: &[u8])
     bytes[at..end].copy_from_slice(piece);
 }
 
-fn byte_count(width: Width) -> u64
+pub(crate) fn byte_count(width: Width) -> u64
     ensures { result ≡ byte_count width }
 {
     match width {

@@ -1,0 +1,61 @@
+// Operators and aggregates of operands that may be undef.
+ghost use Rattle.std.specs.Prelude.{◌≡◌, option_and_then, IfSome};
+ghost use Rattle.watch_expr.specs.Reads.{evaluates_right};
+ghost use Rattle.watch_expr.specs.Value.{decided, loaded_at, one, with_right};
+ghost use Rattle.watch_expr.specs.ValueTally.{HasRoom, added_if, total};
+
+use crate::expr::{Binary, Unary, Width};
+use crate::value::loads::load;
+use crate::value::operators::{decided, one, two};
+use crate::value::tally::Tally;
+use crate::view::View;
+
+pub(crate) fn one_of(op: Unary, a: Option<i64>) -> Option<i64>
+    ensures { result ≡ option_and_then (one op) a }
+{
+    one(op, a?)
+}
+
+// With this value of the left side the right one is evaluated.
+pub(crate) fn evaluates_right(op: Binary, a: Option<i64>) -> bool
+    ensures { result ≡ evaluates_right op a }
+{
+    match a {
+        Some(a) => decided(op, a).is_none(),
+        None => !matches!(op, Binary::And | Binary::Or),
+    }
+}
+
+pub(crate) fn two_of(op: Binary, a: Option<i64>, b: Option<i64>) -> Option<i64>
+    ensures { result ≡ option_and_then (λ a. with_right op a (decided op a) b) a }
+{
+    let a = a?;
+    match decided(op, a) {
+        Some(result) => Some(result),
+        None => two(op, a, b?),
+    }
+}
+
+pub(crate) fn load_of<V: View>(
+    v: &V,
+    node: Option<u32>,
+    width: Width,
+    addr: Option<i64>,
+) -> Option<i64>
+    ensures { result ≡ option_and_then (λ addr. option_and_then (λ k. loaded_at (V.nodes v.now) k width addr) node) addr }
+{
+    load(v, node, width, addr?)
+}
+
+pub(crate) fn add_if(tally: Option<Tally>, a: Option<i64>) -> Option<Tally>
+    requires { IfSome tally HasRoom }
+    ensures { result ≡ added_if tally a }
+{
+    Some(tally?.add(a?))
+}
+
+pub(crate) fn total_of(tally: Option<Tally>) -> Option<i64>
+    ensures { result ≡ option_and_then total tally }
+{
+    tally?.total()
+}
