@@ -1,0 +1,4 @@
+pub mod Firing
+pub mod Nodes
+pub mod Touch
+pub mod Watched
