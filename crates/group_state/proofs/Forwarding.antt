@@ -3,7 +3,9 @@ use Rattle.std.proofs.Common.{◌≡◌, ℕ, ◌+◌, ◌-◌, ◌<◌, List, [
 use Rattle.std.specs.Prelude.{option_map, slice_get}
 use Rattle.std.specs.List.{swap, swap_remove}
 use Rattle.std.proofs.lemmas.List.{get_or-set_same, length-set, map-append, map-set, take_more, take_more_set}
+use Rattle.std.proofs.lemmas.List.Elements.{All-set}
 use Rattle.std.proofs.lemmas.Option.{get_or_from_slice_get, slice_get_within}
+use Rattle.guest_memory.specs.Memory.{IsMemory}
 use Rattle.lib_calls.specs.Entry.{entry_of}
 use Rattle.lib_calls.specs.declared.entry.Entry.{Entry}
 use Rattle.lib_calls.specs.declared.entry.EntryView.{EntryView}
@@ -18,7 +20,7 @@ use Rattle.proc_replay.specs.declared.turn.Turn.TheVariants as code
 use Rattle.group_state.specs.declared.stand.Stand.{Stand}
 use Rattle.group_state.specs.Moves.{Turns, event_before, event_of}
 use Rattle.group_state.specs.Place.{PartsFit, events, head}
-use Rattle.group_state.specs.Stands.{IsStand, parts_from}
+use Rattle.group_state.specs.Stands.{AreSound, IsStand, parts_from}
 use Rattle.group_state.proofs.Following.{goes}
 use Rattle.group_state.proofs.Swaps.{put_back}
 
@@ -36,7 +38,7 @@ turned old node last taken part removed pushed new t within last_is taken_is rem
 }
 
 -- what the turn of the node that comes next leaves
-pub record Forwarded (start new : List Replaying) (heads : List (Option ℕ)) (at node : ℕ) (t : Turn) : Type 0 where
+pub record Forwarded (start parts new : List Replaying) (heads : List (Option ℕ)) (at node : ℕ) (t : Turn) : Type 0 where
   pub entry : Entry
   pub told : move_of t ≡ Makes entry
   pub next : slice_get (events start) at ≡ Some (node_event node entry)
@@ -44,9 +46,10 @@ pub record Forwarded (start new : List Replaying) (heads : List (Option ℕ)) (a
   pub fits : node < length new
   pub within : at < length (events start)
   pub merged : (x : Replaying) → x ≡ get_or new node x → set heads node (head x) ≡ map head new
+  pub sound : AreSound parts → (x : Replaying) → x ≡ get_or new node x → IsMemory x.state.store.memory → AreSound new
 
 pub forwarded : AreMerged Entry → AreRising → IsKept → AreTurns → (start parts new : List Replaying) (heads : List (Option ℕ)) (at node : ℕ) (t : Turn)
-    → PartsFit start → parts ≡ parts_from 0 start (take at (events start)) → heads ≡ map head parts → IsFirstNode heads node → Turns parts node new t → Forwarded start new heads at node t
+    → PartsFit start → parts ≡ parts_from 0 start (take at (events start)) → heads ≡ map head parts → IsFirstNode heads node → Turns parts node new t → Forwarded start parts new heads at node t
 forwarded merging rising kept course start parts new heads at node t fits stand are first turns =
     let g = goes merging rising kept course start fits at node (subst (λ h. IsFirstNode h node) (are ∙ ap (map head) stand) first) in
     let here : slice_get parts node ≡ Some g.part = ap (λ ps. slice_get ps node) stand ∙ g.here in
@@ -62,14 +65,17 @@ forwarded merging rising kept course start parts new heads at node t fits stand 
       merged = λ x is.
           let same : x ≡ after g.part = is ∙ ap (λ ps. get_or ps node x) new_is ∙ get_or-set_same parts node (after g.part) x within in
           ap (λ h. set h node (head x)) are ∙ ap (λ y. set (map head parts) node (head y)) same ∙ sym (map-set head parts node (after g.part)) ∙ ap (map head) (sym new_is);
+      sound = λ all x is memory.
+          let same : x ≡ after g.part = is ∙ ap (λ ps. get_or ps node x) new_is ∙ get_or-set_same parts node (after g.part) x within in
+          subst AreSound (sym new_is) (All-set (λ (r : Replaying). IsMemory r.state.store.memory) parts node (after g.part) (subst (λ (r : Replaying). IsMemory r.state.store.memory) same memory) all);
     }
 
 same_entry : (e f : Entry) → Makes e ≡ Makes f → e ≡ f
 same_entry e f same = cc
 
-pub given : (start new : List Replaying) (heads : List (Option ℕ)) (at node : ℕ) (t : Turn) (v : EntryView) → Forwarded start new heads at node t → t ≡ code.Event v
+pub given : (start parts new : List Replaying) (heads : List (Option ℕ)) (at node : ℕ) (t : Turn) (v : EntryView) → Forwarded start parts new heads at node t → t ≡ code.Event v
     → Some (node_event node (entry_of v)) ≡ slice_get (events start) at
-given start new heads at node t v f is =
+given start parts new heads at node t v f is =
     ap (λ e. Some (node_event node e)) (same_entry (entry_of v) f.entry (ap move_of (sym is) ∙ f.told)) ∙ sym f.next
 
 pub is_event : (t : Turn) (e : Entry) → move_of t ≡ Makes e → ((v : EntryView) → t ≡ code.Event v → ⊥) → ⊥
@@ -78,12 +84,13 @@ is_event code.LogEnd e is not = cc
 is_event (code.Diverged at why) e is not = cc
 
 -- so the group stands at the next position
-pub stands_on : (start new : List Replaying) (heads : List (Option ℕ)) (at node : ℕ) (t : Turn) (v : EntryView) (stand : Stand) → Forwarded start new heads at node t → t ≡ code.Event v
-    → stand.parts.items ≡ new → stand.at ≡ at + 1 → stand.last ≡ Some (record { node = node; entry = v }) → IsStand start stand
-stands_on start new heads at node t v stand f is parts at_is last_is = record {
+pub stands_on : (start was new : List Replaying) (heads : List (Option ℕ)) (at node : ℕ) (t : Turn) (v : EntryView) (stand : Stand) → Forwarded start was new heads at node t → t ≡ code.Event v
+    → stand.parts.items ≡ new → stand.at ≡ at + 1 → stand.last ≡ Some (record { node = node; entry = v }) → AreSound new → IsStand start stand
+stands_on start was new heads at node t v stand f is parts at_is last_is sound = record {
   parts = parts ∙ f.stand ∙ ap (λ n. parts_from 0 start (take n (events start))) (sym at_is);
   within = omega (arith, at_is, f.within);
-  last = ap (option_map event_of) last_is ∙ given start new heads at node t v f is ∙ sym (ap (event_before (events start)) (at_is ∙ add-one at));
+  last = ap (option_map event_of) last_is ∙ given start was new heads at node t v f is ∙ sym (ap (event_before (events start)) (at_is ∙ add-one at));
+  sound = subst AreSound (sym parts) sound;
 }
 
 -- ---- the heads of some replays

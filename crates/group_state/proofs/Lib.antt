@@ -4,6 +4,9 @@ pub mod Counting
 pub mod Folding
 pub mod Following
 pub mod Forwarding
+pub mod Moved
+pub mod Touching
+pub mod Marking
 pub mod Nodes
 pub mod Reporting
 pub mod Rising

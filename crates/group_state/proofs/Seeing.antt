@@ -14,7 +14,7 @@ node_at (T ∷ states) zero S at = ap (option_map seen_node) at
 node_at (T ∷ states) (suc node) S at = node_at states node S at
 
 -- there is a state for each replay
-states_length : (i : ℕ) (rs : List Replaying) (es : List (NodeEvent Entry)) → length (states_from i rs es) ≡ length rs
+pub states_length : (i : ℕ) (rs : List Replaying) (es : List (NodeEvent Entry)) → length (states_from i rs es) ≡ length rs
 states_length i [] es = refl
 states_length i (r ∷ rs) es = ap suc (states_length (suc i) rs es)
 

@@ -1,13 +1,15 @@
 -- What holds within a group.
-use Rattle.std.specs.Prelude.{◌≡◌, ◌<◌, ◌^◌, length, map}
+use Rattle.std.specs.Prelude.{◌≡◌, ◌<◌, ◌≤◌, ◌^◌, length, map}
 use Rattle.group_state.specs.declared.group.Group.TheInside.{Inside}
 use Rattle.group_state.specs.Place.{AreParts, PartsFit, Place, events, head}
+use Rattle.group_state.specs.Motions.{AreMotions}
 use Rattle.group_state.specs.Stands.{AreStands, IsStand}
 
 abbrev pub place_of_group : Inside → Place
 place_of_group g = record { start = g.first.items; at = g.here.at }
 
--- the group stands at its position and stood at its checkpoints, and the heads are those of the position
+-- the group stands at its position and stood at its checkpoints, the heads are those of the position, and it knows the
+-- positions of each node's events up to it
 pub record IsSoundGroup (g : Inside) : Type 0 where
   pub parts : AreParts g.first.items
   pub fits : PartsFit g.first.items
@@ -15,3 +17,5 @@ pub record IsSoundGroup (g : Inside) : Type 0 where
   pub here : IsStand g.first.items g.here
   pub heads : g.merge ≡ map head g.here.parts.items
   pub kept : AreStands g.first.items g.checkpoints.stands.items
+  pub moved : AreMotions g.first.items g.motions
+  pub been : g.here.at ≤ g.motions.reached

@@ -1,5 +1,6 @@
 pub mod Place
 pub mod Moves
+pub mod Motions
 pub mod Stands
 pub mod At
 pub mod Tally
@@ -8,3 +9,4 @@ pub mod Report
 pub mod Image
 pub mod Laws
 pub mod Seen
+pub mod Touch

@@ -1,5 +1,6 @@
 -- Where groups stand.
 use Rattle.std.specs.Prelude.{◌≡◌, ℕ, suc, ◌≤◌, List, [], ◌∷◌, All, length, option_map, take, Option, Some, None}
+use Rattle.guest_memory.specs.Memory.{IsMemory}
 use Rattle.lib_calls.specs.declared.entry.Entry.{Entry}
 use Rattle.group_order.specs.Order.{NodeEvent}
 use Rattle.proc_replay.specs.Course.{turns}
@@ -13,11 +14,16 @@ abbrev pub parts_from : ℕ → List Replaying → List (NodeEvent Entry) → Li
 parts_from node [] es = []
 parts_from node (r ∷ rs) es = turns r (node_event_count node es) ∷ parts_from (suc node) rs es
 
+-- the memory of each process is one: whole pages, no more than its maximum
+abbrev pub AreSound : List Replaying → Type 0
+AreSound parts = All (λ r. IsMemory r.state.store.memory) parts
+
 -- the group of these replays stands so at some position: the parts had the turns of the events before it
 pub record IsStand (start : List Replaying) (stand : Stand) : Type 0 where
   pub parts : stand.parts.items ≡ parts_from 0 start (take stand.at (events start))
   pub within : stand.at ≤ length (events start)
   pub last : option_map event_of stand.last ≡ last_event_of (record { start = start; at = stand.at })
+  pub sound : AreSound stand.parts.items
 
 -- and so it does at each of several
 abbrev pub AreStands : List Replaying → List Stand → Type 0
@@ -36,8 +42,3 @@ StillStand old new = (start : List Replaying) → AreStands start old → AreSta
 -- if the old are and this one is
 abbrev pub Keeps : List Stand → Stand → List Stand → Type 0
 Keeps old here new = (start : List Replaying) → AreStands start old → IsStand start here → AreStands start new
-
--- where the group stands at a position that is not past k; none where its own is not past k
-abbrev pub IsSooner : Place → ℕ → Option Stand → Type 0
-IsSooner place k None = place.at ≤ k
-IsSooner place k (Some stand) = IsStand place.start stand × (stand.at ≤ k)

@@ -2,11 +2,11 @@
 ghost use Rattle.std.specs.Prelude.{◌≡◌, ◌≤◌, ◌-◌, ℕ, Some, None, IfOk, IsTrue, IsFalse, ◌↔◌, length, map, option_map, slice_get};
 ghost use Rattle.group_state.specs.Place.{AreParts, PartsFit, Place, events, states};
 ghost use Rattle.group_state.specs.Moves.{IsThere, Moves, event_of, last_event_of};
-ghost use Rattle.group_state.specs.Stands.{IsSooner};
 
 use crate::checkpoints::Checkpoints;
 use crate::event::GroupEvent;
 use crate::forward::{head_of, take_turn};
+use crate::motions::Motions;
 use crate::stand::{Stand, merge_of};
 use crate::work::Counter;
 use group_order::{Merge, merges};
@@ -26,6 +26,7 @@ pub struct Group<'m, 'a> {
     pub(crate) checkpoints: Checkpoints<'m, 'a>,
     pub(crate) here: Stand<'m, 'a>,
     merge: Merge,
+    pub(crate) motions: Motions,
     pub(crate) counter: Counter,
 }
 
@@ -54,12 +55,14 @@ impl<'m, 'a> Group<'m, 'a> {
         replays();
         let here = Stand::first(alloc, &parts)?;
         let merge = merge_of(alloc, &here.parts)?;
+        let motions = Motions::none(alloc, parts.len())?;
         Ok(Group {
             alloc,
             first: parts,
             checkpoints: Checkpoints::new(alloc),
             here,
             merge,
+            motions,
             counter: Counter::new(),
         })
     }
@@ -82,16 +85,20 @@ impl<'m, 'a> Group<'m, 'a> {
             mut checkpoints,
             mut here,
             mut merge,
+            mut motions,
             mut counter,
         } = self;
         let turn = take_turn(&mut here.parts, node)?;
-        merge.set_head(node, head_of(&here.parts[node as usize]));
+        let part = &here.parts[node as usize];
+        merge.set_head(node, head_of(part));
+        let _ = part.process().memory().size();
         let Turn::Event(entry) = turn else {
             unreachable!();
         };
         let event = GroupEvent { node, entry };
         here.at += 1;
         here.last = Some(event);
+        motions.add(node, here.at)?;
         checkpoints.keep(alloc, &here)?;
         counter.count_event();
         let group = Group {
@@ -100,6 +107,7 @@ impl<'m, 'a> Group<'m, 'a> {
             checkpoints,
             here,
             merge,
+            motions,
             counter,
         };
         Ok((group, Some(event)))
@@ -120,38 +128,27 @@ impl<'m, 'a> Group<'m, 'a> {
         Ok((back, false))
     }
 
-    // The group from where it comes to position k soonest: as it is, or at a checkpoint.
+    // The group from where it comes to position k soonest: as it is, or at the last checkpoint that is not past the position.
+    // All checkpoints are where it has been.
     fn near(self, alloc: Global, k: u64) -> Result<Group<'m, 'a>, AllocError>
         ensures start { IfOk result (λ group. group.start ≡ self.entry.start) }
         ensures at { IfOk result (λ group. group.at ≤ k) }
     {
-        let Some(stand) = self.sooner(alloc, k)? else {
-            return Ok(self);
+        let nearest = self.checkpoints.nearest(k.min(self.motions.reached()));
+        let from = match nearest {
+            Some(stand) => stand.at,
+            None => 0,
         };
+        if from <= self.here.at && self.here.at <= k {
+            return Ok(self);
+        }
+        let stand = Stand::at_checkpoint(alloc, nearest, &self.first)?;
         let merge = merge_of(alloc, &stand.parts)?;
         Ok(Group {
             here: stand,
             merge,
             ..self
         })
-    }
-
-    // The last checkpoint that is not past position k. None comes where it is no nearer than the group.
-    fn sooner(&self, alloc: Global, k: u64) -> Result<Option<Stand<'m, 'a>>, AllocError>
-        ensures { IfOk result (IsSooner self.now k) }
-    {
-        let nearest = self.checkpoints.nearest(k);
-        let from = match nearest {
-            Some(stand) => stand.at,
-            None => 0,
-        };
-        if from <= self.here.at && self.here.at <= k {
-            return Ok(None);
-        }
-        match nearest {
-            Some(stand) => Ok(Some(stand.copy(alloc)?)),
-            None => Ok(Some(Stand::first(alloc, &self.first)?)),
-        }
     }
 
     // The group at position k, which is not behind it, and true; or at its end, and false.

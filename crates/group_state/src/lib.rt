@@ -8,6 +8,7 @@ mod forward;
 mod group;
 mod image;
 mod laws;
+mod motions;
 mod part;
 mod report;
 mod stand;

@@ -1,7 +1,7 @@
 // Where a group stands.
-ghost use Rattle.std.specs.Prelude.{◌≡◌, ◌≤◌, IfOk, length, map};
+ghost use Rattle.std.specs.Prelude.{◌≡◌, ◌≤◌, ℕ, IfOk, IfSome, length, map};
 ghost use Rattle.group_state.specs.Place.{PartsFit, head};
-ghost use Rattle.group_state.specs.Stands.{IsStand, SameStand};
+ghost use Rattle.group_state.specs.Stands.{AreSound, IsStand, SameStand};
 
 use crate::event::GroupEvent;
 use crate::forward::head_of;
@@ -44,19 +44,37 @@ impl<'m, 'a> Stand<'m, 'a> {
             last: self.last,
         })
     }
+
+    /// Where the group stood at a checkpoint, or where it begins.
+    pub(crate) fn at_checkpoint(
+        alloc: Global,
+        checkpoint: Option<&Stand<'m, 'a>>,
+        parts: &[Replayer<'m, 'a>],
+    ) -> Result<Stand<'m, 'a>, AllocError>
+        ensures stand { IfOk result (λ stand. IfSome checkpoint.entry (λ s. IsStand parts.now s.now) → IsStand parts.now stand) }
+        ensures at { IfOk result (λ stand. (most : ℕ) → IfSome checkpoint.entry (λ s. s.now.at ≤ most) → stand.at ≤ most) }
+    {
+        match checkpoint {
+            Some(stand) => Ok(stand.copy(alloc)?),
+            None => Stand::first(alloc, parts),
+        }
+    }
 }
 
-// Equal replays, and that the process of each is in the ranges of its module.
+// Equal replays, and that the process of each is in the ranges of its module, its memory too.
 fn copy_parts<'m, 'a>(
     alloc: Global,
     parts: &[Replayer<'m, 'a>],
 ) -> Result<Vec<Replayer<'m, 'a>>, AllocError>
     ensures items { IfOk result (λ copies. copies.items ≡ parts.now) }
     ensures fits { IfOk result (λ _. PartsFit parts.now) }
+    ensures sound { IfOk result (λ _. AreSound parts.now) }
 {
     let mut copies = Vec::new(alloc);
     for part in parts {
-        let _ = part.process().events();
+        let process = part.process();
+        let _ = process.events();
+        let _ = process.memory().size();
         copies.push(part.copy(alloc)?)?;
     }
     Ok(copies)

@@ -3,7 +3,12 @@ ghost use Rattle.std.specs.Prelude.{◌≡◌};
 ghost use Rattle.group_state.specs.Seen.{signed_global};
 
 use crate::group::Group;
-use guest_process::Process;
+use crate::laws::stepwise;
+use group_order::merges;
+use guest_process::{Process, kept, rises, unmarked_stays};
+use lib_calls::Entry;
+use page_watch::TouchView;
+use proc_replay::replays;
 use wasm_types::Value;
 use watch_expr::View;
 
@@ -65,5 +70,76 @@ impl<'m, 'a> View for Group<'m, 'a> {
 
     fn pages(&self, node: u32) -> u32 {
         self.at(node).memory().size()
+    }
+}
+
+impl<'m, 'a> Group<'m, 'a> {
+    ghost use Rattle.std.specs.Prelude.{None, slice_get};
+    ghost use Rattle.group_state.specs.Place.{Place, states};
+    ghost use Rattle.group_state.specs.Touch.{mark_in, mark};
+    ghost use Rattle.guest_process.specs.State.{State};
+    ghost use Rattle.watch_expr.specs.declared.reads.Place.{Place as Location};
+    ghost use Rattle.page_watch.specs.Touch.{node_of};
+
+    // The position at which a node had its event of this number, which is that of the last event that touched a place.
+    fn position_of(&self, node: u32, number: u64) -> u64
+        ensures { (S : State) (l : Location) → slice_get (states self.now.start self.now.at) node ≡ Some S → node_of l ≡ node → number ≡ mark_in S l
+            → result ≡ mark self.now.start self.now.at l }
+    {
+        stepwise();
+        rises();
+        kept();
+        unmarked_stays();
+        self.motions.position(node, number)
+    }
+}
+
+impl<'m, 'a> TouchView for Group<'m, 'a> {
+    ghost use Rattle.group_state.specs.Place.{Place};
+    ghost use Rattle.group_state.specs.Seen.{nodes_at};
+    ghost use Rattle.group_state.specs.Touch.{mark};
+
+    ghost states = { λ place k. nodes_at (record place { at = k }) };
+
+    ghost at = { λ place. place.at };
+
+    ghost marks = { λ place. mark place.start place.at };
+
+    fn position(&self) -> u64 {
+        merges::<Entry>();
+        replays();
+        rises();
+        kept();
+        stepwise();
+        unmarked_stays();
+        self.here.at
+    }
+
+    fn stamp(&self, node: u32, page: u32) -> u64 {
+        match self.process(node) {
+            Some(process) => self.position_of(node, process.page_mark(page)),
+            None => 0,
+        }
+    }
+
+    fn global_stamp(&self, node: u32, n: u32) -> u64 {
+        match self.process(node) {
+            Some(process) => self.position_of(node, process.global_mark(n)),
+            None => 0,
+        }
+    }
+
+    fn moved(&self, node: u32) -> u64 {
+        match self.process(node) {
+            Some(process) => self.position_of(node, process.events()),
+            None => 0,
+        }
+    }
+
+    fn resized(&self, node: u32) -> u64 {
+        match self.process(node) {
+            Some(process) => self.position_of(node, process.size_mark()),
+            None => 0,
+        }
     }
 }

@@ -2,10 +2,12 @@ use Rattle.std.proofs.Common.{◌<◌, ◌^◌, ◌∙◌, List, length, map, ap
 use Rattle.std.specs.Prelude.{All}
 use Rattle.std.proofs.lemmas.List.Elements.{All-nil}
 use Rattle.proc_replay.specs.Replaying.{Replaying}
+use Rattle.group_state.specs.Motions.{no_motions}
 use Rattle.group_state.specs.Place.{PartsFit, head}
 use Rattle.group_state.specs.Stands.{AreStands, IsStand}
 use Rattle.group_state.proofs.Copying.{few_parts}
 use Rattle.group_state.proofs.Following.{few_events}
+use Rattle.group_state.proofs.Moved.{first_motions}
 use Rattle.group_state.proofs.group.Group.begin.Goals as goal
 
 pub merge_of-requires : goal.merge_of-requires
@@ -24,4 +26,6 @@ invariant_of-result c =
       here = subst (λ (start : List Replaying). IsStand start c.in_ok-here.here) c.deref.ensures.value c.in_ok-here.ensures.stand;
       heads = c.in_ok-merge.ensures ∙ ap (map head) c.deref-2.ensures.value;
       kept = subst (AreStands parts) (sym c.new.ensures) (All-nil (IsStand parts));
+      moved = first_motions parts c.in_ok-motions.motions (c.in_ok-motions.ensures ∙ ap no_motions (c.len.ensures ∙ c.args.parts.ok.0));
+      been = omega (arith, c.in_ok-here.ensures.at);
     }

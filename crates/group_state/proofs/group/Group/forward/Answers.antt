@@ -1,8 +1,13 @@
-use Rattle.std.proofs.Common.{◌∙◌, map, subst, sym, ap, refl, arith, slice_set}
+use Rattle.std.proofs.Common.{◌∙◌, ◌+◌, length, map, take, subst, sym, ap, refl, arith, slice_set}
 use Rattle.group_order.specs.Heads.{AreNone}
-use Rattle.group_state.specs.Place.{head}
+use Rattle.guest_memory.specs.Memory.{IsMemory}
+use Rattle.guest_process.specs.State.{State}
+use Rattle.group_state.specs.Place.{events, head}
+use Rattle.group_state.proofs.Copying.{length_parts}
 use Rattle.group_state.proofs.Following.{ends}
 use Rattle.group_state.proofs.Forwarding.{forwarded, given, is_event, stands_on}
+use Rattle.group_state.proofs.Moved.{length_motions, moved_on}
+use Rattle.group_order.specs.Order.{node_event}
 use Rattle.group_state.proofs.group.Group.forward.Goals as goal
 
 pub returns-in_default : goal.returns-in_default
@@ -15,8 +20,8 @@ returns-in_default c =
       place = refl;
     })
 
-pub index-requires : goal.index-requires
-index-requires c =
+pub index-part-requires : goal.index-part-requires
+index-part-requires c =
     let g = c.self.inside in
     let i = c.self.invariant in
     let f = forwarded c.merges.ensures c.rises.ensures c.kept.ensures.ranges c.replays.ensures.turn g.first.items _ _ _ g.here.at _ _
@@ -39,19 +44,39 @@ overflow_add-here c =
     i.fits i.here.parts i.heads c.in-Some.ensures.next c.in_ok-turn.ensures in
     omega (arith, f.within, i.few)
 
+pub add-requires : goal.add-requires
+add-requires c =
+    let g = c.self.inside in
+    let i = c.self.invariant in
+    let f = forwarded c.merges.ensures c.rises.ensures c.kept.ensures.ranges c.replays.ensures.turn g.first.items _ _ _ g.here.at _ _
+    i.fits i.here.parts i.heads c.in-Some.ensures.next c.in_ok-turn.ensures in
+    omega (
+      arith,
+      f.fits,
+      ap length f.stand,
+      length_parts 0 g.first.items (take (g.here.at + 1) (events g.first.items)),
+      ap length i.moved.lists,
+      length_motions 0 g.first.items (take g.motions.reached (events g.first.items)),
+    )
+
 pub invariant_of-group : goal.invariant_of-group
 invariant_of-group c =
     let g = c.self.inside in
     let i = c.self.invariant in
     let f = forwarded c.merges.ensures c.rises.ensures c.kept.ensures.ranges c.replays.ensures.turn g.first.items _ _ _ g.here.at _ _
     i.fits i.here.parts i.heads c.in-Some.ensures.next c.in_ok-turn.ensures in
+    let sound = f.sound i.here.sound c.index-part.result.now c.index-part.ensures (subst IsMemory (c.memory.ensures ∙ ap (λ (S : State). S.store.memory) c.process.ensures) c.size.ensures.sound) in
+    let moved = moved_on g.first.items g.motions c.add.new.self g.here.at (node_event c.in-Some.node f.entry) i.moved i.been f.next f.within
+    (omega (arith, f.fits, ap length f.stand, length_parts 0 g.first.items (take (g.here.at + 1) (events g.first.items)))) c.in_ok-add.ensures in
     record {
       parts = i.parts;
       fits = i.fits;
       few = i.few;
-      here = stands_on _ _ _ _ _ _ _ _ f c.in-Event.is refl refl refl;
-      heads = c.set_head.ensures ∙ ap (λ h. slice_set g.merge c.in-Some.node h) c.head_of.ensures ∙ f.merged c.index.result.now c.index.ensures;
-      kept = c.keep.ensures g.first.items i.kept (stands_on _ _ _ _ _ _ _ _ f c.in-Event.is refl refl refl);
+      here = stands_on _ _ _ _ _ _ _ _ _ f c.in-Event.is refl refl refl sound;
+      heads = c.set_head.ensures ∙ ap (λ h. slice_set g.merge c.in-Some.node h) c.head_of.ensures ∙ f.merged c.index-part.result.now c.index-part.ensures;
+      moved = moved.are;
+      been = moved.been;
+      kept = c.keep.ensures g.first.items i.kept (stands_on _ _ _ _ _ _ _ _ _ f c.in-Event.is refl refl refl sound);
     }
 
 pub returns : goal.returns
@@ -60,4 +85,4 @@ returns c =
     let i = c.self.invariant in
     let f = forwarded c.merges.ensures c.rises.ensures c.kept.ensures.ranges c.replays.ensures.turn g.first.items _ _ _ g.here.at _ _
     i.fits i.here.parts i.heads c.in-Some.ensures.next c.in_ok-turn.ensures in
-    rw (← c.self.view_is) (record { gives = given _ _ _ _ _ _ c.in-Event.entry f c.in-Event.is; place = refl })
+    rw (← c.self.view_is) (record { gives = given _ _ _ _ _ _ _ c.in-Event.entry f c.in-Event.is; place = refl })

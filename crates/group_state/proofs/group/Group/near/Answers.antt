@@ -1,11 +1,38 @@
-use Rattle.std.proofs.Common.{length, Some, ap, arith}
-use Rattle.group_state.specs.Place.{Place}
-use Rattle.group_state.specs.Stands.{IsSooner}
-use Rattle.group_state.proofs.Copying.{few_parts}
+use Rattle.std.proofs.Common.{◌≡◌, ◌≤◌, ◌∙◌, List, length, map, ap, subst, arith}
+use Rattle.std.specs.Prelude.{IfSome}
+use Rattle.proc_replay.specs.Replaying.{Replaying}
+use Rattle.group_state.specs.Place.{head}
+use Rattle.group_state.specs.Stands.{IsStand}
+use Rattle.group_state.proofs.Copying.{few_parts, kept_checkpoint}
 use Rattle.group_state.proofs.group.Group.near.Goals as goal
 
 pub merge_of-requires : goal.merge_of-requires
 merge_of-requires c =
-    let sooner : IsSooner c.args.self c.args.k (Some c.in-Some.stand) = rw c.in-Some.is at c.in_ok-stand.ensures in
-    let few = few_parts c.args.self.start c.in-Some.stand sooner.0 (omega (arith, c.self.invariant.parts.few, ap (λ (p : Place). length p.start) c.self.view_is)) in
-    omega (arith, few, ap length c.deref.ensures.value)
+    let g = c.self.inside in
+    let i = c.self.invariant in
+    let kept = kept_checkpoint g.first.items g.checkpoints.stands.items c.nearest-nearest.result c.nearest-nearest.ensures.among i.kept in
+    let is : IsStand g.first.items c.in_ok-stand.stand =
+    subst (λ (start : List Replaying). IfSome c.nearest-nearest.result (λ s. IsStand start s.now) → IsStand start c.in_ok-stand.stand) c.deref.ensures.value c.in_ok-stand.ensures.stand kept in
+    omega (arith, few_parts g.first.items c.in_ok-stand.stand is i.parts.few, ap length c.deref-2.ensures.value)
+
+pub invariant_of-result : goal.invariant_of-result
+invariant_of-result c =
+    let g = c.self.inside in
+    let i = c.self.invariant in
+    let kept = kept_checkpoint g.first.items g.checkpoints.stands.items c.nearest-nearest.result c.nearest-nearest.ensures.among i.kept in
+    let is : IsStand g.first.items c.in_ok-stand.stand =
+    subst (λ (start : List Replaying). IfSome c.nearest-nearest.result (λ s. IsStand start s.now) → IsStand start c.in_ok-stand.stand) c.deref.ensures.value c.in_ok-stand.ensures.stand kept in
+    let low = c.in_ok-stand.ensures.at c.min.result c.nearest-nearest.ensures.at in
+    record {
+      parts = i.parts;
+      fits = i.fits;
+      few = i.few;
+      here = is;
+      heads = c.in_ok-merge.ensures ∙ ap (map head) c.deref-2.ensures.value;
+      kept = i.kept;
+      moved = i.moved;
+      been = omega (arith, low, c.min.ensures, c.reached.ensures);
+    }
+
+pub returns-clause-at : goal.returns-clause-at
+returns-clause-at c = let low = c.in_ok-stand.ensures.at c.min.result c.nearest-nearest.ensures.at in omega (arith, low, c.min.ensures)
