@@ -5,4 +5,5 @@ pub mod Modules
 pub mod Names
 pub mod Recordings
 pub mod Stopped
+pub mod Standing
 pub mod Works

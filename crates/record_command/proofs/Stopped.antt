@@ -20,7 +20,7 @@ use Rattle.group_world.specs.History as world
 use Rattle.group_record.specs.Files.{IsStopped, InHeads, Between, InEntry, InImages, heads_cut}
 use Rattle.group_record.specs.Images.{images, images_from, images_of, made_in_part, mem_name, out_name}
 use Rattle.group_record.specs.Logs.{files_from, log_name, logs}
-use Rattle.group_record.specs.Run.{Group, Had, IsMoment, Progress, Step, act_of, entries, entry_bytes, head_of_log, history, log_of}
+use Rattle.group_record.specs.Run.{Group, Had, IsMoment, Progress, Step, act_of, entries, entry_bytes, head_of_log, history, log_of, name_of, size}
 use Rattle.record_command.specs.Agreement.{LeavesLogs}
 use Rattle.record_command.proofs.Fronts.{all_made}
 
@@ -262,15 +262,26 @@ kept_behind : (old new : Folder) (more : List (List ℕ × List ℕ)) (name : Li
 kept_behind old new more name others (inl same) = same
 kept_behind old new more name others (inr (bytes, among, part)) = absurd (others bytes among)
 
--- the logs that were made stand in the folder, whatever was made behind them under other names
+-- files that have the names of the logs stand in the folder, whatever was made after them under other names
+pub files_stand : KeepsFiles → (group : Group) (files : List (List ℕ × List ℕ)) (bytes : ℕ → List ℕ) (more : List (List ℕ × List ℕ)) (before after : Folder) → AreApart files
+    → ((p : ℕ) → p < size group → slice_get files p ≡ Some (log_name (name_of group p), bytes p))
+    → ((name bytes : List ℕ) → Contains more (log_name name, bytes) → ⊥) → with_files (files ++ more) (Some before) ≡ Some after
+    → (p : ℕ) → p < size group → get after (log_name (name_of group p)) ≡ Some (bytes p)
+files_stand keeps group files bytes more before after apart have others made p below =
+    let stands = keeps.stands before files apart in
+    let name = log_name (name_of group p) in
+    let behind : with_files more (Some stands.0) ≡ Some after = ap (with_files more) (sym stands.1) ∙ sym (with_more files more (Some before)) ∙ made in
+    let changes = (all_made keeps more (Some stands.0) (Some after) (sym behind)).each stands.0 refl in
+    ap (λ (s : Folder). get s name) (same_Some _ _ changes.1) ∙ kept_behind stands.0 changes.0 more name (others (name_of group p)) (changes.2 name)
+    ∙ stands.2.held p _ _ (have p below)
+
+pub log_at : (group : Group) (steps : List Step) (p : ℕ) → p < size group → slice_get (logs group steps) p ≡ Some (log_name (name_of group p), log_of group steps p)
+log_at group steps p below =
+    let whole : 0 + p ≡ p = omega arith in
+    file_at 0 group.names (log_of group steps) p below ∙ ap (λ (k : ℕ). a_file (log_name (name_of group p)) (log_of group steps k)) whole
+
+-- so the logs that were made stand
 pub logs_stand : KeepsFiles → (group : Group) (steps : List Step) (more : List (List ℕ × List ℕ)) (before after : Folder) → AreApart (logs group steps)
     → ((name bytes : List ℕ) → Contains more (log_name name, bytes) → ⊥) → with_files (logs group steps ++ more) (Some before) ≡ Some after → LeavesLogs group steps after
 logs_stand keeps group steps more before after apart others made p below =
-    let stands = keeps.stands before (logs group steps) apart in
-    let name = log_name (slice_index_or group.names p []) in
-    let whole : 0 + p ≡ p = omega arith in
-    let here = file_at 0 group.names (log_of group steps) p below ∙ ap (λ (k : ℕ). a_file name (log_of group steps k)) whole in
-    let behind : with_files more (Some stands.0) ≡ Some after = ap (with_files more) (sym stands.1) ∙ sym (with_more (logs group steps) more (Some before)) ∙ made in
-    let changes = (all_made keeps more (Some stands.0) (Some after) (sym behind)).each stands.0 refl in
-    ap (λ (s : Folder). get s name) (same_Some _ _ changes.1) ∙ kept_behind stands.0 changes.0 more name (others (slice_index_or group.names p [])) (changes.2 name)
-    ∙ stands.2.held p _ _ here
+    files_stand keeps group (logs group steps) (log_of group steps) more before after apart (log_at group steps) others made p below

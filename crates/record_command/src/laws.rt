@@ -1,8 +1,9 @@
 // What is so of all recordings, as calls that do nothing.
 ghost use Rattle.record_command.specs.Agreement.{RecordingsAgree};
-ghost use Rattle.record_command.specs.Laws.{RecordingsRest, RecordingsWork};
+ghost use Rattle.record_command.specs.Laws.{RecordingsRest, RecordingsStand, RecordingsWork};
 
 use command_run::reads_modules;
+use fri_outside::keeps_files;
 use group_record::{agreement, beginning, delivery, taking};
 use schedule_text::exact_outcome;
 
@@ -32,4 +33,13 @@ pub fn recordings_rest()
     ensures { RecordingsRest }
 {
     recordings_agree();
+}
+
+/// Wherever a recording was stopped after its heads, the logs are those of a moment of its run, with at most a first part of
+/// one more entry after each.
+pub fn recordings_stand()
+    ensures { RecordingsStand }
+{
+    keeps_files();
+    exact_outcome();
 }

@@ -11,5 +11,5 @@ mod laws;
 mod recording;
 mod summary;
 
-pub use laws::{recordings_agree, recordings_rest, recordings_work};
+pub use laws::{recordings_agree, recordings_rest, recordings_stand, recordings_work};
 pub use recording::record;
