@@ -9,14 +9,15 @@ use Rattle.command_run.specs.declared.refusal.Refusal.{Refusal}
 use Rattle.command_run.specs.Call.{CountsFaults, DivergesOnlyIf, IsAnswerResult, IsAnswerStatus, Keeps, Makes, PrintsRefusal, Raises, TellsOutcome}
 use Rattle.command_run.specs.Outcome.{CommandOutcome, writes_of, written_names}
 use Rattle.command_run.specs.Run.{CallEnds, Finished, Outside, Performed}
-use Rattle.record_command.specs.Agreement.{LeavesMoment, LeavesRecording}
+use Rattle.record_command.specs.Agreement.{IsRecordable, LeavesMoment, LeavesRecording}
 use Rattle.record_command.specs.Expected.{record_outcome}
 use Rattle.record_command.specs.Laws.{RecordingsRest}
 use Rattle.replay_command.specs.Report.{replay_outcome}
 use Rattle.log_pairs.specs.Pairs.{Pair}
 use Rattle.debug_command.specs.Run.{DebugRun}
 use Rattle.drill_command.specs.Drill.{drill_outcome}
-use Rattle.friday_app.specs.Agreement.{KeepsMoment}
+use Rattle.headline.specs.Headline.{LeftIsShown, ShowsRun}
+use Rattle.friday_app.specs.Agreement.{KeepsMoment, ShowsRecording}
 use Rattle.friday_app.specs.Command.{Command, Debug, Drill, Record, Replay}
 use Rattle.friday_app.specs.Expected.{expected, written_by}
 use Rattle.friday_app.specs.Input.{KeepsInput}
@@ -49,17 +50,26 @@ refused_file : {Large : List ℕ → Type 0} (old new : Outside) → PrintsRefus
     → PrintsRefusal old.taken new.taken (λ file. Rose old.counts.misses new.counts.misses ⊎ Large file)
 refused_file old new (earlier, file, (why, is, cause)) = (earlier, file, (why, is, λ large. inl (cause large)))
 
-pub run_recorded : (images : Bool) (name : List ℕ) (ended : Result Answer Refusal) (answer : Status) (old new : Outside)
+-- what it left is shown
+left_shown : LeftIsShown → (images : Bool) (name : List ℕ) (answer : Status) (old new : Outside)
+    → (IsAnswerStatus answer → WhenTold old.told (λ before. WhenTold new.told (LeavesRecording name before)))
+    → WhenTold old.told (λ before. LeavesMoment images name before new.told)
+    → WhenTold old.told (λ before. WhenTold new.told (λ after. (r : IsRecordable before name) → ShowsRun r answer after))
+left_shown law images name answer old new recorded moment before is after here =
+    law images name answer before after (λ answers. recorded answers before is after here) (subst (LeavesMoment images name before) here (moment before is))
+
+pub run_recorded : LeftIsShown → (images : Bool) (name : List ℕ) (ended : Result Answer Refusal) (answer : Status) (old new : Outside)
     → Finished (option_map (record_outcome images name) old.told) (λ folder. written_names (record_outcome images name folder)) false ended old new answer
     → (IsAnswerResult ended → WhenTold old.told (λ before. WhenTold new.told (LeavesRecording name before)))
     → WhenTold old.told (λ before. LeavesMoment images name before new.told)
     → CommandRun (Some (Record images name)) old new answer
-run_recorded images name ended answer old new f recorded moment = record {
+run_recorded law images name ended answer old new f recorded moment = record {
   call = f.call;
   usage = record { only = λ is. absurd (f.is_command is); always = λ none h. cc };
   diverged = λ is. let never = f.diverged is in cc;
   recorded = λ is. recorded (f.came_to_end is);
   moment = moment;
+  shown = left_shown law images name answer old new (λ is. recorded (f.came_to_end is)) moment;
   input = f.unheard;
   answered = λ is quiet. quiet (f.read is);
   refused = λ is. refused_file old new (f.refused is);
@@ -80,6 +90,7 @@ run_replayed images pairs ended answer old new f = record {
   diverged = λ is. tt;
   recorded = λ is before told after here. tt;
   moment = λ before told. tt;
+  shown = λ before told after here. tt;
   input = f.unheard;
   answered = λ is quiet. quiet (f.read is);
   refused = λ is. refused_file old new (f.refused is);
@@ -93,6 +104,7 @@ run_drilled rounds ended answer old new f = record {
   diverged = λ is. let never = f.diverged is in cc;
   recorded = λ is before told after here. tt;
   moment = λ before told. tt;
+  shown = λ before told after here. tt;
   input = f.unheard;
   answered = λ is quiet. quiet (f.read is);
   refused = λ is. refused_file old new (f.refused is);
@@ -107,6 +119,7 @@ run_debugged pairs answer old new r = record {
   diverged = λ is. r.no_divergence is;
   recorded = λ is before told after here. tt;
   moment = λ before told. tt;
+  shown = λ before told after here. tt;
   input = r.input;
   answered = r.answered;
   refused = r.refused;
@@ -120,6 +133,7 @@ run_none answer old new call usage reads unheard = record {
   diverged = λ is. let e : ends.Diverged ≡ ends.Usage = sym is ∙ usage (subst IsAnswerStatus (sym is) tt) in never_diverged e;
   recorded = λ is before told after here. tt;
   moment = λ before told. tt;
+  shown = λ before told after here. tt;
   input = unheard;
   answered = λ is quiet. reads is;
   refused = λ is. let e : ends.Refused ≡ ends.Usage = sym is ∙ usage (subst IsAnswerStatus (sym is) tt) in absurd (never_refused e);
@@ -132,14 +146,15 @@ run_none answer old new call usage reads unheard = record {
 
 -- ---- want of memory, before anything was read
 
-pub run_stopped : RecordingsRest → (command : Option Command) (o : Outside) (answer : Status) → answer ≡ ends.NoMemory → CallEnds (expected command o.told o.hearing.left) (written_by command) o o answer
+pub run_stopped : RecordingsRest → LeftIsShown → (command : Option Command) (o : Outside) (answer : Status) → answer ≡ ends.NoMemory → CallEnds (expected command o.told o.hearing.left) (written_by command) o o answer
     → CommandRun command o o answer
-run_stopped rest command o answer is call = subst (λ (a : Status). CommandRun command o o a) (sym is) (record {
+run_stopped rest law command o answer is call = subst (λ (a : Status). CommandRun command o o a) (sym is) (record {
   call = subst (λ (a : Status). CallEnds (expected command o.told o.hearing.left) (written_by command) o o a) is call;
   usage = record { only = λ e. absurd cc; always = λ none h. absurd h };
   diverged = λ e. absurd cc;
   recorded = λ h. absurd h;
   moment = untouched command;
+  shown = seen command;
   input = unread command;
   answered = λ e. absurd cc;
   refused = λ e. absurd cc;
@@ -150,6 +165,14 @@ run_stopped rest command o answer is call = subst (λ (a : Status). CommandRun c
   untouched (Some (Replay images pairs)) before told = tt
   untouched (Some (Debug pairs)) before told = tt
   untouched (Some (Drill rounds)) before told = tt
+
+  seen : (command : Option Command) → WhenTold o.told (λ before. WhenTold o.told (ShowsRecording command ends.NoMemory before))
+  seen None before told after here = tt
+  seen (Some (Record images schedule_name)) before told after here =
+      left_shown law images schedule_name ends.NoMemory o o (λ h. absurd h) (untouched (Some (Record images schedule_name))) before told after here
+  seen (Some (Replay images pairs)) before told after here = tt
+  seen (Some (Debug pairs)) before told after here = tt
+  seen (Some (Drill rounds)) before told after here = tt
 
   not_done : ends.NoMemory ≡ ends.Done → ⊥
   not_done e = cc

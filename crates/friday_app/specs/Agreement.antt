@@ -1,7 +1,9 @@
 -- What a command leaves of a recording.
 use Rattle.std.specs.Prelude.{Option, Some, None}
 use Rattle.fri_outside.specs.Outside.{Folder}
-use Rattle.record_command.specs.Agreement.{LeavesMoment, LeavesRecording}
+use Rattle.command_run.specs.declared.status.Status.{Status}
+use Rattle.record_command.specs.Agreement.{IsRecordable, LeavesMoment, LeavesRecording}
+use Rattle.headline.specs.Headline.{ShowsRun}
 use Rattle.friday_app.specs.Command.{Command, Debug, Drill, Record, Replay}
 
 -- a command that records leaves its recording
@@ -19,3 +21,11 @@ KeepsMoment (Some (Record images schedule_name)) before after = LeavesMoment ima
 KeepsMoment (Some (Replay images pairs)) before after = Unit {0}
 KeepsMoment (Some (Debug pairs)) before after = Unit {0}
 KeepsMoment (Some (Drill rounds)) before after = Unit {0}
+
+-- what a command that records leaves makes `replay` and `debug` show the run
+abbrev pub ShowsRecording : Option Command → Status → Folder → Folder → Type 0
+ShowsRecording None answer before after = Unit {0}
+ShowsRecording (Some (Record images schedule_name)) answer before after = (r : IsRecordable before schedule_name) → ShowsRun r answer after
+ShowsRecording (Some (Replay images pairs)) answer before after = Unit {0}
+ShowsRecording (Some (Debug pairs)) answer before after = Unit {0}
+ShowsRecording (Some (Drill rounds)) answer before after = Unit {0}

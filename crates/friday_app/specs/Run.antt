@@ -6,7 +6,7 @@ use Rattle.command_run.specs.declared.status.Status.TheVariants as ends
 use Rattle.command_run.specs.Call.{IsAnswerStatus, PrintsRefusal}
 use Rattle.command_run.specs.Outcome.{Work, outcome_status}
 use Rattle.command_run.specs.Run.{CallEnds, Outside}
-use Rattle.friday_app.specs.Agreement.{KeepsMoment, KeepsRecording}
+use Rattle.friday_app.specs.Agreement.{KeepsMoment, KeepsRecording, ShowsRecording}
 use Rattle.friday_app.specs.Command.{Command, IsReplayCommand}
 use Rattle.friday_app.specs.Expected.{expected, written_by}
 use Rattle.friday_app.specs.Input.{AnswersFirst, IsLargeInput, KeepsInput}
@@ -29,6 +29,10 @@ pub record CommandRun (command : Option Command) (old new : Outside) (answer : S
   -- of the next entry may stand; or the logs hold a first part of their heads, or are not made yet; or the whole logs
   -- stand, and behind them the first ones of the images, the last of which may be cut off
   pub moment : WhenTold old.told (λ before. KeepsMoment command before new.told)
+  -- those logs and the modules, and these alone, make `replay` and `debug` show the recorded calls, replies and memories: in
+  -- every folder, for some or all of the processes, in any order. After an answer that is the whole run, and elsewhere a
+  -- moment of it, unless the recording was stopped in the heads
+  pub shown : WhenTold old.told (λ before. WhenTold new.told (ShowsRecording command answer before))
   pub input : KeepsInput command old.told old.hearing new.hearing old.taken answer
   pub answered : answer ≡ ends.ReadFault → (Rose old.counts.reads new.counts.reads → ⊥)
       → AnswersFirst command old.told old.hearing.left new.hearing.left old.taken new.taken

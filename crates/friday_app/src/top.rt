@@ -11,6 +11,7 @@ use command_run::{Status, finish, give_up, refuse_words};
 use debug_command::{debug, sessions_work};
 use drill_command::drill;
 use fri_outside::{Files, Terminal};
+use headline::left_is_shown;
 use record_command::{record, recordings_rest, recordings_work};
 use replay_command::{replay, replays_work};
 use std::alloc::{AllocError, Global};
@@ -23,6 +24,7 @@ fn run<F: Files, T: Terminal>(alloc: Global, words: &[String], files: &mut F, io
         result }
 {
     recordings_rest();
+    left_is_shown();
     match parse(alloc, words) {
         Ok(None) => refuse_words(io),
         Ok(Some(Command::Record(images, schedule_file))) => {

@@ -1,5 +1,5 @@
 -- A recording's group, and each of its processes: its module, its first state, and its log.
-use Rattle.std.proofs.Common.{◌≡◌, ◌≢◌, ◌⊎◌, ◌∙◌, ◌<◌, ◌+◌, ℕ, zero, suc, List, [], ◌∷◌, length, map, slice_get, Option, Some, None, Result, Ok, Err, inl, inr, ap, arith, refl, subst, sym}
+use Rattle.std.proofs.Common.{◌≡◌, ◌≢◌, ◌⊎◌, ◌∙◌, ◌<◌, ◌+◌, ℕ, zero, suc, List, [], ◌∷◌, ◌++◌, length, map, slice_get, Option, Some, None, Result, Ok, Err, inl, inr, ap, arith, refl, subst, sym}
 use Rattle.std.specs.Prelude.{All, AllPairs, slice_index_or}
 use Rattle.std.specs.FinMap.{get}
 use Rattle.std.proofs.lemmas.List.{length-map}
@@ -16,7 +16,7 @@ use Rattle.guest_process.specs.Start.{start}
 use Rattle.guest_process.specs.State.{State}
 use Rattle.group_record.specs.Answer.{first_states_from, group_of, with_first_state}
 use Rattle.group_record.specs.Laws.{Beginning, IsBegun}
-use Rattle.group_record.specs.Logs.{TellsEvents, log_name}
+use Rattle.group_record.specs.Logs.{TellsBefore, log_name}
 use Rattle.group_record.specs.Run.{Group, Step, head_of_log, log_of, name_of, size}
 use Rattle.command_run.specs.Inputs.{module_in, spelled_module, valid_module}
 use Rattle.command_run.specs.Laws.{ReadsModules}
@@ -149,15 +149,15 @@ module_by name held = and_then (bytes_or_stop name (found_within most_module hel
 same_module : (before folder : Folder) (name : List ℕ) → get folder name ≡ get before name → module_in folder name ≡ module_in before name
 same_module before folder name same = ap (module_by name) same
 
-pub pair_stands : ReadsModules → {before : Folder} {name : List ℕ} (r : IsRecordable before name) (steps : List Step) (folder : Folder) (p : ℕ) → HoldsProcess r steps folder p
-    → (t : TellsEvents (group_in r) steps p) → PairStands folder (pair_of_process r.schedule p) (replay_of (group_in r) steps p t)
-pair_stands reads {before} r steps folder p holds t =
+pub pair_stands : ReadsModules → {before : Folder} {name : List ℕ} (r : IsRecordable before name) (steps : List Step) (cut : ℕ → List ℕ) (folder : Folder) (p : ℕ) → HoldsProcess r steps cut folder p
+    → (t : TellsBefore (group_in r) steps p (cut p)) → PairStands folder (pair_of_process r.schedule p) (replay_of (group_in r) steps cut p t)
+pair_stands reads {before} r steps cut folder p holds t =
     let b = begins_in r p t.first t.begun in
     record {
       «module» = b.«module»;
       reads = same_module before folder (module_name r.schedule p) holds.«module» ∙ b.reads;
       begins = b.begins;
-      log = log_stands reads folder (log_name (name_of (group_in r) p)) (log_of (group_in r) steps p) (head_of_log (group_in r) p) t.left holds.log t.within t.head;
+      log = log_stands reads folder (log_name (name_of (group_in r) p)) (log_of (group_in r) steps p ++ cut p) (head_of_log (group_in r) p) t.left holds.log t.within t.head;
     }
 
 -- ---- the heads go together

@@ -8,5 +8,4 @@ pub mod Beginning
 pub mod Ordering
 pub mod Receiving
 pub mod Whole
-pub mod Leaving
-pub mod Calling
+pub mod Left

@@ -15,26 +15,26 @@ use Rattle.headline.specs.Shown.{AreShown, IsRecorded, ShowsProcess}
 
 -- ---- the replay of a process
 
-pub record Node (group : Group) (steps : List Step) (start : List Replaying) (node p : ℕ) : Type 0 where
+pub record Node (group : Group) (steps : List Step) (cut : ℕ → List ℕ) (start : List Replaying) (node p : ℕ) : Type 0 where
   pub replay : Replaying
   pub at : slice_get start node ≡ Some replay
-  pub shows : ShowsProcess group steps p replay
+  pub shows : ShowsProcess group steps cut p replay
 
-pub node_at : (group : Group) (steps : List Step) (ps : List ℕ) (rs : List Replaying) → AreShown group steps ps rs → (node p : ℕ) → slice_get ps node ≡ Some p → Node group steps rs node p
-node_at group steps [] [] shown node p at = cc
-node_at group steps (q ∷ ps) (r ∷ rs) shown zero p at =
-    record { replay = r; at = refl; shows = subst (λ (n : ℕ). ShowsProcess group steps n r) (same_Some q p at) shown.0 }
-node_at group steps (q ∷ ps) (r ∷ rs) shown (suc node) p at =
-    let rest = node_at group steps ps rs shown.1 node p at in record { replay = rest.replay; at = rest.at; shows = rest.shows }
-node_at group steps [] (r ∷ rs) shown node p at = absurd shown
-node_at group steps (q ∷ ps) [] shown node p at = absurd shown
+pub node_at : (group : Group) (steps : List Step) (cut : ℕ → List ℕ) (ps : List ℕ) (rs : List Replaying) → AreShown group steps cut ps rs → (node p : ℕ) → slice_get ps node ≡ Some p → Node group steps cut rs node p
+node_at group steps cut [] [] shown node p at = cc
+node_at group steps cut (q ∷ ps) (r ∷ rs) shown zero p at =
+    record { replay = r; at = refl; shows = subst (λ (n : ℕ). ShowsProcess group steps cut n r) (same_Some q p at) shown.0 }
+node_at group steps cut (q ∷ ps) (r ∷ rs) shown (suc node) p at =
+    let rest = node_at group steps cut ps rs shown.1 node p at in record { replay = rest.replay; at = rest.at; shows = rest.shows }
+node_at group steps cut [] (r ∷ rs) shown node p at = absurd shown
+node_at group steps cut (q ∷ ps) [] shown node p at = absurd shown
 
-pub aheads : (group : Group) (steps : List Step) (ps : List ℕ) (rs : List Replaying) → AreShown group steps ps rs → map ahead rs ≡ map (entries steps) ps
-aheads group steps [] [] shown = refl
-aheads group steps (p ∷ ps) (r ∷ rs) shown =
-    ap (λ (es : List Entry). es ∷ map ahead rs) shown.0.accepted ∙ ap (λ (lists : List (List Entry)). entries steps p ∷ lists) (aheads group steps ps rs shown.1)
-aheads group steps [] (r ∷ rs) shown = absurd shown
-aheads group steps (p ∷ ps) [] shown = absurd shown
+pub aheads : (group : Group) (steps : List Step) (cut : ℕ → List ℕ) (ps : List ℕ) (rs : List Replaying) → AreShown group steps cut ps rs → map ahead rs ≡ map (entries steps) ps
+aheads group steps cut [] [] shown = refl
+aheads group steps cut (p ∷ ps) (r ∷ rs) shown =
+    ap (λ (es : List Entry). es ∷ map ahead rs) shown.0.accepted ∙ ap (λ (lists : List (List Entry)). entries steps p ∷ lists) (aheads group steps cut ps rs shown.1)
+aheads group steps cut [] (r ∷ rs) shown = absurd shown
+aheads group steps cut (p ∷ ps) [] shown = absurd shown
 
 -- ---- what a node has
 
@@ -72,10 +72,10 @@ state_at a (s ∷ rs) es (suc i) r at =
     let here : suc a + i ≡ a + suc i = omega arith in
     state_at (suc a) rs es i r at ∙ ap (λ (n : ℕ). Some (after_entries r (node_event_count n es))) here
 
-pub is_recorded : (group : Group) (steps : List Step) (ps : List ℕ) (start : List Replaying) → AreShown group steps ps start → IsOrder entry_clock (map (entries steps) ps) (events start)
+pub is_recorded : (group : Group) (steps : List Step) (cut : ℕ → List ℕ) (ps : List ℕ) (start : List Replaying) → AreShown group steps cut ps start → IsOrder entry_clock (map (entries steps) ps) (events start)
     → (k node p : ℕ) → slice_get ps node ≡ Some p → IsRecorded group steps p (node_event_count node (take k (events start))) (states start k) node
-is_recorded group steps ps start shown order k node p at =
-    let n = node_at group steps ps start shown node p at in
+is_recorded group steps cut ps start shown order k node p at =
+    let n = node_at group steps cut ps start shown node p at in
     let count = node_event_count node (take k (events start)) in
     let here : 0 + node ≡ node = omega arith in
     record {
@@ -137,11 +137,11 @@ own_of (x ∷ es) j node e at = by_test (λ j here. own_of es j node e here) (x.
 
 -- ---- the order is that of the recorded events
 
-pub order_is : Ordered → (group : Group) (steps : List Step) (ps : List ℕ) (start : List Replaying) → PartsFit start → AreShown group steps ps start
+pub order_is : Ordered → (group : Group) (steps : List Step) (cut : ℕ → List ℕ) (ps : List ℕ) (start : List Replaying) → PartsFit start → AreShown group steps cut ps start
     → IsOrder entry_clock (map (entries steps) ps) (events start) × ((es : List (NodeEvent Entry)) → IsOrder entry_clock (map (entries steps) ps) es → es ≡ events start)
-order_is ordered group steps ps start fits shown =
+order_is ordered group steps cut ps start fits shown =
     let known = ordered start fits in
-    let same = aheads group steps ps start shown in (
+    let same = aheads group steps cut ps start shown in (
       subst (λ (lists : List (List Entry)). IsOrder entry_clock lists (events start)) same known.0,
       λ es is. known.1 es (subst (λ (lists : List (List Entry)). IsOrder entry_clock lists es) (sym same) is),
     )

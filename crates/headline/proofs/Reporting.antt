@@ -1,5 +1,5 @@
 -- What a replay of recorded logs reports, and its images.
-use Rattle.std.proofs.Common.{◌≡◌, ◌∙◌, ◌<◌, ◌+◌, ℕ, suc, Bool, false, cond, List, [], ◌∷◌, ◌++◌, length, map, slice_get, Some, ap, arith, refl, sym}
+use Rattle.std.proofs.Common.{◌≡◌, ◌∙◌, ◌<◌, ◌+◌, ◌||◌, ℕ, suc, Bool, false, cond, List, [], ◌∷◌, ◌++◌, length, map, slice_get, Some, ap, arith, refl, sym}
 use Rattle.std.specs.Prelude.{slice_index_or}
 use Rattle.std.proofs.lemmas.Option.{same_Some}
 use Rattle.lib_calls.specs.Traffic.{prints}
@@ -15,71 +15,76 @@ use Rattle.group_state.specs.Place.{group_count}
 use Rattle.group_state.specs.Report.{accepted_in, all_accepted, report_line}
 use Rattle.group_state.specs.Tally.{Accepted, of_process, tally}
 use Rattle.command_run.specs.Outcome.{Work}
-use Rattle.replay_command.specs.Report.{diverges, images_in, images_if, replay_work, report_text}
-use Rattle.headline.specs.Shown.{AreShown, ShowsProcess, recorded_events, recorded_images, recorded_line, recorded_report}
+use Rattle.replay_command.specs.Report.{diverges, images_in, images_if, is_divergence, replay_work, report_text}
+use Rattle.headline.specs.Shown.{AreShown, ShowsProcess, recorded_events, recorded_images, recorded_line, recorded_report, recorded_verdict}
 use Rattle.headline.proofs.Showing.{ComesTo}
 
 -- so many processes come to what their replays come to
-abbrev pub AllCome : Group → List Step → List ℕ → List Replaying → Type 0
-AllCome group steps [] [] = Unit {0}
-AllCome group steps (p ∷ ps) (r ∷ rs) = ComesTo group steps p r × AllCome group steps ps rs
-AllCome group steps [] (r ∷ rs) = ⊥
-AllCome group steps (p ∷ ps) [] = ⊥
+abbrev pub AllCome : Group → List Step → (ℕ → List ℕ) → List ℕ → List Replaying → Type 0
+AllCome group steps cut [] [] = Unit {0}
+AllCome group steps cut (p ∷ ps) (r ∷ rs) = ComesTo group steps cut p r × AllCome group steps cut ps rs
+AllCome group steps cut [] (r ∷ rs) = ⊥
+AllCome group steps cut (p ∷ ps) [] = ⊥
 
-lines : (group : Group) (steps : List Step) (ps : List ℕ) (rs : List Replaying) → AllCome group steps ps rs → map report_line rs ≡ map (recorded_line group steps) ps
-lines group steps [] [] all = refl
-lines group steps (p ∷ ps) (r ∷ rs) all =
-    ap (λ (l : ReportLine). l ∷ map report_line rs) all.0.line ∙ ap (λ (ls : List ReportLine). recorded_line group steps p ∷ ls) (lines group steps ps rs all.1)
-lines group steps [] (r ∷ rs) all = absurd all
-lines group steps (p ∷ ps) [] all = absurd all
+lines : (group : Group) (steps : List Step) (cut : ℕ → List ℕ) (ps : List ℕ) (rs : List Replaying) → AllCome group steps cut ps rs → map report_line rs ≡ map (recorded_line group steps cut) ps
+lines group steps cut [] [] all = refl
+lines group steps cut (p ∷ ps) (r ∷ rs) all =
+    ap (λ (l : ReportLine). l ∷ map report_line rs) all.0.line ∙ ap (λ (ls : List ReportLine). recorded_line group steps cut p ∷ ls) (lines group steps cut ps rs all.1)
+lines group steps cut [] (r ∷ rs) all = absurd all
+lines group steps cut (p ∷ ps) [] all = absurd all
 
-none_diverges : (group : Group) (steps : List Step) (ps : List ℕ) → diverges (map (recorded_line group steps) ps) ≡ false
-none_diverges group steps [] = refl
-none_diverges group steps (p ∷ ps) = none_diverges group steps ps
+left_diverges_not : (cut : List ℕ) → is_divergence (recorded_verdict cut) ≡ false
+left_diverges_not [] = refl
+left_diverges_not (first ∷ rest) = refl
 
-accepted_is : (group : Group) (steps : List Step) (p : ℕ) (r : Replaying) → ShowsProcess group steps p r → accepted_in r ≡ of_process p (entries steps p)
-accepted_is group steps p r shows =
+none_diverges : (group : Group) (steps : List Step) (cut : ℕ → List ℕ) (ps : List ℕ) → diverges (map (recorded_line group steps cut) ps) ≡ false
+none_diverges group steps cut [] = refl
+none_diverges group steps cut (p ∷ ps) =
+    ap (λ (b : Bool). b || diverges (map (recorded_line group steps cut) ps)) (left_diverges_not (cut p)) ∙ none_diverges group steps cut ps
+
+accepted_is : (group : Group) (steps : List Step) (cut : ℕ → List ℕ) (p : ℕ) (r : Replaying) → ShowsProcess group steps cut p r → accepted_in r ≡ of_process p (entries steps p)
+accepted_is group steps cut p r shows =
     ap (λ (h : Head). of_process h.process (ahead r)) shows.head ∙ ap (of_process p) shows.accepted
 
-events_are : (group : Group) (steps : List Step) (ps : List ℕ) (rs : List Replaying) → AreShown group steps ps rs → all_accepted rs ≡ recorded_events steps ps
-events_are group steps [] [] all = refl
-events_are group steps (p ∷ ps) (r ∷ rs) all =
-    ap (λ (es : List Accepted). es ++ all_accepted rs) (accepted_is group steps p r all.0) ∙ ap (λ (es : List Accepted). of_process p (entries steps p) ++ es) (events_are group steps ps rs all.1)
-events_are group steps [] (r ∷ rs) all = absurd all
-events_are group steps (p ∷ ps) [] all = absurd all
+events_are : (group : Group) (steps : List Step) (cut : ℕ → List ℕ) (ps : List ℕ) (rs : List Replaying) → AreShown group steps cut ps rs → all_accepted rs ≡ recorded_events steps ps
+events_are group steps cut [] [] all = refl
+events_are group steps cut (p ∷ ps) (r ∷ rs) all =
+    ap (λ (es : List Accepted). es ++ all_accepted rs) (accepted_is group steps cut p r all.0) ∙ ap (λ (es : List Accepted). of_process p (entries steps p) ++ es) (events_are group steps cut ps rs all.1)
+events_are group steps cut [] (r ∷ rs) all = absurd all
+events_are group steps cut (p ∷ ps) [] all = absurd all
 
-tally_is : (group : Group) (steps : List Step) (ps : List ℕ) (rs : List Replaying) → AreShown group steps ps rs → tally (group_count rs) (recorded_events steps ps) ≡ tally (size group) (recorded_events steps ps)
-tally_is group steps [] [] all = refl
-tally_is group steps (p ∷ ps) (r ∷ rs) all = ap (λ (h : Head). tally h.count (recorded_events steps (p ∷ ps))) all.0.head
-tally_is group steps [] (r ∷ rs) all = absurd all
-tally_is group steps (p ∷ ps) [] all = absurd all
+tally_is : (group : Group) (steps : List Step) (cut : ℕ → List ℕ) (ps : List ℕ) (rs : List Replaying) → AreShown group steps cut ps rs → tally (group_count rs) (recorded_events steps ps) ≡ tally (size group) (recorded_events steps ps)
+tally_is group steps cut [] [] all = refl
+tally_is group steps cut (p ∷ ps) (r ∷ rs) all = ap (λ (h : Head). tally h.count (recorded_events steps (p ∷ ps))) all.0.head
+tally_is group steps cut [] (r ∷ rs) all = absurd all
+tally_is group steps cut (p ∷ ps) [] all = absurd all
 
-image_is : (group : Group) (steps : List Step) (p : ℕ) (r : Replaying) → ShowsProcess group steps p r → ComesTo group steps p r
+image_is : (group : Group) (steps : List Step) (cut : ℕ → List ℕ) (p : ℕ) (r : Replaying) → ShowsProcess group steps cut p r → ComesTo group steps cut p r
     → image_files r.head.name (left_memory r) (left_print r) ≡ image_files (name_of group p) (memory_in (process_after group steps p)) (prints (entries steps p))
-image_is group steps p r shows comes =
+image_is group steps cut p r shows comes =
     ap (λ (h : Head). image_files h.name (left_memory r) (left_print r)) shows.head
     ∙ ap (λ (bytes : List ℕ). image_files (name_of group p) bytes (left_print r)) comes.memory
     ∙ ap (image_files (name_of group p) (memory_in (process_after group steps p))) comes.printed
 
-images_are : (group : Group) (steps : List Step) (ps : List ℕ) (rs : List Replaying) → AreShown group steps ps rs → AllCome group steps ps rs → images_in rs ≡ recorded_images group steps ps
-images_are group steps [] [] shown all = refl
-images_are group steps (p ∷ ps) (r ∷ rs) shown all =
-    ap (λ (files : List (List ℕ × List ℕ)). files ++ images_in rs) (image_is group steps p r shown.0 all.0)
-    ∙ ap (λ (files : List (List ℕ × List ℕ)). image_files (name_of group p) (memory_in (process_after group steps p)) (prints (entries steps p)) ++ files) (images_are group steps ps rs shown.1 all.1)
-images_are group steps [] (r ∷ rs) shown all = absurd shown
-images_are group steps (p ∷ ps) [] shown all = absurd shown
+images_are : (group : Group) (steps : List Step) (cut : ℕ → List ℕ) (ps : List ℕ) (rs : List Replaying) → AreShown group steps cut ps rs → AllCome group steps cut ps rs → images_in rs ≡ recorded_images group steps ps
+images_are group steps cut [] [] shown all = refl
+images_are group steps cut (p ∷ ps) (r ∷ rs) shown all =
+    ap (λ (files : List (List ℕ × List ℕ)). files ++ images_in rs) (image_is group steps cut p r shown.0 all.0)
+    ∙ ap (λ (files : List (List ℕ × List ℕ)). image_files (name_of group p) (memory_in (process_after group steps p)) (prints (entries steps p)) ++ files) (images_are group steps cut ps rs shown.1 all.1)
+images_are group steps cut [] (r ∷ rs) shown all = absurd shown
+images_are group steps cut (p ∷ ps) [] shown all = absurd shown
 
 abbrev work_of : List ReportLine → GroupCounts → List (List ℕ × List ℕ) → Bool → Work
 work_of ls counts files diverged = record { text = report_text ls counts; writes = files; diverged = diverged }
 
-pub report_is : (images : Bool) (group : Group) (steps : List Step) (ps : List ℕ) (rs : List Replaying) → AreShown group steps ps rs → AllCome group steps ps rs
-    → replay_work images rs ≡ recorded_report images group steps ps
-report_is images group steps ps rs shown all =
-    let counts = ap (tally (group_count rs)) (events_are group steps ps rs shown) ∙ tally_is group steps ps rs shown in
-    ap (λ (ls : List ReportLine). work_of ls (tally (group_count rs) (all_accepted rs)) (images_if images rs) (diverges ls)) (lines group steps ps rs all)
-    ∙ ap (λ (c : GroupCounts). work_of (map (recorded_line group steps) ps) c (images_if images rs) (diverges (map (recorded_line group steps) ps))) counts
-    ∙ ap (λ (files : List (List ℕ × List ℕ)). work_of (map (recorded_line group steps) ps) (tally (size group) (recorded_events steps ps)) (cond images files []) (diverges (map (recorded_line group steps) ps))) (images_are group steps ps rs shown all)
-    ∙ ap (work_of (map (recorded_line group steps) ps) (tally (size group) (recorded_events steps ps)) (cond images (recorded_images group steps ps) [])) (none_diverges group steps ps)
+pub report_is : (images : Bool) (group : Group) (steps : List Step) (cut : ℕ → List ℕ) (ps : List ℕ) (rs : List Replaying) → AreShown group steps cut ps rs → AllCome group steps cut ps rs
+    → replay_work images rs ≡ recorded_report images group steps cut ps
+report_is images group steps cut ps rs shown all =
+    let counts = ap (tally (group_count rs)) (events_are group steps cut ps rs shown) ∙ tally_is group steps cut ps rs shown in
+    ap (λ (ls : List ReportLine). work_of ls (tally (group_count rs) (all_accepted rs)) (images_if images rs) (diverges ls)) (lines group steps cut ps rs all)
+    ∙ ap (λ (c : GroupCounts). work_of (map (recorded_line group steps cut) ps) c (images_if images rs) (diverges (map (recorded_line group steps cut) ps))) counts
+    ∙ ap (λ (files : List (List ℕ × List ℕ)). work_of (map (recorded_line group steps cut) ps) (tally (size group) (recorded_events steps ps)) (cond images files []) (diverges (map (recorded_line group steps cut) ps))) (images_are group steps cut ps rs shown all)
+    ∙ ap (work_of (map (recorded_line group steps cut) ps) (tally (size group) (recorded_events steps ps)) (cond images (recorded_images group steps ps) [])) (none_diverges group steps cut ps)
 
 -- ---- the images of all processes
 

@@ -1,5 +1,5 @@
 -- The main theorem: the modules and the logs of a recording, and these alone, make `replay` and `debug` show what was recorded.
-use Rattle.std.specs.Prelude.{◌≡◌, ◌≢◌, ◌<◌, ◌↔◌, ℕ, Bool, List, [], ◌∷◌, length, map, Some, Ok, Contains}
+use Rattle.std.specs.Prelude.{◌≡◌, ◌≢◌, ◌⊎◌, ◌<◌, ◌↔◌, ℕ, Bool, List, [], ◌∷◌, ◌++◌, length, map, Some, Ok, Contains}
 use Rattle.std.specs.FinMap.{get}
 use Rattle.std.specs.List.{AllByRecursion, slice_index_or}
 use Rattle.fri_outside.specs.Outside.{Folder}
@@ -9,12 +9,14 @@ use Rattle.group_record.specs.Images.{images as all_images}
 use Rattle.group_record.specs.Logs.{log_name}
 use Rattle.group_record.specs.Run.{Group, IsMoment, Step, log_of, name_of, size}
 use Rattle.proc_replay.specs.Replaying.{Replaying}
+use Rattle.command_run.specs.declared.status.Status.{Status}
+use Rattle.command_run.specs.Call.{IsAnswerStatus}
 use Rattle.log_pairs.specs.Pairs.{Pair, replays_of_pairs}
-use Rattle.record_command.specs.Agreement.{IsRecordable, group_in, steps_in}
+use Rattle.record_command.specs.Agreement.{IsAtMoment, IsInHeads, IsRecordable, LeavesMoment, LeavesRecording, MayFollow, group_in, steps_in}
 use Rattle.record_command.specs.Expected.{module_name}
 use Rattle.replay_command.specs.Report.{replay_outcome}
 use Rattle.debug_command.specs.Debug.{debug_outcome, session_outcome}
-use Rattle.headline.specs.Shown.{AreShown, ShowsGroup, recorded_images, recorded_report}
+use Rattle.headline.specs.Shown.{AreShown, ShowsGroup, no_cut, recorded_images, recorded_report}
 
 -- ---- the words that name some of a recording
 
@@ -48,23 +50,26 @@ pub record AreInOrder (ps sorted : List ℕ) : Type 0 where
 
 -- ---- the folder
 
--- of process p a folder has the module, as the recording found it, and the log of these steps. Nothing else of it matters
-pub record HoldsProcess {before : Folder} {schedule_name : List ℕ} (r : IsRecordable before schedule_name) (steps : List Step) (folder : Folder) (p : ℕ) : Type 0 where
+-- of process p a folder has the module, as the recording found it, and the log of these steps. After the log there may
+-- stand a first part of one more entry, as a recording leaves it that was stopped. Nothing else of the folder matters
+pub record HoldsProcess {before : Folder} {schedule_name : List ℕ} (r : IsRecordable before schedule_name) (steps : List Step) (cut : ℕ → List ℕ)
+    (folder : Folder) (p : ℕ) : Type 0 where
   pub «module» : get folder (module_name r.schedule p) ≡ get before (module_name r.schedule p)
-  pub log : get folder (log_name (name_of (group_in r) p)) ≡ Some (log_of (group_in r) steps p)
+  pub log : get folder (log_name (name_of (group_in r) p)) ≡ Some (log_of (group_in r) steps p ++ cut p)
+  pub front : MayFollow (group_in r) (steps_in r) steps p (cut p)
 
 -- ---- the whole
 
 -- the pairs of these processes are read to replays, which show what was recorded
-pub record IsShown (group : Group) (steps : List Step) (folder : Folder) (ps : List ℕ) (pairs : List Pair) : Type 0 where
+pub record IsShown (group : Group) (steps : List Step) (cut : ℕ → List ℕ) (folder : Folder) (ps : List ℕ) (pairs : List Pair) : Type 0 where
   -- the processes in the order of their numbers, and their replays
   pub sorted : List ℕ
   pub in_order : AreInOrder ps sorted
   pub start : List Replaying
   pub opened : replays_of_pairs folder pairs ≡ Ok start
-  pub each : AreShown group steps sorted start
+  pub each : AreShown group steps cut sorted start
   -- `replay` says what was recorded, and leaves the images of it: with all processes those of the recording
-  pub replay : (images : Bool) → replay_outcome images pairs folder ≡ Ok (recorded_report images group steps sorted)
+  pub replay : (images : Bool) → replay_outcome images pairs folder ≡ Ok (recorded_report images group steps cut sorted)
   pub images : length ps ≡ size group → recorded_images group steps sorted ≡ all_images group steps
   -- `debug` answers each line by the group of these replays alone, which shows the recording
   pub debug : (input : List ℕ) → debug_outcome pairs (Some input) folder ≡ Some (session_outcome start input)
@@ -74,5 +79,35 @@ pub record IsShown (group : Group) (steps : List Step) (folder : Folder) (ps : L
 -- in every folder that holds the modules and the logs of some processes, these are shown as they were recorded
 abbrev pub Headline : Type 0
 Headline = (before folder : Folder) (schedule_name : List ℕ) (r : IsRecordable before schedule_name) (steps : List Step) → IsMoment steps (steps_in r)
-    → (ps : List ℕ) → AreProcesses (size (group_in r)) ps → AllByRecursion (HoldsProcess r steps folder) ps
-    → IsShown (group_in r) steps folder ps (pairs_of_processes r.schedule ps)
+    → (cut : ℕ → List ℕ) (ps : List ℕ) → AreProcesses (size (group_in r)) ps → AllByRecursion (HoldsProcess r steps cut folder) ps
+    → IsShown (group_in r) steps cut folder ps (pairs_of_processes r.schedule ps)
+
+-- ---- what a recording leaves
+
+-- of process p a folder has the module, as the recording found it, and the log, as the recording left it
+pub record HasFiles {before : Folder} {schedule_name : List ℕ} (r : IsRecordable before schedule_name) (after folder : Folder) (p : ℕ) : Type 0 where
+  pub «module» : get folder (module_name r.schedule p) ≡ get before (module_name r.schedule p)
+  pub log : get folder (log_name (name_of (group_in r) p)) ≡ get after (log_name (name_of (group_in r) p))
+
+-- in every folder that has these files of some processes, and whatever else, these are shown as they were after these steps
+abbrev pub ShowsSteps : {before : Folder} {schedule_name : List ℕ} → IsRecordable before schedule_name → List Step → (ℕ → List ℕ) → Folder → Type 0
+ShowsSteps r steps cut after =
+    (folder : Folder) (ps : List ℕ) → AreProcesses (size (group_in r)) ps → AllByRecursion (HasFiles r after folder) ps
+    → IsShown (group_in r) steps cut folder ps (pairs_of_processes r.schedule ps)
+
+-- a moment of the run, which is shown
+pub record ShowsMoment {before : Folder} {schedule_name : List ℕ} (r : IsRecordable before schedule_name) (after : Folder) : Type 0 where
+  pub at : IsAtMoment (group_in r) (steps_in r) after
+  pub shown : ShowsSteps r at.steps at.cut after
+
+-- what `record` left with this status shows the whole run where it came to an answer, and elsewhere a moment of it, unless
+-- it was stopped in the heads
+pub record ShowsRun {before : Folder} {schedule_name : List ℕ} (r : IsRecordable before schedule_name) (answer : Status) (after : Folder) : Type 0 where
+  pub whole : IsAnswerStatus answer → ShowsSteps r (steps_in r) no_cut after
+  pub stopped : IsInHeads (group_in r) before after ⊎ ShowsMoment r after
+
+-- so it is wherever a recording ends
+abbrev pub LeftIsShown : Type 0
+LeftIsShown = (images : Bool) (schedule_name : List ℕ) (answer : Status) (before after : Folder)
+    → (IsAnswerStatus answer → LeavesRecording schedule_name before after) → LeavesMoment images schedule_name before (Some after)
+    → (r : IsRecordable before schedule_name) → ShowsRun r answer after

@@ -16,6 +16,7 @@ use Rattle.group_record.specs.Run.{Group, Step, entries, head_of_log, history, n
 use Rattle.proc_replay.specs.Course.{ahead}
 use Rattle.proc_replay.specs.Replaying.{Replaying}
 use Rattle.group_state.specs.declared.report.ReportLine.{ReportLine}
+use Rattle.group_state.specs.declared.report.Verdict.{Verdict}
 use Rattle.group_state.specs.declared.report.Verdict.TheVariants as said
 use Rattle.group_state.specs.Place.{after_entries, entry_clock, events, node_event_count, states}
 use Rattle.group_state.specs.Tally.{Accepted, of_process, tally}
@@ -24,36 +25,45 @@ use Rattle.replay_command.specs.Report.{report_text}
 
 -- ---- one process
 
+-- after no log anything stands
+abbrev pub no_cut : ℕ → List ℕ
+no_cut p = []
+
 -- the states of a process in the recording: the first one, and that after each of its events
 abbrev pub recorded_states : Group → List Step → ℕ → List State
 recorded_states group steps p = option_to_list (slice_get group.first p) ++ process_states steps p
 
 -- a replay is that of a process of the recording. It has all events of the process and no other, each is accepted, and
--- after each n of them it is in the recorded state
-pub record ShowsProcess (group : Group) (steps : List Step) (p : ℕ) (r : Replaying) : Type 0 where
+-- after each n of them it is in the recorded state. What stands after their entries is left over
+pub record ShowsProcess (group : Group) (steps : List Step) (cut : ℕ → List ℕ) (p : ℕ) (r : Replaying) : Type 0 where
   pub head : r.head ≡ head_of_log group p
   pub begun : slice_get group.first p ≡ Some r.state
   pub told : entries_of r.left ≡ entries steps p
-  pub rest : rest_of r.left ≡ []
+  pub rest : rest_of r.left ≡ cut p
   pub accepted : ahead r ≡ entries steps p
   pub moments : (n : ℕ) → n ≤ length (entries steps p) → slice_get (recorded_states group steps p) n ≡ Some (after_entries r n)
 
 -- so are these replays those of these processes
-abbrev pub AreShown : Group → List Step → List ℕ → List Replaying → Type 0
-AreShown group steps [] [] = Unit {0}
-AreShown group steps (p ∷ ps) (r ∷ rs) = ShowsProcess group steps p r × AreShown group steps ps rs
-AreShown group steps [] (r ∷ rs) = ⊥
-AreShown group steps (p ∷ ps) [] = ⊥
+abbrev pub AreShown : Group → List Step → (ℕ → List ℕ) → List ℕ → List Replaying → Type 0
+AreShown group steps cut [] [] = Unit {0}
+AreShown group steps cut (p ∷ ps) (r ∷ rs) = ShowsProcess group steps cut p r × AreShown group steps cut ps rs
+AreShown group steps cut [] (r ∷ rs) = ⊥
+AreShown group steps cut (p ∷ ps) [] = ⊥
 
 -- ---- what `replay` says
 
--- the line of a process: how many events were recorded, how it stood after them, and that the log is whole
-abbrev pub recorded_line : Group → List Step → ℕ → ReportLine
-recorded_line group steps p = record {
+-- a log is whole, unless bytes stand after its entries, which are left over
+abbrev pub recorded_verdict : List ℕ → Verdict
+recorded_verdict [] = said.Whole
+recorded_verdict (first ∷ rest) = said.Left (length (first ∷ rest))
+
+-- the line of a process: how many events were recorded, how it stood after them, and whether the log is whole
+abbrev pub recorded_line : Group → List Step → (ℕ → List ℕ) → ℕ → ReportLine
+recorded_line group steps cut p = record {
   name = name_of group p;
   events = length (entries steps p);
   end = end_after (process_after group steps p);
-  verdict = said.Whole;
+  verdict = recorded_verdict (cut p);
 }
 
 -- the recorded events of these processes
@@ -65,9 +75,9 @@ abbrev pub recorded_images : Group → List Step → List ℕ → List (List ℕ
 recorded_images group steps ps = flat_map (λ p. image_files (name_of group p) (memory_in (process_after group steps p)) (prints (entries steps p))) ps
 
 -- the lines and the counts of these processes, and no divergence; and their images, where they are asked for
-abbrev pub recorded_report : Bool → Group → List Step → List ℕ → Work
-recorded_report images group steps ps = record {
-  text = report_text (map (recorded_line group steps) ps) (tally (size group) (recorded_events steps ps));
+abbrev pub recorded_report : Bool → Group → List Step → (ℕ → List ℕ) → List ℕ → Work
+recorded_report images group steps cut ps = record {
+  text = report_text (map (recorded_line group steps cut) ps) (tally (size group) (recorded_events steps ps));
   writes = if images then recorded_images group steps ps else [];
   diverged = false;
 }

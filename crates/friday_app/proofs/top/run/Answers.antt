@@ -26,7 +26,7 @@ returns-in-Ok-Some-Record g c =
     let old : Outside = outside (g.F.Files.told c.args.files.now) (g.F.Files.counts c.args.files.now) (g.T.Sink.hearing c.args.io.now) (g.T.Sink.taken c.args.io.now) (g.T.Sink.faults c.args.io.now) in
     let new : Outside = outside (g.F.Files.told c.record-ended.new.files) (g.F.Files.counts c.record-ended.new.files) (g.T.Sink.hearing c.finish.new.out) (g.T.Sink.taken c.finish.new.out) (g.T.Sink.faults c.finish.new.out) in
     run_same (sym (ap (option_map meaning) (arm.field-0-is ∙ ap Some arm.field-0-0-is)) ∙ arm.ensures.names)
-    (run_recorded arm.images arm.schedule_file.now c.record-ended.result c.finish.result old new
+    (run_recorded c.left_is_shown.ensures arm.images arm.schedule_file.now c.record-ended.result c.finish.result old new
     (c.finish.ensures _ _ _ _ _ _ _ (performed (record_outcome arm.images arm.schedule_file.now) false old.told new.told old.counts new.counts c.record-ended.result e.tells e.makes e.keeps e.done e.counts e.cause))
     e.recorded e.moment)
 
@@ -60,4 +60,4 @@ returns-in-Ok-Some-Drill g c =
 pub returns-in-Err : goal.returns-in-Err
 returns-in-Err g c =
     let old : Outside = outside (g.F.Files.told c.args.files.now) (g.F.Files.counts c.args.files.now) (g.T.Sink.hearing c.args.io.now) (g.T.Sink.taken c.args.io.now) (g.T.Sink.faults c.args.io.now) in
-    run_stopped c.recordings_rest.ensures _ old c.give_up.result c.give_up.ensures.status (c.give_up.ensures.ends _ _ old)
+    run_stopped c.recordings_rest.ensures c.left_is_shown.ensures _ old c.give_up.result c.give_up.ensures.status (c.give_up.ensures.ends _ _ old)

@@ -15,7 +15,7 @@ use Rattle.record_command.specs.Record.{recorded_work}
 use Rattle.debug_command.specs.Debug.{session_outcome}
 use Rattle.friday_app.specs.Command.{Command, Debug, Record, Replay}
 use Rattle.headline.specs.Headline.{AreProcesses, IsShown, pairs_of_processes}
-use Rattle.headline.specs.Shown.{recorded_report}
+use Rattle.headline.specs.Shown.{no_cut, recorded_report}
 
 -- a call came to this outcome: its text stands behind what was printed before, and its files in the folder that was there
 pub record CameTo (outcome : CommandOutcome) (folder : Folder) (printed : Option (List ℕ)) (new : Outside) (answer : Status) : Type 0 where
@@ -35,9 +35,9 @@ pub record ShowsThese {before : Folder} {schedule_name : List ℕ} (images : Boo
   pub whole : (run_in r).full ≡ None
   pub folder : Folder
   pub left : with_files (logs (group_in r) (steps_in r) ++ images_of images (group_in r) (run_in r)) (Some before) ≡ Some folder
-  pub shown : IsShown (group_in r) (steps_in r) folder ps (pairs_of_processes r.schedule ps)
+  pub shown : IsShown (group_in r) (steps_in r) no_cut folder ps (pairs_of_processes r.schedule ps)
   pub replayed : (asked : Bool) → second ≡ Some (Replay asked (pairs_of_processes r.schedule ps)) → IsAnswerStatus answer
-      → CameTo (Ok (recorded_report asked (group_in r) (steps_in r) shown.sorted)) folder (printed_by images r old.taken) new answer
+      → CameTo (Ok (recorded_report asked (group_in r) (steps_in r) no_cut shown.sorted)) folder (printed_by images r old.taken) new answer
   pub debugged : second ≡ Some (Debug (pairs_of_processes r.schedule ps)) → IsAnswerStatus answer
       → WhenTold old.hearing.left (λ input. CameTo (session_outcome shown.start input) folder (printed_by images r old.taken) new answer)
 

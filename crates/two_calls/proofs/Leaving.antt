@@ -1,6 +1,6 @@
 -- What a recording leaves: its files, and the modules as they stood.
 use lib.Pointwise.{pointwise}
-use Rattle.std.proofs.Common.{◌≡◌, ◌≢◌, ◌⊎◌, eqb, ◌∙◌, ◌<◌, ◌-◌, ℕ, zero, suc, Bool, true, false, cond, not, List, [], ◌∷◌, ◌++◌, length, drop, map, Option, Some, None, Result, Ok, inl, inr, ap, arith, refl, subst}
+use Rattle.std.proofs.Common.{◌≡◌, ◌≢◌, ◌⊎◌, eqb, ◌∙◌, ◌<◌, ◌-◌, ℕ, zero, suc, Bool, true, false, cond, not, List, [], ◌∷◌, ◌++◌, length, drop, map, Option, Some, None, Result, Ok, Err, inl, inr, ap, arith, refl, subst}
 use Rattle.std.specs.Prelude.{Contains, IsTrue, ◌&&◌, codes, is_none, nat_eq, nat_le, slice_index_or}
 use Rattle.std.specs.List.{AllByRecursion, ends_with, list_all}
 use Rattle.std.proofs.Math.Seq.{drop-append_seam}
@@ -9,6 +9,8 @@ use Rattle.std.proofs.lemmas.Bool.Decides.{eqb_tells}
 use Rattle.std.proofs.lemmas.List.{length-append}
 use Rattle.fri_outside.specs.Outside.{Folder}
 use Rattle.wasm_types.specs.Modules.{Module}
+use Rattle.schedule_text.specs.Laws.{GivesSchedules}
+use Rattle.schedule_text.specs.Reading.{Refusal as ScheduleRefusal, BadLineAt, TooManyRuns, schedule_of}
 use Rattle.schedule_text.specs.Schedule.{IsWellFormed, Schedule, is_module_name, is_visible}
 use Rattle.schedule_text.specs.declared.process.ProcessLine.{ProcessLine}
 use Rattle.group_record.specs.Answer.{first_states}
@@ -16,10 +18,24 @@ use Rattle.group_record.specs.Images.{images_from, images_of, mem_name, out_name
 use Rattle.group_record.specs.Logs.{files_from, log_name, logs}
 use Rattle.group_record.specs.Run.{Group, Progress, Step, log_of}
 use Rattle.command_run.specs.declared.status.Status.TheVariants as ends
-use Rattle.command_run.specs.Outcome.{CommandOutcome, Stop, and_then, outcome_status, written_names}
+use Rattle.command_run.specs.Outcome.{CommandOutcome, Stop, and_then, file_of, outcome_status, written_names}
+use Rattle.command_run.specs.OutcomeLaws.{follows, same_Ok}
 use Rattle.record_command.specs.Agreement.{IsRecordable, group_in, run_in, steps_in}
-use Rattle.record_command.specs.Expected.{group_outcome, module_name, modules_of, record_outcome}
+use Rattle.record_command.specs.Expected.{group_outcome, module_name, modules_of, record_outcome, schedule_in, schedule_or_refusal}
+use Rattle.record_command.specs.Limits.{most_schedule}
 use Rattle.record_command.specs.Record.{outcome_by_room, recorded_work}
+
+-- ---- a schedule that was read
+
+read_by : (name : List ℕ) (r : Result Schedule ScheduleRefusal) (schedule : Schedule) → schedule_or_refusal name r ≡ Ok schedule → r ≡ Ok schedule
+read_by name (Ok s) schedule is = ap (λ (s : Schedule). Ok s) (same_Ok (schedule_or_refusal name (Ok s)) s schedule refl is)
+read_by name (Err (BadLineAt line)) schedule is = cc
+read_by name (Err TooManyRuns) schedule is = cc
+
+pub schedule_formed : GivesSchedules → (folder : Folder) (name : List ℕ) (schedule : Schedule) → schedule_in folder name ≡ Ok schedule → IsWellFormed schedule
+schedule_formed gives folder name schedule is =
+    let bytes = follows (file_of folder name most_schedule) _ schedule is in
+    ((gives bytes.given schedule).0 (read_by name (schedule_of bytes.given) schedule bytes.comes)).0.formed
 
 -- ---- the outcome of a recording that is done
 

@@ -1,9 +1,9 @@
-use Rattle.headline.proofs.Calling.{shows_recorded}
+use Rattle.two_calls.proofs.Calling.{shows_recorded}
 use Rattle.headline.proofs.calls.record_and_show.Goals as goal
 
 pub returns-in-Done-clause-shown : goal.returns-in-Done-clause-shown
 returns-in-Done-clause-shown g c =
-    shows_recorded c.exact_outcome.ensures.schedules c.recordings_are_shown.ensures _ _ _ _ _ _ _ c.friday.ensures.run c.in-Done.is c.friday-in-Done.ensures.run
+    shows_recorded c.exact_outcome.ensures.schedules _ _ _ _ _ _ _ c.friday.ensures.run c.in-Done.is c.friday-in-Done.ensures.run
 
 pub returns-in-Done-clause-stopped : goal.returns-in-Done-clause-stopped
 returns-in-Done-clause-stopped g c = tt

@@ -2,9 +2,8 @@
 ghost use Rattle.std.specs.Prelude.{◌≢◌, IfErr, IfOk, map, string_bytes};
 ghost use Rattle.command_run.specs.Run.{outside};
 ghost use Rattle.friday_app.specs.Command.{command_of};
-ghost use Rattle.headline.specs.Calls.{ShowsRecorded};
+ghost use Rattle.two_calls.specs.Calls.{ShowsRecorded};
 
-use crate::laws::recordings_are_shown;
 use fri_outside::{Files, Terminal};
 use friday_app::{Status, friday};
 use schedule_text::exact_outcome;
@@ -31,7 +30,6 @@ pub fn record_and_show<F: Files, T: Terminal>(
     // It is done exactly where the first call is
     ensures stopped { IfErr result (λ status. status ≢ Status.Done) }
 {
-    recordings_are_shown();
     exact_outcome();
     match friday(alloc, first, files, io) {
         Status::Done => Ok(friday(alloc, second, files, io)),
