@@ -3,8 +3,10 @@ ghost use Rattle.std.specs.Prelude.{◌≡◌, ◌+◌, ◌^◌, ◌<◌, ◌≤
 ghost use Rattle.std.specs.Int.{w16, w32, w64};
 ghost use Rattle.fri_bytes.specs.Leb.{IsUnsigned, IsSigned, unsigned_at, signed_at};
 ghost use Rattle.fri_bytes.specs.Reading.{Takes, Begins, OnlyBegins, NoneBegins, byte_at, piece_at, le_at};
+ghost use Rattle.fri_bytes.specs.Short.{IsShort, short_at};
 
 use crate::leb::{signed, unsigned};
+use crate::short::short;
 use byteorder::{ByteOrder, LittleEndian};
 use std::marker::Model;
 
@@ -92,6 +94,21 @@ impl<'a> Cursor<'a> {
     {
         let piece = self.take(8)?;
         Some(LittleEndian::read_u64(piece))
+    }
+
+    /// The next number below 2^64 in its shortest LEB128 spelling, which has at most 10 bytes. None where
+    /// no such spelling stands at the front.
+    #[inline(always)]
+    pub fn short_u64(&mut self) -> Option<u64>
+        ensures taken { Takes self.old self.new result (short_at self.old.left) }
+        ensures spelled { IfSome result (λ n. Begins IsShort self.old.left n self.new.left) }
+        ensures only { IfSome result (λ n. OnlyBegins IsShort self.old.left n self.new.left) }
+        ensures none { IfNone result (NoneBegins IsShort self.old.left) }
+    {
+        let (number, rest) = short(self.rest)?;
+        self.at += self.rest.len() - rest.len();
+        self.rest = rest;
+        Some(number)
     }
 
     /// The next number of 32 bits in LEB128, as the WebAssembly standard has it (version 1.0, section

@@ -1,6 +1,7 @@
 use Rattle.fri_bytes.proofs.Le.{le_reads, le_at-to_le_bytes, le_at_spelled}
 use Rattle.fri_bytes.proofs.LebLaws.{unsigned_reads, signed_reads}
 use Rattle.fri_bytes.proofs.Readers.{piece_reads}
+use Rattle.fri_bytes.proofs.Shorts.{short_reads, short_at-short_bytes, short_at_spelled}
 use Rattle.fri_bytes.proofs.laws.exact_readers.Goals as goal
 
 pub returns : goal.returns
@@ -9,6 +10,9 @@ returns c = record {
   number = le_reads;
   unsigned = unsigned_reads;
   signed = signed_reads;
+  short = short_reads;
   reads_written = le_at-to_le_bytes;
   rewritten = le_at_spelled;
+  reads_short = short_at-short_bytes;
+  short_rewritten = short_at_spelled;
 }
