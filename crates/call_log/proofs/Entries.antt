@@ -1,4 +1,4 @@
--- All entries of some bytes: what one more entry changes, and that no list of entries is longer.
+-- All entries of what is left of a log: what one more entry changes, and that no list of entries is longer.
 use Rattle.std.proofs.Common.{◌≡◌, ℕ, zero, suc, ◌+◌, ◌≤◌, ◌⊎◌, inl, inr, ◌↔◌, subst, append-nil, List, [], ◌∷◌, ◌++◌, length, Option, Some, None, refl, sym, ap, ◌∙◌, arith, length-append, append_assoc}
 use Rattle.std.specs.Prelude.{◌<◌, take, drop, All}
 use Rattle.std.proofs.Common.{length-drop}
@@ -8,182 +8,201 @@ use Rattle.std.proofs.lemmas.List.Elements.{All-nil, All-cons, All-head, All-tai
 use Rattle.fri_bytes.specs.Laws.{ExactReaders}
 use Rattle.lib_calls.specs.declared.entry.Entry.{Entry}
 use Rattle.lib_calls.specs.Entry.{IsShaped}
-use Rattle.call_log.specs.Entry.{BeginsNoEntry, encoding, encodings}
-use Rattle.call_log.specs.Log.{Holds, entry_at, entry_then, entries_of, entries_within, rest_of, rest_then, rest_within}
+use Rattle.call_log.specs.declared.version.Version.{Version}
+use Rattle.call_log.specs.Entry.{BeginsNoEntry, clock_after, encoding, encodings}
+use Rattle.call_log.specs.Limits.{least_entry}
+use Rattle.call_log.specs.Log.{Holds, Unread, entry_at, entry_then, entries_of, entries_within, past, rest_of, rest_then, rest_within}
 use Rattle.call_log.proofs.EntryLaws.{entry_at-begins, entry_at-found, entry_at-none}
 use Rattle.call_log.proofs.Sizes.{length-encoding}
 
 -- each entry takes bytes
-pub shorter : (bytes : List ℕ) (e : Entry) (rest : List ℕ) → bytes ≡ encoding e ++ rest → length rest + 24 ≤ length bytes
-shorter bytes e rest begins = omega (arith, ap length begins, length-append (encoding e) rest, length-encoding e)
+pub shorter : (v : Version) (last : ℕ) (bytes : List ℕ) (e : Entry) (rest : List ℕ) → bytes ≡ encoding v last e ++ rest → length rest + least_entry ≤ length bytes
+shorter v last bytes e rest begins = omega (arith, ap length begins, length-append (encoding v last e) rest, length-encoding v last e)
 
 -- an entry stands in front, or none does
-pub record Begins (bytes : List ℕ) : Type 0 where
+pub record Begins (left : Unread) : Type 0 where
   pub entry : Entry
   pub rest : List ℕ
   pub shaped : IsShaped entry
-  pub spelled : bytes ≡ encoding entry ++ rest
+  pub spelled : left.bytes ≡ encoding left.version left.last entry ++ rest
+
+-- none does
+abbrev pub Stops : Unread → Type 0
+Stops left = BeginsNoEntry left.version left.last left.bytes
+
+-- fewer bytes are left behind it
+fewer : (left : Unread) (b : Begins left) → length b.rest + least_entry ≤ length left.bytes
+fewer left b = shorter left.version left.last left.bytes b.entry b.rest b.spelled
 
 -- no bytes hold no entry
-pub nothing_begins : BeginsNoEntry []
-nothing_begins e rest shaped begins = omega (arith, shorter [] e rest begins)
+pub nothing_begins : (v : Version) (last : ℕ) → BeginsNoEntry v last []
+nothing_begins v last e rest shaped begins = omega (arith, shorter v last [] e rest begins)
 
 -- entries that stand alone are held
-pub held_alone : (entries : List Entry) → All IsShaped entries → Holds (encodings entries) entries []
-held_alone entries shaped = record { shaped = shaped; spelled = sym (append-nil (encodings entries)); longest = nothing_begins }
+pub held_alone : (v : Version) (last : ℕ) (entries : List Entry) → All IsShaped entries → Holds (record { version = v; last = last; bytes = encodings v last entries }) entries []
+held_alone v last entries shaped = record { shaped = shaped; spelled = sym (append-nil (encodings v last entries)); longest = nothing_begins v (clock_after last entries) }
 
 module _ (readers : ExactReaders) where
-  cases : (bytes : List ℕ) (o : Option (Entry × List ℕ)) → entry_at bytes ≡ o → Begins bytes ⊎ BeginsNoEntry bytes
-  cases bytes None e = inr (λ entry rest shaped spelled.
-      let some : entry_at bytes ≡ Some (entry, rest) = entry_at-begins readers bytes entry rest shaped spelled in
+  cases : (left : Unread) (o : Option (Entry × Unread)) → entry_at left ≡ o → Begins left ⊎ Stops left
+  cases left None e = inr (λ entry rest shaped spelled.
+      let some : entry_at left ≡ Some (entry, past left entry rest) = entry_at-begins readers left entry rest shaped spelled in
       absurd cc)
-  cases bytes (Some x) e =
-      let found = entry_at-found bytes x.0 x.1 e in
-      inl (record { entry = x.0; rest = x.1; shaped = found.0; spelled = found.1 })
+  cases left (Some x) e =
+      let found = entry_at-found left x.0 x.1 e in
+      inl (record { entry = x.0; rest = x.1.bytes; shaped = found.shaped; spelled = found.spelled })
 
-  pub front_cases : (bytes : List ℕ) → Begins bytes ⊎ BeginsNoEntry bytes
-  front_cases bytes = cases bytes (entry_at bytes) refl
+  pub front_cases : (left : Unread) → Begins left ⊎ Stops left
+  front_cases left = cases left (entry_at left) refl
+
+  -- what is read where an entry stands in front
+  reads : (left : Unread) (b : Begins left) → entry_at left ≡ Some (b.entry, past left b.entry b.rest)
+  reads left b = entry_at-begins readers left b.entry b.rest b.shaped b.spelled
 
   -- ---- the limit does not matter where it is the number of bytes or more
 
-  entries-limit : (n m : ℕ) (bytes : List ℕ) → length bytes ≤ n → length bytes ≤ m → entries_within n bytes ≡ entries_within m bytes
+  entries-limit : (n m : ℕ) (left : Unread) → length left.bytes ≤ n → length left.bytes ≤ m → entries_within n left ≡ entries_within m left
   unfolding entries_within
-  entries-limit zero zero bytes p q = refl
-  entries-limit zero (suc m) bytes p q = elim (front_cases bytes) [
-    | inl b ↦ absurd (omega (arith, shorter bytes b.entry b.rest b.spelled))
-    | inr none ↦ rw (entry_at-none bytes none) refl
+  entries-limit zero zero left p q = refl
+  entries-limit zero (suc m) left p q = elim (front_cases left) [
+    | inl b ↦ absurd (omega (arith, fewer left b))
+    | inr none ↦ rw (entry_at-none left none) refl
   ]
-  entries-limit (suc n) zero bytes p q = elim (front_cases bytes) [
-    | inl b ↦ absurd (omega (arith, shorter bytes b.entry b.rest b.spelled))
-    | inr none ↦ rw (entry_at-none bytes none) refl
+  entries-limit (suc n) zero left p q = elim (front_cases left) [
+    | inl b ↦ absurd (omega (arith, fewer left b))
+    | inr none ↦ rw (entry_at-none left none) refl
   ]
-  entries-limit (suc n) (suc m) bytes p q = elim (front_cases bytes) [
+  entries-limit (suc n) (suc m) left p q = elim (front_cases left) [
     | inl b ↦
-        let less = shorter bytes b.entry b.rest b.spelled in
-        let more = entries-limit n m b.rest (omega arith) (omega arith) in
-        rw (entry_at-begins readers bytes b.entry b.rest b.shaped b.spelled) (ap (λ (es : List Entry). b.entry ∷ es) more)
-    | inr none ↦ rw (entry_at-none bytes none) refl
+        let less = fewer left b in
+        let more = entries-limit n m (past left b.entry b.rest) (omega arith) (omega arith) in
+        rw (reads left b) (ap (λ (es : List Entry). b.entry ∷ es) more)
+    | inr none ↦ rw (entry_at-none left none) refl
   ]
 
-  rest-limit : (n m : ℕ) (bytes : List ℕ) → length bytes ≤ n → length bytes ≤ m → rest_within n bytes ≡ rest_within m bytes
+  rest-limit : (n m : ℕ) (left : Unread) → length left.bytes ≤ n → length left.bytes ≤ m → rest_within n left ≡ rest_within m left
   unfolding rest_within
-  rest-limit zero zero bytes p q = refl
-  rest-limit zero (suc m) bytes p q = elim (front_cases bytes) [
-    | inl b ↦ absurd (omega (arith, shorter bytes b.entry b.rest b.spelled))
-    | inr none ↦ rw (entry_at-none bytes none) refl
+  rest-limit zero zero left p q = refl
+  rest-limit zero (suc m) left p q = elim (front_cases left) [
+    | inl b ↦ absurd (omega (arith, fewer left b))
+    | inr none ↦ rw (entry_at-none left none) refl
   ]
-  rest-limit (suc n) zero bytes p q = elim (front_cases bytes) [
-    | inl b ↦ absurd (omega (arith, shorter bytes b.entry b.rest b.spelled))
-    | inr none ↦ rw (entry_at-none bytes none) refl
+  rest-limit (suc n) zero left p q = elim (front_cases left) [
+    | inl b ↦ absurd (omega (arith, fewer left b))
+    | inr none ↦ rw (entry_at-none left none) refl
   ]
-  rest-limit (suc n) (suc m) bytes p q = elim (front_cases bytes) [
+  rest-limit (suc n) (suc m) left p q = elim (front_cases left) [
     | inl b ↦
-        let less = shorter bytes b.entry b.rest b.spelled in
-        let more = rest-limit n m b.rest (omega arith) (omega arith) in
-        rw (entry_at-begins readers bytes b.entry b.rest b.shaped b.spelled) more
-    | inr none ↦ rw (entry_at-none bytes none) refl
+        let less = fewer left b in
+        let more = rest-limit n m (past left b.entry b.rest) (omega arith) (omega arith) in
+        rw (reads left b) more
+    | inr none ↦ rw (entry_at-none left none) refl
   ]
 
   -- ---- one entry more, and the end
 
-  pub entries-step : (bytes : List ℕ) → entries_of bytes ≡ entry_then (entries_within (length bytes)) (entry_at bytes)
+  pub entries-step : (left : Unread) → entries_of left ≡ entry_then (entries_within (length left.bytes)) (entry_at left)
   unfolding entries_of entries_within
-  entries-step bytes = entries-limit (length bytes) (suc (length bytes)) bytes (omega arith) (omega arith)
+  entries-step left = entries-limit (length left.bytes) (suc (length left.bytes)) left (omega arith) (omega arith)
 
-  pub rest-step : (bytes : List ℕ) → rest_of bytes ≡ rest_then (rest_within (length bytes)) bytes (entry_at bytes)
+  pub rest-step : (left : Unread) → rest_of left ≡ rest_then (rest_within (length left.bytes)) left.bytes (entry_at left)
   unfolding rest_of rest_within
-  rest-step bytes = rest-limit (length bytes) (suc (length bytes)) bytes (omega arith) (omega arith)
+  rest-step left = rest-limit (length left.bytes) (suc (length left.bytes)) left (omega arith) (omega arith)
 
   -- the entry that stands in front is the first of all
-  pub entries_of-next : (bytes : List ℕ) (e : Entry) (rest : List ℕ) → IsShaped e → bytes ≡ encoding e ++ rest → entries_of bytes ≡ e ∷ entries_of rest
+  pub entries_of-next : (left : Unread) (e : Entry) (rest : List ℕ) → IsShaped e → left.bytes ≡ encoding left.version left.last e ++ rest → entries_of left ≡ e ∷ entries_of (past left e rest)
   unfolding entries_of
-  entries_of-next bytes e rest shaped begins =
-      let less = shorter bytes e rest begins in
-      entries-step bytes
-      ∙ ap (entry_then (entries_within (length bytes))) (entry_at-begins readers bytes e rest shaped begins)
-      ∙ ap (λ (es : List Entry). e ∷ es) (entries-limit (length bytes) (length rest) rest (omega arith) (omega arith))
+  entries_of-next left e rest shaped begins =
+      let less = shorter left.version left.last left.bytes e rest begins in
+      entries-step left
+      ∙ ap (entry_then (entries_within (length left.bytes))) (entry_at-begins readers left e rest shaped begins)
+      ∙ ap (λ (es : List Entry). e ∷ es) (entries-limit (length left.bytes) (length rest) (past left e rest) (omega arith) (omega arith))
 
   -- and the bytes behind all entries are those behind the others
-  pub rest_of-next : (bytes : List ℕ) (e : Entry) (rest : List ℕ) → IsShaped e → bytes ≡ encoding e ++ rest → rest_of bytes ≡ rest_of rest
+  pub rest_of-next : (left : Unread) (e : Entry) (rest : List ℕ) → IsShaped e → left.bytes ≡ encoding left.version left.last e ++ rest → rest_of left ≡ rest_of (past left e rest)
   unfolding rest_of
-  rest_of-next bytes e rest shaped begins =
-      let less = shorter bytes e rest begins in
-      rest-step bytes
-      ∙ ap (rest_then (rest_within (length bytes)) bytes) (entry_at-begins readers bytes e rest shaped begins)
-      ∙ rest-limit (length bytes) (length rest) rest (omega arith) (omega arith)
+  rest_of-next left e rest shaped begins =
+      let less = shorter left.version left.last left.bytes e rest begins in
+      rest-step left
+      ∙ ap (rest_then (rest_within (length left.bytes)) left.bytes) (entry_at-begins readers left e rest shaped begins)
+      ∙ rest-limit (length left.bytes) (length rest) (past left e rest) (omega arith) (omega arith)
 
   -- where none stands in front, there is none
-  pub entries_of-end : (bytes : List ℕ) → BeginsNoEntry bytes → entries_of bytes ≡ []
-  entries_of-end bytes none = entries-step bytes ∙ ap (entry_then (entries_within (length bytes))) (entry_at-none bytes none)
+  pub entries_of-end : (left : Unread) → Stops left → entries_of left ≡ []
+  entries_of-end left none = entries-step left ∙ ap (entry_then (entries_within (length left.bytes))) (entry_at-none left none)
 
   -- and all bytes are left
-  pub rest_of-end : (bytes : List ℕ) → BeginsNoEntry bytes → rest_of bytes ≡ bytes
-  rest_of-end bytes none = rest-step bytes ∙ ap (rest_then (rest_within (length bytes)) bytes) (entry_at-none bytes none)
+  pub rest_of-end : (left : Unread) → Stops left → rest_of left ≡ left.bytes
+  rest_of-end left none = rest-step left ∙ ap (rest_then (rest_within (length left.bytes)) left.bytes) (entry_at-none left none)
 
-  -- ---- the two functions give what the bytes hold, and nothing else is held
+  -- ---- the two functions give what is held, and nothing else is held
 
   -- one more entry in front
-  pub Holds-next : (bytes : List ℕ) (e : Entry) (rest : List ℕ) (entries : List Entry) (left : List ℕ) → IsShaped e → bytes ≡ encoding e ++ rest → Holds rest entries left → Holds bytes (e ∷ entries) left
-  Holds-next bytes e rest entries left shaped begins h = record {
+  pub Holds-next : (left : Unread) (e : Entry) (rest : List ℕ) (entries : List Entry) (over : List ℕ) → IsShaped e → left.bytes ≡ encoding left.version left.last e ++ rest → Holds (past left e rest) entries over → Holds left (e ∷ entries) over
+  Holds-next left e rest entries over shaped begins h = record {
     shaped = All-cons IsShaped e entries shaped h.shaped;
-    spelled = begins ∙ ap (λ (t : List ℕ). encoding e ++ t) h.spelled ∙ sym (append_assoc (encoding e) (encodings entries) left);
+    spelled = begins ∙ ap (λ (t : List ℕ). encoding left.version left.last e ++ t) h.spelled ∙ sym (append_assoc (encoding left.version left.last e) (encodings left.version e.clock entries) over);
     longest = h.longest;
   }
 
-  none_held : (bytes : List ℕ) → BeginsNoEntry bytes → Holds bytes (entries_of bytes) (rest_of bytes)
-  none_held bytes none =
-      let h : Holds bytes [] bytes = record { shaped = All-nil IsShaped; spelled = refl; longest = none } in
-      rw (entries_of-end bytes none, rest_of-end bytes none) h
+  none_held : (left : Unread) → Stops left → Holds left (entries_of left) (rest_of left)
+  none_held left none =
+      let h : Holds left [] left.bytes = record { shaped = All-nil IsShaped; spelled = refl; longest = none } in
+      rw (entries_of-end left none, rest_of-end left none) h
 
-  holds-limit : (n : ℕ) (bytes : List ℕ) → length bytes ≤ n → Holds bytes (entries_of bytes) (rest_of bytes)
-  holds-limit zero bytes p = elim (front_cases bytes) [
-    | inl b ↦ absurd (omega (arith, shorter bytes b.entry b.rest b.spelled))
-    | inr none ↦ none_held bytes none
+  holds-limit : (n : ℕ) (left : Unread) → length left.bytes ≤ n → Holds left (entries_of left) (rest_of left)
+  holds-limit zero left p = elim (front_cases left) [
+    | inl b ↦ absurd (omega (arith, fewer left b))
+    | inr none ↦ none_held left none
   ]
-  holds-limit (suc n) bytes p = elim (front_cases bytes) [
+  holds-limit (suc n) left p = elim (front_cases left) [
     | inl b ↦
-        let less = shorter bytes b.entry b.rest b.spelled in
-        let more = holds-limit n b.rest (omega arith) in
-        rw (entries_of-next bytes b.entry b.rest b.shaped b.spelled, rest_of-next bytes b.entry b.rest b.shaped b.spelled)
-        (Holds-next bytes b.entry b.rest (entries_of b.rest) (rest_of b.rest) b.shaped b.spelled more)
-    | inr none ↦ none_held bytes none
+        let less = fewer left b in
+        let next : Unread = past left b.entry b.rest in
+        let more = holds-limit n next (omega arith) in
+        rw (entries_of-next left b.entry b.rest b.shaped b.spelled, rest_of-next left b.entry b.rest b.shaped b.spelled)
+        (Holds-next left b.entry b.rest (entries_of next) (rest_of next) b.shaped b.spelled more)
+    | inr none ↦ none_held left none
   ]
 
-  pub holds : (bytes : List ℕ) → Holds bytes (entries_of bytes) (rest_of bytes)
-  holds bytes = holds-limit (length bytes) bytes (omega arith)
+  pub holds : (left : Unread) → Holds left (entries_of left) (rest_of left)
+  holds left = holds-limit (length left.bytes) left (omega arith)
 
-  pub holds_once : (bytes : List ℕ) (entries : List Entry) (rest : List ℕ) → Holds bytes entries rest → (entries ≡ entries_of bytes) × (rest ≡ rest_of bytes)
-  holds_once bytes [] rest h =
-      let none : BeginsNoEntry bytes = λ e after shaped begins. h.longest e after shaped (sym h.spelled ∙ begins) in
-      (sym (entries_of-end bytes none), sym h.spelled ∙ sym (rest_of-end bytes none))
-  holds_once bytes (e ∷ entries) rest h =
+  pub holds_once : (left : Unread) (entries : List Entry) (rest : List ℕ) → Holds left entries rest → (entries ≡ entries_of left) × (rest ≡ rest_of left)
+  holds_once left [] rest h =
+      let none : Stops left = λ e after shaped begins. h.longest e after shaped (sym h.spelled ∙ begins) in
+      (sym (entries_of-end left none), sym h.spelled ∙ sym (rest_of-end left none))
+  holds_once left (e ∷ entries) rest h =
       let shaped : IsShaped e = All-head IsShaped e entries h.shaped in
-      let begins : bytes ≡ encoding e ++ (encodings entries ++ rest) = h.spelled ∙ append_assoc (encoding e) (encodings entries) rest in
-      let behind : Holds (encodings entries ++ rest) entries rest = record { shaped = All-tail IsShaped e entries h.shaped; spelled = refl; longest = h.longest } in
-      let more = holds_once (encodings entries ++ rest) entries rest behind in (
-        ap (λ (es : List Entry). e ∷ es) more.0 ∙ sym (entries_of-next bytes e (encodings entries ++ rest) shaped begins),
-        more.1 ∙ sym (rest_of-next bytes e (encodings entries ++ rest) shaped begins),
+      let others : List ℕ = encodings left.version e.clock entries ++ rest in
+      let begins : left.bytes ≡ encoding left.version left.last e ++ others = h.spelled ∙ append_assoc (encoding left.version left.last e) (encodings left.version e.clock entries) rest in
+      let next : Holds (past left e others) entries rest = record { shaped = All-tail IsShaped e entries h.shaped; spelled = refl; longest = h.longest } in
+      let more = holds_once (past left e others) entries rest next in (
+        ap (λ (es : List Entry). e ∷ es) more.0 ∙ sym (entries_of-next left e others shaped begins),
+        more.1 ∙ sym (rest_of-next left e others shaped begins),
       )
 
   -- ---- what is read is what is held
 
-  pub holds_exactly : (bytes : List ℕ) (entries : List Entry) (rest : List ℕ) → Holds bytes entries rest ↔ ((entries_of bytes ≡ entries) × (rest_of bytes ≡ rest))
-  holds_exactly bytes entries rest = (
-    λ h. let once = holds_once bytes entries rest h in (sym once.0, sym once.1),
-    λ h. subst (λ (x : List Entry × List ℕ). Holds bytes x.0 x.1) (ap (λ (es : List Entry). (es, rest_of bytes)) h.0 ∙ ap (λ (r : List ℕ). (entries, r)) h.1) (holds bytes),
+  pub holds_exactly : (left : Unread) (entries : List Entry) (rest : List ℕ) → Holds left entries rest ↔ ((entries_of left ≡ entries) × (rest_of left ≡ rest))
+  holds_exactly left entries rest = (
+    λ h. let once = holds_once left entries rest h in (sym once.0, sym once.1),
+    λ h. subst (λ (x : List Entry × List ℕ). Holds left x.0 x.1) (ap (λ (es : List Entry). (es, rest_of left)) h.0 ∙ ap (λ (r : List ℕ). (entries, r)) h.1) (holds left),
   )
 
   -- ---- an entry that was cut
 
-  cut_begins_none : (e : Entry) (n : ℕ) → IsShaped e → n < length (encoding e) → BeginsNoEntry (take n (encoding e))
-  cut_begins_none e n shaped low other rest fits begins =
-      let behind = rest ++ drop n (encoding e) in
-      let whole : encoding e ≡ encoding other ++ behind =
-      sym (take-append-drop n (encoding e)) ∙ ap (λ (b : List ℕ). b ++ drop n (encoding e)) begins ∙ append_assoc (encoding other) rest (drop n (encoding e)) in
-      let one : entry_at (encoding e) ≡ Some (e, []) = entry_at-begins readers (encoding e) e [] shaped (sym (append-nil (encoding e))) in
-      let two : entry_at (encoding e) ≡ Some (other, behind) = entry_at-begins readers (encoding e) other behind fits whole in
-      let same : length behind ≡ 0 = sym (ap (λ (x : Entry × List ℕ). length x.1) (same_Some _ _ (sym one ∙ two))) in
-      omega (arith, low, same, length-append rest (drop n (encoding e)), length-drop n (encoding e))
+  cut_begins_none : (v : Version) (last : ℕ) (e : Entry) (n : ℕ) → IsShaped e → n < length (encoding v last e) → BeginsNoEntry v last (take n (encoding v last e))
+  cut_begins_none v last e n shaped low other rest fits begins =
+      let whole : List ℕ = encoding v last e in
+      let left : Unread = record { version = v; last = last; bytes = whole } in
+      let after : List ℕ = rest ++ drop n whole in
+      let is : whole ≡ encoding v last other ++ after =
+      sym (take-append-drop n whole) ∙ ap (λ (b : List ℕ). b ++ drop n whole) begins ∙ append_assoc (encoding v last other) rest (drop n whole) in
+      let one : entry_at left ≡ Some (e, past left e []) = entry_at-begins readers left e [] shaped (sym (append-nil whole)) in
+      let two : entry_at left ≡ Some (other, past left other after) = entry_at-begins readers left other after fits is in
+      let same : length after ≡ 0 = sym (ap (λ (x : Entry × Unread). length x.1.bytes) (same_Some _ _ (sym one ∙ two))) in
+      omega (arith, low, same, length-append rest (drop n whole), length-drop n whole)
 
-  pub held_cut : (entries : List Entry) (e : Entry) (n : ℕ) → All IsShaped entries → IsShaped e → n < length (encoding e) → Holds (encodings entries ++ take n (encoding e)) entries (take n (encoding e))
-  held_cut entries e n all shaped low = record { shaped = all; spelled = refl; longest = cut_begins_none e n shaped low }
+  pub held_cut : (v : Version) (last : ℕ) (entries : List Entry) (e : Entry) (n : ℕ) → All IsShaped entries → IsShaped e → n < length (encoding v (clock_after last entries) e)
+      → Holds (record { version = v; last = last; bytes = encodings v last entries ++ take n (encoding v (clock_after last entries) e) }) entries (take n (encoding v (clock_after last entries) e))
+  held_cut v last entries e n all shaped low = record { shaped = all; spelled = refl; longest = cut_begins_none v (clock_after last entries) e n shaped low }

@@ -1,16 +1,20 @@
 -- Each field of an entry is read exactly as it is written.
-use Rattle.std.proofs.Common.{OnOk, Result, Ok, Err, inl, inr, ◌⊎◌, ◌≡◌, ℕ, zero, suc, ◌^◌, ◌<◌, Bool, true, false, cond, eqb, ltb, List, [], ◌∷◌, ◌++◌, length, slice_index, Option, Some, None, refl, sym, ap, ◌∙◌, subst, arith, append_assoc}
-use Rattle.std.specs.Prelude.{nat_lt, option_and_then}
+use Rattle.std.proofs.Common.{OnOk, Result, Ok, Err, inl, inr, ◌⊎◌, ◌≡◌, ℕ, zero, suc, ◌^◌, ◌<◌, ◌≤◌, lit≤, Bool, true, false, cond, eqb, ltb, List, [], ◌∷◌, ◌++◌, length, slice_index, Option, Some, None, refl, sym, ap, ◌∙◌, subst, arith, append_assoc}
+use Rattle.std.specs.Prelude.{nat_lt, option_and_then, option_map}
 use Rattle.std.specs.List.{concat}
-use Rattle.std.specs.Int.{Width, w32, w64, byte_len, to_le_bytes}
+use Rattle.std.specs.Int.{Width, w16, w32, w64, byte_len, to_le_bytes}
 use Rattle.std.proofs.lemmas.Bool.{eqb-true, ltb-true, lt-ltb}
 use Rattle.std.proofs.lemmas.Option.{some_pair_parts, same_Some}
 use Rattle.lamport_tag.specs.declared.Tag.{Tag}
 use Rattle.fri_bytes.specs.Laws.{AreBytes, ExactReaders}
 use Rattle.fri_bytes.specs.Reading.{byte_at, piece_at, le_at}
+use Rattle.fri_bytes.specs.Short.{short_at, short_bytes}
 use Rattle.lib_calls.specs.declared.entry.Call.{Call}
 use Rattle.lib_calls.specs.Kinds.{argument_count}
 use Rattle.lib_calls.specs.Entry.{IsNumberIf, IsStringIf, IsTagIf, HasArguments}
+use Rattle.call_log.specs.declared.version.Version.{Version}
+use Rattle.call_log.specs.declared.version.Version.TheVariants.{One, Two}
+use Rattle.call_log.specs.Version.{below, clock_above, clock_at, clock_bytes, clock_gap, number_at, number_bytes}
 use Rattle.call_log.specs.Entry.{number_if, string_if, flagged, tag_if, argument_bytes}
 use Rattle.call_log.specs.Reading.{number_if_at, call_at, string_at, string_if_at, tag_fields_at, flagged_at, tag_if_at}
 
@@ -26,7 +30,7 @@ rest_in_range [] rest small i = small i
 rest_in_range (b ∷ front) rest small i = rest_in_range front rest (λ j. small (suc j)) i
 
 -- which way a test went
-chosen : {A : Type 0} (b : Bool) (x y z : A) → cond b x y ≡ z → ((b ≡ true) × (x ≡ z)) ⊎ ((b ≡ false) × (y ≡ z))
+pub chosen : {A : Type 0} (b : Bool) (x y z : A) → cond b x y ≡ z → ((b ≡ true) × (x ≡ z)) ⊎ ((b ≡ false) × (y ≡ z))
 chosen true x y z e = inl (refl, e)
 chosen false x y z e = inr (refl, e)
 
@@ -101,135 +105,195 @@ absent_field x = record {
       (sym parts.0, parts.1);
 }
 
-module _ (readers : ExactReaders) where
-  -- a number, the lowest byte first
-  pub number_field : (w : Width) → ReadsBack (λ n. n < 256 ^ byte_len w) (to_le_bytes w) (le_at w)
-  number_field w = record { again = readers.reads_written w; found = readers.rewritten w }
+-- the value that was made of another one
+map_some : {A B : Type 0} (f : A → B) (o : Option A) (y : B) → option_map f o ≡ Some y → (x : A) × (o ≡ Some x) × (f x ≡ y)
+map_some f None y e = absurd cc
+map_some f (Some x) y e = (x, refl, cc)
 
-  pub number_if_field : (has : Bool) → ReadsBack (IsNumberIf has) (number_if has) (number_if_at has)
-  number_if_field true = number_field w64
-  number_if_field false = absent_field 0
+-- ---- clocks modulo 2 ^ 64
+
+gap_lt : (last clock : ℕ) → clock_gap last clock < 2 ^ 64
+gap_lt last clock = omega arith
+
+above_lt : (last gap : ℕ) → clock_above last gap < 2 ^ 64
+above_lt last gap = omega arith
+
+clock_above-gap : (last clock : ℕ) → clock < 2 ^ 64 → clock_above last (clock_gap last clock) ≡ clock
+clock_above-gap last clock small = omega arith
+
+clock_gap-above : (last gap : ℕ) → gap < 2 ^ 64 → clock_gap last (clock_above last gap) ≡ gap
+clock_gap-above last gap small = omega arith
+
+-- ---- the fields
+
+module _ (readers : ExactReaders) where
+  -- a number of a fixed width, the lowest byte first
+  pub le_field : (w : Width) → ReadsBack (λ n. n < 256 ^ byte_len w) (to_le_bytes w) (le_at w)
+  le_field w = record { again = readers.reads_written w; found = readers.rewritten w }
+
+  -- a short number below a limit
+  short_field : (limit : ℕ) → limit ≤ 2 ^ 64 → ReadsBack (λ n. n < limit) short_bytes (λ bytes. below limit (short_at bytes))
+  short_field limit fits = record {
+    again = λ n rest small. next _ _ (n, rest) _ (readers.reads_short n rest (omega arith)) (when_true (ltb n limit) _ _ _ (lt-ltb n limit small) refl);
+    found = λ bytes n rest are e.
+        let read = bind_some _ _ _ e in
+        let test = kept _ _ _ read.2 in
+        let spelled = readers.short_rewritten bytes read.0.0 read.0.1 read.1 in
+        subst (λ (x : ℕ × List ℕ). (x.0 < limit) × (bytes ≡ short_bytes x.0 ++ x.1)) (same_Some read.0 (n, rest) test.1) (ltb-true _ _ test.0, spelled.1);
+  }
+
+  number_field : (v : Version) (w : Width) → 256 ^ byte_len w ≤ 2 ^ 64 → ReadsBack (λ n. n < 256 ^ byte_len w) (number_bytes v w) (number_at v w)
+  number_field One w fits = le_field w
+  number_field Two w fits = short_field (256 ^ byte_len w) fits
+
+  -- a number in either version
+  pub u16_field : (v : Version) → ReadsBack (λ n. n < 2 ^ 16) (number_bytes v w16) (number_at v w16)
+  u16_field v = number_field v w16 (lit≤ tt)
+
+  pub u32_field : (v : Version) → ReadsBack (λ n. n < 2 ^ 32) (number_bytes v w32) (number_at v w32)
+  u32_field v = number_field v w32 (lit≤ tt)
+
+  pub u64_field : (v : Version) → ReadsBack (λ n. n < 2 ^ 64) (number_bytes v w64) (number_at v w64)
+  u64_field v = number_field v w64 (lit≤ tt)
+
+  -- the clock, of itself or above the one before
+  pub clock_field : (v : Version) (last : ℕ) → ReadsBack (λ clock. clock < 2 ^ 64) (clock_bytes v last) (clock_at v last)
+  clock_field One last = le_field w64
+  clock_field Two last = record {
+    again = λ clock rest small.
+        ap (option_map (λ (x : ℕ × List ℕ). (clock_above last x.0, x.1))) (readers.reads_short (clock_gap last clock) rest (gap_lt last clock))
+        ∙ ap (λ (c : ℕ). Some (c, rest)) (clock_above-gap last clock small);
+    found = λ bytes clock rest are e.
+        let read = map_some (λ (x : ℕ × List ℕ). (clock_above last x.0, x.1)) (short_at bytes) (clock, rest) e in
+        let spelled = readers.short_rewritten bytes read.0.0 read.0.1 read.1 in
+        subst (λ (x : ℕ × List ℕ). (x.0 < 2 ^ 64) × (bytes ≡ short_bytes (clock_gap last x.0) ++ x.1)) read.2
+        (above_lt last read.0.0, spelled.1 ∙ ap (λ (gap : ℕ). short_bytes gap ++ read.0.1) (sym (clock_gap-above last read.0.0 spelled.0)));
+  }
+
+  pub number_if_field : (v : Version) (has : Bool) → ReadsBack (IsNumberIf has) (number_if v has) (number_if_at v has)
+  number_if_field v true = u64_field v
+  number_if_field v false = absent_field 0
 
   -- ---- byte strings
 
-  string_at-from : (bytes after rest piece : List ℕ) (n : ℕ) → le_at w32 bytes ≡ Some (n, after) → n < 2 ^ 31 → piece_at n after ≡ Some (piece, rest) → string_at bytes ≡ Some (piece, rest)
+  string_at-from : (v : Version) (bytes after rest piece : List ℕ) (n : ℕ) → number_at v w32 bytes ≡ Some (n, after) → n < 2 ^ 31 → piece_at n after ≡ Some (piece, rest) → string_at v bytes ≡ Some (piece, rest)
   unfolding string_at
-  string_at-from bytes after rest piece n size few found =
+  string_at-from v bytes after rest piece n size few found =
       next _ _ (n, after) _ size (when_true (ltb n (2 ^ 31)) _ _ _ (lt-ltb n (2 ^ 31) few) found)
 
-  string_found : (bytes piece rest : List ℕ) → AreBytes bytes → string_at bytes ≡ Some (piece, rest) → (length piece < 2 ^ 31) × (bytes ≡ (to_le_bytes w32 (length piece) ++ piece) ++ rest)
+  string_found : (v : Version) (bytes piece rest : List ℕ) → AreBytes bytes → string_at v bytes ≡ Some (piece, rest) → (length piece < 2 ^ 31) × (bytes ≡ (number_bytes v w32 (length piece) ++ piece) ++ rest)
   unfolding string_at
-  string_found bytes piece rest are e =
+  string_found v bytes piece rest are e =
       let size = bind_some _ _ _ e in
       let few = kept _ _ _ size.2 in
-      let number = (number_field w32).found bytes size.0.0 size.0.1 are size.1 in
+      let number = (u32_field v).found bytes size.0.0 size.0.1 are size.1 in
       let front = (readers.piece size.0.0).takes size.0.1 piece rest few.1 in
       let long : length piece ≡ size.0.0 = front.2.0 in
       let after : size.0.1 ≡ piece ++ rest = front.1 ∙ ap (λ (t : List ℕ). t ++ rest) front.2.1 in
-      let spelled : bytes ≡ to_le_bytes w32 (length piece) ++ (piece ++ rest) =
-      number.1 ∙ ap (λ (t : List ℕ). to_le_bytes w32 size.0.0 ++ t) after ∙ ap (λ (n : ℕ). to_le_bytes w32 n ++ (piece ++ rest)) (sym long) in
-      (subst (λ (n : ℕ). n < 2 ^ 31) (sym long) (ltb-true _ _ few.0), spelled ∙ sym (append_assoc (to_le_bytes w32 (length piece)) piece rest))
+      let spelled : bytes ≡ number_bytes v w32 (length piece) ++ (piece ++ rest) =
+      number.1 ∙ ap (λ (t : List ℕ). number_bytes v w32 size.0.0 ++ t) after ∙ ap (λ (n : ℕ). number_bytes v w32 n ++ (piece ++ rest)) (sym long) in
+      (subst (λ (n : ℕ). n < 2 ^ 31) (sym long) (ltb-true _ _ few.0), spelled ∙ sym (append_assoc (number_bytes v w32 (length piece)) piece rest))
 
-  pub string_field : ReadsBack (λ s. length s < 2 ^ 31) (λ s. to_le_bytes w32 (length s) ++ s) string_at
-  string_field = record {
+  pub string_field : (v : Version) → ReadsBack (λ s. length s < 2 ^ 31) (λ s. number_bytes v w32 (length s) ++ s) (string_at v)
+  string_field v = record {
     again = λ s rest few.
-        let size = (number_field w32).again (length s) (s ++ rest) (omega arith) in
-        ap string_at (append_assoc (to_le_bytes w32 (length s)) s rest)
-        ∙ string_at-from (to_le_bytes w32 (length s) ++ (s ++ rest)) (s ++ rest) rest s (length s) size few ((readers.piece (length s)).again s s rest (refl, refl));
-    found = string_found;
+        let size = (u32_field v).again (length s) (s ++ rest) (omega arith) in
+        ap (string_at v) (append_assoc (number_bytes v w32 (length s)) s rest)
+        ∙ string_at-from v (number_bytes v w32 (length s) ++ (s ++ rest)) (s ++ rest) rest s (length s) size few ((readers.piece (length s)).again s s rest (refl, refl));
+    found = string_found v;
   }
 
-  pub string_if_field : (has : Bool) → ReadsBack (IsStringIf has) (string_if has) (string_if_at has)
-  string_if_field true = string_field
-  string_if_field false = absent_field []
+  pub string_if_field : (v : Version) (has : Bool) → ReadsBack (IsStringIf has) (string_if v has) (string_if_at v has)
+  string_if_field v true = string_field v
+  string_if_field v false = absent_field []
 
   -- ---- tags
 
-  tag_at-from : (bytes after rest : List ℕ) (tag : Tag) → le_at w32 bytes ≡ Some (tag.sender, after) → le_at w64 after ≡ Some (tag.clock, rest) → tag_fields_at bytes ≡ Some (tag, rest)
+  tag_at-from : (v : Version) (bytes after rest : List ℕ) (tag : Tag) → number_at v w32 bytes ≡ Some (tag.sender, after) → number_at v w64 after ≡ Some (tag.clock, rest) → tag_fields_at v bytes ≡ Some (tag, rest)
   unfolding tag_fields_at
-  tag_at-from bytes after rest tag sender clock = next _ _ (tag.sender, after) _ sender (next _ _ (tag.clock, rest) _ clock refl)
+  tag_at-from v bytes after rest tag sender clock = next _ _ (tag.sender, after) _ sender (next _ _ (tag.clock, rest) _ clock refl)
 
-  abbrev pub tag_bytes : Tag → List ℕ
-  tag_bytes tag = to_le_bytes w32 tag.sender ++ to_le_bytes w64 tag.clock
+  abbrev pub tag_bytes : Version → Tag → List ℕ
+  tag_bytes v tag = number_bytes v w32 tag.sender ++ number_bytes v w64 tag.clock
 
   abbrev pub TagFits : Tag → Type 0
   TagFits tag = (tag.sender < 2 ^ 32) × (tag.clock < 2 ^ 64)
 
-  tag_found : (bytes : List ℕ) (tag : Tag) (rest : List ℕ) → AreBytes bytes → tag_fields_at bytes ≡ Some (tag, rest) → TagFits tag × (bytes ≡ tag_bytes tag ++ rest)
+  tag_found : (v : Version) (bytes : List ℕ) (tag : Tag) (rest : List ℕ) → AreBytes bytes → tag_fields_at v bytes ≡ Some (tag, rest) → TagFits tag × (bytes ≡ tag_bytes v tag ++ rest)
   unfolding tag_fields_at
-  tag_found bytes tag rest are e =
+  tag_found v bytes tag rest are e =
       let sender = bind_some _ _ _ e in
       let clock = bind_some _ _ _ sender.2 in
-      let first = (number_field w32).found bytes sender.0.0 sender.0.1 are sender.1 in
-      let second = (number_field w64).found sender.0.1 clock.0.0 clock.0.1 (bytes_after (number_field w32) bytes sender.0.0 sender.0.1 are sender.1) clock.1 in
+      let first = (u32_field v).found bytes sender.0.0 sender.0.1 are sender.1 in
+      let second = (u64_field v).found sender.0.1 clock.0.0 clock.0.1 (bytes_after (u32_field v) bytes sender.0.0 sender.0.1 are sender.1) clock.1 in
       let made : Tag = record { sender = sender.0.0; clock = clock.0.0 } in
-      subst (λ (x : Tag × List ℕ). TagFits x.0 × (bytes ≡ tag_bytes x.0 ++ x.1)) (same_Some (made, clock.0.1) (tag, rest) clock.2)
-      ((first.0, second.0), first.1 ∙ ap (λ (t : List ℕ). to_le_bytes w32 sender.0.0 ++ t) second.1 ∙ sym (append_assoc (to_le_bytes w32 sender.0.0) (to_le_bytes w64 clock.0.0) clock.0.1))
+      subst (λ (x : Tag × List ℕ). TagFits x.0 × (bytes ≡ tag_bytes v x.0 ++ x.1)) (same_Some (made, clock.0.1) (tag, rest) clock.2)
+      ((first.0, second.0), first.1 ∙ ap (λ (t : List ℕ). number_bytes v w32 sender.0.0 ++ t) second.1 ∙ sym (append_assoc (number_bytes v w32 sender.0.0) (number_bytes v w64 clock.0.0) clock.0.1))
 
-  pub tag_field : ReadsBack TagFits tag_bytes tag_fields_at
-  tag_field = record {
+  pub tag_field : (v : Version) → ReadsBack TagFits (tag_bytes v) (tag_fields_at v)
+  tag_field v = record {
     again = λ tag rest fits.
-        ap tag_fields_at (append_assoc (to_le_bytes w32 tag.sender) (to_le_bytes w64 tag.clock) rest)
-        ∙ tag_at-from (to_le_bytes w32 tag.sender ++ (to_le_bytes w64 tag.clock ++ rest)) (to_le_bytes w64 tag.clock ++ rest) rest tag ((number_field w32).again tag.sender _ fits.0) ((number_field w64).again tag.clock rest fits.1);
-    found = tag_found;
+        ap (tag_fields_at v) (append_assoc (number_bytes v w32 tag.sender) (number_bytes v w64 tag.clock) rest)
+        ∙ tag_at-from v (number_bytes v w32 tag.sender ++ (number_bytes v w64 tag.clock ++ rest)) (number_bytes v w64 tag.clock ++ rest) rest tag ((u32_field v).again tag.sender _ fits.0) ((u64_field v).again tag.clock rest fits.1);
+    found = tag_found v;
   }
 
-  flagged_again : (tag : Option Tag) (rest : List ℕ) → IsTagIf true tag → flagged_at (flagged tag ++ rest) ≡ Some (tag, rest)
+  flagged_again : (v : Version) (tag : Option Tag) (rest : List ℕ) → IsTagIf true tag → flagged_at v (flagged v tag ++ rest) ≡ Some (tag, rest)
   unfolding flagged_at
-  flagged_again None rest fits = refl
-  flagged_again (Some tag) rest fits = next _ _ (tag, rest) _ (tag_field.again tag rest fits) refl
+  flagged_again v None rest fits = refl
+  flagged_again v (Some tag) rest fits = next _ _ (tag, rest) _ ((tag_field v).again tag rest fits) refl
 
-  flagged_found : (bytes : List ℕ) (tag : Option Tag) (rest : List ℕ) → AreBytes bytes → flagged_at bytes ≡ Some (tag, rest) → IsTagIf true tag × (bytes ≡ flagged tag ++ rest)
+  flagged_found : (v : Version) (bytes : List ℕ) (tag : Option Tag) (rest : List ℕ) → AreBytes bytes → flagged_at v bytes ≡ Some (tag, rest) → IsTagIf true tag × (bytes ≡ flagged v tag ++ rest)
   unfolding flagged_at
-  flagged_found bytes tag rest are e =
+  flagged_found v bytes tag rest are e =
       let flag = bind_some _ _ _ e in
       let front = byte_field.found bytes flag.0.0 flag.0.1 are flag.1 in
       elim (chosen (eqb flag.0.0 0) _ _ _ flag.2) [
         | inl none ↦
             let zero : flag.0.0 ≡ 0 = eqb-true _ _ none.0 in
-            subst (λ (x : Option Tag × List ℕ). IsTagIf true x.0 × (bytes ≡ flagged x.0 ++ x.1)) (same_Some (None, flag.0.1) (tag, rest) none.1)
+            subst (λ (x : Option Tag × List ℕ). IsTagIf true x.0 × (bytes ≡ flagged v x.0 ++ x.1)) (same_Some (None, flag.0.1) (tag, rest) none.1)
             (tt, front.1 ∙ ap (λ (b : ℕ). b ∷ flag.0.1) zero)
         | inr some ↦
             let one = kept _ _ _ some.1 in
             let there = bind_some _ _ _ one.1 in
-            let read = tag_field.found flag.0.1 there.0.0 there.0.1 (bytes_after byte_field bytes flag.0.0 flag.0.1 are flag.1) there.1 in
+            let read = (tag_field v).found flag.0.1 there.0.0 there.0.1 (bytes_after byte_field bytes flag.0.0 flag.0.1 are flag.1) there.1 in
             let is : flag.0.0 ≡ 1 = eqb-true _ _ one.0 in
-            subst (λ (x : Option Tag × List ℕ). IsTagIf true x.0 × (bytes ≡ flagged x.0 ++ x.1)) (same_Some (Some there.0.0, there.0.1) (tag, rest) there.2)
+            subst (λ (x : Option Tag × List ℕ). IsTagIf true x.0 × (bytes ≡ flagged v x.0 ++ x.1)) (same_Some (Some there.0.0, there.0.1) (tag, rest) there.2)
             (read.0, front.1 ∙ ap (λ (b : ℕ). b ∷ flag.0.1) is ∙ ap (λ (t : List ℕ). 1 ∷ t) read.1)
       ]
 
-  pub flagged_field : ReadsBack (IsTagIf true) flagged flagged_at
-  flagged_field = record { again = flagged_again; found = flagged_found }
+  pub flagged_field : (v : Version) → ReadsBack (IsTagIf true) (flagged v) (flagged_at v)
+  flagged_field v = record { again = flagged_again v; found = flagged_found v }
 
-  pub tag_if_field : (has : Bool) → ReadsBack (IsTagIf has) (tag_if has) (tag_if_at has)
-  tag_if_field true = flagged_field
-  tag_if_field false = absent_field None
+  pub tag_if_field : (v : Version) (has : Bool) → ReadsBack (IsTagIf has) (tag_if v has) (tag_if_at v has)
+  tag_if_field v true = flagged_field v
+  tag_if_field v false = absent_field None
 
 -- ---- calls
 
 -- the three arguments were read one after the other
-record Arguments (kind : ℕ) (bytes : List ℕ) (call : Call) (rest : List ℕ) : Type 0 where
+record Arguments (v : Version) (kind : ℕ) (bytes : List ℕ) (call : Call) (rest : List ℕ) : Type 0 where
   kind_is : call.kind ≡ kind
   after_first : List ℕ
   after_second : List ℕ
-  first : number_if_at (nat_lt 0 (argument_count kind)) bytes ≡ Some (call.a0, after_first)
-  second : number_if_at (nat_lt 1 (argument_count kind)) after_first ≡ Some (call.a1, after_second)
-  third : number_if_at (nat_lt 2 (argument_count kind)) after_second ≡ Some (call.a2, rest)
+  first : number_if_at v (nat_lt 0 (argument_count kind)) bytes ≡ Some (call.a0, after_first)
+  second : number_if_at v (nat_lt 1 (argument_count kind)) after_first ≡ Some (call.a1, after_second)
+  third : number_if_at v (nat_lt 2 (argument_count kind)) after_second ≡ Some (call.a2, rest)
 
-call_at-from : (kind : ℕ) (bytes : List ℕ) (call : Call) (rest : List ℕ) → Arguments kind bytes call rest → call_at kind bytes ≡ Some (call, rest)
+call_at-from : (v : Version) (kind : ℕ) (bytes : List ℕ) (call : Call) (rest : List ℕ) → Arguments v kind bytes call rest → call_at v kind bytes ≡ Some (call, rest)
 unfolding call_at
-call_at-from kind bytes call rest h =
+call_at-from v kind bytes call rest h =
     let same : ◌≡◌ {A = Call} (record { kind = kind; a0 = call.a0; a1 = call.a1; a2 = call.a2 }) call = ap (λ (k : ℕ). record { kind = k; a0 = call.a0; a1 = call.a1; a2 = call.a2 }) (sym h.kind_is) in
     next _ _ (call.a0, h.after_first) _ h.first (next _ _ (call.a1, h.after_second) _ h.second (next _ _ (call.a2, rest) _ h.third (ap (λ (c : Call). Some (c, rest)) same)))
 
-arguments_from : (kind : ℕ) (bytes : List ℕ) (call : Call) (rest : List ℕ) → call_at kind bytes ≡ Some (call, rest) → Arguments kind bytes call rest
+arguments_from : (v : Version) (kind : ℕ) (bytes : List ℕ) (call : Call) (rest : List ℕ) → call_at v kind bytes ≡ Some (call, rest) → Arguments v kind bytes call rest
 unfolding call_at
-arguments_from kind bytes call rest e =
+arguments_from v kind bytes call rest e =
     let first = bind_some _ _ _ e in
     let second = bind_some _ _ _ first.2 in
     let third = bind_some _ _ _ second.2 in
     let made : Call = record { kind = kind; a0 = first.0.0; a1 = second.0.0; a2 = third.0.0 } in
-    let read : Arguments kind bytes made third.0.1 = record {
+    let read : Arguments v kind bytes made third.0.1 = record {
       kind_is = refl;
       after_first = first.0.1;
       after_second = second.0.1;
@@ -237,48 +301,48 @@ arguments_from kind bytes call rest e =
       second = second.1;
       third = third.1;
     } in
-    subst (λ (x : Call × List ℕ). Arguments kind bytes x.0 x.1) (same_Some (made, third.0.1) (call, rest) third.2) read
+    subst (λ (x : Call × List ℕ). Arguments v kind bytes x.0 x.1) (same_Some (made, third.0.1) (call, rest) third.2) read
 
 -- a call that was read is of the kind that it was read for
-pub call_at-kind : (kind : ℕ) (bytes : List ℕ) (call : Call) (rest : List ℕ) → call_at kind bytes ≡ Some (call, rest) → call.kind ≡ kind
-call_at-kind kind bytes call rest e = (arguments_from kind bytes call rest e).kind_is
+pub call_at-kind : (v : Version) (kind : ℕ) (bytes : List ℕ) (call : Call) (rest : List ℕ) → call_at v kind bytes ≡ Some (call, rest) → call.kind ≡ kind
+call_at-kind v kind bytes call rest e = (arguments_from v kind bytes call rest e).kind_is
 
 abbrev pub CallFits : ℕ → Call → Type 0
 CallFits kind call = (call.kind ≡ kind) × HasArguments call
 
 module _ (readers : ExactReaders) where
-  call_again : (kind : ℕ) (call : Call) (rest : List ℕ) → CallFits kind call → call_at kind (argument_bytes call ++ rest) ≡ Some (call, rest)
+  call_again : (v : Version) (kind : ℕ) (call : Call) (rest : List ℕ) → CallFits kind call → call_at v kind (argument_bytes v call ++ rest) ≡ Some (call, rest)
   unfolding argument_bytes
-  call_again kind call rest fits =
+  call_again v kind call rest fits =
       let has : ℕ → Bool = λ k. nat_lt k (argument_count call.kind) in
-      let third : List ℕ = number_if (has 2) call.a2 ++ rest in
-      let second : List ℕ = number_if (has 1) call.a1 ++ third in
-      let read : Arguments call.kind (number_if (has 0) call.a0 ++ second) call rest = record {
+      let third : List ℕ = number_if v (has 2) call.a2 ++ rest in
+      let second : List ℕ = number_if v (has 1) call.a1 ++ third in
+      let read : Arguments v call.kind (number_if v (has 0) call.a0 ++ second) call rest = record {
         kind_is = refl;
         after_first = second;
         after_second = third;
-        first = (number_if_field readers (has 0)).again call.a0 second fits.1.first;
-        second = (number_if_field readers (has 1)).again call.a1 third fits.1.second;
-        third = (number_if_field readers (has 2)).again call.a2 rest fits.1.third;
+        first = (number_if_field readers v (has 0)).again call.a0 second fits.1.first;
+        second = (number_if_field readers v (has 1)).again call.a1 third fits.1.second;
+        third = (number_if_field readers v (has 2)).again call.a2 rest fits.1.third;
       } in
-      ap (call_at kind) (concat-append (number_if (has 0) call.a0 ∷ number_if (has 1) call.a1 ∷ number_if (has 2) call.a2 ∷ []) rest)
-      ∙ call_at-from kind _ call rest (subst (λ (k : ℕ). Arguments k (number_if (has 0) call.a0 ++ second) call rest) fits.0 read)
+      ap (call_at v kind) (concat-append (number_if v (has 0) call.a0 ∷ number_if v (has 1) call.a1 ∷ number_if v (has 2) call.a2 ∷ []) rest)
+      ∙ call_at-from v kind _ call rest (subst (λ (k : ℕ). Arguments v k (number_if v (has 0) call.a0 ++ second) call rest) fits.0 read)
 
-  call_found : (kind : ℕ) (bytes : List ℕ) (call : Call) (rest : List ℕ) → AreBytes bytes → call_at kind bytes ≡ Some (call, rest) → CallFits kind call × (bytes ≡ argument_bytes call ++ rest)
+  call_found : (v : Version) (kind : ℕ) (bytes : List ℕ) (call : Call) (rest : List ℕ) → AreBytes bytes → call_at v kind bytes ≡ Some (call, rest) → CallFits kind call × (bytes ≡ argument_bytes v call ++ rest)
   unfolding argument_bytes
-  call_found kind bytes call rest are e =
+  call_found v kind bytes call rest are e =
       let has : ℕ → Bool = λ k. nat_lt k (argument_count call.kind) in
-      let at : Arguments kind bytes call rest = arguments_from kind bytes call rest e in
-      let read : Arguments call.kind bytes call rest = subst (λ (k : ℕ). Arguments k bytes call rest) (sym at.kind_is) at in
-      let are_1 = bytes_after (number_if_field readers (has 0)) bytes call.a0 read.after_first are read.first in
-      let are_2 = bytes_after (number_if_field readers (has 1)) read.after_first call.a1 read.after_second are_1 read.second in
-      let first = (number_if_field readers (has 0)).found bytes call.a0 read.after_first are read.first in
-      let second = (number_if_field readers (has 1)).found read.after_first call.a1 read.after_second are_1 read.second in
-      let third = (number_if_field readers (has 2)).found read.after_second call.a2 rest are_2 read.third in
-      let spelled = first.1 ∙ onto (number_if (has 0) call.a0) (second.1 ∙ onto (number_if (has 1) call.a1) third.1) in (
+      let at : Arguments v kind bytes call rest = arguments_from v kind bytes call rest e in
+      let read : Arguments v call.kind bytes call rest = subst (λ (k : ℕ). Arguments v k bytes call rest) (sym at.kind_is) at in
+      let are_1 = bytes_after (number_if_field readers v (has 0)) bytes call.a0 read.after_first are read.first in
+      let are_2 = bytes_after (number_if_field readers v (has 1)) read.after_first call.a1 read.after_second are_1 read.second in
+      let first = (number_if_field readers v (has 0)).found bytes call.a0 read.after_first are read.first in
+      let second = (number_if_field readers v (has 1)).found read.after_first call.a1 read.after_second are_1 read.second in
+      let third = (number_if_field readers v (has 2)).found read.after_second call.a2 rest are_2 read.third in
+      let spelled = first.1 ∙ onto (number_if v (has 0) call.a0) (second.1 ∙ onto (number_if v (has 1) call.a1) third.1) in (
         (at.kind_is, record { first = first.0; second = second.0; third = third.0 }),
-        spelled ∙ sym (concat-append (number_if (has 0) call.a0 ∷ number_if (has 1) call.a1 ∷ number_if (has 2) call.a2 ∷ []) rest),
+        spelled ∙ sym (concat-append (number_if v (has 0) call.a0 ∷ number_if v (has 1) call.a1 ∷ number_if v (has 2) call.a2 ∷ []) rest),
       )
 
-  pub call_field : (kind : ℕ) → ReadsBack (CallFits kind) argument_bytes (call_at kind)
-  call_field kind = record { again = call_again kind; found = call_found kind }
+  pub call_field : (v : Version) (kind : ℕ) → ReadsBack (CallFits kind) (argument_bytes v) (call_at v kind)
+  call_field v kind = record { again = call_again v kind; found = call_found v kind }

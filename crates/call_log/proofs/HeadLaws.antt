@@ -1,5 +1,5 @@
 -- A head stands at the front of some bytes exactly where `head_at` gives one.
-use Rattle.std.proofs.Common.{◌≡◌, ℕ, ◌<◌, true, nat_eq, leb, ltb, lit<, List, [], ◌∷◌, ◌++◌, length, drop, slice_index, Some, None, codes, refl, sym, ap, ◌∙◌, subst, arith}
+use Rattle.std.proofs.Common.{◌≡◌, ℕ, ◌^◌, ◌<◌, inl, inr, true, cond, nat_eq, eqb, leb, ltb, lit<, List, [], ◌∷◌, ◌++◌, length, drop, slice_index, Some, None, codes, refl, sym, ap, ◌∙◌, subst, arith}
 use Rattle.std.specs.List.{starts_with}
 use Rattle.std.specs.Int.{w32, to_le_bytes}
 use Rattle.std.proofs.lemmas.Bool.{eqb-true, leb-true, le-leb, ltb-true, lt-ltb}
@@ -9,11 +9,14 @@ use Rattle.std.proofs.lemmas.List.{drop_at}
 use Rattle.std.proofs.lemmas.Option.{cond_some, same_Some, some_pair_parts}
 use Rattle.fri_bytes.specs.Laws.{AreBytes, ExactReaders}
 use Rattle.fri_bytes.specs.Reading.{byte_at, piece_at, le_at}
+use Rattle.call_log.specs.declared.version.Version.{Version}
+use Rattle.call_log.specs.declared.version.Version.TheVariants.{One, Two}
+use Rattle.call_log.specs.Version.{version_number, version_numbered}
 use Rattle.call_log.specs.Head.{Head, IsHead, BeginsNoHead, head_bytes}
 use Rattle.fri_text.specs.Name.{is_name}
 use Rattle.call_log.specs.Reading.{mark_at, name_at, read_head}
-use Rattle.call_log.specs.Log.{head_at, head_in}
-use Rattle.call_log.proofs.FieldLaws.{bind_some, rest_in_range, ReadsBack, bytes_after, onto, concat-append, next, when_true, kept, number_field, byte_field}
+use Rattle.call_log.specs.Log.{Unread, behind, head_at, head_in}
+use Rattle.call_log.proofs.FieldLaws.{bind_some, rest_in_range, ReadsBack, bytes_after, onto, concat-append, next, when_true, kept, chosen, le_field, byte_field}
 use Rattle.call_log.proofs.Shapes.{and_true, both_true, head_from_test, is_head-from}
 use Rattle.call_log.proofs.EntryLaws.{none_from}
 
@@ -33,7 +36,7 @@ record Steps (bytes : List ℕ) (h : Head) (rest : List ℕ) : Type 0 where
   after_count : List ℕ
   after_process : List ℕ
   magic : mark_at (codes "LLOG") bytes ≡ Some (codes "LLOG", after_magic)
-  version : le_at w32 after_magic ≡ Some (1, after_version)
+  version : le_at w32 after_magic ≡ Some (version_number h.version, after_version)
   count : le_at w32 after_version ≡ Some (h.count, after_count)
   process : le_at w32 after_count ≡ Some (h.process, after_process)
   name : name_at after_process ≡ Some (h.name, rest)
@@ -41,15 +44,32 @@ record Steps (bytes : List ℕ) (h : Head) (rest : List ℕ) : Type 0 where
   few : leb h.count 16 ≡ true
   within : ltb h.process h.count ≡ true
 
+-- the version with the number of a version
+version_found : (v : Version) → version_numbered (version_number v) ≡ Some v
+version_found One = refl
+version_found Two = refl
+
+version_small : (v : Version) → version_number v < 2 ^ 32
+version_small One = lit< tt
+version_small Two = lit< tt
+
+-- a number that some version has is the one of that version
+number_of : (n : ℕ) (v : Version) → version_numbered n ≡ Some v → n ≡ version_number v
+number_of n v e = elim (chosen (eqb n 1) (Some One) (cond (eqb n 2) (Some Two) None) (Some v) e) [
+  | inl p ↦ eqb-true n 1 p.0 ∙ ap version_number (same_Some One v p.1)
+  | inr p ↦ let q = kept (eqb n 2) (Some Two) v p.1 in eqb-true n 2 q.0 ∙ ap version_number (same_Some Two v q.1)
+]
+
 read_head-from : (bytes : List ℕ) (h : Head) (rest : List ℕ) → Steps bytes h rest → read_head bytes ≡ Some (h, rest)
 unfolding read_head
 read_head-from bytes h rest s =
     next _ _ (codes "LLOG", s.after_magic) _ s.magic (
-    next _ _ (1, s.after_version) _ s.version (
+    next _ _ (version_number h.version, s.after_version) _ s.version (
+    next _ _ h.version _ (version_found h.version) (
     next _ _ (h.count, s.after_count) _ s.count (
     next _ _ (h.process, s.after_process) _ s.process (
     next _ _ (h.name, rest) _ s.name (
-    when_true _ _ _ _ (both_true _ _ (both_true _ _ (both_true _ _ refl s.some) s.few) s.within) refl)))))
+    when_true _ _ _ _ (both_true _ _ (both_true _ _ s.some s.few) s.within) refl))))))
 
 module _ (readers : ExactReaders) where
   -- ---- the magic bytes
@@ -94,22 +114,22 @@ module _ (readers : ExactReaders) where
       let name : List ℕ = (length h.name ∷ h.name) ++ rest in
       let process : List ℕ = to_le_bytes w32 h.process ++ name in
       let count : List ℕ = to_le_bytes w32 h.count ++ process in
-      let version : List ℕ = to_le_bytes w32 1 ++ count in
+      let version : List ℕ = to_le_bytes w32 (version_number h.version) ++ count in
       let read : Steps (codes "LLOG" ++ version) h rest = record {
         after_magic = version;
         after_version = count;
         after_count = process;
         after_process = name;
         magic = mark_again (codes "LLOG") version;
-        version = (number_field readers w32).again 1 count (lit< tt);
-        count = (number_field readers w32).again h.count process (omega (arith, fits.few));
-        process = (number_field readers w32).again h.process name (omega (arith, fits.few, fits.within));
+        version = (le_field readers w32).again (version_number h.version) count (version_small h.version);
+        count = (le_field readers w32).again h.count process (omega (arith, fits.few));
+        process = (le_field readers w32).again h.process name (omega (arith, fits.few, fits.within));
         name = name_field.again h.name rest fits.named;
         some = le-leb _ _ fits.some;
         few = le-leb _ _ fits.few;
         within = lt-ltb _ _ fits.within;
       } in
-      ap read_head (concat-append (codes "LLOG" ∷ to_le_bytes w32 1 ∷ to_le_bytes w32 h.count ∷ to_le_bytes w32 h.process ∷ (length h.name ∷ []) ∷ h.name ∷ []) rest)
+      ap read_head (concat-append (codes "LLOG" ∷ to_le_bytes w32 (version_number h.version) ∷ to_le_bytes w32 h.count ∷ to_le_bytes w32 h.process ∷ (length h.name ∷ []) ∷ h.name ∷ []) rest)
       ∙ read_head-from (codes "LLOG" ++ version) h rest read
 
   -- and what they read is a head that stands there
@@ -118,36 +138,36 @@ module _ (readers : ExactReaders) where
   read_head-found bytes h rest are found =
       let magic = bind_some _ _ _ found in
       let version = bind_some _ _ _ magic.2 in
-      let count = bind_some _ _ _ version.2 in
+      let kind = bind_some _ _ _ version.2 in
+      let count = bind_some _ _ _ kind.2 in
       let process = bind_some _ _ _ count.2 in
       let name = bind_some _ _ _ process.2 in
       let end = cond_some _ _ _ name.2 in
       let within = and_true _ _ end.0 in
       let few = and_true _ _ within.0 in
-      let some = and_true _ _ few.0 in
       let marked = mark_found (codes "LLOG") bytes magic.0.0 magic.0.1 magic.1 in
       let are_1 : AreBytes magic.0.1 = rest_in_range (codes "LLOG") magic.0.1 (λ i. subst (λ (t : List ℕ). slice_index t i < 256) marked (are i)) in
-      let are_2 = bytes_after (number_field readers w32) magic.0.1 version.0.0 version.0.1 are_1 version.1 in
-      let are_3 = bytes_after (number_field readers w32) version.0.1 count.0.0 count.0.1 are_2 count.1 in
-      let are_4 = bytes_after (number_field readers w32) count.0.1 process.0.0 process.0.1 are_3 process.1 in
-      let version_is = (number_field readers w32).found magic.0.1 version.0.0 version.0.1 are_1 version.1 in
-      let count_is = (number_field readers w32).found version.0.1 count.0.0 count.0.1 are_2 count.1 in
-      let process_is = (number_field readers w32).found count.0.1 process.0.0 process.0.1 are_3 process.1 in
+      let are_2 = bytes_after (le_field readers w32) magic.0.1 version.0.0 version.0.1 are_1 version.1 in
+      let are_3 = bytes_after (le_field readers w32) version.0.1 count.0.0 count.0.1 are_2 count.1 in
+      let are_4 = bytes_after (le_field readers w32) count.0.1 process.0.0 process.0.1 are_3 process.1 in
+      let version_is = (le_field readers w32).found magic.0.1 version.0.0 version.0.1 are_1 version.1 in
+      let count_is = (le_field readers w32).found version.0.1 count.0.0 count.0.1 are_2 count.1 in
+      let process_is = (le_field readers w32).found count.0.1 process.0.0 process.0.1 are_3 process.1 in
       let name_is = name_field.found process.0.1 name.0.0 name.0.1 are_4 name.1 in
-      let made : Head = record { count = count.0.0; process = process.0.0; name = name.0.0 } in
+      let made : Head = record { version = kind.0; count = count.0.0; process = process.0.0; name = name.0.0 } in
       let fits : IsHead made = record {
-        some = leb-true _ _ some.1;
+        some = leb-true _ _ few.0;
         few = leb-true _ _ few.1;
         within = ltb-true _ _ within.1;
         named = name_is.0;
       } in
-      let one : version.0.0 ≡ 1 = eqb-true _ _ some.0 in
+      let number : version.0.0 ≡ version_number kind.0 = number_of version.0.0 kind.0 kind.1 in
       let spelled =
       marked ∙ onto (codes "LLOG") (
-      version_is.1 ∙ ap (λ (n : ℕ). to_le_bytes w32 n ++ version.0.1) one ∙ onto (to_le_bytes w32 1) (
+      version_is.1 ∙ ap (λ (n : ℕ). to_le_bytes w32 n ++ version.0.1) number ∙ onto (to_le_bytes w32 (version_number kind.0)) (
       count_is.1 ∙ onto (to_le_bytes w32 count.0.0) (
       process_is.1 ∙ onto (to_le_bytes w32 process.0.0) name_is.1)))
-      ∙ sym (concat-append (codes "LLOG" ∷ to_le_bytes w32 1 ∷ to_le_bytes w32 count.0.0 ∷ to_le_bytes w32 process.0.0 ∷ (length name.0.0 ∷ []) ∷ name.0.0 ∷ []) name.0.1) in
+      ∙ sym (concat-append (codes "LLOG" ∷ to_le_bytes w32 (version_number kind.0) ∷ to_le_bytes w32 count.0.0 ∷ to_le_bytes w32 process.0.0 ∷ (length name.0.0 ∷ []) ∷ name.0.0 ∷ []) name.0.1) in
       subst (λ (x : Head × List ℕ). IsHead x.0 × (bytes ≡ head_bytes x.0 ++ x.1)) end.1 (fits, spelled)
 
   -- where they read nothing, no head stands in front
@@ -158,24 +178,30 @@ module _ (readers : ExactReaders) where
 
   -- ---- the head in front
 
-  pub head_at-begins : (bytes : List ℕ) (h : Head) (rest : List ℕ) → IsHead h → bytes ≡ head_bytes h ++ rest → head_at bytes ≡ Some (h, rest)
+  pub head_at-begins : (bytes : List ℕ) (h : Head) (rest : List ℕ) → IsHead h → bytes ≡ head_bytes h ++ rest → head_at bytes ≡ Some (h, behind h rest)
   unfolding head_at head_in
   head_at-begins bytes h rest fits begins =
       let read : read_head bytes ≡ Some (h, rest) = ap read_head begins ∙ read_head-head_bytes h rest fits in
       let starts : starts_with nat_eq bytes (head_bytes h) ≡ true = (starts_is Decides-eqb bytes (head_bytes h) _ refl).1 rest begins in
-      let behind : drop (length (head_bytes h)) bytes ≡ rest = ap (drop (length (head_bytes h))) begins ∙ drop_at (head_bytes h) rest (length (head_bytes h)) refl in
-      next _ _ (h, rest) _ read (when_true _ _ _ _ (both_true _ _ (is_head-from h fits) starts) (ap (λ (t : List ℕ). Some (h, t)) behind))
+      let after : drop (length (head_bytes h)) bytes ≡ rest = ap (drop (length (head_bytes h))) begins ∙ drop_at (head_bytes h) rest (length (head_bytes h)) refl in
+      next _ _ (h, rest) _ read (when_true _ _ _ _ (both_true _ _ (is_head-from h fits) starts) (ap (λ (t : List ℕ). Some (h, behind h t)) after))
 
-pub head_at-found : (bytes : List ℕ) (h : Head) (rest : List ℕ) → head_at bytes ≡ Some (h, rest) → IsHead h × (bytes ≡ head_bytes h ++ rest)
+-- a head in front, and what is left behind it
+pub record IsInFront (bytes : List ℕ) (h : Head) (left : Unread) : Type 0 where
+  pub fits : IsHead h
+  pub spelled : bytes ≡ head_bytes h ++ left.bytes
+  pub left_is : left ≡ behind h left.bytes
+
+pub head_at-found : (bytes : List ℕ) (h : Head) (left : Unread) → head_at bytes ≡ Some (h, left) → IsInFront bytes h left
 unfolding head_at head_in
-head_at-found bytes h rest found =
-    let read = bind_some (λ (x : Head × List ℕ). head_in bytes x.0) (read_head bytes) (h, rest) found in
+head_at-found bytes h left found =
+    let read = bind_some (λ (x : Head × List ℕ). head_in bytes x.0) (read_head bytes) (h, left) found in
     let chosen = cond_some _ _ _ read.2 in
     let tests = and_true _ _ chosen.0 in
     let spelled = (starts_is Decides-eqb bytes (head_bytes read.0.0) _ refl).0 tests.1 in
-    subst (λ (x : Head × List ℕ). IsHead x.0 × (bytes ≡ head_bytes x.0 ++ x.1)) chosen.1 (head_from_test read.0.0 tests.0, spelled)
+    subst (λ (x : Head × Unread). IsInFront bytes x.0 x.1) chosen.1 (record { fits = head_from_test read.0.0 tests.0; spelled = spelled; left_is = refl })
 
 pub head_at-none : (bytes : List ℕ) → BeginsNoHead bytes → head_at bytes ≡ None
 head_at-none bytes none = none_from (head_at bytes) (λ x found.
     let there = head_at-found bytes x.0 x.1 found in
-    none x.0 x.1 there.0 there.1)
+    none x.0 x.1.bytes there.fits there.spelled)

@@ -6,3 +6,5 @@ pub mod HeadLaws
 pub mod Entries
 pub mod Walks
 pub mod Puts
+pub mod Renewing
+pub mod Versions

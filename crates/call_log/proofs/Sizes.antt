@@ -1,103 +1,125 @@
 -- How long an entry is.
-use Rattle.std.proofs.Common.{◌≡◌, ℕ, ◌+◌, ◌-◌, ◌*◌, ◌^◌, ◌<◌, ◌≤◌, lit≤, Bool, true, false, cond, ltb, List, [], ◌∷◌, length, Option, Some, None, refl, ap, ◌∙◌, arith, length-append}
-use Rattle.std.specs.Prelude.{nat_lt}
-use Rattle.std.specs.Int.{w16, w32, w64, to_le_bytes}
+use Rattle.std.proofs.Common.{◌≡◌, ℕ, zero, suc, ◌+◌, ◌/◌, ◌%◌, ◌^◌, ◌<◌, ◌≤◌, lit≤, Bool, true, false, cond, ltb, List, [], ◌∷◌, length, Option, Some, None, refl, ap, ◌∙◌, arith, length-append}
+use Rattle.std.specs.Int.{Width, w8, w16, w32, w64, w128}
 use Rattle.std.specs.List.{concat}
 use Rattle.std.proofs.lemmas.Bool.Decides.{nat_tests}
 use Rattle.lamport_tag.specs.declared.Tag.{Tag}
+use Rattle.fri_bytes.specs.Short.{short_bytes, short_within}
 use Rattle.lib_calls.specs.declared.entry.Call.{Call}
-use Rattle.call_table.specs.declared.kind.Kind.{Kind}
-use Rattle.call_table.specs.declared.kind.Kind.TheVariants.{Begin}
-use Rattle.call_table.specs.Table.{kind_numbered, row}
-use Rattle.std.specs.Option.{option_map_or}
 use Rattle.lib_calls.specs.Kinds.{argument_count, has_outgoing, has_incoming, has_tag}
+use Rattle.std.specs.Prelude.{nat_lt}
 use Rattle.lib_calls.specs.declared.entry.Entry.{Entry}
 use Rattle.lib_calls.specs.Entry.{IsStringIf, IsShaped}
+use Rattle.call_log.specs.declared.version.Version.{Version}
+use Rattle.call_log.specs.declared.version.Version.TheVariants.{One, Two}
+use Rattle.call_log.specs.Version.{clock_bytes, clock_gap, number_bytes}
 use Rattle.call_log.specs.Entry.{body_bytes, encoding, argument_bytes, number_if, string_if, tag_if}
+use Rattle.call_log.specs.Limits.{least_entry}
 
-abbrev total_length : List (List ℕ) → ℕ
+abbrev pub total_length : List (List ℕ) → ℕ
 total_length [] = 0
 total_length (part ∷ parts) = length part + total_length parts
 
-length-concat : (parts : List (List ℕ)) → length (concat parts) ≡ total_length parts
+pub length-concat : (parts : List (List ℕ)) → length (concat parts) ≡ total_length parts
 length-concat [] = refl
 length-concat (part ∷ parts) = length-append part (concat parts) ∙ ap (λ (n : ℕ). length part + n) (length-concat parts)
 
-length-number_if : (has : Bool) (n : ℕ) → length (number_if has n) ≡ cond has 8 0
-length-number_if true n = refl
-length-number_if false n = refl
+-- ---- numbers
 
-length-tag_if : (has : Bool) (tag : Option Tag) → length (tag_if has tag) ≤ 13
-length-tag_if true None = lit≤ tt
-length-tag_if true (Some tag) = lit≤ tt
-length-tag_if false tag = lit≤ tt
+-- some bytes, and no more than so many
+pub record IsWithin (most n : ℕ) : Type 0 where
+  pub some : 1 ≤ n
+  pub few : n ≤ most
 
-length-string_if : (has : Bool) (s : List ℕ) → IsStringIf has s → length (string_if has s) ≤ cond has 2147483652 0
-length-string_if true s few = omega (arith, length-append (to_le_bytes w32 (length s)) s)
-length-string_if false s none = lit≤ tt
+longer : (small : Bool) (most b c : ℕ) (more : List ℕ) → IsWithin most (length more) → IsWithin (suc most) (length (cond small (b ∷ []) (c ∷ more)))
+longer true most b c more behind = record { some = lit≤ tt; few = omega arith }
+longer false most b c more behind = record { some = omega arith; few = omega (arith, behind.few) }
 
--- no call has more than three arguments
-params_le : (kind : Kind) → (row kind).signature.params ≤ 3
-params_le Begin = lit≤ tt
-params_le _ = lit≤ tt
-
-argument_count_le : (number : ℕ) → argument_count number ≤ 3
-unfolding argument_count
-argument_count_le number = by_kind (kind_numbered number)
+length-short_within : (most n : ℕ) → IsWithin (suc most) (length (short_within (suc most) n))
+length-short_within zero n = alone (ltb n 128) n (128 + n % 128)
   where
-    by_kind : (o : Option Kind) → option_map_or (λ (kind : Kind). (row kind).signature.params) o 0 ≤ 3
-    by_kind None = lit≤ tt
-    by_kind (Some kind) = params_le kind
+    alone : (small : Bool) (b c : ℕ) → IsWithin 1 (length (cond small (b ∷ []) (c ∷ [])))
+    alone true b c = record { some = lit≤ tt; few = lit≤ tt }
+    alone false b c = record { some = lit≤ tt; few = lit≤ tt }
+length-short_within (suc most) n = longer (ltb n 128) (suc most) n (128 + n % 128) (short_within (suc most) (n / 128)) (length-short_within most (n / 128))
 
-eights : (count : ℕ) → count ≤ 3 → cond (ltb 0 count) 8 0 + (cond (ltb 1 count) 8 0 + (cond (ltb 2 count) 8 0 + 0)) ≡ 8 * count
-eights count few = grind (arith, nat_tests)
+pub length-short_bytes : (n : ℕ) → IsWithin 10 (length (short_bytes n))
+unfolding short_bytes
+length-short_bytes n = length-short_within 9 n
 
--- each argument takes 8 bytes
-pub length-argument_bytes : (call : Call) → length (argument_bytes call) ≡ 8 * argument_count call.kind
+-- a number takes 1 to 16 bytes
+pub length-number_bytes : (v : Version) (w : Width) (n : ℕ) → IsWithin 16 (length (number_bytes v w n))
+length-number_bytes One w8 n = record { some = lit≤ tt; few = lit≤ tt }
+length-number_bytes One w16 n = record { some = lit≤ tt; few = lit≤ tt }
+length-number_bytes One w32 n = record { some = lit≤ tt; few = lit≤ tt }
+length-number_bytes One w64 n = record { some = lit≤ tt; few = lit≤ tt }
+length-number_bytes One w128 n = record { some = lit≤ tt; few = lit≤ tt }
+length-number_bytes Two w n = let short = length-short_bytes n in record { some = short.some; few = omega (arith, short.few) }
+
+pub length-clock_bytes : (v : Version) (last clock : ℕ) → IsWithin 16 (length (clock_bytes v last clock))
+length-clock_bytes One last clock = record { some = lit≤ tt; few = lit≤ tt }
+length-clock_bytes Two last clock = let short = length-short_bytes (clock_gap last clock) in record { some = short.some; few = omega (arith, short.few) }
+
+-- ---- the fields
+
+length-number_if : (v : Version) (has : Bool) (n : ℕ) → length (number_if v has n) ≤ 16
+length-number_if v true n = (length-number_bytes v w64 n).few
+length-number_if v false n = lit≤ tt
+
+pub length-tag_if : (v : Version) (has : Bool) (tag : Option Tag) → length (tag_if v has tag) ≤ 33
+length-tag_if v true None = lit≤ tt
+length-tag_if v true (Some tag) =
+    omega (arith, length-append (number_bytes v w32 tag.sender) (number_bytes v w64 tag.clock), (length-number_bytes v w32 tag.sender).few, (length-number_bytes v w64 tag.clock).few)
+length-tag_if v false tag = lit≤ tt
+
+length-string_if : (v : Version) (has : Bool) (s : List ℕ) → IsStringIf has s → length (string_if v has s) ≤ cond has 2147483664 0
+length-string_if v true s few = omega (arith, length-append (number_bytes v w32 (length s)) s, (length-number_bytes v w32 (length s)).few)
+length-string_if v false s none = lit≤ tt
+
+pub length-argument_bytes : (v : Version) (call : Call) → length (argument_bytes v call) ≤ 48
 unfolding argument_bytes
-length-argument_bytes call =
+length-argument_bytes v call =
     let has : ℕ → Bool = λ k. nat_lt k (argument_count call.kind) in
-    length-concat (number_if (has 0) call.a0 ∷ number_if (has 1) call.a1 ∷ number_if (has 2) call.a2 ∷ [])
-    ∙ rw (length-number_if (has 0) call.a0, length-number_if (has 1) call.a1, length-number_if (has 2) call.a2) (eights (argument_count call.kind) (argument_count_le call.kind))
+    let all = length-concat (number_if v (has 0) call.a0 ∷ number_if v (has 1) call.a1 ∷ number_if v (has 2) call.a2 ∷ []) in
+    omega (arith, all, length-number_if v (has 0) call.a0, length-number_if v (has 1) call.a1, length-number_if v (has 2) call.a2)
 
 -- no kind has both byte strings
-one_string : (kind : ℕ) → cond (has_outgoing kind) 2147483652 0 + cond (has_incoming kind) 2147483652 0 ≤ 2147483652
+one_string : (kind : ℕ) → cond (has_outgoing kind) 2147483664 0 + cond (has_incoming kind) 2147483664 0 ≤ 2147483664
 unfolding has_outgoing has_incoming
 one_string kind = grind (arith, nat_tests)
 
-length-body : (e : Entry) → length (body_bytes e) ≡ 8 + (2 + (1 + (1 + (length (argument_bytes e.call) + (8 + (length (string_if (has_outgoing e.call.kind) e.outgoing) + (length (string_if (has_incoming e.call.kind) e.incoming) + (length (tag_if (has_tag e.call.kind) e.tag) + 0))))))))
+-- ---- the body
+
+pub body_size : (v : Version) (last : ℕ) (e : Entry)
+    → length (body_bytes v last e) ≡ length (clock_bytes v last e.clock) + length (number_bytes v w16 e.thread) + 2 + length (argument_bytes v e.call) + length (number_bytes v w64 e.reply) + length (string_if v (has_outgoing e.call.kind) e.outgoing) + length (string_if v (has_incoming e.call.kind) e.incoming) + length (tag_if v (has_tag e.call.kind) e.tag)
 unfolding body_bytes
-length-body e = length-concat (
-    to_le_bytes w64 e.clock ∷ to_le_bytes w16 e.thread ∷ (e.call.kind ∷ []) ∷ (e.signal ∷ []) ∷ argument_bytes e.call ∷ to_le_bytes w64 e.reply
-    ∷ string_if (has_outgoing e.call.kind) e.outgoing ∷ string_if (has_incoming e.call.kind) e.incoming ∷ tag_if (has_tag e.call.kind) e.tag ∷ [])
+body_size v last e = length-concat (
+    clock_bytes v last e.clock ∷ number_bytes v w16 e.thread ∷ (e.call.kind ∷ []) ∷ (e.signal ∷ []) ∷ argument_bytes v e.call ∷ number_bytes v w64 e.reply
+    ∷ string_if v (has_outgoing e.call.kind) e.outgoing ∷ string_if v (has_incoming e.call.kind) e.incoming ∷ tag_if v (has_tag e.call.kind) e.tag ∷ []) ∙ summed _ _ _ _ _ _ _
+  where
+    summed : (c t a r o i g : ℕ) → c + (t + (1 + (1 + (a + (r + (o + (i + (g + 0)))))))) ≡ c + t + 2 + a + r + o + i + g
+    summed c t a r o i g = omega arith
 
-body_fits : (n a o i t x y : ℕ) → a ≤ 24 → o ≤ x → i ≤ y → x + y ≤ 2147483652 → t ≤ 13 → n ≡ 8 + (2 + (1 + (1 + (a + (8 + (o + (i + (t + 0)))))))) → n < 2 ^ 32
-body_fits n a o i t x y p q r s u e = omega arith
+body_fits : (n c t a r o i g x y : ℕ) → c ≤ 16 → t ≤ 16 → a ≤ 48 → r ≤ 16 → o ≤ x → i ≤ y → x + y ≤ 2147483664 → g ≤ 33 → n ≡ c + t + 2 + a + r + o + i + g → n < 2 ^ 32
+body_fits n c t a r o i g x y p q s u k l m h e = omega arith
 
-pub length-body_lt : (e : Entry) → IsShaped e → length (body_bytes e) < 2 ^ 32
-length-body_lt e shaped =
-    body_fits _ _ _ _ _ _ _ (omega (arith, length-argument_bytes e.call, argument_count_le e.call.kind)) (length-string_if _ e.outgoing shaped.outgoing) (length-string_if _ e.incoming shaped.incoming) (one_string e.call.kind) (length-tag_if _ e.tag) (length-body e)
+pub length-body_lt : (v : Version) (last : ℕ) (e : Entry) → IsShaped e → length (body_bytes v last e) < 2 ^ 32
+length-body_lt v last e shaped =
+    body_fits _ _ _ _ _ _ _ _ _ _ (length-clock_bytes v last e.clock).few (length-number_bytes v w16 e.thread).few (length-argument_bytes v e.call) (length-number_bytes v w64 e.reply).few
+    (length-string_if v _ e.outgoing shaped.outgoing) (length-string_if v _ e.incoming shaped.incoming) (one_string e.call.kind) (length-tag_if v _ e.tag) (body_size v last e)
 
-at_least_24 : (n m a o i t : ℕ) → n ≡ 4 + m → m ≡ 8 + (2 + (1 + (1 + (a + (8 + (o + (i + (t + 0)))))))) → 24 ≤ n
-at_least_24 n m a o i t p q = omega arith
+-- ---- the entry
 
--- an entry has at least 24 bytes
-pub length-encoding : (e : Entry) → 24 ≤ length (encoding e)
+-- the length of the body, and the body
+pub encoding_size : (v : Version) (last : ℕ) (e : Entry) → length (encoding v last e) ≡ length (number_bytes v w32 (length (body_bytes v last e))) + length (body_bytes v last e)
 unfolding encoding
-length-encoding e = at_least_24 _ _ _ _ _ _ (length-append (to_le_bytes w32 (length (body_bytes e))) (body_bytes e)) (length-body e)
+encoding_size v last e = length-append (number_bytes v w32 (length (body_bytes v last e))) (body_bytes v last e)
 
-summed : (n m a c o i t : ℕ) → n ≡ 4 + m → m ≡ 8 + (2 + (1 + (1 + (a + (8 + (o + (i + (t + 0)))))))) → a ≡ 8 * c → n ≡ 24 + 8 * c + o + i + t
-summed n m a c o i t p q r = omega arith
+at_least : (n s m c t a r o i g : ℕ) → 1 ≤ s → 1 ≤ c → 1 ≤ t → 1 ≤ r → n ≡ s + m → m ≡ c + t + 2 + a + r + o + i + g → 6 ≤ n
+at_least n s m c t a r o i g p q k l e f = omega arith
 
--- the sizes of the fields, and 24 bytes for those that each entry has
-pub encoding_size : (e : Entry) → length (encoding e) ≡ 24 + 8 * argument_count e.call.kind + length (string_if (has_outgoing e.call.kind) e.outgoing) + length (string_if (has_incoming e.call.kind) e.incoming) + length (tag_if (has_tag e.call.kind) e.tag)
-unfolding encoding
-encoding_size e = summed _ _ _ _ _ _ _ (length-append (to_le_bytes w32 (length (body_bytes e))) (body_bytes e)) (length-body e) (length-argument_bytes e.call)
-
-without_length : (n m : ℕ) → n ≡ 4 + m → m < 2 ^ 32 → (4 ≤ n) × (n - 4 ≡ m) × (n - 4 < 2 ^ 32)
-without_length n m e small = (omega arith, omega arith, omega arith)
-
--- the length that stands in front of a body
-pub body_size : (e : Entry) (n : ℕ) → n ≡ length (encoding e) → IsShaped e → (4 ≤ n) × (n - 4 ≡ length (body_bytes e)) × (n - 4 < 2 ^ 32)
-unfolding encoding
-body_size e n size shaped = without_length n (length (body_bytes e)) (size ∙ length-append (to_le_bytes w32 (length (body_bytes e))) (body_bytes e)) (length-body_lt e shaped)
+-- the least that an entry takes
+pub length-encoding : (v : Version) (last : ℕ) (e : Entry) → least_entry ≤ length (encoding v last e)
+length-encoding v last e =
+    at_least _ _ _ _ _ _ _ _ _ _ (length-number_bytes v w32 (length (body_bytes v last e))).some (length-clock_bytes v last e.clock).some (length-number_bytes v w16 e.thread).some (length-number_bytes v w64 e.reply).some
+    (encoding_size v last e) (body_size v last e)

@@ -1,70 +1,78 @@
 -- How the entries of a log are spelled.
 use Rattle.std.specs.Prelude.{◌≡◌, ℕ, Bool, nat_lt, if◌then◌else◌, List, [], ◌∷◌, ◌++◌, length, Option, Some, None}
-use Rattle.std.specs.List.{concat, flat_map}
-use Rattle.std.specs.Int.{w16, w32, w64, to_le_bytes}
+use Rattle.std.specs.List.{concat}
+use Rattle.std.specs.Int.{w16, w32, w64}
 use Rattle.lamport_tag.specs.declared.Tag.{Tag}
 use Rattle.lib_calls.specs.declared.entry.Call.{Call}
 use Rattle.lib_calls.specs.declared.entry.Entry.{Entry}
 use Rattle.lib_calls.specs.Entry.{IsShaped}
 use Rattle.lib_calls.specs.Kinds.{argument_count, has_outgoing, has_incoming, has_tag}
+use Rattle.call_log.specs.declared.version.Version.{Version}
+use Rattle.call_log.specs.Version.{clock_bytes, number_bytes}
 
--- ---- how an entry is spelled; the lowest byte of a number comes first
+-- ---- how an entry is spelled; the lowest part of a number comes first
 
--- the 8 bytes of a number, where the kind has it
-abbrev pub number_if : Bool → ℕ → List ℕ
-number_if has n = if has then to_le_bytes w64 n else []
+-- a number of 64 bits, where the kind has it
+abbrev pub number_if : Version → Bool → ℕ → List ℕ
+number_if v has n = if has then number_bytes v w64 n else []
 
--- the length in 4 bytes and then the bytes, where the kind has them
-abbrev pub string_if : Bool → List ℕ → List ℕ
-string_if has bytes = if has then to_le_bytes w32 (length bytes) ++ bytes else []
+-- the length and then the bytes, where the kind has them
+abbrev pub string_if : Version → Bool → List ℕ → List ℕ
+string_if v has bytes = if has then number_bytes v w32 (length bytes) ++ bytes else []
 
 -- the flag 0, or the flag 1 and the tag's sender and clock
-abbrev pub flagged : Option Tag → List ℕ
-flagged None = 0 ∷ []
-flagged (Some tag) = 1 ∷ (to_le_bytes w32 tag.sender ++ to_le_bytes w64 tag.clock)
+abbrev pub flagged : Version → Option Tag → List ℕ
+flagged v None = 0 ∷ []
+flagged v (Some tag) = 1 ∷ (number_bytes v w32 tag.sender ++ number_bytes v w64 tag.clock)
 
 -- whether there is a tag, and which, where the kind may have one
-abbrev pub tag_if : Bool → Option Tag → List ℕ
-tag_if has tag = if has then flagged tag else []
+abbrev pub tag_if : Version → Bool → Option Tag → List ℕ
+tag_if v has tag = if has then flagged v tag else []
 
 -- the arguments that the kind has
-unfoldable pub argument_bytes : Call → List ℕ
-argument_bytes call = concat (
-    number_if (nat_lt 0 (argument_count call.kind)) call.a0
-    ∷ number_if (nat_lt 1 (argument_count call.kind)) call.a1
-    ∷ number_if (nat_lt 2 (argument_count call.kind)) call.a2
+unfoldable pub argument_bytes : Version → Call → List ℕ
+argument_bytes v call = concat (
+    number_if v (nat_lt 0 (argument_count call.kind)) call.a0
+    ∷ number_if v (nat_lt 1 (argument_count call.kind)) call.a1
+    ∷ number_if v (nat_lt 2 (argument_count call.kind)) call.a2
     ∷ [])
 
--- the fields of an entry, one after the other
-unfoldable pub body_bytes : Entry → List ℕ
-body_bytes e = concat (
-    to_le_bytes w64 e.clock
-    ∷ to_le_bytes w16 e.thread
+-- the fields of an entry behind one with the clock `last`, one after the other
+unfoldable pub body_bytes : Version → ℕ → Entry → List ℕ
+body_bytes v last e = concat (
+    clock_bytes v last e.clock
+    ∷ number_bytes v w16 e.thread
     ∷ (e.call.kind ∷ [])
     ∷ (e.signal ∷ [])
-    ∷ argument_bytes e.call
-    ∷ to_le_bytes w64 e.reply
-    ∷ string_if (has_outgoing e.call.kind) e.outgoing
-    ∷ string_if (has_incoming e.call.kind) e.incoming
-    ∷ tag_if (has_tag e.call.kind) e.tag
+    ∷ argument_bytes v e.call
+    ∷ number_bytes v w64 e.reply
+    ∷ string_if v (has_outgoing e.call.kind) e.outgoing
+    ∷ string_if v (has_incoming e.call.kind) e.incoming
+    ∷ tag_if v (has_tag e.call.kind) e.tag
     ∷ [])
 
--- the length of the body in 4 bytes, and then the body
-unfoldable pub encoding : Entry → List ℕ
-encoding e = to_le_bytes w32 (length (body_bytes e)) ++ body_bytes e
+-- the length of the body, and then the body
+unfoldable pub encoding : Version → ℕ → Entry → List ℕ
+encoding v last e = number_bytes v w32 (length (body_bytes v last e)) ++ body_bytes v last e
 
--- entries, one after the other
-abbrev pub encodings : List Entry → List ℕ
-encodings entries = flat_map encoding entries
+-- entries, one after the other, behind one with the clock `last`
+abbrev pub encodings : Version → ℕ → List Entry → List ℕ
+encodings v last [] = []
+encodings v last (e ∷ es) = encoding v last e ++ encodings v e.clock es
 
--- the bytes of an entry in front of its arguments
-unfoldable pub front_bytes : Entry → List ℕ
-front_bytes e = concat (to_le_bytes w32 (length (body_bytes e)) ∷ to_le_bytes w64 e.clock ∷ to_le_bytes w16 e.thread ∷ (e.call.kind ∷ e.signal ∷ []) ∷ [])
+-- the clock of the last of the entries, or `last` where there is none
+abbrev pub clock_after : ℕ → List Entry → ℕ
+clock_after last [] = last
+clock_after last (e ∷ es) = clock_after e.clock es
+
+-- the fields of an entry in front of its arguments
+unfoldable pub front_bytes : Version → ℕ → Entry → List ℕ
+front_bytes v last e = concat (clock_bytes v last e.clock ∷ number_bytes v w16 e.thread ∷ (e.call.kind ∷ e.signal ∷ []) ∷ [])
 
 -- those behind its arguments and in front of its tag
-unfoldable pub reply_bytes : Entry → List ℕ
-reply_bytes e = to_le_bytes w64 e.reply ++ (string_if (has_outgoing e.call.kind) e.outgoing ++ string_if (has_incoming e.call.kind) e.incoming)
+unfoldable pub reply_bytes : Version → Entry → List ℕ
+reply_bytes v e = number_bytes v w64 e.reply ++ (string_if v (has_outgoing e.call.kind) e.outgoing ++ string_if v (has_incoming e.call.kind) e.incoming)
 
--- no entry stands at the front of the bytes
-abbrev pub BeginsNoEntry : List ℕ → Type 0
-BeginsNoEntry bytes = (e : Entry) (rest : List ℕ) → IsShaped e → bytes ≡ encoding e ++ rest → ⊥
+-- no entry stands at the front of the bytes, which are behind an entry with the clock `last`
+abbrev pub BeginsNoEntry : Version → ℕ → List ℕ → Type 0
+BeginsNoEntry v last bytes = (e : Entry) (rest : List ℕ) → IsShaped e → bytes ≡ encoding v last e ++ rest → ⊥

@@ -4,16 +4,19 @@ use Rattle.std.specs.List.{concat}
 use Rattle.std.specs.Int.{w32, to_le_bytes}
 use Rattle.fri_text.specs.Name.{is_name}
 use Rattle.call_log.specs.declared.head.LogHead.{LogHead}
+use Rattle.call_log.specs.declared.version.Version.{Version}
+use Rattle.call_log.specs.Version.{version_number}
 
--- the number of processes in the group, the process's own number, and its name
+-- the version of the log, the number of processes in the group, the process's own number, and its name
 pub record Head : Type 0 where
+  pub version : Version
   pub count : ℕ
   pub process : ℕ
   pub name : List ℕ
 
 -- what a head that lies in a log says
 abbrev pub head_of : LogHead → Head
-head_of h = record { count = h.count; process = h.process; name = h.name.now }
+head_of h = record { version = h.version; count = h.count; process = h.process; name = h.name.now }
 
 -- a group has 1 to 16 processes, which are numbered from 0
 pub record IsHead (h : Head) : Type 0 where
@@ -22,11 +25,11 @@ pub record IsHead (h : Head) : Type 0 where
   pub within : h.process < h.count
   pub named : is_name h.name ≡ true
 
--- the magic bytes, the version 1, the two numbers, the length of the name in one byte, and the name
+-- the magic bytes, the version, the two numbers, the length of the name in one byte, and the name
 unfoldable pub head_bytes : Head → List ℕ
 head_bytes h = concat (
     codes "LLOG"
-    ∷ to_le_bytes w32 1
+    ∷ to_le_bytes w32 (version_number h.version)
     ∷ to_le_bytes w32 h.count
     ∷ to_le_bytes w32 h.process
     ∷ (length h.name ∷ [])

@@ -1,31 +1,36 @@
 -- What holds of heads, entries and whole logs, whatever the bytes are.
-use Rattle.std.specs.Prelude.{◌≡◌, ℕ, ◌<◌, ◌↔◌, List, [], ◌++◌, length, take, Some, All}
+use Rattle.std.specs.Prelude.{◌≡◌, ℕ, ◌+◌, ◌^◌, ◌<◌, ◌≤◌, ◌↔◌, List, [], ◌++◌, length, take, Some, None, All}
+use Rattle.lamport_tag.specs.declared.Tag.{Tag}
 use Rattle.lib_calls.specs.declared.entry.Entry.{Entry}
 use Rattle.lib_calls.specs.Entry.{IsShaped}
-use Rattle.call_log.specs.Entry.{encoding, encodings}
+use Rattle.call_log.specs.declared.version.Version.{Version}
+use Rattle.call_log.specs.declared.version.Version.TheVariants.{One, Two}
+use Rattle.call_log.specs.Entry.{clock_after, encoding, encodings}
 use Rattle.call_log.specs.Head.{Head, IsHead, head_bytes}
-use Rattle.call_log.specs.Log.{Holds, entries_of, entry_at, head_at, rest_of}
+use Rattle.call_log.specs.Log.{Holds, Unread, behind, entries_of, entry_at, head_at, past, rest_of}
+
+-- ---- reading
 
 -- the head that is found is the one that stands in front
 abbrev pub FindsHeads : Type 0
-FindsHeads = (bytes : List ℕ) (head : Head) (left : List ℕ) → (head_at bytes ≡ Some (head, left)) ↔ (IsHead head × (bytes ≡ head_bytes head ++ left))
+FindsHeads = (bytes : List ℕ) (head : Head) (left : Unread) → (head_at bytes ≡ Some (head, left)) ↔ (IsHead head × ((bytes ≡ head_bytes head ++ left.bytes) × (left ≡ behind head left.bytes)))
 
 -- the entry that is found is the one that stands in front
 abbrev pub FindsEntries : Type 0
-FindsEntries = (bytes : List ℕ) (entry : Entry) (left : List ℕ) → (entry_at bytes ≡ Some (entry, left)) ↔ (IsShaped entry × (bytes ≡ encoding entry ++ left))
+FindsEntries = (left : Unread) (e : Entry) (next : Unread) → (entry_at left ≡ Some (e, next)) ↔ (IsShaped e × ((left.bytes ≡ encoding left.version left.last e ++ next.bytes) × (next ≡ past left e next.bytes)))
 
--- the bytes hold the entries that are read of them and the rest, and nothing else
+-- what is left holds the entries that are read of it and the rest, and nothing else
 abbrev pub FindsAll : Type 0
-FindsAll = (bytes : List ℕ) (entries : List Entry) (rest : List ℕ) → Holds bytes entries rest ↔ ((entries_of bytes ≡ entries) × (rest_of bytes ≡ rest))
+FindsAll = (left : Unread) (entries : List Entry) (rest : List ℕ) → Holds left entries rest ↔ ((entries_of left ≡ entries) × (rest_of left ≡ rest))
 
 -- entries that were written one after the other are held, and nothing is left
 abbrev pub HoldsWritten : Type 0
-HoldsWritten = (entries : List Entry) → All IsShaped entries → Holds (encodings entries) entries []
+HoldsWritten = (v : Version) (last : ℕ) (entries : List Entry) → All IsShaped entries → Holds (record { version = v; last = last; bytes = encodings v last entries }) entries []
 
 -- and where the last one was written in part, that part is left
 abbrev pub HoldsCut : Type 0
-HoldsCut = (entries : List Entry) (e : Entry) (n : ℕ) → All IsShaped entries → IsShaped e → n < length (encoding e)
-    → Holds (encodings entries ++ take n (encoding e)) entries (take n (encoding e))
+HoldsCut = (v : Version) (last : ℕ) (entries : List Entry) (e : Entry) (n : ℕ) → All IsShaped entries → IsShaped e → n < length (encoding v (clock_after last entries) e)
+    → Holds (record { version = v; last = last; bytes = encodings v last entries ++ take n (encoding v (clock_after last entries) e) }) entries (take n (encoding v (clock_after last entries) e))
 
 -- reading gives exactly what stands in a log
 pub record ExactLogs : Type 0 where
@@ -34,3 +39,26 @@ pub record ExactLogs : Type 0 where
   pub all : FindsAll
   pub holds_written : HoldsWritten
   pub holds_cut : HoldsCut
+
+-- ---- the two versions
+
+-- a tag that a process can have sent, and a datagram with it that was taken
+pub record IsNear (last : ℕ) (e : Entry) (tag : Tag) : Type 0 where
+  pub sender : tag.sender < 128
+  pub sent : tag.clock ≤ 2 ^ 62
+  pub reply : e.reply ≤ 60000
+  pub clock : e.clock ≤ last + (2 ^ 62 + 1)
+
+-- An entry whose numbers are no greater than those of an event, behind an entry with the clock `last`. Arguments, the
+-- signal and the reply of an entry without a tag may be any.
+pub record IsCommon (last : ℕ) (e : Entry) : Type 0 where
+  pub thread : e.thread < 128
+  pub outgoing : length e.outgoing ≤ 60000
+  pub incoming : length e.incoming ≤ 60000
+  pub later : last ≤ e.clock
+  pub plain : e.tag ≡ None → e.clock < last + 2 ^ 14
+  pub tagged : (tag : Tag) → e.tag ≡ Some tag → IsNear last e tag
+
+-- such an entry takes no more bytes in version 2 than in version 1
+abbrev pub NoLonger : Type 0
+NoLonger = (last : ℕ) (e : Entry) → IsShaped e → IsCommon last e → length (encoding Two last e) ≤ length (encoding One last e)

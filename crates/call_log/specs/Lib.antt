@@ -1,4 +1,5 @@
 pub mod Kind
+pub mod Version
 pub mod Entry
 pub mod Head
 pub mod Reading

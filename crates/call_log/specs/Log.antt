@@ -1,4 +1,4 @@
--- The head, the entries and the rest of some bytes, and a log of which some entries were read.
+-- The head of some bytes, a log of which some entries were read, and the entries and the rest of what is left.
 use Rattle.std.specs.Prelude.{◌≡◌, ℕ, zero, suc, ◌^◌, Bool, true, ◌&&◌, nat_eq, nat_lt, nat_le, if◌then◌else◌, List, [], ◌∷◌, ◌++◌, length, drop, Option, Some, None, option_and_then, All}
 use Rattle.std.specs.List.{starts_with}
 use Rattle.lamport_tag.specs.declared.Tag.{Tag}
@@ -7,21 +7,42 @@ use Rattle.lib_calls.specs.Entry.{IsShaped}
 use Rattle.lib_calls.specs.Kinds.{argument_count, has_outgoing, has_incoming, has_tag}
 use Rattle.call_log.specs.Kind.{is_kind}
 use Rattle.lib_calls.specs.declared.entry.Entry.{Entry}
-use Rattle.call_log.specs.Entry.{BeginsNoEntry, encoding, encodings}
+use Rattle.call_log.specs.declared.version.Version.{Version}
+use Rattle.call_log.specs.declared.version.Version.TheVariants.{Two}
+use Rattle.call_log.specs.Entry.{BeginsNoEntry, clock_after, encoding, encodings}
 use Rattle.call_log.specs.Head.{Head, head_bytes}
 use Rattle.fri_text.specs.Name.{is_name}
 use Rattle.call_log.specs.Reading.{read_entry, read_head}
 
--- the head, and the bytes behind the entries that were read
+-- What was not read of a log: its version, the clock of the entry that was read last, or 0 in front of the first,
+-- and the bytes that are left.
+pub record Unread : Type 0 where
+  pub version : Version
+  pub last : ℕ
+  pub bytes : List ℕ
+
+-- the head, and what is left behind the entries that were read
 pub record Log : Type 0 where
   pub head : Head
-  pub left : List ℕ
+  pub left : Unread
 
--- the bytes are these entries and then the rest, and there is no longer list of entries
-pub record Holds (bytes : List ℕ) (entries : List Entry) (rest : List ℕ) : Type 0 where
+-- these bytes, behind a head
+abbrev pub behind : Head → List ℕ → Unread
+behind head bytes = record { version = head.version; last = 0; bytes = bytes }
+
+-- these bytes, behind an entry of what was left
+abbrev pub past : Unread → Entry → List ℕ → Unread
+past left e bytes = record { version = left.version; last = e.clock; bytes = bytes }
+
+-- what is left is these entries and then the rest, and there is no longer list of entries
+pub record Holds (left : Unread) (entries : List Entry) (rest : List ℕ) : Type 0 where
   pub shaped : All IsShaped entries
-  pub spelled : bytes ≡ encodings entries ++ rest
-  pub longest : BeginsNoEntry rest
+  pub spelled : left.bytes ≡ encodings left.version left.last entries ++ rest
+  pub longest : BeginsNoEntry left.version (clock_after left.last entries) rest
+
+-- a log of version 2 with this head but for the version, and these entries
+abbrev pub rewritten : Head → List Entry → List ℕ
+rewritten head entries = head_bytes (record head { version = Two }) ++ encodings Two 0 entries
 
 -- ---- what stands at the front of some bytes, as functions
 
@@ -58,52 +79,54 @@ is_shaped e =
     && is_string_if (has_incoming e.call.kind) e.incoming
     && is_tag_if (has_tag e.call.kind) e.tag
 
--- the entry, where it is one and the bytes begin with its encoding, and the bytes behind it
-unfoldable pub entry_in : List ℕ → Entry → Option (Entry × List ℕ)
-entry_in bytes e =
-    if is_shaped e && starts_with nat_eq bytes (encoding e) then Some (e, drop (length (encoding e)) bytes) else None
+-- the entry, where it is one and the bytes begin with its encoding, and what is left behind it
+unfoldable pub entry_in : Unread → Entry → Option (Entry × Unread)
+entry_in left e =
+    if is_shaped e && starts_with nat_eq left.bytes (encoding left.version left.last e)
+    then Some (e, past left e (drop (length (encoding left.version left.last e)) left.bytes))
+    else None
 
--- the entry at the front of the bytes and the bytes behind it, or nothing where none stands there
-unfoldable pub entry_at : List ℕ → Option (Entry × List ℕ)
-entry_at bytes = option_and_then (λ x. entry_in bytes x.0) (read_entry bytes)
+-- the entry at the front of what is left and what is left behind it, or nothing where none stands there
+unfoldable pub entry_at : Unread → Option (Entry × Unread)
+entry_at left = option_and_then (λ x. entry_in left x.0) (read_entry left.version left.last left.bytes)
 
 -- the entry that was found, and then those that follow
-abbrev pub entry_then : (List ℕ → List Entry) → Option (Entry × List ℕ) → List Entry
+abbrev pub entry_then : (Unread → List Entry) → Option (Entry × Unread) → List Entry
 entry_then more None = []
 entry_then more (Some x) = x.0 ∷ more x.1
 
--- at most so many entries at the front of the bytes
-unfoldable pub entries_within : ℕ → List ℕ → List Entry
-entries_within zero bytes = []
-entries_within (suc limit) bytes = entry_then (entries_within limit) (entry_at bytes)
+-- at most so many entries at the front of what is left
+unfoldable pub entries_within : ℕ → Unread → List Entry
+entries_within zero left = []
+entries_within (suc limit) left = entry_then (entries_within limit) (entry_at left)
 
 -- the bytes as they are, or those behind the entries that follow the one that was found
-abbrev pub rest_then : (List ℕ → List ℕ) → List ℕ → Option (Entry × List ℕ) → List ℕ
+abbrev pub rest_then : (Unread → List ℕ) → List ℕ → Option (Entry × Unread) → List ℕ
 rest_then more bytes None = bytes
 rest_then more bytes (Some x) = more x.1
 
 -- the bytes behind at most so many entries
-unfoldable pub rest_within : ℕ → List ℕ → List ℕ
-rest_within zero bytes = bytes
-rest_within (suc limit) bytes = rest_then (rest_within limit) bytes (entry_at bytes)
+unfoldable pub rest_within : ℕ → Unread → List ℕ
+rest_within zero left = left.bytes
+rest_within (suc limit) left = rest_then (rest_within limit) left.bytes (entry_at left)
 
--- all entries at the front of the bytes, which hold no more entries than they have bytes
-unfoldable pub entries_of : List ℕ → List Entry
-entries_of bytes = entries_within (length bytes) bytes
+-- all entries at the front of what is left, which are no more than it has bytes
+unfoldable pub entries_of : Unread → List Entry
+entries_of left = entries_within (length left.bytes) left
 
 -- the bytes behind all of them
-unfoldable pub rest_of : List ℕ → List ℕ
-rest_of bytes = rest_within (length bytes) bytes
+unfoldable pub rest_of : Unread → List ℕ
+rest_of left = rest_within (length left.bytes) left
 
 -- the test of `IsHead`
 unfoldable pub is_head : Head → Bool
 is_head h = nat_le 1 h.count && nat_le h.count 16 && nat_lt h.process h.count && is_name h.name
 
--- the head, where it is one and the bytes begin with its spelling, and the bytes behind it
-unfoldable pub head_in : List ℕ → Head → Option (Head × List ℕ)
+-- the head, where it is one and the bytes begin with its spelling, and what is left behind it
+unfoldable pub head_in : List ℕ → Head → Option (Head × Unread)
 head_in bytes h =
-    if is_head h && starts_with nat_eq bytes (head_bytes h) then Some (h, drop (length (head_bytes h)) bytes) else None
+    if is_head h && starts_with nat_eq bytes (head_bytes h) then Some (h, behind h (drop (length (head_bytes h)) bytes)) else None
 
--- the head at the front of the bytes and the bytes behind it, or nothing where none stands there
-unfoldable pub head_at : List ℕ → Option (Head × List ℕ)
+-- the head at the front of the bytes and what is left behind it, or nothing where none stands there
+unfoldable pub head_at : List ℕ → Option (Head × Unread)
 head_at bytes = option_and_then (λ x. head_in bytes x.0) (read_head bytes)

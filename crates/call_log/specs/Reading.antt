@@ -9,6 +9,8 @@ use Rattle.lib_calls.specs.declared.entry.Call.{Call}
 use Rattle.lib_calls.specs.Kinds.{argument_count, has_outgoing, has_incoming, has_tag}
 use Rattle.call_log.specs.Kind.{is_kind}
 use Rattle.lib_calls.specs.declared.entry.Entry.{Entry}
+use Rattle.call_log.specs.declared.version.Version.{Version}
+use Rattle.call_log.specs.Version.{clock_at, number_at, version_numbered}
 use Rattle.call_log.specs.Head.{Head}
 use Rattle.fri_text.specs.Name.{is_name}
 
@@ -25,57 +27,57 @@ Gives (Some x) new found = found ≡ Some (x, new.left)
 -- ---- an entry
 
 -- a number, where the kind has it
-abbrev pub number_if_at : Bool → List ℕ → Option (ℕ × List ℕ)
-number_if_at has bytes = if has then le_at w64 bytes else Some (0, bytes)
+abbrev pub number_if_at : Version → Bool → List ℕ → Option (ℕ × List ℕ)
+number_if_at v has bytes = if has then number_at v w64 bytes else Some (0, bytes)
 
 -- the arguments of a call
-unfoldable pub call_at : ℕ → List ℕ → Option (Call × List ℕ)
-call_at kind bytes = do
-  a0 ← number_if_at (nat_lt 0 (argument_count kind)) bytes
-  a1 ← number_if_at (nat_lt 1 (argument_count kind)) a0.1
-  a2 ← number_if_at (nat_lt 2 (argument_count kind)) a1.1
+unfoldable pub call_at : Version → ℕ → List ℕ → Option (Call × List ℕ)
+call_at v kind bytes = do
+  a0 ← number_if_at v (nat_lt 0 (argument_count kind)) bytes
+  a1 ← number_if_at v (nat_lt 1 (argument_count kind)) a0.1
+  a2 ← number_if_at v (nat_lt 2 (argument_count kind)) a1.1
   Some (record { kind = kind; a0 = a0.0; a1 = a1.0; a2 = a2.0 }, a2.1)
 
 -- a byte string
-unfoldable pub string_at : List ℕ → Option (List ℕ × List ℕ)
-string_at bytes = do
-  size ← le_at w32 bytes
+unfoldable pub string_at : Version → List ℕ → Option (List ℕ × List ℕ)
+string_at v bytes = do
+  size ← number_at v w32 bytes
   if nat_lt size.0 (2 ^ 31) then piece_at size.0 size.1 else None
 
 -- a byte string, where the kind has it
-abbrev pub string_if_at : Bool → List ℕ → Option (List ℕ × List ℕ)
-string_if_at has bytes = if has then string_at bytes else Some ([], bytes)
+abbrev pub string_if_at : Version → Bool → List ℕ → Option (List ℕ × List ℕ)
+string_if_at v has bytes = if has then string_at v bytes else Some ([], bytes)
 
 -- a tag
-unfoldable pub tag_fields_at : List ℕ → Option (Tag × List ℕ)
-tag_fields_at bytes = do
-  sender ← le_at w32 bytes
-  clock ← le_at w64 sender.1
+unfoldable pub tag_fields_at : Version → List ℕ → Option (Tag × List ℕ)
+tag_fields_at v bytes = do
+  sender ← number_at v w32 bytes
+  clock ← number_at v w64 sender.1
   Some (record { sender = sender.0; clock = clock.0 }, clock.1)
 
 -- a tag behind its flag, or the flag that there is none
-unfoldable pub flagged_at : List ℕ → Option (Option Tag × List ℕ)
-flagged_at bytes = do
+unfoldable pub flagged_at : Version → List ℕ → Option (Option Tag × List ℕ)
+flagged_at v bytes = do
   flag ← byte_at bytes
   if flag.0 == 0 then Some (None, flag.1) else
-      (if flag.0 == 1 then tag_fields_at flag.1 >>= (λ tag. Some (Some tag.0, tag.1)) else None)
+      (if flag.0 == 1 then tag_fields_at v flag.1 >>= (λ tag. Some (Some tag.0, tag.1)) else None)
 
 -- the same, where the kind may have a tag
-abbrev pub tag_if_at : Bool → List ℕ → Option (Option Tag × List ℕ)
-tag_if_at has bytes = if has then flagged_at bytes else Some (None, bytes)
+abbrev pub tag_if_at : Version → Bool → List ℕ → Option (Option Tag × List ℕ)
+tag_if_at v has bytes = if has then flagged_at v bytes else Some (None, bytes)
 
--- an entry that is the whole of the bytes, without its length
-unfoldable pub body_at : List ℕ → Option Entry
-body_at bytes = do
-  clock ← le_at w64 bytes
-  thread ← le_at w16 clock.1
+-- an entry that is the whole of the bytes, without its length, behind an entry with the clock `last`
+unfoldable pub body_at : Version → ℕ → List ℕ → Option Entry
+body_at v last bytes = do
+  clock ← clock_at v last bytes
+  thread ← number_at v w16 clock.1
   kind ← byte_at thread.1
   signal ← byte_at kind.1
-  call ← if is_kind kind.0 then call_at kind.0 signal.1 else None
-  reply ← le_at w64 call.1
-  outgoing ← string_if_at (has_outgoing kind.0) reply.1
-  incoming ← string_if_at (has_incoming kind.0) outgoing.1
-  tag ← tag_if_at (has_tag kind.0) incoming.1
+  call ← if is_kind kind.0 then call_at v kind.0 signal.1 else None
+  reply ← number_at v w64 call.1
+  outgoing ← string_if_at v (has_outgoing kind.0) reply.1
+  incoming ← string_if_at v (has_incoming kind.0) outgoing.1
+  tag ← tag_if_at v (has_tag kind.0) incoming.1
   if nat_le (length tag.1) 0
       then Some (record {
         clock = clock.0;
@@ -90,11 +92,11 @@ body_at bytes = do
       else None
 
 -- an entry at the front, and the bytes behind it
-unfoldable pub read_entry : List ℕ → Option (Entry × List ℕ)
-read_entry bytes = do
-  size ← le_at w32 bytes
+unfoldable pub read_entry : Version → ℕ → List ℕ → Option (Entry × List ℕ)
+read_entry v last bytes = do
+  size ← number_at v w32 bytes
   within ← piece_at size.0 size.1
-  entry ← body_at within.0
+  entry ← body_at v last within.0
   Some (entry, within.1)
 
 -- ---- a head
@@ -114,10 +116,11 @@ name_at bytes = do
 unfoldable pub read_head : List ℕ → Option (Head × List ℕ)
 read_head bytes = do
   magic ← mark_at (codes "LLOG") bytes
-  version ← le_at w32 magic.1
-  count ← le_at w32 version.1
+  number ← le_at w32 magic.1
+  version ← version_numbered number.0
+  count ← le_at w32 number.1
   process ← le_at w32 count.1
   name ← name_at process.1
-  if version.0 == 1 && nat_le 1 count.0 && nat_le count.0 16 && nat_lt process.0 count.0
-      then Some (record { count = count.0; process = process.0; name = name.0 }, name.1)
+  if nat_le 1 count.0 && nat_le count.0 16 && nat_lt process.0 count.0
+      then Some (record { version = version; count = count.0; process = process.0; name = name.0 }, name.1)
       else None

@@ -2,54 +2,65 @@
 ghost use Rattle.std.specs.Prelude.{◌≡◌, ◌++◌, IfSome, IfNone, option_map};
 ghost use Rattle.lib_calls.specs.Entry.{IsShaped, entry_of};
 ghost use Rattle.call_log.specs.Entry.{BeginsNoEntry, encoding};
-ghost use Rattle.call_log.specs.Reading.{Gives, body_at, read_entry as entry_read};
+ghost use Rattle.call_log.specs.Reading.{body_at, read_entry as entry_read};
 
 use crate::fields::{
     has_incoming, has_outgoing, has_tag, is_kind, read_call, read_string_if, read_tag_if,
 };
+use crate::number::{read_clock, read_u16, read_u32, read_u64};
+use crate::version::Version;
 use fri_bytes::{Cursor, exact_readers};
 use lib_calls::EntryView;
 
-// The entry at the front of the bytes, and the bytes behind it.
-pub(crate) fn read_entry(bytes: &[u8]) -> Option<(EntryView<'_>, &[u8])>
+// The entry at the front of the bytes, which are behind an entry with the clock `last`, and the bytes behind it.
+pub(crate) fn read_entry(
+    bytes: &[u8],
+    version: Version,
+    last: u64,
+) -> Option<(EntryView<'_>, &[u8])>
     ensures shaped { IfSome result (λ r. IsShaped (entry_of r.0)) }
-    ensures spelled { IfSome result (λ r. bytes.now ≡ encoding (entry_of r.0) ++ r.1.now) }
-    ensures none { IfNone result (BeginsNoEntry bytes.now) }
+    ensures spelled { IfSome result (λ r. bytes.now ≡ encoding version last (entry_of r.0) ++ r.1.now) }
+    ensures none { IfNone result (BeginsNoEntry version last bytes.now) }
 {
     exact_readers();
-    let mut cursor = Cursor::new(bytes);
-    let entry = read_framed(&mut cursor)?;
-    Some((entry, cursor.rest()))
+    match version {
+        Version::One => read_framed(bytes, Version::One, last),
+        Version::Two => read_framed(bytes, Version::Two, last),
+    }
 }
 
-// The entry behind its length.
+// The same as `read_entry`. It is compiled for each version apart, so that no number is asked for its version.
 #[tactic(auto, unfolding(crate::specs::Reading::read_entry))]
-fn read_framed<'a>(cursor: &mut Cursor<'a>) -> Option<EntryView<'a>>
-    ensures { Gives (option_map entry_of result) cursor.new (entry_read cursor.old.left) }
+#[inline(always)]
+fn read_framed(bytes: &[u8], version: Version, last: u64) -> Option<(EntryView<'_>, &[u8])>
+    ensures { option_map (λ r. (entry_of r.0, r.1.now)) result ≡ entry_read version last bytes.now }
 {
-    let size = cursor.u32_le()?;
+    let mut cursor = Cursor::new(bytes);
+    let size = read_u32(&mut cursor, version)?;
     let body = cursor.take(size as usize)?;
-    read_body(body)
+    let entry = read_body(body, version, last)?;
+    Some((entry, cursor.rest()))
 }
 
 // The entry that is all of the bytes.
 #[tactic(auto, unfolding(crate::specs::Reading::body_at))]
-fn read_body(body: &[u8]) -> Option<EntryView<'_>>
-    ensures { option_map entry_of result ≡ body_at body.now }
+#[inline(always)]
+fn read_body(body: &[u8], version: Version, last: u64) -> Option<EntryView<'_>>
+    ensures { option_map entry_of result ≡ body_at version last body.now }
 {
     let mut cursor = Cursor::new(body);
-    let clock = cursor.u64_le()?;
-    let thread = cursor.u16_le()?;
+    let clock = read_clock(&mut cursor, version, last)?;
+    let thread = read_u16(&mut cursor, version)?;
     let kind = cursor.byte()?;
     let signal = cursor.byte()?;
     if !is_kind(kind) {
         return None;
     }
-    let call = read_call(&mut cursor, kind)?;
-    let reply = cursor.u64_le()?;
-    let outgoing = read_string_if(&mut cursor, has_outgoing(kind))?;
-    let incoming = read_string_if(&mut cursor, has_incoming(kind))?;
-    let tag = read_tag_if(&mut cursor, has_tag(kind))?;
+    let call = read_call(&mut cursor, version, kind)?;
+    let reply = read_u64(&mut cursor, version)?;
+    let outgoing = read_string_if(&mut cursor, version, has_outgoing(kind))?;
+    let incoming = read_string_if(&mut cursor, version, has_incoming(kind))?;
+    let tag = read_tag_if(&mut cursor, version, has_tag(kind))?;
     if !cursor.rest().is_empty() {
         return None;
     }

@@ -4,6 +4,8 @@ ghost use Rattle.lib_calls.specs.Kinds.{argument_count as argument_count_of, has
 ghost use Rattle.call_log.specs.Kind.{is_kind as is_kind_of};
 ghost use Rattle.call_log.specs.Reading.{Gives, call_at, flagged_at, number_if_at, string_at, string_if_at, tag_fields_at, tag_if_at};
 
+use crate::number::{read_u32, read_u64};
+use crate::version::Version;
 use fri_bytes::Cursor;
 use lamport_tag::Tag;
 use lib_calls::{Call, Kind};
@@ -50,36 +52,52 @@ pub(crate) fn has_tag(number: u8) -> bool
 
 // A call of the kind, with the arguments that it has.
 #[tactic(auto, unfolding(crate::specs::Reading::call_at))]
-pub(crate) fn read_call(cursor: &mut Cursor<'_>, kind: u8) -> Option<Call>
-    ensures { Gives result cursor.new (call_at kind cursor.old.left) }
+#[inline(always)]
+pub(crate) fn read_call(cursor: &mut Cursor<'_>, version: Version, kind: u8) -> Option<Call>
+    ensures { Gives result cursor.new (call_at version kind cursor.old.left) }
 {
     let count = argument_count(kind);
-    let a0 = read_number_if(cursor, 0 < count)?;
-    let a1 = read_number_if(cursor, 1 < count)?;
-    let a2 = read_number_if(cursor, 2 < count)?;
+    let a0 = read_number_if(cursor, version, 0 < count)?;
+    let a1 = read_number_if(cursor, version, 1 < count)?;
+    let a2 = read_number_if(cursor, version, 2 < count)?;
     Some(Call { kind, a0, a1, a2 })
 }
 
 // A number, where there is one, else 0.
-fn read_number_if(cursor: &mut Cursor<'_>, has: bool) -> Option<u64>
-    ensures { Gives result cursor.new (number_if_at has cursor.old.left) }
+#[inline(always)]
+fn read_number_if(cursor: &mut Cursor<'_>, version: Version, has: bool) -> Option<u64>
+    ensures { Gives result cursor.new (number_if_at version has cursor.old.left) }
 {
-    if has { cursor.u64_le() } else { Some(0) }
+    if has {
+        read_u64(cursor, version)
+    } else {
+        Some(0)
+    }
 }
 
 // Bytes behind their length, where there are some, else none.
-pub(crate) fn read_string_if<'a>(cursor: &mut Cursor<'a>, has: bool) -> Option<&'a [u8]>
-    ensures { Gives (option_map (λ x. x.now) result) cursor.new (string_if_at has cursor.old.left) }
+#[inline(always)]
+pub(crate) fn read_string_if<'a>(
+    cursor: &mut Cursor<'a>,
+    version: Version,
+    has: bool,
+) -> Option<&'a [u8]>
+    ensures { Gives (option_map (λ x. x.now) result) cursor.new (string_if_at version has cursor.old.left) }
 {
-    if has { read_string(cursor) } else { Some(&[]) }
+    if has {
+        read_string(cursor, version)
+    } else {
+        Some(&[])
+    }
 }
 
 // Bytes behind their length, which are shorter than 2 GiB.
 #[tactic(auto, unfolding(crate::specs::Reading::string_at))]
-fn read_string<'a>(cursor: &mut Cursor<'a>) -> Option<&'a [u8]>
-    ensures { Gives (option_map (λ x. x.now) result) cursor.new (string_at cursor.old.left) }
+#[inline(always)]
+fn read_string<'a>(cursor: &mut Cursor<'a>, version: Version) -> Option<&'a [u8]>
+    ensures { Gives (option_map (λ x. x.now) result) cursor.new (string_at version cursor.old.left) }
 {
-    let size = cursor.u32_le()?;
+    let size = read_u32(cursor, version)?;
     if size >= 1 << 31 {
         return None;
     }
@@ -87,11 +105,16 @@ fn read_string<'a>(cursor: &mut Cursor<'a>) -> Option<&'a [u8]>
 }
 
 // The tag of a datagram or none, where the entry says which, else none.
-pub(crate) fn read_tag_if(cursor: &mut Cursor<'_>, has: bool) -> Option<Option<Tag>>
-    ensures { Gives result cursor.new (tag_if_at has cursor.old.left) }
+#[inline(always)]
+pub(crate) fn read_tag_if(
+    cursor: &mut Cursor<'_>,
+    version: Version,
+    has: bool,
+) -> Option<Option<Tag>>
+    ensures { Gives result cursor.new (tag_if_at version has cursor.old.left) }
 {
     if has {
-        read_flagged(cursor)
+        read_flagged(cursor, version)
     } else {
         Some(None)
     }
@@ -99,22 +122,24 @@ pub(crate) fn read_tag_if(cursor: &mut Cursor<'_>, has: bool) -> Option<Option<T
 
 // A tag behind its flag, or the flag that there is none.
 #[tactic(auto, unfolding(crate::specs::Reading::flagged_at))]
-fn read_flagged(cursor: &mut Cursor<'_>) -> Option<Option<Tag>>
-    ensures { Gives result cursor.new (flagged_at cursor.old.left) }
+#[inline(always)]
+fn read_flagged(cursor: &mut Cursor<'_>, version: Version) -> Option<Option<Tag>>
+    ensures { Gives result cursor.new (flagged_at version cursor.old.left) }
 {
     match cursor.byte()? {
         0 => Some(None),
-        1 => Some(Some(read_tag(cursor)?)),
+        1 => Some(Some(read_tag(cursor, version)?)),
         _ => None,
     }
 }
 
 // The sender and the clock of a tag.
 #[tactic(auto, unfolding(crate::specs::Reading::tag_fields_at))]
-fn read_tag(cursor: &mut Cursor<'_>) -> Option<Tag>
-    ensures { Gives result cursor.new (tag_fields_at cursor.old.left) }
+#[inline(always)]
+fn read_tag(cursor: &mut Cursor<'_>, version: Version) -> Option<Tag>
+    ensures { Gives result cursor.new (tag_fields_at version cursor.old.left) }
 {
-    let sender = cursor.u32_le()?;
-    let clock = cursor.u64_le()?;
+    let sender = read_u32(cursor, version)?;
+    let clock = read_u64(cursor, version)?;
     Some(Tag { sender, clock })
 }

@@ -3,6 +3,7 @@ ghost use Rattle.std.specs.Prelude.{◌≡◌, ◌++◌, IfSome, IfNone, option_
 ghost use Rattle.call_log.specs.Head.{BeginsNoHead, IsHead, head_bytes, head_of};
 ghost use Rattle.call_log.specs.Reading.{Gives, name_at, read_head as head_read};
 
+use crate::version::Version;
 use fri_bytes::{Cursor, exact_readers};
 use fri_text::is_name;
 use thiserror::Error;
@@ -10,12 +11,10 @@ use thiserror::Error;
 // The bytes that a log begins with.
 pub(crate) const MAGIC: &[u8] = b"LLOG";
 
-// The version of the format.
-pub(crate) const VERSION: u32 = 1;
-
-/// The head of a log: the number of processes in the group, the process's number and its name.
+/// The head of a log: the version of its format, the number of processes in the group, the process's number and its name.
 #[derive(Clone, Copy, Debug, PartialEq, Eq)]
 pub struct LogHead<'a> {
+    pub version: Version,
     pub count: u32,
     pub process: u32,
     pub name: &'a [u8],
@@ -46,12 +45,13 @@ fn read_fields<'a>(cursor: &mut Cursor<'a>) -> Option<LogHead<'a>>
     if cursor.take(MAGIC.len())? != MAGIC {
         return None;
     }
-    let version = cursor.u32_le()?;
+    let version = Version::from_number(cursor.u32_le()?)?;
     let count = cursor.u32_le()?;
     let process = cursor.u32_le()?;
     let name = read_name(cursor)?;
-    if version == VERSION && 1 <= count && count <= 16 && process < count {
+    if 1 <= count && count <= 16 && process < count {
         Some(LogHead {
+            version,
             count,
             process,
             name,

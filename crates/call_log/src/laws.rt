@@ -1,5 +1,5 @@
-// The law of logs, as a call that does nothing.
-ghost use Rattle.call_log.specs.Laws.{ExactLogs};
+// The laws of logs, as calls that do nothing.
+ghost use Rattle.call_log.specs.Laws.{ExactLogs, NoLonger};
 
 use fri_bytes::exact_readers;
 
@@ -9,3 +9,9 @@ pub fn exact_logs()
 {
     exact_readers();
 }
+
+/// An entry whose numbers are no greater than those of an event takes no more bytes in version 2 than in
+/// version 1.
+pub fn no_longer()
+    ensures { NoLonger }
+{}

@@ -1,16 +1,35 @@
 //! The log of one process: its head, and an entry for each event. It is read without a copy.
+//!
+//! A log has one of two versions, which says how the numbers of its entries are spelled and nothing else:
+//! in version 1 each takes the width of its field, and in version 2 as few bytes as possible, with the
+//! clock as what it is above that of the entry before. Heads of both are the same but for the version.
+//! Both are read and written; `rewrite` makes a log of version 2 of either.
+//!
+//! Contracts see a log as its head and what is left of it (`Unread` of specs/Log): the version, the clock of the
+//! entry that was read last, and the bytes behind that entry. For any bytes behind a head of either
+//! version `entries_of` is the longest list of entries whose encodings stand there, and `rest_of` is what
+//! follows them. `exact_logs` says that reading gives exactly what stands there and that what was
+//! written is read back, `entry_by_entry` how one entry more changes it, and `no_longer` that version 2 takes no
+//! more bytes for the entry of an event.
 #![tactic(auto)]
 
 mod entry;
 mod fields;
 mod head;
 mod laws;
+mod length;
+mod number;
 mod put;
+mod rewriting;
+mod version;
 mod view;
 mod walk;
 
 pub use head::{BadHead, LogHead};
-pub use laws::exact_logs;
-pub use put::{entry_length, put_entry, put_head};
+pub use laws::{exact_logs, no_longer};
+pub use length::entry_length;
+pub use put::{put_entry, put_head};
+pub use rewriting::rewrite;
+pub use version::Version;
 pub use view::LogView;
 pub use walk::entry_by_entry;

@@ -2,12 +2,16 @@
 ghost use Rattle.std.specs.Prelude.{◌≡◌, ◌^◌, ◌<◌, ◌≤◌, ◌++◌, length, map, take, Some, OnOk, OnErr};
 ghost use Rattle.std.specs.List.{concat};
 ghost use Rattle.lib_calls.specs.Entry.{IsStringIf, IsTagIf, entry_of, IsShaped};
-ghost use Rattle.call_log.specs.Entry.{argument_bytes, body_bytes, encoding, flagged as flagged_of, front_bytes, number_if, reply_bytes, string_if, tag_if};
+ghost use Rattle.call_log.specs.Entry.{argument_bytes, body_bytes, encoding, flagged, front_bytes, number_if, reply_bytes, string_if, tag_if};
+ghost use Rattle.call_log.specs.declared.version.Version.TheVariants.{Two};
 ghost use Rattle.call_log.specs.Head.{IsHead, head_bytes, head_of};
 
 use crate::fields::{argument_count, has_incoming, has_outgoing, has_tag};
-use crate::head::{LogHead, MAGIC, VERSION};
-use fri_bytes::{put_byte, put_bytes, put_u32, put_u64};
+use crate::head::{LogHead, MAGIC};
+use crate::length::body_length;
+use crate::number::{put_clock, put_number_u16, put_number_u32, put_number_u64};
+use crate::version::Version;
+use fri_bytes::{put_byte, put_bytes};
 use lamport_tag::Tag;
 use lib_calls::{Call, EntryView};
 use std::alloc::AllocError;
@@ -23,7 +27,7 @@ pub fn put_head(out: &mut Vec<u8>, head: &LogHead<'_>) -> Result<(), AllocError>
         out,
         &[
             MAGIC,
-            &VERSION.to_le_bytes(),
+            &head.version.number().to_le_bytes(),
             &head.count.to_le_bytes(),
             &head.process.to_le_bytes(),
             &[head.name.len() as u8],
@@ -32,14 +36,65 @@ pub fn put_head(out: &mut Vec<u8>, head: &LogHead<'_>) -> Result<(), AllocError>
     )
 }
 
-/// Adds an entry.
-pub fn put_entry(out: &mut Vec<u8>, entry: &EntryView<'_>) -> Result<(), AllocError>
+/// Adds an entry behind one with the clock `last`.
+pub fn put_entry(
+    out: &mut Vec<u8>,
+    version: Version,
+    last: u64,
+    entry: &EntryView<'_>,
+) -> Result<(), AllocError>
     requires { IsShaped (entry_of entry.now) }
-    ensures ok { OnOk result (out.new.items ≡ out.old.items ++ encoding (entry_of entry.now)) }
+    ensures ok { OnOk result (out.new.items ≡ out.old.items ++ encoding version last (entry_of entry.now)) }
+    ensures err { OnErr result (out.new.items ≡ out.old.items) }
+{
+    match version {
+        Version::Two if is_small(entry) => put_small(out, last, entry),
+        _ => put_measured(out, version, last, entry),
+    }
+}
+
+// Whether the body most likely takes less than 128 bytes in version 2.
+#[inline(always)]
+fn is_small(entry: &EntryView<'_>) -> bool {
+    entry.outgoing.len() < 64 && entry.incoming.len() < 64
+}
+
+// Adds an entry of version 2. The length of its body most likely takes one byte, which is put in once the
+// body stands behind it, so that no field is measured first.
+fn put_small(out: &mut Vec<u8>, last: u64, entry: &EntryView<'_>) -> Result<(), AllocError>
+    requires { IsShaped (entry_of entry.now) }
+    ensures ok { OnOk result (out.new.items ≡ out.old.items ++ encoding Two last (entry_of entry.now)) }
     ensures err { OnErr result (out.new.items ≡ out.old.items) }
 {
     let start = out.len();
-    if let Err(error) = put_fields(out, entry) {
+    put_byte(out, 0)?;
+    if let Err(error) = put_body(out, Version::Two, last, entry) {
+        out.truncate(start);
+        return Err(error);
+    }
+    let size = out.len() - start - 1;
+    if size < 128 {
+        out[start] = size as u8;
+        return Ok(());
+    }
+    out.truncate(start);
+    put_measured(out, Version::Two, last, entry)
+}
+
+// Adds an entry, whose body is measured first.
+fn put_measured(
+    out: &mut Vec<u8>,
+    version: Version,
+    last: u64,
+    entry: &EntryView<'_>,
+) -> Result<(), AllocError>
+    requires { IsShaped (entry_of entry.now) }
+    ensures ok { OnOk result (out.new.items ≡ out.old.items ++ encoding version last (entry_of entry.now)) }
+    ensures err { OnErr result (out.new.items ≡ out.old.items) }
+{
+    let start = out.len();
+    put_number_u32(out, version, body_length(version, last, entry))?;
+    if let Err(error) = put_body(out, version, last, entry) {
         out.truncate(start);
         return Err(error);
     }
@@ -47,144 +102,133 @@ pub fn put_entry(out: &mut Vec<u8>, entry: &EntryView<'_>) -> Result<(), AllocEr
 }
 
 // Adds the fields of an entry, or some of them where memory is wanting.
-fn put_fields(out: &mut Vec<u8>, entry: &EntryView<'_>) -> Result<(), AllocError>
+#[inline(always)]
+fn put_body(
+    out: &mut Vec<u8>,
+    version: Version,
+    last: u64,
+    entry: &EntryView<'_>,
+) -> Result<(), AllocError>
     requires { IsShaped (entry_of entry.now) }
-    ensures ok { OnOk result (out.new.items ≡ out.old.items ++ encoding (entry_of entry.now)) }
+    ensures ok { OnOk result (out.new.items ≡ out.old.items ++ body_bytes version last (entry_of entry.now)) }
     ensures err { OnErr result (take (length out.old.items) out.new.items ≡ out.old.items) }
 {
-    put_front(out, entry)?;
-    put_arguments(out, &entry.call)?;
-    put_reply(out, entry)?;
-    put_tag_if(out, has_tag(entry.call.kind), entry.tag)
+    put_front(out, version, last, entry)?;
+    put_arguments(out, version, &entry.call)?;
+    put_reply(out, version, entry)?;
+    put_tag_if(out, version, has_tag(entry.call.kind), entry.tag)
 }
 
-// Adds the length of the body, and the fields in front of the arguments.
-fn put_front(out: &mut Vec<u8>, entry: &EntryView<'_>) -> Result<(), AllocError>
-    requires { IsShaped (entry_of entry.now) }
-    ensures ok { OnOk result (out.new.items ≡ out.old.items ++ front_bytes (entry_of entry.now)) }
-    ensures err { OnErr result (out.new.items ≡ out.old.items) }
-{
-    let size = (entry_length(entry) - 4) as u32;
-    put_bytes(out, &front(size, entry))
-}
-
-// The length of the body, and the fields in front of the arguments.
+// Adds the fields in front of the arguments, or some of them where memory is wanting.
 #[tactic(auto, unfolding(crate::specs::Entry::front_bytes))]
-fn front(size: u32, entry: &EntryView<'_>) -> [u8; 16]
-    requires { size ≡ length (body_bytes (entry_of entry.now)) }
-    ensures { result ≡ front_bytes (entry_of entry.now) }
+#[inline(always)]
+fn put_front(
+    out: &mut Vec<u8>,
+    version: Version,
+    last: u64,
+    entry: &EntryView<'_>,
+) -> Result<(), AllocError>
+    ensures ok { OnOk result (out.new.items ≡ out.old.items ++ front_bytes version last (entry_of entry.now)) }
+    ensures err { OnErr result (take (length out.old.items) out.new.items ≡ out.old.items) }
 {
-    let [s0, s1, s2, s3] = size.to_le_bytes();
-    let [c0, c1, c2, c3, c4, c5, c6, c7] = entry.clock.to_le_bytes();
-    let [t0, t1] = entry.thread.to_le_bytes();
-    let kind = entry.call.kind;
-    let signal = entry.signal;
-    [
-        s0, s1, s2, s3, c0, c1, c2, c3, c4, c5, c6, c7, t0, t1, kind, signal,
-    ]
+    put_clock(out, version, last, entry.clock)?;
+    put_number_u16(out, version, entry.thread)?;
+    put_bytes(out, &[entry.call.kind, entry.signal])
 }
 
 // Adds the arguments that the call has, or some of them where memory is wanting.
 #[tactic(auto, unfolding(crate::specs::Entry::argument_bytes))]
-fn put_arguments(out: &mut Vec<u8>, call: &Call) -> Result<(), AllocError>
-    ensures ok { OnOk result (out.new.items ≡ out.old.items ++ argument_bytes call.now) }
+#[inline(always)]
+fn put_arguments(out: &mut Vec<u8>, version: Version, call: &Call) -> Result<(), AllocError>
+    ensures ok { OnOk result (out.new.items ≡ out.old.items ++ argument_bytes version call.now) }
     ensures err { OnErr result (take (length out.old.items) out.new.items ≡ out.old.items) }
 {
     let count = argument_count(call.kind);
-    put_number_if(out, 0 < count, call.a0)?;
-    put_number_if(out, 1 < count, call.a1)?;
-    put_number_if(out, 2 < count, call.a2)
+    put_number_if(out, version, 0 < count, call.a0)?;
+    put_number_if(out, version, 1 < count, call.a1)?;
+    put_number_if(out, version, 2 < count, call.a2)
 }
 
 // Adds a number, where the kind has it.
-fn put_number_if(out: &mut Vec<u8>, has: bool, number: u64) -> Result<(), AllocError>
-    ensures ok { OnOk result (out.new.items ≡ out.old.items ++ number_if has number) }
+#[inline(always)]
+fn put_number_if(
+    out: &mut Vec<u8>,
+    version: Version,
+    has: bool,
+    number: u64,
+) -> Result<(), AllocError>
+    ensures ok { OnOk result (out.new.items ≡ out.old.items ++ number_if version has number) }
     ensures err { OnErr result (out.new.items ≡ out.old.items) }
 {
-    if has { put_u64(out, number) } else { Ok(()) }
+    if has {
+        put_number_u64(out, version, number)
+    } else {
+        Ok(())
+    }
 }
 
 // Adds the reply, and the bytes that went out and came in, or a part of that where memory is wanting.
 #[tactic(auto, unfolding(crate::specs::Entry::reply_bytes))]
-fn put_reply(out: &mut Vec<u8>, entry: &EntryView<'_>) -> Result<(), AllocError>
+#[inline(always)]
+fn put_reply(out: &mut Vec<u8>, version: Version, entry: &EntryView<'_>) -> Result<(), AllocError>
     requires { IsShaped (entry_of entry.now) }
-    ensures ok { OnOk result (out.new.items ≡ out.old.items ++ reply_bytes (entry_of entry.now)) }
+    ensures ok { OnOk result (out.new.items ≡ out.old.items ++ reply_bytes version (entry_of entry.now)) }
     ensures err { OnErr result (take (length out.old.items) out.new.items ≡ out.old.items) }
 {
     let kind = entry.call.kind;
-    put_u64(out, entry.reply)?;
-    put_string_if(out, has_outgoing(kind), entry.outgoing)?;
-    put_string_if(out, has_incoming(kind), entry.incoming)
+    put_number_u64(out, version, entry.reply)?;
+    put_string_if(out, version, has_outgoing(kind), entry.outgoing)?;
+    put_string_if(out, version, has_incoming(kind), entry.incoming)
 }
 
 // Adds bytes behind their length, or the length alone where memory is wanting, where the kind has them.
-fn put_string_if(out: &mut Vec<u8>, has: bool, bytes: &[u8]) -> Result<(), AllocError>
+#[inline(always)]
+fn put_string_if(
+    out: &mut Vec<u8>,
+    version: Version,
+    has: bool,
+    bytes: &[u8],
+) -> Result<(), AllocError>
     requires { IsStringIf has bytes.now }
-    ensures ok { OnOk result (out.new.items ≡ out.old.items ++ string_if has bytes.now) }
+    ensures ok { OnOk result (out.new.items ≡ out.old.items ++ string_if version has bytes.now) }
     ensures err { OnErr result (take (length out.old.items) out.new.items ≡ out.old.items) }
 {
     if has {
-        put_u32(out, bytes.len() as u32)?;
+        put_number_u32(out, version, bytes.len() as u32)?;
         put_bytes(out, bytes)?;
     }
     Ok(())
 }
 
-// Adds a tag behind its flag, or the flag that there is none, where there may be a tag.
-fn put_tag_if(out: &mut Vec<u8>, has: bool, tag: Option<Tag>) -> Result<(), AllocError>
+// Adds a tag behind its flag or the flag that there is none, where there may be a tag, or some of that where
+// memory is wanting.
+#[inline(always)]
+fn put_tag_if(
+    out: &mut Vec<u8>,
+    version: Version,
+    has: bool,
+    tag: Option<Tag>,
+) -> Result<(), AllocError>
     requires { IsTagIf has tag }
-    ensures ok { OnOk result (out.new.items ≡ out.old.items ++ tag_if has tag) }
-    ensures err { OnErr result (out.new.items ≡ out.old.items) }
+    ensures ok { OnOk result (out.new.items ≡ out.old.items ++ tag_if version has tag) }
+    ensures err { OnErr result (take (length out.old.items) out.new.items ≡ out.old.items) }
 {
     match tag {
-        Some(tag) => put_bytes(out, &flagged(tag)),
+        Some(tag) => put_tag(out, version, tag),
         None if has => put_byte(out, 0),
         None => Ok(()),
     }
 }
 
-// A tag behind the flag that there is one.
-fn flagged(tag: Tag) -> [u8; 13]
-    ensures { result ≡ flagged_of (Some tag) }
+// Adds a tag behind the flag that there is one, or some of that where memory is wanting.
+#[inline(always)]
+fn put_tag(out: &mut Vec<u8>, version: Version, tag: Tag) -> Result<(), AllocError>
+    ensures ok { OnOk result (out.new.items ≡ out.old.items ++ flagged version (Some tag)) }
+    ensures err { OnErr result (take (length out.old.items) out.new.items ≡ out.old.items) }
 {
-    let [s0, s1, s2, s3] = tag.sender.to_le_bytes();
-    let [c0, c1, c2, c3, c4, c5, c6, c7] = tag.clock.to_le_bytes();
-    [1, s0, s1, s2, s3, c0, c1, c2, c3, c4, c5, c6, c7]
-}
-
-/// The number of bytes that an entry takes.
-#[tactic(auto, using(crate::proofs::Sizes::encoding_size))]
-pub fn entry_length(entry: &EntryView<'_>) -> u64
-    requires { IsShaped (entry_of entry.now) }
-    ensures { result ≡ length (encoding (entry_of entry.now)) }
-{
-    let kind = entry.call.kind;
-    let arguments = 8 * u64::from(argument_count(kind));
-    let outgoing = string_length(has_outgoing(kind), entry.outgoing);
-    let incoming = string_length(has_incoming(kind), entry.incoming);
-    let tag = tag_length(has_tag(kind), entry.tag);
-    24 + arguments + outgoing + incoming + tag
-}
-
-// How many bytes a byte string takes, with its length.
-fn string_length(has: bool, bytes: &[u8]) -> u64
-    requires { IsStringIf has bytes.now }
-    ensures size { result ≡ length (string_if has bytes.now) }
-    ensures small { result < 2 ^ 32 }
-{
-    if has { 4 + bytes.len() as u64 } else { 0 }
-}
-
-// How many bytes a tag takes, with its flag.
-fn tag_length(has: bool, tag: Option<Tag>) -> u64
-    requires { IsTagIf has tag }
-    ensures size { result ≡ length (tag_if has tag) }
-    ensures small { result ≤ 13 }
-{
-    match tag {
-        Some(_) => 13,
-        None => u64::from(has),
-    }
+    put_byte(out, 1)?;
+    put_number_u32(out, version, tag.sender)?;
+    put_number_u64(out, version, tag.clock)
 }
 
 // Adds the pieces, one after the other.

@@ -3,10 +3,12 @@ ghost use Rattle.std.specs.Prelude.{◌≡◌, ◌≤◌, ◌+◌, [], ◌∷◌
 ghost use Rattle.lib_calls.specs.Entry.{IsShaped, entry_of};
 ghost use Rattle.call_log.specs.Entry.{BeginsNoEntry, encoding};
 ghost use Rattle.call_log.specs.Head.{BeginsNoHead, IsHead, head_bytes, head_of};
+ghost use Rattle.call_log.specs.Limits.{least_entry};
 ghost use Rattle.call_log.specs.Log.{entries_of, entry_at, head_at, rest_of};
 
 use crate::entry::read_entry;
 use crate::head::{BadHead, LogHead, read_head};
+use crate::version::Version;
 use fri_bytes::exact_readers;
 use lib_calls::EntryView;
 use std::marker::Model;
@@ -15,23 +17,27 @@ use std::marker::Model;
 #[derive(Debug, Drop)]
 pub struct LogView<'a> {
     head: LogHead<'a>,
+    // The clock of the entry that was read last.
+    last: u64,
     rest: &'a [u8],
 }
 
 impl<'a> Model for LogView<'a> {
-    ghost use Rattle.call_log.specs.Head.{head_of};
+    ghost use Rattle.call_log.specs.Head.{IsHead, head_of};
     ghost use Rattle.call_log.specs.Log.{Log};
 
     ghost Value = { Log };
 
-    ghost view = { λ log. record { head = head_of log.head; left = log.rest.now } };
+    ghost view = { λ log. record { head = head_of log.head; left = record { version = log.head.version; last = log.last; bytes = log.rest.now } } };
+
+    ghost invariant = { λ log. IsHead (head_of log.head) };
 }
 
 impl<'a> LogView<'a> {
     /// The log behind its head.
     pub fn begin(bytes: &'a [u8]) -> Result<LogView<'a>, BadHead>
         ensures head { IfOk result (λ log. IsHead log.head) }
-        ensures spelled { IfOk result (λ log. bytes.now ≡ head_bytes log.head ++ log.left) }
+        ensures spelled { IfOk result (λ log. bytes.now ≡ head_bytes log.head ++ log.left.bytes) }
         ensures bad { OnErr result (BeginsNoHead bytes.now) }
         ensures found { IfOk result (λ log. head_at bytes.now ≡ Some (log.head, log.left)) }
         ensures missing { OnErr result (head_at bytes.now ≡ None) }
@@ -40,7 +46,11 @@ impl<'a> LogView<'a> {
         let Some((head, rest)) = read_head(bytes) else {
             return Err(BadHead);
         };
-        Ok(LogView { head, rest })
+        Ok(LogView {
+            head,
+            last: 0,
+            rest,
+        })
     }
 
     /// The head.
@@ -50,33 +60,45 @@ impl<'a> LogView<'a> {
         self.head
     }
 
+    // The head of a log of this version that is else the same.
+    pub(crate) fn head_in(&self, version: Version) -> LogHead<'a>
+        ensures value { head_of result ≡ record self.now.head { version = version } }
+        ensures fits { IsHead (head_of result) }
+    {
+        LogHead {
+            version,
+            ..self.head
+        }
+    }
+
     /// The next entry. Its outgoing and incoming bytes are pieces of the log. None comes where no entry
     /// stands next, as at the end, in front of a cut entry or of one with a byte too many, and then the
     /// log stays where it is.
     pub fn next_entry(&mut self) -> Option<EntryView<'a>>
         ensures shaped { IfSome result (λ e. IsShaped (entry_of e)) }
-        ensures taken { IfSome result (λ e. self.old.left ≡ encoding (entry_of e) ++ self.new.left) }
-        ensures none { IfNone result (BeginsNoEntry self.old.left) }
+        ensures taken { IfSome result (λ e. self.old.left.bytes ≡ encoding self.old.left.version self.old.left.last (entry_of e) ++ self.new.left.bytes) }
+        ensures none { IfNone result (BeginsNoEntry self.old.left.version self.old.left.last self.old.left.bytes) }
         ensures unchanged { IfNone result (self.new ≡ self.old) }
         ensures exact { option_map (λ e. (entry_of e, self.new.left)) result ≡ entry_at self.old.left }
         ensures head { self.new.head ≡ self.old.head }
 
-        // It is the first of all entries, and the others are those of the bytes that are left.
+        // It is the first of all entries, and the others are those of what is left.
         ensures entries { MatchOption result (entries_of self.old.left ≡ [])
             (λ e. entries_of self.old.left ≡ entry_of e ∷ entries_of self.new.left) }
         ensures rest { rest_of self.old.left ≡ rest_of self.new.left }
-        ensures end { IfNone result (rest_of self.new.left ≡ self.new.left) }
-        ensures shorter { IfSome result (λ _. length self.new.left + 24 ≤ length self.old.left) }
+        ensures end { IfNone result (rest_of self.new.left ≡ self.new.left.bytes) }
+        ensures shorter { IfSome result (λ _. length self.new.left.bytes + least_entry ≤ length self.old.left.bytes) }
     {
         exact_readers();
-        let (entry, rest) = read_entry(self.rest)?;
+        let (entry, rest) = read_entry(self.rest, self.head.version, self.last)?;
+        self.last = entry.clock;
         self.rest = rest;
         Some(entry)
     }
 
     /// The bytes behind the entries that were read.
     pub fn rest(&self) -> &'a [u8]
-        ensures { result.now ≡ self.now.left }
+        ensures { result.now ≡ self.now.left.bytes }
     {
         self.rest
     }
@@ -87,6 +109,7 @@ impl<'a> LogView<'a> {
     {
         LogView {
             head: self.head,
+            last: self.last,
             rest: self.rest,
         }
     }

@@ -3,9 +3,9 @@ ghost use Rattle.call_log.specs.Walk.{IsEnd, IsStep};
 
 use fri_bytes::exact_readers;
 
-/// Where an entry stands at the front of some bytes, it takes at least 24 of them, is the first of all
-/// their entries, and the bytes behind it have the others and the same rest. Where none stands there,
-/// the bytes have no entry, and are the rest.
+/// Where an entry stands at the front of what is left of a log, it takes bytes, is the first of all its
+/// entries, and what is left behind it has the others and the same rest. Where none stands there, there
+/// is no entry, and all bytes are the rest.
 pub fn entry_by_entry()
     ensures step { IsStep }
     ensures end { IsEnd }

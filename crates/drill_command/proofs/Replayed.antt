@@ -9,7 +9,7 @@ use Rattle.fri_outside.specs.Memory.{FilesInMemory}
 use Rattle.call_log.specs.Head.{Head, head_bytes}
 use Rattle.call_log.specs.Laws.{ExactLogs}
 use Rattle.call_log.specs.Limits.{most_log}
-use Rattle.call_log.specs.Log.{head_at}
+use Rattle.call_log.specs.Log.{Unread, behind, head_at}
 use Rattle.wasm_types.specs.Modules.{Module}
 use Rattle.guest_process.specs.EventCount.{BeginsFresh}
 use Rattle.guest_process.specs.Start.{start}
@@ -25,22 +25,24 @@ use Rattle.drill_command.proofs.Begins.{states_are}
 use Rattle.drill_command.proofs.Recorded.{each}
 
 -- the head and the rest that are found in a log
-pub record IsReadAs (steps : List Step) (p : ℕ) (head : Head) (left : List ℕ) : Type 0 where
+pub record IsReadAs (steps : List Step) (p : ℕ) (head : Head) (left : Unread) : Type 0 where
   pub head_is : head ≡ head_of_log drill_group p
   pub left_is : left ≡ left_of_log drill_group steps p
 
-pub read_as : ExactLogs → (steps : List Step) (p : ℕ) → TellsEvents drill_group steps p → (head : Head) (left : List ℕ) → head_at (log_of drill_group steps p) ≡ Some (head, left) → IsReadAs steps p head left
+pub read_as : ExactLogs → (steps : List Step) (p : ℕ) → TellsEvents drill_group steps p → (head : Head) (left : Unread) → head_at (log_of drill_group steps p) ≡ Some (head, left) → IsReadAs steps p head left
 read_as exact steps p tells head left found =
-    let same : head ≡ head_of_log drill_group p = ap (λ (x : Head × List ℕ). x.0) (same_Some (head, left) (head_of_log drill_group p, tells.left) (sym found ∙ tells.head)) in
+    let same : head ≡ head_of_log drill_group p = ap (λ (x : Head × Unread). x.0) (same_Some (head, left) (head_of_log drill_group p, tells.left) (sym found ∙ tells.head)) in
     let spelled = ((exact.heads (log_of drill_group steps p) head left).0 found).1 in
+    let bytes : left.bytes ≡ drop (length (head_bytes (head_of_log drill_group p))) (log_of drill_group steps p) =
+    sym (ap (λ (h : Head). drop (length (head_bytes h)) (log_of drill_group steps p)) (sym same) ∙ ap (drop (length (head_bytes head))) spelled.0 ∙ drop-append_seam (head_bytes head) left.bytes) in
     record {
       head_is = same;
-      left_is = sym (ap (λ (h : Head). drop (length (head_bytes h)) (log_of drill_group steps p)) (sym same) ∙ ap (drop (length (head_bytes head))) spelled ∙ drop-append_seam (head_bytes head) left);
+      left_is = spelled.1 ∙ ap (λ (h : Head). behind h left.bytes) same ∙ ap (behind (head_of_log drill_group p)) bytes;
     }
 
-pub replay_is : (steps : List Step) (p : ℕ) (S : State) (head : Head) (left : List ℕ) → IsReadAs steps p head left → record { head = head; state = S; left = left } ≡ replay_of_log drill_group steps p S
+pub replay_is : (steps : List Step) (p : ℕ) (S : State) (head : Head) (left : Unread) → IsReadAs steps p head left → record { head = head; state = S; left = left } ≡ replay_of_log drill_group steps p S
 replay_is steps p S head left is =
-    ap (λ (h : Head). record { head = h; state = S; left = left }) is.head_is ∙ ap (λ (l : List ℕ). record { head = head_of_log drill_group p; state = S; left = l }) is.left_is
+    ap (λ (h : Head). record { head = h; state = S; left = left }) is.head_is ∙ ap (λ (l : Unread). record { head = head_of_log drill_group p; state = S; left = l }) is.left_is
 
 -- ---- one log
 
@@ -56,12 +58,12 @@ never_headless steps files holds p below name bytes named found missing =
     refuted (head_of_log drill_group p, (holds.tells p below).left)
     (sym (holds.tells p below).head ∙ ap head_at (sym (log_found steps files holds p below name bytes named found)) ∙ missing)
   where
-    refuted : (x : Head × List ℕ) → Some x ≡ None → ⊥
+    refuted : (x : Head × Unread) → Some x ≡ None → ⊥
     refuted x e = cc
 
 pub opened_as : ExactLogs → (steps : List Step) (files : FilesInMemory) → HoldLogs steps files → (p : ℕ) → p < 4 → (name bytes : List ℕ)
     → name ≡ log_name (name_of drill_group p) → get files.folder name ≡ Some bytes
-    → (head : Head) (left : List ℕ) → head_at bytes ≡ Some (head, left) → IsReadAs steps p head left
+    → (head : Head) (left : Unread) → head_at bytes ≡ Some (head, left) → IsReadAs steps p head left
 opened_as exact steps files holds p below name bytes named found head left opened =
     read_as exact steps p (holds.tells p below) head left (ap head_at (sym (log_found steps files holds p below name bytes named found)) ∙ opened)
 
@@ -78,7 +80,7 @@ replays_of steps n0 n1 n2 n3 =
 pub all_replays : (steps : List Step) (n0 n1 n2 n3 : State) → drill_states ≡ n0 ∷ n1 ∷ n2 ∷ n3 ∷ [] → replays_of steps n0 n1 n2 n3 ≡ replays_of_logs drill_group steps
 all_replays steps n0 n1 n2 n3 are = sym (ap (replays_from drill_group steps 0) are)
 
-left_within : (steps : List Step) (p : ℕ) → TellsEvents drill_group steps p → length (left_of_log drill_group steps p) ≤ most_log
+left_within : (steps : List Step) (p : ℕ) → TellsEvents drill_group steps p → length (left_of_log drill_group steps p).bytes ≤ most_log
 left_within steps p tells = omega (arith, length-drop (length (head_bytes (head_of_log drill_group p))) (log_of drill_group steps p), tells.within)
 
 pub are_parts : (steps : List Step) (files : FilesInMemory) → HoldLogs steps files → (n0 n1 n2 n3 : State) → n0.events ≡ 0 → n1.events ≡ 0 → n2.events ≡ 0 → n3.events ≡ 0
@@ -88,7 +90,7 @@ are_parts steps files holds n0 n1 n2 n3 fresh0 fresh1 fresh2 fresh3 = record {
   fresh = each (λ r. r.state.events ≡ 0) (replays_of steps n0 n1 n2 n3) (fresh0, (fresh1, (fresh2, (fresh3, tt))));
   one = each (λ r. r.head.count ≡ group_count (replays_of steps n0 n1 n2 n3)) (replays_of steps n0 n1 n2 n3) (refl, (refl, (refl, (refl, tt))));
   ascends = ((below 0 1 (omega arith), (below 0 2 (omega arith), (below 0 3 (omega arith), tt))), ((below 1 2 (omega arith), (below 1 3 (omega arith), tt)), ((below 2 3 (omega arith), tt), (tt, tt))));
-  within = each (λ r. length r.left ≤ most_log) (replays_of steps n0 n1 n2 n3) (
+  within = each (λ r. length r.left.bytes ≤ most_log) (replays_of steps n0 n1 n2 n3) (
     left_within steps 0 (holds.tells 0 (omega arith)),
     (
       left_within steps 1 (holds.tells 1 (omega arith)),

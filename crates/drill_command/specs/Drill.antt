@@ -5,6 +5,7 @@ use Rattle.std.specs.Result.{result_ok}
 use Rattle.wasm_types.specs.Modules.{Module}
 use Rattle.schedule_text.specs.Drill.{drill_processes, drill_schedule}
 use Rattle.call_log.specs.Head.{head_bytes}
+use Rattle.call_log.specs.Log.{Unread, behind}
 use Rattle.guest_process.specs.State.{State}
 use Rattle.proc_replay.specs.Replaying.{Replaying}
 use Rattle.group_state.specs.Place.{events}
@@ -38,9 +39,9 @@ drill_run rounds = run drill_group (drill_schedule rounds).items
 
 -- ---- the replays of its logs
 
--- what a log has behind its head
-abbrev pub left_of_log : Group → List Step → ℕ → List ℕ
-left_of_log group steps p = drop (length (head_bytes (head_of_log group p))) (log_of group steps p)
+-- what a log has after its head
+abbrev pub left_of_log : Group → List Step → ℕ → Unread
+left_of_log group steps p = behind (head_of_log group p) (drop (length (head_bytes (head_of_log group p))) (log_of group steps p))
 
 abbrev pub replay_of_log : Group → List Step → ℕ → State → Replaying
 replay_of_log group steps p S = record { head = head_of_log group p; state = S; left = left_of_log group steps p }

@@ -11,11 +11,12 @@ use Rattle.fri_text.specs.Name.{is_name}
 use Rattle.call_table.specs.Table.{kind_numbered}
 use Rattle.lib_calls.specs.declared.entry.Entry.{Entry}
 use Rattle.lib_calls.specs.Entry.{IsShaped}
-use Rattle.call_log.specs.Entry.{body_bytes, encoding, encodings}
+use Rattle.call_log.specs.Entry.{clock_after, encodings}
 use Rattle.call_log.specs.Head.{head_bytes}
 use Rattle.call_log.specs.Laws.{ExactLogs}
-use Rattle.call_log.specs.Log.{Holds}
+use Rattle.call_log.specs.Log.{Holds, behind}
 use Rattle.call_log.specs.Limits.{most_log}
+use Rattle.call_log.specs.declared.version.Version.TheVariants.{Two}
 use Rattle.guest_process.specs.declared.divergence.Divergence.{Divergence}
 use Rattle.guest_process.specs.declared.waiting.Waiting.{Waiting}
 use Rattle.guest_process.specs.Answers.{need}
@@ -30,12 +31,12 @@ use Rattle.guest_process.specs.Replay.{accepted, reach, reach_then, replayed}
 use Rattle.guest_process.specs.State.{State, thread_at}
 use Rattle.group_world.specs.History.{Act, put_last_if, time}
 use Rattle.group_world.specs.History as world
-use Rattle.group_record.specs.Run.{Group, Step, Had, Did, world_around, entries, log_has_room, head_of_log, history, log_of, name_of, size, process_after, process_states}
+use Rattle.group_record.specs.Run.{Group, Step, Had, Did, world_around, entries, log_has_room, head_of_log, history, log_of, name_of, size, spelled_next, process_after, process_states}
 use Rattle.group_record.specs.Laws.{Agreement, CutAgreement, IsBegun}
 use Rattle.group_record.specs.Logs.{IsLogOfRun, TellsBefore}
 use Rattle.group_record.specs.Standing.{IsDone, IsHad, IsRun}
 use Rattle.group_record.proofs.Begins.{head_size, short_name}
-use Rattle.group_record.proofs.Growing.{entry_added, log_longer}
+use Rattle.group_record.proofs.Growing.{entries_few, entry_added, entry_there, log_longer}
 use Rattle.group_record.proofs.Running.{is_run}
 
 -- ---- one entry more
@@ -71,19 +72,11 @@ state-at (e ∷ es) S (suc n) s at = state-at es (next S e) n s at
 
 -- ---- a log with room has few entries
 
-some_bytes : (e : Entry) → 1 ≤ length (encoding e)
-unfolding encoding
-some_bytes e = omega (arith, length-append (to_le_bytes w32 (length (body_bytes e))) (body_bytes e))
-
-many_bytes : (es : List Entry) → length es ≤ length (encodings es)
-many_bytes [] = omega arith
-many_bytes (e ∷ es) = omega (arith, many_bytes es, some_bytes e, length-append (encoding e) (encodings es))
-
 room_for : (group : Group) (steps : List Step) (p : ℕ) (e : Event) → log_has_room group steps p e ≡ true → length (entries steps p) + 1 ≤ most_log
 room_for group steps p e room =
     let head = head_bytes (head_of_log group p) in
     let es = entries steps p in
-    omega (arith, leb-true _ _ room, log_longer group steps p e, length-append head (encodings es), many_bytes es, some_bytes e.entry)
+    omega (arith, leb-true _ _ room, log_longer group steps p e, length-append head (encodings Two 0 es), entries_few Two 0 es, entry_there Two (clock_after 0 es) e.entry)
 
 -- ---- an event in a state
 
@@ -259,7 +252,7 @@ keeps laws group begun (Did act ∷ early) run p within = act_keeps group early 
 head_within : (group : Group) → IsBegun group → (p : ℕ) → p < size group → length (log_of group [] p) ≤ most_log
 head_within group begun p within =
     let short = short_name (name_of group p) (All-get_or (λ name. IsTrue (is_name name)) group.names p [] within begun.names) in
-    omega (arith, short, head_size (head_of_log group p), length-append (head_bytes (head_of_log group p)) (encodings []))
+    omega (arith, short, head_size (head_of_log group p), length-append (head_bytes (head_of_log group p)) (encodings Two 0 []))
 
 -- with the entry of one more event, of this process or of another
 entry_within : (group : Group) (early : List Step) (q p : ℕ) (e : Event) (test : Bool) → (q == p) ≡ test → IsTrue (log_has_room group early q e) → length (log_of group early p) ≤ most_log
@@ -267,7 +260,7 @@ entry_within : (group : Group) (early : List Step) (q p : ℕ) (e : Event) (test
 entry_within group early q p e true is room fits =
     subst (λ (r : ℕ). length (log_of group (Had q e ∷ early) r) ≤ most_log) (eqb-true q p is) (leb-true _ _ room)
 entry_within group early q p e false is room fits =
-    subst (λ (test : Bool). length (head_bytes (head_of_log group p) ++ encodings (put_last_if test (entries early p) e.entry)) ≤ most_log) (sym is) fits
+    subst (λ (test : Bool). length (head_bytes (head_of_log group p) ++ encodings Two 0 (put_last_if test (entries early p) e.entry)) ≤ most_log) (sym is) fits
 
 act_within : (group : Group) (early : List Step) (act : Act) (p : ℕ) → IsDone group early act → length (log_of group early p) ≤ most_log → length (log_of group (Did act ∷ early) p) ≤ most_log
 act_within group early (world.Event q e) p done fits = absurd done
@@ -287,17 +280,17 @@ log_within group begun (Did act ∷ early) run p within = act_within group early
 
 -- whose bytes behind the head hold its entries, and this much of one more
 log_tells : ExactLogs → (group : Group) → IsBegun group → (steps : List Step) (p : ℕ) (bytes left cut : List ℕ) → p < size group → KeepsAfter group steps p → bytes ≡ head_bytes (head_of_log group p) ++ left
-    → Holds left (entries steps p) cut → length bytes ≤ most_log → IsLogOfRun group p bytes (entries steps p) (process_states steps p) cut
+    → Holds (behind (head_of_log group p) left) (entries steps p) cut → length bytes ≤ most_log → IsLogOfRun group p bytes (entries steps p) (process_states steps p) cut
 log_tells logs group begun steps p bytes left cut inside k is holds fits =
     let es = entries steps p in
-    let held = (logs.all left es cut).0 holds in
+    let held = (logs.all (behind (head_of_log group p) left) es cut).0 holds in
     let named : is_name (slice_index_or group.names p []) ≡ true = All-get_or (λ name. IsTrue (is_name name)) group.names p [] inside begun.names in
     record {
       first = k.first;
       begun = k.begun;
-      left = left;
+      left = behind (head_of_log group p) left;
       within = fits;
-      head = (logs.heads bytes (head_of_log group p) left).1 (record { some = begun.some; few = begun.few; within = inside; named = named }, is);
+      head = (logs.heads bytes (head_of_log group p) (behind (head_of_log group p) left)).1 (record { some = begun.some; few = begun.few; within = inside; named = named }, (is, refl));
       entries = held.0;
       rest = held.1;
       accepted = k.all;
@@ -309,19 +302,19 @@ agrees logs laws group items begun fits steps front p within =
     let run : IsRun group steps = is_run group items fits steps front in
     let k : KeepsAfter group steps p = keeps laws group begun steps run p within in
     let es = entries steps p in
-    log_tells logs group begun steps p (log_of group steps p) (encodings es) [] within k refl (logs.holds_written es k.logged) (log_within group begun steps run p within)
+    log_tells logs group begun steps p (log_of group steps p) (encodings Two 0 es) [] within k refl (logs.holds_written Two 0 es k.logged) (log_within group begun steps run p within)
 
-entry_cut : ExactLogs → Laws → (group : Group) → IsBegun group → (early : List Step) (p : ℕ) (e : Event) → IsRun group (Had p e ∷ early) → (n : ℕ) → n < length (encoding e.entry) → TellsBefore group early p (take n (encoding e.entry))
+entry_cut : ExactLogs → Laws → (group : Group) → IsBegun group → (early : List Step) (p : ℕ) (e : Event) → IsRun group (Had p e ∷ early) → (n : ℕ) → n < length (spelled_next early p e.entry) → TellsBefore group early p (take n (spelled_next early p e.entry))
 entry_cut logs laws group begun early p e run n short =
     let k : KeepsAfter group early p = keeps laws group begun early run.1 p run.0.within in
     let es = entries early p in
     let log = log_of group early p in
-    let part = take n (encoding e.entry) in
+    let part = take n (spelled_next early p e.entry) in
     let next = is_next laws group early p e run.1 k run.0 in
     let fits : length (log ++ part) ≤ most_log =
-    omega (arith, leb-true _ _ run.0.room, log_longer group early p e, length-append log part, length-take n (encoding e.entry), short) in
-    log_tells logs group begun early p (log ++ part) (encodings es ++ part) part run.0.within k (append_assoc (head_bytes (head_of_log group p)) (encodings es) part)
-    (logs.holds_cut es e.entry n k.logged next.logged short) fits
+    omega (arith, leb-true _ _ run.0.room, log_longer group early p e, length-append log part, length-take n (spelled_next early p e.entry), short) in
+    log_tells logs group begun early p (log ++ part) (encodings Two 0 es ++ part) part run.0.within k (append_assoc (head_bytes (head_of_log group p)) (encodings Two 0 es) part)
+    (logs.holds_cut Two 0 es e.entry n k.logged next.logged short) fits
 
 pub agrees_cut : ExactLogs → Laws → CutAgreement
 agrees_cut logs laws group items begun fits later early p e is =

@@ -118,6 +118,7 @@ begun_member schedule first members p m fits started at =
       log = e.2.log;
       size = whole ∙ ap length (sym (append-nil (head_bytes (head_of_log group p))));
       room = omega (arith, whole, head_size (head_of_log group p), short);
+      last = e.2.last;
       logged = λ i d within. absurd (omega (arith, within));
     }
 

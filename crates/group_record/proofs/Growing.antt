@@ -1,8 +1,7 @@
 -- Logs that grow: a piece behind one of a group's files, and an entry more.
 use Rattle.std.proofs.Common.{◌≡◌, ◌≢◌, drop, ℕ, zero, suc, ◌+◌, ◌<◌, ◌≤◌, ◌++◌, Bool, true, false, cond, eqb, List, [], ◌∷◌, length, slice_get, slice_index_or, Option, Some, refl, ap, sym, ◌∙◌, append_assoc, append-nil, length-append, arith}
 use Rattle.std.specs.Prelude.{AllPairs, codes}
-use Rattle.std.specs.Int.{w32, to_le_bytes}
-use Rattle.std.proofs.lemmas.Bool.{eq-eqb}
+use Rattle.std.proofs.lemmas.Bool.{eq-eqb, eqb-true}
 use Rattle.std.proofs.lemmas.Bool.Decides.{nat_tests}
 use Rattle.std.proofs.lemmas.List.{append_cancel_right, drop_at}
 use Rattle.std.proofs.lemmas.Option.{slice_get-get_or}
@@ -10,11 +9,15 @@ use Rattle.fri_outside.specs.Outside.{Folder, with_piece}
 use Rattle.fri_outside.specs.Several.{AreApart, grown, with_files}
 use Rattle.fri_outside.specs.Laws.{KeepsFiles}
 use Rattle.lib_calls.specs.declared.entry.Entry.{Entry}
-use Rattle.call_log.specs.Entry.{body_bytes, encoding, encodings}
+use Rattle.call_log.specs.declared.version.Version.{Version}
+use Rattle.call_log.specs.declared.version.Version.TheVariants.{Two}
+use Rattle.call_log.specs.Entry.{body_bytes, clock_after, encoding, encodings}
+use Rattle.call_log.specs.Version.{clock_bytes, number_bytes}
+use Rattle.std.specs.Int.{w16, w32}
 use Rattle.call_log.specs.Head.{head_bytes}
 use Rattle.guest_process.specs.Live.{Event}
 use Rattle.group_world.specs.History.{put_last_if}
-use Rattle.group_record.specs.Run.{Group, Step, Had, entries, entry_bytes, head_of_log, log_of, name_of, size}
+use Rattle.group_record.specs.Run.{Group, Step, Had, entries, entry_bytes, head_of_log, log_of, name_of, size, spelled_next}
 use Rattle.group_record.specs.Logs.{files_from, files_of, log_name, logs}
 
 -- the bytes at each place, with a piece behind those at this one
@@ -98,40 +101,55 @@ piece_written keeps group bytes p name piece before now apart within named is =
 
 -- ---- one entry more
 
--- one entry more at the end
-pub encodings-last : (es : List Entry) (e : Entry) → encodings (es ++ e ∷ []) ≡ encodings es ++ encoding e
-encodings-last [] e = append-nil (encoding e)
-encodings-last (x ∷ es) e = ap (λ t. encoding x ++ t) (encodings-last es e) ∙ sym (append_assoc (encoding x) (encodings es) (encoding e))
+-- the clock of the last entry
+pub clock_last : (last : ℕ) (es : List Entry) (e : Entry) → clock_after last (es ++ e ∷ []) ≡ e.clock
+clock_last last [] e = refl
+clock_last last (x ∷ es) e = clock_last x.clock es e
 
-log_last : (test : Bool) (head : List ℕ) (es : List Entry) (e : Entry) → cond test ((head ++ encodings es) ++ encoding e) (head ++ encodings es) ≡ head ++ encodings (put_last_if test es e)
-log_last true head es e = append_assoc head (encodings es) (encoding e) ∙ ap (λ t. head ++ t) (sym (encodings-last es e))
-log_last false head es e = refl
+-- one entry more at the end
+encodings-last : (v : Version) (last : ℕ) (es : List Entry) (e : Entry) → encodings v last (es ++ e ∷ []) ≡ encodings v last es ++ encoding v (clock_after last es) e
+encodings-last v last [] e = append-nil (encoding v last e)
+encodings-last v last (x ∷ es) e =
+    ap (λ t. encoding v last x ++ t) (encodings-last v x.clock es e) ∙ sym (append_assoc (encoding v last x) (encodings v x.clock es) (encoding v (clock_after x.clock es) e))
+
+log_last : (test : Bool) (head : List ℕ) (es : List Entry) (e : Entry) (piece : List ℕ) → (test ≡ true → piece ≡ encoding Two (clock_after 0 es) e)
+    → cond test ((head ++ encodings Two 0 es) ++ piece) (head ++ encodings Two 0 es) ≡ head ++ encodings Two 0 (put_last_if test es e)
+log_last true head es e piece is =
+    append_assoc head (encodings Two 0 es) piece ∙ ap (λ t. head ++ (encodings Two 0 es ++ t)) (is refl) ∙ ap (λ t. head ++ t) (sym (encodings-last Two 0 es e))
+log_last false head es e piece is = refl
 
 -- the logs with the entry of an event more
-pub logs_grown : (group : Group) (steps : List Step) (p : ℕ) (e : Event) → grown (logs group steps) p (encoding e.entry) ≡ logs group (Had p e ∷ steps)
+pub logs_grown : (group : Group) (steps : List Step) (p : ℕ) (e : Event) → grown (logs group steps) p (spelled_next steps p e.entry) ≡ logs group (Had p e ∷ steps)
 logs_grown group steps p e =
-    grown_files group (log_of group steps) p (encoding e.entry)
-    ∙ files_same 0 group.names (grown_at p (encoding e.entry) (log_of group steps)) (log_of group (Had p e ∷ steps))
-    (λ r above below. log_last (eqb p r) (head_bytes (head_of_log group r)) (entries steps r) e.entry)
+    grown_files group (log_of group steps) p (spelled_next steps p e.entry)
+    ∙ files_same 0 group.names (grown_at p (spelled_next steps p e.entry) (log_of group steps)) (log_of group (Had p e ∷ steps))
+    (λ r above below. log_last (eqb p r) (head_bytes (head_of_log group r)) (entries steps r) e.entry (spelled_next steps p e.entry)
+    (λ is. ap (λ (q : ℕ). spelled_next steps q e.entry) (eqb-true p r is)))
 
 -- a log has no more entries than bytes
-body_there : (e : Entry) → 1 ≤ length (encoding e)
-unfolding encoding
-body_there e = omega (arith, length-append (to_le_bytes w32 (length (body_bytes e))) (body_bytes e))
+kind_there : (size clock thread : List ℕ) (kind : ℕ) (others : List ℕ) → 1 ≤ length (size ++ (clock ++ (thread ++ ((kind ∷ []) ++ others))))
+kind_there size clock thread kind others =
+    let fields = thread ++ ((kind ∷ []) ++ others) in
+    omega (arith, length-append size (clock ++ fields), length-append clock fields, length-append thread ((kind ∷ []) ++ others))
 
-pub entries_few : (es : List Entry) → length es ≤ length (encodings es)
-entries_few [] = omega arith
-entries_few (e ∷ es) = omega (arith, entries_few es, body_there e, length-append (encoding e) (encodings es))
+pub entry_there : (v : Version) (last : ℕ) (e : Entry) → 1 ≤ length (encoding v last e)
+unfolding encoding body_bytes
+entry_there v last e = kind_there (number_bytes v w32 (length (body_bytes v last e))) (clock_bytes v last e.clock) (number_bytes v w16 e.thread) e.call.kind _
+
+pub entries_few : (v : Version) (last : ℕ) (es : List Entry) → length es ≤ length (encodings v last es)
+entries_few v last [] = omega arith
+entries_few v last (e ∷ es) = omega (arith, entries_few v e.clock es, entry_there v last e, length-append (encoding v last e) (encodings v e.clock es))
 
 -- a log with the entry of an event more
-log_with : (group : Group) (steps : List Step) (p : ℕ) (e : Event) → log_of group (Had p e ∷ steps) p ≡ log_of group steps p ++ encoding e.entry
-log_with group steps p e = sym (log_last (eqb p p) (head_bytes (head_of_log group p)) (entries steps p) e.entry) ∙ grown_here p p (encoding e.entry) (log_of group steps) refl
+log_with : (group : Group) (steps : List Step) (p : ℕ) (e : Event) → log_of group (Had p e ∷ steps) p ≡ log_of group steps p ++ spelled_next steps p e.entry
+log_with group steps p e =
+    sym (log_last (eqb p p) (head_bytes (head_of_log group p)) (entries steps p) e.entry (spelled_next steps p e.entry) (λ is. refl)) ∙ grown_here p p (spelled_next steps p e.entry) (log_of group steps) refl
 
 -- how long it is
-pub log_longer : (group : Group) (steps : List Step) (p : ℕ) (e : Event) → length (log_of group (Had p e ∷ steps) p) ≡ length (log_of group steps p) + length (encoding e.entry)
-log_longer group steps p e = ap length (log_with group steps p e) ∙ length-append (log_of group steps p) (encoding e.entry)
+pub log_longer : (group : Group) (steps : List Step) (p : ℕ) (e : Event) → length (log_of group (Had p e ∷ steps) p) ≡ length (log_of group steps p) + length (spelled_next steps p e.entry)
+log_longer group steps p e = ap length (log_with group steps p e) ∙ length-append (log_of group steps p) (spelled_next steps p e.entry)
 
 -- and what it has more
-pub entry_added : (group : Group) (steps : List Step) (p : ℕ) (e : Event) → entry_bytes group steps p e ≡ encoding e.entry
+pub entry_added : (group : Group) (steps : List Step) (p : ℕ) (e : Event) → entry_bytes group steps p e ≡ spelled_next steps p e.entry
 entry_added group steps p e =
-    ap (drop (length (log_of group steps p))) (log_with group steps p e) ∙ drop_at (log_of group steps p) (encoding e.entry) (length (log_of group steps p)) refl
+    ap (drop (length (log_of group steps p))) (log_with group steps p e) ∙ drop_at (log_of group steps p) (spelled_next steps p e.entry) (length (log_of group steps p)) refl

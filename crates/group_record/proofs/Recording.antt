@@ -12,7 +12,8 @@ use Rattle.fri_outside.specs.Laws.{KeepsFiles}
 use Rattle.lib_calls.specs.declared.entry.Entry.{Entry}
 use Rattle.lib_calls.specs.Traffic.{drawn, prints}
 use Rattle.lib_calls.specs.Entry.{IsShaped}
-use Rattle.call_log.specs.Entry.{encoding, encodings}
+use Rattle.call_log.specs.Entry.{clock_after, encoding, encodings}
+use Rattle.call_log.specs.declared.version.Version.TheVariants.{Two}
 use Rattle.call_log.specs.Head.{head_bytes}
 use Rattle.call_log.specs.Limits.{most_log}
 use Rattle.guest_process.specs.Live.{Env, Event, live}
@@ -32,15 +33,15 @@ use Rattle.group_record.specs.declared.error.RecordError.{RecordError}
 use Rattle.group_record.specs.declared.error.RecordError.TheVariants as errors
 use Rattle.group_record.specs.declared.member.Member.{Member}
 use Rattle.group_record.specs.declared.recorder.Recorder.{Recorder}
-use Rattle.group_record.specs.Run.{Group, Progress, Step, Had, Did, with_step, with_step_if, after_item, world_around, attempt, can_be_killed, done_by_item, entries, entry_bytes, event_of_try, with_full_log, had, has_sent, head_of_log, history, idled, log_of, is_running_process, size, process_after, unless_full}
+use Rattle.group_record.specs.Run.{Group, Progress, Step, Had, Did, with_step, with_step_if, after_item, world_around, attempt, can_be_killed, done_by_item, entries, entry_bytes, event_of_try, with_full_log, had, has_sent, head_of_log, history, idled, log_of, is_running_process, size, process_after, spelled_next, unless_full}
 use Rattle.group_record.specs.Logs.{logs}
 use Rattle.group_record.specs.Files.{IsStopped, Between, InEntry}
 use Rattle.group_record.specs.Around.{env_of}
-use Rattle.group_record.specs.Members.{CanKeep, IsCut, LogHasRoom, Writes, kept}
+use Rattle.group_record.specs.Members.{CanKeep, IsCut, LogHasRoom, Writes, kept, spelled}
 use Rattle.group_record.specs.Recorded.{Comes, FilesOf, IsMember, Kept, KeepsUp, IsLiveEntry, acted_on, acts, after_act, counted_of, is_spared}
 use Rattle.group_record.proofs.Chosen.{live_same, with_signals}
 use Rattle.group_record.proofs.Going.{LeadsTo, attempt_leads}
-use Rattle.group_record.proofs.Growing.{entries_few, entry_added, log_longer, logs_grown, piece_written}
+use Rattle.group_record.proofs.Growing.{clock_last, entries_few, entry_added, log_longer, logs_grown, piece_written}
 use Rattle.group_record.proofs.Printing.{event_printed}
 use Rattle.group_record.proofs.Small.{length_set, set_each}
 
@@ -107,12 +108,12 @@ did_entries (world.Kill q) steps p item = refl
 
 did_member : (group : Group) (act : Act) (steps : List Step) (p : ℕ) (m : Member) → IsItem act → IsMember group steps p m → IsMember group (Did act ∷ steps) p m
 did_member group (world.Event q e) steps p m item k = absurd item
-did_member group (world.Deliver q n) steps p m item k = record { state = k.state; process = k.process; after = k.after; events = k.events; count = k.count; log = k.log; size = k.size; room = k.room; logged = k.logged }
-did_member group (world.Inject q bytes) steps p m item k = record { state = k.state; process = k.process; after = k.after; events = k.events; count = k.count; log = k.log; size = k.size; room = k.room; logged = k.logged }
-did_member group (world.Clock q value) steps p m item k = record { state = k.state; process = k.process; after = k.after; events = k.events; count = k.count; log = k.log; size = k.size; room = k.room; logged = k.logged }
-did_member group (world.Random q bytes) steps p m item k = record { state = k.state; process = k.process; after = k.after; events = k.events; count = k.count; log = k.log; size = k.size; room = k.room; logged = k.logged }
-did_member group (world.Signal q s) steps p m item k = record { state = k.state; process = k.process; after = k.after; events = k.events; count = k.count; log = k.log; size = k.size; room = k.room; logged = k.logged }
-did_member group (world.Kill q) steps p m item k = record { state = k.state; process = k.process; after = k.after; events = k.events; count = k.count; log = k.log; size = k.size; room = k.room; logged = k.logged }
+did_member group (world.Deliver q n) steps p m item k = record { state = k.state; process = k.process; after = k.after; events = k.events; count = k.count; log = k.log; size = k.size; room = k.room; last = k.last; logged = k.logged }
+did_member group (world.Inject q bytes) steps p m item k = record { state = k.state; process = k.process; after = k.after; events = k.events; count = k.count; log = k.log; size = k.size; room = k.room; last = k.last; logged = k.logged }
+did_member group (world.Clock q value) steps p m item k = record { state = k.state; process = k.process; after = k.after; events = k.events; count = k.count; log = k.log; size = k.size; room = k.room; last = k.last; logged = k.logged }
+did_member group (world.Random q bytes) steps p m item k = record { state = k.state; process = k.process; after = k.after; events = k.events; count = k.count; log = k.log; size = k.size; room = k.room; last = k.last; logged = k.logged }
+did_member group (world.Signal q s) steps p m item k = record { state = k.state; process = k.process; after = k.after; events = k.events; count = k.count; log = k.log; size = k.size; room = k.room; last = k.last; logged = k.logged }
+did_member group (world.Kill q) steps p m item k = record { state = k.state; process = k.process; after = k.after; events = k.events; count = k.count; log = k.log; size = k.size; room = k.room; last = k.last; logged = k.logged }
 
 pub did_keeps : (group : Group) (done : Progress) (old new : Recorder) (act : Act) → KeepsUp group done old → IsItem act → CanFollow (size group) (history done.steps) act
     → new ≡ record old { world = with_act old.world act; acted = old.acted + 1 } → KeepsUp group (with_step (Did act) done) new
@@ -141,12 +142,21 @@ other_member group steps p q e m apart k =
       events = k.events ∙ ap length (sym same);
       count = k.count;
       log = k.log;
-      size = k.size ∙ ap (λ es. length (head_bytes (head_of_log group q) ++ encodings es)) (sym same);
+      size = k.size ∙ ap (λ es. length (head_bytes (head_of_log group q) ++ encodings Two 0 es)) (sym same);
       room = k.room;
+      last = k.last ∙ ap (clock_after 0) (sym same);
       logged = subst (λ es. All IsShaped es) (sym same) k.logged;
     }
 
-own_member : (group : Group) (steps : List Step) (p thread : ℕ) (env : Env) (m : Member) (entry : Entry) → (k : IsMember group steps p m) → (t : IsLiveEntry k.state thread env entry) → LogHasRoom m (encoding entry)
+-- the member spells the entry as it stands in the log
+spelled_here : (group : Group) (steps : List Step) (p : ℕ) (m : Member) (entry : Entry) (e : Event) → IsMember group steps p m → entry ≡ e.entry → spelled m entry ≡ spelled_next steps p e.entry
+spelled_here group steps p m entry e k same = ap (λ last. encoding Two last entry) k.last ∙ ap (λ x. spelled_next steps p x) same
+
+log_size : (group : Group) (steps : List Step) (p : ℕ) (m : Member) (entry : Entry) (e : Event) → IsMember group steps p m → entry ≡ e.entry → m.size + length (spelled m entry) ≡ length (log_of group (Had p e ∷ steps) p)
+log_size group steps p m entry e k same =
+    ap (λ n. n + length (spelled m entry)) k.size ∙ ap (λ bytes. length (log_of group steps p) + length bytes) (spelled_here group steps p m entry e k same) ∙ sym (log_longer group steps p e)
+
+own_member : (group : Group) (steps : List Step) (p thread : ℕ) (env : Env) (m : Member) (entry : Entry) → (k : IsMember group steps p m) → (t : IsLiveEntry k.state thread env entry) → LogHasRoom m (spelled m entry)
     → IsMember group (Had p t.event ∷ steps) p (kept m entry)
 own_member group steps p thread env m entry k t room =
     let here : eqb p p ≡ true = eq-eqb p p refl in
@@ -158,13 +168,14 @@ own_member group steps p thread env m entry k t room =
       events = t.events ∙ ap (λ n. n + 1) k.events ∙ sym (ap length more ∙ length-append (entries steps p) (t.event.entry ∷ []));
       count = t.count ∙ k.count;
       log = k.log;
-      size = ap (λ n. n + length (encoding entry)) k.size ∙ ap (λ e. length (log_of group steps p) + length (encoding e)) t.same ∙ sym (log_longer group steps p t.event);
+      size = log_size group steps p m entry t.event k t.same;
       room = room;
+      last = ap (λ (e : Entry). e.clock) t.same ∙ sym (ap (clock_after 0) more ∙ clock_last 0 (entries steps p) t.event.entry);
       logged = subst (λ es. All IsShaped es) (sym more) (All-push IsShaped (entries steps p) t.event.entry k.logged (subst IsShaped t.same t.logged));
     }
 
 pub event_keeps : Counting → (group : Group) (done : Progress) (old new : Recorder) (p thread : ℕ) (m : Member) (entry : Entry) → (keeps : KeepsUp group done old) → p < size group
-    → (k : IsMember group done.steps p m) → (t : IsLiveEntry k.state thread (env_of old.world p) entry) → LogHasRoom m (encoding entry) → Kept old p m entry new
+    → (k : IsMember group done.steps p m) → (t : IsLiveEntry k.state thread (env_of old.world p) entry) → LogHasRoom m (spelled m entry) → Kept old p m entry new
     → KeepsUp group (with_step (Had p t.event) done) new
 event_keeps counting group done old new p thread m entry keeps within k t room made =
     let env = env_same counting group done old p keeps within in
@@ -209,19 +220,15 @@ room_test n limit fits = grind (arith, nat_tests)
 full_test : (n limit : ℕ) → limit < n → nat_le n limit ≡ false
 full_test n limit over = grind (arith, nat_tests)
 
-log_size : (group : Group) (steps : List Step) (p : ℕ) (m : Member) (entry : Entry) (e : Event) → IsMember group steps p m → entry ≡ e.entry → m.size + length (encoding entry) ≡ length (log_of group (Had p e ∷ steps) p)
-log_size group steps p m entry e k same =
-    ap (λ n. n + length (encoding entry)) k.size ∙ ap (λ e. length (log_of group steps p) + length (encoding e)) same ∙ sym (log_longer group steps p e)
-
 has_event : Counting → (group : Group) (done : Progress) (old : Recorder) (number p thread : ℕ) (m : Member) (entry : Entry) → KeepsUp group done old → p < size group
-    → (k : IsMember group done.steps p m) → (t : IsLiveEntry k.state thread (env_of old.world p) entry) → LogHasRoom m (encoding entry) → attempt group number p thread done ≡ with_step (Had p t.event) done
+    → (k : IsMember group done.steps p m) → (t : IsLiveEntry k.state thread (env_of old.world p) entry) → LogHasRoom m (spelled m entry) → attempt group number p thread done ≡ with_step (Had p t.event) done
 has_event counting group done old number p thread m entry keeps within k t room =
     attempt_is counting group done old number p thread k.state keeps within k.after ∙ ap (λ o. had group number p o done) t.lives
     ∙ ap (λ b. cond b (with_step (Had p t.event) done) (with_full_log number done))
     (room_test (length (log_of group (Had p t.event ∷ done.steps) p)) most_log (subst (λ n. n ≤ most_log) (log_size group done.steps p m entry t.event k t.same) room))
 
 no_room : Counting → (group : Group) (done : Progress) (old : Recorder) (number p thread : ℕ) (m : Member) (entry : Entry) → KeepsUp group done old → p < size group
-    → (k : IsMember group done.steps p m) → (t : IsLiveEntry k.state thread (env_of old.world p) entry) → most_log < m.size + length (encoding entry) → attempt group number p thread done ≡ with_full_log number done
+    → (k : IsMember group done.steps p m) → (t : IsLiveEntry k.state thread (env_of old.world p) entry) → most_log < m.size + length (spelled m entry) → attempt group number p thread done ≡ with_full_log number done
 no_room counting group done old number p thread m entry keeps within k t over =
     attempt_is counting group done old number p thread k.state keeps within k.after ∙ ap (λ o. had group number p o done) t.lives
     ∙ ap (λ b. cond b (with_step (Had p t.event) done) (with_full_log number done))
@@ -229,10 +236,10 @@ no_room counting group done old number p thread m entry keeps within k t over =
 
 -- the files with the entry more
 entry_written : KeepsFiles → (group : Group) (done : Progress) (before now after : Option Folder) (old : Recorder) (p : ℕ) (m : Member) (entry : Entry) (e : Event) → KeepsUp group done old → FilesOf group done before now → p < size group
-    → IsMember group done.steps p m → entry ≡ e.entry → after ≡ with_piece (string_bytes m.log) (encoding entry) now → after ≡ with_files (logs group (Had p e ∷ done.steps)) before
+    → IsMember group done.steps p m → entry ≡ e.entry → after ≡ with_piece (string_bytes m.log) (spelled m entry) now → after ≡ with_files (logs group (Had p e ∷ done.steps)) before
 entry_written files_keep group done before now after old p m entry e keeps files within k same is =
-    is ∙ piece_written files_keep group (log_of group done.steps) p (string_bytes m.log) (encoding entry) before now keeps.apart within k.log files
-    ∙ ap (λ e. with_files (grown (logs group done.steps) p (encoding e)) before) same
+    is ∙ piece_written files_keep group (log_of group done.steps) p (string_bytes m.log) (spelled m entry) before now keeps.apart within k.log files
+    ∙ ap (λ bytes. with_files (grown (logs group done.steps) p bytes) before) (spelled_here group done.steps p m entry e k same)
     ∙ ap (λ fs. with_files fs before) (logs_grown group done.steps p e)
 
 -- memory was wanting before the files were touched
@@ -244,29 +251,29 @@ short_of many n is = grind (arith, nat_tests)
 
 -- all of the entry was written, or a part of it
 cut_stops : KeepsFiles → (group : Group) (done : Progress) (before now after : Option Folder) (old : Recorder) (p : ℕ) (m : Member) (entry : Entry) (e : Event) → KeepsUp group done old → FilesOf group done before now → p < size group
-    → IsMember group done.steps p m → entry ≡ e.entry → (n : ℕ) (whole : Bool) → nat_le (length (encoding entry)) n ≡ whole → after ≡ with_piece (string_bytes m.log) (take n (encoding entry)) now
+    → IsMember group done.steps p m → entry ≡ e.entry → (n : ℕ) (whole : Bool) → nat_le (length (spelled m entry)) n ≡ whole → after ≡ with_piece (string_bytes m.log) (take n (spelled m entry)) now
     → IsStopped group (Had p e ∷ done.steps) [] before after
 cut_stops files_keep group done before now after old p m entry e keeps files within k same n true whole is =
-    let all : take n (encoding entry) ≡ encoding entry = take_all n (encoding entry) (leb-true _ _ whole) in
+    let all : take n (spelled m entry) ≡ spelled m entry = take_all n (spelled m entry) (leb-true _ _ whole) in
     Between (Had p e ∷ done.steps) ([], refl)
     (entry_written files_keep group done before now after old p m entry e keeps files within k same (is ∙ ap (λ piece. with_piece (string_bytes m.log) piece now) all))
 cut_stops files_keep group done before now after old p m entry e keeps files within k same n false part is =
-    let bytes : encoding entry ≡ entry_bytes group done.steps p e = ap encoding same ∙ sym (entry_added group done.steps p e) in
-    InEntry done.steps [] p n e refl (subst (λ (bytes : List ℕ). n < length bytes) bytes (short_of (length (encoding entry)) n part))
-    (is ∙ piece_written files_keep group (log_of group done.steps) p (string_bytes m.log) (take n (encoding entry)) before now keeps.apart within k.log files
+    let bytes : spelled m entry ≡ entry_bytes group done.steps p e = spelled_here group done.steps p m entry e k same ∙ sym (entry_added group done.steps p e) in
+    InEntry done.steps [] p n e refl (subst (λ (bytes : List ℕ). n < length bytes) bytes (short_of (length (spelled m entry)) n part))
+    (is ∙ piece_written files_keep group (log_of group done.steps) p (string_bytes m.log) (take n (spelled m entry)) before now keeps.apart within k.log files
     ∙ ap (λ (bytes : List ℕ). with_files (grown (logs group done.steps) p (take n bytes)) before) bytes)
 
 -- a write that failed
 fault_stops : KeepsFiles → (group : Group) (done : Progress) (before now after : Option Folder) (old : Recorder) (p : ℕ) (m : Member) (entry : Entry) (e : Event) → KeepsUp group done old → FilesOf group done before now → p < size group
-    → IsMember group done.steps p m → entry ≡ e.entry → IsCut (string_bytes m.log) (encoding entry) now after → IsStopped group (Had p e ∷ done.steps) [] before after
+    → IsMember group done.steps p m → entry ≡ e.entry → IsCut (string_bytes m.log) (spelled m entry) now after → IsStopped group (Had p e ∷ done.steps) [] before after
 fault_stops files_keep group done before now after old p m entry e keeps files within k same (inl none) = Between done.steps (Had p e ∷ [], refl) (none ∙ files)
 fault_stops files_keep group done before now after old p m entry e keeps files within k same (inr (n, is)) =
-    cut_stops files_keep group done before now after old p m entry e keeps files within k same n (nat_le (length (encoding entry)) n) refl is
+    cut_stops files_keep group done before now after old p m entry e keeps files within k same n (nat_le (length (spelled m entry)) n) refl is
 
 -- what comes of a try that has an event
 pub try_event : Counting → KeepsFiles → (group : Group) (done : Progress) (before now after : Option Folder) (old : Recorder) (result : Result ⊤ RecordError) (new : Recorder) (number p thread : ℕ) (m : Member) (entry : Entry)
     → KeepsUp group done old → FilesOf group done before now → p < size group → (k : IsMember group done.steps p m) → IsLiveEntry k.state thread (env_of old.world p) entry
-    → Writes m number (encoding entry) result now after → OnOk result (Kept old p m entry new) → Comes group (attempt group number p thread done) result new before after
+    → Writes m number (spelled m entry) result now after → OnOk result (Kept old p m entry new) → Comes group (attempt group number p thread done) result new before after
 try_event counting files_keep group done before now after old (Ok _) new number p thread m entry keeps files within k t writes made =
     subst (λ d. Comes group d (Ok tt) new before after) (sym (has_event counting group done old number p thread m entry keeps within k t writes.0)) (
       event_keeps counting group done old new p thread m entry keeps within k t writes.0 made,
@@ -289,8 +296,8 @@ try_event counting files_keep group done before now after old (Err errors.NoMemo
 
 pub few_events : (group : Group) (steps : List Step) (p : ℕ) (m : Member) → (k : IsMember group steps p m) → k.state.events < 2 ^ 61
 few_events group steps p m k =
-    let few : length (entries steps p) ≤ length (encodings (entries steps p)) = entries_few (entries steps p) in
-    let whole : length (log_of group steps p) ≡ length (head_bytes (head_of_log group p)) + length (encodings (entries steps p)) = length-append (head_bytes (head_of_log group p)) (encodings (entries steps p)) in
+    let few : length (entries steps p) ≤ length (encodings Two 0 (entries steps p)) = entries_few Two 0 (entries steps p) in
+    let whole : length (log_of group steps p) ≡ length (head_bytes (head_of_log group p)) + length (encodings Two 0 (entries steps p)) = length-append (head_bytes (head_of_log group p)) (encodings Two 0 (entries steps p)) in
     omega (arith, few, whole, k.events, k.size, k.room)
 
 -- the member at a place, which can keep an entry that tells an event
@@ -456,16 +463,16 @@ acted_prints false w old new is = ap (λ (r : Recorder). length r.prints) is
 -- ---- what a write says of the whole
 
 pub stops_of : (m other : Member) (number : ℕ) (e same : Entry) (error : RecordError) (before after : Option Folder) → m ≡ other → e ≡ same
-    → Writes m number (encoding e) (Err error) before after → Writes other number (encoding same) (Err error) before after
+    → Writes m number (spelled m e) (Err error) before after → Writes other number (spelled other same) (Err error) before after
 stops_of m other number e same error before after is told h =
-    subst (λ (m : Member). Writes m number (encoding same) (Err error) before after) is
-    (subst (λ (e : Entry). Writes m number (encoding e) (Err error) before after) told h)
+    subst (λ (m : Member). Writes m number (spelled m same) (Err error) before after) is
+    (subst (λ (e : Entry). Writes m number (spelled m e) (Err error) before after) told h)
 
 pub written_of : (m other : Member) (e same : Entry) (before after : Option Folder) → m ≡ other → e ≡ same
-    → LogHasRoom m (encoding e) × (after ≡ with_piece (string_bytes m.log) (encoding e) before) → LogHasRoom other (encoding same) × (after ≡ with_piece (string_bytes other.log) (encoding same) before)
+    → LogHasRoom m (spelled m e) × (after ≡ with_piece (string_bytes m.log) (spelled m e) before) → LogHasRoom other (spelled other same) × (after ≡ with_piece (string_bytes other.log) (spelled other same) before)
 written_of m other e same before after is told h =
-    subst (λ (m : Member). LogHasRoom m (encoding same) × (after ≡ with_piece (string_bytes m.log) (encoding same) before)) is
-    (subst (λ (e : Entry). LogHasRoom m (encoding e) × (after ≡ with_piece (string_bytes m.log) (encoding e) before)) told h)
+    subst (λ (m : Member). LogHasRoom m (spelled m same) × (after ≡ with_piece (string_bytes m.log) (spelled m same) before)) is
+    (subst (λ (e : Entry). LogHasRoom m (spelled m e) × (after ≡ with_piece (string_bytes m.log) (spelled m e) before)) told h)
 
 pub kept_at : (result : Result ⊤ RecordError) (old new : Recorder) (p : ℕ) (m : Member) (entry : Entry) → slice_get old.members.items p ≡ Some m
     → OnOk result ((m : Member) → slice_get old.members.items p ≡ Some m → Kept old p m entry new) → OnOk result (Kept old p m entry new)

@@ -2,7 +2,7 @@
 use Rattle.std.specs.Prelude.{◌≡◌, ◌≤◌, ℕ, suc, List, [], ◌∷◌, ◌++◌, length, take, codes, slice_get, Some}
 use Rattle.lib_calls.specs.declared.entry.Entry.{Entry}
 use Rattle.call_log.specs.Limits.{most_log}
-use Rattle.call_log.specs.Log.{entries_of, head_at, rest_of}
+use Rattle.call_log.specs.Log.{Unread, entries_of, head_at, rest_of}
 use Rattle.guest_process.specs.Replay.{accepted, replayed}
 use Rattle.guest_process.specs.State.{State}
 use Rattle.group_record.specs.Run.{Group, Step, entries, head_of_log, log_of, process_states}
@@ -29,7 +29,7 @@ logs group steps = files_of group (log_of group steps)
 pub record IsLogOfRun (group : Group) (p : ℕ) (bytes : List ℕ) (es : List Entry) (after : List State) (cut : List ℕ) : Type 0 where
   pub first : State
   pub begun : slice_get group.first p ≡ Some first
-  pub left : List ℕ
+  pub left : Unread
   pub within : length bytes ≤ most_log
   pub head : head_at bytes ≡ Some (head_of_log group p, left)
   pub entries : entries_of left ≡ es

@@ -5,6 +5,7 @@ use Rattle.lib_calls.specs.declared.entry.Entry.{Entry}
 use Rattle.call_log.specs.Entry.{encoding}
 use Rattle.call_log.specs.Head.{head_bytes}
 use Rattle.call_log.specs.Limits.{most_log}
+use Rattle.call_log.specs.declared.version.Version.TheVariants.{Two}
 use Rattle.guest_process.specs.Legal.{reason}
 use Rattle.guest_process.specs.Next.{next}
 use Rattle.guest_process.specs.State.{State}
@@ -19,8 +20,9 @@ pub record IsFreshMember (state : State) (name : List ℕ) (p count : ℕ) (m : 
   pub events : state.events ≡ 0
   pub group : state.count ≡ count
   pub log : string_bytes m.log ≡ log_name name
-  pub head : m.head.items ≡ head_bytes (record { count = count; process = p; name = name })
+  pub head : m.head.items ≡ head_bytes (record { version = Two; count = count; process = p; name = name })
   pub size : m.size ≡ length m.head.items
+  pub last : m.last ≡ 0
 
 -- a member began, or a segment of its module ends past the module's table or memory
 abbrev pub Starts : Option State → List ℕ → ℕ → ℕ → Result Member RecordError → Type 0
@@ -38,9 +40,13 @@ pub record CanKeep (m : Member) (e : Entry) : Type 0 where
   pub few : state.events < 2 ^ 61
   pub room : m.size ≤ most_log
 
+-- an entry as it is spelled behind those of the member
+abbrev pub spelled : Member → Entry → List ℕ
+spelled m e = encoding Two m.last e
+
 -- the member after the event of an entry
 abbrev pub kept : Member → Entry → Member
-kept m e = record m { size = m.size + length (encoding e); process = option_map (λ S. next S e) m.process }
+kept m e = record m { size = m.size + length (spelled m e); last = e.clock; process = option_map (λ S. next S e) m.process }
 
 -- behind a file there may be a first part of these bytes
 abbrev pub IsCut : List ℕ → List ℕ → Option Folder → Option Folder → Type 0

@@ -6,6 +6,7 @@ use Rattle.fri_outside.specs.Several.{with_files}
 use Rattle.lib_calls.specs.declared.entry.Entry.{Entry}
 use Rattle.lib_calls.specs.Traffic.{drawn, is_taken, printed, prints}
 use Rattle.lib_calls.specs.Entry.{IsShaped}
+use Rattle.call_log.specs.Entry.{clock_after}
 use Rattle.call_log.specs.Limits.{most_log}
 use Rattle.schedule_text.specs.declared.process.ProcessLine.{ProcessLine}
 use Rattle.guest_process.specs.Live.{Env, Event, live}
@@ -120,6 +121,7 @@ pub record IsMember (group : Group) (steps : List Step) (p : ℕ) (m : Member) :
   pub log : string_bytes m.log ≡ log_name (name_of group p)
   pub size : m.size ≡ length (log_of group steps p)
   pub room : m.size ≤ most_log
+  pub last : m.last ≡ clock_after 0 (entries steps p)
   pub logged : All IsShaped (entries steps p)
 
 -- a recorder has come as far as this. Of each process of which it keeps what is printed, it has all of that

@@ -3,9 +3,10 @@ use Rattle.std.specs.Prelude.{◌≡◌, ℕ, zero, suc, Bool, false, ◌&&◌, 
 use Rattle.std.specs.Int.{w64, cast_unsigned}
 use Rattle.std.specs.List.{slice_index_or}
 use Rattle.lib_calls.specs.declared.entry.Entry.{Entry}
-use Rattle.call_log.specs.Entry.{encodings}
+use Rattle.call_log.specs.Entry.{clock_after, encoding, encodings}
 use Rattle.call_log.specs.Head.{Head, head_bytes}
 use Rattle.call_log.specs.Limits.{most_log}
+use Rattle.call_log.specs.declared.version.Version.TheVariants.{Two}
 use Rattle.schedule_text.specs.declared.item.Item.{Item}
 use Rattle.schedule_text.specs.declared.item.Item.TheVariants as item
 use Rattle.guest_process.specs.Live.{Env, Event, live}
@@ -70,11 +71,15 @@ abbrev pub name_of : Group → ℕ → List ℕ
 name_of group p = slice_index_or group.names p []
 
 abbrev pub head_of_log : Group → ℕ → Head
-head_of_log group p = record { count = size group; process = p; name = name_of group p }
+head_of_log group p = record { version = Two; count = size group; process = p; name = name_of group p }
 
 -- the log of a process: its head, and its events' entries
 abbrev pub log_of : Group → List Step → ℕ → List ℕ
-log_of group steps p = head_bytes (head_of_log group p) ++ encodings (entries steps p)
+log_of group steps p = head_bytes (head_of_log group p) ++ encodings Two 0 (entries steps p)
+
+-- an entry as it is spelled behind those of a process
+abbrev pub spelled_next : List Step → ℕ → Entry → List ℕ
+spelled_next steps p e = encoding Two (clock_after 0 (entries steps p)) e
 
 -- what the log has more with this event
 abbrev pub entry_bytes : Group → List Step → ℕ → Event → List ℕ

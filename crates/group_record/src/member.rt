@@ -1,8 +1,8 @@
 // A process of a group that is recorded, and the file of its log.
 ghost use Rattle.std.specs.Prelude.{◌≡◌, ◌+◌, ◌<◌, ◌≤◌, length, option_map, IfOk, OnOk, IsTrue, string_bytes};
-ghost use Rattle.call_log.specs.Entry.{encoding};
 ghost use Rattle.call_log.specs.Head.{head_bytes};
 ghost use Rattle.call_log.specs.Limits.{most_log};
+ghost use Rattle.call_log.specs.declared.version.Version.TheVariants.{Two};
 ghost use Rattle.fri_text.specs.Name.{is_name as is_name_word};
 ghost use Rattle.lib_calls.specs.Entry.{IsShaped, entry_of};
 ghost use Rattle.schedule_text.specs.Schedule.{IsProcess};
@@ -11,10 +11,10 @@ ghost use Rattle.guest_process.specs.Start.{start as start_of};
 ghost use Rattle.wasm_types.specs.Modules.{module_of};
 ghost use Rattle.group_record.specs.Answer.{after_writes};
 ghost use Rattle.group_record.specs.Logs.{log_name};
-ghost use Rattle.group_record.specs.Members.{CanKeep, Starts, Writes, kept};
+ghost use Rattle.group_record.specs.Members.{CanKeep, Starts, Writes, kept, spelled};
 
 use crate::error::RecordError;
-use call_log::{LogHead, put_entry, put_head};
+use call_log::{LogHead, Version, put_entry, put_head};
 use fri_outside::Files;
 use guest_process::{Process, counting};
 use lib_calls::EntryView;
@@ -26,13 +26,14 @@ use wasm_types::ValidModule;
 // How many bytes a log has at most.
 const MOST_LOG: usize = 33_554_432;
 
-/// A process with the name of its log's file, the head of the log, and how many bytes the log has with
-/// it. The process is away while it makes an event.
+/// A process with the name of its log's file, the head of the log, how many bytes the log has with it, and the
+/// clock of its last entry, or 0. The process is away while it makes an event.
 #[derive(Drop)]
 pub(crate) struct Member<'m> {
     pub(crate) log: String,
     pub(crate) head: Vec<u8>,
     pub(crate) size: usize,
+    pub(crate) last: u64,
     pub(crate) process: Option<Process<'m>>,
 }
 
@@ -58,6 +59,7 @@ impl<'m> Member<'m> {
                 log,
                 size: head.len(),
                 head,
+                last: 0,
                 process: Some(process),
             }),
             Err(StartError::BadSegment) => Err(RecordError::BadSegment(p)),
@@ -76,13 +78,14 @@ impl<'m> Member<'m> {
     ) -> Result<(), RecordError>
         requires shape { IsShaped (entry_of entry.now) }
         requires event { CanKeep self.old (entry_of entry.now) }
-        ensures writes { Writes self.old number (encoding (entry_of entry.now)) result (F.told files.old) (F.told files.new) }
+        ensures writes { Writes self.old number (spelled self.old (entry_of entry.now)) result (F.told files.old) (F.told files.new) }
         ensures ok { OnOk result (self.new ≡ kept self.old (entry_of entry.now)) }
         ensures counted { F.counts files.new ≡ after_writes (F.counts files.old) result }
     {
         bytes.clear();
-        put_entry(bytes, entry)?;
+        put_entry(bytes, Version::Two, self.last, entry)?;
         self.write(number, bytes, files)?;
+        self.last = entry.clock;
         self.advance(entry)?;
         Ok(())
     }
@@ -135,10 +138,11 @@ fn log_head(alloc: Global, name: &[u8], p: u32, count: u32) -> Result<Vec<u8>, A
     requires process { p < count }
     requires count { count ≤ 16 }
     requires named { IsTrue (is_name_word name.now) }
-    ensures { IfOk result (λ bytes. bytes.items ≡ head_bytes (record { count = count; process = p; name = name.now })) }
+    ensures { IfOk result (λ bytes. bytes.items ≡ head_bytes (record { version = Two; count = count; process = p; name = name.now })) }
 {
     let mut bytes = Vec::new(alloc);
     let head = LogHead {
+        version: Version::Two,
         count,
         process: p,
         name,

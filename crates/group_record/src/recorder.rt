@@ -1,6 +1,5 @@
 // A group that is recorded, try by try.
 ghost use Rattle.std.specs.Prelude.{◌≡◌, ◌+◌, ◌<◌, ◌≤◌, ◌^◌, ℕ, All, OnOk, IsTrue, length, slice_get, sum_by, Some, if◌then◌else◌};
-ghost use Rattle.call_log.specs.Entry.{encoding};
 ghost use Rattle.lib_calls.specs.Entry.{IsShaped};
 ghost use Rattle.lib_calls.specs.Traffic.{drawn as drawn_of, is_taken as is_taken_of};
 ghost use Rattle.lossy_net.specs.Network.{mailbox_of};
@@ -9,7 +8,7 @@ ghost use Rattle.group_world.specs.World.{process_count, surroundings_of};
 ghost use Rattle.group_record.specs.declared.member.Member.{Member as MemberOf};
 ghost use Rattle.group_record.specs.Run.{after_item, after_items, attempt, attempts};
 ghost use Rattle.group_record.specs.Recorded.{Does, HasCountsFor, Kept, UnderWay, acted_on, acts, after_act, total_count, counted_of};
-ghost use Rattle.group_record.specs.Members.{CanKeep, Writes};
+ghost use Rattle.group_record.specs.Members.{CanKeep, Writes, spelled};
 ghost use Rattle.group_record.specs.Answer.{after_writes};
 
 use crate::error::RecordError;
@@ -153,7 +152,7 @@ impl<'m> Recorder<'m> {
         requires drawn { drawn_of entry.now ≤ length (surroundings_of self.old.world p).pool }
         requires few { HasCountsFor 1 self.old }
         ensures writes { (m : MemberOf) → slice_get self.old.members.items p ≡ Some m →
-            Writes m number (encoding entry.now) result (F.told files.old) (F.told files.new) }
+            Writes m number (spelled m entry.now) result (F.told files.old) (F.told files.new) }
         ensures ok { OnOk result ((m : MemberOf) → slice_get self.old.members.items p ≡ Some m → Kept self.old p m entry.now self.new) }
         ensures prints { OnOk result (length self.new.prints ≡ length self.old.prints) }
         ensures counted { F.counts files.new ≡ after_writes (F.counts files.old) result }

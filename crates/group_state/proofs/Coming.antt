@@ -1,6 +1,7 @@
 -- What a turn, and so many turns, leave ahead of a replay.
 use Rattle.std.proofs.Common.{◌≡◌, ◌⊎◌, inl, inr, ℕ, zero, suc, ◌+◌, ◌*◌, ◌≤◌, List, [], ◌∷◌, length, drop, None, refl, sym, ap, ◌∙◌, arith}
 use Rattle.lib_calls.specs.declared.entry.Entry.{Entry}
+use Rattle.call_log.specs.Limits.{least_entry}
 use Rattle.guest_process.specs.Replay.{Verdict, Diverged, left_over}
 use Rattle.group_order.specs.Order.{first_clock}
 use Rattle.proc_replay.specs.Course.{AreTurns, Tells, ahead, turns}
@@ -12,7 +13,7 @@ record Made (r : Replaying) : Type 0 where
   pub entry : Entry
   pub makes : turn r ≡ Makes entry
   pub first : ahead r ≡ entry ∷ ahead (after r)
-  pub shorter : length (after r).left + 24 ≤ length r.left
+  pub shorter : length (after r).left.bytes + least_entry ≤ length r.left.bytes
 
 -- none is ahead, and the replay stands
 record Stood (r : Replaying) : Type 0 where
@@ -32,14 +33,14 @@ module _ (course : AreTurns) where
   turn_cases : (r : Replaying) → Made r ⊎ Stood r
   turn_cases r = by_move (turn r) refl
     where
-      stood : (m : Move) (v : Verdict) → turn r ≡ m → Tells m r.left v → clock_in m ≡ None → Stood r
+      stood : (m : Move) (v : Verdict) → turn r ≡ m → Tells m r.left.bytes v → clock_in m ≡ None → Stood r
       stood m v is tells no_clock =
-          let here : Tells (turn r) r.left v = rw is tells in
+          let here : Tells (turn r) r.left.bytes v = rw is tells in
           record { none = (course r).none v here; stays = (course r).stays v here; headless = ap clock_in is ∙ no_clock }
 
       by_move : (m : Move) → turn r ≡ m → Made r ⊎ Stood r
       by_move (Makes e) is = inl (record { entry = e; makes = is; first = (course r).makes e is; shorter = (course r).takes e is })
-      by_move Ends is = inr (stood Ends (left_over r.left) is refl refl)
+      by_move Ends is = inr (stood Ends (left_over r.left.bytes) is refl refl)
       by_move (Diverges at why) is = inr (stood (Diverges at why) (Diverged at why) is refl refl)
 
   pub ahead_turns : (n : ℕ) (r : Replaying) → ahead (turns r n) ≡ drop n (ahead r)
@@ -56,7 +57,7 @@ module _ (course : AreTurns) where
   ]
 
   -- each event takes bytes of the log
-  ahead_room_in : (n : ℕ) (r : Replaying) → length r.left ≤ n → 24 * length (ahead r) ≤ length r.left
+  ahead_room_in : (n : ℕ) (r : Replaying) → length r.left.bytes ≤ n → least_entry * length (ahead r) ≤ length r.left.bytes
   ahead_room_in zero r few = elim (turn_cases r) [
     | inl m ↦ absurd (omega (arith, m.shorter, few))
     | inr s ↦ omega (arith, ap length s.none)
@@ -66,8 +67,8 @@ module _ (course : AreTurns) where
     | inr s ↦ omega (arith, ap length s.none)
   ]
 
-  pub ahead_room : (r : Replaying) → 24 * length (ahead r) ≤ length r.left
-  ahead_room r = ahead_room_in (length r.left) r (omega arith)
+  pub ahead_room : (r : Replaying) → least_entry * length (ahead r) ≤ length r.left.bytes
+  ahead_room r = ahead_room_in (length r.left.bytes) r (omega arith)
 
   -- where something is ahead, the turn makes the first of it
   pub made_first : (r : Replaying) (e : Entry) (es : List Entry) → ahead r ≡ e ∷ es → turn r ≡ Makes e

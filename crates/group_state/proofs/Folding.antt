@@ -31,7 +31,7 @@ comes_at S T es rest behind v fresh comes =
       verdict = sym (ap (λ (o : Outcome). o.verdict) comes) ∙ ap (λ n. verdict_of (record (reach S es) { accepted = n }) rest) all;
     }
 
-pub comes : AreTurns → (first last : Replaying) (v : Verdict) → first.state.events ≡ 0 → EndsAt first last → Tells (turn last) last.left v
+pub comes : AreTurns → (first last : Replaying) (v : Verdict) → first.state.events ≡ 0 → EndsAt first last → Tells (turn last) last.left.bytes v
     → Comes first.state last.state (entries_of first.left) (rest_of first.left) v
 comes turns first last v fresh ends tells =
     comes_at first.state last.state (entries_of first.left) (rest_of first.left) (rest_of last.left) v fresh (sym ends.same ∙ (turns last).comes v tells)
@@ -41,7 +41,7 @@ same_line : (n m : List ℕ) (a b : ℕ) (c d : End) (e f : Said) → n ≡ m �
 same_line n m a b c d e f p q r s = rw (p, q, r, s) refl
 
 pub line_so : AreTurns → (first last : Replaying) (v : Verdict) (name : List ℕ) (count : ℕ) (end : End) (said : Said) → first.state.events ≡ 0 → EndsAt first last
-    → Tells (turn last) last.left v → name ≡ last.head.name → count ≡ last.state.events → end ≡ last.state.end → said ≡ said_of v
+    → Tells (turn last) last.left.bytes v → name ≡ last.head.name → count ≡ last.state.events → end ≡ last.state.end → said ≡ said_of v
     → ◌≡◌ {A = ReportLine} (record { name = name; events = count; end = end; verdict = said }) (report_line first)
 line_so turns first last v name count end said fresh ends tells is_name is_count is_end is_said =
     let c = comes turns first last v fresh ends tells in

@@ -1,11 +1,12 @@
 -- The replays at a position have the events ahead that the order has behind it.
-use Rattle.std.proofs.Common.{◌≡◌, ℕ, zero, suc, ◌+◌, ◌*◌, ◌≤◌, ◌<◌, List, [], ◌∷◌, ◌++◌, map, length, length-append, take, drop, get_or, set, Some, None, refl, sym, ap, subst, ◌∙◌, add-one, arith, mul-le-mul_right}
+use Rattle.std.proofs.Common.{◌≡◌, ℕ, zero, suc, ◌+◌, ◌*◌, ◌≤◌, ◌<◌, ◌^◌, List, [], ◌∷◌, ◌++◌, map, length, length-append, take, drop, get_or, set, Some, None, refl, sym, ap, subst, ◌∙◌, add-one, arith, mul-le-mul_right}
 use Rattle.std.specs.Prelude.{All, option_map, slice_get}
 use Rattle.std.specs.List.{AllByRecursion}
 use Rattle.std.proofs.lemmas.List.{length-map}
 use Rattle.std.proofs.lemmas.List.Elements.{recursion_from_All}
 use Rattle.std.proofs.lemmas.Option.{slice_get-map, slice_get_past, slice_get_read}
 use Rattle.lib_calls.specs.declared.entry.Entry.{Entry}
+use Rattle.call_log.specs.Limits.{least_entry, most_log}
 use Rattle.guest_process.specs.Fits.{StateFits}
 use Rattle.guest_process.specs.OneEvent.{IsKept, Rises as AreRising}
 use Rattle.guest_process.specs.State.{State}
@@ -124,16 +125,16 @@ module _ (merging : AreMerged Entry) (rising : AreRising) (kept : IsKept) where
 -- ---- how many events there can be
 
 module _ (course : AreTurns) where
-  few_from : (most i : ℕ) (rs : List Replaying) → AllByRecursion (λ (r : Replaying). length r.left ≤ most) rs → 24 * length (events_from i (map ahead rs)) ≤ length rs * most
+  few_from : (most i : ℕ) (rs : List Replaying) → AllByRecursion (λ (r : Replaying). length r.left.bytes ≤ most) rs → least_entry * length (events_from i (map ahead rs)) ≤ length rs * most
   few_from most i [] small = omega arith
   few_from most i (r ∷ rs) small =
       omega (arith, small.0, ahead_room course r, few_from most (suc i) rs small.1, length-append (map (node_event i) (ahead r)) (events_from (suc i) (map ahead rs)), length-map (ahead r) (node_event i))
 
-  -- logs of at most so many bytes have fewer events
-  pub few_events : (most : ℕ) (rs : List Replaying) → All (λ (r : Replaying). length r.left < most) rs → length rs ≤ 16 → 0 < most → length (events rs) < most
-  few_events most rs small few room =
-      let less = recursion_from_All (λ (r : Replaying). length r.left ≤ most) rs (λ k d l. omega (arith, small k d l)) in
-      omega (arith, length_sort (events_from 0 (map ahead rs)), few_from most 0 rs less, mul-le-mul_right most few, room)
+  -- logs within their limit have fewer events than a number of 64 bits can count
+  pub few_events : (rs : List Replaying) → All (λ (r : Replaying). length r.left.bytes ≤ most_log) rs → length rs ≤ 16 → length (events rs) < 2 ^ 64
+  few_events rs small few =
+      let within = recursion_from_All (λ (r : Replaying). length r.left.bytes ≤ most_log) rs small in
+      omega (arith, length_sort (events_from 0 (map ahead rs)), few_from most_log 0 rs within, mul-le-mul_right most_log few)
 
 -- ---- the process of one node
 

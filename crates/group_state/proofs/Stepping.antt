@@ -5,7 +5,7 @@ use Rattle.std.proofs.lemmas.List.{map-set}
 use Rattle.std.proofs.lemmas.Option.{slice_get-map}
 use Rattle.lib_calls.specs.declared.entry.Entry.{Entry}
 use Rattle.call_log.specs.Laws.{FindsEntries}
-use Rattle.call_log.specs.Log.{entry_at}
+use Rattle.call_log.specs.Log.{Unread, entry_at}
 use Rattle.guest_process.specs.declared.divergence.Divergence.{Divergence}
 use Rattle.guest_process.specs.Legal.{reason}
 use Rattle.guest_process.specs.Next.{next}
@@ -24,7 +24,7 @@ use Rattle.group_state.proofs.Standing.{both, found, parts_more}
 
 -- the replay's next entry is legal, and its event is made
 record IsMade (r : Replaying) (e : Entry) : Type 0 where
-  pub behind : List ℕ
+  pub behind : Unread
   pub found : entry_at r.left ≡ Some (e, behind)
   pub legal : reason r.state e ≡ None
   pub goes : (after r).state ≡ next r.state e
@@ -33,7 +33,7 @@ record IsMade (r : Replaying) (e : Entry) : Type 0 where
 made : (r : Replaying) (e : Entry) → turn r ≡ Makes e → IsMade r e
 made r e makes = by_entry (entry_at r.left) refl
   where
-    by_reason : (f : Entry) (behind : List ℕ) → entry_at r.left ≡ Some (f, behind) → (o : Option Divergence) → reason r.state f ≡ o → IsMade r e
+    by_reason : (f : Entry) (behind : Unread) → entry_at r.left ≡ Some (f, behind) → (o : Option Divergence) → reason r.state f ≡ o → IsMade r e
     by_reason f behind is None legal =
         let told : Makes f ≡ Makes e = sym (ap (turn_at r.state) is ∙ ap (move_by r.state f) legal) ∙ makes in
         let same : f ≡ e = cc in
@@ -41,7 +41,7 @@ made r e makes = by_entry (entry_at r.left) refl
     by_reason f behind is (Some why) differs =
         let told : move_by r.state f (Some why) ≡ Makes e = sym (ap (turn_at r.state) is ∙ ap (move_by r.state f) differs) ∙ makes in absurd (cc)
 
-    by_entry : (o : Option (Entry × List ℕ)) → entry_at r.left ≡ o → IsMade r e
+    by_entry : (o : Option (Entry × Unread)) → entry_at r.left ≡ o → IsMade r e
     by_entry None none = let told : turn_at r.state None ≡ Makes e = sym (ap (turn_at r.state) none) ∙ makes in absurd (cc)
     by_entry (Some x) is = by_reason x.0 x.1 is (reason r.state x.0) refl
 

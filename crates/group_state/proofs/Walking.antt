@@ -3,7 +3,7 @@ use Rattle.std.proofs.Common.{◌≡◌, ℕ, List, ◌∷◌, ◌++◌, append_
 use Rattle.lib_calls.specs.declared.entry.Entry.{Entry}
 use Rattle.lib_calls.specs.Traffic.{printed, prints}
 use Rattle.call_log.specs.Head.{Head}
-use Rattle.call_log.specs.Log.{entry_at}
+use Rattle.call_log.specs.Log.{Unread, entry_at}
 use Rattle.guest_process.specs.declared.divergence.Divergence.{Divergence}
 use Rattle.guest_process.specs.Legal.{reason}
 use Rattle.guest_process.specs.Replay.{Verdict}
@@ -15,11 +15,11 @@ use Rattle.group_state.specs.Tallying.{AreNew, HasTallyRoom, HasTallyRoomFor, Is
 
 -- ---- a turn keeps the head of the log
 
-moved_head : (r : Replaying) (e : Entry) (behind : List ℕ) (why : Option Divergence) → (moved r e behind why).head ≡ r.head
+moved_head : (r : Replaying) (e : Entry) (behind : Unread) (why : Option Divergence) → (moved r e behind why).head ≡ r.head
 moved_head r e behind None = refl
 moved_head r e behind (Some why) = refl
 
-after_head : (r : Replaying) (next : Option (Entry × List ℕ)) → (after_at r next).head ≡ r.head
+after_head : (r : Replaying) (next : Option (Entry × Unread)) → (after_at r next).head ≡ r.head
 after_head r None = refl
 after_head r (Some x) = moved_head r x.0 x.1 (reason r.state x.0)
 
@@ -36,7 +36,7 @@ follows_more turns first r more f moves =
     subst (Follows first) (sym moves) (record { same = (turns r).same ∙ f.same; head = after_head r (entry_at r.left) ∙ f.head })
 
 -- where a turn tells a verdict, it is at its end
-pub ends : AreTurns → (first r last : Replaying) (v : Verdict) → Follows first r → last ≡ after r → Tells (turn r) r.left v → EndsAt first last
+pub ends : AreTurns → (first r last : Replaying) (v : Verdict) → Follows first r → last ≡ after r → Tells (turn r) r.left.bytes v → EndsAt first last
 ends turns first r last v f moves tells =
     subst (EndsAt first) (sym (moves ∙ (turns r).stays v tells)) (record { same = f.same; head = f.head; verdict = v; tells = tells })
 
@@ -87,7 +87,7 @@ tallies_more turns p t0 t new first r more e k makes moves is =
       room = was.1;
     }))
 
-pub tallies_all : AreTurns → (p : ℕ) (t0 t : Tallying) (first r : Replaying) (v : Verdict) → Tallies p t0 t first r → Tells (turn r) r.left v → t ≡ with_all_accepted t0 (accepted_in first)
+pub tallies_all : AreTurns → (p : ℕ) (t0 t : Tallying) (first r : Replaying) (v : Verdict) → Tallies p t0 t first r → Tells (turn r) r.left.bytes v → t ≡ with_all_accepted t0 (accepted_in first)
 tallies_all turns p t0 t first r v k tells =
     ap (λ (es : List Entry). with_all_accepted t (of_process r.head.process es)) (sym ((turns r).none v tells)) ∙ k.tallied
 
@@ -109,6 +109,6 @@ prints_more turns before now new first r more e k makes moves is =
       printed = append_assoc now (printed e) (prints (ahead (after r))) ∙ ap (λ (es : List Entry). now ++ prints es) (sym ((turns r).makes e makes)) ∙ k.printed;
     }))
 
-pub prints_all : AreTurns → (before now : List ℕ) (first r : Replaying) (v : Verdict) → Prints before now first r → Tells (turn r) r.left v → now ≡ before ++ prints (ahead first)
+pub prints_all : AreTurns → (before now : List ℕ) (first r : Replaying) (v : Verdict) → Prints before now first r → Tells (turn r) r.left.bytes v → now ≡ before ++ prints (ahead first)
 prints_all turns before now first r v k tells =
     sym (append-nil now) ∙ ap (λ (es : List Entry). now ++ prints es) (sym ((turns r).none v tells)) ∙ k.printed

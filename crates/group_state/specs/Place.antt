@@ -34,7 +34,7 @@ pub record AreParts (parts : List Replaying) : Type 0 where
   pub fresh : All (λ r. r.state.events ≡ 0) parts
   pub one : All (λ r. r.head.count ≡ group_count parts) parts
   pub ascends : Ascends parts
-  pub within : All (λ r. length r.left ≤ most_log) parts
+  pub within : All (λ r. length r.left.bytes ≤ most_log) parts
 
 -- each process is in the ranges of its module
 abbrev pub PartsFit : List Replaying → Type 0

@@ -49,4 +49,4 @@ pub record EndsAt (first last : Replaying) : Type 0 where
   pub same : outcome last ≡ outcome first
   pub head : last.head ≡ first.head
   pub verdict : Verdict
-  pub tells : Tells (turn last) last.left verdict
+  pub tells : Tells (turn last) last.left.bytes verdict

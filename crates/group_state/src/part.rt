@@ -70,8 +70,8 @@ fn left_over(rest: &[u8]) -> Verdict
 
 /// The verdict on a log at whose end a replay stands.
 pub(crate) fn verdict(part: &Replayer<'_, '_>) -> Verdict
-    requires { (v : VerdictOf) × Tells (turn part.now) part.now.left v }
-    ensures { (v : VerdictOf) → Tells (turn part.now) part.now.left v → result ≡ said_of v }
+    requires { (v : VerdictOf) × Tells (turn part.now) part.now.left.bytes v }
+    ensures { (v : VerdictOf) → Tells (turn part.now) part.now.left.bytes v → result ≡ said_of v }
 {
     match part.peek() {
         Turn::Event(_) => unreachable!(),

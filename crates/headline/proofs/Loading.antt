@@ -10,7 +10,7 @@ use Rattle.fri_outside.specs.Outside.{Folder}
 use Rattle.wasm_types.specs.Modules.{Module}
 use Rattle.call_log.specs.Head.{Head}
 use Rattle.call_log.specs.Limits.{most_log}
-use Rattle.call_log.specs.Log.{head_at}
+use Rattle.call_log.specs.Log.{Unread, head_at}
 use Rattle.guest_process.specs.Start.{start}
 use Rattle.guest_process.specs.State.{State}
 use Rattle.proc_replay.specs.Replaying.{Replaying}
@@ -19,7 +19,7 @@ use Rattle.command_run.specs.declared.refusal.Reason.TheVariants as reason
 use Rattle.command_run.specs.Inputs.{module_in, state_or_bad_segment}
 use Rattle.command_run.specs.Laws.{ReadsModules}
 use Rattle.command_run.specs.Outcome.{Stop, and_then}
-use Rattle.log_pairs.specs.Logs.{log_in, log_or_bad_head}
+use Rattle.log_files.specs.Logs.{log_in, log_or_bad_head}
 use Rattle.log_pairs.specs.Pairs.{Loaded, Pair, clash, has_name, has_process, is_other_group, loaded_pair, loaded_pairs, replay_of_log, replays_of, unless_clash}
 use Rattle.log_pairs.specs.Valid.{GoTogether}
 
@@ -76,7 +76,7 @@ loads : (folder : Folder) (earlier : List Loaded) (pair : Pair) (r : Replaying) 
 loads folder earlier pair r s goes =
     ap (λ (m : Result Module Stop). and_then m (λ m. and_then (log_in folder pair.log_name) (λ log.
     unless_clash pair.log_name (record { module_name = pair.module_name; «module» = m; head = log.0; left = log.1 }) (clash earlier log.0)))) s.reads
-    ∙ ap (λ (log : Result (Head × List ℕ) Stop). and_then log (λ log.
+    ∙ ap (λ (log : Result (Head × Unread) Stop). and_then log (λ log.
     unless_clash pair.log_name (record { module_name = pair.module_name; «module» = s.«module»; head = log.0; left = log.1 }) (clash earlier log.0))) s.log
     ∙ ap (unless_clash pair.log_name (loaded_of s)) (clashes_not earlier r.head goes)
 
@@ -139,7 +139,7 @@ opened folder pairs rs stand together = opened_from folder [] pairs rs stand tog
 
 -- ---- a log that stands there
 
-pub log_stands : ReadsModules → (folder : Folder) (name bytes : List ℕ) (head : Head) (left : List ℕ) → get folder name ≡ Some bytes → length bytes ≤ most_log → head_at bytes ≡ Some (head, left)
+pub log_stands : ReadsModules → (folder : Folder) (name bytes : List ℕ) (head : Head) (left : Unread) → get folder name ≡ Some bytes → length bytes ≤ most_log → head_at bytes ≡ Some (head, left)
     → log_in folder name ≡ Ok (head, left)
 log_stands reads folder name bytes head left held within is =
     ap (λ (r : Result (List ℕ) Stop). and_then r (λ bytes. log_or_bad_head name (head_at bytes))) (reads.files folder name most_log bytes (record { held = held; within = within }))

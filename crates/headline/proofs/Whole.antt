@@ -11,6 +11,7 @@ use Rattle.lib_calls.specs.Traffic.{is_taken}
 use Rattle.lib_calls.specs.declared.entry.Entry.{Entry}
 use Rattle.call_log.specs.Entry.{encodings}
 use Rattle.call_log.specs.Head.{head_bytes}
+use Rattle.call_log.specs.declared.version.Version.TheVariants.{Two}
 use Rattle.call_log.specs.Limits.{most_log}
 use Rattle.call_log.specs.Log.{head_at}
 use Rattle.guest_process.specs.State.{State}
@@ -82,7 +83,7 @@ tells_whole group steps p cut t none =
 -- what the log is after other steps, among which the process had no event
 tells_after : (group : Group) (early steps : List Step) (p : ℕ) (cut : List ℕ) → TellsEvents group steps p → TellsBefore group early p cut → entries early p ≡ entries steps p → TellsBefore group steps p cut
 tells_after group early steps p cut whole part same =
-    let bytes : log_of group early p ++ cut ≡ log_of group steps p ++ cut = ap (λ (es : List Entry). (head_bytes (head_of_log group p) ++ encodings es) ++ cut) same in
+    let bytes : log_of group early p ++ cut ≡ log_of group steps p ++ cut = ap (λ (es : List Entry). (head_bytes (head_of_log group p) ++ encodings Two 0 es) ++ cut) same in
     record {
       first = whole.first;
       begun = whole.begun;

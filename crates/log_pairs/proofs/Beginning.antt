@@ -4,6 +4,7 @@ use Rattle.std.specs.Prelude.{All}
 use Rattle.std.specs.List.{AllByRecursion}
 use Rattle.call_log.specs.Head.{Head, IsHead}
 use Rattle.call_log.specs.Limits.{most_log}
+use Rattle.call_log.specs.Log.{Unread}
 use Rattle.guest_process.specs.State.{State}
 use Rattle.group_state.specs.Place.{AreParts, group_count}
 use Rattle.proc_replay.specs.Replaying.{Replaying}
@@ -25,7 +26,7 @@ record IsOf (x : LoadedFiles) (r : Replaying) : Type 0 where
   count : x.count ≡ r.head.count
   process : x.process ≡ r.head.process
   head : IsHead r.head
-  within : length r.left ≤ most_log
+  within : length r.left.bytes ≤ most_log
 
 abbrev AreOf : List LoadedFiles → List Replaying → Type 0
 AreOf [] [] = Unit {0}
@@ -44,7 +45,7 @@ is_of x l r one begun =
       head_in (Ok r) = r.head
       head_in (Err stop) = l.head
 
-      left_in : Result Replaying Stop → List ℕ
+      left_in : Result Replaying Stop → Unread
       left_in (Ok r) = r.left
       left_in (Err stop) = l.left
 
@@ -55,7 +56,7 @@ is_of x l r one begun =
             count = one.count ∙ ap (λ (h : Head). h.count) same;
             process = one.process ∙ ap (λ (h : Head). h.process) same;
             head = subst IsHead same one.head;
-            within = subst (λ (bytes : List ℕ). length bytes ≤ most_log) (ap left_in is) one.within;
+            within = subst (λ (left : Unread). length left.bytes ≤ most_log) (ap left_in is) one.within;
           }
 
 are_of : (xs : List LoadedFiles) (ls : List Loaded) (rs : List Replaying) → AreLoaded xs ls → replays_of ls ≡ Ok rs → AreOf xs rs
@@ -122,7 +123,7 @@ pub makes_group : (xs : List LoadedFiles) (ls : List Loaded) (rs : List Replayin
 makes_group xs ls rs all apart begun fresh =
     let are = are_of xs ls rs all begun in
     let heads = all_of (λ r. IsHead r.head) (λ x r one. one.head) xs rs are in
-    let logs = all_of (λ r. length r.left ≤ most_log) (λ x r one. one.within) xs rs are in
+    let logs = all_of (λ r. length r.left.bytes ≤ most_log) (λ x r one. one.within) xs rs are in
     let sorted = sort_replays [] rs in
     let ascends = all_ascend [] rs tt (none_new rs) (distinct_of xs rs are apart) in
     let below = all_placed_keeps (λ r. r.head.process < 16) [] rs tt (all_so (λ r. IsHead r.head) (λ r. r.head.process < 16) rs (λ r h. omega (arith, h.few, h.within)) heads) in
@@ -133,7 +134,7 @@ makes_group xs ls rs all apart begun fresh =
         fresh = each (λ r. r.state.events ≡ 0) sorted (all_placed_keeps (λ r. r.state.events ≡ 0) [] rs tt fresh);
         one = each (λ r. r.head.count ≡ group_count sorted) sorted (first_counts (group_count rs) sorted (all_placed_keeps (λ r. r.head.count ≡ group_count rs) [] rs tt (counts_of xs rs are apart)));
         ascends = ascends;
-        within = each (λ r. length r.left ≤ most_log) sorted (all_placed_keeps (λ r. length r.left ≤ most_log) [] rs tt logs);
+        within = each (λ r. length r.left.bytes ≤ most_log) sorted (all_placed_keeps (λ r. length r.left.bytes ≤ most_log) [] rs tt logs);
       };
       heads = each (λ r. IsHead r.head) sorted (all_placed_keeps (λ r. IsHead r.head) [] rs tt heads);
     }

@@ -4,10 +4,8 @@ use Rattle.std.specs.Prelude.{AllPairs}
 use Rattle.std.proofs.lemmas.List.{map-append}
 use Rattle.fri_outside.specs.Outside.{Folder}
 use Rattle.wasm_types.specs.Modules.{Module}
-use Rattle.call_log.specs.Head.{Head, head_bytes}
-use Rattle.call_log.specs.Laws.{ExactLogs}
-use Rattle.call_log.specs.Limits.{most_log}
-use Rattle.call_log.specs.Log.{head_at}
+use Rattle.call_log.specs.Head.{Head}
+use Rattle.call_log.specs.Log.{Unread, behind}
 use Rattle.guest_process.specs.State.{State}
 use Rattle.proc_replay.specs.Replaying.{Replaying}
 use Rattle.command_run.specs.Inputs.{first_state_of, state_or_bad_segment}
@@ -15,31 +13,30 @@ use Rattle.command_run.specs.Laws.{ReadsModules}
 use Rattle.command_run.specs.Outcome.{Stop, and_then}
 use Rattle.command_run.specs.Valid.{ProcessBegins}
 use Rattle.log_pairs.specs.Laws.{OpensGroups}
-use Rattle.log_pairs.specs.Logs.{log_in, log_or_bad_head}
+use Rattle.log_files.specs.Laws.{FindsLogs}
 use Rattle.log_pairs.specs.Pairs.{Loaded, Pair, loaded_pairs, replay_of_log, replays_of, replays_of_pairs, sort_replays}
-use Rattle.log_pairs.specs.Valid.{ArePairs, GoTogether, IsGroup, IsLogFile, IsPairOfFiles, heads_in}
+use Rattle.log_pairs.specs.Valid.{ArePairs, GoTogether, IsGroup, IsPairOfFiles, heads_in}
 use Rattle.log_pairs.proofs.Loading.{pair_stands, read_as}
 use Rattle.log_pairs.proofs.Together.{no_clash}
 
 begins_at : (name : List ℕ) (m : Module) (who count : ℕ) (h : ProcessBegins m who count) → first_state_of name m who count ≡ Ok h.0
 begins_at name m who count h = ap (state_or_bad_segment name) h.1
 
-module _ (modules : ReadsModules) (logs : ExactLogs) where
-  log_stands : (folder : Folder) (name : List ℕ) (h : IsLogFile folder name) → log_in folder name ≡ Ok (h.head, h.left)
-  log_stands folder name h =
-      ap (λ (r : Result (List ℕ) Stop). and_then r (λ bytes. log_or_bad_head name (head_at bytes))) (modules.files folder name most_log (head_bytes h.head ++ h.left) h.stands)
-      ∙ ap (log_or_bad_head name) ((logs.heads (head_bytes h.head ++ h.left) h.head h.left).1 (h.in_range, refl))
+module _ (modules : ReadsModules) (finds : FindsLogs) where
+  -- what the log of a pair has after its head
+  abbrev unread : {folder : Folder} {pair : Pair} → IsPairOfFiles folder pair → Unread
+  unread file = behind file.log.head file.log.left
 
   -- what the files of a pair hold, and its replay
   abbrev held : (folder : Folder) (pair : Pair) → IsPairOfFiles folder pair → Loaded
-  held folder pair file = read_as pair file.«module».«module» (file.log.head, file.log.left)
+  held folder pair file = read_as pair file.«module».«module» (file.log.head, unread file)
 
   abbrev held_in : (folder : Folder) (pairs : List Pair) → ArePairs folder pairs → List Loaded
   held_in folder [] files = []
   held_in folder (pair ∷ pairs) files = held folder pair files.0 ∷ held_in folder pairs files.1
 
   abbrev replay_in : (folder : Folder) (pair : Pair) → IsPairOfFiles folder pair → Replaying
-  replay_in folder pair file = record { head = file.log.head; state = file.begins.0; left = file.log.left }
+  replay_in folder pair file = record { head = file.log.head; state = file.begins.0; left = unread file }
 
   abbrev replays_in : (folder : Folder) (pairs : List Pair) → ArePairs folder pairs → List Replaying
   replays_in folder [] files = []
@@ -54,7 +51,7 @@ module _ (modules : ReadsModules) (logs : ExactLogs) where
       let l = held folder pair file in
       let heads = heads_in folder pairs files.1 in
       let none = no_clash earlier file.log.head heads together in
-      let one = pair_stands folder earlier pair file.«module».«module» (file.log.head, file.log.left) (modules.modules folder pair.module_name file.«module») (log_stands folder pair.log_name file.log) none in
+      let one = pair_stands folder earlier pair file.«module».«module» (file.log.head, unread file) (modules.modules folder pair.module_name file.«module») (finds folder pair.log_name file.log) none in
       let same : map (λ l. l.head) earlier ++ file.log.head ∷ heads ≡ map (λ l. l.head) (earlier ++ l ∷ []) ++ heads =
       sym (append_assoc (map (λ l. l.head) earlier) (file.log.head ∷ []) heads) ∙ ap (λ (hs : List Head). hs ++ heads) (sym (map-append (λ (l : Loaded). l.head) earlier (l ∷ []))) in
       ap (λ (r : Result Loaded Stop). and_then r (λ l. loaded_pairs folder (earlier ++ l ∷ []) pairs)) one
@@ -63,7 +60,7 @@ module _ (modules : ReadsModules) (logs : ExactLogs) where
 
   replay_begins : (folder : Folder) (pair : Pair) (file : IsPairOfFiles folder pair) → replay_of_log (held folder pair file) ≡ Ok (replay_in folder pair file)
   replay_begins folder pair file =
-      ap (λ (r : Result State Stop). and_then r (λ begun. Ok (record { head = file.log.head; state = begun; left = file.log.left })))
+      ap (λ (r : Result State Stop). and_then r (λ begun. Ok (record { head = file.log.head; state = begun; left = unread file })))
       (begins_at pair.module_name file.«module».«module» file.log.head.process file.log.head.count file.begins)
 
   replays_begin : (folder : Folder) (pairs : List Pair) (files : ArePairs folder pairs) → replays_of (held_in folder pairs files) ≡ Ok (replays_in folder pairs files)
@@ -78,5 +75,5 @@ module _ (modules : ReadsModules) (logs : ExactLogs) where
       ap (λ (r : Result (List Loaded) Stop). and_then r (λ ls. and_then (replays_of ls) (λ rs. Ok (sort_replays [] rs)))) (pairs_stand folder [] pairs h.files h.together)
       ∙ ap (λ (r : Result (List Replaying) Stop). and_then r (λ rs. Ok (sort_replays [] rs))) (replays_begin folder pairs h.files)
 
-pub groups_open : ReadsModules → ExactLogs → OpensGroups
-groups_open modules logs folder pairs h = (sort_replays [] (replays_in modules logs folder pairs h.files), group_opens modules logs pairs folder h)
+pub groups_open : ReadsModules → FindsLogs → OpensGroups
+groups_open modules finds folder pairs h = (sort_replays [] (replays_in modules finds folder pairs h.files), group_opens modules finds pairs folder h)

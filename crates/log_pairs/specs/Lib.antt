@@ -1,4 +1,3 @@
-pub mod Logs
 pub mod Pairs
 pub mod Seen
 pub mod Valid

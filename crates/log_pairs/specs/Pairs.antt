@@ -4,11 +4,12 @@ use Rattle.std.specs.List.{list_any}
 use Rattle.fri_outside.specs.Outside.{Folder, WhenTold}
 use Rattle.wasm_types.specs.Modules.{Module}
 use Rattle.call_log.specs.Head.{Head}
+use Rattle.call_log.specs.Log.{Unread}
 use Rattle.proc_replay.specs.Replaying.{Replaying}
 use Rattle.command_run.specs.declared.refusal.Reason.{Reason}
 use Rattle.command_run.specs.declared.refusal.Reason.TheVariants as reason
 use Rattle.command_run.specs.Inputs.{first_state_of, module_in}
-use Rattle.log_pairs.specs.Logs.{log_in}
+use Rattle.log_files.specs.Logs.{log_in}
 use Rattle.command_run.specs.declared.refusal.Refusal.{Refusal}
 use Rattle.command_run.specs.Call.{StopsAs}
 use Rattle.command_run.specs.Outcome.{Stop, and_then, refuses_at_once}
@@ -23,7 +24,7 @@ pub record Loaded : Type 0 where
   pub module_name : List ℕ
   pub «module» : Module
   pub head : Head
-  pub left : List ℕ
+  pub left : Unread
 
 -- ---- a log against the pairs before it
 

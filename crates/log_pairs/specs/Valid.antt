@@ -1,17 +1,10 @@
 -- Modules and logs that are those of one group.
-use Rattle.std.specs.Prelude.{◌≡◌, ◌≢◌, ℕ, AllPairs, List, [], ◌∷◌, ◌++◌}
+use Rattle.std.specs.Prelude.{◌≡◌, ◌≢◌, ℕ, AllPairs, List, [], ◌∷◌}
 use Rattle.fri_outside.specs.Outside.{Folder}
-use Rattle.call_log.specs.Head.{Head, IsHead, head_bytes}
-use Rattle.call_log.specs.Limits.{most_log}
-use Rattle.command_run.specs.Valid.{IsFileWithin, IsModuleFile, ProcessBegins}
+use Rattle.call_log.specs.Head.{Head}
+use Rattle.command_run.specs.Valid.{IsModuleFile, ProcessBegins}
+use Rattle.log_files.specs.Valid.{IsLogFile}
 use Rattle.log_pairs.specs.Pairs.{Pair}
-
--- a file is a log, whatever is behind its head
-pub record IsLogFile (folder : Folder) (name : List ℕ) : Type 0 where
-  pub head : Head
-  pub in_range : IsHead head
-  pub left : List ℕ
-  pub stands : IsFileWithin folder name most_log (head_bytes head ++ left)
 
 -- a module and a log of a process that begins
 pub record IsPairOfFiles (folder : Folder) (pair : Pair) : Type 0 where

@@ -7,7 +7,6 @@
 #![tactic(auto)]
 
 mod laws;
-mod logs;
 mod pairs;
 
 pub use laws::opens_groups;

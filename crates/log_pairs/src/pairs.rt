@@ -8,11 +8,11 @@ ghost use Rattle.command_run.specs.Call.{CountsFaults, StopsAs, Raises, reads_af
 ghost use Rattle.log_pairs.specs.Pairs.{Loaded as LoadedOf, NoneOpened, Pair as PairOf, WasOpened, clash, has_name, has_process, insert_replay, is_other_group, loaded_pair, replay_of_log};
 ghost use Rattle.log_pairs.specs.Seen.{AreLoaded, AreOneGroup, IsLoaded, WereLoaded, pair_of};
 
-use crate::logs::{begin_log, take_log};
 use call_log::{LogHead, LogView};
 use command_run::{Reason, Refusal, begin_process, take_module};
 use fri_bytes::Bytes;
 use fri_outside::Files;
+use log_files::{begin_log, take_log};
 use proc_replay::Replayer;
 use std::alloc::{AllocError, Global};
 use wasm_types::ValidModule;

@@ -2,7 +2,7 @@
 ghost use Rattle.std.specs.Prelude.{◌^◌, ◌<◌, length};
 ghost use Rattle.lib_calls.specs.Entry.{IsShaped, entry_of};
 
-use call_log::{LogView, entry_length, put_entry, put_head};
+use call_log::{LogHead, LogView, Version, entry_length, put_entry, put_head, rewrite};
 use lamport_tag::Tag;
 use lib_calls::{Call, EntryView};
 use std::alloc::{AllocError, Global};
@@ -13,6 +13,12 @@ const LOG: &[u8; 98] = b"LLOG\x01\0\0\0\x01\0\0\0\0\0\0\0\x01a\
       \x14\0\0\0\x01\0\0\0\0\0\0\0\0\0\0\0\0\0\0\0\0\0\0\0\
       \x14\0\0\0\x02\0\0\0\0\0\0\0\0\0\x04\0\x05\0\0\0\0\0\0\0\
       \x1c\0\0\0\x03\0\0\0\0\0\0\0\0\0\x02\0\x05\0\0\0\0\0\0\0\0\0\0\0\0\0\0\0";
+
+// The same log in version 2.
+const LOG_TWO: &[u8; 37] = b"LLOG\x02\0\0\0\x01\0\0\0\0\0\0\0\x01a\
+      \x05\x01\0\0\0\0\
+      \x05\x01\0\x04\0\x05\
+      \x06\x01\0\x02\0\x05\0";
 
 // The kind, the argument and the reply of each of its entries.
 const ENTRIES: &[(u8, u64, u64)] = &[(0, 0, 0), (4, 0, 5), (2, 5, 0)];
@@ -36,6 +42,17 @@ const UNTAGGED: &[u8] = b"\x31\0\0\0\x07\0\0\0\0\0\0\0\x02\0\x09\0\
 const SENT: &[u8] = b"\x34\0\0\0\x07\0\0\0\0\0\0\0\x02\0\x08\x05\
     \x01\0\0\0\0\0\0\0\x40\0\0\0\0\0\0\0\x04\0\0\0\0\0\0\0\0\0\0\0\0\0\0\0\
     \x04\0\0\0ping";
+
+// The same three behind an entry with the clock 6, in version 2.
+const TAGGED_TWO: &[u8] = b"\x0e\x01\x02\x09\0\x40\x08\x20\x02\x02hi\x01\x01\x06";
+
+const UNTAGGED_TWO: &[u8] = b"\x0a\x01\x02\x09\0\x40\x08\x20\0\0\0";
+
+const SENT_TWO: &[u8] = b"\x0d\x01\x02\x08\x05\x01\x40\x04\0\x04ping";
+
+// The second behind an entry with the clock 8, so that the difference is 2^64 - 1.
+const FALLING_TWO: &[u8] =
+    b"\x13\xff\xff\xff\xff\xff\xff\xff\xff\xff\x01\x02\x09\0\x40\x08\x20\0\0\0";
 
 // The log of a process that began, and behind it what would be the entry of a `yield` but for its kind, which is 18.
 const NO_KIND: &[u8; 66] = b"LLOG\x01\0\0\0\x01\0\0\0\0\0\0\0\x01a\
@@ -88,47 +105,92 @@ fn sent(outgoing: &[u8]) -> EntryView<'_>
     }
 }
 
-// Whether the entry is written as these bytes, behind what is there.
-fn is_written(alloc: Global, entry: &EntryView<'_>, bytes: &[u8]) -> Result<bool, AllocError>
+// Whether the entry is written as these bytes, behind what is there and an entry with the clock `last`.
+fn is_written(
+    alloc: Global,
+    version: Version,
+    last: u64,
+    entry: &EntryView<'_>,
+    bytes: &[u8],
+) -> Result<bool, AllocError>
     requires { IsShaped (entry_of entry.now) }
 {
     let mut out = Vec::new(alloc);
     out.push(b'x')?;
-    put_entry(&mut out, entry)?;
+    put_entry(&mut out, version, last, entry)?;
     let is_alike = match out.as_slice() {
         [b'x', written @ ..] => written == bytes,
         _ => false,
     };
-    Ok(is_alike && entry_length(entry) == bytes.len() as u64)
+    Ok(is_alike && entry_length(version, last, entry) == bytes.len() as u64)
 }
 
 #[test]
 fn entries_with_bytes_and_tags_are_written(rt: HostRuntime) -> Result<(), Fail> {
     let alloc = rt.alloc();
-    assert!(rt; is_written(alloc, &received(b"hi", TAG), TAGGED)?);
-    assert!(rt; is_written(alloc, &received(b"", None), UNTAGGED)?);
-    assert!(rt; is_written(alloc, &sent(b"ping"), SENT)?);
+    assert!(rt; is_written(alloc, Version::One, 6, &received(b"hi", TAG), TAGGED)?);
+    assert!(rt; is_written(alloc, Version::One, 6, &received(b"", None), UNTAGGED)?);
+    assert!(rt; is_written(alloc, Version::One, 6, &sent(b"ping"), SENT)?);
     Ok(())
 }
 
 #[test]
-fn a_log_is_read_and_written(rt: HostRuntime) -> Result<(), Fail> {
-    let mut log = LogView::begin(LOG)?;
-    let start = log.copy();
-    let mut out = Vec::new(rt.alloc());
-    put_head(&mut out, &log.head())?;
+fn they_are_written_in_version_2(rt: HostRuntime) -> Result<(), Fail> {
+    let alloc = rt.alloc();
+    assert!(rt; is_written(alloc, Version::Two, 6, &received(b"hi", TAG), TAGGED_TWO)?);
+    assert!(rt; is_written(alloc, Version::Two, 6, &received(b"", None), UNTAGGED_TWO)?);
+    assert!(rt; is_written(alloc, Version::Two, 6, &sent(b"ping"), SENT_TWO)?);
+    assert!(rt; is_written(alloc, Version::Two, 8, &received(b"", None), FALLING_TWO)?);
+    Ok(())
+}
+
+// What a log holds, written in this version.
+fn written_as(alloc: Global, bytes: &[u8], version: Version) -> Result<Vec<u8>, Fail> {
+    let mut log = LogView::begin(bytes)?;
+    let LogHead {
+        count,
+        process,
+        name,
+        ..
+    } = log.head();
+    let head = LogHead {
+        version,
+        count,
+        process,
+        name,
+    };
+    let mut out = Vec::new(alloc);
+    put_head(&mut out, &head)?;
+    let mut last = 0;
     for &(kind, a0, reply) in ENTRIES {
         let entry = log.next_entry().ok_or("an entry is missing")?;
-        assert_eq!(rt;
-            (entry.call.kind, entry.call.a0, entry.reply),
-            (kind, a0, reply)
-        );
-        put_entry(&mut out, &entry)?;
+        if (entry.call.kind, entry.call.a0, entry.reply) != (kind, a0, reply) {
+            return Err("an entry is another".into());
+        }
+        put_entry(&mut out, version, last, &entry)?;
+        last = entry.clock;
     }
-    assert_eq!(rt; out.as_slice(), LOG.as_slice());
-    assert!(rt; log.next_entry().is_none());
-    assert_eq!(rt; log.rest().len(), 0);
-    assert_eq!(rt; start.rest().len(), 80);
+    Ok(out)
+}
+
+#[test]
+fn a_log_is_read_and_written(rt: HostRuntime) -> Result<(), Fail> {
+    let alloc = rt.alloc();
+    assert!(rt; written_as(alloc, LOG, Version::One)?.as_slice() == LOG.as_slice());
+    assert!(rt; written_as(alloc, LOG, Version::Two)?.as_slice() == LOG_TWO.as_slice());
+    assert!(rt; written_as(alloc, LOG_TWO, Version::One)?.as_slice() == LOG.as_slice());
+    assert!(rt; written_as(alloc, LOG_TWO, Version::Two)?.as_slice() == LOG_TWO.as_slice());
+    Ok(())
+}
+
+#[test]
+fn a_log_is_rewritten(rt: HostRuntime) -> Result<(), Fail> {
+    let mut log = LogView::begin(LOG)?;
+    assert!(rt; rewrite(rt.alloc(), &log, u64::MAX)?.as_slice() == LOG_TWO.as_slice());
+    assert!(rt; rewrite(rt.alloc(), &log, 2)?.as_slice() == &LOG_TWO[..30]);
+    let start = log.copy();
+    assert!(rt; log.next_entry().is_some());
+    assert_eq!(rt; (start.rest().len(), log.rest().len()), (80, 56));
     Ok(())
 }
 

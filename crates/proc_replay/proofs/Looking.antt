@@ -1,10 +1,11 @@
 -- What is read and judged of the next entry, and what its event leaves.
-use Rattle.std.proofs.Common.{◌≡◌, inl, inr, ℕ, ◌+◌, ◌≤◌, List, length, Some, None, refl, sym, ap, ◌∙◌, subst, arith}
+use Rattle.std.proofs.Common.{◌≡◌, inl, inr, ℕ, ◌+◌, ◌≤◌, length, Some, None, refl, sym, ap, ◌∙◌, subst, arith}
 use Rattle.lib_calls.specs.Entry.{entry_of}
 use Rattle.lib_calls.specs.declared.entry.Entry.{Entry}
 use Rattle.lib_calls.specs.declared.entry.EntryView.{EntryView}
 use Rattle.call_log.specs.Head.{Head}
-use Rattle.call_log.specs.Log.{Log, entry_at}
+use Rattle.call_log.specs.Limits.{least_entry}
+use Rattle.call_log.specs.Log.{Log, Unread, entry_at}
 use Rattle.call_log.specs.Walk.{IsEnd, IsStep}
 use Rattle.guest_process.specs.declared.divergence.Divergence.{Divergence}
 use Rattle.guest_process.specs.Legal.{reason}
@@ -26,7 +27,7 @@ no_entry S log behind is = record {
   leaves = λ e makes. let told : turn_at S None ≡ Makes e = sym (ap (turn_at S) is) ∙ makes in absurd (cc);
 }
 
-pub illegal_entry : (S : State) (log behind : Log) (e : Entry) (left : List ℕ) (at : ℕ) (why : Divergence) → entry_at log.left ≡ Some (e, left) → reason S e ≡ Some why → at ≡ S.events + 1
+pub illegal_entry : (S : State) (log behind : Log) (e : Entry) (left : Unread) (at : ℕ) (why : Divergence) → entry_at log.left ≡ Some (e, left) → reason S e ≡ Some why → at ≡ S.events + 1
     → IsAhead (replaying S log) (record { turn = code.Diverged at why; behind = behind })
 illegal_entry S log behind e left at why is differs count =
     let told : turn_at S (entry_at log.left) ≡ Diverges at why = ap (turn_at S) is ∙ ap (move_by S e) differs ∙ ap (λ n. Diverges n why) (sym count) in record {
@@ -34,7 +35,7 @@ illegal_entry S log behind e left at why is differs count =
       leaves = λ f makes. let both : Diverges at why ≡ Makes f = sym told ∙ makes in absurd (cc);
     }
 
-same_log : (h g : Head) (l m : List ℕ) → h ≡ g → l ≡ m → ◌≡◌ {A = Log} (record { head = h; left = l }) (record { head = g; left = m })
+same_log : (h g : Head) (l m : Unread) → h ≡ g → l ≡ m → ◌≡◌ {A = Log} (record { head = h; left = l }) (record { head = g; left = m })
 same_log h g l m p q = rw (p, q) refl
 
 pub legal_entry : (S : State) (log behind : Log) (v : EntryView) → entry_at log.left ≡ Some (entry_of v, behind.left) → behind.head ≡ log.head → reason S (entry_of v) ≡ None
@@ -52,7 +53,7 @@ legal_entry S log behind v is head legal =
 pub record IsMade (r : Replaying) (e : Entry) : Type 0 where
   pub legal : reason r.state e ≡ None
   pub moves : after r ≡ record { head = r.head; state = next r.state e; left = (after r).left }
-  pub shorter : length (after r).left + 24 ≤ length r.left
+  pub shorter : length (after r).left.bytes + least_entry ≤ length r.left.bytes
 
 module _ (step : IsStep) (end : IsEnd) where
   pub made : (r : Replaying) (e : Entry) → turn r ≡ Makes e → IsMade r e
@@ -62,15 +63,15 @@ module _ (step : IsStep) (end : IsEnd) where
         let left : (after r).left ≡ g.behind = ap (λ (s : Replaying). s.left) g.moves in
         subst (IsMade r) same (record {
           legal = g.legal;
-          moves = g.moves ∙ ap (λ (bytes : List ℕ). record { head = r.head; state = next r.state g.entry; left = bytes }) (sym left);
-          shorter = omega (arith, g.shorter, ap length left);
+          moves = g.moves ∙ ap (λ (behind : Unread). record { head = r.head; state = next r.state g.entry; left = behind }) (sym left);
+          shorter = omega (arith, g.shorter, ap (λ (behind : Unread). length behind.bytes) left);
         })
-    | inr s ↦ absurd (subst (λ t. Tells t r.left (outcome r).verdict) is s.tells)
+    | inr s ↦ absurd (subst (λ t. Tells t r.left.bytes (outcome r).verdict) is s.tells)
   ]
 
   -- a turn that tells a verdict leaves all as it is
-  pub stays : (r : Replaying) (v : Verdict) → Tells (turn r) r.left v → after r ≡ r
+  pub stays : (r : Replaying) (v : Verdict) → Tells (turn r) r.left.bytes v → after r ≡ r
   stays r v tells = elim (cases step end r) [
-    | inl g ↦ absurd (subst (λ t. Tells t r.left v) g.makes tells)
+    | inl g ↦ absurd (subst (λ t. Tells t r.left.bytes v) g.makes tells)
     | inr s ↦ s.stays
   ]

@@ -1,7 +1,8 @@
 -- One turn of a replay: it makes the event of the next entry, or it stands.
 use Rattle.std.proofs.Common.{◌≡◌, ◌⊎◌, inl, inr, ℕ, suc, ◌+◌, ◌≤◌, List, [], ◌∷◌, length, take, Option, Some, None, refl, sym, ap, ◌∙◌, arith}
 use Rattle.lib_calls.specs.declared.entry.Entry.{Entry}
-use Rattle.call_log.specs.Log.{entry_at, entries_of, rest_of}
+use Rattle.call_log.specs.Limits.{least_entry}
+use Rattle.call_log.specs.Log.{Unread, entry_at, entries_of, rest_of}
 use Rattle.call_log.specs.Walk.{IsEnd, IsStep}
 use Rattle.guest_process.specs.declared.divergence.Divergence.{Divergence}
 use Rattle.guest_process.specs.EventCount.{CountsEvents}
@@ -15,9 +16,9 @@ use Rattle.proc_replay.specs.Course.{Tells, ahead, further, outcome, outcome_at,
 -- the turn makes the event of this entry
 pub record Goes (r : Replaying) : Type 0 where
   pub entry : Entry
-  pub behind : List ℕ
+  pub behind : Unread
   pub legal : reason r.state entry ≡ None
-  pub shorter : length behind + 24 ≤ length r.left
+  pub shorter : length behind.bytes + least_entry ≤ length r.left.bytes
   pub entries : entries_of r.left ≡ entry ∷ entries_of behind
   pub rest : rest_of r.left ≡ rest_of behind
   pub makes : turn r ≡ Makes entry
@@ -27,12 +28,12 @@ pub record Goes (r : Replaying) : Type 0 where
 pub record Stands (r : Replaying) : Type 0 where
   pub none : accepted r.state (entries_of r.left) ≡ 0
   pub stays : after r ≡ r
-  pub tells : Tells (turn r) r.left (outcome r).verdict
+  pub tells : Tells (turn r) r.left.bytes (outcome r).verdict
 
 pub cases : IsStep → IsEnd → (r : Replaying) → Goes r ⊎ Stands r
 cases step end r = by_entry (entry_at r.left) refl
   where
-    by_reason : (e : Entry) (behind : List ℕ) → entry_at r.left ≡ Some (e, behind) → (o : Option Divergence) → reason r.state e ≡ o → Goes r ⊎ Stands r
+    by_reason : (e : Entry) (behind : Unread) → entry_at r.left ≡ Some (e, behind) → (o : Option Divergence) → reason r.state e ≡ o → Goes r ⊎ Stands r
     by_reason e behind found None legal =
         let here = step r.left e behind found in
         inl (record {
@@ -59,11 +60,11 @@ cases step end r = by_entry (entry_at r.left) refl
           tells = rw turns verdict;
         })
 
-    by_entry : (o : Option (Entry × List ℕ)) → entry_at r.left ≡ o → Goes r ⊎ Stands r
+    by_entry : (o : Option (Entry × Unread)) → entry_at r.left ≡ o → Goes r ⊎ Stands r
     by_entry None none =
         let here = end r.left none in
         let turns : turn r ≡ Ends = ap (turn_at r.state) none in
-        let verdict : (outcome r).verdict ≡ left_over r.left =
+        let verdict : (outcome r).verdict ≡ left_over r.left.bytes =
         ap (λ es. verdict_of (further r.state.events (reach r.state es)) (rest_of r.left)) here.entries ∙ ap left_over here.rest in
         inr (record {
           none = ap (accepted r.state) here.entries;

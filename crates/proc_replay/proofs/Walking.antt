@@ -3,6 +3,7 @@ use Rattle.std.proofs.Common.{◌≡◌, inl, inr, ℕ, zero, suc, ◌<◌, ◌�
 use Rattle.std.specs.Prelude.{slice_get}
 use Rattle.std.proofs.lemmas.Option.{same_Some}
 use Rattle.lib_calls.specs.declared.entry.Entry.{Entry}
+use Rattle.call_log.specs.Limits.{least_entry}
 use Rattle.call_log.specs.Log.{entries_of, rest_of}
 use Rattle.call_log.specs.Walk.{IsEnd, IsStep}
 use Rattle.guest_process.specs.EventCount.{CountsEvents}
@@ -28,7 +29,7 @@ stands_still r stays zero = refl
 stands_still r stays (suc n) = ap (λ s. turns s n) stays ∙ stands_still r stays n
 
 -- and tells the verdict
-stands_tells : (r : Replaying) → Stands r → (n : ℕ) → Tells (turn (turns r n)) (turns r n).left (outcome r).verdict
+stands_tells : (r : Replaying) → Stands r → (n : ℕ) → Tells (turn (turns r n)) (turns r n).left.bytes (outcome r).verdict
 stands_tells r s n =
     let still = stands_still r s.stays n in
     rw still s.tells
@@ -72,14 +73,14 @@ module _ (step : IsStep) (end : IsEnd) (counted : CountsEvents) where
     | inr s ↦ absurd (omega (arith, s.none))
   ]
 
-  verdicts : (n : ℕ) (r : Replaying) → left_to_make r ≤ n → Tells (turn (turns r n)) (turns r n).left (outcome r).verdict
+  verdicts : (n : ℕ) (r : Replaying) → left_to_make r ≤ n → Tells (turn (turns r n)) (turns r n).left.bytes (outcome r).verdict
   verdicts zero r many = elim (cases step end r) [
     | inl g ↦ absurd (omega (arith, one_fewer r g))
     | inr s ↦ stands_tells r s zero
   ]
   verdicts (suc n) r many = elim (cases step end r) [
     | inl g ↦
-        subst (λ (o : Outcome). Tells (turn (turns (after r) n)) (turns (after r) n).left o.verdict) (goes_same counted r g)
+        subst (λ (o : Outcome). Tells (turn (turns (after r) n)) (turns (after r) n).left.bytes o.verdict) (goes_same counted r g)
         (verdicts n (after r) (omega (arith, one_fewer r g)))
     | inr s ↦ stands_tells r s (suc n)
   ]
@@ -90,7 +91,7 @@ module _ (step : IsStep) (end : IsEnd) (counted : CountsEvents) where
     states = λ n few. states n first few;
     events = λ n e few at. events n first e few at;
     verdict = λ n many.
-        subst (Tells (turn (turns first n)) (turns first n).left)
+        subst (Tells (turn (turns first n)) (turns first n).left.bytes)
         (fresh_verdict first.state (entries_of first.left) (rest_of first.left) fresh) (verdicts n first many);
   }
 
@@ -99,18 +100,18 @@ module _ (step : IsStep) (end : IsEnd) (counted : CountsEvents) where
   one_turn r = elim (cases step end r) [
     | inl g ↦ record {
       same = goes_same counted r g;
-      takes = λ e makes. subst (λ (s : Replaying). length s.left + 24 ≤ length r.left) (sym g.moves) g.shorter;
+      takes = λ e makes. subst (λ (s : Replaying). length s.left.bytes + least_entry ≤ length r.left.bytes) (sym g.moves) g.shorter;
       makes = λ e makes. goes_ahead r g ∙ ap (λ x. x ∷ ahead (after r)) (same_entry g.entry e (sym g.makes ∙ makes));
-      none = λ v tells. absurd (subst (λ t. Tells t r.left v) g.makes tells);
-      stays = λ v tells. absurd (subst (λ t. Tells t r.left v) g.makes tells);
-      comes = λ v tells. absurd (subst (λ t. Tells t r.left v) g.makes tells);
+      none = λ v tells. absurd (subst (λ t. Tells t r.left.bytes v) g.makes tells);
+      stays = λ v tells. absurd (subst (λ t. Tells t r.left.bytes v) g.makes tells);
+      comes = λ v tells. absurd (subst (λ t. Tells t r.left.bytes v) g.makes tells);
     }
     | inr s ↦ record {
       same = ap outcome s.stays;
-      takes = λ e makes. absurd (subst (λ t. Tells t r.left (outcome r).verdict) makes s.tells);
-      makes = λ e makes. absurd (subst (λ t. Tells t r.left (outcome r).verdict) makes s.tells);
+      takes = λ e makes. absurd (subst (λ t. Tells t r.left.bytes (outcome r).verdict) makes s.tells);
+      makes = λ e makes. absurd (subst (λ t. Tells t r.left.bytes (outcome r).verdict) makes s.tells);
       none = λ v tells. stands_ahead r s;
       stays = λ v tells. s.stays;
-      comes = λ v tells. stands_at r s ∙ ap (λ w. record { accepted = r.state.events; last = r.state; verdict = w; rest = rest_of r.left }) (tells_once (turn r) r.left _ v s.tells tells);
+      comes = λ v tells. stands_at r s ∙ ap (λ w. record { accepted = r.state.events; last = r.state; verdict = w; rest = rest_of r.left }) (tells_once (turn r) r.left.bytes _ v s.tells tells);
     }
   ]

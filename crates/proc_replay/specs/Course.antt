@@ -1,6 +1,7 @@
 -- Turn after turn gives the replay of a log's entries.
 use Rattle.std.specs.Prelude.{◌≡◌, ℕ, zero, suc, ◌+◌, ◌<◌, ◌≤◌, List, [], ◌∷◌, length, slice_get, take, Some}
 use Rattle.lib_calls.specs.declared.entry.Entry.{Entry}
+use Rattle.call_log.specs.Limits.{least_entry}
 use Rattle.call_log.specs.Log.{entries_of, rest_of}
 use Rattle.guest_process.specs.Replay.{Reach, Verdict, Diverged, accepted, last_state, left_over, reach, state_after, verdict, verdict_of}
 use Rattle.guest_process.specs.State.{State}
@@ -24,7 +25,7 @@ Tells (Diverges at why) left v = v ≡ Diverged at why
 pub record IsReplay (first : Replaying) (es : List Entry) (rest : List ℕ) : Type 0 where
   pub states : (n : ℕ) → n ≤ accepted first.state es → (turns first n).state ≡ state_after first.state es n
   pub events : (n : ℕ) (e : Entry) → n < accepted first.state es → slice_get es n ≡ Some e → turn (turns first n) ≡ Makes e
-  pub verdict : (n : ℕ) → accepted first.state es ≤ n → Tells (turn (turns first n)) (turns first n).left (verdict first.state es rest)
+  pub verdict : (n : ℕ) → accepted first.state es ≤ n → Tells (turn (turns first n)) (turns first n).left.bytes (verdict first.state es rest)
 
 abbrev pub AreReplays : Type 0
 AreReplays = (first : Replaying) → first.state.events ≡ 0 → IsReplay first (entries_of first.left) (rest_of first.left)
@@ -62,11 +63,11 @@ ahead r = take (accepted r.state (entries_of r.left)) (entries_of r.left)
 -- to what is there
 pub record IsTurn (r : Replaying) : Type 0 where
   pub same : outcome (after r) ≡ outcome r
-  pub takes : (e : Entry) → turn r ≡ Makes e → length (after r).left + 24 ≤ length r.left
+  pub takes : (e : Entry) → turn r ≡ Makes e → length (after r).left.bytes + least_entry ≤ length r.left.bytes
   pub makes : (e : Entry) → turn r ≡ Makes e → ahead r ≡ e ∷ ahead (after r)
-  pub none : (v : Verdict) → Tells (turn r) r.left v → ahead r ≡ []
-  pub stays : (v : Verdict) → Tells (turn r) r.left v → after r ≡ r
-  pub comes : (v : Verdict) → Tells (turn r) r.left v
+  pub none : (v : Verdict) → Tells (turn r) r.left.bytes v → ahead r ≡ []
+  pub stays : (v : Verdict) → Tells (turn r) r.left.bytes v → after r ≡ r
+  pub comes : (v : Verdict) → Tells (turn r) r.left.bytes v
       → outcome r ≡ record { accepted = r.state.events; last = r.state; verdict = v; rest = rest_of r.left }
 
 abbrev pub AreTurns : Type 0

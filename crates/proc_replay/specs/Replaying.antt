@@ -1,18 +1,19 @@
 -- A replay that is under way, and its next turn.
-use Rattle.std.specs.Prelude.{ℕ, ◌+◌, ◌*◌, ◌^◌, ◌<◌, List, length, Option, Some, None}
+use Rattle.std.specs.Prelude.{ℕ, ◌+◌, ◌*◌, ◌^◌, ◌<◌, length, Option, Some, None}
 use Rattle.lib_calls.specs.declared.entry.Entry.{Entry}
 use Rattle.call_log.specs.Head.{Head}
-use Rattle.call_log.specs.Log.{Log, entry_at}
+use Rattle.call_log.specs.Limits.{least_entry}
+use Rattle.call_log.specs.Log.{Log, Unread, entry_at}
 use Rattle.guest_process.specs.declared.divergence.Divergence.{Divergence}
 use Rattle.guest_process.specs.Legal.{reason}
 use Rattle.guest_process.specs.Next.{next}
 use Rattle.guest_process.specs.State.{State}
 
--- the head of the log, the process after the events so far, and the bytes of the log behind their entries
+-- the head of the log, the process after the events so far, and what is left of the log behind their entries
 pub record Replaying : Type 0 where
   pub head : Head
   pub state : State
-  pub left : List ℕ
+  pub left : Unread
 
 -- a process with the log that is left
 abbrev pub replaying : State → Log → Replaying
@@ -29,7 +30,7 @@ abbrev pub move_by : State → Entry → Option Divergence → Move
 move_by S e None = Makes e
 move_by S e (Some why) = Diverges (S.events + 1) why
 
-abbrev pub turn_at : State → Option (Entry × List ℕ) → Move
+abbrev pub turn_at : State → Option (Entry × Unread) → Move
 turn_at S None = Ends
 turn_at S (Some x) = move_by S x.0 (reason S x.0)
 
@@ -37,11 +38,11 @@ abbrev pub turn : Replaying → Move
 turn r = turn_at r.state (entry_at r.left)
 
 -- where the entry is legal its event is made, and else nothing changes
-abbrev pub moved : Replaying → Entry → List ℕ → Option Divergence → Replaying
+abbrev pub moved : Replaying → Entry → Unread → Option Divergence → Replaying
 moved r e behind None = record { head = r.head; state = next r.state e; left = behind }
 moved r e behind (Some why) = r
 
-abbrev pub after_at : Replaying → Option (Entry × List ℕ) → Replaying
+abbrev pub after_at : Replaying → Option (Entry × Unread) → Replaying
 after_at r None = r
 after_at r (Some x) = moved r x.0 x.1 (reason r.state x.0)
 
@@ -49,6 +50,6 @@ after_at r (Some x) = moved r x.0 x.1 (reason r.state x.0)
 abbrev pub after : Replaying → Replaying
 after r = after_at r (entry_at r.left)
 
--- a log has fewer than 2 ^ 64 bytes, and each event took at least 24 of them
+-- a log has fewer than 2 ^ 63 bytes, and each event took some of them
 pub record IsRoomy (S : State) (log : Log) : Type 0 where
-  pub room : S.events * 24 + length log.left < 2 ^ 64
+  pub room : S.events * least_entry + length log.left.bytes < 2 ^ 63

@@ -1,6 +1,7 @@
 // A process that is replayed from its log.
 ghost use Rattle.std.specs.Prelude.{◌≡◌, ◌*◌, ◌<◌, ◌^◌, IfOk, length};
 ghost use Rattle.call_log.specs.Head.{head_of};
+ghost use Rattle.call_log.specs.Limits.{least_entry};
 ghost use Rattle.proc_replay.specs.Inside.{IsAhead};
 ghost use Rattle.proc_replay.specs.Replaying.{IsRoomy, after, replaying, turn};
 ghost use Rattle.proc_replay.specs.Seen.{move_of};
@@ -103,14 +104,14 @@ impl<'m, 'a> Replayer<'m, 'a> {
     /// The number of events so far.
     pub fn event_count(&self) -> u64
         ensures count { result ≡ self.now.state.events }
-        ensures small { result * 24 < 2 ^ 64 }
+        ensures small { result * least_entry < 2 ^ 63 }
     {
         self.process.events()
     }
 
     /// The number of the log's bytes behind the entries of the events so far.
     pub fn left(&self) -> u64
-        ensures { result ≡ length self.now.left }
+        ensures { result ≡ length self.now.left.bytes }
     {
         self.log.rest().len() as u64
     }

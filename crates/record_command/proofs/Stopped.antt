@@ -4,13 +4,14 @@ use Rattle.std.proofs.Common.{◌≡◌, ◌≢◌, ◌&&◌, Contains, cond, in
 use Rattle.std.specs.Prelude.{AllPairs, codes, is_none}
 use Rattle.std.specs.FinMap.{get}
 use Rattle.std.proofs.Math.ListN.{get_or-map}
-use Rattle.std.proofs.lemmas.Grind.{flat_map-append}
 use Rattle.std.proofs.lemmas.List.{append_cancel_right, drop_at, length-map, take-append-drop}
 use Rattle.std.proofs.lemmas.Option.{same_Some}
 use Rattle.fri_outside.specs.Laws.{KeepsFiles}
 use Rattle.fri_outside.specs.Outside.{Folder, with_file}
 use Rattle.fri_outside.specs.Several.{AreApart, AreFronts, ChangesOnly, IsLeft, grown, with_files}
-use Rattle.call_log.specs.Entry.{encoding, encodings}
+use Rattle.call_log.specs.declared.version.Version.{Version}
+use Rattle.call_log.specs.declared.version.Version.TheVariants.{Two}
+use Rattle.call_log.specs.Entry.{clock_after, encoding, encodings}
 use Rattle.call_log.specs.Head.{head_bytes}
 use Rattle.lib_calls.specs.declared.entry.Entry.{Entry}
 use Rattle.guest_process.specs.Live.{Event}
@@ -44,14 +45,21 @@ one_more (world.Signal q signal) h p = ([], sym (append-nil (world.process_entri
 one_more (world.Kill q) h p = ([], sym (append-nil (world.process_entries h p)))
 
 -- a log with some entries more
-log_with : (head : List ℕ) (es more : List Entry) → head ++ encodings (es ++ more) ≡ (head ++ encodings es) ++ encodings more
-log_with head es more = ap (λ (bytes : List ℕ). head ++ bytes) (flat_map-append encoding es more) ∙ sym (append_assoc head (encodings es) (encodings more))
+encodings-append : (v : Version) (last : ℕ) (es more : List Entry) → encodings v last (es ++ more) ≡ encodings v last es ++ encodings v (clock_after last es) more
+encodings-append v last [] more = refl
+encodings-append v last (e ∷ es) more =
+    ap (λ (bytes : List ℕ). encoding v last e ++ bytes) (encodings-append v e.clock es more)
+    ∙ sym (append_assoc (encoding v last e) (encodings v e.clock es) (encodings v (clock_after e.clock es) more))
+
+log_with : (head : List ℕ) (es more : List Entry) → head ++ encodings Two 0 (es ++ more) ≡ (head ++ encodings Two 0 es) ++ encodings Two (clock_after 0 es) more
+log_with head es more =
+    ap (λ (bytes : List ℕ). head ++ bytes) (encodings-append Two 0 es more) ∙ sym (append_assoc head (encodings Two 0 es) (encodings Two (clock_after 0 es) more))
 
 step_grows : (group : Group) (step : Step) (steps : List Step) (p : ℕ) → IsGrown (log_of group (step ∷ steps) p) (log_of group steps p)
 unfolding IsGrown
 step_grows group step steps p =
     let m = one_more (act_of step) (history steps) p in
-    (encodings m.0, ap (λ (es : List Entry). head_bytes (head_of_log group p) ++ encodings es) m.1 ∙ log_with (head_bytes (head_of_log group p)) (entries steps p) m.0)
+    (encodings Two (clock_after 0 (entries steps p)) m.0, ap (λ (es : List Entry). head_bytes (head_of_log group p) ++ encodings Two 0 es) m.1 ∙ log_with (head_bytes (head_of_log group p)) (entries steps p) m.0)
 
 steps_grow : (group : Group) (later early : List Step) (p : ℕ) → IsGrown (log_of group (later ++ early) p) (log_of group early p)
 unfolding IsGrown
@@ -92,9 +100,9 @@ head_grows : (group : Group) (steps : List Step) (cut : ℕ → ℕ) (p : ℕ) �
 unfolding IsGrown
 head_grows group steps cut p =
     let head = head_bytes (head_of_log group p) in (
-      drop (cut p) head ++ encodings (entries steps p),
-      ap (λ (bytes : List ℕ). bytes ++ encodings (entries steps p)) (sym (take-append-drop (cut p) head))
-          ∙ append_assoc (take (cut p) head) (drop (cut p) head) (encodings (entries steps p)),
+      drop (cut p) head ++ encodings Two 0 (entries steps p),
+      ap (λ (bytes : List ℕ). bytes ++ encodings Two 0 (entries steps p)) (sym (take-append-drop (cut p) head))
+          ∙ append_assoc (take (cut p) head) (drop (cut p) head) (encodings Two 0 (entries steps p)),
     )
 
 -- ---- the files of a part of the run

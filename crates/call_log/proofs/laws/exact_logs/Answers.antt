@@ -1,3 +1,6 @@
+use Rattle.std.proofs.Common.{sym, ap, ◌∙◌}
+use Rattle.std.specs.Prelude.{Some}
+use Rattle.call_log.specs.Log.{Unread}
 use Rattle.call_log.proofs.EntryLaws.{entry_at-begins, entry_at-found}
 use Rattle.call_log.proofs.Entries.{held_alone, held_cut, holds_exactly}
 use Rattle.call_log.proofs.HeadLaws.{head_at-begins, head_at-found}
@@ -7,8 +10,14 @@ pub returns : goal.returns
 returns c =
     let readers = c.exact_readers.ensures in
     record {
-      heads = λ bytes head left. (head_at-found bytes head left, λ h. head_at-begins readers bytes head left h.0 h.1);
-      entries = λ bytes entry left. (entry_at-found bytes entry left, λ h. entry_at-begins readers bytes entry left h.0 h.1);
+      heads = λ bytes head left. (
+        λ e. let found = head_at-found bytes head left e in (found.fits, (found.spelled, found.left_is)),
+        λ h. head_at-begins readers bytes head left.bytes h.0 h.1.0 ∙ ap (λ (l : Unread). Some (head, l)) (sym h.1.1),
+      );
+      entries = λ left e next. (
+        λ is. let found = entry_at-found left e next is in (found.shaped, (found.spelled, found.left_is)),
+        λ h. entry_at-begins readers left e next.bytes h.0 h.1.0 ∙ ap (λ (l : Unread). Some (e, l)) (sym h.1.1),
+      );
       all = holds_exactly readers;
       holds_written = held_alone;
       holds_cut = held_cut readers;

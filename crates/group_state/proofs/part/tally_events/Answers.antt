@@ -24,7 +24,7 @@ pub turns-smaller : goal.turns-smaller
 turns-smaller c =
     let is = rw c.in-Event.is at c.in_ok-next.ensures.turn in
     let takes = (c.replays.ensures.turn c.turns.part).takes (entry_of c.in-Event.entry) (sym is) in
-    omega (arith, takes, ap (λ (r : Replaying). length r.left) c.in_ok-next.ensures.after)
+    omega (arith, takes, ap (λ (r : Replaying). length r.left.bytes) c.in_ok-next.ensures.after)
 
 pub turns-preserved : goal.turns-preserved
 turns-preserved c =
@@ -35,14 +35,14 @@ pub returns-in-LogEnd-clause-tally : goal.returns-in-LogEnd-clause-tally
 returns-in-LogEnd-clause-tally c =
     let r = c.turns.part in
     let is = rw c.in-LogEnd.is at c.in_ok-next.ensures.turn in
-    let tells : Tells (turn r) r.left (left_over r.left) = subst (λ t. Tells t r.left (left_over r.left)) is refl in
+    let tells : Tells (turn r) r.left.bytes (left_over r.left.bytes) = subst (λ t. Tells t r.left.bytes (left_over r.left.bytes)) is refl in
     tallies_all c.replays.ensures.turn _ _ _ _ _ _ c.turns.invariant tells
 
 pub returns-in-LogEnd-clause-ends : goal.returns-in-LogEnd-clause-ends
 returns-in-LogEnd-clause-ends c =
     let r = c.turns.part in
     let is = rw c.in-LogEnd.is at c.in_ok-next.ensures.turn in
-    let tells : Tells (turn r) r.left (left_over r.left) = subst (λ t. Tells t r.left (left_over r.left)) is refl in
+    let tells : Tells (turn r) r.left.bytes (left_over r.left.bytes) = subst (λ t. Tells t r.left.bytes (left_over r.left.bytes)) is refl in
     ends c.replays.ensures.turn _ _ _ _ c.turns.invariant.follows c.in_ok-next.ensures.after tells
 
 pub returns-in-Diverged-clause-tally : goal.returns-in-Diverged-clause-tally
@@ -50,7 +50,7 @@ returns-in-Diverged-clause-tally c =
     let r = c.turns.part in
     let v = Diverged c.in-Diverged.field-0 c.in-Diverged.field-1 in
     let is = rw c.in-Diverged.is at c.in_ok-next.ensures.turn in
-    let tells : Tells (turn r) r.left v = subst (λ t. Tells t r.left v) is refl in
+    let tells : Tells (turn r) r.left.bytes v = subst (λ t. Tells t r.left.bytes v) is refl in
     tallies_all c.replays.ensures.turn _ _ _ _ _ _ c.turns.invariant tells
 
 pub returns-in-Diverged-clause-ends : goal.returns-in-Diverged-clause-ends
@@ -58,5 +58,5 @@ returns-in-Diverged-clause-ends c =
     let r = c.turns.part in
     let v = Diverged c.in-Diverged.field-0 c.in-Diverged.field-1 in
     let is = rw c.in-Diverged.is at c.in_ok-next.ensures.turn in
-    let tells : Tells (turn r) r.left v = subst (λ t. Tells t r.left v) is refl in
+    let tells : Tells (turn r) r.left.bytes v = subst (λ t. Tells t r.left.bytes v) is refl in
     ends c.replays.ensures.turn _ _ _ _ c.turns.invariant.follows c.in_ok-next.ensures.after tells

@@ -6,4 +6,4 @@ abbrev pub invariant-turns : goal.invariant-turns
 invariant-turns l = Tallies l.process l.initial.tally l.tally l.initial.part l.part
 
 abbrev pub decreases-turns : goal.decreases-turns
-decreases-turns l = length l.part.left
+decreases-turns l = length l.part.left.bytes

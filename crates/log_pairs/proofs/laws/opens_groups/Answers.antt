@@ -2,4 +2,4 @@ use Rattle.log_pairs.proofs.Groups.{groups_open}
 use Rattle.log_pairs.proofs.laws.opens_groups.Goals as goal
 
 pub returns : goal.returns
-returns c = groups_open c.reads_modules.ensures c.exact_logs.ensures
+returns c = groups_open c.reads_modules.ensures c.finds_logs.ensures

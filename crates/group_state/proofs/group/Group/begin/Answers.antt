@@ -1,5 +1,4 @@
-use Rattle.std.proofs.Common.{◌<◌, ◌^◌, ◌∙◌, List, length, map, ap, arith, subst, sym}
-use Rattle.std.specs.Prelude.{All}
+use Rattle.std.proofs.Common.{◌∙◌, List, length, map, ap, arith, subst, sym}
 use Rattle.std.proofs.lemmas.List.Elements.{All-nil}
 use Rattle.proc_replay.specs.Replaying.{Replaying}
 use Rattle.group_state.specs.Motions.{no_motions}
@@ -18,11 +17,10 @@ merge_of-requires c =
 pub invariant_of-result : goal.invariant_of-result
 invariant_of-result c =
     let parts = c.args.parts.items in
-    let small : All (λ (r : Replaying). length r.left < 2 ^ 64) parts = λ k r here. omega (arith, c.requires.within k r here) in
     record {
       parts = c.requires;
       fits = subst PartsFit c.deref.ensures.value c.in_ok-here.ensures.fits;
-      few = few_events c.replays.ensures.turn (2 ^ 64) parts small c.requires.few (omega arith);
+      few = few_events c.replays.ensures.turn parts c.requires.within c.requires.few;
       here = subst (λ (start : List Replaying). IsStand start c.in_ok-here.here) c.deref.ensures.value c.in_ok-here.ensures.stand;
       heads = c.in_ok-merge.ensures ∙ ap (map head) c.deref-2.ensures.value;
       kept = subst (AreStands parts) (sym c.new.ensures) (All-nil (IsStand parts));

@@ -21,5 +21,5 @@ at-requires c =
     let m = made c.entry_by_entry.ensures.step c.entry_by_entry.ensures.end r e makes in
     let one = c.counting.ensures.counted c.self.inside.process e m.legal in
     let count = ap (λ (S : State). S.events) c.in_ok-process-in-Event.ensures ∙ one in
-    let left = ap (λ (log : Log). length log.left) (c.self.invariant.ahead.leaves e makes) in
+    let left = ap (λ (log : Log). length log.left.bytes) (c.self.invariant.ahead.leaves e makes) in
     record { room = omega (arith, c.self.invariant.room.room, m.shorter, left, count) }

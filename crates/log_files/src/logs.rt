@@ -6,21 +6,18 @@ ghost use Rattle.call_log.specs.Limits.{most_log};
 ghost use Rattle.call_log.specs.Log.{head_at};
 ghost use Rattle.command_run.specs.Call.{CountsFaults, StopsAs, Raises, reads_after, writes_after};
 ghost use Rattle.command_run.specs.Outcome.{file_of};
-ghost use Rattle.log_pairs.specs.Logs.{log_or_bad_head};
+ghost use Rattle.log_files.specs.Logs.{log_or_bad_head};
 
 use call_log::LogView;
 use command_run::{Reason, Refusal, take_file};
 use fri_outside::Files;
 use std::alloc::Global;
 
-const LOG_LIMIT: usize = 33_554_432;
+/// How many bytes a log file has at most.
+pub const LOG_LIMIT: usize = 33_554_432;
 
-/// The bytes of a log file.
-pub(crate) fn take_log<F: Files>(
-    alloc: Global,
-    name: &str,
-    files: &mut F,
-) -> Result<Vec<u8>, Refusal>
+/// The bytes of a log file, within the limit of a log.
+pub fn take_log<F: Files>(alloc: Global, name: &str, files: &mut F) -> Result<Vec<u8>, Refusal>
     ensures answer { WhenTold (F.told files.old) (λ folder. MatchResult result
         (λ bytes. file_of folder name.now most_log ≡ Ok bytes.items) (StopsAs (file_of folder name.now most_log))) }
     ensures within { IfOk result (λ bytes. vec_len bytes ≤ most_log) }
@@ -32,16 +29,12 @@ pub(crate) fn take_log<F: Files>(
 }
 
 /// The log whose head the bytes of a file begin with.
-pub(crate) fn begin_log<'b>(
-    alloc: Global,
-    name: &str,
-    bytes: &'b [u8],
-) -> Result<LogView<'b>, Refusal>
+pub fn begin_log<'b>(alloc: Global, name: &str, bytes: &'b [u8]) -> Result<LogView<'b>, Refusal>
     ensures head { IfOk result (λ log. IsHead log.head) }
     ensures answer { MatchResult result
         (λ log. log_or_bad_head name.now (head_at bytes.now) ≡ Ok (log.head, log.left))
         (StopsAs (log_or_bad_head name.now (head_at bytes.now))) }
-    ensures shorter { IfOk result (λ log. length log.left ≤ length bytes.now) }
+    ensures shorter { IfOk result (λ log. length log.left.bytes ≤ length bytes.now) }
     ensures cause { (old new : Counts) → IfErr result (Raises old new) }
     ensures still { (n : ℕ) → (reads_after n result ≡ n) × (writes_after n result ≡ n) }
 {

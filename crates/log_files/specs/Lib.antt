@@ -1,0 +1,3 @@
+pub mod Logs
+pub mod Valid
+pub mod Laws
