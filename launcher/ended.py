@@ -44,7 +44,9 @@ def unreadable(name):
 
 
 def written_by(words):
-    """The files that the call makes, in this folder."""
+    """The files that the call makes."""
+    if words[0] == "migrate":
+        return [words[2]]
     kinds = [".log"] if words[0] == "record" else []
     kinds += [".mem", ".out"] if "--images" in words else []
     return [name + kind for name in processes_of(words) for kind in kinds]
@@ -61,7 +63,10 @@ def processes_of(words):
 def unwritable(name):
     if os.path.isdir(name):
         return "is a folder"
-    target = name if os.path.exists(name) else "."
+    folder = os.path.dirname(name) or "."
+    if not os.path.isdir(folder):
+        return "is in a folder that is not there"
+    target = name if os.path.exists(name) else folder
     return None if os.access(target, os.W_OK) else "(Permission denied)"
 
 

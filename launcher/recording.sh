@@ -7,9 +7,11 @@ names_of() {
         -e '/^[[:blank:]]*\(run\|deliver\|inject\|clock\|random\|signal\|kill\)[[:blank:]]/q' < "$1"
 }
 
-# Whether a log has another head than this process's would have: the version, the size of the group, the number.
+# Whether a log has another head than this process's could have, in either version: the size of the group, the number.
 is_of_other_group() {
-    [ "$(od -An -v -tu1 -N16 < "$1" | tr -s ' \n' ' ')" != " 76 76 79 71 1 0 0 0 $2 0 0 0 $3 0 0 0 " ]
+    case $(od -An -v -tu1 -N16 < "$1" | tr -s ' \n' ' ') in
+    " 76 76 79 71 "[12]" 0 0 0 $2 0 0 0 $3 0 0 0 ") return 1 ;;
+    esac
 }
 
 sums_of() {

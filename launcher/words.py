@@ -10,13 +10,15 @@ def is_command(words):
     verb, rest = words[0], list(words[1:])
     if verb == "drill":
         return len(rest) == 1 and is_decimal(rest[0]) and 1 <= int(rest[0].lstrip("0")[:7] or "0") <= MOST_ROUNDS
-    if verb not in ("record", "replay", "debug"):
+    if verb not in ("record", "replay", "debug", "migrate"):
         return False
-    if verb != "debug" and "--images" in rest:
+    if verb in ("record", "replay") and "--images" in rest:
         rest.remove("--images")
     if any(not word or word.startswith("-") for word in rest):
         return False
-    return len(rest) == 1 if verb == "record" else len(rest) > 0 and len(rest) % 2 == 0
+    if verb in ("record", "migrate"):
+        return len(rest) == (1 if verb == "record" else 2)
+    return len(rest) > 0 and len(rest) % 2 == 0
 
 
 def is_decimal(word):
@@ -28,6 +30,8 @@ def files_of(words):
     """The files that a command reads, in its order."""
     if words[0] == "drill":
         return []
+    if words[0] == "migrate":
+        return [words[1]]
     names = [word for word in words[1:] if word != "--images"]
     return names + modules_of(names[0]) if words[0] == "record" else names
 

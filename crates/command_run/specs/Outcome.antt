@@ -60,6 +60,7 @@ reason_text reason.BadHead = codes "1 BadHead"
 reason_text reason.OtherGroup = codes "2 OtherGroup"
 reason_text reason.SameProcess = codes "3 SameProcess"
 reason_text reason.SameName = codes "4 SameName"
+reason_text reason.Grown = codes "6 Grown"
 
 abbrev pub usage_line : List ℕ
 usage_line = codes "friday: these words are not a command\n"

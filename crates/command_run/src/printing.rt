@@ -40,6 +40,7 @@ fn push_reason(text: &mut Text, reason: Reason) -> Result<(), AllocError>
         Reason::OtherGroup => text.push_str("2 OtherGroup"),
         Reason::SameProcess => text.push_str("3 SameProcess"),
         Reason::SameName => text.push_str("4 SameName"),
+        Reason::Grown => text.push_str("6 Grown"),
     }
 }
 

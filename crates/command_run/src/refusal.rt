@@ -29,6 +29,8 @@ pub enum Reason {
     SameProcess,
     /// An earlier log is of a process of the same name.
     SameName,
+    /// The log would pass its limit in the newer form.
+    Grown,
 }
 
 /// What a command prints at the end of its work, at which a log may have diverged.

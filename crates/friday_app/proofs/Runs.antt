@@ -17,8 +17,9 @@ use Rattle.log_pairs.specs.Pairs.{Pair}
 use Rattle.debug_command.specs.Run.{DebugRun}
 use Rattle.drill_command.specs.Drill.{drill_outcome}
 use Rattle.headline.specs.Headline.{LeftIsShown, ShowsRun}
+use Rattle.migrate_command.specs.Migrate.{migrate_outcome}
 use Rattle.friday_app.specs.Agreement.{KeepsMoment, ShowsRecording}
-use Rattle.friday_app.specs.Command.{Command, Debug, Drill, Record, Replay}
+use Rattle.friday_app.specs.Command.{Command, Debug, Drill, Migrate, Record, Replay}
 use Rattle.friday_app.specs.Expected.{expected, written_by}
 use Rattle.friday_app.specs.Input.{KeepsInput}
 use Rattle.friday_app.specs.Run.{CommandRun}
@@ -110,6 +111,21 @@ run_drilled rounds ended answer old new f = record {
   refused = λ is. refused_file old new (f.refused is);
 }
 
+pub run_migrated : (log_name new_name : List ℕ) (ended : Result Answer Refusal) (answer : Status) (old new : Outside)
+    → Finished (option_map (migrate_outcome log_name new_name) old.told) (λ folder. written_names (migrate_outcome log_name new_name folder)) false ended old new answer
+    → CommandRun (Some (Migrate log_name new_name)) old new answer
+run_migrated log_name new_name ended answer old new f = record {
+  call = f.call;
+  usage = record { only = λ is. absurd (f.is_command is); always = λ none h. cc };
+  diverged = λ is. let never = f.diverged is in cc;
+  recorded = λ is before told after here. tt;
+  moment = λ before told. tt;
+  shown = λ before told after here. tt;
+  input = f.unheard;
+  answered = λ is quiet. quiet (f.read is);
+  refused = λ is. refused_file old new (f.refused is);
+}
+
 -- ---- a session, and no command
 
 pub run_debugged : (pairs : List Pair) (answer : Status) (old new : Outside) → DebugRun pairs old new answer → CommandRun (Some (Debug pairs)) old new answer
@@ -165,6 +181,7 @@ run_stopped rest law command o answer is call = subst (λ (a : Status). CommandR
   untouched (Some (Replay images pairs)) before told = tt
   untouched (Some (Debug pairs)) before told = tt
   untouched (Some (Drill rounds)) before told = tt
+  untouched (Some (Migrate log_name new_name)) before told = tt
 
   seen : (command : Option Command) → WhenTold o.told (λ before. WhenTold o.told (ShowsRecording command ends.NoMemory before))
   seen None before told after here = tt
@@ -173,6 +190,7 @@ run_stopped rest law command o answer is call = subst (λ (a : Status). CommandR
   seen (Some (Replay images pairs)) before told after here = tt
   seen (Some (Debug pairs)) before told after here = tt
   seen (Some (Drill rounds)) before told after here = tt
+  seen (Some (Migrate log_name new_name)) before told after here = tt
 
   not_done : ends.NoMemory ≡ ends.Done → ⊥
   not_done e = cc
@@ -183,3 +201,4 @@ run_stopped rest law command o answer is call = subst (λ (a : Status). CommandR
   unread (Some (Replay images pairs)) = refl
   unread (Some (Debug pairs)) = inl (refl, not_done)
   unread (Some (Drill rounds)) = refl
+  unread (Some (Migrate log_name new_name)) = refl

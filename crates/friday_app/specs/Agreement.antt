@@ -4,7 +4,7 @@ use Rattle.fri_outside.specs.Outside.{Folder}
 use Rattle.command_run.specs.declared.status.Status.{Status}
 use Rattle.record_command.specs.Agreement.{IsRecordable, LeavesMoment, LeavesRecording}
 use Rattle.headline.specs.Headline.{ShowsRun}
-use Rattle.friday_app.specs.Command.{Command, Debug, Drill, Record, Replay}
+use Rattle.friday_app.specs.Command.{Command, Debug, Drill, Migrate, Record, Replay}
 
 -- a command that records leaves its recording
 abbrev pub KeepsRecording : Option Command → Folder → Folder → Type 0
@@ -13,6 +13,7 @@ KeepsRecording (Some (Record images schedule_name)) before after = LeavesRecordi
 KeepsRecording (Some (Replay images pairs)) before after = Unit {0}
 KeepsRecording (Some (Debug pairs)) before after = Unit {0}
 KeepsRecording (Some (Drill rounds)) before after = Unit {0}
+KeepsRecording (Some (Migrate log_name new_name)) before after = Unit {0}
 
 -- a command that records leaves a moment of its run, wherever it was stopped
 abbrev pub KeepsMoment : Option Command → Folder → Option Folder → Type 0
@@ -21,6 +22,7 @@ KeepsMoment (Some (Record images schedule_name)) before after = LeavesMoment ima
 KeepsMoment (Some (Replay images pairs)) before after = Unit {0}
 KeepsMoment (Some (Debug pairs)) before after = Unit {0}
 KeepsMoment (Some (Drill rounds)) before after = Unit {0}
+KeepsMoment (Some (Migrate log_name new_name)) before after = Unit {0}
 
 -- what a command that records leaves makes `replay` and `debug` show the run
 abbrev pub ShowsRecording : Option Command → Status → Folder → Folder → Type 0
@@ -29,3 +31,4 @@ ShowsRecording (Some (Record images schedule_name)) answer before after = (r : I
 ShowsRecording (Some (Replay images pairs)) answer before after = Unit {0}
 ShowsRecording (Some (Debug pairs)) answer before after = Unit {0}
 ShowsRecording (Some (Drill rounds)) answer before after = Unit {0}
+ShowsRecording (Some (Migrate log_name new_name)) answer before after = Unit {0}

@@ -9,6 +9,7 @@ pub data Command : Type 0 where
   Replay : (images : Bool) → (pairs : List Pair) → Command
   Debug : (pairs : List Pair) → Command
   Drill : (rounds : ℕ) → Command
+  Migrate : (log_name : List ℕ) → (new_name : List ℕ) → Command
 
 -- a word that may name a file: it is not empty, and does not begin with `-`
 abbrev pub is_file_word : List ℕ → Bool
@@ -48,6 +49,10 @@ abbrev pub drilling : Bool → List (List ℕ) → Option Command
 drilling images (word ∷ []) = if images then None else option_map Drill (rounds_of word)
 drilling images words = None
 
+abbrev pub migrating : Bool → List (List ℕ) → Option Command
+migrating images (log_name ∷ new_name ∷ []) = if images then None else Some (Migrate log_name new_name)
+migrating images names = None
+
 -- the command of this verb, of these words beside the option
 abbrev pub command_by : List ℕ → Bool → List (List ℕ) → Option Command
 command_by verb images names =
@@ -55,6 +60,7 @@ command_by verb images names =
     else if bytes_eq verb (codes "replay") then replaying images names
     else if bytes_eq verb (codes "debug") then debugging images names
     else if bytes_eq verb (codes "drill") then drilling images names
+    else if bytes_eq verb (codes "migrate") then migrating images names
     else None
 
 -- the command that the words name: a verb, and behind it names of files, and once at most the option for images
@@ -70,4 +76,5 @@ IsReplayCommand (Some (Replay images pairs)) = Unit {0}
 IsReplayCommand (Some (Record images schedule_name)) = ⊥
 IsReplayCommand (Some (Debug pairs)) = ⊥
 IsReplayCommand (Some (Drill rounds)) = ⊥
+IsReplayCommand (Some (Migrate log_name new_name)) = ⊥
 IsReplayCommand None = ⊥

@@ -6,7 +6,8 @@ use Rattle.record_command.specs.Expected.{record_outcome}
 use Rattle.replay_command.specs.Report.{replay_outcome}
 use Rattle.debug_command.specs.Debug.{debug_outcome}
 use Rattle.drill_command.specs.Drill.{drill_outcome}
-use Rattle.friday_app.specs.Command.{Command, Debug, Drill, Record, Replay}
+use Rattle.migrate_command.specs.Migrate.{migrate_outcome}
+use Rattle.friday_app.specs.Command.{Command, Debug, Drill, Migrate, Record, Replay}
 
 -- the outcome, as far as the folder and the input tell what it depends on
 abbrev pub expected : Option Command → Option Folder → Option (List ℕ) → Option CommandOutcome
@@ -15,6 +16,7 @@ expected (Some (Record images schedule_name)) told left = option_map (record_out
 expected (Some (Replay images pairs)) told left = option_map (replay_outcome images pairs) told
 expected (Some (Debug pairs)) told left = option_and_then (debug_outcome pairs left) told
 expected (Some (Drill rounds)) told left = Some (drill_outcome rounds)
+expected (Some (Migrate log_name new_name)) told left = option_map (migrate_outcome log_name new_name) told
 
 -- the names that a command may write, given the files
 abbrev pub written_by : Option Command → Folder → List (List ℕ)
@@ -23,3 +25,4 @@ written_by (Some (Record images schedule_name)) folder = written_names (record_o
 written_by (Some (Replay images pairs)) folder = written_names (replay_outcome images pairs folder)
 written_by (Some (Debug pairs)) folder = []
 written_by (Some (Drill rounds)) folder = []
+written_by (Some (Migrate log_name new_name)) folder = written_names (migrate_outcome log_name new_name folder)

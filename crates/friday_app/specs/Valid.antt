@@ -5,7 +5,8 @@ use Rattle.log_pairs.specs.Valid.{IsGroup}
 use Rattle.record_command.specs.Valid.{RecordsWhole}
 use Rattle.debug_command.specs.Valid.{IsSession}
 use Rattle.drill_command.specs.Drill.{drill_run}
-use Rattle.friday_app.specs.Command.{Command, Debug, Drill, Record, Replay}
+use Rattle.migrate_command.specs.Valid.{IsMigration}
+use Rattle.friday_app.specs.Command.{Command, Debug, Drill, Migrate, Record, Replay}
 
 abbrev pub IsValidCall : Option Command → Folder → Option (List ℕ) → Type 0
 IsValidCall None folder left = ⊥
@@ -13,3 +14,4 @@ IsValidCall (Some (Record images schedule_name)) folder left = RecordsWhole fold
 IsValidCall (Some (Replay images pairs)) folder left = IsGroup folder pairs
 IsValidCall (Some (Debug pairs)) folder left = IsSession folder pairs left
 IsValidCall (Some (Drill rounds)) folder left = (drill_run rounds).full ≡ None
+IsValidCall (Some (Migrate log_name new_name)) folder left = IsMigration folder log_name

@@ -1,7 +1,7 @@
 // Which command the words name.
 ghost use Rattle.std.specs.Prelude.{◌≡◌, length, map, option_map, string_bytes, IfOk, IfSome};
 ghost use Rattle.std.specs.List.{list_all};
-ghost use Rattle.friday_app.specs.Command.{command_by, command_of, debugging, drilling, is_file_word, is_images, names_in, options_in, pairs_of, recording, replaying};
+ghost use Rattle.friday_app.specs.Command.{command_by, command_of, debugging, drilling, is_file_word, is_images, migrating, names_in, options_in, pairs_of, recording, replaying};
 ghost use Rattle.friday_app.specs.Seen.{HasRounds, meaning};
 ghost use Rattle.log_pairs.specs.Seen.{pair_of};
 
@@ -16,6 +16,7 @@ pub enum Command<'a> {
     Replay(bool, Vec<Pair<'a>>),
     Debug(Vec<Pair<'a>>),
     Drill(u32),
+    Migrate(&'a str, &'a str),
 }
 
 // Whether the word may name a file.
@@ -94,6 +95,7 @@ fn command_by<'a>(
         "replay" => replay_command(alloc, images, names),
         "debug" => debug_command(alloc, images, names),
         "drill" => Ok(drill_command(images, names)),
+        "migrate" => Ok(migrate_command(images, names)),
         _ => Ok(None),
     }
 }
@@ -141,6 +143,15 @@ fn drill_command<'a>(images: bool, words: &[&'a str]) -> Option<Command<'a>>
 {
     match words {
         [word] if !images => Some(Command::Drill(rounds_of(word)?)),
+        _ => None,
+    }
+}
+
+fn migrate_command<'a>(images: bool, names: &[&'a str]) -> Option<Command<'a>>
+    ensures { option_map meaning result ≡ migrating images (map (λ name. name.now) names.now) }
+{
+    match names {
+        [log_file, new_file] if !images => Some(Command::Migrate(log_file, new_file)),
         _ => None,
     }
 }

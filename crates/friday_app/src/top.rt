@@ -12,6 +12,7 @@ use debug_command::{debug, sessions_work};
 use drill_command::drill;
 use fri_outside::{Files, Terminal};
 use headline::left_is_shown;
+use migrate_command::{migrate, migrations_work};
 use record_command::{record, recordings_rest, recordings_work};
 use replay_command::{replay, replays_work};
 use std::alloc::{AllocError, Global};
@@ -38,6 +39,10 @@ fn run<F: Files, T: Terminal>(alloc: Global, words: &[String], files: &mut F, io
         Ok(Some(Command::Debug(pairs))) => debug(alloc, &pairs, files, io),
         Ok(Some(Command::Drill(rounds))) => {
             let ended = drill(alloc, rounds);
+            finish(alloc, ended, io)
+        }
+        Ok(Some(Command::Migrate(log_file, new_file))) => {
+            let ended = migrate(alloc, log_file, new_file, files);
             finish(alloc, ended, io)
         }
         Err(AllocError) => give_up(),
@@ -70,5 +75,6 @@ pub fn friday<F: Files, T: Terminal>(
     recordings_work();
     replays_work();
     sessions_work();
+    migrations_work();
     run(alloc, words, files, io)
 }

@@ -20,6 +20,7 @@
 //! | `run WORDS` | makes the call with these words |
 //! | `cuts NAME A B WORDS` | makes the call for each N from A to B, with the first N bytes of a file in its place |
 //! | `turns NAME A B WORDS` | makes the call for each N from A to B, with all bits turned in the byte at N of a file |
+//! | `flips NAME A B WORDS` | the same, with the lowest bit alone turned |
 //! | `show NAME` | tells what a file holds: all of a short one, and the SHA-256 of a long one |
 //!
 //! A line that is none of these, or cannot be done, is told with its number, and the script goes on.

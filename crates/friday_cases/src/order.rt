@@ -14,7 +14,8 @@ pub enum Side {
 #[derive(Clone, Copy)]
 pub enum Change {
     Cut,
-    Turn,
+    /// These bits of one byte are turned.
+    Turn(u8),
 }
 
 /// A line of a script. The pieces and the words stand as they are spelled.
@@ -128,7 +129,8 @@ pub fn read_order(line: &str) -> anyhow::Result<Order<'_>> {
         "fail" => fail(rest)?,
         "run" => Order::Run(rest),
         "cuts" => each(Change::Cut, rest)?,
-        "turns" => each(Change::Turn, rest)?,
+        "turns" => each(Change::Turn(0xff), rest)?,
+        "flips" => each(Change::Turn(1), rest)?,
         "show" => Order::Show(rest),
         _ => bail!("no line of a script begins with {verb}"),
     })

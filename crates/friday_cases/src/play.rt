@@ -230,12 +230,12 @@ fn changed(alloc: Global, change: Change, whole: &[u8], at: usize) -> anyhow::Re
             let front = whole.get(..at).context("the file is shorter")?;
             Ok(Vec::from_slice(alloc, front)?)
         }
-        Change::Turn => {
+        Change::Turn(bits) => {
             let mut bytes = Vec::from_slice(alloc, whole)?;
             let Some(byte) = bytes.get_mut(at) else {
                 bail!("the file is shorter");
             };
-            *byte ^= 0xff;
+            *byte ^= bits;
             Ok(bytes)
         }
     }

@@ -204,9 +204,9 @@ def failing_records(script):
         (2, "the module cannot be read", "ReadFault", b"old"),
         (3, "the log cannot be made", "WriteFault", b"old"),
         (4, "the head cannot be written, of which half is", "WriteFault", LOG[:9]),
-        (5, "the first entry cannot be written, of which half is", "WriteFault", LOG[:30]),
-        (6, "the second entry cannot be written, of which half is", "WriteFault", LOG[:54]),
-        (7, "the last entry cannot be written, of which half is", "WriteFault", LOG[:82]),
+        (5, "the first entry cannot be written, of which half is", "WriteFault", LOG[:21]),
+        (6, "the second entry cannot be written, of which half is", "WriteFault", LOG[:27]),
+        (7, "the last entry cannot be written, of which half is", "WriteFault", LOG[:33]),
     ):
         begin(script, name, script.kept("now"), ITEMS)
         script.file("a.log", text("old"))

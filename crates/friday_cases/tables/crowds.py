@@ -85,7 +85,7 @@ def many_locks(script):
     unlocked = ["unlock %d = 0" % at for at in range(LOCKS, 0, -1)]
     events = ["begin", *locked, "spawn 0 %d = 1" % LOCKS, "1: begin", unlocked[0], "1: lock %d = 0" % LOCKS, *unlocked[1:]]
     script.run("record s", "Done", *summary(len(events), "finished", len(events), 3))
-    script.show("a.log", logs.head() + b"".join(logs.entries(events)))
+    script.show("a.log", logs.held(logs.entries(events)))
     replays(script, len(events), "finished")
 
 

@@ -1,7 +1,7 @@
 """Points of the debugger: where watchpoints and break points fire, what is said there, and where `continue` comes to."""
 
 import logs
-from debugger import CALLS, STANDS, caller, entry, shown_event
+from debugger import CALLS, STANDS, caller, every_event, shown_event
 from modules import Guest, LEAST, start
 from pairs import BEGIN, Log, ping_and_pong, put, sent
 from script import digits, text, times
@@ -251,8 +251,7 @@ def many(script):
 
 
 def each_call(script):
-    log = logs.head(count=2) + b"".join(entry(at, *row) for at, row in enumerate(CALLS, 1))
-    alone(script, "a break point on each call", caller(), log)
+    alone(script, "a break point on each call", caller(), logs.held(every_event(), count=2))
     made = [written for written, _ in CALLS]
     of = [written.rpartition(": ")[2].split()[0] for written in made]
     kinds = list(logs.KINDS)

@@ -224,9 +224,8 @@ def caller():
     return module('(module %s (memory 1) %s (func (export "_start") %s))' % ("".join(map(imported, names)), nothing, main))
 
 
-def entry(clock, written, data):
-    call, arguments, reply, thread, signal = logs.event(written)
-    return logs.entry(clock, call, arguments, reply, thread, signal, data)
+def every_event():
+    return [logs.event(at, *row) for at, row in enumerate(CALLS, 1)]
 
 
 def shown_event(at, written):
@@ -248,8 +247,7 @@ def standing_threads(at):
 
 
 def every_call(script):
-    log = logs.head(count=2) + b"".join(entry(at, *row) for at, row in enumerate(CALLS, 1))
-    alone(script, "each call as an event, and as where a thread stands", caller(), log)
+    alone(script, "each call as an event, and as where a thread stands", caller(), logs.held(every_event(), count=2))
     last = len(CALLS)
     rows = [("threads a", "a running", "0 at begin")]
     for at, (written, _) in enumerate(CALLS, 1):
@@ -369,7 +367,7 @@ def some_logs(script):
     )
     session(script, PAIRS, rows)
     files(script, "logs of a recording that was stopped in an entry")
-    put(script, (ping.cut(2, 0), pong.cut(2, 28)))
+    put(script, (ping.cut(2, 0), pong.cut(2, 7)))
     rows = (
         ("step 99", PLACES[4]),
         ("goto 5", "? 7 no such position"),

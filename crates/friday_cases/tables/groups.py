@@ -32,11 +32,11 @@ def number(value):
 
 
 def sent(clock, to, data, at=64):
-    return logs.entry(clock, "send", (to, at, len(data)), len(data), data=data)
+    return logs.entry(clock, "send", (to, at, len(data)), len(data), data)
 
 
 def taken(clock, at, cap, data, tag, call="recv"):
-    return logs.entry(clock, call, (at, cap, 32), len(data), data=data, tag=tag)
+    return logs.entry(clock, call, (at, cap, 32), len(data), data, tag)
 
 
 BEGIN = logs.entry(1, "begin")
@@ -67,7 +67,7 @@ def head(p):
 
 def log(p, count):
     """The log of a process with its first entries."""
-    return head(p) + b"".join((PINGS, PONGS)[p][:count])
+    return head(p) + logs.spelled((PINGS, PONGS)[p][:count])
 
 
 def shown(script, *held):
@@ -85,7 +85,7 @@ def group(script, name):
 def ping_and_pong(script):
     group(script, "ping and pong")
     whole = log(0, 6), log(1, 5)
-    assert tuple(map(len, whole)) == (351, 295)
+    assert tuple(map(len, whole)) == (105, 89)
     script.run("record s", "Done", *SUMMARY)
     shown(script, *whole)
 
@@ -96,7 +96,7 @@ def alone(script, name, injected, events):
     script.file("pong.wasm", script.kept("pong"))
     script.file("s", text("friday 1\nprocess pong pong.wasm\nrun 0 0\ninject 0 %s\nrun 0 0 2\n" % injected))
     script.run("record s", "Done", "pong: 3 events, running", "items: 4 acted, 0 idle")
-    script.show("pong.log", logs.head(name=b"pong") + BEGIN + b"".join(events))
+    script.show("pong.log", logs.held([BEGIN, *events], name=b"pong"))
 
 
 def from_outside(script):
@@ -122,19 +122,19 @@ def cut_short(script):
     none = logs.entry(2, "try_recv", (64, 3, 32), 2**32 - 2)
     bad = logs.entry(5, "recv", (65533, 4, 32), TO_ALL)
     events = [none, taken(3, 64, 3, b"\1\2\3", None), taken(4, 64, 0, b"", None), bad, taken(6, 65532, 4, b"\1\2\3\4", None)]
-    script.show("a.log", logs.head() + BEGIN + b"".join(events))
+    script.show("a.log", logs.held([BEGIN, *events]))
 
 
 def random_bytes(script):
     one(script, "random bytes", "drawer", "run 0 0 2\nrandom 0 0A\nrun 0 0\nrandom 0 -\nrandom 0 ff0b\nrun 0 0 5\n")
     script.run("record s", "Done", "a: 5 events, finished", "items: 8 acted, 3 idle")
     events = [
-        logs.entry(2, "random", (0, 2), 2, data=b"\x0a\xff"),
+        logs.entry(2, "random", (0, 2), 2, b"\x0a\xff"),
         logs.entry(3, "random", (0, 0), 0),
         logs.entry(4, "random", (65536, 1), TO_ALL),
-        logs.entry(5, "random", (0, 1), 1, data=b"\x0b"),
+        logs.entry(5, "random", (0, 1), 1, b"\x0b"),
     ]
-    script.show("a.log", logs.head() + BEGIN + b"".join(events))
+    script.show("a.log", logs.held([BEGIN, *events]))
 
 
 def kills(script):
@@ -143,7 +143,7 @@ def kills(script):
     script.file("s", text("friday 1\nprocess a ping.wasm\nprocess b least.wasm\nkill 0\nrun 0 0\nkill 0\nrun 1 0\nkill 1\ndeliver 0 1\ninject 0 00\nclock 1 5\n"))
     script.run("record s", "Done", "a: 0 events, killed", "b: 1 events, finished", "items: 4 acted, 4 idle")
     script.show("a.log", logs.head(count=2))
-    script.show("b.log", logs.head(name=b"b", count=2, process=1) + BEGIN)
+    script.show("b.log", logs.held([BEGIN], name=b"b", count=2, process=1))
 
 
 def order(script):
@@ -169,9 +169,9 @@ def full_log(script):
     one(script, "a log that is full, of which no images are made", "printer", "clock 0 1\nrun 0 0 1000\n")
     script.file("a.mem", text("old"))
     script.run("record --images s", *refused("s", "item 2 LogFull"))
-    events = [logs.entry(2 + at, "print", (0, 60000), 60000, data=bytes(60000)) for at in range(558)]
-    held = logs.head() + BEGIN + b"".join(events)
-    assert len(held) == 33504594
+    events = [logs.entry(2 + at, "print", (0, 60000), 60000, bytes(60000)) for at in range(559)]
+    held = logs.held([BEGIN, *events])
+    assert len(held) == 33549527
     script.show("a.log", held)
     script.show("a.mem", b"old")
     script.show("a.out", None)

@@ -160,11 +160,11 @@ def many_events(script):
     script.show("a.log", log)
     replays(script, 10001, "finished")
     script.cut("a.log", len(log) - 1)
-    replays(script, 10000, "running", "31 bytes left over")
+    replays(script, 10000, "running", "7 bytes left over")
     script.run("record s", "Done", *summary(10001, "finished", 10001, 0))
     script.show("a.log", log)
-    # The lowest byte of the last entry's argument.
-    script.set("a.log", len(log) - 16, b"\0")
+    # The first byte of the last entry's argument, which has two, before a reply of one.
+    script.set("a.log", len(log) - 3, b"\x80")
     replays(script, 10000, "running", "diverged at 10001: 4 OtherArguments")
 
 

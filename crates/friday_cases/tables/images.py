@@ -140,7 +140,7 @@ def of_a_group(script):
     shown(script, "ping", times(PAGE + 1, b"\7").data, b"old")
     shown(script, "pong", PONG, b"")
     replaying(script, "images of a log that diverges: of the events that are accepted")
-    late = ping.changed(2, pairs.Event(8, "recv", (128, 4, 32), 4, groups.number(1), (1, 6)), "8 OtherClock")
+    late = ping.changed(2, logs.entry(8, "recv", (128, 4, 32), 4, groups.number(1), (1, 6)), "8 OtherClock")
     pairs.put(script, (late,))
     pairs.replays(script, (pong, late), "--images ")
     shown(script, "ping", memory(1, (64, b"\1")), b"")
@@ -181,14 +181,15 @@ def of_accepted_prints(script):
     hello = '(memory 1) (data (i32.const 0) "hello")'
     script.case("images: prints that are not accepted")
     script.file("a.wasm", digits(start(printing(0, 5) + printing(1, 4), PRINT + hello)))
-    first = logs.log([]) + logs.entry(2, "print", (0, 5), 5, data=b"hello")
-    # An entry of 4 bytes for its length, 20, two arguments and 4 for those of `ello`, of which one is missing.
-    for rest, status, verdict in (
-        (logs.entry(3, "print", (1, 4), 4, data=b"help"), "Diverged", "diverged at 3: 5 OtherBytes"),
-        (logs.entry(3, "print", (1, 4), 4, data=b"ello")[:-1], "Done", "47 bytes left over"),
+    first = [logs.entry(1, "begin"), logs.entry(2, "print", (0, 5), 5, b"hello")]
+    # A byte each for the length, five fields, two arguments and the bytes' length, and the 4 of `ello`, of which one is missing.
+    for other, missing, status, verdict in (
+        (b"help", 0, "Diverged", "diverged at 3: 5 OtherBytes"),
+        (b"ello", 1, "Done", "12 bytes left over"),
     ):
         older(script, "a")
-        script.file("a.log", digits(first + rest))
+        log = logs.held([*first, logs.entry(3, "print", (1, 4), 4, other)])
+        script.file("a.log", digits(log[: len(log) - missing]))
         script.run("replay --images a.wasm a.log", status, *report(2, "running", verdict))
         shown(script, "a", memory(1, (0, b"hello")), b"hello")
 

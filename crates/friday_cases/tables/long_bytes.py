@@ -1,11 +1,10 @@
 """Bytes of a call, up to 60,000 and one more: sent, taken, random and in logs; and what comes from outside, of any length."""
 
-import struct
-
 import logs
 from common import FRONT, report, summary
+from logs import entry
 from modules import module
-from pairs import BEGIN, Event, Log, put, report as report_of, words
+from pairs import BEGIN, Log, put, report as report_of, words
 from images import memory
 from script import digits, text, times
 
@@ -38,8 +37,8 @@ TAKER = guest(call("recv", 100, MOST + 1, 60200) + "(loop %s (br 0))" % call("re
 def of_sender():
     events = [BEGIN]
     for at, size in enumerate(SIZES):
-        events.append(Event(at + 2, "send", (1, 100, size), size, payload(size)))
-    return [*events, Event(len(events) + 1, "send", (1, 100, MOST + 1), PAST)]
+        events.append(entry(at + 2, "send", (1, 100, size), size, payload(size)))
+    return [*events, entry(len(events) + 1, "send", (1, 100, MOST + 1), PAST)]
 
 
 # What comes from outside: so many times a byte.
@@ -47,11 +46,11 @@ OUTSIDE = (30001, MOST - 1, MOST, MOST + 1, 1000000)
 
 
 def taken(last, data, tag):
-    return Event(1 + max(last, tag[1] if tag else 0), "recv", (100, MOST, 60200), len(data), data, tag)
+    return entry(1 + max(last, tag[1] if tag else 0), "recv", (100, MOST, 60200), len(data), data, tag)
 
 
 def of_taker():
-    events = [BEGIN, Event(2, "recv", (100, MOST + 1, 60200), PAST)]
+    events = [BEGIN, entry(2, "recv", (100, MOST + 1, 60200), PAST)]
     for at, size in enumerate(SIZES):
         events.append(taken(events[-1].clock, payload(size), (0, at + 2)))
     for size in OUTSIDE:
@@ -88,18 +87,19 @@ def changed(script, taker):
     """Entries of the taker that are not legal: a byte too many, another count, and 33 million bytes."""
     size, last = MOST + 1, len(taker.events) - 1
     for other in (
-        Event(taker.events[last].clock, "recv", (100, MOST, 60200), size, b"\xab" * size),
-        Event(taker.events[last].clock, "recv", (100, MOST, 60200), MOST - 1, b"\xab" * MOST),
-        Event(taker.events[last].clock, "recv", (100, MOST, 60200), MOST, b"\xab" * (MOST - 1)),
+        entry(taker.events[last].clock, "recv", (100, MOST, 60200), size, b"\xab" * size),
+        entry(taker.events[last].clock, "recv", (100, MOST, 60200), MOST - 1, b"\xab" * MOST),
+        entry(taker.events[last].clock, "recv", (100, MOST, 60200), MOST, b"\xab" * (MOST - 1)),
     ):
         given = pair(taker.changed(last, other, "6 OtherReply"))
         put(script, given[1:])
         script.run("replay " + words(given), *report_of(given))
     size = 33000000
-    script.file("taker.log", digits(logs.head(name=b"taker", count=2, process=1) + logs.entry(1, "begin")) + long_receipt(size))
+    named = {"name": b"taker", "count": 2, "process": 1}
+    script.file("taker.log", digits(logs.held([BEGIN], **named)) + long_receipt(size))
     script.run("replay taker.wasm taker.log", "Diverged", *report(1, "running", "diverged at 2: 4 OtherArguments", "taker"))
-    other = digits(logs.head(name=b"taker", count=2, process=1) + logs.entry(1, "begin") + logs.entry(2, "recv", (100, MOST + 1, 60200), PAST))
-    script.file("taker.log", other + long_receipt(size, 3))
+    other = digits(logs.held([BEGIN, entry(2, "recv", (100, MOST + 1, 60200), PAST)], **named))
+    script.file("taker.log", other + long_receipt(size))
     script.run("replay taker.wasm taker.log", "Diverged", *report(2, "running", "diverged at 3: 6 OtherReply", "taker"))
     # An entry of which all bytes but the last are there is none.
     script.cut("taker.log", script.sizes["taker.log"] - 1)
@@ -107,12 +107,12 @@ def changed(script, taker):
     script.run("replay taker.wasm taker.log", "Done", *report(2, "running", "%d bytes left over" % left, "taker"))
 
 
-def long_receipt(size, clock=2):
-    """An entry whose bytes that came in are so many times the same."""
-    short = logs.entry(clock, "recv", (100, MOST, 60200), size)
-    fields = short[4:-5]
-    front = struct.pack("<I", len(short) - 4 + size) + fields + struct.pack("<I", size)
-    return digits(front) + times(size, b"\xab") + digits(b"\0")
+def long_receipt(size):
+    """An entry, one clock behind the one before, whose bytes that came in are so many times the same."""
+    fields = logs.body(entry(1, "recv", (100, MOST, 60200), size), 0, logs.LATEST)
+    # The last two bytes are for no bytes and no tag.
+    front, count = fields[:-2], logs.short(size)
+    return digits(logs.short(len(front) + len(count) + size + 1) + front + count) + times(size, b"\xab") + digits(b"\0")
 
 
 DRAWER = guest(call("random", 0, MOST + 1) + call("random", 1, 30001) + "(loop %s (br 0))" % call("random", 2, MOST))
@@ -122,8 +122,8 @@ DRAWS = (POOL - 30001) // MOST
 
 
 def drawn(count):
-    first = logs.entry(2, "random", (0, MOST + 1), PAST), logs.entry(3, "random", (1, 30001), 30001, data=b"\x5a" * 30001)
-    return logs.log([]) + b"".join((*first, *(logs.entry(4 + at, "random", (2, MOST), MOST, data=b"\x5a" * MOST) for at in range(count))))
+    first = BEGIN, entry(2, "random", (0, MOST + 1), PAST), entry(3, "random", (1, 30001), 30001, b"\x5a" * 30001)
+    return logs.held([*first, *(entry(4 + at, "random", (2, MOST), MOST, b"\x5a" * MOST) for at in range(count))])
 
 
 def random_bytes(script):
@@ -147,7 +147,7 @@ def from_outside(script):
     for tag, spelled in ((None, ""), ((0, 5), "d74c4f47" + "00000000" + "0500000000000000")):
         script.file("s", text(FRONT + "run 0 0 2\ninject 0 " + spelled) + times(POOL, b"ab") + text("\nrun 0 0 2\n"))
         script.run("record s", "Done", *summary(3, "running", 4, 1))
-        events = [BEGIN, Event(2, "recv", (100, MOST + 1, 60200), PAST), taken(2, b"\xab" * MOST, tag)]
+        events = [BEGIN, entry(2, "recv", (100, MOST + 1, 60200), PAST), taken(2, b"\xab" * MOST, tag)]
         log = Log(1, 0, "a", events, module="a")
         script.show("a.log", log.spelled())
         script.run("replay a.wasm a.log", *report_of((log, )))

@@ -3,8 +3,9 @@
 import struct
 
 from common import counts_line
+from logs import entry
 from modules import module
-from pairs import Event, Log, group_line, report, sent, words
+from pairs import BEGIN, Log, group_line, report, sent, words
 from script import digits, text, times
 from sessions import session
 
@@ -12,7 +13,6 @@ CALLS = """(import "liblog" "send" (func $send (param i32 i32 i32) (result i32))
   (import "liblog" "recv" (func $recv (param i32 i32 i32) (result i32))) (import "liblog" "me" (func $me (result i32)))"""
 TAKE = "(drop (call $recv (i32.const 8) (i32.const 16) (i32.const 4)))"
 SEND = "(drop (call $send (i32.const 1) (i32.const 0) (i32.const 4)))"
-BEGIN = Event(1, "begin", (), 0)
 
 
 def guest(body, before=""):
@@ -36,7 +36,7 @@ def number(value):
 
 
 def taken(clock, data, tag):
-    return Event(clock, "recv", (8, 16, 4), len(data), data, tag)
+    return entry(clock, "recv", (8, 16, 4), len(data), data, tag)
 
 
 def of_sender():
@@ -121,7 +121,7 @@ NAMES = ["%02d_%s" % (p, "z" * 29) for p in range(COUNT)]
 
 def ring():
     """Each process sends its number to the next one, and then each takes what was sent to it."""
-    events = [[BEGIN, Event(2, "me", (), p)] for p in range(COUNT)]
+    events = [[BEGIN, entry(2, "me", (), p)] for p in range(COUNT)]
     for _ in range(ROUNDS):
         for p, own in enumerate(events):
             own.append(sent(own[-1].clock + 1, (p + 1) % COUNT, number(p), 0))

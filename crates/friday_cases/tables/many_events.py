@@ -1,7 +1,5 @@
 """As many events as a schedule can have, and the debugger over them; and logs of as many bytes as they may have."""
 
-import struct
-
 import logs
 from common import FRONT, begin, refused, replays, summary
 from guests import NOTE
@@ -23,9 +21,8 @@ COUNTER = start(
 
 def notes(count):
     """The log of so many events of the counter."""
-    entry = struct.Struct("<IQHBBQQ")
-    made = [entry.pack(28, number + 1, 0, logs.KINDS["note"][0], 0, number, 0) for number in range(1, count)]
-    return logs.log([]) + b"".join(made)
+    numbers = map(logs.short, range(1, count))
+    return logs.log([]) + b"".join(bytes([5 + len(number), 1, 0, 2, 0]) + number + b"\0" for number in numbers)
 
 
 def place(position):
@@ -81,9 +78,10 @@ def of_items(script):
     walks(script)
 
 
-PRINTS, EACH = 558, 60000
-# What is left of a log behind its head, `begin` and so many prints, without the 44 bytes of a further one's fields.
-LAST = 33554432 - 18 - 24 - PRINTS * (EACH + 44) - 44
+PRINTS, EACH = 559, 60000
+# What is left of a log behind its head, `begin` and so many prints, without the 13 bytes of the fields of a further one of
+# less than 16,384 bytes, whose length and three numbers for them take two bytes each.
+LAST = 33554432 - 18 - 6 - PRINTS * (EACH + 17) - 13
 
 
 def printer(last):
@@ -98,28 +96,27 @@ def printer(last):
 def printed(last):
     """The log of the prints."""
     sizes = [EACH] * PRINTS + [last]
-    made = [logs.entry(2 + at, "print", (0, size), size, data=bytes(size)) for at, size in enumerate(sizes)]
-    return logs.log([]) + b"".join(made)
+    return logs.held([logs.entry(1, "begin"), *(logs.entry(2 + at, "print", (0, size), size, bytes(size)) for at, size in enumerate(sizes))])
 
 
 def full(script):
     whole = printed(LAST)
     assert len(whole) == 33554432
-    begin(script, "a log that is full to its last byte, its images, its replay and the debugger at its end", printer(LAST), "run 0 0 560\n")
-    script.run("record --images s", "Done", *summary(560, "running", 560, 0))
+    begin(script, "a log that is full to its last byte, its images, its replay and the debugger at its end", printer(LAST), "run 0 0 561\n")
+    script.run("record --images s", "Done", *summary(561, "running", 561, 0))
     script.show("a.log", whole)
     script.show("a.mem", memory(1))
     script.show("a.out", bytes(PRINTS * EACH + LAST))
-    replays(script, 560, "running")
-    last = "at 560: 560 a 0 print 0 %d = %d" % (LAST, LAST)
-    session(script, ALONE, (("goto 560", last), ("threads a", "a running", "0 at yield"), ("goto 561", NO_POSITION)))
+    replays(script, 561, "running")
+    last = "at 561: 561 a 0 print 0 %d = %d" % (LAST, LAST)
+    session(script, ALONE, (("goto 561", last), ("threads a", "a running", "0 at yield"), ("goto 562", NO_POSITION)))
 
 
 def over(script):
     begin(script, "a log of which the last event is a byte too long", printer(LAST + 1), "run 0 0\nrun 0 0 600\n")
     script.run("record s", *refused("s", "item 2 LogFull"))
     # Its replay tells that the log ends behind the event before.
-    replays(script, 559, "running")
+    replays(script, 560, "running")
 
 
 def table(script):

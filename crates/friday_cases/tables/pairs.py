@@ -1,26 +1,25 @@
 """Logs of one group that are replayed together: all of them, some, cut, changed and made up."""
 
-from collections import namedtuple
-from itertools import permutations
+from copy import copy
+from itertools import permutations, product
 
 import groups, logs
 from common import counts_line, refused
+from logs import entry
 from modules import start
 from script import digits
 
-Event = namedtuple("Event", "clock call arguments reply data tag", defaults=(b"", None))
 # The first event of every process.
-BEGIN = Event(1, "begin", (), 0)
-
+BEGIN = entry(1, "begin")
 SEND = '(import "liblog" "send" (func $send (param i32 i32 i32) (result i32)))'
 
 
 def sent(clock, to, data, at=64):
-    return Event(clock, "send", (to, at, len(data)), len(data), data)
+    return entry(clock, "send", (to, at, len(data)), len(data), data)
 
 
 def taken(clock, data, tag):
-    return Event(clock, "recv", (64, 16, 32), len(data), data, tag)
+    return entry(clock, "recv", (64, 16, 32), len(data), data, tag)
 
 
 def echoes(*datagrams):
@@ -33,37 +32,42 @@ def echoes(*datagrams):
     return events
 
 
-def spelled(events):
-    return b"".join(logs.entry(e.clock, e.call, e.arguments, e.reply, data=e.data, tag=e.tag) for e in events)
-
-
 class Log:
-    """A process of a group of `count`, with the events that replay accepts, and the bytes behind them."""
+    """A process of a group of `count`, with the events that replay accepts, and the entries and bytes behind them."""
 
-    def __init__(self, count, process, name, events, rest=b"", end="running", verdict="log whole", module="pong"):
-        self.count, self.process, self.name, self.module = count, process, name, module
-        self.events, self.rest, self.end, self.verdict = events, rest, end, verdict
+    def __init__(self, count, process, name, events, more=(), rest=b"", end="running", verdict="log whole", module="pong", version=logs.LATEST):
+        self.count, self.process, self.name, self.module, self.version = count, process, name, module, version
+        self.events, self.more, self.rest, self.end, self.verdict = events, more, rest, end, verdict
 
     def spelled(self):
-        head = logs.head(name=self.name.encode(), count=self.count, process=self.process)
-        return head + spelled(self.events) + self.rest
+        whole = logs.held([*self.events, *self.more], self.version, name=self.name.encode(), count=self.count, process=self.process)
+        return whole + self.rest
+
+    def but(self, **fields):
+        """The same with other fields."""
+        other = copy(self)
+        vars(other).update(fields)
+        return other
 
     def line(self):
         return "%s: %d events, %s, %s" % (self.name, len(self.events), self.end, self.verdict)
 
-    def stopped(self, events, rest, verdict):
-        """With some of its events, and these bytes behind them."""
-        return Log(self.count, self.process, self.name, self.events[:events], rest, verdict=verdict, module=self.module)
+    def next_entry(self, events):
+        """The bytes of the entry behind so many of its events."""
+        last = self.events[events - 1].clock if events else 0
+        return logs.spelled(self.events[events : events + 1], last, self.version)
 
     def cut(self, events, size):
         """With some of its events, and that many bytes of the next."""
-        rest = spelled(self.events[events : events + 1])[:size]
-        return self.stopped(events, rest, "%d bytes left over" % size if size else "log whole")
+        rest = self.next_entry(events)[:size]
+        assert len(rest) == size
+        verdict = "%d bytes left over" % size if size else "log whole"
+        return self.but(events=self.events[:events], rest=rest, end="running", verdict=verdict)
 
     def changed(self, events, other, reason):
         """With another entry behind some of its events, and then the further ones."""
-        rest = spelled([other]) + spelled(self.events[events + 1 :])
-        return self.stopped(events, rest, "diverged at %d: %s" % (events + 1, reason))
+        more, verdict = [other, *self.events[events + 1 :]], "diverged at %d: %s" % (events + 1, reason)
+        return self.but(events=self.events[:events], more=more, end="running", verdict=verdict)
 
 
 def group_line(given):
@@ -130,9 +134,9 @@ def ping_and_pong():
     pings = [
         BEGIN,
         sent(2, 1, groups.number(1)),
-        Event(7, "recv", (128, 4, 32), 4, groups.number(1), (1, 6)),
+        entry(7, "recv", (128, 4, 32), 4, groups.number(1), (1, 6)),
         sent(8, 1, groups.number(2)),
-        Event(9, "recv", (128, 4, 32), 4, groups.number(1), (1, 4)),
+        entry(9, "recv", (128, 4, 32), 4, groups.number(1), (1, 4)),
         sent(10, 1, groups.number(3)),
     ]
     pongs = echoes(((0, 2), groups.number(1)), ((0, 2), groups.number(1)))
@@ -168,7 +172,7 @@ def others_stay(script):
     """A log that is cut in an entry, or diverges, changes no other log's line."""
     c, b, a = three()
     begin(script, "logs of a group that are cut and changed", (c, b, a))
-    cut, empty = b.cut(3, 30), a.cut(0, 0)
+    cut, empty = b.cut(3, 10), a.cut(0, 0)
     other = a.changed(2, sent(6, 1, b"\xd7LOH"), "5 OtherBytes")
     late = c.changed(3, taken(6, b"hi", (1, 4)), "8 OtherClock")
     for given in ((c, cut, a), (cut, a), (c, b, empty), (c, b, other), (other, cut, c), (late, b, a), (other, cut, late)):
@@ -183,6 +187,29 @@ def others_stay(script):
     replays(script, (changed,))
 
 
+def versions(script):
+    """Logs of both versions in one group, which are the same logs, and one of them beside its other form."""
+    given = ping_and_pong()
+    script.case("logs of both versions in one group")
+    for name in ("ping", "pong"):
+        script.file(name + ".wasm", script.kept(name))
+    for each in product((1, 2), repeat=2):
+        some = [log.but(version=version) for log, version in zip(given, each)]
+        put(script, some)
+        replays(script, some)
+        replays(script, some[::-1])
+    ping, pong = (log.but(version=1) for log in given)
+    cut, changed = ping.cut(3, 7), pong.changed(2, sent(4, 0, b"\2\0\0\0"), "5 OtherBytes")
+    for some in ((cut, given[1]), (given[0], changed), (cut, changed)):
+        put(script, some)
+        replays(script, some)
+    script.file("ping.log", digits(ping.spelled()))
+    script.file("other.log", digits(given[0].spelled()))
+    for words_given, again in (("ping.wasm ping.log ping.wasm other.log", "other.log"), ("ping.wasm other.log ping.wasm ping.log", "ping.log")):
+        script.run("replay " + words_given, *refused(again, "3 SameProcess"))
+        script.run("debug " + words_given, *refused(again, "3 SameProcess"))
+
+
 def outside(script):
     """Sends to oneself and into the group, out of it, and with bad arguments."""
     body = "".join(
@@ -195,8 +222,8 @@ def outside(script):
         sent(3, 2, b"\0\0", 1),
         sent(4, 3, b"\0", 0),
         sent(5, groups.TO_ALL, b"\0", 0),
-        Event(6, "send", (1, 65536, 1), groups.TO_ALL),
-        Event(7, "send", (1, 0, 60001), groups.TO_ALL),
+        entry(6, "send", (1, 65536, 1), groups.TO_ALL),
+        entry(7, "send", (1, 0, 60001), groups.TO_ALL),
         sent(8, 1, b"", 65536),
     ]
     sender = Log(3, 0, "sender", events, end="finished", module="sender")
@@ -211,5 +238,5 @@ def outside(script):
 
 def table(script):
     script.title("Logs of one group")
-    for part in (any_logs, recorded, others_stay, outside):
+    for part in (any_logs, recorded, others_stay, versions, outside):
         part(script)

@@ -15,8 +15,8 @@ def recorded(script, name, items, events, end, acted, idle, held):
     replays(script, events, end)
 
 
-def at_time(time):
-    return logs.log(["now = %d" % time, "note %d" % time])
+def at_time(time, version=logs.LATEST):
+    return logs.log(["now = %d" % time, "note %d" % time], version)
 
 
 def items(script):

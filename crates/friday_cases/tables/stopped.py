@@ -2,7 +2,7 @@
 
 from common import refused
 from groups import NAMES, TURNS, group, head, shown
-from pairs import ping_and_pong, replays, report, spelled, words
+from pairs import ping_and_pong, replays, report, words
 from sessions import PLACES, session
 
 # The first of the calls that a recording of ping and pong makes read the schedule and two modules; then come those that
@@ -29,7 +29,7 @@ def entries_at(call):
     """The logs where this call fails, which is to write an entry: of that one half of the bytes stand."""
     cut = []
     for log, count in zip(ping_and_pong(), counts_at(call)):
-        part = half(spelled(log.events[count : count + 1])) if log.process == TURNS[call - EVENTS] else b""
+        part = half(log.next_entry(count)) if log.process == TURNS[call - EVENTS] else b""
         cut.append(log.cut(count, len(part)))
     return cut
 
@@ -113,11 +113,11 @@ def each_call(script):
 def known_sizes():
     """The sizes and the report where call 12 fails, as they follow from the lengths of heads and entries."""
     given = entries_at(12)
-    assert [len(log.spelled()) for log in given] == [101, 142]
+    assert [len(log.spelled()) for log in given] == [41, 51]
     assert report(given) == (
         "Done",
         "ping: 2 events, running, log whole",
-        "pong: 2 events, running, 28 bytes left over",
+        "pong: 2 events, running, 7 bytes left over",
         "group: 1 sends, 1 receives, 0 unmatched, 0 untagged",
     )
 

@@ -51,7 +51,7 @@ def counted(items, events):
 
 
 def log_of(events):
-    return logs.head() + b"".join(logs.entries(events))
+    return logs.held(logs.entries(events))
 
 
 def recorded(script, name, made, items, events, end):
@@ -301,7 +301,7 @@ def another_process(script):
     script.run("record s", "Done", "a: 3 events, finished", "b: 4 events, finished", "items: 8 acted, 1 idle")
     for p, (name, last) in enumerate(((b"a", ["yield"]), (b"b", ["yield ! 5", "note 5"]))):
         made = logs.entries(["begin", "on_signal 5 0 = 0"] + last)
-        script.show(name.decode() + ".log", logs.head(name=name, count=2, process=p) + b"".join(made))
+        script.show(name.decode() + ".log", logs.held(made, name=name, count=2, process=p))
 
 
 WAITING = guest(calls("on_signal 3 0", "on_signal 5 0", "spawn 1 7", "lock 1", "join 1"), NOTED, calls("lock 1"))

@@ -1,0 +1,94 @@
+-- The new file is read as the log that was read.
+use Rattle.std.proofs.Common.{◌≡◌, ◌∙◌, ◌≤◌, ℕ, Bool, true, false, cond, List, [], length, Option, Some, None, Result, Ok, Err, refl, ap, subst, sym}
+use Rattle.std.specs.Prelude.{nat_le}
+use Rattle.std.specs.FinMap.{insert}
+use Rattle.std.proofs.lemmas.Bool.{le-leb, leb-true}
+use Rattle.std.proofs.lemmas.Option.{same_Some}
+use Rattle.fri_outside.specs.Laws.{KeepsFiles}
+use Rattle.fri_outside.specs.Outside.{Folder}
+use Rattle.call_log.specs.declared.version.Version.TheVariants.{Two}
+use Rattle.call_log.specs.Entry.{encodings}
+use Rattle.call_log.specs.Head.{Head, IsHead}
+use Rattle.call_log.specs.Laws.{ExactLogs}
+use Rattle.call_log.specs.Limits.{most_log}
+use Rattle.call_log.specs.Log.{Unread, behind, entries_of, head_at, rest_of}
+use Rattle.command_run.specs.declared.refusal.Reason.TheVariants as reason
+use Rattle.command_run.specs.Laws.{ReadsModules}
+use Rattle.command_run.specs.Outcome.{Stop, Work, and_then, file_of, refuses_at_once}
+use Rattle.command_run.specs.OutcomeLaws.{follows, same_Ok}
+use Rattle.log_files.specs.Laws.{FindsLogs}
+use Rattle.log_files.specs.Logs.{log_in, log_or_bad_head}
+use Rattle.migrate_command.specs.Laws.{KeepsLog, MigrationsKeep, MigrationsWork, newer_head}
+use Rattle.migrate_command.specs.Migrate.{migrate_work, new_log, work_unless_grown}
+
+-- ---- a log whose newer form is within the limit
+
+pub migration_works : FindsLogs → MigrationsWork
+migration_works finds log_name new_name folder h =
+    let log : Head × Unread = (h.log.head, behind h.log.head h.log.left) in (
+      migrate_work new_name log,
+      ap (λ (r : Result (Head × Unread) Stop). and_then r (work_unless_grown log_name new_name)) (finds folder log_name h.log)
+          ∙ ap (λ b. cond b (Ok (migrate_work new_name log)) (Err (refuses_at_once log_name reason.Grown))) (le-leb (length (new_log log)) most_log h.fits),
+    )
+
+-- ---- the file that is made
+
+-- work that is done is that of a log whose newer form is within the limit
+not_grown : (b : Bool) (wanted work : Work) (stop : Stop) → cond b (Ok wanted) (Err stop) ≡ Ok work → (b ≡ true) × (work ≡ wanted)
+not_grown true wanted work stop is = (refl, same_Ok (Ok wanted) work wanted is refl)
+not_grown false wanted work stop is = cc
+
+log_found : (name bytes : List ℕ) (o : Option (Head × Unread)) (log : Head × Unread) → log_or_bad_head name o ≡ Ok log → o ≡ Some log
+log_found name bytes None log is = cc
+log_found name bytes (Some l) log is = cc
+
+module _ (keeps : KeepsFiles) (exact : ExactLogs) (reads : ReadsModules) where
+  -- the head of a log that was read is one
+  head_read : (folder : Folder) (name : List ℕ) (log : Head × Unread) → log_in folder name ≡ Ok log → IsHead log.0
+  head_read folder name log is =
+      let f = follows (file_of folder name most_log) (λ bytes. log_or_bad_head name (head_at bytes)) log is in
+      ((exact.heads f.given log.0 log.1).0 (log_found name f.given (head_at f.given) log f.comes)).0
+
+  newer_is : (head : Head) → IsHead head → IsHead (newer_head head)
+  newer_is head is = record { some = is.some; few = is.few; within = is.within; named = is.named }
+
+  -- what is left behind the head of the new file
+  abbrev newer_left : Head × Unread → Unread
+  newer_left log = behind (newer_head log.0) (encodings Two 0 (entries_of log.1))
+
+  newer_found : (log : Head × Unread) → IsHead log.0 → head_at (new_log log) ≡ Some (newer_head log.0, newer_left log)
+  newer_found log is = (exact.heads (new_log log) (newer_head log.0) (newer_left log)).1 (newer_is log.0 is, (refl, refl))
+
+  -- its entries are those of the log, and nothing follows them
+  newer_holds : (log : Head × Unread) → (entries_of (newer_left log) ≡ entries_of log.1) × (rest_of (newer_left log) ≡ [])
+  newer_holds log =
+      let held = (exact.all log.1 (entries_of log.1) (rest_of log.1)).1 (refl, refl) in
+      (exact.all (newer_left log) (entries_of log.1) []).0 (exact.holds_written Two 0 (entries_of log.1) held.shaped)
+
+  -- and so it is read
+  newer_read : (folder : Folder) (new_name : List ℕ) (log : Head × Unread) → IsHead log.0 → length (new_log log) ≤ most_log
+      → log_in (insert folder new_name (new_log log)) new_name ≡ Ok (newer_head log.0, newer_left log)
+  newer_read folder new_name log is few =
+      ap (λ (r : Result (List ℕ) Stop). and_then r (λ bytes. log_or_bad_head new_name (head_at bytes)))
+      (reads.files (insert folder new_name (new_log log)) new_name most_log (new_log log) (record { held = keeps.made folder new_name (new_log log); within = few }))
+      ∙ ap (log_or_bad_head new_name) (newer_found log is)
+
+  pub migration_keeps : MigrationsKeep
+  migration_keeps log_name new_name folder work is =
+      let f = follows (log_in folder log_name) (work_unless_grown log_name new_name) work is in
+      let log = f.given in
+      let done = not_grown (nat_le (length (new_log log)) most_log) (migrate_work new_name log) work (refuses_at_once log_name reason.Grown) f.comes in
+      let head = head_read folder log_name log f.is_given in
+      let holds = newer_holds log in
+      subst (KeepsLog folder log_name new_name) (sym done.1) (record {
+        head = log.0;
+        left = log.1;
+        was = f.is_given;
+        bytes = new_log log;
+        written = refl;
+        newer = newer_left log;
+        found = newer_found log head;
+        entries = holds.0;
+        rest = holds.1;
+        read = λ after made. subst (λ (a : Folder). log_in a new_name ≡ Ok (newer_head log.0, newer_left log)) (sym (same_Some _ _ made)) (newer_read folder new_name log head (leb-true _ _ done.0));
+      })

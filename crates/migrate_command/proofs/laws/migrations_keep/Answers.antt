@@ -1,0 +1,5 @@
+use Rattle.migrate_command.proofs.Keeping.{migration_keeps}
+use Rattle.migrate_command.proofs.laws.migrations_keep.Goals as goal
+
+pub returns : goal.returns
+returns c = migration_keeps c.keeps_files.ensures c.exact_logs.ensures c.reads_modules.ensures

@@ -1,0 +1,5 @@
+use Rattle.migrate_command.proofs.Keeping.{migration_works}
+use Rattle.migrate_command.proofs.laws.migrations_work.Goals as goal
+
+pub returns : goal.returns
+returns c = migration_works c.finds_logs.ensures

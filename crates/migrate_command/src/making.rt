@@ -1,0 +1,45 @@
+// `migrate LOG NEW`: makes the file that has the newer form of a log.
+ghost use Rattle.std.specs.Prelude.{◌≡◌, false, option_map, IfErr};
+ghost use Rattle.fri_outside.specs.Outside.{WhenTold};
+ghost use Rattle.command_run.specs.Call.{CountsFaults, DivergesOnlyIf, Keeps, Makes, Raises, TellsOutcome};
+ghost use Rattle.command_run.specs.Outcome.{writes_of};
+ghost use Rattle.migrate_command.specs.Migrate.{migrate_outcome};
+ghost use Rattle.migrate_command.specs.Seen.{MakesFile};
+
+use crate::newer::{Migration, take_migration};
+use command_run::{Answer, Refusal};
+use fri_outside::{Files, keeps_files};
+use std::alloc::Global;
+
+// Makes a file that has these bytes.
+fn make_file<F: Files>(name: &str, bytes: &[u8], files: &mut F) -> Result<(), Refusal>
+    ensures made { MakesFile result (name.now, bytes.now) (F.told files.old) (F.told files.new) }
+    ensures counts { CountsFaults (F.counts files.old) (F.counts files.new) result }
+    ensures cause { IfErr result (Raises (F.counts files.old) (F.counts files.new)) }
+{
+    keeps_files();
+    files.create(name)?;
+    files.append(name, bytes)?;
+    Ok(())
+}
+
+/// Makes a file that has the log of another in the newer form. The log is read before the file is made, so both may have
+/// one name. After a fault the new file has a first part of its bytes.
+pub fn migrate<F: Files>(
+    alloc: Global,
+    log_file: &str,
+    new_file: &str,
+    files: &mut F,
+) -> Result<Answer, Refusal>
+    ensures tells { WhenTold (option_map (migrate_outcome log_file.now new_file.now) (F.told files.old)) (λ outcome. TellsOutcome outcome result) }
+    ensures makes { WhenTold (option_map (migrate_outcome log_file.now new_file.now) (F.told files.old)) (λ outcome.
+        Makes result (writes_of outcome) (F.told files.old) (F.told files.new)) }
+    ensures keeps { Keeps result (F.told files.old) (F.told files.new) }
+    ensures done { DivergesOnlyIf false result }
+    ensures counts { CountsFaults (F.counts files.old) (F.counts files.new) result }
+    ensures cause { IfErr result (Raises (F.counts files.old) (F.counts files.new)) }
+{
+    let Migration { bytes, text } = take_migration(alloc, log_file, files)?;
+    make_file(new_file, &bytes, files)?;
+    Ok(Answer::Done(text))
+}
