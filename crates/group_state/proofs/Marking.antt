@@ -24,6 +24,7 @@ use Rattle.watch_expr.specs.View.{Node, ◌>>=◌}
 use Rattle.page_watch.specs.Touch.{MarksTell, node_of}
 use Rattle.group_state.specs.Laws.{IsStep}
 use Rattle.group_state.specs.Motions.{AreMotions, Motions, nth_position, position_of, positions, positions_from}
+use Rattle.group_state.specs.Moves.{last_event_of}
 use Rattle.group_state.specs.Place.{AreParts, PartsFit, Place, events, states}
 use Rattle.group_state.specs.Seen.{nodes_at, seen_node, signed_global}
 use Rattle.group_state.specs.Stands.{AreSound}
@@ -80,6 +81,16 @@ pub moves : (start : List Replaying) (at : ℕ) (l : Location) → 0 < at → ma
 moves start zero l some is = refl
 moves start (suc k) l some is =
     ap (λ b. cond b (suc k) (mark start k (location.Motion (node_of l)))) (touched_moves (slice_get (events start) k) (states start (suc k)) l (is_mark start k l is))
+
+-- ---- what moved is of the event's node
+
+mover : (e : Option (NodeEvent Entry)) (now : List State) (n : ℕ) → is_touched_by e now (location.Motion n) ≡ true → option_map (λ (x : NodeEvent Entry). x.node) e ≡ Some n
+mover None now n is = absurd (cc)
+mover (Some x) now n is = ap (λ (m : ℕ). Some m) (eqb-true x.node n (both_true (x.node == n) (is_touched_in (slice_get now n) (location.Motion n)) is).0)
+
+pub last_mover : (start : List Replaying) (at n : ℕ) → 0 < at → mark start at (location.Motion n) ≡ at → option_map (λ (x : NodeEvent Entry). x.node) (last_event_of (at_position start at)) ≡ Some n
+last_mover start zero n some is = absurd (omega (arith, some))
+last_mover start (suc k) n some is = mover (slice_get (events start) k) (states start (suc k)) n (is_mark start k (location.Motion n) is)
 
 -- ---- what was not touched is as it was
 

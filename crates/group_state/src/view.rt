@@ -115,6 +115,11 @@ impl<'m, 'a> TouchView for Group<'m, 'a> {
         self.here.at
     }
 
+    fn last_node(&self) -> Option<u32> {
+        let event = self.last_event()?;
+        Some(event.node)
+    }
+
     fn stamp(&self, node: u32, page: u32) -> u64 {
         match self.process(node) {
             Some(process) => self.position_of(node, process.page_mark(page)),

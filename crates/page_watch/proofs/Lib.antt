@@ -1,3 +1,5 @@
+pub mod Adding
+pub mod Asking
 pub mod Marking
-pub mod Naming
+pub mod OneNode
 pub mod Staying

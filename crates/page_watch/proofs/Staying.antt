@@ -1,16 +1,14 @@
 -- Where nothing that was read is marked, a watch stays as it is.
-use Rattle.std.proofs.Common.{◌≡◌, ℕ, ◌-◌, ◌<◌, Bool, true, false, cond, List, [], ◌∷◌, Option, Some, None, refl, sym, ap, ◌∙◌, arith, ℤ, pos, negsuc}
+use Rattle.std.proofs.Common.{◌≡◌, ℕ, ◌-◌, ◌<◌, false, List, [], ◌∷◌, sym, ap, ◌∙◌, arith}
 use Rattle.std.proofs.lemmas.Bool.Decides.{nat_tests}
 use Rattle.std.specs.Prelude.{nat_eq}
 use Rattle.std.specs.List.{AllByRecursion}
 use Rattle.watch_expr.specs.declared.reads.Place.{Place}
 use Rattle.watch_expr.specs.Reads.{ReadsTell, SameAt, no_variables, reads}
-use Rattle.watch_expr.specs.Value.{equal, value}
 use Rattle.watch_expr.specs.View.{Node}
-use Rattle.page_watch.specs.Firing.{change_of}
 use Rattle.page_watch.specs.Touch.{MarksTell, meets}
 use Rattle.page_watch.specs.Watched.{Stands, Watched}
-use Rattle.page_watch.proofs.Naming.{or-false}
+use Rattle.page_watch.proofs.OneNode.{or-false}
 
 unlike : (m n : ℕ) → nat_eq m n ≡ false → m ≡ n → ⊥
 unlike m n h e = grind (arith, nat_tests)
@@ -22,22 +20,10 @@ all_same old new marks at same (l ∷ places) h =
     let o = or-false (nat_eq (marks l) at) (meets marks at places) h in
     (same l (unlike (marks l) at o.0), all_same old new marks at same places o.1)
 
-equal_itself : (z : ℤ) → equal z z ≡ true
-equal_itself (pos n) = grind (arith, nat_tests)
-equal_itself (negsuc n) = grind (arith, nat_tests)
-
-unchanged : (o : Option ℤ) → None ≡ change_of o o
-unchanged None = refl
-unchanged (Some z) = ap (λ (t : Bool). cond t None (Some (record { old = Some z; new = Some z }))) (sym (equal_itself z))
-
--- the watch stands for the state at the position too, and there is no change to it
-pub record IsStill (watch : Watched) (old new : List Node) : Type 0 where
-  pub stands : Stands watch new
-  pub fires : None ≡ change_of (value old no_variables watch.expression) (value new no_variables watch.expression)
-
+-- the watch stands for the state at the position too
 pub keeps : ReadsTell → (states : ℕ → List Node) (at : ℕ) (marks : Place → ℕ) (watch : Watched)
     → MarksTell states at marks → 0 < at → Stands watch (states (at - 1)) → meets marks at watch.places ≡ false
-    → IsStill watch (states (at - 1)) (states at)
+    → Stands watch (states at)
 keeps law states at marks watch tells some stood unmet =
     let old = states (at - 1) in
     let new = states at in
@@ -47,6 +33,7 @@ keeps law states at marks watch tells some stood unmet =
     let all = all_same old new marks at same (reads old x) unread in
     let as_before = law old new x (sym (tells.even (at - 1) (omega arith))) stood.sound tells.sound all in
     record {
-      stands = record { value = stood.value ∙ sym as_before.0; places = stood.places ∙ sym as_before.1; sound = tells.sound };
-      fires = unchanged (value old no_variables x) ∙ ap (change_of (value old no_variables x)) (sym as_before.0);
+      value = stood.value ∙ sym as_before.0;
+      places = stood.places ∙ sym as_before.1;
+      sound = tells.sound;
     }

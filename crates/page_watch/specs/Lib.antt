@@ -1,4 +1,4 @@
 pub mod Firing
-pub mod Nodes
+pub mod Places
 pub mod Touch
 pub mod Watched

@@ -1,10 +1,11 @@
 -- What a watch is.
-use Rattle.std.specs.Prelude.{◌≡◌, List, Option, ℤ}
+use Rattle.std.specs.Prelude.{◌≡◌, ℕ, List, Option, ℤ, if◌then◌else◌}
 use Rattle.watch_expr.specs.declared.reads.Place.{Place}
 use Rattle.watch_expr.specs.Expression.{Expression}
 use Rattle.watch_expr.specs.Reads.{AreMemories, no_variables, reads}
 use Rattle.watch_expr.specs.Value.{value}
 use Rattle.watch_expr.specs.View.{Node}
+use Rattle.page_watch.specs.Touch.{meets}
 
 -- an expression, with a value and the places that it was read from
 pub record Watched : Type 0 where
@@ -17,3 +18,11 @@ pub record Stands (watch : Watched) (nodes : List Node) : Type 0 where
   pub value : watch.value ≡ value nodes no_variables watch.expression
   pub places : watch.places ≡ reads nodes watch.expression
   pub sound : AreMemories nodes
+
+-- an expression that was evaluated in this state
+abbrev pub evaluated : List Node → Expression → Watched
+evaluated nodes x = record { expression = x; value = value nodes no_variables x; places = reads nodes x }
+
+-- what a watch is after an event: evaluated anew where that touched something that it was read from, and else as it was
+abbrev pub asked : (Place → ℕ) → ℕ → List Node → Watched → Watched
+asked marks at nodes watch = if meets marks at watch.places then evaluated nodes watch.expression else watch

@@ -10,10 +10,12 @@
 //! mark. Whoever moves the view by more than one position makes a new watch.
 #![tactic(auto)]
 
-mod nodes;
+mod places;
 mod touched;
 mod view;
 mod watch;
+mod watches;
 
 pub use view::TouchView;
 pub use watch::{Change, Watch};
+pub use watches::Watches;

@@ -1,37 +1,45 @@
 // Whether an event touched one of some places.
 ghost use Rattle.std.specs.Prelude.{◌≡◌, ◌<◌, ◌&&◌, ◌==◌, true};
 ghost use Rattle.std.specs.List.{list_all};
-ghost use Rattle.page_watch.specs.Nodes.{AreOf};
-ghost use Rattle.page_watch.specs.Touch.{MarksTell, meets};
+ghost use Rattle.page_watch.specs.Touch.{IsOnlyNode, MarksTell, meets, node_of};
 ghost use Rattle.watch_expr.specs.Reads.{is_low};
 
-use crate::nodes::has_moved;
 use crate::view::TouchView;
 use watch_expr::Place;
 
-// Whether one of the places has the position's mark. Most events are of another node, so the nodes are asked first.
-pub(crate) fn is_touched<V: TouchView>(v: &V, at: u64, nodes: &[u32], places: &[Place]) -> bool
+// Whether one of the places has the position's mark.
+pub(crate) fn is_touched<V: TouchView>(v: &V, at: u64, places: &[Place]) -> bool
     requires is { at ≡ V.at v.now }
     requires some { 0 < V.at v.now }
     requires tells { MarksTell (V.states v.now) (V.at v.now) (V.marks v.now) }
-    requires of { AreOf nodes.now places.now }
     requires low { list_all is_low places.now ≡ true }
     ensures { result ≡ meets (V.marks v.now) (V.at v.now) places.now }
 {
-    has_moved(v, at, nodes) && is_met(v, at, places)
+    match v.last_node() {
+        Some(node) => is_met(v, at, node, places),
+        None => false,
+    }
 }
 
-// Whether one of the places has this mark.
-fn is_met<V: TouchView>(v: &V, at: u64, places: &[Place]) -> bool
-    requires { list_all is_low places.now ≡ true }
+// Whether one of the places has this mark, which only this node has. Most places are of other nodes, which are not asked.
+pub(crate) fn is_met<V: TouchView>(v: &V, at: u64, node: u32, places: &[Place]) -> bool
+    requires low { list_all is_low places.now ≡ true }
+    requires only { IsOnlyNode (V.marks v.now) at node }
     ensures { result ≡ meets (V.marks v.now) at places.now }
 {
     for place in places {
-        if has_mark(v, at, *place) {
+        if is_marked(v, at, node, *place) {
             return true;
         }
     }
     false
+}
+
+fn is_marked<V: TouchView>(v: &V, at: u64, node: u32, place: Place) -> bool
+    requires { IsOnlyNode (V.marks v.now) at node }
+    ensures { result ≡ (is_low place && (V.marks v.now place == at)) }
+{
+    node_of(place) == node && has_mark(v, at, place)
 }
 
 fn has_mark<V: TouchView>(v: &V, at: u64, place: Place) -> bool
@@ -45,5 +53,16 @@ fn has_mark<V: TouchView>(v: &V, at: u64, place: Place) -> bool
         },
         Place::Motion { node } => v.moved(node) == at,
         Place::Size { node } => v.resized(node) == at,
+    }
+}
+
+pub(crate) fn node_of(place: Place) -> u32
+    ensures { result ≡ node_of place }
+{
+    match place {
+        Place::Page { node, .. } => node,
+        Place::Global { node, .. } => node,
+        Place::Motion { node } => node,
+        Place::Size { node } => node,
     }
 }

@@ -1,5 +1,5 @@
 // What a watch looks at.
-ghost use Rattle.std.specs.Prelude.{◌≡◌, ℕ, List};
+ghost use Rattle.std.specs.Prelude.{◌≡◌, ℕ, ◌<◌, List, Some};
 ghost use Rattle.page_watch.specs.Touch.{MarksTell};
 ghost use Rattle.watch_expr.specs.declared.reads.Place.{Place};
 ghost use Rattle.watch_expr.specs.declared.reads.Place.TheVariants as place;
@@ -24,6 +24,10 @@ pub trait TouchView: View {
         ensures is { result ≡ at self.now }
         ensures here { Self.nodes self.now ≡ states self.now (at self.now) }
         ensures tells { MarksTell (states self.now) (at self.now) (marks self.now) };
+
+    /// The node that had the last event. At position 0 nothing is said of it.
+    fn last_node(&self) -> Option<u32>
+        ensures { 0 < at self.now → (n : ℕ) → marks self.now (place.Motion n) ≡ at self.now → result ≡ Some n };
 
     /// The mark of a watch page.
     fn stamp(&self, node: u32, page: u32) -> u64

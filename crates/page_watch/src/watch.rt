@@ -2,18 +2,17 @@
 ghost use Rattle.std.specs.Prelude.{◌≡◌, ◌+◌, ◌-◌, ◌<◌, IfOk, OnOk, if◌then◌else◌};
 ghost use Rattle.page_watch.specs.Firing.{change_of, is_same_value};
 ghost use Rattle.page_watch.specs.Touch.{meets};
-ghost use Rattle.page_watch.specs.Watched.{Stands};
+ghost use Rattle.page_watch.specs.Watched.{Stands, asked};
 ghost use Rattle.watch_expr.specs.Expression.{expression_of};
 ghost use Rattle.watch_expr.specs.Reads.{no_variables, reads};
 ghost use Rattle.watch_expr.specs.Value.{value};
 
-use crate::nodes::nodes_of;
 use crate::touched::is_touched;
 use crate::view::TouchView;
 use std::alloc::{AllocError, Global};
 use std::marker::Model;
 use std::sync::ledger::Ledger;
-use watch_expr::{Expr, Reading, Steps, eval_reads, reads_low, reads_tell};
+use watch_expr::{Expr, Place, Reading, Steps, eval_reads, reads_low, reads_tell};
 
 /// A value before an event and after it, where `None` stands for undef.
 #[derive(Clone, Copy, Debug, PartialEq, Eq)]
@@ -22,12 +21,11 @@ pub struct Change {
     pub new: Option<i64>,
 }
 
-/// An expression with its last reading, and the nodes whose places that was read from.
+/// An expression with its last reading.
 #[derive(Drop)]
 pub struct Watch {
     expr: Expr,
     reading: Reading,
-    nodes: Vec<u32>,
 }
 
 impl Model for Watch {
@@ -39,12 +37,9 @@ impl Model for Watch {
 
     ghost coded = { Prim.hlevel (codes, expression_code) };
 
-    ghost use Rattle.page_watch.specs.Nodes.{AreOf};
     ghost use Rattle.watch_expr.specs.Expression.{expression_of};
 
     ghost view = { λ w. record { expression = expression_of w.expr; value = w.reading.value; places = w.reading.places.items } };
-
-    ghost invariant = { λ w. AreOf w.nodes.items w.reading.places.items };
 }
 
 impl Watch {
@@ -61,12 +56,7 @@ impl Watch {
     {
         let _ = v.position();
         let reading = eval_reads(alloc, &expr, v, steps)?;
-        let nodes = nodes_of(alloc, &reading.places)?;
-        Ok(Watch {
-            expr,
-            reading,
-            nodes,
-        })
+        Ok(Watch { expr, reading })
     }
 
     /// What the event at the view's position changed. It evaluates where that event touched something that was read, and
@@ -84,24 +74,46 @@ impl Watch {
         ensures fires { IfOk result (λ change. change ≡ change_of (value (V.states v.now (V.at v.now - 1)) no_variables self.old.expression) (value (V.states v.now (V.at v.now)) no_variables self.old.expression)) }
         ensures steps { steps.new ≡ steps.old + (if meets (V.marks v.now) (V.at v.now) (reads (V.states v.now (V.at v.now - 1)) self.old.expression) then 1 else 0) }
     {
-        reads_low();
         reads_tell();
+        let _ = v.position();
+        let old = self.value();
+        self.ask(alloc, v, steps)?;
+        Ok(change_between(old, self.value()))
+    }
+
+    // Evaluates anew where the event at the view's position touched something that was read, and says whether it did.
+    pub(crate) fn ask<V: TouchView, L: Ledger>(
+        &mut self,
+        alloc: Global,
+        v: &V,
+        steps: &mut Steps<L>,
+    ) -> Result<bool, AllocError>
+        requires position { 0 < V.at v.now }
+        requires stands { Stands self.old (V.states v.now (V.at v.now - 1)) }
+        ensures watch { OnOk result (self.new ≡ asked (V.marks v.now) (V.at v.now) (V.states v.now (V.at v.now)) self.old) }
+        ensures evaluates { IfOk result (λ evaluates. evaluates ≡ meets (V.marks v.now) (V.at v.now) self.old.places) }
+        ensures steps { steps.new ≡ steps.old + (if meets (V.marks v.now) (V.at v.now) self.old.places then 1 else 0) }
+    {
+        reads_low();
         let at = v.position();
-        if !is_touched(v, at, &self.nodes, &self.reading.places) {
-            return Ok(None);
+        if !is_touched(v, at, &self.reading.places) {
+            return Ok(false);
         }
-        let reading = eval_reads(alloc, &self.expr, v, steps)?;
-        let nodes = nodes_of(alloc, &reading.places)?;
-        let old = self.reading.value;
-        self.reading = reading;
-        self.nodes = nodes;
-        Ok(change_between(old, self.reading.value))
+        self.reading = eval_reads(alloc, &self.expr, v, steps)?;
+        Ok(true)
     }
 
     pub fn value(&self) -> Option<i64>
         ensures { result ≡ self.now.value }
     {
         self.reading.value
+    }
+
+    // What it was read from.
+    pub(crate) fn places(&self) -> &[Place]
+        ensures places { result.now ≡ self.now.places }
+    {
+        &self.reading.places
     }
 }
 

@@ -1,0 +1,10 @@
+use Rattle.page_watch.specs.Touch.{meets}
+use Rattle.page_watch.specs.Watched.{asked}
+use Rattle.page_watch.proofs.Asking.{AreAsked}
+use Rattle.page_watch.proofs.watches.ask_all.Given as goal
+
+abbrev pub invariant-loop-n : goal.invariant-loop-n
+invariant-loop-n g l =
+    let marks = g.V.TouchView.marks l.v in
+    let at = g.V.TouchView.at l.v in
+    AreAsked (asked marks at (g.V.TouchView.states l.v at)) (λ w. meets marks at w.places) l.fn.watches.items l.fn.steps l.n l.watches.items l.places l.steps
