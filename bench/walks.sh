@@ -1,8 +1,9 @@
 #!/bin/sh
-# `continue` over 16 processes that pass datagrams round in a ring, from position 0 to the end, with 0, 1 and 10 watchpoints
-# that never fire, in logs of 100,000 and 1,000,000 events; beside `goto` to the end, a walk with a break point whose
-# program counts the sends, and `rcontinue` over the same positions from the end. The watchpoints read a number of one process, or add up one of each process. Prints the
-# processor's time for each event, and that for each value of a watchpoint or run of the program, which is what the walk
+# `continue` over 16 processes that pass datagrams round in a ring, from position 0 to the end, with 0, 1, 10 and 60
+# watchpoints that read what no event touches, in logs of 100,000 and 1,000,000 events; beside `goto` to the end, a walk with a
+# break point whose program counts the sends, and `rcontinue` over the same positions from the end. The watchpoints read a
+# number of one process, or add up one of each process, or are 64 of 505 tokens, each over all processes. Prints the
+# processor's time for each event, and that for each watchpoint at one event or run of the program, which is what the walk
 # takes longer than without points; instructions by valgrind for the shorter logs; and the peak of memory. The guest is built
 # with wat2wasm of the package wabt.
 # Usage: bench/walks.sh [PROGRAM]   (the proved program, if none is given)
@@ -30,9 +31,11 @@ RING = """(module
 """
 # A program that counts the sends.
 COUNTING = ["set $sends 0", "break * send", "do 1 set $sends $sends + 1", "continue"]
-# What no event changes: a number of one process, and one of each.
-ONE = ["@p%d.u32[%d]" % (n, 4000 + 4 * n) for n in range(10)]
-EACH = ["sum(@_.u32[%d])" % (4000 + 4 * n) for n in range(10)]
+# What no event touches: a number of one process, one of each, and 63 numbers of them all.
+ONE = ["@p%d.u32[%d]" % (n % COUNT, 8192 + 4 * n) for n in range(60)]
+EACH = ["sum(@_.u32[%d])" % (8192 + 4 * n) for n in range(60)]
+LONG = ["(" + " + ".join("@p%d.u32[%d]" % (term % COUNT, 8192 + 4 * (63 * n + term)) for term in range(63)) + ")" for n in range(64)]
+SOME = (1, 10, 60)
 
 
 # Begin and `me` of each process, and then rounds of a send, its delivery and its receipt.
@@ -87,7 +90,7 @@ def walk(watched):
     return ["watch " + expression for expression in watched] + ["continue"]
 
 
-# A cost, beside that without watchpoints: for each event, and for each value of a watchpoint.
+# A cost, beside that without watchpoints: for each event, and for each watchpoint at one event.
 def shared(cost, bare, events, points):
     if cost is None:
         return "-", "-"
@@ -113,7 +116,7 @@ def costs_back(folder, expressions, events, counted):
 
 def table_back(folder, events, counted):
     bare = costs_back(folder, [], events, counted)
-    for name, expressions in (("none", []), ("of each process", EACH[:1]), ("of each process", EACH)):
+    for name, expressions in (("none", []), *(("of each process", EACH[:count]) for count in SOME)):
         points = len(expressions)
         spent, peak, count = costs_back(folder, expressions, events, counted) if points else bare
         each, value = shared(spent * 1e9, bare[0] * 1e9, events, points)
@@ -123,8 +126,8 @@ def table_back(folder, events, counted):
 
 def table(folder, events, counted):
     bare = costs(folder, walk([]), counted)
-    rows = [("none", []), *((name, some) for name, made in (("of one process", ONE), ("of each process", EACH)) for some in (made[:1], made))]
-    for name, expressions in rows:
+    rows = [(name, made[:count]) for name, made in (("of one process", ONE), ("of each process", EACH)) for count in SOME]
+    for name, expressions in (("none", []), *rows, ("of 505 tokens", LONG)):
         points = len(expressions)
         spent, peak, count = costs(folder, walk(expressions), counted) if points else bare
         each, value = shared(spent * 1e9, bare[0] * 1e9, events, points)
@@ -144,7 +147,7 @@ with tempfile.TemporaryDirectory() as folder:
         file.write(RING)
     subprocess.run(["wat2wasm", "ring.wat", "-o", "ring.wasm"], cwd=folder, check=True)
     print("%8s  %-19s %9s %9s %12s %12s %8s" % ("", "", "ns", "ns", "instructions", "instructions", "peak"))
-    print("%8s  %-19s %9s %9s %12s %12s %8s" % ("events", "watchpoints", "an event", "a value", "an event", "a value", "MB"))
+    print("%8s  %-19s %9s %9s %12s %12s %8s" % ("events", "watchpoints", "an event", "a watch", "an event", "a watch", "MB"))
     for wanted in (100_000, 1_000_000):
         events = record(folder, wanted)
         table(folder, events, wanted <= 100_000)

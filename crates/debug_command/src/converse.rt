@@ -14,6 +14,8 @@ use friday_shell::{Go, Session};
 use group_state::Group;
 use proc_replay::Replayer;
 use std::alloc::{AllocError, AllocFailed, Global};
+use std::sync::ledger::{Blank, Ledger};
+use watch_expr::Steps;
 
 // How many bytes are asked for at once.
 const PIECE: usize = 4096;
@@ -99,11 +101,12 @@ fn begin<'m, 'a, K: Sink>(
 }
 
 // Answers the line of these bytes, if they have one.
-fn answer<'m, 'a, K: Sink>(
+fn answer<'m, 'a, K: Sink, L: Ledger>(
     alloc: Global,
     session: Session<'m, 'a>,
     bytes: &[u8],
     out: &mut K,
+    steps: &mut Steps<L>,
 ) -> Result<Session<'m, 'a>, Ended>
     ensures said { Spoke session.entry (take 1 (lines_of bytes.now)) (K.taken out.old) (K.taken out.new) result }
     ensures counted { K.faults out.new ≡ spoken_after (K.faults out.old) result }
@@ -112,7 +115,7 @@ fn answer<'m, 'a, K: Sink>(
     let Some(line) = next_line(&mut Cursor::new(bytes)) else {
         return Ok(session);
     };
-    let (session, text, goes) = session.line(alloc, line)?;
+    let (session, text, goes) = session.line(alloc, line, steps)?;
     write_whole(out, text.bytes())?;
     match goes {
         Go::On => Ok(session),
@@ -121,11 +124,12 @@ fn answer<'m, 'a, K: Sink>(
 }
 
 // Takes a byte, and answers the line that it ends.
-fn take_byte<'m, 'a, K: Sink>(
+fn take_byte<'m, 'a, K: Sink, L: Ledger>(
     alloc: Global,
     talk: Talk<'m, 'a>,
     b: u8,
     out: &mut K,
+    steps: &mut Steps<L>,
 ) -> Result<Talk<'m, 'a>, Ended>
     ensures said { MatchResult result
         (λ new. GoesOn (b ∷ []) (K.taken out.old) (K.taken out.new) talk.entry.session talk.entry.begun.items talk.entry.count
@@ -153,7 +157,7 @@ fn take_byte<'m, 'a, K: Sink>(
             count,
         });
     }
-    let session = answer(alloc, session, begun.as_slice(), out)?;
+    let session = answer(alloc, session, begun.as_slice(), out, steps)?;
     Ok(Talk {
         session,
         begun: Vec::new(alloc),
@@ -162,11 +166,12 @@ fn take_byte<'m, 'a, K: Sink>(
 }
 
 // Takes the bytes of a piece.
-fn take_piece<'m, 'a, K: Sink>(
+fn take_piece<'m, 'a, K: Sink, L: Ledger>(
     alloc: Global,
     talk: Talk<'m, 'a>,
     piece: &[u8],
     out: &mut K,
+    steps: &mut Steps<L>,
 ) -> Result<Talk<'m, 'a>, Ended>
     requires { talk.count ≤ INPUT_LIMIT }
     ensures said { MatchResult result
@@ -180,17 +185,18 @@ fn take_piece<'m, 'a, K: Sink>(
 {
     let mut talk = talk;
     for b in piece {
-        talk = take_byte(alloc, talk, *b, out)?;
+        talk = take_byte(alloc, talk, *b, out, steps)?;
     }
     Ok(talk)
 }
 
 // Reads a piece of the input and takes it. False comes at the end of the input, where there is none.
-fn hear<'m, 'a, T: Terminal>(
+fn hear<'m, 'a, T: Terminal, L: Ledger>(
     alloc: Global,
     talk: Talk<'m, 'a>,
     piece: &mut [u8],
     io: &mut T,
+    steps: &mut Steps<L>,
 ) -> Result<(Talk<'m, 'a>, bool), Ended>
     requires within { talk.count ≤ INPUT_LIMIT }
     requires room { 0 < length piece.old }
@@ -205,12 +211,17 @@ fn hear<'m, 'a, T: Terminal>(
     ensures counted { T.faults io.new ≡ spoken_after (T.faults io.old) result }
 {
     let count = io.read(piece)?;
-    let talk = take_piece(alloc, talk, &piece[..count], io)?;
+    let talk = take_piece(alloc, talk, &piece[..count], io, steps)?;
     Ok((talk, count > 0))
 }
 
 // Answers what is typed, up to the end of the input or of the session.
-fn listen<T: Terminal>(alloc: Global, talk: Talk<'_, '_>, io: &mut T) -> Result<(), Ended>
+fn listen<T: Terminal, L: Ledger>(
+    alloc: Global,
+    talk: Talk<'_, '_>,
+    io: &mut T,
+    steps: &mut Steps<L>,
+) -> Result<(), Ended>
     requires { talk.count ≡ 0 }
     ensures said { HoldsFrom (T.taken io.old) (T.taken io.new) talk.entry.session talk.entry.begun.items talk.entry.count
         (T.hearing io.old) (T.hearing io.new) (why_of result) }
@@ -221,9 +232,9 @@ fn listen<T: Terminal>(alloc: Global, talk: Talk<'_, '_>, io: &mut T) -> Result<
     let mut piece = [0; PIECE];
     'hearing: loop {
         let room = PIECE.min(INPUT_LIMIT + 1 - talk.count);
-        let (next, more) = hear(alloc, talk, &mut piece[..room], io)?;
+        let (next, more) = hear(alloc, talk, &mut piece[..room], io, steps)?;
         if !more {
-            answer(alloc, next.session, next.begun.as_slice(), io)?;
+            answer(alloc, next.session, next.begun.as_slice(), io, steps)?;
             return Ok(());
         }
         talk = next;
@@ -231,28 +242,38 @@ fn listen<T: Terminal>(alloc: Global, talk: Talk<'_, '_>, io: &mut T) -> Result<
 }
 
 // Begins a session, and holds it to its end.
-fn hold<T: Terminal>(alloc: Global, parts: Vec<Replayer<'_, '_>>, io: &mut T) -> Result<(), Ended>
+fn hold<T: Terminal, L: Ledger>(
+    alloc: Global,
+    parts: Vec<Replayer<'_, '_>>,
+    io: &mut T,
+    steps: &mut Steps<L>,
+) -> Result<(), Ended>
     requires { AreParts parts.items }
     ensures said { Held parts.entry.items (T.hearing io.old) (T.hearing io.new) (T.taken io.old) (T.taken io.new) (why_of result) }
     ensures reads { (T.hearing io.new).faults ≡ listened_after (T.hearing io.old).faults result }
     ensures counted { T.faults io.new ≡ spoken_after (T.faults io.old) result }
 {
     let talk = begin(alloc, parts, io)?;
-    listen(alloc, talk, io)
+    listen(alloc, talk, io, steps)
 }
 
 /// Answers each whole line of the input before it asks for more, and ends after a line that ends the session, or
-/// behind the last line.
-pub(crate) fn converse<T: Terminal>(
+/// behind the last line. The counter of the evaluations of watchpoints begins with the session.
+pub(crate) fn converse<T: Terminal, L: Ledger>(
     alloc: Global,
+    blank: Blank,
     parts: Vec<Replayer<'_, '_>>,
     io: &mut T,
 ) -> Status
-    requires { AreParts parts.items }
+    requires name { blank.name ≡ L.name }
+    requires parts { blank.parts ≡ L.parts }
+    requires some { 0 < blank.parts }
+    requires replays { AreParts parts.items }
     ensures { Converses parts.entry.items (T.hearing io.old) (T.hearing io.new) (T.taken io.old) (T.taken io.new)
         (T.faults io.old) (T.faults io.new) result }
 {
-    match hold(alloc, parts, io) {
+    let mut steps = Steps::<L>::new(blank);
+    match hold(alloc, parts, io, &mut steps) {
         Ok(()) => Status::Done,
         Err(Ended::Done) => Status::Done,
         Err(Ended::TooLarge) => say_refused(alloc, "input", Reason::TooLarge, io),

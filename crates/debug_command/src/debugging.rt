@@ -9,6 +9,8 @@ use command_run::{Status, finish};
 use fri_outside::{Files, Terminal};
 use log_pairs::{Pair, begin_all, load_all};
 use std::alloc::Global;
+use std::marker::Brand;
+use std::sync::ledger::Blank;
 
 /// Begins the replays of the logs, and answers the lines of the input.
 pub fn debug<F: Files, T: Terminal>(
@@ -27,7 +29,7 @@ pub fn debug<F: Files, T: Terminal>(
         Err(refusal) => return finish(alloc, Err(refusal), io),
     };
     match begin_all(alloc, &all) {
-        Ok(parts) => converse(alloc, parts, io),
+        Ok(parts) => converse::<T, Brand>(alloc, Blank::new(1), parts, io),
         Err(refusal) => finish(alloc, Err(refusal), io),
     }
 }

@@ -2,6 +2,7 @@
 ghost use Rattle.std.specs.Prelude.{◌≡◌, ◌+◌, IfOk, [], length, min};
 ghost use Rattle.friday_shell.specs.Answer.{command_answer};
 ghost use Rattle.friday_shell.specs.Seen.{Performs, session_state};
+ghost use Rattle.friday_shell.specs.Ticks.{command_ticks};
 ghost use Rattle.group_state.specs.Place.{events};
 ghost use Rattle.group_texts.specs.Texts.{last_lines};
 ghost use Rattle.shell_lines.specs.Lines.{Back, Continue, Events, Goto, Rcontinue, Step};
@@ -18,30 +19,36 @@ use group_texts::push_event_line;
 use shell_lines::{Command, Refusal, refused};
 use shell_points::Trigger;
 use std::alloc::{AllocError, Global};
+use std::sync::ledger::Ledger;
+use watch_expr::Steps;
 
 /// What a command answers, whose line without outer blanks is this, and where the session then stands.
-pub(crate) fn perform<'m, 'a>(
+pub(crate) fn perform<'m, 'a, L: Ledger>(
     alloc: Global,
     state: State<'m, 'a>,
     line: &[u8],
     command: Command,
+    steps: &mut Steps<L>,
 ) -> Result<(State<'m, 'a>, Text), AllocError>
     ensures answer { IfOk result (λ done.
         Performs (command_answer (session_state state.entry) line.now (command_meant command)) (session_state done.0) done.1) }
     ensures start { IfOk result (λ done. done.0.group.start ≡ state.entry.group.start) }
+    ensures ticks { IfOk result (λ done. steps.new ≡ steps.old + command_ticks (session_state state.entry) (command_meant command) done.0.group.at) }
 {
-    run(alloc, state, line, command)
+    run(alloc, state, line, command, steps)
 }
 
 // The same, by the kind of command.
-fn run<'m, 'a>(
+fn run<'m, 'a, L: Ledger>(
     alloc: Global,
     state: State<'m, 'a>,
     line: &[u8],
     command: Command,
+    steps: &mut Steps<L>,
 ) -> Result<(State<'m, 'a>, Text), AllocError>
-    ensures { IfOk result (λ done.
+    ensures answer { IfOk result (λ done.
         Performs (command_answer (session_state state.entry) line.now (command_meant command)) (session_state done.0) done.1) }
+    ensures ticks { IfOk result (λ done. steps.new ≡ steps.old + command_ticks (session_state state.entry) (command_meant command) done.0.group.at) }
 {
     match command {
         Command::Goto(position) => go_to(alloc, state, position),
@@ -60,8 +67,8 @@ fn run<'m, 'a>(
         Command::List => told(state.kept.points.list(alloc), state),
         Command::Set(name, expression) => set(alloc, state, &name, &expression),
         Command::Vars => told(list_variables(alloc, &state.kept.variables), state),
-        Command::Continue => go_on(alloc, state),
-        Command::Rcontinue => go_back(alloc, state),
+        Command::Continue => go_on(alloc, state, steps),
+        Command::Rcontinue => go_back(alloc, state, steps),
         Command::Quit => Ok((state, Text::new(alloc))),
     }
 }
@@ -128,8 +135,13 @@ fn back<'m, 'a>(
 }
 
 // Goes on to where a point fires.
-fn go_on<'m, 'a>(alloc: Global, state: State<'m, 'a>) -> Result<(State<'m, 'a>, Text), AllocError>
-    ensures { IfOk result (λ done. Performs (command_answer (session_state state.entry) [] Continue) (session_state done.0) done.1) }
+fn go_on<'m, 'a, L: Ledger>(
+    alloc: Global,
+    state: State<'m, 'a>,
+    steps: &mut Steps<L>,
+) -> Result<(State<'m, 'a>, Text), AllocError>
+    ensures answer { IfOk result (λ done. Performs (command_answer (session_state state.entry) [] Continue) (session_state done.0) done.1) }
+    ensures ticks { IfOk result (λ done. steps.new ≡ steps.old + command_ticks (session_state state.entry) Continue done.0.group.at) }
 {
     let State { group, kept } = state;
     let Kept {
@@ -137,7 +149,7 @@ fn go_on<'m, 'a>(alloc: Global, state: State<'m, 'a>) -> Result<(State<'m, 'a>, 
         made,
         variables,
     } = kept;
-    let walked = points.walk(alloc, group, variables)?;
+    let walked = points.walk(alloc, group, variables, steps)?;
     let kept = Kept {
         points,
         made,
@@ -151,11 +163,16 @@ fn go_on<'m, 'a>(alloc: Global, state: State<'m, 'a>) -> Result<(State<'m, 'a>, 
 }
 
 // Goes back to where a point fired last.
-fn go_back<'m, 'a>(alloc: Global, state: State<'m, 'a>) -> Result<(State<'m, 'a>, Text), AllocError>
-    ensures { IfOk result (λ done. Performs (command_answer (session_state state.entry) [] Rcontinue) (session_state done.0) done.1) }
+fn go_back<'m, 'a, L: Ledger>(
+    alloc: Global,
+    state: State<'m, 'a>,
+    steps: &mut Steps<L>,
+) -> Result<(State<'m, 'a>, Text), AllocError>
+    ensures answer { IfOk result (λ done. Performs (command_answer (session_state state.entry) [] Rcontinue) (session_state done.0) done.1) }
+    ensures ticks { IfOk result (λ done. steps.new ≡ steps.old + command_ticks (session_state state.entry) Rcontinue done.0.group.at) }
 {
     let State { group, kept } = state;
-    let (group, text) = kept.points.walk_back(alloc, group)?;
+    let (group, text) = kept.points.walk_back(alloc, group, steps)?;
     Ok((State { group, kept }, text))
 }
 

@@ -1,12 +1,13 @@
 // A session of the debugger.
-ghost use Rattle.std.specs.Prelude.{◌≡◌, ℕ, ◌<◌, ◌≤◌, ◌^◌, IfOk, List, Ok, codes, length, true};
+ghost use Rattle.std.specs.Prelude.{◌≡◌, ℕ, ◌+◌, ◌<◌, ◌≤◌, ◌^◌, IfOk, List, Ok, codes, length, true};
 ghost use Rattle.std.specs.Result.{IsOk};
 ghost use Rattle.friday_shell.specs.Answer.{answer, command_answer, node_names};
 ghost use Rattle.friday_shell.specs.Points.{SessionState};
 ghost use Rattle.friday_shell.specs.Seen.{IsLine, IsLineAnswer, is_quit};
 ghost use Rattle.friday_shell.specs.Session.{opening};
-ghost use Rattle.shell_lines.specs.Meaning.{is_silent};
-ghost use Rattle.shell_lines.specs.Seen.{command};
+ghost use Rattle.friday_shell.specs.Ticks.{line_ticks};
+ghost use Rattle.shell_lines.specs.Meaning.{is_silent, line_meaning};
+ghost use Rattle.shell_lines.specs.Seen.{command, meaning};
 ghost use Rattle.shell_lines.specs.declared.line.Line.TheVariants.{Silent};
 
 use crate::answer::perform;
@@ -19,6 +20,8 @@ use shell_lines::{Command, Line, read_line, refused, trimmed};
 use shell_points::Points;
 use std::alloc::{AllocError, Global};
 use std::marker::Model;
+use std::sync::ledger::Ledger;
+use watch_expr::Steps;
 
 /// Whether a session goes on.
 #[derive(Clone, Copy, Debug, PartialEq, Eq)]
@@ -77,14 +80,22 @@ impl<'m, 'a> Session<'m, 'a> {
     }
 
     /// The answer of a line, without its line feed, and whether the session goes on. A line that is refused leaves the
-    /// session as it was. A silent line takes no memory.
-    pub fn line(self, alloc: Global, line: &[u8]) -> Result<(Session<'m, 'a>, Text, Go), AllocError>
+    /// session as it was. A silent line takes no memory. The counter ticks where a walk evaluates a watchpoint behind its
+    /// begin, which is where an event touched something that the watchpoint reads.
+    pub fn line<L: Ledger>(
+        self,
+        alloc: Global,
+        line: &[u8],
+        steps: &mut Steps<L>,
+    ) -> Result<(Session<'m, 'a>, Text, Go), AllocError>
         ensures answer { IfOk result (λ said. IsLineAnswer (answer self.entry line.now) said.0 said.1 said.2) }
         ensures silent { length line.now ≤ 4096 → is_silent line.now ≡ true → IsOk result }
+        ensures ticks { IfOk result (λ said. steps.new ≡ steps.old + line_ticks self.entry line.now said.0.place.at) }
     {
         let Session { state, names } = self;
         let _ = state.group.nodes();
-        match understood(alloc, line, &names)? {
+        let meant = understood(alloc, line, &names)?;
+        match meant {
             Line::Silent => Ok((Session { state, names }, Text::new(alloc), Go::On)),
             Line::Refused(why) => {
                 let text = refused(alloc, why)?;
@@ -92,7 +103,7 @@ impl<'m, 'a> Session<'m, 'a> {
             }
             Line::Does(command) => {
                 let goes = go_after(&command);
-                let (state, text) = perform(alloc, state, trimmed(line), command)?;
+                let (state, text) = perform(alloc, state, trimmed(line), command, steps)?;
                 Ok((Session { state, names }, text, goes))
             }
         }
@@ -110,6 +121,7 @@ impl<'m, 'a> Session<'m, 'a> {
 fn understood(alloc: Global, bytes: &[u8], names: &[Bytes]) -> Result<Line, AllocError>
     requires { length names.now < 2 ^ 32 }
     ensures line { IfOk result (IsLine names.now bytes.now) }
+    ensures meaning { IfOk result (λ line. meaning line ≡ line_meaning names.now bytes.now) }
     ensures silent { length bytes.now ≤ 4096 → is_silent bytes.now ≡ true → result ≡ Ok Silent }
 {
     read_line(alloc, bytes, names)

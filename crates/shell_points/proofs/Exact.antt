@@ -58,7 +58,7 @@ same_is None (Some b) e = absurd cc
 same_is (Some a) None e = absurd cc
 same_is (Some a) (Some b) e = ap (λ (z : ℤ). Some z) (same_equal a b e)
 
-same_again : (a : Option ℤ) → is_same_value a a ≡ true
+pub same_again : (a : Option ℤ) → is_same_value a a ≡ true
 same_again None = refl
 same_again (Some a) = equal_same a
 

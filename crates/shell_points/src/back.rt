@@ -1,19 +1,24 @@
 // Goes back to where points fired last.
-ghost use Rattle.std.specs.Prelude.{◌≡◌, ◌<◌, ◌≤◌, ◌-◌, ◌++◌, ◌==◌, IfOk, OnOk, if◌then◌else◌, length, map, suc};
+ghost use Rattle.std.specs.Prelude.{◌≡◌, ◌+◌, ◌<◌, ◌≤◌, ◌-◌, ◌++◌, ◌==◌, IfOk, MatchOption, OnOk, false, if◌then◌else◌, length, map, suc};
 ghost use Rattle.group_state.specs.Moves.{last_event_of};
 ghost use Rattle.group_state.specs.Place.{events};
-ghost use Rattle.shell_points.specs.Firing.{firing_lines, place_at};
+ghost use Rattle.group_state.specs.Touch.{ticks};
+ghost use Rattle.shell_points.specs.Firing.{firing_lines, has_due, place_at};
 ghost use Rattle.shell_points.specs.Reading.{readings, said_by};
 ghost use Rattle.shell_points.specs.Returning.{return_from};
 ghost use Rattle.shell_points.specs.Seen.{Returns, point as seen, return_of};
+ghost use Rattle.shell_points.specs.Watching.{IsWatching, watched};
 ghost use Rattle.shell_points.specs.declared.point.Point.{Point as Held};
 
-use crate::firing::{is_due, push_line, readings};
+use crate::firing::{is_due, push_line};
 use crate::point::Point;
+use crate::watching::Watching;
 use fri_text::Text;
 use group_state::Group;
 use group_texts::push_position;
 use std::alloc::{AllocError, Global};
+use std::sync::ledger::Ledger;
+use watch_expr::Steps;
 
 /// Where a walk back ends, and what it says in front of the position.
 #[derive(Drop)]
@@ -23,16 +28,18 @@ pub(crate) struct Return {
 }
 
 /// Goes to the last position in front of this one at which a point fires, or else to position 0.
-pub(crate) fn walk_back<'m, 'a>(
+pub(crate) fn walk_back<'m, 'a, L: Ledger>(
     alloc: Global,
     group: Group<'m, 'a>,
     points: &[Point],
+    steps: &mut Steps<L>,
 ) -> Result<(Group<'m, 'a>, Text), AllocError>
-    ensures { IfOk result (λ done. Returns group.entry (map {A = Held} seen points.now) done.0 done.1) }
+    ensures returns { IfOk result (λ done. Returns group.entry (map {A = Held} seen points.now) done.0 done.1) }
+    ensures ticks { OnOk result (steps.new ≡ steps.old + ticks group.entry.start (watched (map {A = Held} seen points.now)) 0 (group.entry.at - 1)) }
 {
     let count = group.position().saturating_sub(1);
     let (group, _) = group.goto(alloc, 0)?;
-    let (group, last) = last_firing(alloc, group, points, count)?;
+    let (group, last) = last_firing(alloc, group, points, count, steps)?;
     let Return { at, mut text } = last;
     let (group, _) = group.goto(alloc, at)?;
     push_position(&mut text, &group)?;
@@ -41,29 +48,31 @@ pub(crate) fn walk_back<'m, 'a>(
 
 // Where points fire last among so many positions behind position 0, at which the group stands. What they said before that
 // is not kept.
-fn last_firing<'m, 'a>(
+fn last_firing<'m, 'a, L: Ledger>(
     alloc: Global,
     group: Group<'m, 'a>,
     points: &[Point],
     count: u64,
+    steps: &mut Steps<L>,
 ) -> Result<(Group<'m, 'a>, Return), AllocError>
     requires begins { group.at ≡ 0 }
     requires within { count ≤ length (events group.start) }
     ensures start { IfOk result (λ done. done.0.start ≡ group.entry.start) }
     ensures last { IfOk result (λ done. return_of done.1 ≡ return_from (place_at group.entry.start (suc count)) (map {A = Held} seen points.now)) }
+    ensures ticks { OnOk result (steps.new ≡ steps.old + ticks group.entry.start (watched (map {A = Held} seen points.now)) 0 count) }
 {
     let mut text = Text::new(alloc);
     text.push_str("start\n")?;
     let mut last = Return { at: 0, text };
     let mut group = group;
-    let mut before = readings(alloc, points, &group)?;
+    let mut watching = Watching::begin(alloc, points, &group)?;
     'positions: while group.position() < count {
         let (next, _) = group.forward()?;
         group = next;
-        let now = readings(alloc, points, &group)?;
-        let text = said_here(alloc, points, &before, &now, &group)?;
+        let (now, before) = watching.after_event(alloc, points, &group, steps)?;
+        let text = text_here(alloc, points, before, &now, &group)?;
         last = later(last, group.position(), text);
-        before = now;
+        watching = now;
     }
     Ok((group, last))
 }
@@ -79,8 +88,28 @@ fn later(last: Return, at: u64, text: Text) -> Return
     }
 }
 
-// What all points say that fire where the group stands, in their order, by what they read at the position before and what
-// they read now.
+// What all points say that fire where the group stands, by what they read now, and what they read at the position before,
+// where some point may fire.
+fn text_here(
+    alloc: Global,
+    points: &[Point],
+    before: Option<Vec<Option<i64>>>,
+    now: &Watching,
+    group: &Group<'_, '_>,
+) -> Result<Text, AllocError>
+    requires moved { 0 < group.now.at }
+    requires before { MatchOption before (has_due group.now.start (map {A = Held} seen points.now) group.now.at ≡ false)
+        (λ before. before.items ≡ readings group.now.start (group.now.at - 1) (map {A = Held} seen points.now)) }
+    requires now { IsWatching group.now.start group.now.at (map {A = Held} seen points.now) now.now }
+    ensures { IfOk result (λ text. text ≡ firing_lines group.now.start (map {A = Held} seen points.now) group.now.at) }
+{
+    match before {
+        Some(before) => said_here(alloc, points, &before, &now.values, group),
+        None => Ok(Text::new(alloc)),
+    }
+}
+
+// The same, in the order of the points.
 fn said_here(
     alloc: Global,
     points: &[Point],

@@ -1,56 +1,15 @@
-// What points read at a position, and what they say where they fire.
-ghost use Rattle.std.specs.Prelude.{◌≡◌, ◌++◌, Some, IfOk, OnOk, map};
+// Where points fire, and what they say there.
+ghost use Rattle.std.specs.Prelude.{◌≡◌, ◌++◌, Some, OnOk};
 ghost use Rattle.group_state.specs.Moves.{event_of, last_event_of};
-ghost use Rattle.shell_points.specs.Firing.{is_due_by, is_of, is_same_value, line_by, reading};
-ghost use Rattle.shell_points.specs.Reading.{readings};
-ghost use Rattle.shell_points.specs.Seen.{point as seen, trigger as seen_trigger};
-ghost use Rattle.shell_points.specs.declared.point.Point.{Point as Held};
+ghost use Rattle.shell_points.specs.Firing.{is_due_by, is_of, is_same_value, line_by};
+ghost use Rattle.shell_points.specs.Seen.{trigger as seen_trigger};
 
 use crate::point::{Point, Trigger};
 use embed_cmds::push_value;
 use fri_text::Text;
 use group_state::{Group, GroupEvent};
 use lib_calls::Kind;
-use std::alloc::{AllocError, Global};
-use watch_expr::{Scope, eval};
-
-// A scope in which no variable has a value.
-struct NoVariables;
-
-impl Scope for NoVariables {
-    ghost use Rattle.shell_points.specs.Firing.{no_variable};
-
-    ghost variables = { λ _. no_variable };
-
-    fn value(&self, _: &[u8]) -> Option<i64> {
-        None
-    }
-}
-
-// What a point reads where the group stands.
-fn reading(trigger: &Trigger, group: &Group<'_, '_>) -> Option<i64>
-    ensures { result ≡ reading group.now.start group.now.at (seen_trigger trigger.now) }
-{
-    match trigger {
-        Trigger::Watch(expression) => eval(expression, group, &NoVariables),
-        Trigger::Break(_, _) => None,
-    }
-}
-
-/// What each point reads where the group stands.
-pub(crate) fn readings(
-    alloc: Global,
-    points: &[Point],
-    group: &Group<'_, '_>,
-) -> Result<Vec<Option<i64>>, AllocError>
-    ensures { IfOk result (λ values. values.items ≡ readings group.now.start group.now.at (map {A = Held} seen points.now)) }
-{
-    let mut values = Vec::new(alloc);
-    for point in points {
-        values.push(reading(&point.trigger, group))?;
-    }
-    Ok(values)
-}
+use std::alloc::AllocError;
 
 // Whether two values are the same, where `undef` is so to itself alone.
 fn is_same_value(before: Option<i64>, now: Option<i64>) -> bool

@@ -1,9 +1,11 @@
 // The points that a session holds.
-ghost use Rattle.std.specs.Prelude.{◌≡◌, ◌<◌, ◌++◌, ◌∷◌, ◌==◌, [], IfOk, IfSome, OnOk, length, map, position};
+ghost use Rattle.std.specs.Prelude.{◌≡◌, ◌+◌, ◌-◌, ◌<◌, ◌++◌, ◌∷◌, ◌==◌, [], IfOk, IfSome, OnOk, length, map, position};
 ghost use Rattle.std.specs.List.{flat_map};
 ghost use Rattle.embed_cmds.specs.Tree.{body};
+ghost use Rattle.group_state.specs.Touch.{ticks};
 ghost use Rattle.shell_points.specs.Points.{has_point, new_point, place_of_point, point_text, with_program, without_point};
 ghost use Rattle.shell_points.specs.Seen.{Returns, Walks, point as point_meant, trigger as trigger_meant};
+ghost use Rattle.shell_points.specs.Watching.{watched};
 
 use crate::back::walk_back;
 use crate::point::{Point, Trigger};
@@ -14,6 +16,8 @@ use fri_text::Text;
 use group_state::Group;
 use std::alloc::{AllocError, Global};
 use std::marker::Model;
+use std::sync::ledger::Ledger;
+use watch_expr::Steps;
 
 /// The points that a session holds. Contracts see them as a list, in the order in which they were added.
 #[derive(Drop)]
@@ -114,27 +118,34 @@ impl Points {
     }
 
     /// Goes to the first position behind this one at which a point asks to stop or enough was said, or to the last.
-    pub fn walk<'m, 'a>(
+    /// Each watchpoint is evaluated once where the walk begins, which the counter does not count, and then where an event
+    /// touched something that it reads.
+    pub fn walk<'m, 'a, L: Ledger>(
         &self,
         alloc: Global,
         group: Group<'m, 'a>,
         variables: Vars,
+        steps: &mut Steps<L>,
     ) -> Result<Walked<'m, 'a>, AllocError>
-        ensures { IfOk result (λ done. Walks group.entry self.now variables done.group done.variables done.text) }
+        ensures walks { IfOk result (λ done. Walks group.entry self.now variables done.group done.variables done.text) }
+        ensures ticks { IfOk result (λ done. steps.new ≡ steps.old + ticks group.entry.start (watched self.now) group.entry.at (done.group.at - group.entry.at)) }
     {
-        walk(alloc, group, &self.held, variables)
+        walk(alloc, group, &self.held, variables, steps)
     }
 
     /// Goes to the last position in front of this one at which a point fires, and says what all say that fire there, or
-    /// else goes to position 0. No program runs.
-    pub fn walk_back<'m, 'a>(
+    /// else goes to position 0. No program runs. Watchpoints are evaluated at position 0, which the counter does not count,
+    /// and then where an event touched something that they read.
+    pub fn walk_back<'m, 'a, L: Ledger>(
         &self,
         alloc: Global,
         group: Group<'m, 'a>,
+        steps: &mut Steps<L>,
     ) -> Result<(Group<'m, 'a>, Text), AllocError>
-        ensures { IfOk result (λ done. Returns group.entry self.now done.0 done.1) }
+        ensures returns { IfOk result (λ done. Returns group.entry self.now done.0 done.1) }
+        ensures ticks { OnOk result (steps.new ≡ steps.old + ticks group.entry.start (watched self.now) 0 (group.entry.at - 1)) }
     {
-        walk_back(alloc, group, &self.held)
+        walk_back(alloc, group, &self.held, steps)
     }
 }
 

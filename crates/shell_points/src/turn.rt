@@ -1,14 +1,17 @@
 // What points do at a position.
-ghost use Rattle.std.specs.Prelude.{◌≡◌, ◌<◌, ◌-◌, IfOk, OnOk, map};
+ghost use Rattle.std.specs.Prelude.{◌≡◌, ◌<◌, ◌-◌, IfOk, MatchOption, OnOk, false, map};
+ghost use Rattle.shell_points.specs.Firing.{has_due};
 ghost use Rattle.shell_points.specs.Reading.{readings, treat_by};
 ghost use Rattle.shell_points.specs.Seen.{point as seen, run_so_far};
 ghost use Rattle.shell_points.specs.Walking.{quiet, treat_all};
+ghost use Rattle.shell_points.specs.Watching.{IsWatching};
 ghost use Rattle.shell_points.specs.declared.point.Point.{Point as Held};
 ghost use Rattle.group_state.specs.Moves.{last_event_of};
 ghost use Rattle.group_state.specs.Seen.{nodes_at};
 
 use crate::firing::{is_due, push_line};
 use crate::point::Point;
+use crate::watching::Watching;
 use embed_cmds::{Vars, run_program};
 use fri_text::Text;
 use group_state::Group;
@@ -23,9 +26,37 @@ pub(crate) struct Turn {
     pub(crate) stops: bool,
 }
 
-/// What all points do where the group stands, in their order, by what they read at the position before and what they read
-/// now.
-pub(crate) fn treat_all(
+/// What all points do where the group stands, by what they read now, and what they read at the position before, where some
+/// point may fire.
+pub(crate) fn turn_here(
+    alloc: Global,
+    points: &[Point],
+    before: Option<Vec<Option<i64>>>,
+    now: &Watching,
+    group: &Group<'_, '_>,
+    variables: Vars,
+) -> Result<Turn, AllocError>
+    requires moved { 0 < group.now.at }
+    requires before { MatchOption before (has_due group.now.start (map {A = Held} seen points.now) group.now.at ≡ false)
+        (λ before. before.items ≡ readings group.now.start (group.now.at - 1) (map {A = Held} seen points.now)) }
+    requires now { IsWatching group.now.start group.now.at (map {A = Held} seen points.now) now.now }
+    ensures { IfOk result (λ turn. run_so_far turn ≡ treat_all group.now.start group.now.at (quiet variables) (map {A = Held} seen points.now)) }
+{
+    match before {
+        Some(before) => treat_all(alloc, points, &before, &now.values, group, variables),
+        None => {
+            let text = Text::new(alloc);
+            Ok(Turn {
+                variables,
+                text,
+                stops: false,
+            })
+        }
+    }
+}
+
+// The same, in the order of the points.
+fn treat_all(
     alloc: Global,
     points: &[Point],
     before: &[Option<i64>],

@@ -1,18 +1,22 @@
 // Goes on to where a point asks to stop.
-ghost use Rattle.std.specs.Prelude.{◌≡◌, ◌++◌, IfOk, map};
+ghost use Rattle.std.specs.Prelude.{◌≡◌, ◌+◌, ◌-◌, ◌++◌, IfOk, map};
+ghost use Rattle.group_state.specs.Touch.{ticks};
 ghost use Rattle.shell_points.specs.Seen.{Walks, point as seen};
 ghost use Rattle.group_texts.specs.Texts.{position_line};
 ghost use Rattle.shell_points.specs.Walking.{lines_in};
+ghost use Rattle.shell_points.specs.Watching.{watched};
 ghost use Rattle.shell_points.specs.declared.point.Point.{Point as Held};
 
-use crate::firing::readings;
 use crate::point::Point;
-use crate::turn::treat_all;
+use crate::turn::turn_here;
+use crate::watching::Watching;
 use embed_cmds::Vars;
 use fri_text::Text;
 use group_state::Group;
 use group_texts::push_position;
 use std::alloc::{AllocError, Global};
+use std::sync::ledger::Ledger;
+use watch_expr::Steps;
 
 // A walk that has said so many lines pauses.
 const MOST_LINES: usize = 10_000;
@@ -26,13 +30,15 @@ pub struct Walked<'m, 'a> {
 }
 
 /// Goes to the first position behind this one at which a point asks to stop or enough was said, or to the last.
-pub(crate) fn walk<'m, 'a>(
+pub(crate) fn walk<'m, 'a, L: Ledger>(
     alloc: Global,
     group: Group<'m, 'a>,
     points: &[Point],
     variables: Vars,
+    steps: &mut Steps<L>,
 ) -> Result<Walked<'m, 'a>, AllocError>
-    ensures { IfOk result (λ done. Walks group.entry (map {A = Held} seen points.now) variables done.group done.variables done.text) }
+    ensures walks { IfOk result (λ done. Walks group.entry (map {A = Held} seen points.now) variables done.group done.variables done.text) }
+    ensures ticks { IfOk result (λ done. steps.new ≡ steps.old + ticks group.entry.start (watched (map {A = Held} seen points.now)) group.entry.at (done.group.at - group.entry.at)) }
 {
     let _ = group.position();
     let mut walked = Walked {
@@ -40,7 +46,7 @@ pub(crate) fn walk<'m, 'a>(
         variables,
         text: Text::new(alloc),
     };
-    let mut before = readings(alloc, points, &walked.group)?;
+    let mut watching = Watching::begin(alloc, points, &walked.group)?;
     let mut said = 0;
     'positions: loop {
         let Walked {
@@ -52,8 +58,8 @@ pub(crate) fn walk<'m, 'a>(
         if event.is_none() {
             return arrive(group, variables, text, "end\n");
         }
-        let now = readings(alloc, points, &group)?;
-        let turn = treat_all(alloc, points, &before, &now, &group, variables)?;
+        let (now, before) = watching.after_event(alloc, points, &group, steps)?;
+        let turn = turn_here(alloc, points, before, &now, &group, variables)?;
         text.push_bytes(turn.text.bytes())?;
         if turn.stops {
             return arrive(group, turn.variables, text, "");
@@ -62,7 +68,7 @@ pub(crate) fn walk<'m, 'a>(
         if said >= MOST_LINES {
             return arrive(group, turn.variables, text, "paused\n");
         }
-        before = now;
+        watching = now;
         walked = Walked {
             group,
             variables: turn.variables,

@@ -29,7 +29,7 @@ returns-in-Err-WriteFault g c =
     let e = rw c.in-Err-WriteFault.field-0-is at c.in-Err-WriteFault.ensures in
     conversed_write c.args.parts.items (g.T.Sink.hearing c.args.io.now) (g.T.Sink.hearing c.hold.new.io) (g.T.Sink.taken c.args.io.now) (g.T.Sink.taken c.hold.new.io) (g.T.Sink.faults c.args.io.now) (g.T.Sink.faults c.hold.new.io) e.said e.reads e.counted
 
-pub returns-in-Err-NoMemory : goal.returns-in-Err-NoMemory
-returns-in-Err-NoMemory g c =
+pub returns : goal.returns
+returns g c =
     let e = rw c.in-Err-NoMemory.field-0-is at c.in-Err-NoMemory.ensures in
     conversed_memory c.args.parts.items (g.T.Sink.hearing c.args.io.now) (g.T.Sink.hearing c.hold.new.io) (g.T.Sink.taken c.args.io.now) (g.T.Sink.taken c.hold.new.io) (g.T.Sink.faults c.args.io.now) (g.T.Sink.faults c.hold.new.io) e.said e.reads e.counted

@@ -4,5 +4,5 @@ use Rattle.friday_shell.proofs.Answered.{start_stays}
 use Rattle.friday_shell.proofs.answer.perform.Goals as goal
 
 pub returns-clause-start : goal.returns-clause-start
-returns-clause-start c =
-    start_stays (session_state c.args.state) c.args.line.now (command c.args.command) c.run.result (λ done. session_state done.0) (λ done. done.1) c.run.ensures
+returns-clause-start g c =
+    start_stays (session_state c.args.state) c.args.line.now (command c.args.command) c.run.result (λ done. session_state done.0) (λ done. done.1) c.run.ensures.answer

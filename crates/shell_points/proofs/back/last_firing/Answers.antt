@@ -1,50 +1,56 @@
 use Rattle.std.proofs.Common.{◌≡◌, ◌∙◌, ◌-◌, ◌++◌, List, ℕ, codes, map, suc, ap, sym, refl, arith}
 use Rattle.proc_replay.specs.Replaying.{Replaying}
 use Rattle.group_state.specs.Place.{Place}
+use Rattle.group_state.specs.Touch.{ticks}
 use Rattle.shell_points.specs.declared.point.Point.{Point as Held}
 use Rattle.shell_points.specs.Firing.{firing_lines, place_at}
-use Rattle.shell_points.specs.Reading.{readings}
 use Rattle.shell_points.specs.Returning.{return_from}
 use Rattle.shell_points.specs.Seen.{point, return_of}
 use Rattle.shell_points.proofs.Returning.{begins_so, goes_to, later_last}
+use Rattle.shell_points.specs.Watching.{watched}
+use Rattle.shell_points.proofs.Reading.{moved_on, read_before, read_now, ticked_from_start}
 use Rattle.shell_points.proofs.back.last_firing.Goals as goal
 
 pub positions-init : goal.positions-init
-positions-init c = record {
+positions-init g c = record {
   start = refl;
   within = omega arith;
-  read = c.in_ok-before.ensures;
+  read = c.in_ok-watching.ensures;
   last = begins_so c.args.group.start (map {A = Held} point c.args.points.now) c.args.group.at c.push_str.new.self c.requires.begins
       (c.in_ok-push_str.ensures.ok ∙ ap (λ (t : List ℕ). t ++ codes "start\n") c.new-text.ensures);
+  ticks = omega (arith, ap (ticks c.args.group.start (watched (map {A = Held} point c.args.points.now)) 0) c.requires.begins);
 }
 
-pub said_here-requires-clause-moved : goal.said_here-requires-clause-moved
-said_here-requires-clause-moved c =
-    let old = c.positions.group in
-    let went = goes_to c.args.group old c.in_ok-next.next c.in_ok-next.field-0-1 c.args.count c.positions.invariant.start (omega arith) c.requires.within c.in_ok-next.ensures in
-    let at : c.in_ok-next.next.at ≡ suc old.at = ap (λ (p : Place). p.at) went in
-    omega (arith, at)
-
-pub said_here-requires-clause-before : goal.said_here-requires-clause-before
-said_here-requires-clause-before c =
+pub after_event-requires-clause-moved : goal.after_event-requires-clause-moved
+after_event-requires-clause-moved g c =
     let old = c.positions.group in
     let next = c.in_ok-next.next in
-    let ps = map {A = Held} point c.args.points.now in
     let went = goes_to c.args.group old next c.in_ok-next.field-0-1 c.args.count c.positions.invariant.start (omega arith) c.requires.within c.in_ok-next.ensures in
-    let at : next.at ≡ suc old.at = ap (λ (p : Place). p.at) went in
-    let one : old.at ≡ next.at - 1 = omega (arith, at) in
-    c.deref.ensures.value ∙ c.positions.invariant.read ∙ ap (λ (n : ℕ). readings c.args.group.start n ps) one
-    ∙ ap (λ (p : Place). readings p.start (next.at - 1) ps) (sym went)
+    moved_on c.args.group.start old.at next went
+
+pub after_event-requires-clause-before : goal.after_event-requires-clause-before
+after_event-requires-clause-before g c =
+    let old = c.positions.group in
+    let next = c.in_ok-next.next in
+    let went = goes_to c.args.group old next c.in_ok-next.field-0-1 c.args.count c.positions.invariant.start (omega arith) c.requires.within c.in_ok-next.ensures in
+    read_before c.args.group.start old.at (map {A = Held} point c.args.points.now) c.positions.watching next went c.positions.invariant.read
+
+pub text_here-requires-clause-moved : goal.text_here-requires-clause-moved
+text_here-requires-clause-moved g c =
+    let old = c.positions.group in
+    let next = c.in_ok-next.next in
+    let went = goes_to c.args.group old next c.in_ok-next.field-0-1 c.args.count c.positions.invariant.start (omega arith) c.requires.within c.in_ok-next.ensures in
+    moved_on c.args.group.start old.at next went
 
 pub positions-smaller : goal.positions-smaller
-positions-smaller c =
+positions-smaller g c =
     let old = c.positions.group in
     let went = goes_to c.args.group old c.in_ok-next.next c.in_ok-next.field-0-1 c.args.count c.positions.invariant.start (omega arith) c.requires.within c.in_ok-next.ensures in
     let at : c.in_ok-next.next.at ≡ suc old.at = ap (λ (p : Place). p.at) went in
     omega (arith, at)
 
 pub positions-preserved : goal.positions-preserved
-positions-preserved c =
+positions-preserved g c =
     let i = c.positions.invariant in
     let start = c.args.group.start in
     let old = c.positions.group in
@@ -56,7 +62,8 @@ positions-preserved c =
     record {
       start = same;
       within = omega (arith, at);
-      read = c.in_ok-now.ensures ∙ ap (λ (s : List Replaying). readings s next.at ps) same;
+      read = read_now start old.at ps c.in_ok-now.now next went c.in_ok-now.ensures.now;
       last = later_last start ps next.at c.position-in-positions.result (return_of c.positions.last) (return_of c.later-last.result) c.in_ok-text.text c.position-in-positions.ensures.position
           (c.in_ok-text.ensures ∙ ap (λ (s : List Replaying). firing_lines s ps next.at) same) (i.last ∙ ap (λ (n : ℕ). return_from (place_at start n) ps) (sym at)) c.later-last.ensures;
+      ticks = ticked_from_start start (watched ps) old.at next c.args.steps.now c.positions.steps c.after_event.new.steps went i.ticks c.in_ok-now.ensures.ticks;
     }

@@ -1,19 +1,21 @@
-use Rattle.std.proofs.Common.{◌≡◌, ◌-◌, ◌≤◌, map, suc}
+use Rattle.std.proofs.Common.{◌≡◌, ◌+◌, ◌-◌, ◌≤◌, map, suc}
+use Rattle.group_state.specs.Touch.{ticks}
 use Rattle.shell_points.specs.declared.point.Point.{Point as Held}
 use Rattle.shell_points.specs.Firing.{place_at}
-use Rattle.shell_points.specs.Reading.{readings}
 use Rattle.shell_points.specs.Returning.{return_from}
 use Rattle.shell_points.specs.Seen.{point, return_of}
+use Rattle.shell_points.specs.Watching.{IsWatching, watched}
 use Rattle.shell_points.proofs.back.last_firing.Given as goal
 
 -- up to here points fired last where is kept
 abbrev pub invariant-positions : goal.invariant-positions
-invariant-positions l = record {
+invariant-positions g l = record {
   start : l.group.start ≡ l.fn.group.start;
   within : l.group.at ≤ l.count;
-  read : l.before.items ≡ readings l.fn.group.start l.group.at (map {A = Held} point l.points);
+  read : IsWatching l.fn.group.start l.group.at (map {A = Held} point l.points) l.watching;
   last : return_of l.last ≡ return_from (place_at l.fn.group.start (suc l.group.at)) (map {A = Held} point l.points);
+  ticks : l.steps ≡ l.fn.steps + ticks l.fn.group.start (watched (map {A = Held} point l.points)) 0 l.group.at;
 }
 
 abbrev pub decreases-positions : goal.decreases-positions
-decreases-positions l = l.count - l.group.at
+decreases-positions g l = l.count - l.group.at

@@ -8,8 +8,8 @@ use Rattle.shell_points.specs.Seen.{point, return_of}
 use Rattle.shell_points.proofs.Returning.{gone_to, last_within, returns_there}
 use Rattle.shell_points.proofs.back.walk_back.Goals as goal
 
-pub returns : goal.returns
-returns c =
+pub returns-clause-returns : goal.returns-clause-returns
+returns-clause-returns g c =
     let first = c.args.group in
     let ps = map {A = Held} point c.args.points.now in
     let count = c.saturating_sub-count.result in

@@ -1,24 +1,120 @@
-use Rattle.std.proofs.Common.{◌≡◌, ◌-◌, ◌<◌, ◌≤◌, ◌++◌, List, [], ℕ, Result, Ok, Err, suc, map, length, true, false, not, codes, sym, ap, ◌∙◌, arith}
+use Rattle.std.proofs.Common.{rules, ◌≡◌, ◌+◌, ◌-◌, ◌<◌, ◌≤◌, ◌++◌, List, [], ℕ, Result, Ok, Err, suc, map, length, true, false, not, codes, refl, sym, ap, ◌∙◌, arith}
 use Rattle.std.specs.Prelude.{IfOk, is_some}
 use Rattle.std.proofs.lemmas.List.{append-nil}
 use Rattle.proc_replay.specs.Replaying.{Replaying}
 use Rattle.group_state.specs.Place.{Place, events}
+use Rattle.group_state.specs.Touch.{ticks}
 use Rattle.shell_points.specs.declared.point.Point.{Point as Held}
 use Rattle.shell_points.specs.Firing.{place_at}
-use Rattle.shell_points.specs.Reading.{readings}
 use Rattle.shell_points.specs.Seen.{Walks, point, run_so_far}
 use Rattle.group_texts.specs.Texts.{position_line}
 use Rattle.shell_points.specs.Walking.{lines_in, most_lines, quiet, treat_all, walk_ended, walk_from, walk_on, walk_over}
 use Rattle.shell_points.proofs.Walks.{arrives, lines_append, moves_on, pauses_here, rests_here, stays, step, stops_here}
+use Rattle.shell_points.specs.Watching.{watched}
+use Rattle.shell_points.proofs.Reading.{moved_on, read_before, read_now, ticked, ticks_none}
 use Rattle.shell_points.proofs.walk.walk.Goals as goal
 
 all_three : {A E : Type 0} (r : Result A E) (P Q R S : A → Type 0) → ((a : A) → P a → Q a → R a → S a) → IfOk r P → IfOk r Q → IfOk r R → IfOk r S
 all_three (Ok a) P Q R S joined p q r = joined a p q r
 all_three (Err e) P Q R S joined p q r = tt
 
+one_of : {A E : Type 0} (r : Result A E) (P S : A → Type 0) → ((a : A) → P a → S a) → IfOk r P → IfOk r S
+one_of (Ok a) P S follows p = follows a p
+one_of (Err e) P S follows p = tt
+
+pub positions-init : goal.positions-init
+positions-init g c = record {
+  start = refl;
+  within = c.position.ensures.within;
+  after = omega arith;
+  read = c.in_ok-watching.ensures;
+  said = search rules;
+  ahead = search rules;
+  ticks = omega (arith, ticks_none c.args.group.start (watched (map {A = Held} point c.args.points.now)) c.args.group.at);
+}
+
+pub after_event-requires-clause-moved : goal.after_event-requires-clause-moved
+after_event-requires-clause-moved g c =
+    let i = c.positions.invariant in
+    let first = c.args.group in
+    let old = c.positions.walked.group in
+    let new = c.in_ok-group.group in
+    let some : is_some c.in_ok-group.event ≡ true = c.is_none.ensures ∙ ap not c.if-is_none.false in
+    let went = moves_on old new c.in_ok-group.event some c.in_ok-group.ensures in
+    let here : new ≡ place_at first.start (suc old.at) = went.0 ∙ ap (λ (s : List Replaying). place_at s (suc old.at)) i.start in
+    moved_on first.start old.at new here
+
+pub after_event-requires-clause-before : goal.after_event-requires-clause-before
+after_event-requires-clause-before g c =
+    let i = c.positions.invariant in
+    let first = c.args.group in
+    let old = c.positions.walked.group in
+    let new = c.in_ok-group.group in
+    let ps = map {A = Held} point c.args.points.now in
+    let some : is_some c.in_ok-group.event ≡ true = c.is_none.ensures ∙ ap not c.if-is_none.false in
+    let went = moves_on old new c.in_ok-group.event some c.in_ok-group.ensures in
+    let here : new ≡ place_at first.start (suc old.at) = went.0 ∙ ap (λ (s : List Replaying). place_at s (suc old.at)) i.start in
+    read_before first.start old.at ps c.positions.watching new here i.read
+
+pub turn_here-requires-clause-moved : goal.turn_here-requires-clause-moved
+turn_here-requires-clause-moved g c =
+    let i = c.positions.invariant in
+    let first = c.args.group in
+    let old = c.positions.walked.group in
+    let new = c.in_ok-group.group in
+    let some : is_some c.in_ok-group.event ≡ true = c.is_none.ensures ∙ ap not c.if-is_none.false in
+    let went = moves_on old new c.in_ok-group.event some c.in_ok-group.ensures in
+    let here : new ≡ place_at first.start (suc old.at) = went.0 ∙ ap (λ (s : List Replaying). place_at s (suc old.at)) i.start in
+    moved_on first.start old.at new here
+
+pub returns-then-is_none-clause-ticks : goal.returns-then-is_none-clause-ticks
+returns-then-is_none-clause-ticks g c =
+    let i = c.positions.invariant in
+    let first = c.args.group in
+    let old = c.positions.walked.group in
+    let new = c.in_ok-group.group in
+    let ps = map {A = Held} point c.args.points.now in
+    let none : is_some c.in_ok-group.event ≡ false = c.is_none.ensures ∙ ap not c.if-is_none.true in
+    let stay = stays old new c.in_ok-group.event none c.in_ok-group.ensures in
+    one_of c.arrive.result (λ done. done.group ≡ new) (λ done. c.positions.steps ≡ c.args.steps.now + ticks first.start (watched ps) first.at (done.group.at - first.at))
+    (λ done same. i.ticks ∙ ap (λ (p : Place). c.args.steps.now + ticks first.start (watched ps) first.at (p.at - first.at)) (sym (same ∙ stay.0)))
+    c.arrive.ensures.group
+
+pub returns-then-turn-clause-ticks : goal.returns-then-turn-clause-ticks
+returns-then-turn-clause-ticks g c =
+    let i = c.positions.invariant in
+    let first = c.args.group in
+    let old = c.positions.walked.group in
+    let new = c.in_ok-group.group in
+    let ps = map {A = Held} point c.args.points.now in
+    let some : is_some c.in_ok-group.event ≡ true = c.is_none.ensures ∙ ap not c.if-is_none.false in
+    let went = moves_on old new c.in_ok-group.event some c.in_ok-group.ensures in
+    let here : new ≡ place_at first.start (suc old.at) = went.0 ∙ ap (λ (s : List Replaying). place_at s (suc old.at)) i.start in
+    let is : c.after_event.new.steps ≡ c.args.steps.now + ticks first.start (watched ps) first.at (new.at - first.at) =
+    ticked first.start (watched ps) first.at old.at new c.args.steps.now c.positions.steps c.after_event.new.steps i.after here i.ticks c.in_ok-now.ensures.ticks in
+    one_of c.arrive-then-turn.result (λ done. done.group ≡ new) (λ done. c.after_event.new.steps ≡ c.args.steps.now + ticks first.start (watched ps) first.at (done.group.at - first.at))
+    (λ done same. is ∙ ap (λ (p : Place). c.args.steps.now + ticks first.start (watched ps) first.at (p.at - first.at)) (sym same))
+    c.arrive-then-turn.ensures.group
+
+pub returns-then-said-ge-MOST_LINES-clause-ticks : goal.returns-then-said-ge-MOST_LINES-clause-ticks
+returns-then-said-ge-MOST_LINES-clause-ticks g c =
+    let i = c.positions.invariant in
+    let first = c.args.group in
+    let old = c.positions.walked.group in
+    let new = c.in_ok-group.group in
+    let ps = map {A = Held} point c.args.points.now in
+    let some : is_some c.in_ok-group.event ≡ true = c.is_none.ensures ∙ ap not c.if-is_none.false in
+    let went = moves_on old new c.in_ok-group.event some c.in_ok-group.ensures in
+    let here : new ≡ place_at first.start (suc old.at) = went.0 ∙ ap (λ (s : List Replaying). place_at s (suc old.at)) i.start in
+    let is : c.after_event.new.steps ≡ c.args.steps.now + ticks first.start (watched ps) first.at (new.at - first.at) =
+    ticked first.start (watched ps) first.at old.at new c.args.steps.now c.positions.steps c.after_event.new.steps i.after here i.ticks c.in_ok-now.ensures.ticks in
+    one_of c.arrive-then-said-ge-MOST_LINES.result (λ done. done.group ≡ new) (λ done. c.after_event.new.steps ≡ c.args.steps.now + ticks first.start (watched ps) first.at (done.group.at - first.at))
+    (λ done same. is ∙ ap (λ (p : Place). c.args.steps.now + ticks first.start (watched ps) first.at (p.at - first.at)) (sym same))
+    c.arrive-then-said-ge-MOST_LINES.ensures.group
+
 -- where a walk ended, what was said and the position came to be its text
-pub returns-then-is_none : goal.returns-then-is_none
-returns-then-is_none c =
+pub returns-then-is_none-clause-walks : goal.returns-then-is_none-clause-walks
+returns-then-is_none-clause-walks g c =
     let i = c.positions.invariant in
     let first = c.args.group in
     let old = c.positions.walked.group in
@@ -38,8 +134,8 @@ returns-then-is_none c =
     (λ done same kept says. arrives first ps c.args.variables variables old.at (text ++ codes "end\n") is new done.group done.variables done.text here same kept says)
     c.arrive.ensures.group c.arrive.ensures.variables c.arrive.ensures.text
 
-pub returns-then-turn : goal.returns-then-turn
-returns-then-turn c =
+pub returns-then-turn-clause-walks : goal.returns-then-turn-clause-walks
+returns-then-turn-clause-walks g c =
     let i = c.positions.invariant in
     let first = c.args.group in
     let old = c.positions.walked.group in
@@ -64,8 +160,8 @@ returns-then-turn c =
     (says ∙ ap (λ (t : List ℕ). t ++ position_line new) (append-nil c.push_bytes.new.self ∙ said)))
     c.arrive-then-turn.ensures.group c.arrive-then-turn.ensures.variables c.arrive-then-turn.ensures.text
 
-pub returns-then-said-ge-MOST_LINES : goal.returns-then-said-ge-MOST_LINES
-returns-then-said-ge-MOST_LINES c =
+pub returns-then-said-ge-MOST_LINES-clause-walks : goal.returns-then-said-ge-MOST_LINES-clause-walks
+returns-then-said-ge-MOST_LINES-clause-walks g c =
     let i = c.positions.invariant in
     let first = c.args.group in
     let old = c.positions.walked.group in
@@ -92,8 +188,21 @@ returns-then-said-ge-MOST_LINES c =
     (says ∙ ap (λ (t : List ℕ). (t ++ codes "paused\n") ++ position_line new) said))
     c.arrive-then-said-ge-MOST_LINES.ensures.group c.arrive-then-said-ge-MOST_LINES.ensures.variables c.arrive-then-said-ge-MOST_LINES.ensures.text
 
+pub positions-smaller : goal.positions-smaller
+positions-smaller g c =
+    let i = c.positions.invariant in
+    let first = c.args.group in
+    let old = c.positions.walked.group in
+    let new = c.in_ok-group.group in
+    let some : is_some c.in_ok-group.event ≡ true = c.is_none.ensures ∙ ap not c.if-is_none.false in
+    let went = moves_on old new c.in_ok-group.event some c.in_ok-group.ensures in
+    let here : new ≡ place_at first.start (suc old.at) = went.0 ∙ ap (λ (s : List Replaying). place_at s (suc old.at)) i.start in
+    let at : new.at ≡ suc old.at = ap (λ (p : Place). p.at) here in
+    let before : old.at < length (events first.start) = omega (arith, went.1, ap (λ (s : List Replaying). length (events s)) i.start) in
+    omega (arith, at, before)
+
 pub positions-preserved : goal.positions-preserved
-positions-preserved c =
+positions-preserved g c =
     let i = c.positions.invariant in
     let first = c.args.group in
     let old = c.positions.walked.group in
@@ -118,8 +227,10 @@ positions-preserved c =
     record {
       start = same;
       within = omega (arith, before, at);
-      read = c.in_ok-now.ensures ∙ ap (λ (s : List Replaying). readings s new.at ps) same;
+      after = omega (arith, at, i.after);
+      read = read_now first.start old.at ps c.in_ok-now.now new here c.in_ok-now.ensures.now;
       said = omega (arith, lines_append text turn.text, i.said, c.lines_in-said.ensures, ap lines_in said);
       ahead = ap (λ (t : List ℕ). walk_over first.start ps new.at (length (events first.start) - new.at) turn.variables t) said
           ∙ ap (λ (n : ℕ). walk_over first.start ps n (length (events first.start) - n) turn.variables (text ++ turn.text)) at ∙ sym is;
+      ticks = ticked first.start (watched ps) first.at old.at new c.args.steps.now c.positions.steps c.after_event.new.steps i.after here i.ticks c.in_ok-now.ensures.ticks;
     }
