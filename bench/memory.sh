@@ -8,9 +8,11 @@ here=$(CDPATH='' cd -- "$(dirname -- "$0")/.." && pwd) || exit 1
 . "$here/tools/usage.sh"
 program=${1:-$here/crates/friday/out/friday}
 exec python3 - "$here" "$program" <<'PYTHON'
-import os, subprocess, sys, tempfile
+import os, shutil, subprocess, sys, tempfile
 
 here, program = sys.argv[1], os.path.abspath(sys.argv[2])
+sys.path.insert(0, os.path.join(here, "tools"))
+import logs
 
 # Counts the requests, refuses those from FIRST to LAST, and makes the file MARK where there are as many as FIRST.
 REFUSING = r"""
@@ -70,6 +72,7 @@ PAIRS = ["ping.wasm", "ping.log", "pong.wasm", "pong.log"]
 ROWS = (
     (["record", "one"], ["a"], ""),
     (["replay", "now.wasm", "a.log"], [], ""),
+    (["migrate", "first.log", "a.log"], ["a"], ""),
     (["record", "--images", "two"], ["ping", "pong"], ""),
     (["replay", "--images", *PAIRS], [], ""),
     (["debug", *PAIRS], [], WATCH),
@@ -99,12 +102,8 @@ def forget(names):
         os.remove(name)
 
 
-def sizes(log):
-    """The sizes of a log's head, and of the log after each of its entries."""
-    ends = [17 + log[16]]
-    while ends[-1] < len(log):
-        ends.append(ends[-1] + 4 + int.from_bytes(log[ends[-1] : ends[-1] + 4], "little"))
-    return ends
+def sizes(data):
+    return logs.ends(logs.log_in(data))
 
 
 def check_stopped(names, whole):
@@ -112,13 +111,13 @@ def check_stopped(names, whole):
     stands = held(names)
     for name, data in stands.items():
         assert whole[name].startswith(data), f"{name} is no front of what it is to hold"
-    logs = [stands.get(f"{name}.log") for name in names]
+    left = [stands.get(f"{name}.log") for name in names]
     ends = [sizes(whole[f"{name}.log"]) for name in names]
-    if None in logs or any(len(log) < end[0] for log, end in zip(logs, ends)):
-        assert all(log is None or len(log) <= end[0] for log, end in zip(logs, ends)), "an entry stands where a head does not"
+    if None in left or any(len(log) < end[0] for log, end in zip(left, ends)):
+        assert all(log is None or len(log) <= end[0] for log, end in zip(left, ends)), "an entry stands where a head does not"
         return
     turns = TURNS if len(names) == 2 else (0,) * 3
-    counts = [sum(size <= len(log) for size in end) - 1 for log, end in zip(logs, ends)]
+    counts = [sum(size <= len(log) for size in end) - 1 for log, end in zip(left, ends)]
     made = turns[: sum(counts)]
     assert counts == [made.count(p) for p in range(len(names))], "the logs are those of no moment"
     pairs = [word for name in names for word in (f"{'now' if name == 'a' else name}.wasm", f"{name}.log")]
@@ -174,6 +173,8 @@ with tempfile.TemporaryDirectory() as folder:
     os.chdir(folder)
     for guest in ("now", "ping", "pong"):
         subprocess.run(["wat2wasm", f"{here}/crates/friday_cases/guests/{guest}.wat", "-o", guest + ".wasm"], check=True)
+    # A log of the version 1, of the events of the first schedule.
+    shutil.copy(f"{here}/examples/first/a.log", "first.log")
     for name, text in (("one", ONE), ("two", TWO), ("refusing.c", REFUSING)):
         with open(name, "w") as file:
             file.write(text)

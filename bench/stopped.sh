@@ -1,17 +1,22 @@
 #!/bin/sh
 # Stops a long recording of a group by `kill -9` at random moments, and looks at the logs that are left: each is the
 # front of the log of the whole recording, `friday replay` accepts each to its last whole entry, at most one log has a
-# part of an entry behind that, and each datagram that was taken has its send in them.
+# part of an entry behind that, and each datagram that was taken has its send in them. Then a migration of the longest log, in
+# the version 1, is stopped so: the new file is as it was, or has a front of the new log; and the old log stays.
 # Usage: bench/stopped.sh [PROGRAM [TIMES]]   (the proved program and 200 times, if none are given)
 here=$(CDPATH='' cd -- "$(dirname -- "$0")/.." && pwd) || exit 1
 . "$here/tools/usage.sh"
 program=${1:-$here/crates/friday/out/friday}
-exec python3 - "$program" "${2:-200}" <<'PYTHON'
-import os, random, re, signal, struct, subprocess, sys, tempfile, time
+exec python3 - "$program" "${2:-200}" "$here/tools" <<'PYTHON'
+import os, random, signal, subprocess, sys, tempfile, time
+from bisect import bisect
+from dataclasses import replace
 
 program, TIMES = os.path.abspath(sys.argv[1]), int(sys.argv[2])
+sys.path.insert(0, sys.argv[3])
+from logs import ends, log_in, spelled
+
 COUNT, ROUNDS = 4, 10_000
-SEND, RECV = 8, 9
 
 RING = """(module
   (import "liblog" "me" (func $me (result i32)))
@@ -49,19 +54,16 @@ def read_logs(folder):
     return logs
 
 
-# The whole entries of a log, as kind, clock and tag, and how many bytes are left.
-def entries(log):
-    at, found = 17 + log[16], []
-    while at + 4 <= len(log):
-        (size,) = struct.unpack_from("<I", log, at)
-        body = log[at + 4 : at + 4 + size]
-        if len(body) < size:
-            break
-        clock, kind = struct.unpack_from("<Q", body)[0], body[10]
-        tag = struct.unpack_from("<IQ", body, size - 12) if kind == RECV and body[size - 13] == 1 else None
-        found.append((kind, clock, tag))
-        at += 4 + size
-    return found, len(log) - at
+# Logs of whole recordings are read once, and what is left of one is a front of it.
+class Whole:
+    def __init__(self, data):
+        self.data, self.log = data, log_in(data)
+        self.ends = ends(self.log)
+
+    # The whole entries in so many bytes, and how many bytes are left.
+    def front(self, size):
+        count = bisect(self.ends, size) - 1
+        return self.log.entries[:count], size - self.ends[count]
 
 
 def check(folder, whole, logs):
@@ -69,17 +71,63 @@ def check(folder, whole, logs):
     for p, log in enumerate(logs):
         if log is None or len(log) < 19:
             continue
-        assert whole[p].startswith(log), "p%d.log is no front of the whole log" % p
-        found, left = entries(log)
+        assert whole[p].data.startswith(log), "p%d.log is no front of the whole log" % p
+        found, left = whole[p].front(len(log))
         torn += left > 0
-        clocks[p] = {clock for kind, clock, _ in found if kind == SEND}
-        tags += [tag for _, _, tag in found if tag]
+        clocks[p] = {entry.clock for entry in found if entry.call.name == "send"}
+        tags += [entry.tag for entry in found if entry.tag]
         done = subprocess.run([program, "replay", "ring.wasm", "p%d.log" % p], cwd=folder, stdout=subprocess.PIPE, text=True)
         verdict = "%d bytes left over" % left if left else "log whole"
         assert done.returncode == 0 and "p%d: %d events, running, %s\n" % (p, len(found), verdict) in done.stdout, done.stdout
     assert torn <= 1, "%d logs end in a part of an entry" % torn
     assert all(clock in clocks[sender] for sender, clock in tags), "a datagram was taken whose send is in no log"
-    return sum(len(c) for c in clocks), torn
+    return torn
+
+
+# Whether a call was stopped, after a random part of the time that it takes.
+def stopped_call(folder, words, spent):
+    child = subprocess.Popen([program, *words], cwd=folder, stdout=subprocess.DEVNULL)
+    time.sleep(random.uniform(0, spent))
+    child.send_signal(signal.SIGKILL)
+    return child.wait() == -signal.SIGKILL
+
+
+def timed(folder, words):
+    start = time.perf_counter()
+    subprocess.run([program, *words], cwd=folder, check=True, stdout=subprocess.DEVNULL)
+    return time.perf_counter() - start
+
+
+def stop_recordings(folder):
+    spent = timed(folder, ["record", "s"])
+    whole = [Whole(data) for data in read_logs(folder)]
+    stopped = torn = 0
+    for _ in range(TIMES):
+        for p in range(COUNT):
+            os.remove(os.path.join(folder, "p%d.log" % p)) if os.path.exists(os.path.join(folder, "p%d.log" % p)) else None
+        stopped += stopped_call(folder, ["record", "s"], spent)
+        torn += check(folder, whole, read_logs(folder))
+    print("%d recordings of %.2f s, %d stopped before their end, %d with a part of an entry: all logs replay" % (TIMES, spent, stopped, torn))
+    return max((each.log for each in whole), key=lambda log: len(log.entries))
+
+
+def stop_migrations(folder, log):
+    old, new = os.path.join(folder, "old"), os.path.join(folder, "new")
+    given, wanted = spelled(replace(log, version=1)), spelled(replace(log, version=2))
+    with open(old, "wb") as file:
+        file.write(given)
+    spent, stopped, untouched, part = timed(folder, ["migrate", "old", "new"]), 0, 0, 0
+    for _ in range(TIMES):
+        with open(new, "wb") as file:
+            file.write(b"before")
+        stopped += stopped_call(folder, ["migrate", "old", "new"], spent)
+        with open(old, "rb") as first, open(new, "rb") as second:
+            assert first.read() == given, "the old log is another one"
+            left = second.read()
+        assert left == b"before" or wanted.startswith(left), "the new file is neither what it was nor a front of the log"
+        untouched += left == b"before"
+        part += left != b"before" and left != wanted
+    print("%d migrations of %.3f s, %d stopped before their end: %d left the file as it was, %d a front of the log" % (TIMES, spent, stopped, untouched, part))
 
 
 with tempfile.TemporaryDirectory() as folder:
@@ -87,17 +135,5 @@ with tempfile.TemporaryDirectory() as folder:
         file.write(RING)
     subprocess.run(["wat2wasm", "ring.wat", "-o", "ring.wasm"], cwd=folder, check=True)
     write_schedule(os.path.join(folder, "s"))
-    start = time.perf_counter()
-    subprocess.run([program, "record", "s"], cwd=folder, check=True, stdout=subprocess.DEVNULL)
-    spent, whole = time.perf_counter() - start, read_logs(folder)
-    stopped = torn = 0
-    for _ in range(TIMES):
-        for p in range(COUNT):
-            os.remove(os.path.join(folder, "p%d.log" % p)) if os.path.exists(os.path.join(folder, "p%d.log" % p)) else None
-        child = subprocess.Popen([program, "record", "s"], cwd=folder, stdout=subprocess.DEVNULL)
-        time.sleep(random.uniform(0, spent))
-        child.send_signal(signal.SIGKILL)
-        stopped += child.wait() == -signal.SIGKILL
-        torn += check(folder, whole, read_logs(folder))[1]
-    print("%d recordings of %.2f s, %d stopped before their end, %d with a part of an entry: all logs replay" % (TIMES, spent, stopped, torn))
+    stop_migrations(folder, stop_recordings(folder))
 PYTHON

@@ -11,29 +11,17 @@ import json
 import os
 import random
 import re
-import struct
 import subprocess
 import sys
 import tempfile
 import xml.etree.ElementTree as ElementTree
 
-from logs import CALLS, read_log
+from logs import CALLS, Entry, Log, read_log, spelled
 from traffic import traffic_of
 from vector_clocks import PARSER, happens_before, vector_clocks
 
 PICTURE = os.path.join(os.path.dirname(os.path.abspath(__file__)), "picture.py")
-KINDS = {call.name: kind for kind, call in enumerate(CALLS)}
-
-
-def spelled(clock, name, arguments, reply, *data):
-    """An entry of thread 0, behind whose reply these bytes stand."""
-    body = struct.pack("<QHBB", clock, 0, KINDS[name], 0) + struct.pack("<%dq" % (len(arguments) + 1), *arguments, reply)
-    body += b"".join(data)
-    return struct.pack("<I", len(body)) + body
-
-
-def with_length(data):
-    return struct.pack("<I", len(data)) + data
+BY_NAME = {call.name: call for call in CALLS}
 
 
 class MadeUp:
@@ -41,7 +29,8 @@ class MadeUp:
 
     def __init__(self, seed, processes):
         self.draw = random.Random(seed)
-        self.logs = [b"LLOG" + struct.pack("<IIIB", 1, processes, process, 2) + b"n%x" % process for process in range(processes)]
+        # Both versions of logs may stand in a group.
+        self.logs = [Log(processes, process, "n%x" % process, [], 1 + (seed + process) % 2) for process in range(processes)]
         self.clocks, self.sent = [0] * processes, []
         self.sends = self.receives = 0
 
@@ -51,21 +40,21 @@ class MadeUp:
         act = self.draw.choice((self.send, self.receive if waiting else self.note, self.note))
         act(process, waiting)
 
-    def add(self, process, *entry):
+    def add(self, process, name, arguments, reply, sent=b"", taken=b"", tag=None):
         self.clocks[process] += 1
-        self.logs[process] += spelled(self.clocks[process], *entry)
+        entry = Entry(self.clocks[process], 0, BY_NAME[name], 0, arguments, reply, sent, taken, tag)
+        self.logs[process].entries.append(entry)
 
     def send(self, process, _):
         receiver, data = self.draw.randrange(len(self.logs)), b"<%d&" % len(self.sent)
-        self.add(process, "send", (receiver, 64, len(data)), len(data), with_length(data))
+        self.add(process, "send", (receiver, 64, len(data)), len(data), sent=data)
         self.sent.append((process, receiver, self.clocks[process], data))
         self.sends += 1
 
     def receive(self, process, waiting):
         sender, _, clock, data = self.draw.choice(waiting)
         self.clocks[process] = max(self.clocks[process], clock)
-        tag = struct.pack("<BIQ", 1, sender, clock)
-        self.add(process, "recv", (64, 64, 0), len(data), with_length(data), tag)
+        self.add(process, "recv", (64, 64, 0), len(data), taken=data, tag=(sender, clock))
         self.receives += 1
 
     def note(self, process, _):
@@ -78,7 +67,7 @@ class MadeUp:
             file.write(b"\0asm\1\0\0\0")
         for process, log in enumerate(self.logs):
             with open("n%x.log" % process, "wb") as file:
-                file.write(log)
+                file.write(spelled(log))
             words += ["module", "n%x.log" % process]
         return words
 
