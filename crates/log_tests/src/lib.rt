@@ -14,5 +14,3 @@ mod processes;
 mod replays;
 #[cfg(test)]
 mod schedules;
-#[cfg(test)]
-mod watches;
