@@ -14,3 +14,5 @@ mod processes;
 mod replays;
 #[cfg(test)]
 mod schedules;
+#[cfg(test)]
+mod watches;
