@@ -26,7 +26,7 @@ use Rattle.command_run.specs.OutcomeLaws.{follows, same_Ok, value_or}
 use Rattle.log_pairs.specs.Valid.{GoTogether}
 use Rattle.record_command.specs.Agreement.{IsRecordable, group_in}
 use Rattle.record_command.specs.Expected.{module_name, modules_of, schedule_in, schedule_or_refusal}
-use Rattle.record_command.specs.Limits.{most_schedule}
+use Rattle.schedule_text.specs.Limits.{most_schedule}
 use Rattle.headline.specs.Headline.{HoldsProcess, pair_of_process}
 use Rattle.headline.proofs.Loading.{PairStands, log_stands}
 use Rattle.headline.proofs.Showing.{replay_of}

@@ -20,7 +20,7 @@ use Rattle.command_run.specs.declared.refusal.Refusal.TheVariants as refusal
 use Rattle.record_command.specs.Agreement.{IsRecordable, LeavesMoment, LeavesRecording, RecordingsAgree, group_in, run_in, steps_in}
 use Rattle.command_run.specs.Call.{IsAnswerResult, Makes}
 use Rattle.record_command.specs.Expected.{group_outcome, modules_of, record_outcome, schedule_in, schedule_or_refusal}
-use Rattle.record_command.specs.Limits.{most_schedule}
+use Rattle.schedule_text.specs.Limits.{most_schedule}
 use Rattle.command_run.specs.Outcome.{CommandOutcome, file_of, writes_of}
 use Rattle.record_command.specs.Seen.{Gathers}
 use Rattle.record_command.proofs.Gathered.{gathered}

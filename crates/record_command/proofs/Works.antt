@@ -12,7 +12,7 @@ use Rattle.group_record.specs.Run.{run}
 use Rattle.command_run.specs.Laws.{ReadsModules}
 use Rattle.command_run.specs.Outcome.{Stop, Work, and_then}
 use Rattle.record_command.specs.Expected.{group_outcome, modules_of, record_outcome, schedule_in, schedule_or_refusal}
-use Rattle.record_command.specs.Limits.{most_schedule}
+use Rattle.schedule_text.specs.Limits.{most_schedule}
 use Rattle.record_command.specs.Record.{outcome_by_room, recorded_work}
 use Rattle.record_command.specs.Valid.{AreModuleFiles, IsScheduleFile, RecordsWhole, modules_in}
 

@@ -12,7 +12,7 @@ use Rattle.group_record.specs.Run.{run}
 use Rattle.command_run.specs.declared.refusal.Reason.TheVariants as reason
 use Rattle.command_run.specs.Inputs.{module_in}
 use Rattle.command_run.specs.Outcome.{Stop, CommandOutcome, refuses_at_once, and_then, file_of}
-use Rattle.record_command.specs.Limits.{most_schedule}
+use Rattle.schedule_text.specs.Limits.{most_schedule}
 use Rattle.record_command.specs.Record.{run_outcome}
 
 -- the schedule of a schedule file

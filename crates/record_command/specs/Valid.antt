@@ -2,7 +2,6 @@
 use Rattle.std.specs.Prelude.{◌≡◌, ℕ, suc, ◌≤◌, List, [], ◌∷◌, length, None, Ok}
 use Rattle.fri_outside.specs.Outside.{Folder}
 use Rattle.wasm_types.specs.Modules.{Module}
-use Rattle.schedule_text.specs.Limits.{most_runs}
 use Rattle.schedule_text.specs.Grammar.{Spells}
 use Rattle.schedule_text.specs.Schedule.{Schedule, run_count}
 use Rattle.schedule_text.specs.declared.process.ProcessLine.{ProcessLine}
@@ -10,7 +9,7 @@ use Rattle.guest_process.specs.State.{State}
 use Rattle.group_record.specs.Answer.{first_states, group_of}
 use Rattle.group_record.specs.Run.{run}
 use Rattle.command_run.specs.Valid.{IsFileWithin, IsModuleFile, ProcessBegins}
-use Rattle.record_command.specs.Limits.{most_schedule}
+use Rattle.schedule_text.specs.Limits.{most_runs, most_schedule}
 
 -- a file spells this schedule, of which the tries are not too many
 pub record IsScheduleFile (folder : Folder) (name : List ℕ) (schedule : Schedule) : Type 0 where

@@ -9,11 +9,9 @@ ghost use Rattle.record_command.specs.Expected.{modules_of, schedule_in};
 
 use command_run::{Reason, Refusal, take_file, take_module};
 use fri_outside::Files;
-use schedule_text::{ProcessLine, Schedule, ScheduleError, read_schedule};
+use schedule_text::{MOST_SCHEDULE, ProcessLine, Schedule, ScheduleError, read_schedule};
 use std::alloc::Global;
 use wasm_types::ValidModule;
-
-const SCHEDULE_LIMIT: usize = 16_777_216;
 
 // The module of a process.
 fn take_module_of<F: Files>(
@@ -66,7 +64,7 @@ pub fn take_schedule<F: Files>(
     ensures counts { CountsFaults (F.counts files.old) (F.counts files.new) result }
     ensures cause { IfErr result (Raises (F.counts files.old) (F.counts files.new)) }
 {
-    let bytes = take_file(alloc, name, SCHEDULE_LIMIT, files)?;
+    let bytes = take_file(alloc, name, MOST_SCHEDULE, files)?;
     match read_schedule(alloc, &bytes) {
         Ok(schedule) => Ok(schedule),
         Err(ScheduleError::BadLine(line)) => {

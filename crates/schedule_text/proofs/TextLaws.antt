@@ -327,7 +327,8 @@ module _ (words : WordsReadBack) (hex : ExactHex) where
         header = header_fields;
         process_lines = map process_fields s.processes;
         item_lines = map item_fields s.items;
-        in_order = kept_line header_fields (flat_map process_text s.processes ++ flat_map item_text s.items) header_line
+        in_order = ap (λ (text : List ℕ). lines_kept (lines_of text)) (append_assoc (line_text header_fields) (flat_map process_text s.processes) (flat_map item_text s.items))
+            ∙ kept_line header_fields (flat_map process_text s.processes ++ flat_map item_text s.items) header_line
             ∙ ap (λ (ls : List (List (List ℕ))). header_fields ∷ ls) (kept_lines process_fields s.processes (flat_map item_text s.items) processes ∙ ap (λ (ls : List (List (List ℕ))). map process_fields s.processes ++ ls) (items_kept s.items items));
         begins = refl;
         processes = zip_map IsProcessLine process_fields s.processes (λ k d lt. refl);

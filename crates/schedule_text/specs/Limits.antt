@@ -21,6 +21,10 @@ most_signal = 31
 abbrev pub most_runs : ℕ
 most_runs = 1000000
 
+-- how many bytes the text of a schedule has at most
+abbrev pub most_schedule : ℕ
+most_schedule = 16777216
+
 -- how many rounds the made group may go
 abbrev pub most_rounds : ℕ
 most_rounds = 100000

@@ -42,6 +42,10 @@ process_text line = line_text (process_fields line)
 abbrev pub item_text : Item → List ℕ
 item_text item = line_text (item_fields item)
 
--- the text: the first line, a line for each process, and a line for each item
+-- the lines in front of the items: the first line, and a line for each process
+abbrev pub head_text : List ProcessLine → List ℕ
+head_text lines = line_text header_fields ++ flat_map process_text lines
+
+-- the text: those lines, and a line for each item
 abbrev pub text_of : Schedule → List ℕ
-text_of s = line_text header_fields ++ (flat_map process_text s.processes ++ flat_map item_text s.items)
+text_of s = head_text s.processes ++ flat_map item_text s.items

@@ -34,9 +34,12 @@ mod write;
 pub use error::ScheduleError;
 pub use item::Item;
 pub use laws::{exact_outcome, one_schedule, spelled_or_bad, written_is_read};
-pub use limits::{MOST_DATAGRAM, MOST_PROCESSES, MOST_ROUNDS, MOST_RUNS, MOST_SIGNAL, MOST_THREAD};
+pub use limits::{
+    MOST_DATAGRAM, MOST_PROCESSES, MOST_ROUNDS, MOST_RUNS, MOST_SCHEDULE, MOST_SIGNAL, MOST_THREAD,
+};
 pub use process::ProcessLine;
 pub use read::read_schedule;
 pub use ring::drill;
 pub use schedule::Schedule;
-pub use write::write_schedule;
+pub use word::is_module_name;
+pub use write::{push_head, push_item, write_schedule};

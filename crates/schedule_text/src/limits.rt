@@ -16,5 +16,8 @@ pub const MOST_SIGNAL: u8 = 31;
 /// often.
 pub const MOST_RUNS: u64 = 1_000_000;
 
+/// How many bytes the text of a schedule has at most.
+pub const MOST_SCHEDULE: usize = 16_777_216;
+
 /// How many rounds the made group may go.
 pub const MOST_ROUNDS: u32 = 100_000;

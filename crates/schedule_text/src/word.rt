@@ -63,7 +63,7 @@ pub(crate) fn bytes(alloc: Global, word: &[u8]) -> Result<Option<Bytes>, AllocEr
 }
 
 /// Whether the word may name a module's file.
-pub(crate) fn is_module_name(word: &[u8]) -> bool
+pub fn is_module_name(word: &[u8]) -> bool
     ensures { result ≡ is_module_word word.now }
 {
     !word.is_empty()

@@ -2,7 +2,7 @@
 ghost use Rattle.std.specs.Prelude.{◌≡◌, ◌∷◌, [], ◌++◌, decimal, flat_map, IfOk, OnOk};
 ghost use Rattle.std.specs.List.{join_with_byte};
 ghost use Rattle.fri_text.specs.Hex.{hex_word};
-ghost use Rattle.schedule_text.specs.Text.{item_fields, item_text, process_text, text_of, times_fields};
+ghost use Rattle.schedule_text.specs.Text.{head_text, item_fields, item_text, process_text, text_of, times_fields};
 
 use crate::item::Item;
 use crate::process::ProcessLine;
@@ -17,10 +17,17 @@ pub fn write_schedule(alloc: Global, schedule: &Schedule) -> Result<Vec<u8>, All
     ensures { IfOk result (λ text. text.items ≡ text_of schedule.now) }
 {
     let mut text = Text::new(alloc);
-    text.push_str("friday 1\n")?;
-    push_processes(&mut text, schedule.processes())?;
+    push_head(&mut text, schedule.processes())?;
     push_items(alloc, &mut text, schedule.items())?;
     Ok(text.into_vec())
+}
+
+/// Adds the lines of a schedule in front of its items: the header, and a line for each process.
+pub fn push_head(text: &mut Text, processes: &[ProcessLine]) -> Result<(), AllocError>
+    ensures { OnOk result (text.new ≡ text.old ++ head_text processes.now) }
+{
+    text.push_str("friday 1\n")?;
+    push_processes(text, processes)
 }
 
 fn push_processes(text: &mut Text, processes: &[ProcessLine]) -> Result<(), AllocError>
@@ -51,7 +58,8 @@ fn push_items(alloc: Global, text: &mut Text, items: &[Item]) -> Result<(), Allo
     Ok(())
 }
 
-fn push_item(alloc: Global, text: &mut Text, item: &Item) -> Result<(), AllocError>
+/// Adds the line of an item.
+pub fn push_item(alloc: Global, text: &mut Text, item: &Item) -> Result<(), AllocError>
     ensures { OnOk result (text.new ≡ text.old ++ item_text item.now) }
 {
     push_fields(alloc, text, item)?;

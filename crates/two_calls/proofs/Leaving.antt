@@ -22,7 +22,7 @@ use Rattle.command_run.specs.Outcome.{CommandOutcome, Stop, and_then, file_of, o
 use Rattle.command_run.specs.OutcomeLaws.{follows, same_Ok}
 use Rattle.record_command.specs.Agreement.{IsRecordable, group_in, run_in, steps_in}
 use Rattle.record_command.specs.Expected.{group_outcome, module_name, modules_of, record_outcome, schedule_in, schedule_or_refusal}
-use Rattle.record_command.specs.Limits.{most_schedule}
+use Rattle.schedule_text.specs.Limits.{most_schedule}
 use Rattle.record_command.specs.Record.{outcome_by_room, recorded_work}
 
 -- ---- a schedule that was read
