@@ -265,7 +265,7 @@ pub plain_tag : (tag : Option Tag) (incoming : List ℕ) → brings_nothing tag 
 plain_tag None incoming h = refl
 plain_tag (Some t) incoming h = cc
 
-drawn_tag : (tag : Option Tag) → not (is_some tag) ≡ true → tag ≡ None
+pub drawn_tag : (tag : Option Tag) → not (is_some tag) ≡ true → tag ≡ None
 drawn_tag None h = refl
 drawn_tag (Some t) h = cc
 

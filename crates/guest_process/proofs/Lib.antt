@@ -7,6 +7,7 @@ pub mod Written
 pub mod Legality
 pub mod EachKind
 pub mod Outgoing
+pub mod Numbers
 pub mod OneEvent
 pub mod Worlds
 pub mod Over

@@ -1,5 +1,5 @@
--- The bytes that a call sends out are such as an entry of its kind can have.
-use Rattle.std.proofs.Common.{◌≡◌, ℕ, ◌<◌, ◌^◌, Bool, true, false, ◌&&◌, cond, [], length, drop, Option, Some, None, refl, arith}
+-- The bytes that a call sends out are few, and such as an entry of its kind can have.
+use Rattle.std.proofs.Common.{◌≡◌, ℕ, ◌≤◌, Bool, true, false, ◌&&◌, cond, [], length, drop, Option, Some, None, refl, arith}
 use Rattle.std.specs.Prelude.{nat_le}
 use Rattle.std.specs.Option.{option_map_or}
 use Rattle.std.proofs.lemmas.Bool.{leb-true}
@@ -14,14 +14,24 @@ use Rattle.lib_calls.specs.Entry.{IsStringIf}
 use Rattle.lib_calls.specs.Kinds.{has_outgoing}
 
 -- a range that a call may name is short
-named_short : (memory : Memory) (addr len : ℕ) → length (named memory addr len) < 2 ^ 31
+named_short : (memory : Memory) (addr len : ℕ) → length (named memory addr len) ≤ 60000
 unfolding is_range
 named_short memory addr len = by_test (nat_le len 60000) (is_inside memory addr len) refl
   where
-    by_test : (low inside : Bool) → nat_le len 60000 ≡ low → length (cond (low && inside) (bytes_from memory addr len) []) < 2 ^ 31
+    by_test : (low inside : Bool) → nat_le len 60000 ≡ low → length (cond (low && inside) (bytes_from memory addr len) []) ≤ 60000
     by_test true true e = omega (arith, leb-true len 60000 e, length-take len (drop addr memory.bytes))
     by_test true false e = omega arith
     by_test false inside e = omega arith
+
+pub outgoing_short : (call : Call) (memory : Memory) → length (outgoing_of call memory) ≤ 60000
+unfolding outgoing_of
+outgoing_short call memory = by_kind (kind_numbered call.kind)
+  where
+    by_kind : (o : Option Kind) → length (option_map_or (λ kind. sent_out kind call memory) o []) ≤ 60000
+    by_kind None = omega arith
+    by_kind (Some Print) = named_short memory call.a0 call.a1
+    by_kind (Some Send) = named_short memory call.a1 call.a2
+    by_kind (Some _) = omega arith
 
 pub outgoing_fits : (call : Call) (memory : Memory) → IsStringIf (has_outgoing call.kind) (outgoing_of call memory)
 unfolding has_outgoing outgoing_of
@@ -29,6 +39,6 @@ outgoing_fits call memory = by_kind (kind_numbered call.kind)
   where
     by_kind : (o : Option Kind) → IsStringIf (option_map_or (λ kind. (row kind).entry.outgoing) o false) (option_map_or (λ kind. sent_out kind call memory) o [])
     by_kind None = refl
-    by_kind (Some Print) = named_short memory call.a0 call.a1
-    by_kind (Some Send) = named_short memory call.a1 call.a2
+    by_kind (Some Print) = omega (arith, named_short memory call.a0 call.a1)
+    by_kind (Some Send) = omega (arith, named_short memory call.a1 call.a2)
     by_kind (Some _) = refl

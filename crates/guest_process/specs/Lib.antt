@@ -9,6 +9,7 @@ pub mod Legal
 pub mod Live
 pub mod Marks
 pub mod Next
+pub mod Numbers
 pub mod OneEvent
 pub mod Replay
 pub mod Seen

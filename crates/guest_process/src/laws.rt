@@ -1,6 +1,7 @@
 // The laws over one event, as calls that do nothing.
 ghost use Rattle.guest_process.specs.Crews.{LockKept, OnlySpawnAdds, OtherThreadsStay};
 ghost use Rattle.guest_process.specs.Marks.{UnmarkedStays};
+ghost use Rattle.guest_process.specs.Numbers.{LegalNumbers};
 ghost use Rattle.guest_process.specs.OneEvent.{IsKept, IsKeptSound, IsStarted, OneEvent, Possible, Rises, WorldIsThere};
 
 use guest_memory::stamps_no_later;
@@ -25,6 +26,11 @@ pub fn possible()
 {
     tags_read_back();
 }
+
+/// What a legal entry says is within the limits of its process, and within those of the datagrams of its group.
+pub fn legal_numbers()
+    ensures { LegalNumbers }
+{}
 
 /// With a legal event the clock of a process rises, also above that of the datagram that the event took,
 /// and the event is counted. The process keeps its number, its group and its module.

@@ -23,6 +23,8 @@ pub use answer::is_due;
 pub use count::counting;
 pub use divergence::Divergence;
 pub use end::End;
-pub use laws::{kept, lock_kept, one_event, others_stay, possible, rises, unmarked_stays};
+pub use laws::{
+    kept, legal_numbers, lock_kept, one_event, others_stay, possible, rises, unmarked_stays,
+};
 pub use need::Need;
 pub use process::Process;
