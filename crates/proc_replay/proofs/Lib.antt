@@ -1,3 +1,4 @@
 pub mod Looking
 pub mod Steps
 pub mod Walking
+pub mod Sizes

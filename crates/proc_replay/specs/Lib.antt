@@ -2,3 +2,4 @@ pub mod Replaying
 pub mod Seen
 pub mod Course
 pub mod Inside
+pub mod Sizes

@@ -1,8 +1,9 @@
 // The laws of replay, as a call that does nothing.
 ghost use Rattle.proc_replay.specs.Course.{AreReplays, AreTurns};
+ghost use Rattle.proc_replay.specs.Sizes.{AcceptedNoLonger};
 
-use call_log::entry_by_entry;
-use guest_process::counting;
+use call_log::{entry_by_entry, no_longer};
+use guest_process::{counting, kept, legal_numbers, rises};
 
 /// Turns taken one after the other, from the first state of a process on, make the event of each entry
 /// that is accepted, in order, and of no other; after so many of them the state is that of the replay of
@@ -13,4 +14,14 @@ pub fn replays()
 {
     entry_by_entry();
     counting();
+}
+
+/// The entries of the first events that are accepted take no more bytes in version 2 than in the version of their log.
+pub fn accepted_no_longer()
+    ensures { AcceptedNoLonger }
+{
+    no_longer();
+    legal_numbers();
+    rises();
+    kept();
 }

@@ -5,6 +5,6 @@ mod laws;
 mod replayer;
 mod turn;
 
-pub use laws::replays;
+pub use laws::{accepted_no_longer, replays};
 pub use replayer::Replayer;
 pub use turn::Turn;
