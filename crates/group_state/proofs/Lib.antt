@@ -14,5 +14,6 @@ pub mod Standing
 pub mod Stepping
 pub mod Swaps
 pub mod Tallied
+pub mod Telling
 pub mod Walking
 pub mod Seeing

@@ -18,6 +18,10 @@ said_of Whole = said.Whole
 said_of (Left bytes) = said.Left bytes
 said_of (Diverged at why) = said.Diverged at why
 
+-- the verdict on a log, whatever the other logs hold
+abbrev pub verdict_on : Replaying → Said
+verdict_on r = said_of (verdict r.state (entries_of r.left) (rest_of r.left))
+
 -- a log to its first entry that is not legal: no other log has a part in it
 abbrev pub report_line : Replaying → ReportLine
 report_line r =
@@ -26,7 +30,7 @@ report_line r =
       name = r.head.name;
       events = accepted r.state es;
       end = (last_state r.state es).end;
-      verdict = said_of (verdict r.state es (rest_of r.left));
+      verdict = verdict_on r;
     }
 
 -- the accepted events of a log, and of all logs

@@ -13,6 +13,7 @@ mod part;
 mod report;
 mod stand;
 mod tally;
+mod verdicts;
 mod view;
 mod work;
 

@@ -1,0 +1,28 @@
+// The verdict on one log of a group.
+ghost use Rattle.std.specs.Prelude.{◌≡◌, length, map, slice_get};
+ghost use Rattle.group_state.specs.Place.{events};
+ghost use Rattle.group_state.specs.Report.{verdict_on};
+
+use crate::group::Group;
+use crate::part::verdict;
+use crate::report::Verdict;
+use group_order::merges;
+use guest_process::{kept, rises};
+use lib_calls::Entry;
+use proc_replay::replays;
+
+impl<'m, 'a> Group<'m, 'a> {
+    /// The verdict on a node's log, of a group at its end: there each log has been replayed to its first entry that is not
+    /// legal, or to its end. None comes exactly where there is no such node.
+    pub fn verdict(&self, node: u32) -> Option<Verdict>
+        requires { self.now.at ≡ length (events self.now.start) }
+        ensures { result ≡ slice_get (map verdict_on self.now.start) node }
+    {
+        merges::<Entry>();
+        replays();
+        rises();
+        kept();
+        let part = self.here.parts.get(node as usize)?;
+        Some(verdict(part))
+    }
+}
