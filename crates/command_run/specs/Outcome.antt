@@ -61,6 +61,11 @@ reason_text reason.OtherGroup = codes "2 OtherGroup"
 reason_text reason.SameProcess = codes "3 SameProcess"
 reason_text reason.SameName = codes "4 SameName"
 reason_text reason.Grown = codes "6 Grown"
+reason_text reason.Incomplete = codes "7 Incomplete"
+reason_text reason.NotWhole = codes "8 NotWhole"
+reason_text reason.BadModuleName = codes "9 BadModuleName"
+reason_text reason.TooManyEvents = codes "10 TooManyEvents"
+reason_text reason.TooLong = codes "11 TooLong"
 
 abbrev pub usage_line : List ℕ
 usage_line = codes "friday: these words are not a command\n"

@@ -41,6 +41,11 @@ fn push_reason(text: &mut Text, reason: Reason) -> Result<(), AllocError>
         Reason::SameProcess => text.push_str("3 SameProcess"),
         Reason::SameName => text.push_str("4 SameName"),
         Reason::Grown => text.push_str("6 Grown"),
+        Reason::Incomplete => text.push_str("7 Incomplete"),
+        Reason::NotWhole => text.push_str("8 NotWhole"),
+        Reason::BadModuleName => text.push_str("9 BadModuleName"),
+        Reason::TooManyEvents => text.push_str("10 TooManyEvents"),
+        Reason::TooLong => text.push_str("11 TooLong"),
     }
 }
 

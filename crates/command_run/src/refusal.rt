@@ -31,6 +31,16 @@ pub enum Reason {
     SameName,
     /// The log would pass its limit in the newer form.
     Grown,
+    /// Not all logs of the group are given.
+    Incomplete,
+    /// The log has an entry that is not legal, or bytes after its entries.
+    NotWhole,
+    /// No schedule may name the module so.
+    BadModuleName,
+    /// The logs have more events than a schedule may try.
+    TooManyEvents,
+    /// The schedule would pass its limit.
+    TooLong,
 }
 
 /// What a command prints at the end of its work, at which a log may have diverged.

@@ -36,6 +36,15 @@ pub struct Loaded<'a> {
     pub(crate) name: Bytes,
 }
 
+impl Loaded<'_> {
+    /// The number of the process that the log is of.
+    pub fn process(&self) -> u32
+        ensures { (is : LoadedOf) → IsLoaded self.now is → result ≡ is.head.process }
+    {
+        self.process
+    }
+}
+
 // Why a log does not go with the pairs before it.
 fn clash(earlier: &[Loaded<'_>], head: &LogHead<'_>) -> Option<Reason>
     ensures answer { (ls : List LoadedOf) → AreLoaded earlier.now ls → result ≡ clash ls (head_of head.now) }
