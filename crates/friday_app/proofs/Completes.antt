@@ -11,7 +11,8 @@ use Rattle.replay_command.specs.Laws.{ReplaysWork}
 use Rattle.debug_command.specs.Laws.{SessionsWork}
 use Rattle.drill_command.specs.Drill.{drill_run, drill_work, outcome_by_room}
 use Rattle.migrate_command.specs.Laws.{MigrationsWork}
-use Rattle.friday_app.specs.Command.{Command, Debug, Drill, Migrate, Record, Replay}
+use Rattle.schedule_command.specs.Laws.{SchedulesWork}
+use Rattle.friday_app.specs.Command.{Command, Debug, Drill, Migrate, Record, Replay, Schedule}
 use Rattle.friday_app.specs.Expected.{expected}
 use Rattle.friday_app.specs.Run.{CommandRun, Works}
 use Rattle.friday_app.specs.Valid.{IsValidCall}
@@ -30,7 +31,7 @@ either : {A B : Type 0} → A ⊎ B → (A → ⊥) → (B → ⊥) → ⊥
 either (inl a) f g = f a
 either (inr b) f g = g b
 
-module _ (recordings : RecordingsWork) (replays : ReplaysWork) (sessions : SessionsWork) (migrations : MigrationsWork) where
+module _ (recordings : RecordingsWork) (replays : ReplaysWork) (sessions : SessionsWork) (migrations : MigrationsWork) (schedules : SchedulesWork) where
   -- what is valid has an outcome that is work
   has_work : (command : Command) (folder : Folder) (left : Option (List ℕ)) → IsValidCall (Some command) folder left
       → (work : Work) × (expected (Some command) (Some folder) left ≡ Some (Ok work))
@@ -39,6 +40,7 @@ module _ (recordings : RecordingsWork) (replays : ReplaysWork) (sessions : Sessi
   has_work (Debug pairs) folder left h = sessions pairs folder left h
   has_work (Drill rounds) folder left h = (drill_work rounds (drill_run rounds), ap (λ full. Some (outcome_by_room rounds (drill_run rounds) full)) h)
   has_work (Migrate log_name new_name) folder left h = let w = migrations log_name new_name folder h in (w.0, ap Some w.1)
+  has_work (Schedule pairs) folder left h = let w = schedules pairs folder h in (w.0, ap Some w.1)
 
   pub run_completes : (command : Option Command) (old new : Outside) (answer : Status) (folder : Folder) → CommandRun command old new answer → old.told ≡ Some folder → IsValidCall command folder old.hearing.left → NoFault old new
       → Works command old.told old.hearing.left answer

@@ -1,5 +1,8 @@
 -- The run of each command, from what its crate says of it.
-use Rattle.std.proofs.Common.{◌≡◌, ◌≢◌, ◌⊎◌, ◌∙◌, ℕ, Bool, false, true, List, [], Option, Some, None, option_map, Result, Ok, Err, IfErr, refl, sym, ap, subst, inl, inr}
+use Rattle.std.proofs.Common.{◌≡◌, ◌≢◌, ◌⊎◌, ◌∙◌, ◌++◌, ℕ, Bool, false, true, List, [], Option, Some, None, option_map, Result, Ok, Err, IfErr, IfOk, refl, sym, ap, subst, inl, inr}
+use Rattle.std.specs.Io.KnownBytes.{append_known}
+use Rattle.std.specs.Result.{IsOk}
+use Rattle.std.proofs.lemmas.Option.{same_Some}
 use Rattle.fri_outside.specs.Outside.{Folder, Counts, Rose, WhenTold}
 use Rattle.command_run.specs.declared.status.Status.{Status}
 use Rattle.command_run.specs.declared.status.Status.TheVariants as ends
@@ -7,7 +10,7 @@ use Rattle.command_run.specs.declared.refusal.Answer.{Answer}
 use Rattle.command_run.specs.declared.refusal.Answer.TheVariants as answered
 use Rattle.command_run.specs.declared.refusal.Refusal.{Refusal}
 use Rattle.command_run.specs.Call.{CountsFaults, DivergesOnlyIf, IsAnswerResult, IsAnswerStatus, Keeps, Makes, PrintsRefusal, Raises, TellsOutcome}
-use Rattle.command_run.specs.Outcome.{CommandOutcome, writes_of, written_names}
+use Rattle.command_run.specs.Outcome.{CommandOutcome, outcome_text, writes_of, written_names}
 use Rattle.command_run.specs.Run.{CallEnds, Finished, Outside, Performed}
 use Rattle.record_command.specs.Agreement.{IsRecordable, LeavesMoment, LeavesRecording}
 use Rattle.record_command.specs.Expected.{record_outcome}
@@ -18,8 +21,10 @@ use Rattle.debug_command.specs.Run.{DebugRun}
 use Rattle.drill_command.specs.Drill.{drill_outcome}
 use Rattle.headline.specs.Headline.{LeftIsShown, ShowsRun}
 use Rattle.migrate_command.specs.Migrate.{migrate_outcome}
-use Rattle.friday_app.specs.Agreement.{KeepsMoment, ShowsRecording}
-use Rattle.friday_app.specs.Command.{Command, Debug, Drill, Migrate, Record, Replay}
+use Rattle.schedule_command.specs.Schedule.{schedule_outcome}
+use Rattle.schedule_command.specs.Seen.{AnswerRecordsBack}
+use Rattle.friday_app.specs.Agreement.{KeepsMoment, PrintsConverse, ShowsRecording}
+use Rattle.friday_app.specs.Command.{Command, Debug, Drill, Migrate, Record, Replay, Schedule}
 use Rattle.friday_app.specs.Expected.{expected, written_by}
 use Rattle.friday_app.specs.Input.{KeepsInput}
 use Rattle.friday_app.specs.Run.{CommandRun}
@@ -71,6 +76,7 @@ run_recorded law images name ended answer old new f recorded moment = record {
   recorded = λ is. recorded (f.came_to_end is);
   moment = moment;
   shown = left_shown law images name answer old new (λ is. recorded (f.came_to_end is)) moment;
+  converse = λ is folder told before here after there. tt;
   input = f.unheard;
   answered = λ is quiet. quiet (f.read is);
   refused = λ is. refused_file old new (f.refused is);
@@ -92,6 +98,7 @@ run_replayed images pairs ended answer old new f = record {
   recorded = λ is before told after here. tt;
   moment = λ before told. tt;
   shown = λ before told after here. tt;
+  converse = λ is folder told before here after there. tt;
   input = f.unheard;
   answered = λ is quiet. quiet (f.read is);
   refused = λ is. refused_file old new (f.refused is);
@@ -106,6 +113,7 @@ run_drilled rounds ended answer old new f = record {
   recorded = λ is before told after here. tt;
   moment = λ before told. tt;
   shown = λ before told after here. tt;
+  converse = λ is folder told before here after there. tt;
   input = f.unheard;
   answered = λ is quiet. quiet (f.read is);
   refused = λ is. refused_file old new (f.refused is);
@@ -121,6 +129,36 @@ run_migrated log_name new_name ended answer old new f = record {
   recorded = λ is before told after here. tt;
   moment = λ before told. tt;
   shown = λ before told after here. tt;
+  converse = λ is folder told before here after there. tt;
+  input = f.unheard;
+  answered = λ is quiet. quiet (f.read is);
+  refused = λ is. refused_file old new (f.refused is);
+}
+
+-- what was printed records to the logs
+again : (pairs : List Pair) (folder : Folder) (ended : Result Answer Refusal) (answer : Status) (before after : List ℕ) → IsOk ended → TellsOutcome (schedule_outcome pairs folder) ended
+    → IfOk ended (AnswerRecordsBack pairs folder) → after ≡ before ++ outcome_text (schedule_outcome pairs folder) → PrintsConverse (Some (Schedule pairs)) folder before after
+again pairs folder (Ok (answered.Done text)) answer before after ok tells records is = (text, is ∙ ap (λ t. before ++ t) (ap outcome_text tells.1 ∙ sym tells.2), records)
+again pairs folder (Ok (answered.Diverged text)) answer before after ok tells records is = (text, is ∙ ap (λ t. before ++ t) (ap outcome_text tells.1 ∙ sym tells.2), records)
+again pairs folder (Err e) answer before after ok tells records is = let wrong : false ≡ true = ok in cc
+
+pub run_scheduled : (pairs : List Pair) (ended : Result Answer Refusal) (answer : Status) (old new : Outside)
+    → Finished (option_map (schedule_outcome pairs) old.told) (λ folder. []) false ended old new answer
+    → ((o : CommandOutcome) → option_map (schedule_outcome pairs) old.told ≡ Some o → TellsOutcome o ended)
+    → WhenTold old.told (λ folder. IfOk ended (AnswerRecordsBack pairs folder))
+    → CommandRun (Some (Schedule pairs)) old new answer
+run_scheduled pairs ended answer old new f tells records = record {
+  call = f.call;
+  usage = record { only = λ is. absurd (f.is_command is); always = λ none h. cc };
+  diverged = λ is. let never = f.diverged is in cc;
+  recorded = λ is before told after here. tt;
+  moment = λ before told. tt;
+  shown = λ before told after here. tt;
+  converse = λ is folder told before here after there.
+      let known : option_map (schedule_outcome pairs) old.told ≡ Some (schedule_outcome pairs folder) = ap (option_map (schedule_outcome pairs)) told in
+      let whole = (f.call.text (schedule_outcome pairs folder) known).whole (subst IsAnswerStatus (sym is) tt) in
+      again pairs folder ended answer before after (f.done is) (tells (schedule_outcome pairs folder) known) (records folder told)
+      (same_Some _ _ (sym there ∙ whole ∙ ap (λ taken. append_known taken (outcome_text (schedule_outcome pairs folder))) here));
   input = f.unheard;
   answered = λ is quiet. quiet (f.read is);
   refused = λ is. refused_file old new (f.refused is);
@@ -136,6 +174,7 @@ run_debugged pairs answer old new r = record {
   recorded = λ is before told after here. tt;
   moment = λ before told. tt;
   shown = λ before told after here. tt;
+  converse = λ is folder told before here after there. tt;
   input = r.input;
   answered = r.answered;
   refused = r.refused;
@@ -150,6 +189,7 @@ run_none answer old new call usage reads unheard = record {
   recorded = λ is before told after here. tt;
   moment = λ before told. tt;
   shown = λ before told after here. tt;
+  converse = λ is folder told before here after there. tt;
   input = unheard;
   answered = λ is quiet. reads is;
   refused = λ is. let e : ends.Refused ≡ ends.Usage = sym is ∙ usage (subst IsAnswerStatus (sym is) tt) in absurd (never_refused e);
@@ -171,6 +211,7 @@ run_stopped rest law command o answer is call = subst (λ (a : Status). CommandR
   recorded = λ h. absurd h;
   moment = untouched command;
   shown = seen command;
+  converse = λ e. absurd cc;
   input = unread command;
   answered = λ e. absurd cc;
   refused = λ e. absurd cc;
@@ -182,6 +223,7 @@ run_stopped rest law command o answer is call = subst (λ (a : Status). CommandR
   untouched (Some (Debug pairs)) before told = tt
   untouched (Some (Drill rounds)) before told = tt
   untouched (Some (Migrate log_name new_name)) before told = tt
+  untouched (Some (Schedule pairs)) before told = tt
 
   seen : (command : Option Command) → WhenTold o.told (λ before. WhenTold o.told (ShowsRecording command ends.NoMemory before))
   seen None before told after here = tt
@@ -191,6 +233,7 @@ run_stopped rest law command o answer is call = subst (λ (a : Status). CommandR
   seen (Some (Debug pairs)) before told after here = tt
   seen (Some (Drill rounds)) before told after here = tt
   seen (Some (Migrate log_name new_name)) before told after here = tt
+  seen (Some (Schedule pairs)) before told after here = tt
 
   not_done : ends.NoMemory ≡ ends.Done → ⊥
   not_done e = cc
@@ -202,3 +245,4 @@ run_stopped rest law command o answer is call = subst (λ (a : Status). CommandR
   unread (Some (Debug pairs)) = inl (refl, not_done)
   unread (Some (Drill rounds)) = refl
   unread (Some (Migrate log_name new_name)) = refl
+  unread (Some (Schedule pairs)) = refl

@@ -1,10 +1,11 @@
--- What a command leaves of a recording.
-use Rattle.std.specs.Prelude.{Option, Some, None}
+-- What a command leaves of a recording, and what it makes of one.
+use Rattle.std.specs.Prelude.{◌≡◌, ℕ, ◌++◌, List, Option, Some, None}
 use Rattle.fri_outside.specs.Outside.{Folder}
 use Rattle.command_run.specs.declared.status.Status.{Status}
 use Rattle.record_command.specs.Agreement.{IsRecordable, LeavesMoment, LeavesRecording}
 use Rattle.headline.specs.Headline.{ShowsRun}
-use Rattle.friday_app.specs.Command.{Command, Debug, Drill, Migrate, Record, Replay}
+use Rattle.schedule_command.specs.Laws.{RecordsBack}
+use Rattle.friday_app.specs.Command.{Command, Debug, Drill, Migrate, Record, Replay, Schedule}
 
 -- a command that records leaves its recording
 abbrev pub KeepsRecording : Option Command → Folder → Folder → Type 0
@@ -14,6 +15,7 @@ KeepsRecording (Some (Replay images pairs)) before after = Unit {0}
 KeepsRecording (Some (Debug pairs)) before after = Unit {0}
 KeepsRecording (Some (Drill rounds)) before after = Unit {0}
 KeepsRecording (Some (Migrate log_name new_name)) before after = Unit {0}
+KeepsRecording (Some (Schedule pairs)) before after = Unit {0}
 
 -- a command that records leaves a moment of its run, wherever it was stopped
 abbrev pub KeepsMoment : Option Command → Folder → Option Folder → Type 0
@@ -23,6 +25,7 @@ KeepsMoment (Some (Replay images pairs)) before after = Unit {0}
 KeepsMoment (Some (Debug pairs)) before after = Unit {0}
 KeepsMoment (Some (Drill rounds)) before after = Unit {0}
 KeepsMoment (Some (Migrate log_name new_name)) before after = Unit {0}
+KeepsMoment (Some (Schedule pairs)) before after = Unit {0}
 
 -- what a command that records leaves makes `replay` and `debug` show the run
 abbrev pub ShowsRecording : Option Command → Status → Folder → Folder → Type 0
@@ -32,3 +35,14 @@ ShowsRecording (Some (Replay images pairs)) answer before after = Unit {0}
 ShowsRecording (Some (Debug pairs)) answer before after = Unit {0}
 ShowsRecording (Some (Drill rounds)) answer before after = Unit {0}
 ShowsRecording (Some (Migrate log_name new_name)) answer before after = Unit {0}
+ShowsRecording (Some (Schedule pairs)) answer before after = Unit {0}
+
+-- the schedule that a command printed after what had been printed records to the logs that it was made of
+abbrev pub PrintsConverse : Option Command → Folder → List ℕ → List ℕ → Type 0
+PrintsConverse None folder before after = Unit {0}
+PrintsConverse (Some (Record images schedule_name)) folder before after = Unit {0}
+PrintsConverse (Some (Replay images pairs)) folder before after = Unit {0}
+PrintsConverse (Some (Debug pairs)) folder before after = Unit {0}
+PrintsConverse (Some (Drill rounds)) folder before after = Unit {0}
+PrintsConverse (Some (Migrate log_name new_name)) folder before after = Unit {0}
+PrintsConverse (Some (Schedule pairs)) folder before after = (text : List ℕ) × (after ≡ before ++ text) × RecordsBack pairs folder text

@@ -10,6 +10,7 @@ pub data Command : Type 0 where
   Debug : (pairs : List Pair) → Command
   Drill : (rounds : ℕ) → Command
   Migrate : (log_name : List ℕ) → (new_name : List ℕ) → Command
+  Schedule : (pairs : List Pair) → Command
 
 -- a word that may name a file: it is not empty, and does not begin with `-`
 abbrev pub is_file_word : List ℕ → Bool
@@ -53,6 +54,10 @@ abbrev pub migrating : Bool → List (List ℕ) → Option Command
 migrating images (log_name ∷ new_name ∷ []) = if images then None else Some (Migrate log_name new_name)
 migrating images names = None
 
+abbrev pub scheduling : Bool → List (List ℕ) → Option Command
+scheduling images [] = None
+scheduling images names = if images then None else option_map Schedule (pairs_of names)
+
 -- the command of this verb, of these words beside the option
 abbrev pub command_by : List ℕ → Bool → List (List ℕ) → Option Command
 command_by verb images names =
@@ -61,6 +66,7 @@ command_by verb images names =
     else if bytes_eq verb (codes "debug") then debugging images names
     else if bytes_eq verb (codes "drill") then drilling images names
     else if bytes_eq verb (codes "migrate") then migrating images names
+    else if bytes_eq verb (codes "schedule") then scheduling images names
     else None
 
 -- the command that the words name: a verb, and behind it names of files, and once at most the option for images
@@ -77,4 +83,5 @@ IsReplayCommand (Some (Record images schedule_name)) = ⊥
 IsReplayCommand (Some (Debug pairs)) = ⊥
 IsReplayCommand (Some (Drill rounds)) = ⊥
 IsReplayCommand (Some (Migrate log_name new_name)) = ⊥
+IsReplayCommand (Some (Schedule pairs)) = ⊥
 IsReplayCommand None = ⊥

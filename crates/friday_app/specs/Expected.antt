@@ -7,7 +7,8 @@ use Rattle.replay_command.specs.Report.{replay_outcome}
 use Rattle.debug_command.specs.Debug.{debug_outcome}
 use Rattle.drill_command.specs.Drill.{drill_outcome}
 use Rattle.migrate_command.specs.Migrate.{migrate_outcome}
-use Rattle.friday_app.specs.Command.{Command, Debug, Drill, Migrate, Record, Replay}
+use Rattle.schedule_command.specs.Schedule.{schedule_outcome}
+use Rattle.friday_app.specs.Command.{Command, Debug, Drill, Migrate, Record, Replay, Schedule}
 
 -- the outcome, as far as the folder and the input tell what it depends on
 abbrev pub expected : Option Command → Option Folder → Option (List ℕ) → Option CommandOutcome
@@ -17,6 +18,7 @@ expected (Some (Replay images pairs)) told left = option_map (replay_outcome ima
 expected (Some (Debug pairs)) told left = option_and_then (debug_outcome pairs left) told
 expected (Some (Drill rounds)) told left = Some (drill_outcome rounds)
 expected (Some (Migrate log_name new_name)) told left = option_map (migrate_outcome log_name new_name) told
+expected (Some (Schedule pairs)) told left = option_map (schedule_outcome pairs) told
 
 -- the names that a command may write, given the files
 abbrev pub written_by : Option Command → Folder → List (List ℕ)
@@ -26,3 +28,4 @@ written_by (Some (Replay images pairs)) folder = written_names (replay_outcome i
 written_by (Some (Debug pairs)) folder = []
 written_by (Some (Drill rounds)) folder = []
 written_by (Some (Migrate log_name new_name)) folder = written_names (migrate_outcome log_name new_name folder)
+written_by (Some (Schedule pairs)) folder = []

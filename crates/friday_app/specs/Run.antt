@@ -6,7 +6,7 @@ use Rattle.command_run.specs.declared.status.Status.TheVariants as ends
 use Rattle.command_run.specs.Call.{IsAnswerStatus, PrintsRefusal}
 use Rattle.command_run.specs.Outcome.{Work, outcome_status}
 use Rattle.command_run.specs.Run.{CallEnds, Outside}
-use Rattle.friday_app.specs.Agreement.{KeepsMoment, KeepsRecording, ShowsRecording}
+use Rattle.friday_app.specs.Agreement.{KeepsMoment, KeepsRecording, PrintsConverse, ShowsRecording}
 use Rattle.friday_app.specs.Command.{Command, IsReplayCommand}
 use Rattle.friday_app.specs.Expected.{expected, written_by}
 use Rattle.friday_app.specs.Input.{AnswersFirst, IsLargeInput, KeepsInput}
@@ -33,6 +33,10 @@ pub record CommandRun (command : Option Command) (old new : Outside) (answer : S
   -- every folder, for some or all of the processes, in any order. After an answer that is the whole run, and elsewhere a
   -- moment of it, unless the recording was stopped in the heads
   pub shown : WhenTold old.told (λ before. WhenTold new.told (ShowsRecording command answer before))
+  -- the schedule that is printed of a whole group's logs: wherever a file holds it and the modules stand as they stood,
+  -- recording it comes to work, and leaves logs with the same heads but for the version and the same entries, byte for byte
+  -- where the logs were of the version of recordings
+  pub converse : answer ≡ ends.Done → WhenTold old.told (λ folder. WhenTold old.taken (λ before. WhenTold new.taken (PrintsConverse command folder before)))
   pub input : KeepsInput command old.told old.hearing new.hearing old.taken answer
   pub answered : answer ≡ ends.ReadFault → (Rose old.counts.reads new.counts.reads → ⊥)
       → AnswersFirst command old.told old.hearing.left new.hearing.left old.taken new.taken

@@ -4,7 +4,7 @@ use Rattle.log_pairs.specs.Seen.{pair_of}
 use Rattle.schedule_text.specs.Limits.{most_rounds}
 use Rattle.friday_app.specs.declared.command.Command.{Command as Words}
 use Rattle.friday_app.specs.declared.command.Command.TheVariants as words
-use Rattle.friday_app.specs.Command.{Command, Debug, Drill, Migrate, Record, Replay}
+use Rattle.friday_app.specs.Command.{Command, Debug, Drill, Migrate, Record, Replay, Schedule}
 
 abbrev pub meaning : Words → Command
 meaning (words.Record images schedule_name) = Record images schedule_name.now
@@ -12,6 +12,7 @@ meaning (words.Replay images pairs) = Replay images (map pair_of pairs.items)
 meaning (words.Debug pairs) = Debug (map pair_of pairs.items)
 meaning (words.Drill rounds) = Drill rounds
 meaning (words.Migrate log_name new_name) = Migrate log_name.now new_name.now
+meaning (words.Schedule pairs) = Schedule (map pair_of pairs.items)
 
 -- a drill of so many rounds as there may be
 abbrev pub HasRounds : Words → Type 0
@@ -20,3 +21,4 @@ HasRounds (words.Replay images pairs) = Unit {0}
 HasRounds (words.Debug pairs) = Unit {0}
 HasRounds (words.Drill rounds) = (1 ≤ rounds) × (rounds ≤ most_rounds)
 HasRounds (words.Migrate log_name new_name) = Unit {0}
+HasRounds (words.Schedule pairs) = Unit {0}

@@ -6,7 +6,8 @@ use Rattle.record_command.specs.Valid.{RecordsWhole}
 use Rattle.debug_command.specs.Valid.{IsSession}
 use Rattle.drill_command.specs.Drill.{drill_run}
 use Rattle.migrate_command.specs.Valid.{IsMigration}
-use Rattle.friday_app.specs.Command.{Command, Debug, Drill, Migrate, Record, Replay}
+use Rattle.schedule_command.specs.Valid.{CanBeScheduled}
+use Rattle.friday_app.specs.Command.{Command, Debug, Drill, Migrate, Record, Replay, Schedule}
 
 abbrev pub IsValidCall : Option Command → Folder → Option (List ℕ) → Type 0
 IsValidCall None folder left = ⊥
@@ -15,3 +16,4 @@ IsValidCall (Some (Replay images pairs)) folder left = IsGroup folder pairs
 IsValidCall (Some (Debug pairs)) folder left = IsSession folder pairs left
 IsValidCall (Some (Drill rounds)) folder left = (drill_run rounds).full ≡ None
 IsValidCall (Some (Migrate log_name new_name)) folder left = IsMigration folder log_name
+IsValidCall (Some (Schedule pairs)) folder left = CanBeScheduled folder pairs

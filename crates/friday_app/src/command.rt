@@ -1,7 +1,7 @@
 // Which command the words name.
 ghost use Rattle.std.specs.Prelude.{◌≡◌, length, map, option_map, string_bytes, IfOk, IfSome};
 ghost use Rattle.std.specs.List.{list_all};
-ghost use Rattle.friday_app.specs.Command.{command_by, command_of, debugging, drilling, is_file_word, is_images, migrating, names_in, options_in, pairs_of, recording, replaying};
+ghost use Rattle.friday_app.specs.Command.{command_by, command_of, debugging, drilling, is_file_word, is_images, migrating, names_in, options_in, pairs_of, recording, replaying, scheduling};
 ghost use Rattle.friday_app.specs.Seen.{HasRounds, meaning};
 ghost use Rattle.log_pairs.specs.Seen.{pair_of};
 
@@ -17,6 +17,7 @@ pub enum Command<'a> {
     Debug(Vec<Pair<'a>>),
     Drill(u32),
     Migrate(&'a str, &'a str),
+    Schedule(Vec<Pair<'a>>),
 }
 
 // Whether the word may name a file.
@@ -96,6 +97,7 @@ fn command_by<'a>(
         "debug" => debug_command(alloc, images, names),
         "drill" => Ok(drill_command(images, names)),
         "migrate" => Ok(migrate_command(images, names)),
+        "schedule" => schedule_command(alloc, images, names),
         _ => Ok(None),
     }
 }
@@ -154,6 +156,20 @@ fn migrate_command<'a>(images: bool, names: &[&'a str]) -> Option<Command<'a>>
         [log_file, new_file] if !images => Some(Command::Migrate(log_file, new_file)),
         _ => None,
     }
+}
+
+fn schedule_command<'a>(
+    alloc: Global,
+    images: bool,
+    names: &[&'a str],
+) -> Result<Option<Command<'a>>, AllocError>
+    ensures { IfOk result (λ command. option_map meaning command ≡ scheduling images (map (λ name. name.now) names.now)) }
+{
+    if images || names.is_empty() {
+        return Ok(None);
+    }
+    let pairs = pairs_of(alloc, names)?;
+    Ok(pairs.map(Command::Schedule))
 }
 
 // A module and a log, two by two. None comes exactly where a name is left over.

@@ -1,9 +1,9 @@
 //! The program as one call: the words of the command line, the files, an input and an output are handed in.
 //!
 //! `friday` reads which command the words name (`specs/Command`) and has its crate do it: `record_command`,
-//! `replay_command`, `debug_command`, `drill_command` or `migrate_command`. What the call promises stands once, as the fields of
+//! `replay_command`, `debug_command`, `drill_command`, `migrate_command` or `schedule_command`. What the call promises stands once, as the fields of
 //! `CommandRun` (`specs/Run`), over the outcome of the command (`specs/Expected`). A further command is a crate beside
-//! those five, a case in the definitions here, and a line in `run`.
+//! those six, a case in the definitions here, and a line in `run`.
 #![tactic(auto)]
 
 mod command;

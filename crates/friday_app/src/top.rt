@@ -15,6 +15,7 @@ use headline::left_is_shown;
 use migrate_command::{migrate, migrations_work};
 use record_command::{record, recordings_rest, recordings_work};
 use replay_command::{replay, replays_work};
+use schedule_command::{schedule, schedules_work};
 use std::alloc::{AllocError, Global};
 
 // Runs what the words say.
@@ -43,6 +44,10 @@ fn run<F: Files, T: Terminal>(alloc: Global, words: &[String], files: &mut F, io
         }
         Ok(Some(Command::Migrate(log_file, new_file))) => {
             let ended = migrate(alloc, log_file, new_file, files);
+            finish(alloc, ended, io)
+        }
+        Ok(Some(Command::Schedule(pairs))) => {
+            let ended = schedule(alloc, &pairs, files);
             finish(alloc, ended, io)
         }
         Err(AllocError) => give_up(),
@@ -76,5 +81,6 @@ pub fn friday<F: Files, T: Terminal>(
     replays_work();
     sessions_work();
     migrations_work();
+    schedules_work();
     run(alloc, words, files, io)
 }

@@ -1,0 +1,14 @@
+mod Lists
+mod Worlds
+mod Bringing
+mod Fronts
+mod Nodes
+mod Room
+mod Fitting
+mod Stepping
+mod Formed
+mod Whole
+mod Converse
+mod Walked
+mod Verdicts
+mod Answering

@@ -1,0 +1,10 @@
+use Rattle.std.proofs.Common.{◌-◌, length}
+use Rattle.group_state.specs.Place.{events}
+use Rattle.schedule_back.proofs.Walked.{WalkedTo}
+use Rattle.schedule_back.proofs.draft.walk.Given as goal
+
+abbrev pub invariant-events : goal.invariant-events
+invariant-events l = WalkedTo l.fn.group l.here l.fn.draft l.longer
+
+abbrev pub decreases-events : goal.decreases-events
+decreases-events l = length (events l.fn.group.start) - l.here.at

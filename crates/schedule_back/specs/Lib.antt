@@ -1,0 +1,4 @@
+pub mod Back
+pub mod Outcome
+pub mod Seen
+pub mod Laws

@@ -1,0 +1,17 @@
+//! The converse of a recording: the schedule that records to the logs of a group.
+//!
+//! `schedule_back` walks the events of all logs in their order and writes for each what brings it about: the wall time, the
+//! random bytes or the datagram that its answer took, its signal, and one try of its thread (`specs/Back`). Logs that are not
+//! whole, names that no schedule may have and schedules past the limits are refused (`specs/Outcome`). The law
+//! `records_back` says that the run of the schedule has the entries of these logs and no others.
+#![tactic(auto)]
+
+mod back;
+mod draft;
+mod items;
+mod laws;
+mod refusal;
+
+pub use back::schedule_back;
+pub use laws::records_back;
+pub use refusal::BackError;

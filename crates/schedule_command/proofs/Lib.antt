@@ -1,0 +1,10 @@
+mod Reading
+mod Sorted
+mod Grouped
+mod Recorded
+mod Again
+mod Performing
+mod Made
+mod Placing
+mod Lined
+mod Working

@@ -1,0 +1,107 @@
+-- Recording the schedule that was printed comes to work, whose logs are those of the replays.
+use Rattle.std.proofs.Common.{◌≡◌, ◌∙◌, ◌+◌, ℕ, zero, suc, false, List, [], ◌∷◌, length, map, Option, Some, Result, Ok, append-nil, ap, arith, refl}
+use Rattle.std.specs.Prelude.{slice_get}
+use Rattle.std.specs.FinMap.{get}
+use Rattle.std.proofs.lemmas.Option.{same_Some}
+use Rattle.fri_outside.specs.Outside.{Folder, found_within}
+use Rattle.wasm_types.specs.Modules.{Module}
+use Rattle.wasm_decode.specs.Sections.{module_of_bytes}
+use Rattle.guest_process.specs.Start.{start}
+use Rattle.guest_process.specs.State.{State}
+use Rattle.group_record.specs.Answer.{first_states, first_states_from, with_first_state}
+use Rattle.group_record.specs.Logs.{files_from, log_name, logs}
+use Rattle.proc_replay.specs.Replaying.{Replaying}
+use Rattle.schedule_text.specs.Laws.{TextIsRead}
+use Rattle.schedule_text.specs.Limits.{most_schedule}
+use Rattle.schedule_text.specs.Reading.{schedule_of}
+use Rattle.schedule_text.specs.Schedule.{Schedule}
+use Rattle.schedule_text.specs.declared.process.ProcessLine.{ProcessLine}
+use Rattle.schedule_back.specs.Back.{back}
+use Rattle.schedule_back.specs.Laws.{RecordsBack, back_group, back_run}
+use Rattle.command_run.specs.Inputs.{module_in, spelled_module, valid_module}
+use Rattle.command_run.specs.Laws.{ReadsModules}
+use Rattle.command_run.specs.Limits.{most_module}
+use Rattle.command_run.specs.Outcome.{Stop, Work, and_then, bytes_or_stop}
+use Rattle.record_command.specs.Expected.{group_outcome, modules_of, record_outcome, schedule_in, schedule_or_refusal}
+use Rattle.record_command.specs.Record.{outcome_by_room, recorded_work}
+
+-- ---- modules
+
+-- a module is read of the file's bytes alone
+pub module_again : (folder later : Folder) (name : List ℕ) → get later name ≡ get folder name → module_in later name ≡ module_in folder name
+module_again folder later name same =
+    ap (λ (o : Option (List ℕ)). and_then (bytes_or_stop name (found_within most_module o)) (λ bytes. and_then (spelled_module name (module_of_bytes bytes)) (valid_module name))) same
+
+-- a replay begins as process p of so many, of the module of this line
+pub record BeginsAs (later : Folder) (count p : ℕ) (line : ProcessLine) (r : Replaying) : Type 0 where
+  pub «module» : Module
+  pub found : module_in later line.«module» ≡ Ok «module»
+  pub begins : start «module» p count ≡ Some r.state
+
+abbrev pub AllBeginAs : Folder → ℕ → ℕ → List ProcessLine → List Replaying → Type 0
+AllBeginAs later count p [] [] = Unit {0}
+AllBeginAs later count p (line ∷ lines) (r ∷ rs) = BeginsAs later count p line r × AllBeginAs later count (suc p) lines rs
+AllBeginAs later count p [] (r ∷ rs) = ⊥
+AllBeginAs later count p (line ∷ lines) [] = ⊥
+
+record Gathered (later : Folder) (count p : ℕ) (lines : List ProcessLine) (rs : List Replaying) : Type 0 where
+  modules : List Module
+  found : modules_of later lines ≡ Ok modules
+  states : first_states_from count p modules ≡ Ok (map (λ (r : Replaying). r.state) rs)
+
+gathered : (later : Folder) (count p : ℕ) (lines : List ProcessLine) (rs : List Replaying) → AllBeginAs later count p lines rs → Gathered later count p lines rs
+gathered later count p [] [] all = record { modules = []; found = refl; states = refl }
+gathered later count p (line ∷ lines) (r ∷ rs) all =
+    let one = all.0 in
+    let rest = gathered later count (suc p) lines rs all.1 in
+    record {
+      modules = one.«module» ∷ rest.modules;
+      found = ap (λ (m : Result Module Stop). and_then m (λ m. and_then (modules_of later lines) (λ ms. Ok (m ∷ ms)))) one.found
+          ∙ ap (λ (ms : Result (List Module) Stop). and_then ms (λ ms. Ok (one.«module» ∷ ms))) rest.found;
+      states = ap (λ (o : Option State). with_first_state o p (first_states_from count (suc p) rest.modules)) one.begins
+          ∙ ap (with_first_state (Some r.state) p) rest.states;
+    }
+gathered later count p [] (r ∷ rs) all = absurd all
+gathered later count p (line ∷ lines) [] all = absurd all
+
+-- ---- the outcome
+
+pub record Recorded (lines : List ProcessLine) (start : List Replaying) (later : Folder) (schedule_name : List ℕ) : Type 0 where
+  pub work : Work
+  pub is : record_outcome false schedule_name later ≡ Ok work
+  pub writes : work.writes ≡ logs (back_group lines start) (back_run lines start).steps
+
+pub recorded : ReadsModules → TextIsRead → (lines : List ProcessLine) (start : List Replaying) (text : List ℕ) (later : Folder) (schedule_name : List ℕ)
+    → RecordsBack lines start text → get later schedule_name ≡ Some text → AllBeginAs later (length lines) 0 lines start → Recorded lines start later schedule_name
+recorded reads read_back lines start text later name back_is held begin =
+    let s : Schedule = back lines start in
+    let g = gathered later (length lines) 0 lines start begin in
+    let states = map (λ (r : Replaying). r.state) start in
+    let spelled : schedule_of text ≡ Ok s = ap schedule_of back_is.spelled ∙ read_back s back_is.formed in
+    let in_file : schedule_in later name ≡ Ok s =
+    ap (λ (r : Result (List ℕ) Stop). and_then r (λ bytes. schedule_or_refusal name (schedule_of bytes))) (reads.files later name most_schedule text (record { held = held; within = back_is.short }))
+    ∙ ap (schedule_or_refusal name) spelled in
+    record {
+      work = recorded_work false (back_group lines start) (back_run lines start);
+      is = ap (λ (r : Result Schedule Stop). and_then r (λ schedule. and_then (modules_of later schedule.processes) (λ modules. group_outcome false name schedule (first_states schedule modules)))) in_file
+          ∙ ap (λ (r : Result (List Module) Stop). and_then r (λ modules. group_outcome false name s (first_states s modules))) g.found
+          ∙ ap (group_outcome false name s) g.states
+          ∙ ap (outcome_by_room false name (back_group lines start) (back_run lines start)) back_is.room;
+      writes = append-nil (logs (back_group lines start) (back_run lines start).steps);
+    }
+
+-- ---- the files
+
+-- a file of a process at a place
+pub file_at : (p : ℕ) (names : List (List ℕ)) (bytes : ℕ → List ℕ) (i : ℕ) (name : List ℕ) → slice_get names i ≡ Some name → slice_get (files_from p names bytes) i ≡ Some (log_name name, bytes (p + i))
+file_at p [] bytes i name at = cc
+file_at p (n ∷ names) bytes zero name at =
+    let here : p ≡ p + 0 = omega arith in
+    ap (λ (n : List ℕ). Some (log_name n, bytes p)) (same_Some n name at) ∙ ap (λ q. Some (log_name name, bytes q)) here
+file_at p (n ∷ names) bytes (suc i) name at =
+    let here : suc p + i ≡ p + suc i = omega arith in
+    file_at (suc p) names bytes i name at ∙ ap (λ q. Some (log_name name, bytes q)) here
+
+pub file_count : (p : ℕ) (names : List (List ℕ)) (bytes : ℕ → List ℕ) → length (files_from p names bytes) ≡ length names
+file_count p [] bytes = refl
+file_count p (n ∷ names) bytes = ap suc (file_count (suc p) names bytes)

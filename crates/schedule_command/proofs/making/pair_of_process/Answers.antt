@@ -1,0 +1,21 @@
+use Rattle.std.proofs.Common.{◌∙◌, ap, sym}
+use Rattle.std.specs.Prelude.{option_map}
+use Rattle.std.proofs.lemmas.Bool.{ne_eqb}
+use Rattle.log_pairs.specs.Seen.{pair_of}
+use Rattle.schedule_command.proofs.Placing.{found_at, found_none, got, item_at, none_more}
+use Rattle.schedule_command.proofs.making.pair_of_process.Goals as goal
+
+pub returns-then-process : goal.returns-then-process
+returns-then-process c = λ ls are.
+    let here = item_at c.args.all.now c.loop-place.place c.index-all-place.result c.loop-place-test.true c.index-all-place.is in
+    ap (option_map pair_of) (c.copied.ensures ∙ got c.args.pairs.now c.loop-place.place c.get.result c.get.ensures.lookup.0 c.get.ensures.lookup.1)
+    ∙ found_at c.args.pairs.now c.args.all.now c.args.process c.loop-place.place c.index-all-place.result c.loop-place.invariant here (λ is loaded. sym c.if-process.true ∙ c.process.ensures is loaded) ls are
+
+pub returns : goal.returns
+returns c = λ ls are. found_none c.args.pairs.now c.args.all.now c.args.process c.loop-place.place c.loop-place.invariant c.loop-place-test.false ls are
+
+pub loop-place-preserved : goal.loop-place-preserved
+loop-place-preserved c =
+    let here = item_at c.args.all.now c.loop-place.place c.index-all-place.result c.loop-place-test.true c.index-all-place.is in
+    none_more c.args.all.now c.args.process c.loop-place.place c.index-all-place.result c.loop-place.invariant here
+    (λ is loaded. ne_eqb is.head.process c.args.process (λ same. c.if-process.false (c.process.ensures is loaded ∙ same)))

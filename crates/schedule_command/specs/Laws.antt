@@ -1,0 +1,44 @@
+-- What is so of all schedules that are made of logs.
+use Rattle.std.specs.Prelude.{◌≡◌, ℕ, List, [], length, false, All, Contains, Some, Ok}
+use Rattle.std.specs.FinMap.{get}
+use Rattle.fri_outside.specs.Outside.{Folder}
+use Rattle.call_log.specs.declared.version.Version.TheVariants.{Two}
+use Rattle.call_log.specs.Head.{Head}
+use Rattle.call_log.specs.Log.{Unread, entries_of, head_at, rest_of}
+use Rattle.group_record.specs.Logs.{log_name}
+use Rattle.command_run.specs.Outcome.{Work}
+use Rattle.log_files.specs.Logs.{log_in}
+use Rattle.log_pairs.specs.Pairs.{Pair}
+use Rattle.record_command.specs.Expected.{record_outcome}
+use Rattle.schedule_command.specs.Schedule.{schedule_outcome}
+use Rattle.schedule_command.specs.Valid.{CanBeScheduled}
+
+-- Of a log that was read under its name these files have a log with its process's name: with the same head in version 2,
+-- the same entries, and nothing after them; and with the same bytes where it was of version 2 itself.
+pub record IsRecordedAgain (folder : Folder) (writes : List (List ℕ × List ℕ)) (pair : Pair) : Type 0 where
+  pub head : Head
+  pub left : Unread
+  pub was : log_in folder pair.log_name ≡ Ok (head, left)
+  pub bytes : List ℕ
+  pub written : Contains writes (log_name head.name, bytes)
+  pub newer : Unread
+  pub found : head_at bytes ≡ Some (record head { version = Two }, newer)
+  pub entries : entries_of newer ≡ entries_of left
+  pub rest : rest_of newer ≡ []
+  pub same : head.version ≡ Two → get folder pair.log_name ≡ Some bytes
+
+-- recording comes to work, which makes a log for each of the pairs and nothing else
+pub record IsRecording (pairs : List Pair) (folder later : Folder) (schedule_name : List ℕ) : Type 0 where
+  pub work : Work
+  pub is : record_outcome false schedule_name later ≡ Ok work
+  pub count : length work.writes ≡ length pairs
+  pub logs : All (IsRecordedAgain folder work.writes) pairs
+
+-- wherever a file holds this text and the modules stand as they stood, recording it comes to the logs again
+abbrev pub RecordsBack : List Pair → Folder → List ℕ → Type 0
+RecordsBack pairs folder text = (later : Folder) (schedule_name : List ℕ) → get later schedule_name ≡ Some text
+    → All (λ pair. get later pair.module_name ≡ get folder pair.module_name) pairs → IsRecording pairs folder later schedule_name
+
+-- the files of a whole group have an outcome that is work
+abbrev pub SchedulesWork : Type 0
+SchedulesWork = (pairs : List Pair) (folder : Folder) → CanBeScheduled folder pairs → (work : Work) × (schedule_outcome pairs folder ≡ Ok work)

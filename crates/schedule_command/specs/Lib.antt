@@ -1,0 +1,4 @@
+pub mod Schedule
+pub mod Seen
+pub mod Valid
+pub mod Laws

@@ -1,0 +1,156 @@
+// `schedule MODULE LOG ..`: prints the schedule of the logs of a group.
+ghost use Rattle.std.specs.Prelude.{◌≡◌, [], false, List, length, map, option_map, IfErr, IfOk, MatchResult, ℕ};
+ghost use Rattle.fri_outside.specs.Outside.{Counts, WhenTold};
+ghost use Rattle.command_run.specs.Call.{CountsFaults, Raises, StopsAs, reads_after, writes_after};
+ghost use Rattle.command_run.specs.Run.{Performed};
+ghost use Rattle.group_state.specs.Place.{AreParts, events};
+ghost use Rattle.log_pairs.specs.Pairs.{Loaded as LoadedOf};
+ghost use Rattle.log_pairs.specs.Seen.{AreLoaded, pair_of};
+ghost use Rattle.schedule_back.specs.Seen.{BringBytes};
+ghost use Rattle.schedule_command.specs.Schedule.{first_log, is_complete, lines_of, log_file, module_file, pair_of_process, schedule_outcome, unless_incomplete};
+ghost use Rattle.schedule_command.specs.Seen.{AnswerRecordsBack, IsMade};
+
+use call_log::exact_logs;
+use command_run::{Answer, Reason, Refusal, reads_modules};
+use fri_bytes::Bytes;
+use fri_outside::Files;
+use guest_process::kept;
+use log_pairs::{Loaded, Pair, begin_all, load_all};
+use proc_replay::Replayer;
+use schedule_back::{BackError, records_back, schedule_back};
+use schedule_text::{ProcessLine, written_is_read};
+use std::alloc::{AllocError, Global};
+
+// The pair whose log is of this process.
+fn pair_of_process<'a>(pairs: &[Pair<'a>], all: &[Loaded<'a>], process: u32) -> Option<Pair<'a>>
+    ensures { (ls : List LoadedOf) → AreLoaded all.now ls → option_map pair_of result ≡ pair_of_process (map pair_of pairs.now) ls process }
+{
+    for place in 0..all.len() {
+        if all[place].process() == process {
+            return pairs.get(place).copied();
+        }
+    }
+    None
+}
+
+// The file of the module of this process.
+fn module_file<'a>(pairs: &[Pair<'a>], all: &[Loaded<'a>], process: u32) -> &'a str
+    ensures { (ls : List LoadedOf) → AreLoaded all.now ls → result.now ≡ module_file (map pair_of pairs.now) ls process }
+{
+    match pair_of_process(pairs, all, process) {
+        Some(pair) => pair.module_file,
+        None => "",
+    }
+}
+
+// The file of the log of this process.
+fn log_file<'a>(pairs: &[Pair<'a>], all: &[Loaded<'a>], process: u32) -> &'a str
+    ensures { (ls : List LoadedOf) → AreLoaded all.now ls → result.now ≡ log_file (map pair_of pairs.now) ls process }
+{
+    match pair_of_process(pairs, all, process) {
+        Some(pair) => pair.log_file,
+        None => "",
+    }
+}
+
+// The file of the first log.
+fn first_log<'a>(pairs: &[Pair<'a>]) -> &'a str
+    ensures { result.now ≡ first_log (map pair_of pairs.now) }
+{
+    match pairs {
+        [] => "",
+        [first, ..] => first.log_file,
+    }
+}
+
+// A line of the schedule for each process.
+fn lines_of<'a>(
+    alloc: Global,
+    pairs: &[Pair<'a>],
+    all: &[Loaded<'a>],
+    parts: &[Replayer<'_, '_>],
+) -> Result<Vec<ProcessLine>, AllocError>
+    ensures { IfOk result (λ lines. (ls : List LoadedOf) → AreLoaded all.now ls → lines.items ≡ lines_of (map pair_of pairs.now) ls parts.now) }
+{
+    let mut lines = Vec::new(alloc);
+    for part in parts {
+        let head = part.head();
+        let file = module_file(pairs, all, head.process);
+        let name = Bytes::from_slice(alloc, head.name)?;
+        let module = Bytes::from_slice(alloc, file.as_bytes())?;
+        lines.push(ProcessLine { name, module })?;
+    }
+    Ok(lines)
+}
+
+// Whether these are the logs of all processes of a group.
+fn is_complete(parts: &[Replayer<'_, '_>]) -> bool
+    ensures { result ≡ is_complete parts.now }
+{
+    match parts {
+        [] => false,
+        [first, ..] => parts.len() == first.head().count as usize,
+    }
+}
+
+// The schedule of these logs, as it is printed.
+fn make<'a>(
+    alloc: Global,
+    pairs: &[Pair<'a>],
+    all: &[Loaded<'a>],
+    parts: Vec<Replayer<'_, '_>>,
+) -> Result<Answer, Refusal>
+    requires loaded { (ls : List LoadedOf) × AreLoaded all.now ls }
+    requires parts { AreParts parts.items }
+    ensures answer { (ls : List LoadedOf) → AreLoaded all.now ls → MatchResult result (IsMade (map pair_of pairs.now) ls parts.entry.items)
+        (StopsAs (unless_incomplete (map pair_of pairs.now) ls parts.entry.items)) }
+    ensures bytes { IfOk result (λ _. BringBytes (events parts.entry.items)) }
+    ensures cause { (old new : Counts) → IfErr result (Raises old new) }
+    ensures still { (n : ℕ) → (reads_after n result ≡ n) × (writes_after n result ≡ n) }
+{
+    if !is_complete(&parts) {
+        return Err(Refusal::refuse(alloc, first_log(pairs), Reason::Incomplete));
+    }
+    let lines = lines_of(alloc, pairs, all, &parts)?;
+    match schedule_back(alloc, &lines, parts) {
+        Ok(text) => Ok(Answer::Done(text)),
+        Err(BackError::NotWhole(p)) => {
+            let file = log_file(pairs, all, p);
+            Err(Refusal::refuse(alloc, file, Reason::NotWhole))
+        }
+        Err(BackError::BadModuleName(p)) => {
+            let file = module_file(pairs, all, p);
+            Err(Refusal::refuse(alloc, file, Reason::BadModuleName))
+        }
+        Err(BackError::TooManyEvents) => {
+            let file = first_log(pairs);
+            Err(Refusal::refuse(alloc, file, Reason::TooManyEvents))
+        }
+        Err(BackError::TooLong) => {
+            let file = first_log(pairs);
+            Err(Refusal::refuse(alloc, file, Reason::TooLong))
+        }
+        Err(BackError::NoMemory) => Err(Refusal::NoMemory),
+    }
+}
+
+/// The schedule that records to the logs of a group, as it is printed. No file is made.
+pub fn schedule<'a, F: Files>(
+    alloc: Global,
+    pairs: &[Pair<'a>],
+    files: &mut F,
+) -> Result<Answer, Refusal>
+    ensures performed { Performed (option_map (schedule_outcome (map pair_of pairs.now)) (F.told files.old)) (λ folder. []) false
+        (F.told files.old) (F.told files.new) (F.counts files.old) (F.counts files.new) result }
+    ensures same { F.told files.new ≡ F.told files.old }
+    ensures converse { WhenTold (F.told files.old) (λ folder. IfOk result (AnswerRecordsBack (map pair_of pairs.now) folder)) }
+{
+    exact_logs();
+    reads_modules();
+    written_is_read();
+    kept();
+    records_back();
+    let all = load_all(alloc, pairs, files)?;
+    let parts = begin_all(alloc, &all)?;
+    make(alloc, pairs, &all, parts)
+}
