@@ -131,8 +131,8 @@ def files_of_a_replay(script):
         ("a.wasm short", "Refused", "refused short: 1 BadHead"),
         ("a.wasm a.wasm", "Refused", "refused a.wasm: 1 BadHead"),
     ):
-        script.run("replay " + line, status, "friday: " + said)
-        script.run("debug " + line, status, "friday: " + said)
+        for verb in ("replay", "debug", "schedule"):
+            script.run("%s %s" % (verb, line), status, "friday: " + said)
 
 
 def files_of_a_record(script):
@@ -159,7 +159,7 @@ def too_large(script):
     script.file("b.wasm", script.kept("now"))
     earlier = ("", "b.wasm p0 ", "b.wasm p0 b.wasm p1 ")
     for pairs in earlier:
-        for verb in ("replay", "debug"):
+        for verb in ("replay", "debug", "schedule"):
             script.run("%s %slong x" % (verb, pairs), *refused("long", "TooLarge"))
     # A custom section up to the end, whose name is empty.
     script.file("a.wasm", digits(custom) + times(4194304 - len(custom), b"\0"))
@@ -169,7 +169,7 @@ def too_large(script):
     script.run("replay a.wasm a.log", *refused("a.wasm", "TooLarge"))
     script.file("long", times(33554433, b"\0"))
     for pairs in earlier:
-        for verb in ("replay", "debug"):
+        for verb in ("replay", "debug", "schedule"):
             script.run("%s %sb.wasm long b.wasm x" % (verb, pairs), *refused("long", "TooLarge"))
     script.file("a.wasm", script.kept("now"))
     script.file("a.log", digits(logs.head()) + times(33554432 - 18, b"\0"))

@@ -9,11 +9,13 @@ import os
 import commands, crowds, debug_inputs, debug_pauses, debug_points, debug_programs, debug_returns, debugger, drills, groups
 import guests, hostile, images, large_memories, large_modules, limits, long_bytes, long_schedules, long_sessions, many_datagrams
 import many_events, migrates, pair_refusals, pairs, point_refusals, program_limits, program_refusals, program_values
-import program_walks, refusals, replays, schedules, shell_refusals, shell_values, stopped, threads, turned
+import program_walks, refusals, replays, schedule_refusals, schedules, schedules_of_calls, schedules_of_logs
+import shell_refusals, shell_values, stopped, threads, turned
 from script import Script
 
 PARTS = (
     *(commands, schedules, groups, stopped, pairs, pair_refusals, images, hostile, replays, migrates, turned, refusals, guests, threads, limits),
+    *(schedules_of_logs, schedules_of_calls, schedule_refusals),
     *(debugger, debug_points, debug_returns, shell_values, shell_refusals, point_refusals, debug_inputs),
     *(debug_programs, program_walks, program_values, program_refusals, program_limits, debug_pauses),
     *(long_schedules, long_sessions, long_bytes, many_datagrams, crowds, large_modules, large_memories, many_events, drills),
@@ -26,7 +28,7 @@ def main():
     for part in PARTS:
         part.table(script)
     for name, lines in (("stdin", script.lines), ("stdout", script.told)):
-        with open(os.path.join(HERE, "..", name), "w") as file:
+        with open(os.path.join(HERE, "..", name), "w", encoding="utf-8") as file:
             file.write("\n".join(lines) + "\n")
 
 

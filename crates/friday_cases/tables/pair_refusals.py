@@ -1,5 +1,5 @@
-"""Files of several pairs that are refused, absent or not read, in a replay and in a session of the debugger: which of
-them the first is, and that it is told."""
+"""Files of several pairs that are refused, absent or not read, in a replay, in a session of the debugger and where a schedule
+is to be made of them: which of them the first is, and that it is told."""
 
 import logs
 from common import refused
@@ -42,9 +42,12 @@ def replay(script, pairs, outcome):
 
 
 def judged(script, pairs, outcome):
-    """What comes of a replay; the debugger refuses the same."""
+    """What comes of a replay; the debugger refuses the same, and so does the making of a schedule, which then asks for all logs
+    of the group."""
     replay(script, pairs, outcome)
-    script.run("debug " + " ".join(pairs), *(("Done", "at 0") if outcome[0] == "Done" else outcome))
+    is_good, first_log = outcome[0] == "Done", pairs[0].split()[1]
+    script.run("debug " + " ".join(pairs), *(("Done", "at 0") if is_good else outcome))
+    script.run("schedule " + " ".join(pairs), *(refused(first_log, "7 Incomplete") if is_good else outcome))
 
 
 def at_each_pair(script):
@@ -156,6 +159,10 @@ def failing_reads(script):
         script.fail("files", call)
         replay(script, GOOD, ("ReadFault",))
         replay(script, GOOD, ("Done", *whole((0, NAMES[0]), (1, NAMES[1]), (2, NAMES[2]))))
+        begin(script, "three pairs of which a schedule is to be made, of whose files read %d fails" % call)
+        script.fail("files", call)
+        script.run("schedule " + " ".join(GOOD), "ReadFault")
+        script.run("schedule " + " ".join(GOOD), *refused("l0", "7 Incomplete"))
 
 
 def table(script):
