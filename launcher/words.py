@@ -10,7 +10,7 @@ def is_command(words):
     verb, rest = words[0], list(words[1:])
     if verb == "drill":
         return len(rest) == 1 and is_decimal(rest[0]) and 1 <= int(rest[0].lstrip("0")[:7] or "0") <= MOST_ROUNDS
-    if verb not in ("record", "replay", "debug", "migrate"):
+    if verb not in ("record", "replay", "debug", "migrate", "schedule"):
         return False
     if verb in ("record", "replay") and "--images" in rest:
         rest.remove("--images")
