@@ -76,6 +76,7 @@ ROWS = (
     (["record", "--images", "two"], ["ping", "pong"], ""),
     (["replay", "--images", *PAIRS], [], ""),
     (["debug", *PAIRS], [], WATCH),
+    (["schedule", *PAIRS], [], ""),
     (["drill", "10"], [], ""),
 )
 USAGE, NO_MEMORY, EVER = 2, 7, 2**63

@@ -58,11 +58,11 @@ def item(draw, count):
     return "signal %d %d" % (process, draw.randint(1, 31)) if kind == "signal" else "kill %d" % process
 
 
-def recorded(program, draw, folder):
-    """Records a group that is drawn. Gives its names, its modules and what was printed."""
+def recorded(program, draw, folder, guests=GUESTS):
+    """Records a group of these guests that is drawn. Gives its names, its modules and what was printed."""
     names = ["p%d" % number for number in range(draw.randint(1, 4))]
-    modules = [os.path.basename(draw.choice(GUESTS)) for _ in names]
-    for guest in GUESTS:
+    modules = [os.path.basename(draw.choice(guests)) for _ in names]
+    for guest in guests:
         shutil.copy(guest, folder)
     lines = ["friday 1", *("process %s %s" % pair for pair in zip(names, modules))]
     lines += [item(draw, len(names)) for _ in range(draw.randint(20, 120))]
