@@ -7,7 +7,7 @@ use Rattle.call_log.specs.declared.version.Version.{Version}
 use Rattle.call_log.specs.declared.version.Version.TheVariants.{One, Two}
 use Rattle.call_log.specs.Entry.{clock_after, encoding, encodings}
 use Rattle.call_log.specs.Head.{Head, IsHead, head_bytes}
-use Rattle.call_log.specs.Log.{Holds, Unread, behind, entries_of, entry_at, head_at, past, rest_of}
+use Rattle.call_log.specs.Log.{Holds, Unread, behind, entries_of, entry_at, head_at, past, rest_of, rewritten}
 
 -- ---- reading
 
@@ -62,3 +62,16 @@ pub record IsCommon (last : ℕ) (e : Entry) : Type 0 where
 -- such an entry takes no more bytes in version 2 than in version 1
 abbrev pub NoLonger : Type 0
 NoLonger = (last : ℕ) (e : Entry) → IsShaped e → IsCommon last e → length (encoding Two last e) ≤ length (encoding One last e)
+
+-- ---- a log that is written again
+
+-- these bytes are a log with this head but for the version, which is 2, these entries, and nothing behind them
+pub record IsNewer (head : Head) (es : List Entry) (bytes : List ℕ) : Type 0 where
+  pub left : Unread
+  pub found : head_at bytes ≡ Some (record head { version = Two }, left)
+  pub entries : entries_of left ≡ es
+  pub rest : rest_of left ≡ []
+
+-- and so is what a log with this head is rewritten to
+abbrev pub RewrittenIsRead : Type 0
+RewrittenIsRead = (head : Head) (es : List Entry) → IsHead head → All IsShaped es → IsNewer head es (rewritten head es)

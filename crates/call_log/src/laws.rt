@@ -1,5 +1,5 @@
 // The laws of logs, as calls that do nothing.
-ghost use Rattle.call_log.specs.Laws.{ExactLogs, NoLonger};
+ghost use Rattle.call_log.specs.Laws.{ExactLogs, NoLonger, RewrittenIsRead};
 
 use fri_bytes::exact_readers;
 
@@ -15,3 +15,10 @@ pub fn exact_logs()
 pub fn no_longer()
     ensures { NoLonger }
 {}
+
+/// What a log is rewritten to is read as its head in version 2 and those entries, and nothing is left behind them.
+pub fn rewritten_is_read()
+    ensures { RewrittenIsRead }
+{
+    exact_logs();
+}

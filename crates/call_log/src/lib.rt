@@ -9,8 +9,8 @@
 //! entry that was read last, and the bytes behind that entry. For any bytes behind a head of either
 //! version `entries_of` is the longest list of entries whose encodings stand there, and `rest_of` is what
 //! follows them. `exact_logs` says that reading gives exactly what stands there and that what was
-//! written is read back, `entry_by_entry` how one entry more changes it, and `no_longer` that version 2 takes no
-//! more bytes for the entry of an event.
+//! written is read back, `entry_by_entry` how one entry more changes it, `rewritten_is_read` the same of `rewrite`, and `no_longer`
+//! that version 2 takes no more bytes for the entry of an event.
 #![tactic(auto)]
 
 mod entry;
@@ -26,7 +26,7 @@ mod view;
 mod walk;
 
 pub use head::{BadHead, LogHead};
-pub use laws::{exact_logs, no_longer};
+pub use laws::{exact_logs, no_longer, rewritten_is_read};
 pub use length::entry_length;
 pub use put::{put_entry, put_head};
 pub use rewriting::rewrite;
