@@ -34,7 +34,7 @@ begins m who count S h = by_store (first_store m) (first_thread m) h
     by_store : (o : Option Store) (thread : Option Thread) → begun_with m who count o thread ≡ Some S → IsFresh who count S
     by_store None thread h = cc
     by_store (Some g) None h = cc
-    by_store (Some g) (Some thread) h = subst (IsFresh who count) (same_Some _ _ h) (record { who = refl; count = refl; events = refl })
+    by_store (Some g) (Some thread) h = subst (IsFresh who count) (same_Some _ _ h) (record { who = refl; count = refl; events = refl; clock = refl })
 
 -- ---- neither an answer nor a burst counts
 

@@ -12,6 +12,7 @@ pub record IsFresh (number size : ℕ) (S : State) : Type 0 where
   pub who : S.who ≡ number
   pub count : S.count ≡ size
   pub events : S.events ≡ 0
+  pub clock : S.clock ≡ 0
 
 -- a process begins with no event
 abbrev pub BeginsFresh : Type 0

@@ -1,4 +1,5 @@
 pub mod Replaying
+pub mod AtHead
 pub mod Seen
 pub mod Course
 pub mod Inside

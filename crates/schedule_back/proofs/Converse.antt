@@ -30,7 +30,8 @@ use Rattle.schedule_text.specs.declared.process.ProcessLine.{ProcessLine}
 use Rattle.group_state.specs.Laws.{Ordered, Stepwise}
 use Rattle.group_state.specs.Place.{events, group_count, states, states_from}
 use Rattle.schedule_back.specs.Back.{back, items_of}
-use Rattle.schedule_back.specs.Laws.{Converse, IsAtHead, IsWholeGroup, NothingWaits, RecordsBack, back_group, back_run, front_run}
+use Rattle.proc_replay.specs.AtHead.{IsAtHead}
+use Rattle.schedule_back.specs.Laws.{Converse, IsWholeGroup, NothingWaits, RecordsBack, back_group, back_run, front_run}
 use Rattle.schedule_back.specs.Outcome.{text_or_refusal}
 use Rattle.schedule_back.specs.Seen.{BringBytes}
 use Rattle.schedule_back.proofs.Fitting.{all_fit}

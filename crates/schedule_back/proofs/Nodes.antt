@@ -6,7 +6,7 @@ use Rattle.std.proofs.lemmas.List.Elements.{recursion_from_All}
 use Rattle.std.proofs.lemmas.Option.{same_Some}
 use Rattle.proc_replay.specs.Replaying.{Replaying}
 use Rattle.group_state.specs.Place.{AreParts, Ascends, group_count}
-use Rattle.schedule_back.specs.Laws.{IsAtHead}
+use Rattle.proc_replay.specs.AtHead.{IsAtHead}
 
 abbrev process_of : Replaying → ℕ
 process_of r = r.head.process

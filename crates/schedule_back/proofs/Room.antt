@@ -17,7 +17,7 @@ use Rattle.proc_replay.specs.Replaying.{Replaying}
 use Rattle.proc_replay.specs.Sizes.{AcceptedNoLonger}
 use Rattle.group_state.specs.Laws.{Ordered}
 use Rattle.group_state.specs.Place.{PartsFit, events}
-use Rattle.schedule_back.specs.Laws.{IsAtHead}
+use Rattle.proc_replay.specs.AtHead.{IsAtHead}
 use Rattle.schedule_back.proofs.Fronts.{IsFront, front, list_at, take_within}
 
 -- ---- heads

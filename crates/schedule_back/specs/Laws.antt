@@ -1,12 +1,11 @@
 -- The converse of a recording: the schedule that is made of the logs of a group records to these logs.
-use Rattle.std.specs.Prelude.{◌≡◌, ◌+◌, ◌≢◌, ◌≤◌, ℕ, false, List, [], length, map, take, All, AllPairs, slice_get, Some, None, Ok}
-use Rattle.call_log.specs.Head.{IsHead, head_bytes}
+use Rattle.std.specs.Prelude.{◌≡◌, ◌≢◌, ◌≤◌, ℕ, false, List, [], length, map, take, All, AllPairs, slice_get, Some, None, Ok}
 use Rattle.call_log.specs.declared.version.Version.TheVariants.{Two}
-use Rattle.call_log.specs.Limits.{most_log}
-use Rattle.call_log.specs.Log.{behind, entries_of, rest_of, rewritten}
+use Rattle.call_log.specs.Log.{entries_of, rest_of, rewritten}
 use Rattle.group_record.specs.Answer.{group_of}
 use Rattle.group_record.specs.Run.{Group, Progress, entries, head_of_log, log_of, run, size, world_around}
 use Rattle.guest_process.specs.Live.{Env}
+use Rattle.proc_replay.specs.AtHead.{IsAtHead}
 use Rattle.proc_replay.specs.Replaying.{Replaying}
 use Rattle.schedule_text.specs.Limits.{most_schedule}
 use Rattle.schedule_text.specs.Schedule.{IsSchedule}
@@ -16,13 +15,6 @@ use Rattle.group_state.specs.Place.{AreParts, PartsFit, events, group_count}
 use Rattle.schedule_back.specs.Back.{back, schedule_of}
 use Rattle.schedule_back.specs.Outcome.{text_or_refusal}
 use Rattle.schedule_back.specs.Seen.{BringBytes}
-
--- nothing of a log was read but its head, and its process has had no event. With its head it is within the limit
-pub record IsAtHead (r : Replaying) : Type 0 where
-  pub head : IsHead r.head
-  pub left : r.left ≡ behind r.head r.left.bytes
-  pub clock : r.state.clock ≡ 0
-  pub within : length (head_bytes r.head) + length r.left.bytes ≤ most_log
 
 -- the logs of all processes of a group, in order of their numbers; and of each process a line of a schedule, with the name
 -- that its log says, which no other has
