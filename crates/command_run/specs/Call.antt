@@ -1,5 +1,5 @@
 -- What a call says of its status, of what it printed, and of the files after it.
-use Rattle.std.specs.Prelude.{◌≡◌, ◌≢◌, ◌⊎◌, ℕ, List, [], ◌++◌, string_bytes, Bool, IsTrue, Option, Some, None, take, IfSome, IfNone, Result, Ok, Err, true, false}
+use Rattle.std.specs.Prelude.{⊤, ◌≡◌, ◌≢◌, ◌⊎◌, ℕ, List, [], ◌++◌, string_bytes, Bool, IsTrue, Option, Some, None, take, IfSome, IfNone, Result, Ok, Err, true, false}
 use Rattle.std.specs.Io.KnownBytes.{append_known}
 use Rattle.fri_outside.specs.Outside.{Folder, Counts, Rose, raised}
 use Rattle.fri_outside.specs.Several.{with_files, ChangesOnly}
@@ -147,6 +147,15 @@ Makes (Err (refusal.Absent file)) files before after = after ≡ with_files file
 Makes (Err refusal.ReadFault) files before after = ChangesOnly before files after
 Makes (Err refusal.WriteFault) files before after = ChangesOnly before files after
 Makes (Err refusal.NoMemory) files before after = ChangesOnly before files after
+
+-- these files were to be made, and some are made in part where a write or memory failed
+abbrev pub MakesAll : Result ⊤ Refusal → List (List ℕ × List ℕ) → Option Folder → Option Folder → Type 0
+MakesAll (Ok _) files before after = after ≡ with_files files before
+MakesAll (Err refusal.WriteFault) files before after = ChangesOnly before files after
+MakesAll (Err refusal.NoMemory) files before after = ChangesOnly before files after
+MakesAll (Err refusal.ReadFault) files before after = ⊥
+MakesAll (Err (refusal.Refused file why)) files before after = ⊥
+MakesAll (Err (refusal.Absent file)) files before after = ⊥
 
 -- a divergence is told only where it may be
 abbrev pub DivergesOnlyIf : Bool → Result Answer Refusal → Type 0

@@ -66,6 +66,8 @@ reason_text reason.NotWhole = codes "8 NotWhole"
 reason_text reason.BadModuleName = codes "9 BadModuleName"
 reason_text reason.TooManyEvents = codes "10 TooManyEvents"
 reason_text reason.TooLong = codes "11 TooLong"
+reason_text reason.NoProcess = codes "12 NoProcess"
+reason_text reason.NoEvent = codes "13 NoEvent"
 
 abbrev pub usage_line : List ℕ
 usage_line = codes "friday: these words are not a command\n"

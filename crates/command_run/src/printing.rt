@@ -46,6 +46,8 @@ fn push_reason(text: &mut Text, reason: Reason) -> Result<(), AllocError>
         Reason::BadModuleName => text.push_str("9 BadModuleName"),
         Reason::TooManyEvents => text.push_str("10 TooManyEvents"),
         Reason::TooLong => text.push_str("11 TooLong"),
+        Reason::NoProcess => text.push_str("12 NoProcess"),
+        Reason::NoEvent => text.push_str("13 NoEvent"),
     }
 }
 

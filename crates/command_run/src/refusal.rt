@@ -41,6 +41,10 @@ pub enum Reason {
     TooManyEvents,
     /// The schedule would pass its limit.
     TooLong,
+    /// No given log is of the process.
+    NoProcess,
+    /// The log has fewer accepted events.
+    NoEvent,
 }
 
 /// What a command prints at the end of its work, at which a log may have diverged.

@@ -1,6 +1,7 @@
 pub mod Run
 pub mod Logs
 pub mod Images
+pub mod ImageLaws
 pub mod Files
 pub mod Answer
 pub mod Around

@@ -32,8 +32,8 @@ pub fn write_image<F: Files>(
     write_file(alloc, name, ".out", printed, files)
 }
 
-// Makes a file that has these bytes. It is named by a process and this ending.
-fn write_file<F: Files>(
+/// Makes a file that has these bytes. It is named by a process and this ending.
+pub fn write_file<F: Files>(
     alloc: Global,
     name: &[u8],
     ending: &str,

@@ -6,10 +6,8 @@ use Rattle.fri_outside.specs.Laws.{KeepsFiles}
 use Rattle.fri_outside.specs.Outside.{Folder, with_file, with_piece}
 use Rattle.fri_outside.specs.Several.{AreFronts, ChangesOnly}
 use Rattle.fri_outside.specs.declared.files.WriteError.{WriteError}
-use Rattle.fri_outside.specs.declared.files.WriteError.TheVariants as writing
-use Rattle.command_run.specs.Call.{write_refusal}
-use Rattle.command_run.specs.FileLaws.{same_changes}
-use Rattle.migrate_command.specs.Seen.{MakesFile}
+use Rattle.command_run.specs.Call.{MakesAll, write_refusal}
+use Rattle.command_run.specs.FileLaws.{failed_makes, same_changes}
 
 abbrev a_file : List ℕ → List ℕ → Option (List ℕ × List ℕ)
 a_file name bytes = Some (name, bytes)
@@ -23,20 +21,15 @@ part_made : KeepsFiles → (before after : Option Folder) (name bytes : List ℕ
 part_made keeps before after name bytes n is =
     subst (ChangesOnly before ((name, bytes) ∷ [])) (sym is) (keeps.left before ((name, take n bytes) ∷ []) ((name, bytes) ∷ []) (one_front name bytes n))
 
--- a failed write makes a part of it
-failed_makes : (error : WriteError) (file : List ℕ × List ℕ) (before after : Option Folder) → ChangesOnly before (file ∷ []) after → MakesFile (Err (write_refusal error)) file before after
-failed_makes writing.Failed file before after changes = changes
-failed_makes writing.NoMemory file before after changes = changes
-
 -- the file was not created
-pub create_failed : KeepsFiles → (error : WriteError) (name bytes : List ℕ) (before after : Option Folder) → (after ≡ before) ⊎ (after ≡ with_file name [] before) → MakesFile (Err (write_refusal error)) (name, bytes) before after
-create_failed keeps error name bytes before after (inl same) = failed_makes error (name, bytes) before after (same_changes before after ((name, bytes) ∷ []) same)
-create_failed keeps error name bytes before after (inr made) = failed_makes error (name, bytes) before after (part_made keeps before after name bytes 0 made)
+pub create_failed : KeepsFiles → (error : WriteError) (name bytes : List ℕ) (before after : Option Folder) → (after ≡ before) ⊎ (after ≡ with_file name [] before) → MakesAll (Err (write_refusal error)) ((name, bytes) ∷ []) before after
+create_failed keeps error name bytes before after (inl same) = failed_makes error ((name, bytes) ∷ []) before after (same_changes before after ((name, bytes) ∷ []) same)
+create_failed keeps error name bytes before after (inr made) = failed_makes error ((name, bytes) ∷ []) before after (part_made keeps before after name bytes 0 made)
 
 -- its bytes were not written
 pub append_failed : KeepsFiles → (error : WriteError) (name bytes : List ℕ) (before mid after : Option Folder) → mid ≡ with_file name [] before
-    → (after ≡ mid) ⊎ ((n : ℕ) × (after ≡ with_piece name (take n bytes) mid)) → MakesFile (Err (write_refusal error)) (name, bytes) before after
-append_failed keeps error name bytes before mid after made (inl same) = failed_makes error (name, bytes) before after (part_made keeps before after name bytes 0 (same ∙ made))
+    → (after ≡ mid) ⊎ ((n : ℕ) × (after ≡ with_piece name (take n bytes) mid)) → MakesAll (Err (write_refusal error)) ((name, bytes) ∷ []) before after
+append_failed keeps error name bytes before mid after made (inl same) = failed_makes error ((name, bytes) ∷ []) before after (part_made keeps before after name bytes 0 (same ∙ made))
 append_failed keeps error name bytes before mid after made (inr (n, is)) =
-    failed_makes error (name, bytes) before after
+    failed_makes error ((name, bytes) ∷ []) before after
     (part_made keeps before after name bytes n (is ∙ ap (with_piece name (take n bytes)) made ∙ keeps.behind before name [] (take n bytes)))

@@ -9,7 +9,7 @@ use Rattle.fri_outside.specs.Outside.{Folder}
 use Rattle.call_log.specs.declared.version.Version.TheVariants.{Two}
 use Rattle.call_log.specs.Entry.{encodings}
 use Rattle.call_log.specs.Head.{Head, IsHead}
-use Rattle.call_log.specs.Laws.{ExactLogs}
+use Rattle.call_log.specs.Laws.{ExactLogs, IsNewer, RewrittenIsRead}
 use Rattle.call_log.specs.Limits.{most_log}
 use Rattle.call_log.specs.Log.{Unread, behind, entries_of, head_at, rest_of}
 use Rattle.command_run.specs.declared.refusal.Reason.TheVariants as reason
@@ -42,36 +42,26 @@ log_found : (name bytes : List ℕ) (o : Option (Head × Unread)) (log : Head ×
 log_found name bytes None log is = cc
 log_found name bytes (Some l) log is = cc
 
-module _ (keeps : KeepsFiles) (exact : ExactLogs) (reads : ReadsModules) where
+module _ (keeps : KeepsFiles) (exact : ExactLogs) (rewritten_read : RewrittenIsRead) (reads : ReadsModules) where
   -- the head of a log that was read is one
   head_read : (folder : Folder) (name : List ℕ) (log : Head × Unread) → log_in folder name ≡ Ok log → IsHead log.0
   head_read folder name log is =
       let f = follows (file_of folder name most_log) (λ bytes. log_or_bad_head name (head_at bytes)) log is in
       ((exact.heads f.given log.0 log.1).0 (log_found name f.given (head_at f.given) log f.comes)).0
 
-  newer_is : (head : Head) → IsHead head → IsHead (newer_head head)
-  newer_is head is = record { some = is.some; few = is.few; within = is.within; named = is.named }
-
-  -- what is left behind the head of the new file
-  abbrev newer_left : Head × Unread → Unread
-  newer_left log = behind (newer_head log.0) (encodings Two 0 (entries_of log.1))
-
-  newer_found : (log : Head × Unread) → IsHead log.0 → head_at (new_log log) ≡ Some (newer_head log.0, newer_left log)
-  newer_found log is = (exact.heads (new_log log) (newer_head log.0) (newer_left log)).1 (newer_is log.0 is, (refl, refl))
-
-  -- its entries are those of the log, and nothing follows them
-  newer_holds : (log : Head × Unread) → (entries_of (newer_left log) ≡ entries_of log.1) × (rest_of (newer_left log) ≡ [])
-  newer_holds log =
+  -- the new file is read as its head in version 2 and its entries, and nothing follows them
+  newer_found : (log : Head × Unread) → IsHead log.0 → IsNewer log.0 (entries_of log.1) (new_log log)
+  newer_found log is =
       let held = (exact.all log.1 (entries_of log.1) (rest_of log.1)).1 (refl, refl) in
-      (exact.all (newer_left log) (entries_of log.1) []).0 (exact.holds_written Two 0 (entries_of log.1) held.shaped)
+      rewritten_read log.0 (entries_of log.1) is held.shaped
 
   -- and so it is read
-  newer_read : (folder : Folder) (new_name : List ℕ) (log : Head × Unread) → IsHead log.0 → length (new_log log) ≤ most_log
-      → log_in (insert folder new_name (new_log log)) new_name ≡ Ok (newer_head log.0, newer_left log)
+  newer_read : (folder : Folder) (new_name : List ℕ) (log : Head × Unread) → (is : IsHead log.0) → length (new_log log) ≤ most_log
+      → log_in (insert folder new_name (new_log log)) new_name ≡ Ok (newer_head log.0, (newer_found log is).left)
   newer_read folder new_name log is few =
       ap (λ (r : Result (List ℕ) Stop). and_then r (λ bytes. log_or_bad_head new_name (head_at bytes)))
       (reads.files (insert folder new_name (new_log log)) new_name most_log (new_log log) (record { held = keeps.made folder new_name (new_log log); within = few }))
-      ∙ ap (log_or_bad_head new_name) (newer_found log is)
+      ∙ ap (log_or_bad_head new_name) (newer_found log is).found
 
   pub migration_keeps : MigrationsKeep
   migration_keeps log_name new_name folder work is =
@@ -79,16 +69,16 @@ module _ (keeps : KeepsFiles) (exact : ExactLogs) (reads : ReadsModules) where
       let log = f.given in
       let done = not_grown (nat_le (length (new_log log)) most_log) (migrate_work new_name log) work (refuses_at_once log_name reason.Grown) f.comes in
       let head = head_read folder log_name log f.is_given in
-      let holds = newer_holds log in
+      let newer = newer_found log head in
       subst (KeepsLog folder log_name new_name) (sym done.1) (record {
         head = log.0;
         left = log.1;
         was = f.is_given;
         bytes = new_log log;
         written = refl;
-        newer = newer_left log;
-        found = newer_found log head;
-        entries = holds.0;
-        rest = holds.1;
-        read = λ after made. subst (λ (a : Folder). log_in a new_name ≡ Ok (newer_head log.0, newer_left log)) (sym (same_Some _ _ made)) (newer_read folder new_name log head (leb-true _ _ done.0));
+        newer = newer.left;
+        found = newer.found;
+        entries = newer.entries;
+        rest = newer.rest;
+        read = λ after made. subst (λ (a : Folder). log_in a new_name ≡ Ok (newer_head log.0, newer.left)) (sym (same_Some _ _ made)) (newer_read folder new_name log head (leb-true _ _ done.0));
       })

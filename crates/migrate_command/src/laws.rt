@@ -1,7 +1,7 @@
 // What is so of all migrations, as calls that do nothing.
 ghost use Rattle.migrate_command.specs.Laws.{MigrationsKeep, MigrationsWork};
 
-use call_log::exact_logs;
+use call_log::{exact_logs, rewritten_is_read};
 use command_run::reads_modules;
 use fri_outside::keeps_files;
 use log_files::finds_logs;
@@ -13,6 +13,7 @@ pub fn migrations_keep()
 {
     keeps_files();
     exact_logs();
+    rewritten_is_read();
     reads_modules();
 }
 

@@ -1,10 +1,9 @@
 // `migrate LOG NEW`: makes the file that has the newer form of a log.
-ghost use Rattle.std.specs.Prelude.{◌≡◌, false, option_map, IfErr};
+ghost use Rattle.std.specs.Prelude.{◌≡◌, [], ◌∷◌, false, option_map, IfErr};
 ghost use Rattle.fri_outside.specs.Outside.{WhenTold};
-ghost use Rattle.command_run.specs.Call.{CountsFaults, DivergesOnlyIf, Keeps, Makes, Raises, TellsOutcome};
+ghost use Rattle.command_run.specs.Call.{CountsFaults, DivergesOnlyIf, Keeps, Makes, MakesAll, Raises, TellsOutcome};
 ghost use Rattle.command_run.specs.Outcome.{writes_of};
 ghost use Rattle.migrate_command.specs.Migrate.{migrate_outcome};
-ghost use Rattle.migrate_command.specs.Seen.{MakesFile};
 
 use crate::newer::{Migration, take_migration};
 use command_run::{Answer, Refusal};
@@ -13,7 +12,7 @@ use std::alloc::Global;
 
 // Makes a file that has these bytes.
 fn make_file<F: Files>(name: &str, bytes: &[u8], files: &mut F) -> Result<(), Refusal>
-    ensures made { MakesFile result (name.now, bytes.now) (F.told files.old) (F.told files.new) }
+    ensures made { MakesAll result ((name.now, bytes.now) ∷ []) (F.told files.old) (F.told files.new) }
     ensures counts { CountsFaults (F.counts files.old) (F.counts files.new) result }
     ensures cause { IfErr result (Raises (F.counts files.old) (F.counts files.new)) }
 {

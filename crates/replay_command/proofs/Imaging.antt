@@ -5,18 +5,15 @@ use Rattle.std.proofs.lemmas.Option.{get_or_from_slice_get, same_Some, slice_get
 use Rattle.fri_outside.specs.Laws.{KeepsFiles}
 use Rattle.fri_outside.specs.Outside.{Folder}
 use Rattle.fri_outside.specs.Several.{AreFronts, ChangesOnly, with_files}
-use Rattle.fri_outside.specs.declared.files.WriteError.{WriteError}
-use Rattle.fri_outside.specs.declared.files.WriteError.TheVariants as writing
 use Rattle.call_log.specs.Head.{IsHead}
 use Rattle.fri_text.specs.Name.{is_name}
+use Rattle.group_record.specs.ImageLaws.{part_fronts}
 use Rattle.group_record.specs.Images.{AreMadeInPart, image_files, made_in_part}
 use Rattle.proc_replay.specs.Replaying.{Replaying}
 use Rattle.group_state.specs.declared.image.Image.{Image}
 use Rattle.group_state.specs.Image.{image_of, left_memory, left_print}
-use Rattle.command_run.specs.Call.{write_refusal}
+use Rattle.command_run.specs.FileLaws.{fronts_behind, fronts_of_more, with_more}
 use Rattle.replay_command.specs.Report.{images_in}
-use Rattle.replay_command.specs.Seen.{MakesAll}
-use Rattle.replay_command.proofs.Fronts.{fronts_behind, fronts_of_more, part_fronts, with_more}
 
 -- the two files of a process
 abbrev pub files_of : Replaying → List (List ℕ × List ℕ)
@@ -132,8 +129,3 @@ pub part_made : KeepsFiles → (start : List Replaying) (node : ℕ) (files : Li
     → AreMadeInPart files mid after → ChangesOnly before (images_in start) after
 part_made keeps start node files before mid after a so_far part =
     part_of_own keeps start node a.replay before mid after a.is so_far (subst (λ (f : List (List ℕ × List ℕ)). AreMadeInPart f mid after) a.own part)
-
--- a failed write makes some of them
-pub failed_makes : (error : WriteError) (files : List (List ℕ × List ℕ)) (before after : Option Folder) → ChangesOnly before files after → MakesAll (Err (write_refusal error)) files before after
-failed_makes writing.Failed files before after changes = changes
-failed_makes writing.NoMemory files before after changes = changes

@@ -11,13 +11,12 @@ use Rattle.group_state.specs.Tally.{tally}
 use Rattle.command_run.specs.declared.refusal.Answer.{Answer}
 use Rattle.command_run.specs.declared.refusal.Answer.TheVariants as answered
 use Rattle.command_run.specs.declared.refusal.Refusal.{Refusal}
-use Rattle.command_run.specs.declared.refusal.Refusal.TheVariants as refusal
 use Rattle.command_run.specs.Call.{Makes, StopsAs, TellsOutcome}
 use Rattle.replay_command.specs.Report.{replay_outcome}
 use Rattle.command_run.specs.Outcome.{CommandOutcome, Stop, and_then, writes_of}
 use Rattle.log_pairs.specs.Pairs.{NoneOpened, Pair, WasOpened, replays_of_pairs}
 use Rattle.replay_command.specs.Report.{diverges, images_if, replay_work, report_text}
-use Rattle.replay_command.specs.Seen.{MakesAll, Says}
+use Rattle.replay_command.specs.Seen.{Says}
 use Rattle.command_run.specs.OutcomeLaws.{outcome_at, stops_then}
 
 -- ---- the files were refused
@@ -40,14 +39,6 @@ pub replay_makes : (images : Bool) (pairs : List Pair) (told after : Option Fold
     → Makes result (images_if images start) told after → (o : CommandOutcome) → option_map (replay_outcome images pairs) told ≡ Some o → Makes result (writes_of o) told after
 replay_makes images pairs told after start result opens makes o here =
     subst (λ (o : CommandOutcome). Makes result (writes_of o) told after) (sym (opened_works images pairs told start opens o here)) makes
-
--- they were not all made
-pub some_made : (e : Refusal) (files : List (List ℕ × List ℕ)) (before after : Option Folder) → MakesAll (Err e) files before after → Makes (Err e) files before after
-some_made (refusal.Refused file why) files before after made = absurd made
-some_made (refusal.Absent file) files before after made = absurd made
-some_made refusal.ReadFault files before after made = absurd made
-some_made refusal.WriteFault files before after made = made
-some_made refusal.NoMemory files before after made = made
 
 -- ---- what is said
 

@@ -2,10 +2,9 @@
 ghost use Rattle.std.specs.Prelude.{◌≡◌, All, List, map, option_map, IfErr};
 ghost use Rattle.fri_outside.specs.Outside.{WhenTold};
 ghost use Rattle.call_log.specs.Head.{IsHead};
-ghost use Rattle.command_run.specs.Call.{CountsFaults, Keeps, Makes, Raises, TellsOutcome};
+ghost use Rattle.command_run.specs.Call.{CountsFaults, Keeps, Makes, MakesAll, Raises, TellsOutcome};
 ghost use Rattle.command_run.specs.Outcome.{writes_of};
 ghost use Rattle.replay_command.specs.Report.{images_if, images_in, replay_outcome};
-ghost use Rattle.replay_command.specs.Seen.{MakesAll};
 ghost use Rattle.log_pairs.specs.Seen.{pair_of};
 
 use crate::report::print_report;

@@ -4,15 +4,14 @@ use Rattle.fri_outside.specs.Several.{with_files}
 use Rattle.group_state.specs.Place.{Place}
 use Rattle.command_run.specs.declared.refusal.Refusal.TheVariants as refusal
 use Rattle.command_run.specs.CountLaws.{counts_still}
-use Rattle.command_run.specs.FileLaws.{same_changes}
+use Rattle.command_run.specs.Call.{MakesAll}
+use Rattle.command_run.specs.FileLaws.{all_made, same_changes, some_made}
 use Rattle.command_run.specs.OutcomeLaws.{refused_makes, refused_tells}
 use Rattle.log_pairs.specs.declared.pairs.Loaded.{Loaded}
 use Rattle.log_pairs.specs.Pairs.{WasOpened}
 use Rattle.log_pairs.specs.Seen.{WereLoaded, pair_of}
 use Rattle.replay_command.specs.Report.{images_if, replay_outcome}
-use Rattle.replay_command.specs.Seen.{MakesAll}
-use Rattle.replay_command.proofs.Fronts.{all_made}
-use Rattle.replay_command.proofs.Replayed.{opening_stops, replay_makes, report_tells, some_made}
+use Rattle.replay_command.proofs.Replayed.{opening_stops, replay_makes, report_tells}
 use Rattle.replay_command.proofs.replaying.replay.Goals as goal
 
 pub returns-in_err-all-clause-tells : goal.returns-in_err-all-clause-tells

@@ -1,6 +1,7 @@
 use Rattle.std.proofs.Common.{◌∙◌, sym}
 use Rattle.std.proofs.lemmas.Result.{err_from_is_err_and}
-use Rattle.replay_command.proofs.Imaging.{failed_makes, first_made, has_image, node_named, one_made, own_files, part_made}
+use Rattle.command_run.specs.FileLaws.{failed_makes}
+use Rattle.replay_command.proofs.Imaging.{first_made, has_image, node_named, one_made, own_files, part_made}
 use Rattle.command_run.specs.CountLaws.{counts_same}
 use Rattle.replay_command.proofs.replaying.write_images.Goals as goal
 
