@@ -7,6 +7,7 @@ use Rattle.call_log.specs.Limits.{most_log}
 use Rattle.call_log.specs.Log.{Unread}
 use Rattle.guest_process.specs.State.{State}
 use Rattle.group_state.specs.Place.{AreParts, group_count}
+use Rattle.proc_replay.specs.AtHead.{IsAtHead}
 use Rattle.proc_replay.specs.Replaying.{Replaying}
 use Rattle.log_pairs.specs.declared.pairs.Loaded.{Loaded as LoadedFiles}
 use Rattle.command_run.specs.declared.refusal.Refusal.{Refusal}
@@ -19,6 +20,10 @@ use Rattle.log_pairs.proofs.Clashing.{all_so}
 use Rattle.command_run.specs.OutcomeLaws.{stops_then}
 use Rattle.command_run.specs.OutcomeLaws.{follows}
 use Rattle.log_pairs.proofs.Placing.{AreDistinct, Differ, all_ascend, all_placed_keeps, few_from, none_new, placed_last}
+
+-- before its first event
+abbrev pub IsFirst : Replaying → Type 0
+IsFirst r = (r.state.events ≡ 0) × IsAtHead r
 
 -- ---- the heads of what was read
 
@@ -118,10 +123,13 @@ each P (x ∷ xs) all (suc k) d below = each P xs all.1 k d (omega (arith, below
 pub record MakesGroup (rs : List Replaying) : Type 0 where
   pub parts : AreParts rs
   pub heads : All (λ r. IsHead r.head) rs
+  pub at_heads : All IsAtHead rs
 
-pub makes_group : (xs : List LoadedFiles) (ls : List Loaded) (rs : List Replaying) → AreLoaded xs ls → AreOneGroup xs → replays_of ls ≡ Ok rs → AllByRecursion (λ r. r.state.events ≡ 0) rs → MakesGroup (sort_replays [] rs)
-makes_group xs ls rs all apart begun fresh =
+pub makes_group : (xs : List LoadedFiles) (ls : List Loaded) (rs : List Replaying) → AreLoaded xs ls → AreOneGroup xs → replays_of ls ≡ Ok rs → AllByRecursion IsFirst rs → MakesGroup (sort_replays [] rs)
+makes_group xs ls rs all apart begun first =
     let are = are_of xs ls rs all begun in
+    let fresh = all_so IsFirst (λ r. r.state.events ≡ 0) rs (λ r one. one.0) first in
+    let at_heads = all_so IsFirst IsAtHead rs (λ r one. one.1) first in
     let heads = all_of (λ r. IsHead r.head) (λ x r one. one.head) xs rs are in
     let logs = all_of (λ r. length r.left.bytes ≤ most_log) (λ x r one. one.within) xs rs are in
     let sorted = sort_replays [] rs in
@@ -137,6 +145,7 @@ makes_group xs ls rs all apart begun fresh =
         within = each (λ r. length r.left.bytes ≤ most_log) sorted (all_placed_keeps (λ r. length r.left.bytes ≤ most_log) [] rs tt logs);
       };
       heads = each (λ r. IsHead r.head) sorted (all_placed_keeps (λ r. IsHead r.head) [] rs tt heads);
+      at_heads = each IsAtHead sorted (all_placed_keeps IsAtHead [] rs tt at_heads);
     }
 
 -- ---- the replays so far, and those that are still to begin
@@ -157,31 +166,31 @@ pub record HasBegun (ls left : List Loaded) (sorted : List Replaying) : Type 0 w
   pub begun : List Replaying
   pub so_far : replays_of ls ≡ begun_before begun (replays_of left)
   pub placed : sorted ≡ sort_replays [] begun
-  pub fresh : AllByRecursion (λ r. r.state.events ≡ 0) begun
+  pub first : AllByRecursion IsFirst begun
 
 -- so it is, whatever the pairs are that were read
 abbrev pub AreBegun : List LoadedFiles → List LoadedFiles → List Replaying → Type 0
 AreBegun all rest sorted = (ls : List Loaded) → AreLoaded all ls → (left : List Loaded) × (AreLoaded rest left × HasBegun ls left sorted)
 
 pub none_begun : (all : List LoadedFiles) → AreBegun all all []
-none_begun all ls are = (ls, (are, record { begun = []; so_far = none_before (replays_of ls); placed = refl; fresh = tt }))
+none_begun all ls are = (ls, (are, record { begun = []; so_far = none_before (replays_of ls); placed = refl; first = tt }))
 
-fresh_push : (rs : List Replaying) (r : Replaying) → AllByRecursion (λ r. r.state.events ≡ 0) rs → r.state.events ≡ 0 → AllByRecursion (λ r. r.state.events ≡ 0) (rs ++ r ∷ [])
-fresh_push [] r all one = (one, tt)
-fresh_push (s ∷ rs) r all one = (all.0, fresh_push rs r all.1 one)
+first_push : (rs : List Replaying) (r : Replaying) → AllByRecursion IsFirst rs → IsFirst r → AllByRecursion IsFirst (rs ++ r ∷ [])
+first_push [] r all one = (one, tt)
+first_push (s ∷ rs) r all one = (all.0, first_push rs r all.1 one)
 
-begun_more : (ls left : List Loaded) (l : Loaded) (r : Replaying) (sorted after : List Replaying) → HasBegun ls (l ∷ left) sorted → replay_of_log l ≡ Ok r → r.state.events ≡ 0 → after ≡ insert_replay r sorted → HasBegun ls left after
+begun_more : (ls left : List Loaded) (l : Loaded) (r : Replaying) (sorted after : List Replaying) → HasBegun ls (l ∷ left) sorted → replay_of_log l ≡ Ok r → IsFirst r → after ≡ insert_replay r sorted → HasBegun ls left after
 begun_more ls left l r sorted after has is starts put = record {
   begun = has.begun ++ r ∷ [];
   so_far =
       has.so_far ∙ ap (λ (o : Result Replaying Stop). begun_before has.begun (and_then o (λ r. and_then (replays_of left) (λ more. Ok (r ∷ more))))) is
       ∙ with_one has.begun r (replays_of left);
   placed = put ∙ ap (insert_replay r) has.placed ∙ sym (placed_last [] has.begun r);
-  fresh = fresh_push has.begun r has.fresh starts;
+  first = first_push has.begun r has.first starts;
 }
 
 pub one_begun : (all before rest : List LoadedFiles) (x : LoadedFiles) (r : Replaying) (sorted after : List Replaying) → AreBegun all before sorted → before ≡ x ∷ rest
-    → ((l : Loaded) → IsLoaded x l → replay_of_log l ≡ Ok r) → r.state.events ≡ 0 → after ≡ insert_replay r sorted → AreBegun all rest after
+    → ((l : Loaded) → IsLoaded x l → replay_of_log l ≡ Ok r) → IsFirst r → after ≡ insert_replay r sorted → AreBegun all rest after
 one_begun all before rest x r sorted after has next begins starts put ls are = step (has ls are) where
   step : (left : List Loaded) × (AreLoaded before left × HasBegun ls left sorted) → (left : List Loaded) × (AreLoaded rest left × HasBegun ls left after)
   step ([], (none, h)) = absurd (subst (λ (xs : List LoadedFiles). AreLoaded xs []) next none)
@@ -212,7 +221,7 @@ pub record AllBegun (ls : List Loaded) (sorted : List Replaying) : Type 0 where
   pub begun : List Replaying
   pub comes : replays_of ls ≡ Ok begun
   pub placed : sorted ≡ sort_replays [] begun
-  pub fresh : AllByRecursion (λ r. r.state.events ≡ 0) begun
+  pub first : AllByRecursion IsFirst begun
 
 pub all_begun : (all rest : List LoadedFiles) (sorted : List Replaying) → AreBegun all rest sorted → rest ≡ [] → (ls : List Loaded) → AreLoaded all ls → AllBegun ls sorted
 all_begun all rest sorted has none ls are = step (has ls are) where
@@ -221,11 +230,11 @@ all_begun all rest sorted has none ls are = step (has ls are) where
     begun = h.begun;
     comes = h.so_far ∙ ap (λ (rs : List Replaying). Ok rs) (append-nil h.begun);
     placed = h.placed;
-    fresh = h.fresh;
+    first = h.first;
   }
   step (l ∷ left, (some, h)) = absurd (subst (λ (xs : List LoadedFiles). AreLoaded xs (l ∷ left)) none some)
 
 pub group_begun : (all rest : List LoadedFiles) (sorted : List Replaying) → AreBegun all rest sorted → rest ≡ [] → (ls : List Loaded) × AreLoaded all ls → AreOneGroup all → MakesGroup sorted
 group_begun all rest sorted has none loaded apart =
     let b = all_begun all rest sorted has none loaded.0 loaded.1 in
-    subst MakesGroup (sym b.placed) (makes_group all loaded.0 b.begun loaded.1 apart b.comes b.fresh)
+    subst MakesGroup (sym b.placed) (makes_group all loaded.0 b.begun loaded.1 apart b.comes b.first)

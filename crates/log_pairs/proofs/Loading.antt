@@ -43,6 +43,7 @@ is_loaded x pair bytes log head named held found in_range is count process name 
   process = process ∙ ap (λ (h : Head). h.process) is;
   head_name = name ∙ ap (λ (h : Head). h.name) is;
   within = omega (arith, behind, few);
+  whole = subst (λ (b : List ℕ). length b ≤ most_log) held few;
 }
 
 -- from the module on

@@ -1,4 +1,5 @@
 pub mod Pairs
+pub mod Finding
 pub mod Seen
 pub mod Valid
 pub mod Laws

@@ -23,6 +23,7 @@ pub record IsLoaded (l : LoadedFiles) (is : Loaded) : Type 0 where
   pub process : l.process ≡ is.head.process
   pub head_name : l.name ≡ is.head.name
   pub within : length is.left.bytes ≤ most_log
+  pub whole : length l.log.items ≤ most_log
 
 -- so many pairs hold so many of these
 abbrev pub AreLoaded : List LoadedFiles → List Loaded → Type 0

@@ -3,12 +3,13 @@ ghost use Rattle.std.specs.Prelude.{◌≡◌, ℕ, ◌≢◌, List, None, Ok, O
 ghost use Rattle.std.specs.List.{take_while};
 ghost use Rattle.fri_outside.specs.Outside.{Counts, Folder, WhenTold};
 ghost use Rattle.call_log.specs.Head.{IsHead, head_of};
+ghost use Rattle.proc_replay.specs.AtHead.{IsAtHead};
 ghost use Rattle.group_state.specs.Place.{AreParts};
 ghost use Rattle.command_run.specs.Call.{CountsFaults, StopsAs, Raises, reads_after, writes_after};
 ghost use Rattle.log_pairs.specs.Pairs.{Loaded as LoadedOf, NoneOpened, Pair as PairOf, WasOpened, clash, has_name, has_process, insert_replay, is_other_group, loaded_pair, replay_of_log};
 ghost use Rattle.log_pairs.specs.Seen.{AreLoaded, AreOneGroup, IsLoaded, WereLoaded, pair_of};
 
-use call_log::{LogHead, LogView};
+use call_log::{LogHead, LogView, exact_logs};
 use command_run::{Reason, Refusal, begin_process, take_module};
 use fri_bytes::Bytes;
 use fri_outside::Files;
@@ -148,9 +149,11 @@ fn begin_replay<'m>(alloc: Global, loaded: &'m Loaded<'_>) -> Result<Replayer<'m
     ensures answer { (is : LoadedOf) → IsLoaded loaded.now is → MatchResult result
         (λ replay. replay_of_log is ≡ Ok replay) (StopsAs (replay_of_log is)) }
     ensures fresh { IfOk result (λ replay. replay.state.events ≡ 0) }
+    ensures at_head { IfOk result IsAtHead }
     ensures cause { (old new : Counts) → IfErr result (Raises old new) }
     ensures still { (n : ℕ) → (reads_after n result ≡ n) × (writes_after n result ≡ n) }
 {
+    exact_logs();
     let Ok(log) = LogView::begin(&loaded.log) else {
         unreachable!();
     };
@@ -191,6 +194,7 @@ pub fn begin_all<'m>(alloc: Global, all: &'m [Loaded<'_>]) -> Result<Vec<Replaye
         (λ replays. WasOpened pairs told replays.items) (NoneOpened pairs told) }
     ensures parts { IfOk result (λ replays. AreParts replays.items) }
     ensures heads { IfOk result (λ replays. All (λ r. IsHead r.head) replays.items) }
+    ensures at_heads { IfOk result (λ replays. All IsAtHead replays.items) }
     ensures cause { (old new : Counts) → IfErr result (Raises old new) }
     ensures still { (n : ℕ) → (reads_after n result ≡ n) × (writes_after n result ≡ n) }
 {

@@ -1,6 +1,6 @@
 -- What is recorded of the schedule are the logs that it was made of.
 use Rattle.std.proofs.Common.{◌≡◌, ◌∙◌, ◌+◌, ℕ, zero, suc, List, [], ◌∷◌, ◌++◌, length, map, Option, Some, Ok, append-nil, ap, arith, refl, sym, subst}
-use Rattle.std.specs.Prelude.{Contains, IsTrue, slice_get}
+use Rattle.std.specs.Prelude.{All, Contains, IsTrue, slice_get}
 use Rattle.std.specs.List.{AllByRecursion}
 use Rattle.std.specs.FinMap.{get}
 use Rattle.std.proofs.lemmas.List.Elements.{All-from_recursion, recursion_from_All}
@@ -9,14 +9,15 @@ use Rattle.fri_outside.specs.Outside.{Folder}
 use Rattle.call_log.specs.declared.version.Version.{Version}
 use Rattle.call_log.specs.declared.version.Version.TheVariants.{Two}
 use Rattle.call_log.specs.Entry.{encodings}
-use Rattle.call_log.specs.Head.{Head, IsHead, head_bytes}
-use Rattle.call_log.specs.Laws.{ExactLogs}
-use Rattle.call_log.specs.Log.{Unread, behind, entries_of, head_at, rest_of, rewritten}
+use Rattle.call_log.specs.Head.{Head, head_bytes}
+use Rattle.call_log.specs.Laws.{ExactLogs, RewrittenIsRead}
+use Rattle.call_log.specs.Log.{Unread, entries_of, rest_of, rewritten}
 use Rattle.guest_process.specs.OneEvent.{IsStarted}
 use Rattle.guest_process.specs.Start.{start as start_of}
 use Rattle.guest_process.specs.State.{State}
 use Rattle.group_record.specs.Logs.{log_name}
 use Rattle.group_record.specs.Run.{log_of}
+use Rattle.proc_replay.specs.AtHead.{IsAtHead}
 use Rattle.proc_replay.specs.Replaying.{Replaying}
 use Rattle.schedule_text.specs.Laws.{TextIsRead}
 use Rattle.schedule_text.specs.declared.process.ProcessLine.{ProcessLine}
@@ -36,27 +37,6 @@ use Rattle.schedule_command.proofs.Recorded.{AllBeginAs, BeginsAs, Recorded, fil
 use Rattle.schedule_command.proofs.Sorted.{length_sorted, sort_keeps, sorted_has}
 
 -- ---- a log that is written again
-
--- it is read as the same head in version 2 and the same entries, with nothing behind them
-pub record ReadAgain (head : Head) (left : Unread) : Type 0 where
-  pub newer : Unread
-  pub found : head_at (rewritten head (entries_of left)) ≡ Some (record head { version = Two }, newer)
-  pub entries : entries_of newer ≡ entries_of left
-  pub rest : rest_of newer ≡ []
-
-read_again : ExactLogs → (head : Head) (left : Unread) → IsHead head → ReadAgain head left
-read_again exact head left is =
-    let newer_head : Head = record head { version = Two } in
-    let newer : Unread = behind newer_head (encodings Two 0 (entries_of left)) in
-    let in_range : IsHead newer_head = record { some = is.some; few = is.few; within = is.within; named = is.named } in
-    let held = (exact.all left (entries_of left) (rest_of left)).1 (refl, refl) in
-    let holds = (exact.all newer (entries_of left) []).0 (exact.holds_written Two 0 (entries_of left) held.shaped) in
-    record {
-      newer = newer;
-      found = (exact.heads (rewritten head (entries_of left)) newer_head newer).1 (in_range, (refl, refl));
-      entries = holds.0;
-      rest = holds.1;
-    }
 
 -- a whole log of version 2 is written again as it is
 same_bytes : ExactLogs → (folder : Folder) (name : List ℕ) (head : Head) (left : Unread) → LogFile folder name head left → rest_of left ≡ [] → head.version ≡ Two
@@ -125,7 +105,7 @@ all_begin_as pairs ls later count p (r ∷ rs) one =
 
 -- ---- the pairs of a whole group
 
-module _ (exact : ExactLogs) (reads : ReadsModules) (read_back : TextIsRead) (started : IsStarted) (converse : Converse)
+module _ (exact : ExactLogs) (rewritten_read : RewrittenIsRead) (reads : ReadsModules) (read_back : TextIsRead) (started : IsStarted) (converse : Converse)
     (folder : Folder) (pairs : List Pair) (ls : List Loaded) (rs : List Replaying) (loaded : loaded_pairs folder [] pairs ≡ Ok ls) (begun : replays_of ls ≡ Ok rs) where
   abbrev start : List Replaying
   start = sort_replays [] rs
@@ -152,10 +132,10 @@ module _ (exact : ExactLogs) (reads : ReadsModules) (read_back : TextIsRead) (st
       }
 
   -- where the schedule has this text
-  module _ (parts : AreParts (sort_replays [] rs)) (complete : IsTrue (is_complete (sort_replays [] rs))) (text : List ℕ)
+  module _ (parts : AreParts (sort_replays [] rs)) (at_heads : All IsAtHead (sort_replays [] rs)) (complete : IsTrue (is_complete (sort_replays [] rs))) (text : List ℕ)
       (text_is : text_or_refusal (lines_of pairs ls (sort_replays [] rs)) (sort_replays [] rs) ≡ Ok text) (bytes : BringBytes (events (sort_replays [] rs))) where
     back_is : BackRecords lines start text
-    back_is = converse lines start text (whole_group exact reads started folder pairs ls start found.apart found.ofs parts complete) bytes text_is
+    back_is = converse lines start text (whole_group exact reads started folder pairs ls start found.apart found.ofs parts at_heads complete) bytes text_is
 
     -- each process begins there as it began here
     begin_as : (later : Folder) → AllByRecursion (λ (pair : Pair). get later pair.module_name ≡ get folder pair.module_name) pairs → AllBeginAs later (length lines) 0 lines start
@@ -194,7 +174,8 @@ module _ (exact : ExactLogs) (reads : ReadsModules) (read_back : TextIsRead) (st
           let same_pair : of.pair ≡ pair = same_Some of.pair pair (sym of.pair_at ∙ at) in
           let was = ap (λ (p : Pair). log_in folder p.log_name) (sym same_pair) ∙ of.read.log in
           let log_file = log_file_of exact folder pair.log_name l.head l.left was in
-          let newer = read_again exact l.head l.left log_file.in_range in
+          let shaped = ((exact.all l.left (entries_of l.left) (rest_of l.left)).1 (refl, refl)).shaped in
+          let newer = rewritten_read l.head (entries_of l.left) log_file.in_range shaped in
           let none_left : rest_of l.left ≡ [] = ap rest_of (sym of.begins.left) ∙ back_is.rest has.place r.0 has.is in
           let there = ap (λ files. slice_get files has.place) done.writes ∙ file
           ∙ ap (λ (h : Head). Some (log_name h.name, log_of (back_group lines start) (back_run lines start).steps (0 + has.place))) of.begins.head
@@ -205,7 +186,7 @@ module _ (exact : ExactLogs) (reads : ReadsModules) (read_back : TextIsRead) (st
             was = was;
             bytes = rewritten l.head (entries_of l.left);
             written = contains done.work.writes has.place (log_name l.head.name, rewritten l.head (entries_of l.left)) there;
-            newer = newer.newer;
+            newer = newer.left;
             found = newer.found;
             entries = newer.entries;
             rest = newer.rest;

@@ -1,6 +1,6 @@
 -- The replays of pairs that are complete are a whole group, with the lines of the schedule.
-use Rattle.std.proofs.Common.{◌≡◌, ◌≢◌, ◌∙◌, ◌+◌, ◌≤◌, ◌<◌, ℕ, zero, suc, Bool, true, false, cond, List, [], ◌∷◌, ◌++◌, length, length-append, map, Option, Some, None, Ok, ap, arith, refl, sym, subst}
-use Rattle.std.specs.Prelude.{◌==◌, AllPairs, IsTrue, nat_le, option_and_then, slice_get}
+use Rattle.std.proofs.Common.{◌≡◌, ◌≢◌, ◌∙◌, ◌+◌, ◌≤◌, ◌<◌, ℕ, zero, suc, Bool, true, false, cond, List, [], ◌∷◌, ◌++◌, length, map, Option, Some, None, Ok, ap, arith, refl, sym, subst}
+use Rattle.std.specs.Prelude.{◌==◌, All, AllPairs, IsTrue, nat_le, option_and_then, slice_get}
 use Rattle.std.specs.List.{AllByRecursion, position_from}
 use Rattle.std.specs.Option.{option_map_or}
 use Rattle.std.proofs.lemmas.Bool.{eq-eqb, eqb-true, leb-true, ne_eqb}
@@ -10,27 +10,25 @@ use Rattle.std.proofs.lemmas.List.Kept.{AllPairs-cons}
 use Rattle.std.proofs.lemmas.Option.{same_Some}
 use Rattle.fri_outside.specs.Outside.{Folder, Held, Over, found_within}
 use Rattle.std.specs.FinMap.{get}
-use Rattle.wasm_types.specs.Modules.{Module}
 use Rattle.call_log.specs.Head.{Head, IsHead, head_bytes}
 use Rattle.call_log.specs.Laws.{ExactLogs}
 use Rattle.call_log.specs.Limits.{most_log}
 use Rattle.call_log.specs.Log.{Unread, behind, head_at}
 use Rattle.guest_process.specs.Fits.{StateFits}
 use Rattle.guest_process.specs.OneEvent.{IsStarted}
-use Rattle.guest_process.specs.Start.{begun_with, start}
-use Rattle.guest_process.specs.State.{State}
-use Rattle.wasm_step.specs.Store.{Store}
-use Rattle.wasm_step.specs.Thread.{Thread}
+use Rattle.guest_process.specs.Start.{start}
 use Rattle.proc_replay.specs.Replaying.{Replaying}
 use Rattle.group_state.specs.Place.{AreParts, Ascends, group_count}
 use Rattle.schedule_text.specs.declared.process.ProcessLine.{ProcessLine}
-use Rattle.schedule_back.specs.Laws.{IsAtHead, IsWholeGroup}
+use Rattle.proc_replay.specs.AtHead.{IsAtHead}
+use Rattle.schedule_back.specs.Laws.{IsWholeGroup}
 use Rattle.command_run.specs.Laws.{ReadsModules}
 use Rattle.command_run.specs.Outcome.{bytes_or_stop, file_of}
 use Rattle.command_run.specs.OutcomeLaws.{follows, same_Ok}
 use Rattle.log_files.specs.Logs.{log_in, log_or_bad_head}
 use Rattle.log_pairs.specs.Pairs.{Loaded, Pair}
-use Rattle.schedule_command.specs.Schedule.{is_complete, line_of, lines_of, module_file}
+use Rattle.log_pairs.specs.Finding.{module_file}
+use Rattle.schedule_command.specs.Schedule.{is_complete, line_of, lines_of}
 use Rattle.schedule_command.proofs.Reading.{AllApart, PairAt, one_name, one_process}
 
 -- ---- a log that was read
@@ -63,13 +61,6 @@ log_file_of exact folder name head left is =
     let held = held_bytes name most_log (get folder name) f.given f.is_given in
     let found = (exact.heads f.given head left).0 (log_found name (head_at f.given) (head, left) f.comes) in
     record { bytes = f.given; held = held.0; within = held.1; in_range = found.0; spelled = found.1.0; behind = found.1.1 }
-
--- ---- a process that begins
-
-begun_clock : (m : Module) (who count : ℕ) (store : Option Store) (thread : Option Thread) (S : State) → begun_with m who count store thread ≡ Some S → S.clock ≡ 0
-begun_clock m who count None thread S is = absurd (cc)
-begun_clock m who count (Some store) None S is = absurd (cc)
-begun_clock m who count (Some store) (Some thread) S is = sym (ap (λ (S : State). S.clock) (same_Some _ S is))
 
 -- ---- the file of a process's module
 
@@ -104,20 +95,6 @@ module_file_is folder pairs ls r i apart at =
 -- of a replay: where its pair stands
 abbrev pub HasPair : Folder → List Pair → List Loaded → Replaying → Type 0
 HasPair folder pairs ls r = (i : ℕ) × PairAt folder pairs ls r i
-
-at_head : ExactLogs → (folder : Folder) (pairs : List Pair) (ls : List Loaded) (r : Replaying) → HasPair folder pairs ls r → IsAtHead r
-at_head exact folder pairs ls r (i, at) =
-    let file = log_file_of exact folder at.pair.log_name at.loaded.head at.loaded.left at.read.log in
-    let bytes : r.left.bytes ≡ at.loaded.left.bytes = ap (λ (u : Unread). u.bytes) at.begins.left in
-    let long : length file.bytes ≡ length (head_bytes at.loaded.head) + length at.loaded.left.bytes = ap length file.spelled ∙ length-append (head_bytes at.loaded.head) at.loaded.left.bytes in
-    let head_long : length (head_bytes r.head) ≡ length (head_bytes at.loaded.head) = ap (λ (h : Head). length (head_bytes h)) at.begins.head in
-    let left_long : length r.left.bytes ≡ length at.loaded.left.bytes = ap length bytes in
-    record {
-      head = subst IsHead (sym at.begins.head) file.in_range;
-      left = at.begins.left ∙ file.behind ∙ ap (λ (h : Head). behind h at.loaded.left.bytes) (sym at.begins.head) ∙ ap (behind r.head) (sym bytes);
-      clock = begun_clock at.loaded.«module» at.loaded.head.process at.loaded.head.count _ _ r.state at.begins.state;
-      within = omega (arith, file.within, long, head_long, left_long);
-    }
 
 fits : ExactLogs → ReadsModules → IsStarted → (folder : Folder) (pairs : List Pair) (ls : List Loaded) (r : Replaying) → HasPair folder pairs ls r → StateFits r.state
 fits exact reads started folder pairs ls r (i, at) =
@@ -172,12 +149,12 @@ lines_apart folder pairs ls apart (r ∷ rs) ofs up =
     (All-from_recursion (Apart (line_of pairs ls r)) (lines_of pairs ls rs) (lines_behind folder pairs ls apart r ofs.0 rs ofs.1 up.0)) (lines_apart folder pairs ls apart rs ofs.1 up.1)
 
 pub whole_group : ExactLogs → ReadsModules → IsStarted → (folder : Folder) (pairs : List Pair) (ls : List Loaded) (start : List Replaying) → AllApart ls
-    → AllByRecursion (HasPair folder pairs ls) start → AreParts start → IsTrue (is_complete start) → IsWholeGroup (lines_of pairs ls start) start
-whole_group exact reads started folder pairs ls start apart ofs parts complete = record {
+    → AllByRecursion (HasPair folder pairs ls) start → AreParts start → All IsAtHead start → IsTrue (is_complete start) → IsWholeGroup (lines_of pairs ls start) start
+whole_group exact reads started folder pairs ls start apart ofs parts at_heads complete = record {
   some = complete_some start complete;
   parts = parts;
   fits = All-from_recursion (λ (r : Replaying). StateFits r.state) start (all_so (HasPair folder pairs ls) (λ r. StateFits r.state) start (fits exact reads started folder pairs ls) ofs);
-  at_heads = All-from_recursion IsAtHead start (all_so (HasPair folder pairs ls) IsAtHead start (at_head exact folder pairs ls) ofs);
+  at_heads = at_heads;
   whole = complete_count start complete;
   names = names_are pairs ls start;
   apart = lines_apart folder pairs ls apart start ofs parts.ascends;

@@ -5,6 +5,5 @@ mod Recorded
 mod Again
 mod Performing
 mod Made
-mod Placing
 mod Lined
 mod Working

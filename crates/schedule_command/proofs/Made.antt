@@ -1,9 +1,10 @@
 -- A schedule that was made records to the logs.
 use Rattle.std.proofs.Common.{◌≡◌, ◌∙◌, ℕ, Bool, true, false, cond, List, [], Result, Ok, Err, ap, refl, subst, sym}
-use Rattle.std.specs.Prelude.{IfOk, MatchResult}
+use Rattle.std.specs.Prelude.{All, IfOk, MatchResult}
 use Rattle.fri_outside.specs.Outside.{Folder}
-use Rattle.call_log.specs.Laws.{ExactLogs}
+use Rattle.call_log.specs.Laws.{ExactLogs, RewrittenIsRead}
 use Rattle.guest_process.specs.OneEvent.{IsStarted}
+use Rattle.proc_replay.specs.AtHead.{IsAtHead}
 use Rattle.proc_replay.specs.Replaying.{Replaying}
 use Rattle.schedule_text.specs.Laws.{TextIsRead}
 use Rattle.group_state.specs.Place.{AreParts, events}
@@ -18,7 +19,8 @@ use Rattle.command_run.specs.Call.{StopsAs}
 use Rattle.command_run.specs.Laws.{ReadsModules}
 use Rattle.command_run.specs.Outcome.{CommandOutcome, Stop, refuses_at_once}
 use Rattle.log_pairs.specs.Pairs.{Loaded, Pair, loaded_pairs, replays_of_pairs, sort_replays}
-use Rattle.schedule_command.specs.Schedule.{first_log, is_complete, lines_of, outcome_of, prints_text, unless_incomplete}
+use Rattle.log_pairs.specs.Finding.{first_log}
+use Rattle.schedule_command.specs.Schedule.{is_complete, lines_of, outcome_of, prints_text, unless_incomplete}
 use Rattle.schedule_command.specs.Seen.{AnswerRecordsBack, IsMade}
 use Rattle.schedule_command.proofs.Again.{records_back}
 use Rattle.schedule_command.proofs.Performing.{opened}
@@ -35,15 +37,15 @@ whole_of true pairs ls (Ok given) stop text is = (refl, ap Ok (ap text_in is))
 whole_of true pairs ls (Err why) stop text is = absurd (cc)
 whole_of false pairs ls given stop text is = absurd (cc)
 
-pub made_back : ExactLogs → ReadsModules → TextIsRead → IsStarted → Converse → (folder : Folder) (pairs : List Pair) (ls : List Loaded) (start : List Replaying) (ended : Result Answer Refused)
-    → loaded_pairs folder [] pairs ≡ Ok ls → replays_of_pairs folder pairs ≡ Ok start → AreParts start → IfOk ended (λ _. BringBytes (events start))
+pub made_back : ExactLogs → RewrittenIsRead → ReadsModules → TextIsRead → IsStarted → Converse → (folder : Folder) (pairs : List Pair) (ls : List Loaded) (start : List Replaying) (ended : Result Answer Refused)
+    → loaded_pairs folder [] pairs ≡ Ok ls → replays_of_pairs folder pairs ≡ Ok start → AreParts start → All IsAtHead start → IfOk ended (λ _. BringBytes (events start))
     → MatchResult ended (IsMade pairs ls start) (StopsAs (unless_incomplete pairs ls start)) → IfOk ended (AnswerRecordsBack pairs folder)
-made_back exact reads read_back started converse folder pairs ls start (Err e) loaded is parts bytes made = tt
-made_back exact reads read_back started converse folder pairs ls start (Ok (answered.Diverged text)) loaded is parts bytes made = absurd made
-made_back exact reads read_back started converse folder pairs ls start (Ok (answered.Done text)) loaded is parts bytes made =
+made_back exact again reads read_back started converse folder pairs ls start (Err e) loaded is parts at_heads bytes made = tt
+made_back exact again reads read_back started converse folder pairs ls start (Ok (answered.Diverged text)) loaded is parts at_heads bytes made = absurd made
+made_back exact again reads read_back started converse folder pairs ls start (Ok (answered.Done text)) loaded is parts at_heads bytes made =
     let o = opened folder pairs ls start loaded is in
-    let back : (rs : List Replaying) → rs ≡ start → AreParts rs × BringBytes (events rs) × (unless_incomplete pairs ls rs ≡ Ok (prints_text text)) =
-    λ rs same. (subst AreParts (sym same) parts, subst (λ (rs : List Replaying). BringBytes (events rs)) (sym same) bytes, ap (unless_incomplete pairs ls) same ∙ made) in
+    let back : (rs : List Replaying) → rs ≡ start → AreParts rs × All IsAtHead rs × BringBytes (events rs) × (unless_incomplete pairs ls rs ≡ Ok (prints_text text)) =
+    λ rs same. (subst AreParts (sym same) parts, subst (λ (rs : List Replaying). All IsAtHead rs) (sym same) at_heads, subst (λ (rs : List Replaying). BringBytes (events rs)) (sym same) bytes, ap (unless_incomplete pairs ls) same ∙ made) in
     let known = back (sort_replays [] o.rs) o.sorted in
-    let whole = whole_of (is_complete (sort_replays [] o.rs)) pairs ls (text_or_refusal (lines_of pairs ls (sort_replays [] o.rs)) (sort_replays [] o.rs)) (refuses_at_once (first_log pairs) reason.Incomplete) text known.2 in
-    records_back exact reads read_back started converse folder pairs ls o.rs loaded o.begun known.0 whole.0 text whole.1 known.1
+    let whole = whole_of (is_complete (sort_replays [] o.rs)) pairs ls (text_or_refusal (lines_of pairs ls (sort_replays [] o.rs)) (sort_replays [] o.rs)) (refuses_at_once (first_log pairs) reason.Incomplete) text known.3 in
+    records_back exact again reads read_back started converse folder pairs ls o.rs loaded o.begun known.0 known.1 whole.0 text whole.1 known.2

@@ -23,7 +23,8 @@ use Rattle.command_run.specs.declared.refusal.Reason.TheVariants as reason
 use Rattle.log_pairs.specs.Laws.{OpensGroups}
 use Rattle.log_pairs.specs.Pairs.{Loaded, Pair, loaded_pairs, replays_of, sort_replays}
 use Rattle.schedule_command.specs.Laws.{SchedulesWork}
-use Rattle.schedule_command.specs.Schedule.{first_log, lines_of, outcome_of, prints_text}
+use Rattle.log_pairs.specs.Finding.{first_log}
+use Rattle.schedule_command.specs.Schedule.{lines_of, outcome_of, prints_text}
 use Rattle.schedule_command.proofs.Grouped.{HasPair, module_file_is}
 use Rattle.schedule_command.proofs.Performing.{opened}
 use Rattle.schedule_command.proofs.Reading.{AllApart, AreRead, all_begin, all_read, pair_of_replay}

@@ -1,32 +1,13 @@
 -- What `schedule` comes to, given the files.
-use Rattle.std.specs.Prelude.{ℕ, Bool, false, ◌==◌, if◌then◌else◌, List, [], ◌∷◌, length, map, position, slice_get, Option, option_and_then, Result, Ok, Err}
-use Rattle.std.specs.Option.{option_map_or}
+use Rattle.std.specs.Prelude.{ℕ, Bool, false, ◌==◌, if◌then◌else◌, List, [], ◌∷◌, length, map, Result, Ok, Err}
 use Rattle.fri_outside.specs.Outside.{Folder}
 use Rattle.command_run.specs.declared.refusal.Reason.TheVariants as reason
 use Rattle.command_run.specs.Outcome.{CommandOutcome, Stop, Work, and_then, refuses_at_once}
+use Rattle.log_pairs.specs.Finding.{first_log, log_file, module_file}
 use Rattle.log_pairs.specs.Pairs.{Loaded, Pair, loaded_pairs, replays_of, sort_replays}
 use Rattle.proc_replay.specs.Replaying.{Replaying}
 use Rattle.schedule_text.specs.declared.process.ProcessLine.{ProcessLine}
 use Rattle.schedule_back.specs.Outcome.{Refusal, NotWhole, BadModuleName, TooManyEvents, TooLong, text_or_refusal}
-
--- ---- the files of a process
-
--- the pair whose log is of process p
-abbrev pub pair_of_process : List Pair → List Loaded → ℕ → Option Pair
-pair_of_process pairs ls p = option_and_then (slice_get pairs) (position (λ l. l.head.process == p) ls)
-
-abbrev pub module_file : List Pair → List Loaded → ℕ → List ℕ
-module_file pairs ls p = option_map_or (λ pair. pair.module_name) (pair_of_process pairs ls p) []
-
-abbrev pub log_file : List Pair → List Loaded → ℕ → List ℕ
-log_file pairs ls p = option_map_or (λ pair. pair.log_name) (pair_of_process pairs ls p) []
-
--- the log of the first pair
-abbrev pub first_log : List Pair → List ℕ
-first_log [] = []
-first_log (pair ∷ pairs) = pair.log_name
-
--- ---- the schedule
 
 -- the line of a process: the name that its log says, and the file of its module
 abbrev pub line_of : List Pair → List Loaded → Replaying → ProcessLine

@@ -7,61 +7,19 @@ ghost use Rattle.group_state.specs.Place.{AreParts, events};
 ghost use Rattle.log_pairs.specs.Pairs.{Loaded as LoadedOf};
 ghost use Rattle.log_pairs.specs.Seen.{AreLoaded, pair_of};
 ghost use Rattle.schedule_back.specs.Seen.{BringBytes};
-ghost use Rattle.schedule_command.specs.Schedule.{first_log, is_complete, lines_of, log_file, module_file, pair_of_process, schedule_outcome, unless_incomplete};
+ghost use Rattle.schedule_command.specs.Schedule.{is_complete, lines_of, schedule_outcome, unless_incomplete};
 ghost use Rattle.schedule_command.specs.Seen.{AnswerRecordsBack, IsMade};
 
-use call_log::exact_logs;
+use call_log::{exact_logs, rewritten_is_read};
 use command_run::{Answer, Reason, Refusal, reads_modules};
 use fri_bytes::Bytes;
 use fri_outside::Files;
 use guest_process::kept;
-use log_pairs::{Loaded, Pair, begin_all, load_all};
+use log_pairs::{Loaded, Pair, begin_all, first_log, load_all, log_file, module_file};
 use proc_replay::Replayer;
 use schedule_back::{BackError, records_back, schedule_back};
 use schedule_text::{ProcessLine, written_is_read};
 use std::alloc::{AllocError, Global};
-
-// The pair whose log is of this process.
-fn pair_of_process<'a>(pairs: &[Pair<'a>], all: &[Loaded<'a>], process: u32) -> Option<Pair<'a>>
-    ensures { (ls : List LoadedOf) → AreLoaded all.now ls → option_map pair_of result ≡ pair_of_process (map pair_of pairs.now) ls process }
-{
-    for place in 0..all.len() {
-        if all[place].process() == process {
-            return pairs.get(place).copied();
-        }
-    }
-    None
-}
-
-// The file of the module of this process.
-fn module_file<'a>(pairs: &[Pair<'a>], all: &[Loaded<'a>], process: u32) -> &'a str
-    ensures { (ls : List LoadedOf) → AreLoaded all.now ls → result.now ≡ module_file (map pair_of pairs.now) ls process }
-{
-    match pair_of_process(pairs, all, process) {
-        Some(pair) => pair.module_file,
-        None => "",
-    }
-}
-
-// The file of the log of this process.
-fn log_file<'a>(pairs: &[Pair<'a>], all: &[Loaded<'a>], process: u32) -> &'a str
-    ensures { (ls : List LoadedOf) → AreLoaded all.now ls → result.now ≡ log_file (map pair_of pairs.now) ls process }
-{
-    match pair_of_process(pairs, all, process) {
-        Some(pair) => pair.log_file,
-        None => "",
-    }
-}
-
-// The file of the first log.
-fn first_log<'a>(pairs: &[Pair<'a>]) -> &'a str
-    ensures { result.now ≡ first_log (map pair_of pairs.now) }
-{
-    match pairs {
-        [] => "",
-        [first, ..] => first.log_file,
-    }
-}
 
 // A line of the schedule for each process.
 fn lines_of<'a>(
@@ -146,6 +104,7 @@ pub fn schedule<'a, F: Files>(
     ensures converse { WhenTold (F.told files.old) (λ folder. IfOk result (AnswerRecordsBack (map pair_of pairs.now) folder)) }
 {
     exact_logs();
+    rewritten_is_read();
     reads_modules();
     written_is_read();
     kept();

@@ -50,6 +50,6 @@ returns-clause-converse g c = λ folder is.
     let loaded = subst (λ (all : List Loaded). WereLoaded pairs told all) (sym c.deref.ensures.value) c.in_ok-all.ensures.answer in
     let same : c.deref-2.result.now ≡ c.deref.result.now = c.deref-2.ensures.value ∙ sym c.deref.ensures.value in
     let read = loaded folder is in
-    made_back c.exact_logs.ensures c.reads_modules.ensures c.written_is_read.ensures.read c.kept.ensures.started c.records_back.ensures folder pairs read.0 c.in_ok-parts.parts.items c.make.result
-    read.1.0 (c.in_ok-parts.ensures.answer pairs told loaded folder is) c.in_ok-parts.ensures.parts c.make.ensures.bytes
+    made_back c.exact_logs.ensures c.rewritten_is_read.ensures c.reads_modules.ensures c.written_is_read.ensures.read c.kept.ensures.started c.records_back.ensures folder pairs read.0 c.in_ok-parts.parts.items c.make.result
+    read.1.0 (c.in_ok-parts.ensures.answer pairs told loaded folder is) c.in_ok-parts.ensures.parts c.in_ok-parts.ensures.at_heads c.make.ensures.bytes
     (c.make.ensures.answer read.0 (subst (λ (all : List Loaded). AreLoaded all read.0) (sym same) read.1.1))

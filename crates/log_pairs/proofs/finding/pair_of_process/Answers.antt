@@ -2,8 +2,8 @@ use Rattle.std.proofs.Common.{◌∙◌, ap, sym}
 use Rattle.std.specs.Prelude.{option_map}
 use Rattle.std.proofs.lemmas.Bool.{ne_eqb}
 use Rattle.log_pairs.specs.Seen.{pair_of}
-use Rattle.schedule_command.proofs.Placing.{found_at, found_none, got, item_at, none_more}
-use Rattle.schedule_command.proofs.making.pair_of_process.Goals as goal
+use Rattle.log_pairs.proofs.Places.{found_at, found_none, got, item_at, none_more}
+use Rattle.log_pairs.proofs.finding.pair_of_process.Goals as goal
 
 pub returns-then-process : goal.returns-then-process
 returns-then-process c = λ ls are.

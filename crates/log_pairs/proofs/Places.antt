@@ -10,7 +10,7 @@ use Rattle.log_pairs.specs.declared.pairs.Loaded.{Loaded as LoadedFiles}
 use Rattle.log_pairs.specs.declared.pairs.Pair.{Pair as PairOfWords}
 use Rattle.log_pairs.specs.Pairs.{Loaded}
 use Rattle.log_pairs.specs.Seen.{AreLoaded, IsLoaded, pair_of}
-use Rattle.schedule_command.specs.Schedule.{pair_of_process}
+use Rattle.log_pairs.specs.Finding.{pair_of_process}
 
 abbrev is_of : ℕ → Loaded → Bool
 is_of process l = l.head.process == process
