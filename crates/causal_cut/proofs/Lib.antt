@@ -1,0 +1,10 @@
+mod Cutting
+mod Places
+mod Families
+mod Numbering
+mod Nodes
+mod Asking
+mod Closing
+mod Walking
+mod Settling
+mod Least

@@ -1,0 +1,10 @@
+-- What the values of the code stand for.
+use Rattle.std.specs.Prelude.{◌≡◌, Option, None}
+use Rattle.causal_cut.specs.declared.refusal.CutError.{CutError}
+use Rattle.causal_cut.specs.declared.refusal.CutError.TheVariants as error
+use Rattle.causal_cut.specs.Past.{Lengths}
+
+-- the error is that there is no such event, or want of memory, which may come at any time
+abbrev pub FailsAs : Option Lengths → CutError → Type 0
+FailsAs lengths error.NoEvent = lengths ≡ None
+FailsAs lengths error.NoMemory = Unit {0}

@@ -1,0 +1,19 @@
+//! The least causal past of an event of a group: how much of each log it needs.
+//!
+//! A family has a length for each log, and is closed where each event within it that took a tag has the event that the tag
+//! names within it too, as far as the logs are given. `least_cut` gives the least closed family that holds an event
+//! (`least_past` of `specs/Past`, which speaks of all closed families): its code walks the group once, and goes back once over
+//! the tags that were taken. The law `fronts_replay` says what the logs are that are cut so: whole, with the states of before.
+#![tactic(auto)]
+
+mod asks;
+mod clocks;
+mod cut;
+mod laws;
+mod refusal;
+mod settle;
+mod walk;
+
+pub use cut::{Cut, least_cut};
+pub use laws::fronts_replay;
+pub use refusal::CutError;
