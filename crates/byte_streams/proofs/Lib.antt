@@ -1,0 +1,13 @@
+pub mod ChunkLaws
+pub mod Maps
+pub mod Changing
+pub mod Pieces
+pub mod Written
+pub mod Fronts
+pub mod Standing
+pub mod Sends
+pub mod Covering
+pub mod Receives
+pub mod Reading
+pub mod Steps
+pub mod Cuts

@@ -1,0 +1,8 @@
+pub mod Chunk
+pub mod Seen
+pub mod Traffic
+pub mod Keys
+pub mod Stands
+pub mod Lines
+pub mod Keeping
+pub mod Laws

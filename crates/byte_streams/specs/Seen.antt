@@ -1,0 +1,7 @@
+-- What code has at hand, as contracts see it.
+use Rattle.byte_streams.specs.declared.chunk.Chunk.{Chunk}
+use Rattle.byte_streams.specs.Chunk.{Piece}
+
+-- the piece whose bytes are lent
+abbrev pub piece_of : Chunk → Piece
+piece_of c = record { stream = c.stream; offset = c.offset; bytes = c.bytes.now }

@@ -1,0 +1,22 @@
+// The laws of streams, as calls that do nothing.
+ghost use Rattle.byte_streams.specs.Laws.{FrontsCount, PlainFronts, ReadIsKept, ShortIsPlain, StrangeBySend, UnsentIsFree};
+
+/// Where no send of a process is at this clock, none is kept there.
+pub fn unsent_is_free()
+    ensures { UnsentIsFree }
+{}
+
+/// What is read of a stream that is kept is what was read of it by the sends and receives, and that is a front of what was
+/// written.
+pub fn read_is_kept()
+    ensures { ReadIsKept }
+{}
+
+/// A front of what a send that counts brought to its receiver counts where it is a chunk, and else it is plain. So is one of
+/// what is no chunk. So no front of what a send brought to its receiver is strange unless the send is.
+pub fn fronts_count()
+    ensures counted { FrontsCount }
+    ensures short { ShortIsPlain }
+    ensures plain { PlainFronts }
+    ensures strange { StrangeBySend }
+{}

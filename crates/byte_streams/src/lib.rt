@@ -1,0 +1,22 @@
+//! Byte streams over datagrams: what a group's processes wrote to each and what was read of it.
+//!
+//! A datagram whose payload is a chunk (`read_chunk`) carries a piece of a stream. `Streams` is told of all sends and receives
+//! of a group, one after the other, and keeps of each stream what was written to it and which of its bytes were taken.
+//! Contracts see what it keeps (`Kept` of `specs/Stands`), and say that this stands for the sends and receives so far
+//! (`StandsFor`), over the definitions of `specs/Traffic`: which of them count, what was written, and what was read.
+#![tactic(auto)]
+
+mod chunk;
+mod laws;
+mod line;
+mod mark;
+mod send_map;
+mod stream;
+mod stream_map;
+mod streams;
+
+pub use chunk::{Chunk, read_chunk};
+pub use laws::{fronts_count, read_is_kept, unsent_is_free};
+pub use line::StreamLine;
+pub use mark::Mark;
+pub use streams::Streams;
