@@ -1,0 +1,21 @@
+-- Which event two words name.
+use Rattle.std.specs.Prelude.{ℕ, ◌-◌, ◌^◌, ◌==◌, if◌then◌else◌, List, Option, Some, None, option_and_then}
+use Rattle.std.specs.Result.{result_ok}
+use Rattle.fri_text.specs.Decimal.{decimal_of, up_to}
+
+abbrev pub last_process : ℕ
+last_process = 15
+
+abbrev pub last_event : ℕ
+last_event = 2 ^ 63 - 1
+
+-- the number of a process of a group, with any zeros in front
+abbrev pub process_of : List ℕ → Option ℕ
+process_of word = result_ok (up_to last_process (decimal_of word))
+
+abbrev pub unless_zero : ℕ → Option ℕ
+unless_zero n = if n == 0 then None else Some n
+
+-- the number of an event of a process, counted from 1
+abbrev pub event_of : List ℕ → Option ℕ
+event_of word = option_and_then unless_zero (result_ok (up_to last_event (decimal_of word)))

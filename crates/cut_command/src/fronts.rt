@@ -1,0 +1,83 @@
+// The first parts of a group's logs that are kept.
+ghost use Rattle.std.specs.Prelude.{◌≡◌, ◌++◌, ◌≤◌, IfOk, OnOk, length, map};
+ghost use Rattle.std.specs.List.{flat_map};
+ghost use Rattle.cut_command.specs.Cut.{cut_line};
+ghost use Rattle.cut_command.specs.Seen.{fronts_of, line_of, log_of};
+
+use call_log::LogView;
+use causal_cut::Cut;
+use fri_text::Text;
+use proc_replay::Replayer;
+use std::alloc::{AllocError, Global};
+
+/// A log, how many of its first events are kept, and how many are accepted.
+#[derive(Drop)]
+pub(crate) struct Front<'m> {
+    pub(crate) log: LogView<'m>,
+    pub(crate) kept: u64,
+    pub(crate) accepted: u64,
+}
+
+/// The logs of these replays.
+pub(crate) fn logs_of<'m>(
+    alloc: Global,
+    parts: &[Replayer<'_, 'm>],
+) -> Result<Vec<LogView<'m>>, AllocError>
+    ensures { IfOk result (λ logs. logs.items ≡ map log_of parts.now) }
+{
+    let mut logs = Vec::new(alloc);
+    for part in parts {
+        logs.push(part.log())?;
+    }
+    Ok(logs)
+}
+
+/// How much of each log is kept.
+pub(crate) fn fronts_of<'m>(
+    alloc: Global,
+    logs: &[LogView<'m>],
+    cut: &Cut,
+) -> Result<Vec<Front<'m>>, AllocError>
+    requires few { length logs.now ≤ 16 }
+    requires kept { length cut.now.kept ≡ length logs.now }
+    requires accepted { length cut.now.accepted ≡ length logs.now }
+    ensures { IfOk result (λ fronts. fronts.items ≡ fronts_of logs.now cut.now.kept cut.now.accepted) }
+{
+    let mut fronts = Vec::new(alloc);
+    for node in 0..logs.len() {
+        let (Some(kept), Some(accepted)) = (cut.length(node as u32), cut.accepted(node as u32))
+        else {
+            unreachable!();
+        };
+        let log = logs[node].copy();
+        fronts.push(Front {
+            log,
+            kept,
+            accepted,
+        })?;
+    }
+    Ok(fronts)
+}
+
+// Adds the line of a log.
+fn push_line(text: &mut Text, name: &[u8], kept: u64, accepted: u64) -> Result<(), AllocError>
+    ensures { OnOk result (text.new ≡ text.old ++ cut_line name.now kept accepted) }
+{
+    text.push_bytes(name)?;
+    text.push_str(": ")?;
+    text.push_u64(kept)?;
+    text.push_str(" of ")?;
+    text.push_u64(accepted)?;
+    text.push_str(" events\n")
+}
+
+/// A line for each log.
+pub(crate) fn print(alloc: Global, fronts: &[Front<'_>]) -> Result<Text, AllocError>
+    ensures { IfOk result (λ text. text ≡ flat_map line_of fronts.now) }
+{
+    let mut text = Text::new(alloc);
+    for front in fronts {
+        push_line(&mut text, front.log.head().name, front.kept, front.accepted)?;
+    }
+    Ok(text)
+}

@@ -1,0 +1,88 @@
+// How much of the logs of a group an event needs, before any file is made.
+ghost use Rattle.std.specs.Prelude.{◌≡◌, ◌<◌, ◌≤◌, All, IfErr, IfOk, List, MatchResult, Ok, length, map, ℕ};
+ghost use Rattle.fri_outside.specs.Outside.{Counts};
+ghost use Rattle.call_log.specs.Head.{IsHead};
+ghost use Rattle.command_run.specs.Call.{Raises, StopsAs, reads_after, writes_after};
+ghost use Rattle.proc_replay.specs.AtHead.{IsAtHead};
+ghost use Rattle.group_state.specs.Place.{AreParts};
+ghost use Rattle.causal_cut.specs.Past.{lengths_or_none};
+ghost use Rattle.causal_cut.specs.Seen.{FailsAs};
+ghost use Rattle.log_pairs.specs.Pairs.{Loaded as LoadedOf};
+ghost use Rattle.log_pairs.specs.Seen.{AreLoaded, pair_of};
+ghost use Rattle.cut_command.specs.Cut.{cut_of_replays, node_of};
+ghost use Rattle.cut_command.specs.Laws.{IsCut};
+ghost use Rattle.cut_command.specs.Seen.{AreLeast, work_of};
+
+use crate::fronts::{Front, fronts_of, logs_of, print};
+use causal_cut::{CutError, fronts_replay, least_cut};
+use command_run::{Reason, Refusal};
+use fri_text::Text;
+use log_pairs::{Loaded, Pair, first_log, log_file};
+use proc_replay::Replayer;
+use std::alloc::Global;
+
+/// How much is kept of the logs of a group, in order of their processes' numbers, and the text that says so.
+#[derive(Drop)]
+pub(crate) struct Past<'m> {
+    pub(crate) fronts: Vec<Front<'m>>,
+    pub(crate) text: Text,
+}
+
+// The node of this process.
+fn node_of(parts: &[Replayer<'_, '_>], process: u32) -> Option<usize>
+    ensures { result ≡ node_of process parts.now }
+{
+    parts.iter().position(|part| part.head().process == process)
+}
+
+// How much of these logs the event of this number of a node needs.
+fn least_fronts<'m>(
+    alloc: Global,
+    parts: Vec<Replayer<'m, 'm>>,
+    node: usize,
+    event: u64,
+) -> Result<Vec<Front<'m>>, CutError>
+    requires parts { AreParts parts.items }
+    requires node { node < length parts.items }
+    ensures { MatchResult result (λ fronts. AreLeast parts.entry.items node event fronts.items)
+        (FailsAs (lengths_or_none parts.entry.items node event)) }
+{
+    let logs = logs_of(alloc, &parts)?;
+    let cut = least_cut(alloc, parts, node as u32, event)?;
+    Ok(fronts_of(alloc, &logs, &cut)?)
+}
+
+/// How much of these logs the event of this number of a process needs. No file has changed.
+pub(crate) fn take_past<'m>(
+    alloc: Global,
+    process: u32,
+    event: u64,
+    pairs: &[Pair<'_>],
+    all: &[Loaded<'_>],
+    parts: Vec<Replayer<'m, 'm>>,
+) -> Result<Past<'m>, Refusal>
+    requires parts { AreParts parts.items }
+    requires at_heads { All IsAtHead parts.items }
+    ensures answer { (ls : List LoadedOf) → AreLoaded all.now ls → MatchResult result
+        (λ past. cut_of_replays (map pair_of pairs.now) ls process event parts.entry.items ≡ Ok (work_of past))
+        (StopsAs (cut_of_replays (map pair_of pairs.now) ls process event parts.entry.items)) }
+    ensures least { IfOk result (λ past. IsCut process event parts.entry.items (work_of past)) }
+    ensures heads { IfOk result (λ past. All (λ front. IsHead front.log.head) past.fronts.items) }
+    ensures cause { (old new : Counts) → IfErr result (Raises old new) }
+    ensures still { (n : ℕ) → (reads_after n result ≡ n) × (writes_after n result ≡ n) }
+{
+    fronts_replay();
+    let Some(node) = node_of(&parts, process) else {
+        return Err(Refusal::refuse(alloc, first_log(pairs), Reason::NoProcess));
+    };
+    let fronts = match least_fronts(alloc, parts, node, event) {
+        Ok(fronts) => fronts,
+        Err(CutError::NoEvent) => {
+            let file = log_file(pairs, all, process);
+            return Err(Refusal::refuse(alloc, file, Reason::NoEvent));
+        }
+        Err(CutError::NoMemory) => return Err(Refusal::NoMemory),
+    };
+    let text = print(alloc, &fronts)?;
+    Ok(Past { fronts, text })
+}

@@ -1,0 +1,28 @@
+// Which event two words name.
+ghost use Rattle.std.specs.Prelude.{◌≡◌};
+ghost use Rattle.cut_command.specs.Words.{event_of, process_of};
+
+use fri_text::read_decimal;
+
+const LAST_PROCESS: u64 = 15;
+
+const LAST_EVENT: u64 = (1 << 63) - 1;
+
+/// The process that the word names: a decimal number from 0 to 15.
+pub fn process_of(word: &str) -> Option<u32>
+    ensures { result ≡ process_of word.now }
+{
+    let number = read_decimal(word.as_bytes(), LAST_PROCESS).ok()?;
+    u32::try_from(number).ok()
+}
+
+/// The event of a process that the word names, counted from 1: a decimal number from 1 to 2^63 - 1.
+pub fn event_of(word: &str) -> Option<u64>
+    ensures { result ≡ event_of word.now }
+{
+    let number = read_decimal(word.as_bytes(), LAST_EVENT).ok()?;
+    if number == 0 {
+        return None;
+    }
+    Some(number)
+}
