@@ -1,0 +1,7 @@
+mod Listed
+mod Sending
+mod Told
+mod Unsent
+mod Walked
+mod Printed
+mod Performing

@@ -1,0 +1,10 @@
+use Rattle.std.proofs.Common.{◌-◌, length}
+use Rattle.group_state.specs.Place.{events}
+use Rattle.streams_command.proofs.Walked.{WalkedTo}
+use Rattle.streams_command.proofs.walking.walk.Given as goal
+
+abbrev pub invariant-events : goal.invariant-events
+invariant-events l = WalkedTo l.fn.parts.items l.here l.told
+
+abbrev pub decreases-events : goal.decreases-events
+decreases-events l = length (events l.fn.parts.items) - l.here.at

@@ -1,0 +1,15 @@
+//! `streams MODULE LOG ..`: the byte streams that the processes of a group sent each other.
+//!
+//! `streams` reads the modules and logs (`log_pairs`), walks the events of all in their order, and tells each send into the
+//! group and each datagram with a tag that was taken to `byte_streams`. Contracts see what the files come to
+//! (`streams_outcome` of `specs/Streams`): a text over the traffic of all events, or the stop. The law `streams_work` says that
+//! each group's files have work.
+#![tactic(auto)]
+
+mod laws;
+mod printing;
+mod telling;
+mod walking;
+
+pub use laws::streams_work;
+pub use walking::streams;
