@@ -12,7 +12,9 @@ use Rattle.debug_command.specs.Laws.{SessionsWork}
 use Rattle.drill_command.specs.Drill.{drill_run, drill_work, outcome_by_room}
 use Rattle.migrate_command.specs.Laws.{MigrationsWork}
 use Rattle.schedule_command.specs.Laws.{SchedulesWork}
-use Rattle.friday_app.specs.Command.{Command, Debug, Drill, Migrate, Record, Replay, Schedule}
+use Rattle.cut_command.specs.Laws.{CutsWork}
+use Rattle.streams_command.specs.Laws.{StreamsWork}
+use Rattle.friday_app.specs.Command.{Command, Cut, Debug, Drill, Migrate, Record, Replay, Schedule, Streams}
 use Rattle.friday_app.specs.Expected.{expected}
 use Rattle.friday_app.specs.Run.{CommandRun, Works}
 use Rattle.friday_app.specs.Valid.{IsValidCall}
@@ -31,7 +33,7 @@ either : {A B : Type 0} → A ⊎ B → (A → ⊥) → (B → ⊥) → ⊥
 either (inl a) f g = f a
 either (inr b) f g = g b
 
-module _ (recordings : RecordingsWork) (replays : ReplaysWork) (sessions : SessionsWork) (migrations : MigrationsWork) (schedules : SchedulesWork) where
+module _ (recordings : RecordingsWork) (replays : ReplaysWork) (sessions : SessionsWork) (migrations : MigrationsWork) (schedules : SchedulesWork) (cuts : CutsWork) (streams : StreamsWork) where
   -- what is valid has an outcome that is work
   has_work : (command : Command) (folder : Folder) (left : Option (List ℕ)) → IsValidCall (Some command) folder left
       → (work : Work) × (expected (Some command) (Some folder) left ≡ Some (Ok work))
@@ -41,6 +43,8 @@ module _ (recordings : RecordingsWork) (replays : ReplaysWork) (sessions : Sessi
   has_work (Drill rounds) folder left h = (drill_work rounds (drill_run rounds), ap (λ full. Some (outcome_by_room rounds (drill_run rounds) full)) h)
   has_work (Migrate log_name new_name) folder left h = let w = migrations log_name new_name folder h in (w.0, ap Some w.1)
   has_work (Schedule pairs) folder left h = let w = schedules pairs folder h in (w.0, ap Some w.1)
+  has_work (Cut process event pairs) folder left h = let w = cuts process event pairs folder h in (w.0, ap Some w.1)
+  has_work (Streams pairs) folder left h = let w = streams pairs folder h in (w.0, ap Some w.1)
 
   pub run_completes : (command : Option Command) (old new : Outside) (answer : Status) (folder : Folder) → CommandRun command old new answer → old.told ≡ Some folder → IsValidCall command folder old.hearing.left → NoFault old new
       → Works command old.told old.hearing.left answer

@@ -1,3 +1,4 @@
 pub mod Completes
 pub mod Runs
 pub mod Wording
+pub mod Streaming

@@ -21,10 +21,13 @@ use Rattle.debug_command.specs.Run.{DebugRun}
 use Rattle.drill_command.specs.Drill.{drill_outcome}
 use Rattle.headline.specs.Headline.{LeftIsShown, ShowsRun}
 use Rattle.migrate_command.specs.Migrate.{migrate_outcome}
+use Rattle.cut_command.specs.Cut.{cut_outcome}
+use Rattle.cut_command.specs.Laws.{CutsToPast}
 use Rattle.schedule_command.specs.Schedule.{schedule_outcome}
 use Rattle.schedule_command.specs.Seen.{AnswerRecordsBack}
+use Rattle.streams_command.specs.Streams.{streams_outcome}
 use Rattle.friday_app.specs.Agreement.{KeepsMoment, PrintsConverse, ShowsRecording}
-use Rattle.friday_app.specs.Command.{Command, Debug, Drill, Migrate, Record, Replay, Schedule}
+use Rattle.friday_app.specs.Command.{Command, Cut, Debug, Drill, Migrate, Record, Replay, Schedule, Streams}
 use Rattle.friday_app.specs.Expected.{expected, written_by}
 use Rattle.friday_app.specs.Input.{KeepsInput}
 use Rattle.friday_app.specs.Run.{CommandRun}
@@ -77,6 +80,7 @@ run_recorded law images name ended answer old new f recorded moment = record {
   moment = moment;
   shown = left_shown law images name answer old new (λ is. recorded (f.came_to_end is)) moment;
   converse = λ is folder told before here after there. tt;
+  past = λ is folder told. tt;
   input = f.unheard;
   answered = λ is quiet. quiet (f.read is);
   refused = λ is. refused_file old new (f.refused is);
@@ -99,6 +103,7 @@ run_replayed images pairs ended answer old new f = record {
   moment = λ before told. tt;
   shown = λ before told after here. tt;
   converse = λ is folder told before here after there. tt;
+  past = λ is folder told. tt;
   input = f.unheard;
   answered = λ is quiet. quiet (f.read is);
   refused = λ is. refused_file old new (f.refused is);
@@ -114,6 +119,7 @@ run_drilled rounds ended answer old new f = record {
   moment = λ before told. tt;
   shown = λ before told after here. tt;
   converse = λ is folder told before here after there. tt;
+  past = λ is folder told. tt;
   input = f.unheard;
   answered = λ is quiet. quiet (f.read is);
   refused = λ is. refused_file old new (f.refused is);
@@ -130,6 +136,7 @@ run_migrated log_name new_name ended answer old new f = record {
   moment = λ before told. tt;
   shown = λ before told after here. tt;
   converse = λ is folder told before here after there. tt;
+  past = λ is folder told. tt;
   input = f.unheard;
   answered = λ is quiet. quiet (f.read is);
   refused = λ is. refused_file old new (f.refused is);
@@ -159,6 +166,49 @@ run_scheduled pairs ended answer old new f tells records = record {
       let whole = (f.call.text (schedule_outcome pairs folder) known).whole (subst IsAnswerStatus (sym is) tt) in
       again pairs folder ended answer before after (f.done is) (tells (schedule_outcome pairs folder) known) (records folder told)
       (same_Some _ _ (sym there ∙ whole ∙ ap (λ taken. append_known taken (outcome_text (schedule_outcome pairs folder))) here));
+  past = λ is folder told. tt;
+  input = f.unheard;
+  answered = λ is quiet. quiet (f.read is);
+  refused = λ is. refused_file old new (f.refused is);
+}
+
+never_ok : false ≡ true → ⊥
+never_ok e = cc
+
+-- what was cut has the least past
+kept_past : (process event : ℕ) (pairs : List Pair) (folder : Folder) (ended : Result Answer Refusal) → IsOk ended → IfOk ended (λ _. CutsToPast process event pairs folder) → CutsToPast process event pairs folder
+kept_past process event pairs folder (Ok answer) ok cuts = cuts
+kept_past process event pairs folder (Err e) ok cuts = absurd (never_ok ok)
+
+pub run_cut : (process event : ℕ) (pairs : List Pair) (ended : Result Answer Refusal) (answer : Status) (old new : Outside)
+    → Finished (option_map (cut_outcome process event pairs) old.told) (λ folder. written_names (cut_outcome process event pairs folder)) false ended old new answer
+    → WhenTold old.told (λ folder. IfOk ended (λ _. CutsToPast process event pairs folder))
+    → CommandRun (Some (Cut process event pairs)) old new answer
+run_cut process event pairs ended answer old new f cuts = record {
+  call = f.call;
+  usage = record { only = λ is. absurd (f.is_command is); always = λ none h. cc };
+  diverged = λ is. let never = f.diverged is in cc;
+  recorded = λ is before told after here. tt;
+  moment = λ before told. tt;
+  shown = λ before told after here. tt;
+  converse = λ is folder told before here after there. tt;
+  past = λ is folder told. kept_past process event pairs folder ended (f.done is) (cuts folder told);
+  input = f.unheard;
+  answered = λ is quiet. quiet (f.read is);
+  refused = λ is. refused_file old new (f.refused is);
+}
+
+pub run_streamed : (pairs : List Pair) (ended : Result Answer Refusal) (answer : Status) (old new : Outside)
+    → Finished (option_map (streams_outcome pairs) old.told) (λ folder. []) false ended old new answer → CommandRun (Some (Streams pairs)) old new answer
+run_streamed pairs ended answer old new f = record {
+  call = f.call;
+  usage = record { only = λ is. absurd (f.is_command is); always = λ none h. cc };
+  diverged = λ is. let never = f.diverged is in cc;
+  recorded = λ is before told after here. tt;
+  moment = λ before told. tt;
+  shown = λ before told after here. tt;
+  converse = λ is folder told before here after there. tt;
+  past = λ is folder told. tt;
   input = f.unheard;
   answered = λ is quiet. quiet (f.read is);
   refused = λ is. refused_file old new (f.refused is);
@@ -175,6 +225,7 @@ run_debugged pairs answer old new r = record {
   moment = λ before told. tt;
   shown = λ before told after here. tt;
   converse = λ is folder told before here after there. tt;
+  past = λ is folder told. tt;
   input = r.input;
   answered = r.answered;
   refused = r.refused;
@@ -190,6 +241,7 @@ run_none answer old new call usage reads unheard = record {
   moment = λ before told. tt;
   shown = λ before told after here. tt;
   converse = λ is folder told before here after there. tt;
+  past = λ is folder told. tt;
   input = unheard;
   answered = λ is quiet. reads is;
   refused = λ is. let e : ends.Refused ≡ ends.Usage = sym is ∙ usage (subst IsAnswerStatus (sym is) tt) in absurd (never_refused e);
@@ -212,6 +264,7 @@ run_stopped rest law command o answer is call = subst (λ (a : Status). CommandR
   moment = untouched command;
   shown = seen command;
   converse = λ e. absurd cc;
+  past = λ e. absurd cc;
   input = unread command;
   answered = λ e. absurd cc;
   refused = λ e. absurd cc;
@@ -224,6 +277,8 @@ run_stopped rest law command o answer is call = subst (λ (a : Status). CommandR
   untouched (Some (Drill rounds)) before told = tt
   untouched (Some (Migrate log_name new_name)) before told = tt
   untouched (Some (Schedule pairs)) before told = tt
+  untouched (Some (Cut process event pairs)) before told = tt
+  untouched (Some (Streams pairs)) before told = tt
 
   seen : (command : Option Command) → WhenTold o.told (λ before. WhenTold o.told (ShowsRecording command ends.NoMemory before))
   seen None before told after here = tt
@@ -234,6 +289,8 @@ run_stopped rest law command o answer is call = subst (λ (a : Status). CommandR
   seen (Some (Drill rounds)) before told after here = tt
   seen (Some (Migrate log_name new_name)) before told after here = tt
   seen (Some (Schedule pairs)) before told after here = tt
+  seen (Some (Cut process event pairs)) before told after here = tt
+  seen (Some (Streams pairs)) before told after here = tt
 
   not_done : ends.NoMemory ≡ ends.Done → ⊥
   not_done e = cc
@@ -246,3 +303,5 @@ run_stopped rest law command o answer is call = subst (λ (a : Status). CommandR
   unread (Some (Drill rounds)) = refl
   unread (Some (Migrate log_name new_name)) = refl
   unread (Some (Schedule pairs)) = refl
+  unread (Some (Cut process event pairs)) = refl
+  unread (Some (Streams pairs)) = refl

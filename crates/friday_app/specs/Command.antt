@@ -2,6 +2,7 @@
 use Rattle.std.specs.Prelude.{ℕ, List, [], ◌∷◌, ◌==◌, ◌&&◌, Bool, false, not, nat_le, length, filter, Option, Some, None, option_map, codes, bytes_eq, if◌then◌else◌}
 use Rattle.std.specs.List.{list_all}
 use Rattle.log_pairs.specs.Pairs.{Pair}
+use Rattle.cut_command.specs.Words.{event_of, process_of}
 use Rattle.drill_command.specs.Rounds.{rounds_of}
 
 pub data Command : Type 0 where
@@ -11,6 +12,8 @@ pub data Command : Type 0 where
   Drill : (rounds : ℕ) → Command
   Migrate : (log_name : List ℕ) → (new_name : List ℕ) → Command
   Schedule : (pairs : List Pair) → Command
+  Cut : (process : ℕ) → (event : ℕ) → (pairs : List Pair) → Command
+  Streams : (pairs : List Pair) → Command
 
 -- a word that may name a file: it is not empty, and does not begin with `-`
 abbrev pub is_file_word : List ℕ → Bool
@@ -58,6 +61,21 @@ abbrev pub scheduling : Bool → List (List ℕ) → Option Command
 scheduling images [] = None
 scheduling images names = if images then None else option_map Schedule (pairs_of names)
 
+-- an event, and then the pairs
+abbrev pub cutting_by : Option ℕ → Option ℕ → Option (List Pair) → Option Command
+cutting_by None event pairs = None
+cutting_by (Some process) None pairs = None
+cutting_by (Some process) (Some event) pairs = option_map (Cut process event) pairs
+
+abbrev pub cutting : Bool → List (List ℕ) → Option Command
+cutting images (process ∷ event ∷ module_name ∷ names) =
+    if images then None else cutting_by (process_of process) (event_of event) (pairs_of (module_name ∷ names))
+cutting images names = None
+
+abbrev pub streaming : Bool → List (List ℕ) → Option Command
+streaming images [] = None
+streaming images names = if images then None else option_map Streams (pairs_of names)
+
 -- the command of this verb, of these words beside the option
 abbrev pub command_by : List ℕ → Bool → List (List ℕ) → Option Command
 command_by verb images names =
@@ -67,6 +85,8 @@ command_by verb images names =
     else if bytes_eq verb (codes "drill") then drilling images names
     else if bytes_eq verb (codes "migrate") then migrating images names
     else if bytes_eq verb (codes "schedule") then scheduling images names
+    else if bytes_eq verb (codes "cut") then cutting images names
+    else if bytes_eq verb (codes "streams") then streaming images names
     else None
 
 -- the command that the words name: a verb, and behind it names of files, and once at most the option for images
@@ -84,4 +104,6 @@ IsReplayCommand (Some (Debug pairs)) = ⊥
 IsReplayCommand (Some (Drill rounds)) = ⊥
 IsReplayCommand (Some (Migrate log_name new_name)) = ⊥
 IsReplayCommand (Some (Schedule pairs)) = ⊥
+IsReplayCommand (Some (Cut process event pairs)) = ⊥
+IsReplayCommand (Some (Streams pairs)) = ⊥
 IsReplayCommand None = ⊥

@@ -8,7 +8,9 @@ use Rattle.debug_command.specs.Debug.{debug_outcome}
 use Rattle.drill_command.specs.Drill.{drill_outcome}
 use Rattle.migrate_command.specs.Migrate.{migrate_outcome}
 use Rattle.schedule_command.specs.Schedule.{schedule_outcome}
-use Rattle.friday_app.specs.Command.{Command, Debug, Drill, Migrate, Record, Replay, Schedule}
+use Rattle.cut_command.specs.Cut.{cut_outcome}
+use Rattle.streams_command.specs.Streams.{streams_outcome}
+use Rattle.friday_app.specs.Command.{Command, Cut, Debug, Drill, Migrate, Record, Replay, Schedule, Streams}
 
 -- the outcome, as far as the folder and the input tell what it depends on
 abbrev pub expected : Option Command → Option Folder → Option (List ℕ) → Option CommandOutcome
@@ -19,6 +21,8 @@ expected (Some (Debug pairs)) told left = option_and_then (debug_outcome pairs l
 expected (Some (Drill rounds)) told left = Some (drill_outcome rounds)
 expected (Some (Migrate log_name new_name)) told left = option_map (migrate_outcome log_name new_name) told
 expected (Some (Schedule pairs)) told left = option_map (schedule_outcome pairs) told
+expected (Some (Cut process event pairs)) told left = option_map (cut_outcome process event pairs) told
+expected (Some (Streams pairs)) told left = option_map (streams_outcome pairs) told
 
 -- the names that a command may write, given the files
 abbrev pub written_by : Option Command → Folder → List (List ℕ)
@@ -29,3 +33,5 @@ written_by (Some (Debug pairs)) folder = []
 written_by (Some (Drill rounds)) folder = []
 written_by (Some (Migrate log_name new_name)) folder = written_names (migrate_outcome log_name new_name folder)
 written_by (Some (Schedule pairs)) folder = []
+written_by (Some (Cut process event pairs)) folder = written_names (cut_outcome process event pairs folder)
+written_by (Some (Streams pairs)) folder = []

@@ -5,3 +5,4 @@ pub mod Input
 pub mod Seen
 pub mod Run
 pub mod Valid
+pub mod Streams

@@ -6,7 +6,7 @@ use Rattle.command_run.specs.declared.status.Status.TheVariants as ends
 use Rattle.command_run.specs.Call.{IsAnswerStatus, PrintsRefusal}
 use Rattle.command_run.specs.Outcome.{Work, outcome_status}
 use Rattle.command_run.specs.Run.{CallEnds, Outside}
-use Rattle.friday_app.specs.Agreement.{KeepsMoment, KeepsRecording, PrintsConverse, ShowsRecording}
+use Rattle.friday_app.specs.Agreement.{KeepsMoment, KeepsPast, KeepsRecording, PrintsConverse, ShowsRecording}
 use Rattle.friday_app.specs.Command.{Command, IsReplayCommand}
 use Rattle.friday_app.specs.Expected.{expected, written_by}
 use Rattle.friday_app.specs.Input.{AnswersFirst, IsLargeInput, KeepsInput}
@@ -37,6 +37,9 @@ pub record CommandRun (command : Option Command) (old new : Outside) (answer : S
   -- recording it comes to work, and leaves logs with the same heads but for the version and the same entries, byte for byte
   -- where the logs were of the version of recordings
   pub converse : answer ≡ ends.Done → WhenTold old.told (λ folder. WhenTold old.taken (λ before. WhenTold new.taken (PrintsConverse command folder before)))
+  -- the logs that are cut: the least closed family that holds the event, of each log its first events, whose replay makes
+  -- what the log's replay does
+  pub past : answer ≡ ends.Done → WhenTold old.told (KeepsPast command)
   pub input : KeepsInput command old.told old.hearing new.hearing old.taken answer
   pub answered : answer ≡ ends.ReadFault → (Rose old.counts.reads new.counts.reads → ⊥)
       → AnswersFirst command old.told old.hearing.left new.hearing.left old.taken new.taken

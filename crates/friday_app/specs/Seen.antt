@@ -4,7 +4,7 @@ use Rattle.log_pairs.specs.Seen.{pair_of}
 use Rattle.schedule_text.specs.Limits.{most_rounds}
 use Rattle.friday_app.specs.declared.command.Command.{Command as Words}
 use Rattle.friday_app.specs.declared.command.Command.TheVariants as words
-use Rattle.friday_app.specs.Command.{Command, Debug, Drill, Migrate, Record, Replay, Schedule}
+use Rattle.friday_app.specs.Command.{Command, Cut, Debug, Drill, Migrate, Record, Replay, Schedule, Streams}
 
 abbrev pub meaning : Words → Command
 meaning (words.Record images schedule_name) = Record images schedule_name.now
@@ -13,6 +13,8 @@ meaning (words.Debug pairs) = Debug (map pair_of pairs.items)
 meaning (words.Drill rounds) = Drill rounds
 meaning (words.Migrate log_name new_name) = Migrate log_name.now new_name.now
 meaning (words.Schedule pairs) = Schedule (map pair_of pairs.items)
+meaning (words.Cut process event pairs) = Cut process event (map pair_of pairs.items)
+meaning (words.Streams pairs) = Streams (map pair_of pairs.items)
 
 -- a drill of so many rounds as there may be
 abbrev pub HasRounds : Words → Type 0
@@ -22,3 +24,5 @@ HasRounds (words.Debug pairs) = Unit {0}
 HasRounds (words.Drill rounds) = (1 ≤ rounds) × (rounds ≤ most_rounds)
 HasRounds (words.Migrate log_name new_name) = Unit {0}
 HasRounds (words.Schedule pairs) = Unit {0}
+HasRounds (words.Cut process event pairs) = Unit {0}
+HasRounds (words.Streams pairs) = Unit {0}

@@ -1,15 +1,17 @@
 // Which command the words name.
 ghost use Rattle.std.specs.Prelude.{◌≡◌, length, map, option_map, string_bytes, IfOk, IfSome};
 ghost use Rattle.std.specs.List.{list_all};
-ghost use Rattle.friday_app.specs.Command.{command_by, command_of, debugging, drilling, is_file_word, is_images, migrating, names_in, options_in, pairs_of, recording, replaying, scheduling};
+ghost use Rattle.friday_app.specs.Command.{command_by, command_of, cutting, debugging, drilling, is_file_word, is_images, migrating, names_in, options_in, pairs_of, recording, replaying, scheduling, streaming};
 ghost use Rattle.friday_app.specs.Seen.{HasRounds, meaning};
 ghost use Rattle.log_pairs.specs.Seen.{pair_of};
 
+use cut_command::{event_of, process_of};
 use drill_command::rounds_of;
 use log_pairs::Pair;
 use std::alloc::{AllocError, Global};
 
-/// A command, with what its words give: names, whether images are asked for, and how many rounds.
+/// A command, with what its words give: names, whether images are asked for, how many rounds, and which event of which
+/// process.
 #[derive(Drop)]
 pub enum Command<'a> {
     Record(bool, &'a str),
@@ -18,6 +20,8 @@ pub enum Command<'a> {
     Drill(u32),
     Migrate(&'a str, &'a str),
     Schedule(Vec<Pair<'a>>),
+    Cut(u32, u64, Vec<Pair<'a>>),
+    Streams(Vec<Pair<'a>>),
 }
 
 // Whether the word may name a file.
@@ -98,6 +102,8 @@ fn command_by<'a>(
         "drill" => Ok(drill_command(images, names)),
         "migrate" => Ok(migrate_command(images, names)),
         "schedule" => schedule_command(alloc, images, names),
+        "cut" => cut_command(alloc, images, names),
+        "streams" => streams_command(alloc, images, names),
         _ => Ok(None),
     }
 }
@@ -170,6 +176,44 @@ fn schedule_command<'a>(
     }
     let pairs = pairs_of(alloc, names)?;
     Ok(pairs.map(Command::Schedule))
+}
+
+fn cut_command<'a>(
+    alloc: Global,
+    images: bool,
+    words: &[&'a str],
+) -> Result<Option<Command<'a>>, AllocError>
+    ensures names { IfOk result (λ command. option_map meaning command ≡ cutting images (map (λ word. word.now) words.now)) }
+    ensures rounds { IfOk result (λ command. IfSome command HasRounds) }
+{
+    let [process, event, names @ ..] = words else {
+        return Ok(None);
+    };
+    if images || names.is_empty() {
+        return Ok(None);
+    }
+    let Some(process) = process_of(process) else {
+        return Ok(None);
+    };
+    let Some(event) = event_of(event) else {
+        return Ok(None);
+    };
+    let pairs = pairs_of(alloc, names)?;
+    Ok(pairs.map(|pairs| Command::Cut(process, event, pairs)))
+}
+
+fn streams_command<'a>(
+    alloc: Global,
+    images: bool,
+    names: &[&'a str],
+) -> Result<Option<Command<'a>>, AllocError>
+    ensures { IfOk result (λ command. option_map meaning command ≡ streaming images (map (λ name. name.now) names.now)) }
+{
+    if images || names.is_empty() {
+        return Ok(None);
+    }
+    let pairs = pairs_of(alloc, names)?;
+    Ok(pairs.map(Command::Streams))
 }
 
 // A module and a log, two by two. None comes exactly where a name is left over.

@@ -1,13 +1,17 @@
 //! The program as one call: the words of the command line, the files, an input and an output are handed in.
 //!
 //! `friday` reads which command the words name (`specs/Command`) and has its crate do it: `record_command`,
-//! `replay_command`, `debug_command`, `drill_command`, `migrate_command` or `schedule_command`. What the call promises stands once, as the fields of
+//! `replay_command`, `debug_command`, `drill_command`, `migrate_command`, `schedule_command`, `cut_command` or
+//! `streams_command`. What the call promises stands once, as the fields of
 //! `CommandRun` (`specs/Run`), over the outcome of the command (`specs/Expected`). A further command is a crate beside
-//! those six, a case in the definitions here, and a line in `run`.
+//! those eight, a case in the definitions here, and a line in `run`. The law `recorded_streams` says what `streams` makes of
+//! a recording's logs.
 #![tactic(auto)]
 
 mod command;
+mod laws;
 mod top;
 
 pub use command_run::Status;
+pub use laws::recorded_streams;
 pub use top::friday;

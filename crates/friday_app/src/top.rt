@@ -8,6 +8,7 @@ ghost use Rattle.friday_app.specs.Valid.{IsValidCall};
 
 use crate::command::{Command, parse};
 use command_run::{Status, finish, give_up, refuse_words};
+use cut_command::{cut, cuts_work};
 use debug_command::{debug, sessions_work};
 use drill_command::drill;
 use fri_outside::{Files, Terminal};
@@ -17,6 +18,7 @@ use record_command::{record, recordings_rest, recordings_work};
 use replay_command::{replay, replays_work};
 use schedule_command::{schedule, schedules_work};
 use std::alloc::{AllocError, Global};
+use streams_command::{streams, streams_work};
 
 // Runs what the words say.
 fn run<F: Files, T: Terminal>(alloc: Global, words: &[String], files: &mut F, io: &mut T) -> Status
@@ -48,6 +50,14 @@ fn run<F: Files, T: Terminal>(alloc: Global, words: &[String], files: &mut F, io
         }
         Ok(Some(Command::Schedule(pairs))) => {
             let ended = schedule(alloc, &pairs, files);
+            finish(alloc, ended, io)
+        }
+        Ok(Some(Command::Cut(process, event, pairs))) => {
+            let ended = cut(alloc, process, event, &pairs, files);
+            finish(alloc, ended, io)
+        }
+        Ok(Some(Command::Streams(pairs))) => {
+            let ended = streams(alloc, &pairs, files);
             finish(alloc, ended, io)
         }
         Err(AllocError) => give_up(),
@@ -82,5 +92,7 @@ pub fn friday<F: Files, T: Terminal>(
     sessions_work();
     migrations_work();
     schedules_work();
+    cuts_work();
+    streams_work();
     run(alloc, words, files, io)
 }

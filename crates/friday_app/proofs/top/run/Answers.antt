@@ -4,10 +4,11 @@ use Rattle.log_pairs.specs.Seen.{pair_of}
 use Rattle.log_pairs.specs.declared.pairs.Pair.{Pair}
 use Rattle.record_command.specs.Expected.{record_outcome}
 use Rattle.replay_command.specs.Report.{replay_outcome}
+use Rattle.cut_command.specs.Cut.{cut_outcome}
 use Rattle.migrate_command.specs.Migrate.{migrate_outcome}
-use Rattle.friday_app.specs.Command.{Debug, Replay, Schedule}
+use Rattle.friday_app.specs.Command.{Cut, Debug, Replay, Schedule, Streams}
 use Rattle.friday_app.specs.Seen.{meaning}
-use Rattle.friday_app.proofs.Runs.{may_diverge, performed, run_debugged, run_drilled, run_migrated, run_none, run_recorded, run_replayed, run_same, run_scheduled, run_stopped}
+use Rattle.friday_app.proofs.Runs.{may_diverge, performed, run_cut, run_debugged, run_drilled, run_migrated, run_none, run_recorded, run_replayed, run_same, run_scheduled, run_stopped, run_streamed}
 use Rattle.friday_app.proofs.top.run.Goals as goal
 
 pub returns-in-Ok-None : goal.returns-in-Ok-None
@@ -80,6 +81,32 @@ returns-in-Ok-Some-Schedule g c =
     let new : Outside = outside (g.F.Files.told c.schedule-ended.new.files) (g.F.Files.counts c.schedule-ended.new.files) (g.T.Sink.hearing finish.new.out) (g.T.Sink.taken finish.new.out) (g.T.Sink.faults finish.new.out) in
     run_same (ap (λ (ps : List Pair). Some (Schedule (map pair_of ps))) deref.ensures.value ∙ sym (ap (option_map meaning) (arm.field-0-is ∙ ap Some arm.field-0-0-is)) ∙ arm.ensures.names)
     (run_scheduled pairs c.schedule-ended.result finish.result old new (finish.ensures _ _ _ _ _ _ _ e.performed) e.performed.tells e.converse)
+
+pub returns-in-Ok-Some-Cut : goal.returns-in-Ok-Some-Cut
+returns-in-Ok-Some-Cut g c =
+    let e = c.cut-ended.ensures in
+    let arm = c.in-Ok-Some-Cut in
+    let deref = c.deref-in-Ok-Some-Cut in
+    let pairs = map pair_of deref.result.now in
+    let finish = c.finish-in-Ok-Some-Cut in
+    let old : Outside = outside (g.F.Files.told c.args.files.now) (g.F.Files.counts c.args.files.now) (g.T.Sink.hearing c.args.io.now) (g.T.Sink.taken c.args.io.now) (g.T.Sink.faults c.args.io.now) in
+    let new : Outside = outside (g.F.Files.told c.cut-ended.new.files) (g.F.Files.counts c.cut-ended.new.files) (g.T.Sink.hearing finish.new.out) (g.T.Sink.taken finish.new.out) (g.T.Sink.faults finish.new.out) in
+    run_same (ap (λ (ps : List Pair). Some (Cut arm.process arm.event (map pair_of ps))) deref.ensures.value ∙ sym (ap (option_map meaning) (arm.field-0-is ∙ ap Some arm.field-0-0-is)) ∙ arm.ensures.names)
+    (run_cut arm.process arm.event pairs c.cut-ended.result finish.result old new
+    (finish.ensures _ _ _ _ _ _ _ (performed (cut_outcome arm.process arm.event pairs) false old.told new.told old.counts new.counts c.cut-ended.result e.tells e.makes e.keeps e.done e.counts e.cause))
+    e.least)
+
+pub returns-in-Ok-Some-Streams : goal.returns-in-Ok-Some-Streams
+returns-in-Ok-Some-Streams g c =
+    let e = c.streams-ended.ensures in
+    let arm = c.in-Ok-Some-Streams in
+    let deref = c.deref-in-Ok-Some-Streams in
+    let pairs = map pair_of deref.result.now in
+    let finish = c.finish-in-Ok-Some-Streams in
+    let old : Outside = outside (g.F.Files.told c.args.files.now) (g.F.Files.counts c.args.files.now) (g.T.Sink.hearing c.args.io.now) (g.T.Sink.taken c.args.io.now) (g.T.Sink.faults c.args.io.now) in
+    let new : Outside = outside (g.F.Files.told c.streams-ended.new.files) (g.F.Files.counts c.streams-ended.new.files) (g.T.Sink.hearing finish.new.out) (g.T.Sink.taken finish.new.out) (g.T.Sink.faults finish.new.out) in
+    run_same (ap (λ (ps : List Pair). Some (Streams (map pair_of ps))) deref.ensures.value ∙ sym (ap (option_map meaning) (arm.field-0-is ∙ ap Some arm.field-0-0-is)) ∙ arm.ensures.names)
+    (run_streamed pairs c.streams-ended.result finish.result old new (finish.ensures _ _ _ _ _ _ _ e.performed))
 
 pub returns-in-Err : goal.returns-in-Err
 returns-in-Err g c =
