@@ -54,6 +54,28 @@ def words(script):
         "debug a.wasm a.log a.wasm -a",
         "debug a.wasm a.log --",
         "Debug a.wasm a.log",
+        "cut a.wasm a.log",
+        "cut 0 a.wasm a.log",
+        "cut 0 1",
+        "cut 0 1 a.wasm",
+        "cut 0 0 a.wasm a.log",
+        "cut 16 1 a.wasm a.log",
+        "Cut 0 1 a.wasm a.log",
+        "streams",
+        "streams a.wasm",
+        "streams a.log",
+        "streams a.wasm a.log a.wasm",
+        "streams a.wasm a.log a.wasm a.log a.wasm",
+        "streams '' a.log",
+        "streams a.wasm ''",
+        "streams a.wasm a.log '' a.log",
+        "streams -a a.log",
+        "streams a.wasm -a",
+        "streams a.wasm a.log --",
+        "streams 0 a.wasm a.log",
+        "Streams a.wasm a.log",
+        "stream a.wasm a.log",
+        "a.wasm streams a.log",
         "--help",
     ):
         script.run(line, "Usage", USAGE)
@@ -99,6 +121,15 @@ def images_words(script):
         "debug a.wasm a.log --images",
         "debug --images a.wasm a.log --images",
         "drill --images 1",
+        "cut --images",
+        "cut --images 0 1 a.wasm a.log",
+        "cut 0 --images a.wasm a.log",
+        "cut 0 1 --images a.log",
+        "cut 0 1 a.wasm a.log --images",
+        "streams --images",
+        "streams --images a.wasm a.log",
+        "streams a.wasm --images a.log",
+        "streams a.wasm a.log --images",
     ):
         script.run(line, "Usage", USAGE)
     script.show("a.mem", None)
@@ -131,7 +162,7 @@ def files_of_a_replay(script):
         ("a.wasm short", "Refused", "refused short: 1 BadHead"),
         ("a.wasm a.wasm", "Refused", "refused a.wasm: 1 BadHead"),
     ):
-        for verb in ("replay", "debug", "schedule"):
+        for verb in ("replay", "debug", "schedule", "cut 0 1", "streams"):
             script.run("%s %s" % (verb, line), status, "friday: " + said)
 
 
