@@ -47,8 +47,8 @@ def written_by(words):
     """The files that the call makes."""
     if words[0] == "migrate":
         return [words[2]]
-    kinds = [".log"] if words[0] == "record" else []
-    kinds += [".mem", ".out"] if "--images" in words else []
+    kinds = {"record": [".log"], "cut": [".cut"]}.get(words[0], [])
+    kinds = kinds + ([".mem", ".out"] if "--images" in words else [])
     return [name + kind for name in processes_of(words) for kind in kinds]
 
 

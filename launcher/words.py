@@ -2,15 +2,19 @@
 import os
 
 NO_COMMAND, ABSENT = 2, 4
-MOST_ROUNDS = 100000
+MOST_ROUNDS, LAST_PROCESS, LAST_EVENT = 100000, 15, 2**63 - 1
 
 
 def is_command(words):
     """Whether they are a command, by "The command line" of docs/formats.md."""
     verb, rest = words[0], list(words[1:])
     if verb == "drill":
-        return len(rest) == 1 and is_decimal(rest[0]) and 1 <= int(rest[0].lstrip("0")[:7] or "0") <= MOST_ROUNDS
-    if verb not in ("record", "replay", "debug", "migrate", "schedule"):
+        return len(rest) == 1 and is_number(rest[0], 1, MOST_ROUNDS)
+    if verb == "cut":
+        if not (len(rest) > 2 and is_number(rest[0], 0, LAST_PROCESS) and is_number(rest[1], 1, LAST_EVENT)):
+            return False
+        rest = rest[2:]
+    elif verb not in ("record", "replay", "debug", "migrate", "schedule", "streams"):
         return False
     if verb in ("record", "replay") and "--images" in rest:
         rest.remove("--images")
@@ -21,9 +25,10 @@ def is_command(words):
     return len(rest) > 0 and len(rest) % 2 == 0
 
 
-def is_decimal(word):
-    """Whether it is digits alone, with any zeros in front."""
-    return word.isascii() and word.isdigit()
+def is_number(word, least, most):
+    """Whether it is a decimal number within these, with any zeros in front."""
+    digits = word.lstrip("0")
+    return word.isascii() and word.isdigit() and len(digits) <= len(str(most)) and least <= int(digits or "0") <= most
 
 
 def files_of(words):
@@ -32,7 +37,7 @@ def files_of(words):
         return []
     if words[0] == "migrate":
         return [words[1]]
-    names = [word for word in words[1:] if word != "--images"]
+    names = [word for word in words[3 if words[0] == "cut" else 1 :] if word != "--images"]
     return names + modules_of(names[0]) if words[0] == "record" else names
 
 
