@@ -1,0 +1,99 @@
+#!/bin/sh
+# Reads logs of version 2 that no recording makes: of the least entries, of the longest numbers, of empty strings with tags, of one
+# string, of bytes that are no entry, and of an entry that ends behind the log. Prints what `migrate` and `replay` of each cost for a
+# byte, of a log of a tenth of 3,000,000 bytes and of all, and the time of one of 33,000,000.
+# Usage: bench/logs.sh [PROGRAM]   (the proved program, if none is given)
+here=$(CDPATH='' cd -- "$(dirname -- "$0")/.." && pwd) || exit 1
+. "$here/tools/usage.sh"
+program=${1:-$here/crates/friday/out/friday}
+exec python3 - "$here" "$program" <<'PYTHON'
+import os, re, shutil, subprocess, sys, tempfile
+
+here, program = sys.argv[1], os.path.abspath(sys.argv[2])
+HEAD = b"LLOG" + b"".join(n.to_bytes(4, "little") for n in (2, 1, 0)) + b"\x01a"
+SIZES = (300_000, 3_000_000, 33_000_000)
+
+
+def short(n):
+    """The shortest spelling of a number by seven bits a byte."""
+    digits = []
+    while n > 127:
+        digits.append(n & 127 | 128)
+        n >>= 7
+    return bytes(digits + [n])
+
+
+def entry(body):
+    return short(len(body)) + body
+
+
+MOST = short(2**64 - 1)
+LEAST = entry(bytes(5))
+# A `note` of the greatest numbers, and a `try_recv` that brought nothing with the longest tag.
+LONG_NUMBERS = entry(MOST + short(2**16 - 1) + b"\x02\x00" + MOST + MOST)
+TAGGED = entry(MOST + b"\x00\x0a\x00" + MOST * 3 + MOST + b"\x00\x01" + short(2**32 - 1) + MOST)
+# A length of eleven bytes, which is no number.
+NO_ENTRY = b"\x80" * 10 + b"\x01"
+
+
+def string(size):
+    """One `print` that fills the log."""
+    outgoing = size - 40
+    return entry(b"\x01\x00\x03\x00" + short(0) * 2 + short(0) + short(outgoing) + bytes(outgoing))
+
+
+def cut_off(size):
+    """An entry whose length says one byte more than there is."""
+    whole = string(size)
+    return whole[:-1]
+
+
+LOGS = {
+    "the least entries": lambda size: LEAST * (size // len(LEAST)),
+    "the longest numbers": lambda size: LONG_NUMBERS * (size // len(LONG_NUMBERS)),
+    "tags": lambda size: TAGGED * (size // len(TAGGED)),
+    "one string": string,
+    "no entry": lambda size: NO_ENTRY * (size // len(NO_ENTRY)),
+    "an entry that ends behind the log": cut_off,
+}
+
+
+def play(folder, words):
+    """The processor's seconds of a call."""
+    child = subprocess.Popen([program] + words, cwd=folder, stdout=subprocess.DEVNULL)
+    _, status, usage = os.wait4(child.pid, 0)
+    assert os.waitstatus_to_exitcode(status) in (0, 1), status
+    return usage.ru_utime + usage.ru_stime
+
+
+def instructions(folder, words):
+    """By valgrind's count, the same however busy the machine is."""
+    if shutil.which("valgrind") is None:
+        return None
+    words = ["valgrind", "--tool=callgrind", "--callgrind-out-file=/dev/null", program] + words
+    told = subprocess.run(words, cwd=folder, stdout=subprocess.DEVNULL, stderr=subprocess.PIPE, text=True).stderr
+    return int(re.search(r"Collected : (\d+)", told).group(1))
+
+
+def cost(folder, name, words, kind):
+    counts = []
+    for size in SIZES[:2]:
+        write(folder, kind(size))
+        counts.append(instructions(folder, words))
+    write(folder, kind(SIZES[2]))
+    spent = play(folder, words)
+    each = "" if None in counts else " %.2f and %.2f instructions for a byte," % tuple(n / size for n, size in zip(counts, SIZES))
+    print("%s, %s:%s %.2f s for 33 MB" % (words[0], name, each, spent), flush=True)
+
+
+def write(folder, entries):
+    with open(os.path.join(folder, "a.log"), "wb") as file:
+        file.write(HEAD + entries)
+
+
+with tempfile.TemporaryDirectory() as folder:
+    shutil.copy(os.path.join(here, "examples", "first", "a.wasm"), os.path.join(folder, "a.wasm"))
+    for name, kind in LOGS.items():
+        cost(folder, name, ["migrate", "a.log", "new.log"], kind)
+        cost(folder, name, ["replay", "a.wasm", "a.log"], kind)
+PYTHON
