@@ -1,7 +1,7 @@
 #!/bin/sh
 # Refuses the program its memory, one request after the other: each request alone, and each with all that come after it.
 # Every call ends as it does with ample memory, or with status 7 and a front of that call's text; then the logs that stand
-# are those of a moment of the recording, and replay. A command that the program has not is passed over.
+# are those of a moment of the recording, and replay, and of cut logs the first stand. A command that the program has not is passed over.
 # Usage: bench/memory.sh [PROGRAM]   (the proved program, if none is given; none that is built without proofs, which asks for
 # its memory in another way)
 here=$(CDPATH='' cd -- "$(dirname -- "$0")/.." && pwd) || exit 1
@@ -77,6 +77,8 @@ ROWS = (
     (["replay", "--images", *PAIRS], [], ""),
     (["debug", *PAIRS], [], WATCH),
     (["schedule", *PAIRS], [], ""),
+    (["cut", "1", "3", *PAIRS], ["ping", "pong"], ""),
+    (["streams", *PAIRS], [], ""),
     (["drill", "10"], [], ""),
 )
 USAGE, NO_MEMORY, EVER = 2, 7, 2**63
@@ -88,9 +90,10 @@ def call(words, typed, extra=None):
     return done.returncode, done.stdout
 
 
-def held(names, kinds=("log", "mem", "out")):
-    """What the files of these processes hold, those that stand."""
+def held(words, names):
+    """What the files that the call makes of these processes hold, those that stand."""
     found = {}
+    kinds = ("cut",) if words[0] == "cut" else ("log", "mem", "out")
     for name in (f"{name}.{kind}" for name in names for kind in kinds):
         if os.path.exists(name):
             with open(name, "rb") as file:
@@ -98,8 +101,8 @@ def held(names, kinds=("log", "mem", "out")):
     return found
 
 
-def forget(names):
-    for name in held(names):
+def forget(words, names):
+    for name in held(words, names):
         os.remove(name)
 
 
@@ -107,11 +110,20 @@ def sizes(data):
     return logs.ends(logs.log_in(data))
 
 
-def check_stopped(names, whole):
+def check_cut(stands, whole):
+    """What is left of cut logs are the first of them, and a front of one."""
+    left = list(stands.items())
+    assert [name for name, _ in left] == list(whole)[: len(left)], "a later log was cut before an earlier one"
+    assert all(data == whole[name] for name, data in left[:-1]), "a log is not whole, and a later one stands"
+
+
+def check_stopped(words, names, whole):
     """What a recording leaves that had no memory is what it has made at a moment, and replays."""
-    stands = held(names)
+    stands = held(words, names)
     for name, data in stands.items():
         assert whole[name].startswith(data), f"{name} is no front of what it is to hold"
+    if words[0] == "cut":
+        return check_cut(stands, whole)
     left = [stands.get(f"{name}.log") for name in names]
     ends = [sizes(whole[f"{name}.log"]) for name in names]
     if None in left or any(len(log) < end[0] for log, end in zip(left, ends)):
@@ -130,12 +142,12 @@ def check_stopped(names, whole):
 
 def refuse(words, names, typed, first, last):
     """The call without these requests, as status, text and files; or nothing where it makes fewer."""
-    forget(names)
+    forget(words, names)
     status, text = call(words, typed, {"LD_PRELOAD": "./refusing.so", "MARK": "mark", "FIRST": str(first), "LAST": str(last)})
     if not os.path.exists("mark"):
         return None
     os.remove("mark")
-    return status, text, held(names)
+    return status, text, held(words, names)
 
 
 def refuse_each(words, names, typed, ample, alone):
@@ -151,21 +163,21 @@ def refuse_each(words, names, typed, ample, alone):
         assert found[0] == NO_MEMORY and ample[1].startswith(found[1]), f"request {count}: {found[:2]}"
         without += 1
         if names:
-            check_stopped(names, ample[2])
+            check_stopped(words, names, ample[2])
 
 
 def row(words, names, typed):
     told = "friday " + " ".join(words)
-    forget(names)
+    forget(words, names)
     status, text = call(words, typed)
     if status == USAGE:
         return told + ": no command of this program"
     assert status == 0, text
-    ample = status, text, held(names)
+    ample = status, text, held(words, names)
     count, alone = refuse_each(words, names, typed, ample, True)
     assert count, "no request of this program can be refused"
     _, onward = refuse_each(words, names, typed, ample, False)
-    forget(names)
+    forget(words, names)
     call(words, typed)
     return f"{told}: {count} requests; without one of them {alone} calls end with status 7, without it and all after it {onward}"
 

@@ -187,12 +187,16 @@ def made(draw):
     return pairs, modules, ends
 
 
+def put_modules(folder, modules):
+    for file, module in modules.items():
+        os.makedirs(os.path.dirname(os.path.join(folder, file)), exist_ok=True)
+        write(os.path.join(folder, file), module)
+
+
 def check_made(program, draw):
     pairs, modules, ends = made(draw)
     with tempfile.TemporaryDirectory() as folder:
-        for file, module in modules.items():
-            os.makedirs(os.path.dirname(os.path.join(folder, file)), exist_ok=True)
-            write(os.path.join(folder, file), module)
+        put_modules(folder, modules)
         put(folder, pairs)
         if len(pairs) < 5:
             check_subsets(program, draw, folder, pairs)
