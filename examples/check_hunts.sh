@@ -2,8 +2,10 @@
 # The three hunts: puts the places into the debugger's scripts again, makes the schedules again from their seeds, records
 # and replays the group of each, lists what its processes printed and noted, and compares all of it with what lies beside
 # the guests. The memories and the prints that a replay comes to have to be those of the recording. Last, the debugger's
-# script is answered over the logs of the failing schedule, and its answers are compared too. Of ENet's hunt the schedules
-# alone are made again here: enet/check.sh does the rest.
+# script is answered over the logs of the failing schedule, and its answers are compared too; and these logs are cut to what
+# one event needs, over which the script is answered up to its first `continue`. The register with many readers is cut in the
+# same way, its cut logs are made a schedule, and that is recorded. Of ENet's hunt the schedules alone are made again here:
+# enet/check.sh does the rest.
 # Usage: check_hunts.sh [PROGRAM]   (the program that answers ./friday, if none is given)
 here=$(CDPATH='' cd -- "$(dirname -- "$0")" && pwd) || exit 1
 . "$here/../tools/usage.sh"
@@ -30,6 +32,17 @@ play() {
     python3 "$here/../tools/events.py" list --call print --call note $logs
 }
 
+# Cuts the logs of the schedule that was played last to what event N of process P needs: P N.
+cut_to() {
+    echo "cut $1 $2:"
+    cuts=$(echo "$pairs" | sed 's/\.log/.cut/g')
+    # shellcheck disable=SC2086
+    "$program" cut "$1" "$2" $pairs || return 1
+    # shellcheck disable=SC2086
+    sed '/^continue$/q' debug | "$program" debug $cuts
+}
+
+# Checks the hunt whose fault shows at event N of process P: HUNT P N.
 check() {
     hunt=$1
     mkdir "$folder/$hunt" && cd "$folder/$hunt" && cp "$here/$hunt/$hunt.wasm" . || return 1
@@ -44,7 +57,29 @@ check() {
     done
     # shellcheck disable=SC2086 # These are the pairs of the schedule that was played last.
     "$program" debug $pairs < ./debug > answers || return 1
+    cut_to "$2" "$3" >> printed || return 1
     diff "$here/$hunt/expected" printed && diff "$here/$hunt/answers" answers && echo "$hunt: as expected"
+}
+
+# Records the register with many readers, and cuts it to what the reader that ends with 1 needs.
+play_many() {
+    "$here/register/many.sh" "$program" > made && "$program" record many || return 1
+    pairs=''
+    for process in $(sed -n 's/^process \([^ ]*\) .*/\1/p' many); do pairs="$pairs many.wasm $process.log"; done
+    # shellcheck disable=SC2086
+    "$program" debug $pairs < ./debug && cut_to 5 25 || return 1
+    # shellcheck disable=SC2086
+    "$program" debug $cuts < ./debug > answers_of_cut && "$program" schedule $cuts > short || return 1
+    echo "short:" && "$program" record short || return 1
+    for log in *.log; do cmp "$log" "${log%.log}.cut" || return 1; done
+}
+
+check_many() {
+    mkdir "$folder/many" && cd "$folder/many" && cp "$here/register/many.wasm" . || return 1
+    "$here/../guests/places" "$here/register/many.places" < "$here/register/many.in" > debug || return 1
+    cmp "$here/register/many.debug" debug || return 1
+    play_many > printed || { tail -n 1 printed; return 1; }
+    diff "$here/register/many.expected" printed && diff "$here/register/many.answers" answers_of_cut && echo "register, many: as expected"
 }
 
 check_schedules_of_enet() {
@@ -57,8 +92,10 @@ check_schedules_of_enet() {
 }
 
 status=0
-for hunt in register election bank; do
-    check "$hunt" || { echo "$hunt: not as expected"; status=1; }
+for words in 'register 4 18' 'election 0 113' 'bank 1 70'; do
+    # shellcheck disable=SC2086 # A hunt, a process and an event.
+    check $words || { echo "${words%% *}: not as expected"; status=1; }
 done
+check_many || { echo "register, many: not as expected"; status=1; }
 check_schedules_of_enet || { echo "enet: the schedules not as expected"; status=1; }
 exit $status

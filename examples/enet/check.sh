@@ -2,7 +2,8 @@
 # Puts the places into the debugger's script again, records and replays the group of each schedule beside this script, lists
 # what its processes printed, and goes to where the script's watch stops. The memories and the prints that a replay comes to
 # have to be those of the recording. Last, the whole script is answered over the logs of the failing schedule. What is printed
-# and answered is compared with what lies here. That schedules.sh makes these schedules ../check_hunts.sh checks.
+# and answered is compared with what lies here. These logs are then cut to what the event needs at which the watch stops, and the
+# watch is asked over them once more. That schedules.sh makes these schedules ../check_hunts.sh checks.
 # Usage: check.sh [PROGRAM]   (the program that answers ./friday, if none is given)
 here=$(CDPATH='' cd -- "$(dirname -- "$0")" && pwd) || exit 1
 . "$here/../../tools/usage.sh"
@@ -27,6 +28,12 @@ for module in enet faulty; do
     "$here/../../guests/places" "$here/$module.places" < "$here/debug.in" > debug || exit 1
     cmp "$here/debug" debug || exit 1
 done
-{ play good faulty.wasm && play repaired enet.wasm && play failing faulty.wasm; } > printed || { tail -n 1 printed; exit 1; }
+cut_to() {
+    echo "cut $1 $2:"
+    "$program" cut "$1" "$2" faulty.wasm server.log faulty.wasm a.log faulty.wasm b.log || return 1
+    sed '/^continue$/q' debug | "$program" debug faulty.wasm server.cut faulty.wasm a.cut faulty.wasm b.cut
+}
+
+{ play good faulty.wasm && play repaired enet.wasm && play failing faulty.wasm && cut_to 2 33; } > printed || { tail -n 1 printed; exit 1; }
 "$program" debug faulty.wasm server.log faulty.wasm a.log faulty.wasm b.log < ./debug > answers || exit 1
 diff "$here/expected" printed && diff "$here/answers" answers && echo "as expected"

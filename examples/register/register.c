@@ -7,8 +7,14 @@
 // of one replica, and the reader can then find two replicas that know nothing of the write.
 #include "../print_two.h"
 
-enum { REPLICAS = 3, MAJORITY = 2, WRITER = 3, READER = 4, PROCESSES = 5 };
-enum { WRITES = 4, PATIENCE = 300, FAREWELLS = 3 };
+// many.c is the same with more readers and writes.
+#ifndef READERS
+#define READERS 1
+#define WRITES 4
+#endif
+
+enum { REPLICAS = 3, MAJORITY = 2, WRITER = 3, READER = 4, PROCESSES = READER + READERS };
+enum { PATIENCE = 300, FAREWELLS = 3 };
 
 // Each answer's kind is that of its question and one.
 enum kind { STORE = 2, STORED, FETCH = 4, FETCHED, WRITTEN = 6, SEEN, END = 8 };
@@ -26,7 +32,7 @@ struct group {
 };
 
 static const struct group replicas = {0, REPLICAS, MAJORITY};
-static const struct group reader = {READER, 1, 1};
+static const struct group readers = {READER, READERS, READERS};
 
 // What a replica holds: the number of the last write that it stored, and its value.
 static LIBLOG_WATCHED uint32_t held_write, held_value;
@@ -124,7 +130,7 @@ static void write_all(void) {
         ask(&replicas, STORE, write, value_of(write));
         complete_write = write;
         print_two("write ", write, " is stored, with value ", value_of(write));
-        ask(&reader, WRITTEN, write, 0);
+        ask(&readers, WRITTEN, write, 0);
     }
     say_end();
     liblog_exit(0);
