@@ -5,7 +5,7 @@ ghost use Rattle.guest_process.specs.Seen.{plain, state_of};
 
 use crate::need::Need;
 use crate::parts::Parts;
-use lib_calls::BAD_ARGUMENTS as MINUS_ONE;
+use lib_calls::REFUSED;
 use signal_points::Handlers;
 
 // The number at which no function handles a signal.
@@ -18,7 +18,7 @@ impl<'m> Parts<'m> {
     {
         match self.handler_given(signal, number) {
             Some(_) => Need::Fixed(0),
-            None => Need::Fixed(MINUS_ONE),
+            None => Need::Fixed(REFUSED),
         }
     }
 

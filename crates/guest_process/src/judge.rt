@@ -15,7 +15,7 @@ use crate::threads::narrow;
 use crate::waiting::Waiting;
 use crate::world::{brings_nothing, is_drawn, is_empty, takes_datagram};
 use lamport_tag::is_next_clock;
-use lib_calls::{BAD_ARGUMENTS, Call, EntryView, Kind, good_arguments, is_outgoing};
+use lib_calls::{Call, EntryView, Kind, REFUSED, good_arguments, is_outgoing};
 use signal_points::Handlers;
 
 impl<'m> Parts<'m> {
@@ -46,7 +46,7 @@ impl<'m> Parts<'m> {
         if good_arguments(call, self.store.memory()) {
             Need::Fixed(reply)
         } else {
-            Need::Fixed(BAD_ARGUMENTS)
+            Need::Fixed(REFUSED)
         }
     }
 
@@ -57,7 +57,7 @@ impl<'m> Parts<'m> {
         if good_arguments(call, self.store.memory()) {
             Need::World
         } else {
-            Need::Fixed(BAD_ARGUMENTS)
+            Need::Fixed(REFUSED)
         }
     }
 

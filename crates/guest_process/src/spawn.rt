@@ -9,7 +9,7 @@ use crate::need::Need;
 use crate::parts::Parts;
 use crate::waiting::beginning;
 use coop_threads::SpawnError;
-use lib_calls::BAD_ARGUMENTS as MINUS_ONE;
+use lib_calls::REFUSED;
 use std::alloc::AllocError;
 use wasm_step::Strand;
 
@@ -24,7 +24,7 @@ impl<'m> Parts<'m> {
     {
         match self.spawnable(index) {
             Some(_) => Need::Fixed(u64::from(self.crew.made())),
-            None => Need::Fixed(MINUS_ONE),
+            None => Need::Fixed(REFUSED),
         }
     }
 

@@ -7,7 +7,7 @@ ghost use Rattle.guest_process.specs.Seen.{plain, state_of};
 use crate::need::Need;
 use crate::parts::Parts;
 use coop_threads::Status;
-use lib_calls::BAD_ARGUMENTS as MINUS_ONE;
+use lib_calls::REFUSED;
 use std::alloc::AllocError;
 
 /// An argument of 32 bits.
@@ -23,10 +23,10 @@ impl<'m> Parts<'m> {
         ensures { result ≡ plain (joined (state_of self.now) thread number) }
     {
         if number == u32::from(thread) {
-            return Need::Fixed(MINUS_ONE);
+            return Need::Fixed(REFUSED);
         }
         match self.status(number) {
-            Status::Unknown => Need::Fixed(MINUS_ONE),
+            Status::Unknown => Need::Fixed(REFUSED),
             Status::Live | Status::Taken => Need::Blocked,
             Status::Ended => Need::Fixed(0),
         }
@@ -50,7 +50,7 @@ impl<'m> Parts<'m> {
     {
         match self.crew.holder(m) {
             None => Need::Fixed(0),
-            Some(holder) if holder == thread => Need::Fixed(MINUS_ONE),
+            Some(holder) if holder == thread => Need::Fixed(REFUSED),
             Some(_) => Need::Blocked,
         }
     }
@@ -61,7 +61,7 @@ impl<'m> Parts<'m> {
     {
         match self.crew.holder(m) {
             Some(holder) if holder == thread => Need::Fixed(0),
-            _ => Need::Fixed(MINUS_ONE),
+            _ => Need::Fixed(REFUSED),
         }
     }
 

@@ -12,8 +12,8 @@ use guest_memory::Memory;
 use lamport_tag::Tag;
 use std::alloc::AllocError;
 
-/// The reply to bad arguments, -1 in 32 bits.
-pub const BAD_ARGUMENTS: u64 = 0xFFFF_FFFF;
+/// The reply to a call that is refused, -1 in 32 bits: its arguments are bad, or what it asks for cannot be.
+pub const REFUSED: u64 = 0xFFFF_FFFF;
 
 /// The reply of a try_recv that found no datagram, -2 in 32 bits.
 pub const NONE_THERE: u64 = 0xFFFF_FFFE;

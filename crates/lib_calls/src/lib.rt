@@ -9,7 +9,7 @@ mod memory;
 mod table;
 mod traffic;
 
-pub use answer::{BAD_ARGUMENTS, NONE_THERE, write_back};
+pub use answer::{NONE_THERE, REFUSED, write_back};
 pub use arguments::{good_arguments, is_outgoing, outgoing};
 pub use call_table::{Kind, Signature};
 pub use entry::{Call, Entry, EntryView};

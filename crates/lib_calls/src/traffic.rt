@@ -3,13 +3,9 @@ ghost use Rattle.std.specs.Prelude.{◌≡◌};
 ghost use Rattle.lib_calls.specs.Entry.{entry_of};
 ghost use Rattle.lib_calls.specs.Traffic.{drawn as drawn_of, draws_as, is_sent as is_sent_of, is_taken as is_taken_of, printed as printed_of, prints_as, sends_as, takes_as};
 
+use crate::answer::{NONE_THERE, REFUSED};
 use crate::entry::EntryView;
 use call_table::Kind;
-
-// The replies -1 and -2 of 32 bits.
-const MINUS_ONE: u64 = 0xFFFF_FFFF;
-
-const MINUS_TWO: u64 = 0xFFFF_FFFE;
 
 /// Whether the event sent a datagram into a group of `count`: a `send` with good arguments to one of its
 /// processes.
@@ -18,7 +14,7 @@ pub fn is_sent(entry: &EntryView<'_>, count: u32) -> bool
     ensures { result ≡ is_sent_of count (entry_of entry.now) }
 {
     match Kind::from_number(entry.call.kind) {
-        Some(Kind::Send) => entry.reply != MINUS_ONE && entry.call.a0 < u64::from(count),
+        Some(Kind::Send) => entry.reply != REFUSED && entry.call.a0 < u64::from(count),
         _ => false,
     }
 }
@@ -29,8 +25,8 @@ pub fn is_taken(entry: &EntryView<'_>) -> bool
     ensures { result ≡ is_taken_of (entry_of entry.now) }
 {
     match Kind::from_number(entry.call.kind) {
-        Some(Kind::Recv) => entry.reply != MINUS_ONE,
-        Some(Kind::TryRecv) => entry.reply != MINUS_ONE && entry.reply != MINUS_TWO,
+        Some(Kind::Recv) => entry.reply != REFUSED,
+        Some(Kind::TryRecv) => entry.reply != REFUSED && entry.reply != NONE_THERE,
         _ => false,
     }
 }
@@ -41,7 +37,7 @@ pub fn drawn(entry: &EntryView<'_>) -> usize
     ensures { result ≡ drawn_of (entry_of entry.now) }
 {
     match Kind::from_number(entry.call.kind) {
-        Some(Kind::Random) if entry.reply != MINUS_ONE => entry.incoming.len(),
+        Some(Kind::Random) if entry.reply != REFUSED => entry.incoming.len(),
         _ => 0,
     }
 }

@@ -11,7 +11,7 @@ use fri_bytes::Bytes;
 use fri_text::Text;
 use group_state::GroupEvent;
 use lamport_tag::write_tag;
-use lib_calls::{BAD_ARGUMENTS, EntryView, Kind, is_taken};
+use lib_calls::{EntryView, Kind, REFUSED, is_taken};
 use schedule_text::{Item, push_item};
 use std::alloc::{AllocError, Global};
 
@@ -50,7 +50,7 @@ fn random_item(
 ) -> Result<Option<Item>, AllocError>
     ensures { IfOk result (λ item. option_to_list item ≡ random_items process (entry_of entry.now)) }
 {
-    if entry.reply == BAD_ARGUMENTS {
+    if entry.reply == REFUSED {
         return Ok(None);
     }
     let bytes = Bytes::from_slice(alloc, entry.incoming)?;
