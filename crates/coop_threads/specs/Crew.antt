@@ -10,6 +10,10 @@ use Rattle.coop_threads.specs.declared.slot.Slot.{Slot}
 use Rattle.coop_threads.specs.declared.slot.Slot.TheVariants.{Kept, Lent, Over}
 use Rattle.coop_threads.specs.Locks.{Holders, holders_after}
 
+-- how many threads a process makes at most
+abbrev pub most_threads : ℕ
+most_threads = 64
+
 -- the threads that were made, in order, and who holds each lock that is held
 pub record Crew (T : Type 0) : Type 0 where
   pub threads : List (Slot T)

@@ -4,7 +4,7 @@ ghost use Rattle.std.specs.Option.{option_copied};
 ghost use Rattle.std.specs.Bool.{OnTrue, OnFalse};
 ghost use Rattle.coop_threads.specs.declared.slot.Slot.TheVariants.{Kept, Lent, Over};
 ghost use Rattle.coop_threads.specs.Locks.{grip_of};
-ghost use Rattle.coop_threads.specs.Crew.{empty, holder_of, IsTaken, live_at, returned, status_of, after_lock, with_live, with_slot, after_unlock};
+ghost use Rattle.coop_threads.specs.Crew.{empty, holder_of, IsTaken, live_at, most_threads, returned, status_of, after_lock, with_live, with_slot, after_unlock};
 
 use crate::copy_out::CopyOut;
 use crate::grip::Grip;
@@ -16,8 +16,8 @@ use std::alloc::{AllocError, Global};
 use std::marker::Model;
 use std::mem;
 
-// How many threads a process can make.
-const LIMIT: usize = 64;
+/// How many threads a process makes at most.
+pub const MOST_THREADS: u16 = 64;
 
 /// The threads of a process, which are numbered from 0, and the locks that they hold.
 #[derive(Debug, Drop)]
@@ -27,7 +27,7 @@ pub struct Crew<T> {
 }
 
 impl<T> Model for Crew<T> {
-    ghost use Rattle.coop_threads.specs.Crew.{Crew as Threads, crew_code};
+    ghost use Rattle.coop_threads.specs.Crew.{Crew as Threads, crew_code, most_threads};
     ghost use Rattle.std.specs.Prelude.{◌≤◌, length};
 
     ghost Value = { Threads T };
@@ -36,7 +36,7 @@ impl<T> Model for Crew<T> {
 
     ghost view = { λ crew. record { threads = crew.threads.items; holders = crew.locks } };
 
-    ghost invariant = { λ crew. length crew.threads.items ≤ 64 };
+    ghost invariant = { λ crew. length crew.threads.items ≤ most_threads };
 }
 
 impl<T> Crew<T> {
@@ -54,11 +54,11 @@ impl<T> Crew<T> {
     pub fn spawn(&mut self, value: T) -> Result<u16, SpawnError<T>>
         ensures number { IfOk result (λ thread. thread ≡ length self.old.threads) }
         ensures ok { OnOk result (self.new ≡ with_live self.old value) }
-        ensures full { (result ≡ Err (SpawnError.Full value)) ↔ (length self.old.threads ≡ 64) }
+        ensures full { (result ≡ Err (SpawnError.Full value)) ↔ (length self.old.threads ≡ most_threads) }
         ensures returned { IfErr result (λ e. returned e ≡ value) }
         ensures err { OnErr result (self.new ≡ self.old) }
     {
-        if self.threads.len() >= LIMIT {
+        if self.threads.len() >= usize::from(MOST_THREADS) {
             return Err(SpawnError::Full(value));
         }
         let number = self.threads.len() as u16;
@@ -138,7 +138,7 @@ impl<T> Crew<T> {
     /// How many threads were made.
     pub fn made(&self) -> u16
         ensures made { result ≡ length self.now.threads }
-        ensures few { result ≤ 64 }
+        ensures few { result ≤ most_threads }
     {
         self.threads.len() as u16
     }

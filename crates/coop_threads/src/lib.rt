@@ -11,7 +11,7 @@ mod spawn_error;
 mod status;
 
 pub use copy_out::CopyOut;
-pub use crew::Crew;
+pub use crew::{Crew, MOST_THREADS};
 pub use grip::Grip;
 pub use spawn_error::SpawnError;
 pub use status::Status;

@@ -2,6 +2,7 @@
 use Rattle.std.proofs.Common.{◌≡◌, ◌≢◌, ℕ, zero, suc, ◌+◌, ◌≤◌, Bool, true, false, cond, List, [], ◌∷◌, ◌++◌, ◌<◌, length, Option, Some, None, refl, ap, ◌∙◌, sym, subst, arith}
 use Rattle.std.specs.Prelude.{slice_get, slice_set}
 use Rattle.std.proofs.lemmas.List.{length-set}
+use Rattle.coop_threads.specs.Crew.{most_threads}
 use Rattle.coop_threads.specs.declared.slot.Slot.{Slot}
 use Rattle.coop_threads.specs.declared.slot.Slot.TheVariants.{Kept, Over}
 use Rattle.lib_calls.specs.declared.entry.Call.{Call}
@@ -33,7 +34,7 @@ pub record Affects (P : Waiting → Type 0) (S S' : State) : Type 0 where
   pub who : S'.who ≡ S.who
   pub count : S'.count ≡ S.count
   pub «module» : S'.store.«module» ≡ S.store.«module»
-  pub room : length S.crew.threads ≤ 64 → length S'.crew.threads ≤ 64
+  pub room : length S.crew.threads ≤ most_threads → length S'.crew.threads ≤ most_threads
   pub threads : Each P S'.crew.threads
   pub clock : S'.clock ≡ S.clock
   pub events : S'.events ≡ S.events
@@ -154,7 +155,7 @@ module _ (P : Waiting → Type 0) where
   each_more [] w f p = (p, tt)
   each_more (slot ∷ slots) w f p = (f.0, each_more slots w f.1 p)
 
-  made_affects : (S : State) (w : Waiting) → length S.crew.threads < 64 → Each P S.crew.threads → P w → Affects P S (with_new_thread S w)
+  made_affects : (S : State) (w : Waiting) → length S.crew.threads < most_threads → Each P S.crew.threads → P w → Affects P S (with_new_thread S w)
   made_affects S w room f p = record {
     who = refl;
     count = refl;

@@ -5,7 +5,7 @@ use Rattle.std.proofs.lemmas.Bool.{and_parts, and_from, or_cases, or_left, or_ri
 use Rattle.std.proofs.lemmas.Bool.Decides.{nat_tests}
 use Rattle.std.proofs.lemmas.List.{length-take, length-take-le}
 use Rattle.std.proofs.lemmas.Option.{same_Some}
-use Rattle.coop_threads.specs.Crew.{holder_of, status_of}
+use Rattle.coop_threads.specs.Crew.{holder_of, most_threads, status_of}
 use Rattle.coop_threads.specs.Locks.{grip_of}
 use Rattle.coop_threads.specs.declared.grip.Grip.{Grip}
 use Rattle.coop_threads.specs.declared.grip.Grip.TheVariants.{Got, Already, Held}
@@ -100,7 +100,7 @@ handled_fits S signal number = by_given (handler_given S signal number)
     by_given None = omega arith
     by_given (Some h) = omega arith
 
-spawned_fits : (S : State) (index arg : ℕ) → length S.crew.threads ≤ 64 → ReplyFits (spawned S index arg)
+spawned_fits : (S : State) (index arg : ℕ) → length S.crew.threads ≤ most_threads → ReplyFits (spawned S index arg)
 spawned_fits S index arg few = by_func (spawnable S index)
   where
     by_thread : (o : Option Thread) → ReplyFits (spawns S o)
@@ -111,7 +111,7 @@ spawned_fits S index arg few = by_func (spawnable S index)
     by_func None = omega arith
     by_func (Some f) = by_thread (new_thread S.store.«module» f arg)
 
-pub reply_fits : (k : Kind) (S : State) (t : ℕ) (c : Call) → StateFits S → t < 64 → HasArguments c → ReplyFits (need k S t c)
+pub reply_fits : (k : Kind) (S : State) (t : ℕ) (c : Call) → StateFits S → t < most_threads → HasArguments c → ReplyFits (need k S t c)
 reply_fits Begin S t c s low args = omega arith
 reply_fits Exit S t c s low args = omega arith
 reply_fits Note S t c s low args = omega arith

@@ -7,7 +7,7 @@ use Rattle.std.proofs.lemmas.Option.{same_Some}
 use Rattle.std.proofs.lemmas.Slice.Eq.{bytes_eq-Decides}
 use Rattle.call_table.specs.Numbers.{number_within}
 use Rattle.call_table.specs.Table.{kind_numbered, row}
-use Rattle.coop_threads.specs.Crew.{value_of}
+use Rattle.coop_threads.specs.Crew.{most_threads, value_of}
 use Rattle.coop_threads.specs.declared.slot.Slot.{Slot}
 use Rattle.lamport_tag.specs.declared.Tag.{Tag}
 use Rattle.lamport_tag.specs.Laws.{IsFromGroup, StaysUntagged}
@@ -121,7 +121,7 @@ one_at stays sent S t env s few f running (Some w) stands e h =
     let k = w.kind in
     let m = mapped (event S t env w) (answered_now (need k S t w.call) (from_world k S w.call env)) e h in
     let fits : WaitingFits w = live_has WaitingFits S.crew.threads t s.threads w stands in
-    let low : t < 64 = omega (arith, live_low S.crew.threads t w stands, s.room) in
+    let low : t < most_threads = omega (arith, live_low S.crew.threads t w stands, s.room) in
     let n = need k S t w.call in
     let holds = answered_holds stays sent k S t w.call env s.count f fits.kind n refl (reply_fits k S t w.call s low fits.arguments) m.0 m.1 in
     subst (Agrees S) m.2 (event_agrees S t w env s few running stands fits m.0 holds)

@@ -2,6 +2,7 @@
 use Rattle.std.proofs.Common.{[], ◌∷◌, ◌≡◌, ℕ, ◌<◌, ◌-◌, Bool, true, false, cond, length, Option, Some, None, refl, ap, sym, subst, ◌∙◌, arith}
 use Rattle.std.specs.Prelude.{nat_lt, slice_get}
 use Rattle.std.proofs.lemmas.Bool.{ltb-true}
+use Rattle.coop_threads.specs.Crew.{most_threads}
 use Rattle.wasm_types.specs.Functions.{imported_type, own_func, own_type}
 use Rattle.wasm_types.specs.Modules.{Func, FuncType, Module}
 use Rattle.wasm_step.specs.Store.{handler_at}
@@ -11,7 +12,7 @@ use Rattle.wasm_types.specs.declared.code.ValType.TheVariants as types
 use Rattle.wasm_types.specs.declared.code.Value.TheVariants.{I32}
 use Rattle.lib_calls.specs.Effects.{minus_one}
 use Rattle.guest_process.specs.declared.need.Need.TheVariants as plainly
-use Rattle.guest_process.specs.Answers.{Fixed, after_need, most_threads, spawnable, spawned, spawned_at, spawns}
+use Rattle.guest_process.specs.Answers.{Fixed, after_need, spawnable, spawned, spawned_at, spawns}
 use Rattle.guest_process.specs.Seen.{plain}
 use Rattle.guest_process.specs.Start.{waits}
 use Rattle.guest_process.specs.State.{State, with_new_thread}
@@ -26,7 +27,7 @@ spawnable_parts S index f h = by_test (nat_lt (length S.crew.threads) most_threa
     by_test true e h = (e, h)
     by_test false e h = cc
 
-pub has_room : (S : State) (index f : ℕ) → spawnable S index ≡ Some f → length S.crew.threads < 64
+pub has_room : (S : State) (index f : ℕ) → spawnable S index ≡ Some f → length S.crew.threads < most_threads
 has_room S index f h = ltb-true (length S.crew.threads) most_threads (spawnable_parts S index f h).0
 
 pub found_at : (S : State) (index f : ℕ) → spawnable S index ≡ Some f → handler_at S.store index ≡ Some f

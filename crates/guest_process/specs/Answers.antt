@@ -3,7 +3,7 @@ use Rattle.std.specs.Prelude.{ℕ, int_le, nat_le, nat_lt, ◌==◌, ◌&&◌, �
 use Rattle.std.specs.Int.{w32, w64, cast_signed}
 use Rattle.call_table.specs.declared.kind.Kind.{Kind}
 use Rattle.call_table.specs.declared.kind.Kind.TheVariants.{Begin, Exit, Note, Print, Now, SleepUntil, Random, Me, Send, Recv, TryRecv, Spawn, Yield, Join, Lock, Unlock, OnSignal, Thread}
-use Rattle.coop_threads.specs.Crew.{holder_of, status_of}
+use Rattle.coop_threads.specs.Crew.{holder_of, most_threads, status_of}
 use Rattle.coop_threads.specs.Locks.{grip_of}
 use Rattle.coop_threads.specs.declared.grip.Grip.{Grip}
 use Rattle.coop_threads.specs.declared.grip.Grip.TheVariants.{Got, Already, Held}
@@ -108,10 +108,6 @@ abbrev pub handled : State → ℕ → ℕ → Need
 handled S signal number = handles S signal (handler_given S signal number)
 
 -- ---- new threads
-
--- a process makes at most so many threads
-abbrev pub most_threads : ℕ
-most_threads = 64
 
 -- the function of this table index, where one more thread may be made and begin with it
 abbrev pub spawnable : State → ℕ → Option ℕ

@@ -4,12 +4,11 @@ use Rattle.std.proofs.lemmas.Option.{same_Some}
 use Rattle.std.specs.Prelude.{◌≡◌, ℕ, zero, suc, ◌+◌, ◌^◌, ◌<◌, ◌≤◌, List, [], ◌∷◌, length, slice_get, option_and_then, Some}
 use Rattle.guest_memory.specs.Stamps.{AreWithin}
 use Rattle.call_table.specs.Table.{kind_numbered}
-use Rattle.coop_threads.specs.Crew.{value_of}
+use Rattle.coop_threads.specs.Crew.{most_threads, value_of}
 use Rattle.coop_threads.specs.declared.slot.Slot.{Slot}
 use Rattle.coop_threads.specs.declared.slot.Slot.TheVariants.{Kept, Lent, Over}
 use Rattle.lib_calls.specs.Entry.{HasArguments}
 use Rattle.guest_process.specs.declared.waiting.Waiting.{Waiting}
-use Rattle.guest_process.specs.Answers.{most_threads}
 use Rattle.guest_process.specs.Live.{Env}
 use Rattle.guest_process.specs.State.{State}
 

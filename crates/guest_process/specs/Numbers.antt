@@ -1,10 +1,10 @@
 -- What a legal entry says in numbers.
 use Rattle.std.specs.Prelude.{◌≡◌, ◌<◌, ◌≤◌, length, IsTrue, Some, None}
+use Rattle.coop_threads.specs.Crew.{most_threads}
 use Rattle.lamport_tag.specs.declared.Tag.{Tag}
 use Rattle.lamport_tag.specs.Tag.{is_sendable, next_clock_of}
 use Rattle.lib_calls.specs.declared.entry.Entry.{Entry}
 use Rattle.lib_calls.specs.Traffic.{is_taken}
-use Rattle.guest_process.specs.Answers.{most_threads}
 use Rattle.guest_process.specs.Fits.{StateFits}
 use Rattle.guest_process.specs.Legal.{reason}
 use Rattle.guest_process.specs.State.{State}

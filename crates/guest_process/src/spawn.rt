@@ -1,5 +1,6 @@
 // How a process makes threads.
 ghost use Rattle.std.specs.Prelude.{◌≡◌, ◌<◌, OnOk, Some, length, ℕ};
+ghost use Rattle.coop_threads.specs.Crew.{most_threads};
 ghost use Rattle.wasm_types.specs.Modules.{module_of};
 ghost use Rattle.wasm_step.specs.Strand.{IsHandler};
 ghost use Rattle.guest_process.specs.Answers.{after_need, spawnable, spawned, spawned_at};
@@ -8,13 +9,10 @@ ghost use Rattle.guest_process.specs.Seen.{plain, state_of};
 use crate::need::Need;
 use crate::parts::Parts;
 use crate::waiting::beginning;
-use coop_threads::SpawnError;
+use coop_threads::{MOST_THREADS, SpawnError};
 use lib_calls::REFUSED;
 use std::alloc::AllocError;
 use wasm_step::Strand;
-
-// A process makes at most so many threads.
-const MOST_THREADS: u16 = 64;
 
 impl<'m> Parts<'m> {
     /// The reply where a thread is to begin with the function of this table index.
@@ -57,7 +55,7 @@ impl<'m> Parts<'m> {
     // Makes a thread that begins with this function.
     #[tactic(auto, using(crate::proofs::Spawning::begun))]
     fn begin(&mut self, func: u32, arg: u32) -> Result<(), AllocError>
-        requires room { length self.old.crew.threads < 64 }
+        requires room { length self.old.crew.threads < most_threads }
         requires same_module { module_of self.old.«module».now ≡ self.old.store.«module» }
         requires handler { IsHandler (module_of self.old.«module».now) func }
         ensures state { OnOk result (state_of self.new ≡ after_need (spawned_at (state_of self.old) arg (Some func)) (state_of self.old)) }
