@@ -3,6 +3,7 @@
 use Rattle.std.specs.Prelude.{◌≡◌, ℕ, ◌<◌, ◌≤◌, ◌^◌, IsTrue, All, List, [], ◌∷◌, length, slice_get, Some}
 use Rattle.schedule_text.specs.declared.item.Item.{Item}
 use Rattle.schedule_text.specs.Schedule.{IsInRange}
+use Rattle.signal_points.specs.Signals.{most_signal}
 use Rattle.guest_process.specs.Fits.{StateFits}
 use Rattle.guest_process.specs.Live.{Event}
 use Rattle.guest_process.specs.Replay.{replayed}
@@ -30,7 +31,7 @@ IsDone group early (world.Deliver p n) = (p < size group) × IsTrue (has_sent (s
 IsDone group early (world.Inject p bytes) = p < size group
 IsDone group early (world.Clock p value) = (p < size group) × (value < 2 ^ 64)
 IsDone group early (world.Random p bytes) = p < size group
-IsDone group early (world.Signal p signal) = (p < size group) × (1 ≤ signal) × (signal ≤ 31)
+IsDone group early (world.Signal p signal) = (p < size group) × (1 ≤ signal) × (signal ≤ most_signal)
 IsDone group early (world.Kill p) = (p < size group) × IsTrue (can_be_killed group early p)
 
 -- each step is one that could follow those before it

@@ -6,9 +6,10 @@ use Rattle.std.proofs.lemmas.List.{drop-append-le, drop-drop, get_or-replicate, 
 use Rattle.lib_calls.specs.declared.entry.Entry.{Entry}
 use Rattle.lib_calls.specs.Traffic.{drawn, is_sent, is_taken}
 use Rattle.lossy_net.specs.Network.{Traffic, no_traffic, nth_of, sent_by, traffic_of, with_delivered}
+use Rattle.signal_points.specs.Signals.{is_signal, most_signal}
 use Rattle.group_world.specs.History.{Act, Event, Deliver, Inject, Clock, Random, Signal, Kill, History, addressed, given, is_killed, is_pending, mailbox, nth, one_if, pool, put_last_if, sends, supplied, taken_count, time, used_count}
 use Rattle.group_world.specs.Laws.{CanBe, CanFollow, Counting, IsCounted, sent_as}
-use Rattle.group_world.specs.World.{Surroundings, World, after_entry, has_pending, is_signal, new_world, no_surroundings, sent_if, process_count, surroundings_of, took_if, with_act, without_signal, world_after}
+use Rattle.group_world.specs.World.{Surroundings, World, after_entry, has_pending, new_world, no_surroundings, sent_if, process_count, surroundings_of, took_if, with_act, without_signal, world_after}
 use Rattle.group_world.proofs.Lists.{put_last_is}
 use Rattle.group_world.proofs.NetLaws.{length-sent_if, length-took_if, length-with_delivered, nth_of-map, traffic_of-delivered, traffic_of-event, traffic_of-new, traffic_of-waiting}
 
@@ -124,14 +125,14 @@ set_at pending n s is within = ⊎_elim
     ∙ ap (λ b. if b then is else get_or pending s false) (sym (ne_eqb n s other)))
     (cases_eq n s)
 
-is_signal-within : (s : ℕ) → 1 ≤ s → s ≤ 31 → is_signal s ≡ true
-is_signal-within s first last = and_from (nat_le 1 s) (nat_le s 31) (le-leb 1 s first) (le-leb s 31 last)
+is_signal-within : (s : ℕ) → 1 ≤ s → s ≤ most_signal → is_signal s ≡ true
+is_signal-within s first last = and_from (nat_le 1 s) (nat_le s most_signal) (le-leb 1 s first) (le-leb s most_signal last)
 
 -- a number that is no signal's is another than that of a signal
-no_signal : (n s : ℕ) → 1 ≤ s → s ≤ 31 → is_signal n ≡ false → (n == s) ≡ false
+no_signal : (n s : ℕ) → 1 ≤ s → s ≤ most_signal → is_signal n ≡ false → (n == s) ≡ false
 no_signal n s first last none = ne_eqb n s (λ same. true≢false (sym (is_signal-within s first last) ∙ ap is_signal (sym same) ∙ none))
 
-without_at : (pending : List Bool) (n s : ℕ) → 1 ≤ s → s ≤ 31 → length pending ≡ 32 → get_or (without_signal pending n) s false ≡ (if n == s then false else get_or pending s false)
+without_at : (pending : List Bool) (n s : ℕ) → 1 ≤ s → s ≤ most_signal → length pending ≡ 32 → get_or (without_signal pending n) s false ≡ (if n == s then false else get_or pending s false)
 without_at pending n s first last all = ⊎_elim
     (λ signal. ap (λ b. get_or (if b then slice_set pending n false else pending) s false) signal ∙ set_at pending n s false (omega (arith, last, all)))
     (λ none. ap (λ b. get_or (if b then slice_set pending n false else pending) s false) none
@@ -188,7 +189,7 @@ if_raised : (mine before : Bool) (place : Surroundings) (n s : ℕ) → s < leng
 if_raised true before place n s within is = set_at place.pending n s true within ∙ ap (λ b. if n == s then true else b) is
 if_raised false before place n s within is = is
 
-if_delivered : (mine before : Bool) (place : Surroundings) (e : Entry) (s : ℕ) → 1 ≤ s → s ≤ 31 → length place.pending ≡ 32 → get_or place.pending s false ≡ before
+if_delivered : (mine before : Bool) (place : Surroundings) (e : Entry) (s : ℕ) → 1 ≤ s → s ≤ most_signal → length place.pending ≡ 32 → get_or place.pending s false ≡ before
     → get_or (if mine then after_entry place e else place).pending s false ≡ (if mine && (e.signal == s) then false else before)
 if_delivered true before place e s first last all is = without_at place.pending e.signal s first last all ∙ ap (λ b. if e.signal == s then false else b) is
 if_delivered false before place e s first last all is = is

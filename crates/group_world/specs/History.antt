@@ -6,7 +6,7 @@ use Rattle.lib_calls.specs.Traffic.{drawn, is_sent, is_taken}
 
 -- an event of a process, by its entry; the delivery of a datagram of the process by its number, from 1; a
 -- datagram from outside for the process; its wall time, as the bits of a signed number of 64 bits; random
--- bytes for it; a signal, from 1 to 31, that is now pending at it; or its end by `kill`
+-- bytes for it; a signal that is now pending at it; or its end by `kill`
 pub data Act : Type 0 where
   Event : (process : ℕ) → (entry : Entry) → Act
   Deliver : (process : ℕ) → (number : ℕ) → Act

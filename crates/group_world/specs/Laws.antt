@@ -5,6 +5,7 @@ use Rattle.lamport_tag.specs.Tag.{read_datagram}
 use Rattle.lib_calls.specs.declared.entry.Entry.{Entry}
 use Rattle.lib_calls.specs.Traffic.{drawn, is_taken}
 use Rattle.lossy_net.specs.Network.{Sent, mailbox_of, sent_by}
+use Rattle.signal_points.specs.Signals.{most_signal}
 use Rattle.group_world.specs.History.{Act, Event, Deliver, Inject, Clock, Random, Signal, Kill, History, addressed, datagram, given, is_killed, is_pending, mailbox, nth, pool, sends, taken_count, time}
 use Rattle.group_world.specs.World.{World, has_pending, surroundings_of, world_after}
 
@@ -21,7 +22,7 @@ CanFollow count h (Deliver p n) = p < count
 CanFollow count h (Inject p bytes) = p < count
 CanFollow count h (Clock p value) = p < count
 CanFollow count h (Random p bytes) = p < count
-CanFollow count h (Signal p signal) = (p < count) × (1 ≤ signal) × (signal ≤ 31)
+CanFollow count h (Signal p signal) = (p < count) × (1 ≤ signal) × (signal ≤ most_signal)
 CanFollow count h (Kill p) = p < count
 
 -- each act is one that can follow those before it
@@ -41,7 +42,7 @@ pub record IsCounted (count : ℕ) (h : History) (w : World) (p : ℕ) : Type 0 
   pub mailbox : mailbox_of w.net p ≡ mailbox count h p
   pub pool : (surroundings_of w p).pool ≡ pool h p
   pub time : (surroundings_of w p).time ≡ time h p
-  pub pending : (signal : ℕ) → 1 ≤ signal → signal ≤ 31 → has_pending w p signal ≡ is_pending h p signal
+  pub pending : (signal : ℕ) → 1 ≤ signal → signal ≤ most_signal → has_pending w p signal ≡ is_pending h p signal
   pub killed : (surroundings_of w p).killed ≡ is_killed h p
 
 -- the size of the world stays, and what is kept around each process is what is counted

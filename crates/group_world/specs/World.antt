@@ -1,10 +1,10 @@
 -- The world around the processes of a group, as it is kept, and what each act makes of it.
-use Rattle.std.specs.Prelude.{ℕ, Bool, true, false, ◌&&◌, nat_le, List, [], ◌∷◌, ◌++◌, drop, length, replicate, slice_set, if◌then◌else◌}
+use Rattle.std.specs.Prelude.{ℕ, Bool, true, false, List, [], ◌∷◌, ◌++◌, drop, length, replicate, slice_set, if◌then◌else◌}
 use Rattle.std.specs.List.{slice_index_or}
 use Rattle.lib_calls.specs.declared.entry.Entry.{Entry}
 use Rattle.lib_calls.specs.Traffic.{drawn, is_sent, is_taken}
 use Rattle.lossy_net.specs.Network.{Traffic, no_traffic, nth_of, sent_by, with_delivered, with_sent, with_waiting, without_front}
-use Rattle.signal_points.specs.Signals.{is_pending_in, none_pending, with_pending}
+use Rattle.signal_points.specs.Signals.{is_pending_in, is_signal, none_pending, with_pending}
 use Rattle.group_world.specs.History.{Act, Event, Deliver, Inject, Clock, Random, Signal, Kill, History, datagram}
 
 -- what stands around one process beside its datagrams: the random bytes that are left, the wall time as the
@@ -50,10 +50,6 @@ sent_if sent net p e = if sent then with_sent net p (record { to = e.call.a0; by
 
 abbrev pub drew : Surroundings → ℕ → Surroundings
 drew place n = record place { pool = drop n place.pool }
-
--- signals are numbered from 1 to 31, and another number is none
-abbrev pub is_signal : ℕ → Bool
-is_signal signal = nat_le 1 signal && nat_le signal 31
 
 -- the signal, if it is one, is pending no longer
 abbrev pub without_signal : List Bool → ℕ → List Bool

@@ -2,11 +2,11 @@
 ghost use Rattle.std.specs.Prelude.{◌≡◌, ◌↔◌, ℕ, ◌++◌, ◌≤◌, length, true, false, IsTrue, OnOk, OnErr};
 ghost use Rattle.lib_calls.specs.Entry.{entry_of};
 ghost use Rattle.lib_calls.specs.Traffic.{drawn as drawn_of};
-ghost use Rattle.signal_points.specs.Signals.{is_pending_in, with_pending};
+ghost use Rattle.signal_points.specs.Signals.{is_pending_in, most_signal, with_pending};
 ghost use Rattle.group_world.specs.World.{after_entry, no_surroundings};
 
 use lib_calls::{EntryView, drawn};
-use signal_points::Pending;
+use signal_points::{MOST_SIGNAL, Pending};
 use std::alloc::{AllocError, Global};
 use std::marker::Model;
 
@@ -65,7 +65,7 @@ impl Surroundings {
     /// Makes the signal pending.
     pub(crate) fn raise(&mut self, signal: u8)
         requires first { 1 ≤ signal }
-        requires last { signal ≤ 31 }
+        requires last { signal ≤ most_signal }
         ensures { self.new ≡ record self.old { pending = with_pending self.old.pending signal true } }
     {
         self.pending.raise(signal);
@@ -74,7 +74,7 @@ impl Surroundings {
     /// Whether the signal is pending.
     pub(crate) fn is_pending(&self, signal: u8) -> bool
         requires first { 1 ≤ signal }
-        requires last { signal ≤ 31 }
+        requires last { signal ≤ most_signal }
         ensures { result ≡ is_pending_in self.now.pending signal }
     {
         self.pending.has(signal)
@@ -93,7 +93,7 @@ impl Surroundings {
         ensures { self.new ≡ after_entry self.old (entry_of entry.now) }
     {
         self.used += drawn(entry);
-        if (1..=31).contains(&entry.signal) {
+        if (1..=MOST_SIGNAL).contains(&entry.signal) {
             self.pending.clear(entry.signal);
         }
     }

@@ -3,6 +3,7 @@ ghost use Rattle.std.specs.Prelude.{◌≡◌, ◌↔◌, ℕ, ◌<◌, ◌≤�
 ghost use Rattle.lib_calls.specs.Entry.{entry_of};
 ghost use Rattle.lib_calls.specs.Traffic.{drawn as drawn_of, is_sent as is_sent_of, is_taken as is_taken_of};
 ghost use Rattle.lossy_net.specs.Network.{front_of, mailbox_of, nth_of, sent_by};
+ghost use Rattle.signal_points.specs.Signals.{most_signal};
 ghost use Rattle.group_world.specs.History.{Event, Deliver, Inject, Clock, Random, Signal, Kill, datagram as datagram_of};
 ghost use Rattle.group_world.specs.World.{has_pending, new_world, sent_if, process_count, surroundings_of, took_if, with_act};
 
@@ -82,7 +83,7 @@ impl World {
     pub fn is_pending(&self, p: u32, signal: u8) -> bool
         requires process { p < process_count self.now }
         requires first { 1 ≤ signal }
-        requires last { signal ≤ 31 }
+        requires last { signal ≤ most_signal }
         ensures { result ≡ has_pending self.now p signal }
     {
         self.surroundings[p as usize].is_pending(signal)
@@ -197,7 +198,7 @@ impl World {
     pub fn raise(&mut self, p: u32, signal: u8)
         requires process { p < process_count self.old }
         requires first { 1 ≤ signal }
-        requires last { signal ≤ 31 }
+        requires last { signal ≤ most_signal }
         ensures value { self.new ≡ with_act self.old (Signal p signal) }
         ensures size { process_count self.new ≡ process_count self.old }
     {

@@ -16,6 +16,7 @@ use Rattle.lib_calls.specs.declared.entry.Entry.{Entry}
 use Rattle.lib_calls.specs.Answer.{Answer, answer_of}
 use Rattle.lib_calls.specs.Effects.{is_good, minus_one, minus_two, outgoing_of, takes_counted}
 use Rattle.lib_calls.specs.Traffic.{is_taken, takes_as}
+use Rattle.signal_points.specs.Signals.{most_signal}
 use Rattle.guest_process.specs.declared.waiting.Waiting.{Waiting}
 use Rattle.guest_process.specs.Answers.{Need, Fixed, Blocked, World, asked, brings_nothing, effects, is_drawn, is_due, is_empty, is_payload, is_possible, need, takes_datagram}
 use Rattle.guest_process.specs.Fits.{StateFits}
@@ -38,12 +39,12 @@ live_made [] t w h = cc
 live_made (slot ∷ slots) zero w h = omega arith
 live_made (slot ∷ slots) (suc t) w h = omega (arith, live_made slots t w h)
 
-handled_low : (k : Kind) (handlers : List (Option ℕ)) (signal : ℕ) → is_handled k handlers signal ≡ true → signal ≤ 31
-handled_low k handlers signal h = elim (or_cases (signal == 0) (not (ends_process k) && (nat_le signal 31 && is_some (handler handlers signal))) h) [
+handled_low : (k : Kind) (handlers : List (Option ℕ)) (signal : ℕ) → is_handled k handlers signal ≡ true → signal ≤ most_signal
+handled_low k handlers signal h = elim (or_cases (signal == 0) (not (ends_process k) && (nat_le signal most_signal && is_some (handler handlers signal))) h) [
   | inl none ↦ omega (arith, eqb-true signal 0 none)
   | inr some ↦
-      let low = and_parts (not (ends_process k)) (nat_le signal 31 && is_some (handler handlers signal)) some in
-      leb-true signal 31 (and_parts (nat_le signal 31) (is_some (handler handlers signal)) low.1).0
+      let low = and_parts (not (ends_process k)) (nat_le signal most_signal && is_some (handler handlers signal)) some in
+      leb-true signal most_signal (and_parts (nat_le signal most_signal) (is_some (handler handlers signal)) low.1).0
 ]
 
 -- ---- what comes in

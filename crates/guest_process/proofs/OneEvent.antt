@@ -17,6 +17,7 @@ use Rattle.lib_calls.specs.Effects.{outgoing_of}
 use Rattle.lib_calls.specs.Entry.{IsStringIf, IsTagIf}
 use Rattle.lib_calls.specs.Kinds.{has_incoming, has_tag}
 use Rattle.call_table.specs.declared.kind.Kind.{Kind}
+use Rattle.signal_points.specs.Signals.{most_signal}
 use Rattle.guest_process.specs.declared.waiting.Waiting.{Waiting}
 use Rattle.guest_process.specs.Answers.{Need, Fixed, Blocked, World, need, is_possible, with_answer, after_need, effects}
 use Rattle.guest_process.specs.Fits.{EnvFits, StateFits, WaitingFits, live_has}
@@ -59,21 +60,21 @@ answered_holds stays sent k S t c env few e is World need_is fits a h =
     let m = world_matches stays sent k S t c env few e is need_is a h in
     record { possible = m.possible; same = m.same; reply = m.reply; incoming = m.incoming; tag = m.tag; clock = m.clock }
 
-handled_at : (p : ℕ → Bool) (pending : Bool) (s : ℕ) → (pending && p s) ≡ true → s < 1 + 31 → ((s == 0) || (true && (nat_le s 31 && p s))) ≡ true
-handled_at p pending s h low = or_right _ _ (and_from _ _ (le-leb' s 31 (omega arith)) (and_parts _ _ h).1)
+handled_at : (p : ℕ → Bool) (pending : Bool) (s : ℕ) → (pending && p s) ≡ true → s < 1 + most_signal → ((s == 0) || (true && (nat_le s most_signal && p s))) ≡ true
+handled_at p pending s h low = or_right _ _ (and_from _ _ (le-leb' s most_signal (omega arith)) (and_parts _ _ h).1)
 
-handled_by : (p q : ℕ → Bool) (b : Bool) (n : ℕ) → n ≡ cond b 0 (lowest (λ s. q s && p s) 31 1) → ((n == 0) || (not b && (nat_le n 31 && p n))) ≡ true
+handled_by : (p q : ℕ → Bool) (b : Bool) (n : ℕ) → n ≡ cond b 0 (lowest (λ s. q s && p s) most_signal 1) → ((n == 0) || (not b && (nat_le n most_signal && p n))) ≡ true
 handled_by p q true n is = rw is refl
 handled_by p q false n is =
-    rw is (elim (lowest_holds (λ s. q s && p s) 31 1) [ inl h ↦ rw h refl | inr h ↦ handled_at p (q (lowest (λ s. q s && p s) 31 1)) (lowest (λ s. q s && p s) 31 1) h.0 h.1 ])
+    rw is (elim (lowest_holds (λ s. q s && p s) most_signal 1) [ inl h ↦ rw h refl | inr h ↦ handled_at p (q (lowest (λ s. q s && p s) most_signal 1)) (lowest (λ s. q s && p s) most_signal 1) h.0 h.1 ])
 
 chosen_handled : (k : Kind) (handlers : List (Option ℕ)) (pending : ℕ → Bool) → is_handled k handlers (chosen_signal k handlers pending) ≡ true
 chosen_handled k handlers pending =
     handled_by (λ s. is_some (handler handlers s)) pending (ends_process k) (chosen_signal k handlers pending) refl
 
-chosen_low : (p : ℕ → Bool) (b : Bool) → cond b 0 (lowest p 31 1) < 2 ^ 8
+chosen_low : (p : ℕ → Bool) (b : Bool) → cond b 0 (lowest p most_signal 1) < 2 ^ 8
 chosen_low p true = omega arith
-chosen_low p false = elim (lowest_holds p 31 1) [ inl h ↦ omega arith | inr h ↦ omega (arith, h.1) ]
+chosen_low p false = elim (lowest_holds p most_signal 1) [ inl h ↦ omega arith | inr h ↦ omega (arith, h.1) ]
 
 -- what the table says of a kind, it says of its number
 incoming_fits : (number : ℕ) (k : Kind) (bytes : List ℕ) → kind_numbered number ≡ Some k → IsStringIf (row k).entry.incoming bytes → IsStringIf (has_incoming number) bytes

@@ -8,7 +8,7 @@ use Rattle.call_table.specs.declared.kind.Kind.{Kind}
 use Rattle.call_table.specs.declared.kind.Kind.TheVariants.{OnSignal}
 use Rattle.lib_calls.specs.Answer.{Answer}
 use Rattle.lib_calls.specs.declared.entry.Call.{Call}
-use Rattle.signal_points.specs.Signals.{handler_of, with_handler}
+use Rattle.signal_points.specs.Signals.{handler_of, is_signal, with_handler}
 use Rattle.wasm_types.specs.declared.code.ValType.{ValType}
 use Rattle.wasm_types.specs.declared.code.ValType.TheVariants as types
 use Rattle.wasm_types.specs.Functions.{type_of}
@@ -102,7 +102,7 @@ named_is store number f h = by_test (number == removal) h
     by_test false h = by_found (handler_at store number) refl h
 
 pub given_is : (S : State) (signal number f : ℕ) → handler_given S signal number ≡ Some (Some f) → IsHandler S.store.«module» f
-given_is S signal number f h = by_test (nat_le 1 signal && nat_le signal 31) h
+given_is S signal number f h = by_test (is_signal signal) h
   where
     by_test : (b : Bool) → cond b (handler_named S.store number) None ≡ Some (Some f) → IsHandler S.store.«module» f
     by_test true h = named_is S.store number f h

@@ -15,6 +15,7 @@ use Rattle.lib_calls.specs.declared.entry.Call.{Call}
 use Rattle.lib_calls.specs.declared.entry.Entry.{Entry}
 use Rattle.lib_calls.specs.Answer.{Answer, answer_of}
 use Rattle.lib_calls.specs.Effects.{with_incoming, is_good, minus_one, minus_two, outgoing_of, received, takes_counted}
+use Rattle.signal_points.specs.Signals.{most_signal}
 use Rattle.guest_process.specs.declared.waiting.Waiting.{Waiting}
 use Rattle.guest_process.specs.Answers.{Need, Fixed, Blocked, World, after_need, effects, is_drawn, is_due, is_empty, is_payload, brings_nothing, is_possible, takes_datagram, need, replies, with_answer}
 use Rattle.guest_process.specs.GoesOn.{goes_on, handler}
@@ -195,16 +196,16 @@ lowest_is q signal (suc n) s low high is = by_test (s == signal) refl (λ more. 
     by_test true e rest = let same = eqb-true s signal e in given (q s) _ _ (ap q same ∙ is) ∙ same
     by_test false e rest = rest (omega (arith, low, eqb-false s signal e))
 
-chosen_by : (p : ℕ → Bool) (signal : ℕ) (ends : Bool) → ((signal == 0) || (not ends && (nat_le signal 31 && p signal))) ≡ true → cond ends 0 (lowest (only signal p) 31 1) ≡ signal
+chosen_by : (p : ℕ → Bool) (signal : ℕ) (ends : Bool) → ((signal == 0) || (not ends && (nat_le signal most_signal && p signal))) ≡ true → cond ends 0 (lowest (only signal p) most_signal 1) ≡ signal
 chosen_by p signal ends h = by_test ends (signal == 0) refl h
   where
-    by_test : (ends none : Bool) → (signal == 0) ≡ none → (none || (not ends && (nat_le signal 31 && p signal))) ≡ true → cond ends 0 (lowest (only signal p) 31 1) ≡ signal
+    by_test : (ends none : Bool) → (signal == 0) ≡ none → (none || (not ends && (nat_le signal most_signal && p signal))) ≡ true → cond ends 0 (lowest (only signal p) most_signal 1) ≡ signal
     by_test true true e h = sym (eqb-true signal 0 e)
     by_test true false e h = cc
-    by_test false true e h = let is = eqb-true signal 0 e in lowest_past p signal 31 1 (omega (arith, is)) ∙ sym is
+    by_test false true e h = let is = eqb-true signal 0 e in lowest_past p signal most_signal 1 (omega (arith, is)) ∙ sym is
     by_test false false e h =
-        let parts = and_parts (nat_le signal 31) (p signal) h in
-        lowest_is p signal 31 1 (omega (arith, eqb-false signal 0 e)) (omega (arith, leb-true signal 31 parts.0)) parts.1
+        let parts = and_parts (nat_le signal most_signal) (p signal) h in
+        lowest_is p signal most_signal 1 (omega (arith, eqb-false signal 0 e)) (omega (arith, leb-true signal most_signal parts.0)) parts.1
 
 lowest_same : (p q : ℕ → Bool) (n s : ℕ) → ((r : ℕ) → s ≤ r → r < s + n → p r ≡ q r) → lowest p n s ≡ lowest q n s
 unfolding lowest
@@ -213,10 +214,10 @@ lowest_same p q (suc n) s same =
     ap (λ b. cond b s (lowest p n (s + 1))) (same s (omega arith) (omega arith))
     ∙ ap (λ m. cond (q s) s m) (lowest_same p q n (s + 1) (λ r low high. same r (omega (arith, low)) (omega (arith, high))))
 
-chosen_is : (k : Kind) (handlers : List (Option ℕ)) (signal : ℕ) (pending : ℕ → Bool) → ((s : ℕ) → 1 ≤ s → s < 1 + 31 → pending s ≡ (s == signal)) → is_handled k handlers signal ≡ true → chosen_signal k handlers pending ≡ signal
+chosen_is : (k : Kind) (handlers : List (Option ℕ)) (signal : ℕ) (pending : ℕ → Bool) → ((s : ℕ) → 1 ≤ s → s < 1 + most_signal → pending s ≡ (s == signal)) → is_handled k handlers signal ≡ true → chosen_signal k handlers pending ≡ signal
 chosen_is k handlers signal pending only_it h =
     let q : ℕ → Bool = λ s. is_some (handler handlers s) in
-    ap (λ n. cond (ends_process k) 0 n) (lowest_same (λ s. pending s && q s) (only signal q) 31 1 (λ s low high. ap (λ b. b && q s) (only_it s low high)))
+    ap (λ n. cond (ends_process k) 0 n) (lowest_same (λ s. pending s && q s) (only signal q) most_signal 1 (λ s low high. ap (λ b. b && q s) (only_it s low high)))
     ∙ chosen_by q signal (ends_process k) h
 
 -- ---- the event

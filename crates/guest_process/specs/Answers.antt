@@ -15,7 +15,7 @@ use Rattle.lamport_tag.specs.Tag.{is_sendable, tag_at}
 use Rattle.lib_calls.specs.declared.entry.Call.{Call}
 use Rattle.lib_calls.specs.Answer.{Answer}
 use Rattle.lib_calls.specs.Effects.{is_good, minus_one, minus_two, takes_counted, written as memory_with}
-use Rattle.signal_points.specs.Signals.{with_handler}
+use Rattle.signal_points.specs.Signals.{is_signal, with_handler}
 use Rattle.wasm_step.specs.Store.{Store, handler_at}
 use Rattle.wasm_step.specs.Strand.{new_thread}
 use Rattle.wasm_step.specs.Thread as stack
@@ -91,13 +91,9 @@ removal = 2 ^ 32 - 1
 abbrev pub handler_named : Store → ℕ → Option (Option ℕ)
 handler_named store number = if number == removal then Some None else option_map (λ func. Some func) (handler_at store number)
 
--- signals are numbered from 1 to 31
-abbrev pub is_signal_number : ℕ → Bool
-is_signal_number signal = nat_le 1 signal && nat_le signal 31
-
 -- the handler, or none, that a call gives a signal with this number, where there is that signal
 abbrev pub handler_given : State → ℕ → ℕ → Option (Option ℕ)
-handler_given S signal number = if is_signal_number signal then handler_named S.store number else None
+handler_given S signal number = if is_signal signal then handler_named S.store number else None
 
 abbrev pub handles : State → ℕ → Option (Option ℕ) → Need
 handles S signal None = Fixed minus_one S

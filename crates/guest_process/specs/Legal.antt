@@ -6,6 +6,7 @@ use Rattle.lib_calls.specs.declared.entry.Call.{Call}
 use Rattle.lib_calls.specs.declared.entry.Entry.{Entry}
 use Rattle.lib_calls.specs.Answer.{Answer, answer_of}
 use Rattle.lib_calls.specs.Effects.{outgoing_of}
+use Rattle.signal_points.specs.Signals.{most_signal}
 use Rattle.guest_process.specs.declared.divergence.Divergence.{Divergence}
 use Rattle.guest_process.specs.declared.divergence.Divergence.TheVariants.{AfterEnd, NoThread, OtherCall, OtherArguments, OtherBytes, OtherReply, NoHandler, OtherClock}
 use Rattle.guest_process.specs.declared.waiting.Waiting.{Waiting}
@@ -26,7 +27,7 @@ gives_answer World a from_world = from_world
 -- no signal, or one that is handled in the state after the answer
 abbrev pub is_handled : Kind → List (Option ℕ) → ℕ → Bool
 is_handled kind handlers signal =
-    (signal == 0) || (not (ends_process kind) && (nat_le signal 31 && is_some (handler handlers signal)))
+    (signal == 0) || (not (ends_process kind) && (nat_le signal most_signal && is_some (handler handlers signal)))
 
 -- what is judged of an entry at the pending call, in the order of the reasons
 pub record Checks : Type 0 where

@@ -8,6 +8,7 @@ use Rattle.lib_calls.specs.declared.entry.Call.{Call}
 use Rattle.lib_calls.specs.declared.entry.Entry.{Entry}
 use Rattle.lib_calls.specs.Answer.{Answer}
 use Rattle.lib_calls.specs.Effects.{with_incoming, minus_two, outgoing_of, received}
+use Rattle.signal_points.specs.Signals.{most_signal}
 use Rattle.guest_process.specs.declared.waiting.Waiting.{Waiting}
 use Rattle.guest_process.specs.Answers.{Need, Fixed, Blocked, World, need, replies, is_due}
 use Rattle.guest_process.specs.GoesOn.{goes_on, handler}
@@ -78,7 +79,7 @@ lowest p (suc n) s = if p s then s else lowest p n (s + 1)
 -- the lowest signal that is pending and has a handler, or 0; none is delivered where the process ends
 abbrev pub chosen_signal : Kind → List (Option ℕ) → (ℕ → Bool) → ℕ
 chosen_signal kind handlers pending =
-    if ends_process kind then 0 else lowest (λ s. pending s && is_some (handler handlers s)) 31 1
+    if ends_process kind then 0 else lowest (λ s. pending s && is_some (handler handlers s)) most_signal 1
 
 -- an event: the state after it, and its entry
 pub record Event : Type 0 where

@@ -5,6 +5,7 @@ use Rattle.lamport_tag.specs.declared.Tag.{Tag}
 use Rattle.lamport_tag.specs.Tag.{is_sendable, next_clock_of}
 use Rattle.lib_calls.specs.declared.entry.Entry.{Entry}
 use Rattle.lib_calls.specs.Traffic.{is_taken}
+use Rattle.signal_points.specs.Signals.{most_signal}
 use Rattle.guest_process.specs.Fits.{StateFits}
 use Rattle.guest_process.specs.Legal.{reason}
 use Rattle.guest_process.specs.State.{State}
@@ -14,7 +15,7 @@ use Rattle.guest_process.specs.State.{State}
 -- counts.
 pub record HasNumbers (S : State) (e : Entry) : Type 0 where
   pub thread : e.thread < most_threads
-  pub signal : e.signal ≤ 31
+  pub signal : e.signal ≤ most_signal
   pub outgoing : length e.outgoing ≤ 60000
   pub incoming : length e.incoming ≤ 60000
   pub clock : e.clock ≡ next_clock_of S.clock e.tag

@@ -10,6 +10,7 @@ use Rattle.lib_calls.specs.Effects.{minus_one, minus_two}
 use Rattle.lamport_tag.specs.Tag.{clock_of, tag_bytes}
 use Rattle.lib_calls.specs.Entry.{IsShaped}
 use Rattle.lib_calls.specs.declared.entry.Entry.{Entry}
+use Rattle.signal_points.specs.Signals.{most_signal}
 use Rattle.wasm_types.specs.Modules.{Module}
 use Rattle.wasm_types.specs.Valid.{IsValid}
 use Rattle.guest_process.specs.Fits.{StateFits, EnvFits}
@@ -61,7 +62,7 @@ Brings _ a env = Unit {0}
 pub record Supplies (e : Entry) (env : Env) : Type 0 where
   pub alive : env.killed ≡ false
   pub brings : Brings (kind_numbered e.call.kind) (answer_of e) env
-  pub signals : (s : ℕ) → 1 ≤ s → s < 1 + 31 → env.pending s ≡ (s == e.signal)
+  pub signals : (s : ℕ) → 1 ≤ s → s < 1 + most_signal → env.pending s ≡ (s == e.signal)
 
 -- the mailbox out of which an answer to a call of this kind takes what it tells
 abbrev pub mailbox_for : Option Kind → Answer → List (List ℕ)

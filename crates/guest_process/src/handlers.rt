@@ -1,12 +1,13 @@
 // How calls set the handlers of signals.
 ghost use Rattle.std.specs.Prelude.{◌≡◌, IfSome, IsTrue};
-ghost use Rattle.guest_process.specs.Answers.{after_need, handled, handler_given, handler_named, is_signal_number};
+ghost use Rattle.signal_points.specs.Signals.{is_signal};
+ghost use Rattle.guest_process.specs.Answers.{after_need, handled, handler_given, handler_named};
 ghost use Rattle.guest_process.specs.Seen.{plain, state_of};
 
 use crate::need::Need;
 use crate::parts::Parts;
 use lib_calls::REFUSED;
-use signal_points::Handlers;
+use signal_points::{Handlers, MOST_SIGNAL};
 
 // The number at which no function handles a signal.
 const REMOVAL: u32 = 0xFFFF_FFFF;
@@ -46,9 +47,9 @@ impl<'m> Parts<'m> {
     // The handler, or none, that a call gives a signal with this number, where there is that signal.
     fn handler_given(&self, signal: u32, number: u32) -> Option<Option<u32>>
         ensures given { result ≡ handler_given (state_of self.now) signal number }
-        ensures signal { IfSome result (λ _. IsTrue (is_signal_number signal)) }
+        ensures signal { IfSome result (λ _. IsTrue (is_signal signal)) }
     {
-        if 1 <= signal && signal <= 31 {
+        if 1 <= signal && signal <= u32::from(MOST_SIGNAL) {
             self.handler_named(number)
         } else {
             None

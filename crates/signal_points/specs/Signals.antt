@@ -1,7 +1,15 @@
--- The handlers and the pending signals of a process, as lists by the signal's number. Signals are
--- numbered from 1 to 31, and the place of 0 stays empty.
-use Rattle.std.specs.Prelude.{ℕ, Bool, false, List, replicate, slice_set, Option, None}
+-- The numbers of signals, and the handlers and the pending signals of a process, as lists by the signal's number. The
+-- place of 0 stays empty.
+use Rattle.std.specs.Prelude.{ℕ, Bool, false, ◌&&◌, nat_le, List, replicate, slice_set, Option, None}
 use Rattle.std.specs.List.{list_any, slice_index_or}
+
+-- signals are numbered from 1 to this
+abbrev pub most_signal : ℕ
+most_signal = 31
+
+-- whether this is the number of a signal
+abbrev pub is_signal : ℕ → Bool
+is_signal signal = nat_le 1 signal && nat_le signal most_signal
 
 -- the function that handles the signal, if one does
 abbrev pub handler_of : List (Option ℕ) → ℕ → Option ℕ

@@ -1,6 +1,6 @@
 // Which function handles each signal.
 ghost use Rattle.std.specs.Prelude.{◌≡◌, ◌≢◌, ℕ, ◌<◌, ◌≤◌, None};
-ghost use Rattle.signal_points.specs.Signals.{handler_of, no_handlers, with_handler};
+ghost use Rattle.signal_points.specs.Signals.{handler_of, most_signal, no_handlers, with_handler};
 
 use std::marker::Model;
 
@@ -36,7 +36,7 @@ impl Handlers {
     /// Sets the signal's handler, or removes it.
     pub fn set(&mut self, signal: u8, f: Option<u32>)
         requires first { 1 ≤ signal }
-        requires last { signal ≤ 31 }
+        requires last { signal ≤ most_signal }
         ensures value { self.new ≡ with_handler self.old signal f }
         ensures handler { handler_of self.new signal ≡ f }
         ensures others { (q : ℕ) → q ≢ signal → handler_of self.new q ≡ handler_of self.old q }

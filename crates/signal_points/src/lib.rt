@@ -7,3 +7,6 @@ mod pending;
 
 pub use handlers::Handlers;
 pub use pending::Pending;
+
+/// Signals are numbered from 1 to this.
+pub const MOST_SIGNAL: u8 = 31;

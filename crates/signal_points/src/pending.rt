@@ -1,6 +1,6 @@
 // Which signals are pending.
 ghost use Rattle.std.specs.Prelude.{◌≡◌, ◌≢◌, ◌↔◌, ℕ, ◌≤◌, true, false, IsTrue};
-ghost use Rattle.signal_points.specs.Signals.{any_pending, is_pending_in, none_pending, with_pending};
+ghost use Rattle.signal_points.specs.Signals.{any_pending, is_pending_in, most_signal, none_pending, with_pending};
 
 use std::marker::Model;
 
@@ -41,7 +41,7 @@ impl Pending {
     /// Adds the signal.
     pub fn raise(&mut self, signal: u8)
         requires first { 1 ≤ signal }
-        requires last { signal ≤ 31 }
+        requires last { signal ≤ most_signal }
         ensures value { self.new ≡ with_pending self.old signal true }
         ensures signal { is_pending_in self.new signal ≡ true }
         ensures others { (q : ℕ) → q ≢ signal → is_pending_in self.new q ≡ is_pending_in self.old q }
@@ -53,7 +53,7 @@ impl Pending {
     /// Removes the signal.
     pub fn clear(&mut self, signal: u8)
         requires first { 1 ≤ signal }
-        requires last { signal ≤ 31 }
+        requires last { signal ≤ most_signal }
         ensures value { self.new ≡ with_pending self.old signal false }
         ensures signal { is_pending_in self.new signal ≡ false }
         ensures others { (q : ℕ) → q ≢ signal → is_pending_in self.new q ≡ is_pending_in self.old q }
@@ -65,7 +65,7 @@ impl Pending {
     /// Whether the signal is in the set.
     pub fn has(&self, signal: u8) -> bool
         requires first { 1 ≤ signal }
-        requires last { signal ≤ 31 }
+        requires last { signal ≤ most_signal }
         ensures { result ≡ is_pending_in self.now signal }
     {
         self.signals[signal as usize]
