@@ -11,7 +11,7 @@ use Rattle.lib_calls.specs.Entry.{IsShaped}
 use Rattle.call_log.specs.declared.version.Version.{Version}
 use Rattle.call_log.specs.Entry.{BeginsNoEntry, clock_after, encoding, encodings}
 use Rattle.call_log.specs.Limits.{least_entry}
-use Rattle.call_log.specs.Log.{Holds, Unread, entry_at, entry_then, entries_of, entries_within, past, rest_of, rest_then, rest_within}
+use Rattle.call_log.specs.Log.{Holds, Unread, Walked, entry_at, entries_of, past, rest_of, walk_then, walk_within, with_first}
 use Rattle.call_log.proofs.EntryLaws.{entry_at-begins, entry_at-found, entry_at-none}
 use Rattle.call_log.proofs.Sizes.{length-encoding}
 
@@ -60,79 +60,66 @@ module _ (readers : ExactReaders) where
 
   -- ---- the limit does not matter where it is the number of bytes or more
 
-  entries-limit : (n m : ℕ) (left : Unread) → length left.bytes ≤ n → length left.bytes ≤ m → entries_within n left ≡ entries_within m left
-  unfolding entries_within
-  entries-limit zero zero left p q = refl
-  entries-limit zero (suc m) left p q = elim (front_cases left) [
+  walk-limit : (n m : ℕ) (left : Unread) → length left.bytes ≤ n → length left.bytes ≤ m → walk_within n left ≡ walk_within m left
+  unfolding walk_within
+  walk-limit zero zero left p q = refl
+  walk-limit zero (suc m) left p q = elim (front_cases left) [
     | inl b ↦ absurd (omega (arith, fewer left b))
     | inr none ↦ rw (entry_at-none left none) refl
   ]
-  entries-limit (suc n) zero left p q = elim (front_cases left) [
+  walk-limit (suc n) zero left p q = elim (front_cases left) [
     | inl b ↦ absurd (omega (arith, fewer left b))
     | inr none ↦ rw (entry_at-none left none) refl
   ]
-  entries-limit (suc n) (suc m) left p q = elim (front_cases left) [
+  walk-limit (suc n) (suc m) left p q = elim (front_cases left) [
     | inl b ↦
         let less = fewer left b in
-        let more = entries-limit n m (past left b.entry b.rest) (omega arith) (omega arith) in
-        rw (reads left b) (ap (λ (es : List Entry). b.entry ∷ es) more)
-    | inr none ↦ rw (entry_at-none left none) refl
-  ]
-
-  rest-limit : (n m : ℕ) (left : Unread) → length left.bytes ≤ n → length left.bytes ≤ m → rest_within n left ≡ rest_within m left
-  unfolding rest_within
-  rest-limit zero zero left p q = refl
-  rest-limit zero (suc m) left p q = elim (front_cases left) [
-    | inl b ↦ absurd (omega (arith, fewer left b))
-    | inr none ↦ rw (entry_at-none left none) refl
-  ]
-  rest-limit (suc n) zero left p q = elim (front_cases left) [
-    | inl b ↦ absurd (omega (arith, fewer left b))
-    | inr none ↦ rw (entry_at-none left none) refl
-  ]
-  rest-limit (suc n) (suc m) left p q = elim (front_cases left) [
-    | inl b ↦
-        let less = fewer left b in
-        let more = rest-limit n m (past left b.entry b.rest) (omega arith) (omega arith) in
-        rw (reads left b) more
+        let more = walk-limit n m (past left b.entry b.rest) (omega arith) (omega arith) in
+        rw (reads left b) (ap (with_first b.entry) more)
     | inr none ↦ rw (entry_at-none left none) refl
   ]
 
   -- ---- one entry more, and the end
 
-  pub entries-step : (left : Unread) → entries_of left ≡ entry_then (entries_within (length left.bytes)) (entry_at left)
-  unfolding entries_of entries_within
-  entries-step left = entries-limit (length left.bytes) (suc (length left.bytes)) left (omega arith) (omega arith)
+  walk-step : (left : Unread) → walk_within (length left.bytes) left ≡ walk_then (walk_within (length left.bytes)) left.bytes (entry_at left)
+  unfolding walk_within
+  walk-step left = walk-limit (length left.bytes) (suc (length left.bytes)) left (omega arith) (omega arith)
 
-  pub rest-step : (left : Unread) → rest_of left ≡ rest_then (rest_within (length left.bytes)) left.bytes (entry_at left)
-  unfolding rest_of rest_within
-  rest-step left = rest-limit (length left.bytes) (suc (length left.bytes)) left (omega arith) (omega arith)
+  walk-next : (left : Unread) (e : Entry) (rest : List ℕ) → IsShaped e → left.bytes ≡ encoding left.version left.last e ++ rest → walk_within (length left.bytes) left ≡ with_first e (walk_within (length rest) (past left e rest))
+  walk-next left e rest shaped begins =
+      let less = shorter left.version left.last left.bytes e rest begins in
+      walk-step left
+      ∙ ap (walk_then (walk_within (length left.bytes)) left.bytes) (entry_at-begins readers left e rest shaped begins)
+      ∙ ap (with_first e) (walk-limit (length left.bytes) (length rest) (past left e rest) (omega arith) (omega arith))
+
+  walk-none : (left : Unread) → entry_at left ≡ None → walk_within (length left.bytes) left ≡ record { entries = []; rest = left.bytes }
+  walk-none left none = walk-step left ∙ ap (walk_then (walk_within (length left.bytes)) left.bytes) none
 
   -- the entry that stands in front is the first of all
   pub entries_of-next : (left : Unread) (e : Entry) (rest : List ℕ) → IsShaped e → left.bytes ≡ encoding left.version left.last e ++ rest → entries_of left ≡ e ∷ entries_of (past left e rest)
   unfolding entries_of
-  entries_of-next left e rest shaped begins =
-      let less = shorter left.version left.last left.bytes e rest begins in
-      entries-step left
-      ∙ ap (entry_then (entries_within (length left.bytes))) (entry_at-begins readers left e rest shaped begins)
-      ∙ ap (λ (es : List Entry). e ∷ es) (entries-limit (length left.bytes) (length rest) (past left e rest) (omega arith) (omega arith))
+  entries_of-next left e rest shaped begins = ap (λ (w : Walked). w.entries) (walk-next left e rest shaped begins)
 
   -- and the bytes behind all entries are those behind the others
   pub rest_of-next : (left : Unread) (e : Entry) (rest : List ℕ) → IsShaped e → left.bytes ≡ encoding left.version left.last e ++ rest → rest_of left ≡ rest_of (past left e rest)
   unfolding rest_of
-  rest_of-next left e rest shaped begins =
-      let less = shorter left.version left.last left.bytes e rest begins in
-      rest-step left
-      ∙ ap (rest_then (rest_within (length left.bytes)) left.bytes) (entry_at-begins readers left e rest shaped begins)
-      ∙ rest-limit (length left.bytes) (length rest) (past left e rest) (omega arith) (omega arith)
+  rest_of-next left e rest shaped begins = ap (λ (w : Walked). w.rest) (walk-next left e rest shaped begins)
 
-  -- where none stands in front, there is none
-  pub entries_of-end : (left : Unread) → Stops left → entries_of left ≡ []
-  entries_of-end left none = entries-step left ∙ ap (entry_then (entries_within (length left.bytes))) (entry_at-none left none)
+  -- where none is found, there is none
+  pub entries_of-none : (left : Unread) → entry_at left ≡ None → entries_of left ≡ []
+  unfolding entries_of
+  entries_of-none left none = ap (λ (w : Walked). w.entries) (walk-none left none)
 
   -- and all bytes are left
+  pub rest_of-none : (left : Unread) → entry_at left ≡ None → rest_of left ≡ left.bytes
+  unfolding rest_of
+  rest_of-none left none = ap (λ (w : Walked). w.rest) (walk-none left none)
+
+  pub entries_of-end : (left : Unread) → Stops left → entries_of left ≡ []
+  entries_of-end left none = entries_of-none left (entry_at-none left none)
+
   pub rest_of-end : (left : Unread) → Stops left → rest_of left ≡ left.bytes
-  rest_of-end left none = rest-step left ∙ ap (rest_then (rest_within (length left.bytes)) left.bytes) (entry_at-none left none)
+  rest_of-end left none = rest_of-none left (entry_at-none left none)
 
   -- ---- the two functions give what is held, and nothing else is held
 

@@ -1,9 +1,8 @@
 -- Reading a log entry by entry.
 use Rattle.std.proofs.Common.{length, sym, ap, ◌∙◌, subst}
 use Rattle.fri_bytes.specs.Laws.{ExactReaders}
-use Rattle.call_log.specs.Log.{entry_then, entries_within, rest_then, rest_within}
 use Rattle.call_log.specs.Walk.{IsEnd, IsStep, Leads}
-use Rattle.call_log.proofs.Entries.{entries-step, entries_of-next, rest-step, rest_of-next, shorter}
+use Rattle.call_log.proofs.Entries.{entries_of-next, entries_of-none, rest_of-next, rest_of-none, shorter}
 use Rattle.call_log.proofs.EntryLaws.{entry_at-found}
 
 module _ (readers : ExactReaders) where
@@ -18,6 +17,6 @@ module _ (readers : ExactReaders) where
 
   pub end : IsEnd
   end left none = record {
-    entries = entries-step readers left ∙ ap (entry_then (entries_within (length left.bytes))) none;
-    rest = rest-step readers left ∙ ap (rest_then (rest_within (length left.bytes)) left.bytes) none;
+    entries = entries_of-none readers left none;
+    rest = rest_of-none readers left none;
   }

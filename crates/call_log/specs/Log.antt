@@ -90,33 +90,32 @@ entry_in left e =
 unfoldable pub entry_at : Unread → Option (Entry × Unread)
 entry_at left = option_and_then (λ x. entry_in left x.0) (read_entry left.version left.last left.bytes)
 
--- the entry that was found, and then those that follow
-abbrev pub entry_then : (Unread → List Entry) → Option (Entry × Unread) → List Entry
-entry_then more None = []
-entry_then more (Some x) = x.0 ∷ more x.1
+-- the entries at the front of some bytes, and the bytes behind them
+pub record Walked : Type 0 where
+  pub entries : List Entry
+  pub rest : List ℕ
+
+-- and this entry in front of them
+abbrev pub with_first : Entry → Walked → Walked
+with_first e w = record w { entries = e ∷ w.entries }
+
+-- the entry that was found in front of those that follow, or none, and then all bytes are left
+abbrev pub walk_then : (Unread → Walked) → List ℕ → Option (Entry × Unread) → Walked
+walk_then more bytes None = record { entries = []; rest = bytes }
+walk_then more bytes (Some x) = with_first x.0 (more x.1)
 
 -- at most so many entries at the front of what is left
-unfoldable pub entries_within : ℕ → Unread → List Entry
-entries_within zero left = []
-entries_within (suc limit) left = entry_then (entries_within limit) (entry_at left)
-
--- the bytes as they are, or those behind the entries that follow the one that was found
-abbrev pub rest_then : (Unread → List ℕ) → List ℕ → Option (Entry × Unread) → List ℕ
-rest_then more bytes None = bytes
-rest_then more bytes (Some x) = more x.1
-
--- the bytes behind at most so many entries
-unfoldable pub rest_within : ℕ → Unread → List ℕ
-rest_within zero left = left.bytes
-rest_within (suc limit) left = rest_then (rest_within limit) left.bytes (entry_at left)
+unfoldable pub walk_within : ℕ → Unread → Walked
+walk_within zero left = record { entries = []; rest = left.bytes }
+walk_within (suc limit) left = walk_then (walk_within limit) left.bytes (entry_at left)
 
 -- all entries at the front of what is left, which are no more than it has bytes
 unfoldable pub entries_of : Unread → List Entry
-entries_of left = entries_within (length left.bytes) left
+entries_of left = (walk_within (length left.bytes) left).entries
 
 -- the bytes behind all of them
 unfoldable pub rest_of : Unread → List ℕ
-rest_of left = rest_within (length left.bytes) left
+rest_of left = (walk_within (length left.bytes) left).rest
 
 -- the test of `IsHead`
 unfoldable pub is_head : Head → Bool
