@@ -14,7 +14,7 @@ ghost use Rattle.group_record.specs.Logs.{log_name};
 ghost use Rattle.group_record.specs.Members.{CanKeep, Starts, Writes, kept, spelled};
 
 use crate::error::RecordError;
-use call_log::{LogHead, Version, put_entry, put_head};
+use call_log::{LogHead, MOST_LOG, Version, put_entry, put_head};
 use fri_outside::Files;
 use guest_process::{Process, counting};
 use lib_calls::EntryView;
@@ -22,9 +22,6 @@ use schedule_text::ProcessLine;
 use std::alloc::{AllocError, Global};
 use wasm_step::StartError;
 use wasm_types::ValidModule;
-
-// How many bytes a log has at most.
-const MOST_LOG: usize = 33_554_432;
 
 /// A process with the name of its log's file, the head of the log, how many bytes the log has with it, and the
 /// clock of its last entry, or 0. The process is away while it makes an event.

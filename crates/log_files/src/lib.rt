@@ -9,4 +9,4 @@ mod laws;
 mod logs;
 
 pub use laws::finds_logs;
-pub use logs::{LOG_LIMIT, begin_log, take_log};
+pub use logs::{begin_log, take_log};

@@ -8,13 +8,10 @@ ghost use Rattle.command_run.specs.Call.{CountsFaults, StopsAs, Raises, reads_af
 ghost use Rattle.command_run.specs.Outcome.{file_of};
 ghost use Rattle.log_files.specs.Logs.{log_or_bad_head};
 
-use call_log::LogView;
+use call_log::{LogView, MOST_LOG};
 use command_run::{Reason, Refusal, take_file};
 use fri_outside::Files;
 use std::alloc::Global;
-
-/// How many bytes a log file has at most.
-pub const LOG_LIMIT: usize = 33_554_432;
 
 /// The bytes of a log file, within the limit of a log.
 pub fn take_log<F: Files>(alloc: Global, name: &str, files: &mut F) -> Result<Vec<u8>, Refusal>
@@ -25,7 +22,7 @@ pub fn take_log<F: Files>(alloc: Global, name: &str, files: &mut F) -> Result<Ve
     ensures counts { CountsFaults (F.counts files.old) (F.counts files.new) result }
     ensures cause { IfErr result (Raises (F.counts files.old) (F.counts files.new)) }
 {
-    take_file(alloc, name, LOG_LIMIT, files)
+    take_file(alloc, name, MOST_LOG, files)
 }
 
 /// The log whose head the bytes of a file begin with.

@@ -6,11 +6,11 @@ ghost use Rattle.command_run.specs.Call.{CountsFaults, Raises, StopsAs, reads_af
 ghost use Rattle.migrate_command.specs.Migrate.{migrate_outcome, migrate_text, work_unless_grown};
 ghost use Rattle.migrate_command.specs.Seen.{work_of};
 
-use call_log::{LogView, rewrite};
+use call_log::{LogView, MOST_LOG, rewrite};
 use command_run::{Reason, Refusal};
 use fri_outside::Files;
 use fri_text::Text;
-use log_files::{LOG_LIMIT, begin_log, take_log};
+use log_files::{begin_log, take_log};
 use std::alloc::{AllocError, Global};
 
 /// A migration that was made ready: the bytes of the new log, and the text that tells what was migrated.
@@ -65,7 +65,7 @@ fn renew(alloc: Global, log_file: &str, log: &LogView<'_>) -> Result<Migration, 
 {
     let extent = extent_of(log);
     let bytes = rewrite(alloc, log, extent.entries)?;
-    if bytes.len() > LOG_LIMIT {
+    if bytes.len() > MOST_LOG {
         return Err(Refusal::refuse(alloc, log_file, Reason::Grown));
     }
     let text = print(alloc, log.head().name, extent)?;
