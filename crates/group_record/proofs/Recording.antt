@@ -324,7 +324,7 @@ some_mapped : {A B : Type 0} (f : A → B) (o : Option A) → is_some (option_ma
 some_mapped f None = refl
 some_mapped f (Some x) = refl
 
-nth_mapped : (p : ℕ) (sends : List Entry) (n : ℕ) → is_some (nth_of (map (sent_as p) sends) n) ≡ is_some (world.nth sends n)
+nth_mapped : (p : ℕ) (sends : List Entry) (n : ℕ) → is_some (nth_of (map (sent_as p) sends) n) ≡ is_some (nth_of sends n)
 nth_mapped p sends zero = refl
 nth_mapped p sends (suc before) = ap is_some (slice_get-map (sent_as p) sends before) ∙ some_mapped (sent_as p) (slice_get sends before)
 

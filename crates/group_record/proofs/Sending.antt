@@ -9,7 +9,8 @@ use Rattle.lib_calls.specs.Traffic.{is_sent}
 use Rattle.lib_calls.specs.declared.entry.Entry.{Entry}
 use Rattle.guest_process.specs.Live.{Env, Event, live}
 use Rattle.guest_process.specs.State.{State}
-use Rattle.group_world.specs.History.{Act, History, addressed, datagram, nth, put_last_if, sends}
+use Rattle.lossy_net.specs.Network.{nth_of}
+use Rattle.group_world.specs.History.{Act, History, addressed, datagram, put_last_if, sends}
 use Rattle.group_world.specs.History as world
 use Rattle.group_world.specs.Laws.{Giver, NamesSend, gives}
 use Rattle.group_record.specs.Run.{Group, Step, Had, Did, world_around, history, size, process_after}
@@ -72,7 +73,7 @@ sends_fit count (world.Event r e ∷ h) q fits =
     (sends_fit count h q fits.1)
 sends_fit count (_ ∷ h) q fits = sends_fit count h q fits.1
 
-nth_fits : (count q n : ℕ) (es : List Entry) (e : Entry) → nth es n ≡ Some e → All (SendFits count q) es → SendFits count q e
+nth_fits : (count q n : ℕ) (es : List Entry) (e : Entry) → nth_of es n ≡ Some e → All (SendFits count q) es → SendFits count q e
 nth_fits count q zero es e is all = cc
 nth_fits count q (suc n) es e is all =
     subst (λ (e : Entry). SendFits count q e) (get_or_from_slice_get es n e e is) (All-get_or (SendFits count q) es n e (slice_get_within es n e is) all)
@@ -97,9 +98,9 @@ is_of q p (Some e) bytes is = by_receiver (e.call.a0 == p) refl is where
 pub is_send : NamesSend → (count : ℕ) (h : History) (p number : ℕ) (bytes : List ℕ) (e : Entry) → count ≤ 2 ^ 32 → EventsFit count h → (giver : Giver count h p number bytes)
     → e.tag ≡ (read_datagram count bytes).0 → e.incoming ≡ take e.call.a1 (read_datagram count bytes).1 → (q n : ℕ) → giver.act ≡ world.Deliver q n → IsSend count giver.earlier q n p e
 is_send named count h p number bytes e few fits giver tag payload q n is =
-    let gives_it : addressed q p (nth (sends count giver.earlier q) n) ≡ bytes ∷ [] =
+    let gives_it : addressed q p (nth_of (sends count giver.earlier q) n) ≡ bytes ∷ [] =
     subst (λ (act : Act). gives count giver.earlier act p ≡ bytes ∷ []) is giver.gives_it in
-    let from = is_of q p (nth (sends count giver.earlier q) n) bytes gives_it in
+    let from = is_of q p (nth_of (sends count giver.earlier q) n) bytes gives_it in
     let earlier : EventsFit count giver.earlier = earlier_fit count giver.later giver.earlier h giver.act giver.split fits in
     let good : SendFits count q from.sent = nth_fits count q n (sends count giver.earlier q) from.sent from.is (sends_fit count giver.earlier q earlier) in
     record {
@@ -113,7 +114,7 @@ is_send named count h p number bytes e few fits giver tag payload q n is =
 
 -- ---- what was sent stands in the sender's log
 
-contains_nth : (n : ℕ) (es : List Entry) (e : Entry) → nth es n ≡ Some e → Contains es e
+contains_nth : (n : ℕ) (es : List Entry) (e : Entry) → nth_of es n ≡ Some e → Contains es e
 contains_nth zero es e is = cc
 contains_nth (suc n) es e is = (n, slice_get_within es n e is, get_or_from_slice_get es n e e is)
 

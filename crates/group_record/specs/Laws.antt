@@ -16,7 +16,8 @@ use Rattle.wasm_types.specs.Valid.{IsValid}
 use Rattle.guest_process.specs.Live.{Event}
 use Rattle.guest_process.specs.Start.{start}
 use Rattle.guest_process.specs.State.{State}
-use Rattle.group_world.specs.History.{Deliver, History, mailbox, nth, pool, sends, taken_count}
+use Rattle.lossy_net.specs.Network.{nth_of}
+use Rattle.group_world.specs.History.{Deliver, History, mailbox, pool, sends, taken_count}
 use Rattle.group_world.specs.Laws.{Giver, Origin}
 use Rattle.group_record.specs.Run.{Group, Had, IsMoment, Step, entries, entry_bytes, history, process_after, run, size}
 use Rattle.group_record.specs.Logs.{TellsEvents, TellsBefore}
@@ -60,7 +61,7 @@ pub record TellsSend (e : Entry) (q : ℕ) (sent : Entry) : Type 0 where
 -- past those that a tag can bear
 pub record IsSend (count : ℕ) (h : History) (q n p : ℕ) (e : Entry) : Type 0 where
   pub sent : Entry
-  pub is : nth (sends count h q) n ≡ Some sent
+  pub is : nth_of (sends count h q) n ≡ Some sent
   pub to : sent.call.a0 ≡ p
   pub named : sent.clock ≤ 2 ^ 62 → TellsSend e q sent
 

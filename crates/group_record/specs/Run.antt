@@ -11,7 +11,8 @@ use Rattle.schedule_text.specs.declared.item.Item.{Item}
 use Rattle.schedule_text.specs.declared.item.Item.TheVariants as item
 use Rattle.guest_process.specs.Live.{Env, Event, live}
 use Rattle.guest_process.specs.State.{State, is_running}
-use Rattle.group_world.specs.History.{Act, History, is_killed, is_pending, mailbox, nth, pool, put_last_if, sends, time}
+use Rattle.lossy_net.specs.Network.{nth_of}
+use Rattle.group_world.specs.History.{Act, History, is_killed, is_pending, mailbox, pool, put_last_if, sends, time}
 use Rattle.group_world.specs.History as world
 
 -- the names of a group's processes and their first states, both in the order of their numbers
@@ -136,7 +137,7 @@ attempts group number p thread (suc n) done = attempts group number p thread n (
 
 -- a process has sent a datagram with this number
 abbrev pub has_sent : ℕ → List Step → ℕ → ℕ → Bool
-has_sent count steps p n = is_some (nth (sends count (history steps) p) n)
+has_sent count steps p n = is_some (nth_of (sends count (history steps) p) n)
 
 abbrev pub is_running_process : Option State → Bool
 is_running_process None = false

@@ -7,7 +7,7 @@ use Rattle.lib_calls.specs.declared.entry.Entry.{Entry}
 use Rattle.lib_calls.specs.Traffic.{drawn, is_sent, is_taken}
 use Rattle.lossy_net.specs.Network.{Traffic, no_traffic, nth_of, sent_by, traffic_of, with_delivered}
 use Rattle.signal_points.specs.Signals.{is_signal, most_signal}
-use Rattle.group_world.specs.History.{Act, Event, Deliver, Inject, Clock, Random, Signal, Kill, History, addressed, given, is_killed, is_pending, mailbox, nth, one_if, pool, put_last_if, sends, supplied, taken_count, time, used_count}
+use Rattle.group_world.specs.History.{Act, Event, Deliver, Inject, Clock, Random, Signal, Kill, History, addressed, given, is_killed, is_pending, mailbox, one_if, pool, put_last_if, sends, supplied, taken_count, time, used_count}
 use Rattle.group_world.specs.Laws.{CanBe, CanFollow, Counting, IsCounted, sent_as}
 use Rattle.group_world.specs.World.{Surroundings, World, after_entry, has_pending, new_world, no_surroundings, sent_if, process_count, surroundings_of, took_if, with_act, without_signal, world_after}
 use Rattle.group_world.proofs.Lists.{put_last_is}
@@ -227,12 +227,12 @@ deliver_counted : (count : ℕ) (h : History) (w : World) (p q n : ℕ) → Befo
 deliver_counted count h w p q n b sender =
     let found = ap (λ sent. nth_of sent n) sender.sent ∙ nth_of-map q n (sends count h q) in
     let traffic = ap (λ o. traffic_of (with_delivered w.net o) p) found
-    ∙ traffic_of-delivered w.net q p (nth (sends count h q) n) (omega (arith, b.process, b.net)) in
+    ∙ traffic_of-delivered w.net q p (nth_of (sends count h q) n) (omega (arith, b.process, b.net)) in
     record {
       sent = ap (λ (t : Traffic). t.sent) traffic ∙ b.counted.sent;
       mailbox = ap (λ (t : Traffic). t.waiting) traffic
-          ∙ ap (λ waiting. waiting ++ addressed q p (nth (sends count h q) n)) b.counted.mailbox
-          ∙ sym (drop-append-le (taken_count h p) (given count h p) (addressed q p (nth (sends count h q) n)) b.within.datagrams);
+          ∙ ap (λ waiting. waiting ++ addressed q p (nth_of (sends count h q) n)) b.counted.mailbox
+          ∙ sym (drop-append-le (taken_count h p) (given count h p) (addressed q p (nth_of (sends count h q) n)) b.within.datagrams);
       pool = b.counted.pool;
       time = b.counted.time;
       killed = b.counted.killed;

@@ -6,7 +6,7 @@ use Rattle.std.proofs.lemmas.List.{append-nil, get_or-replicate}
 use Rattle.std.proofs.lemmas.Option.{slice_get-map}
 use Rattle.lib_calls.specs.declared.entry.Entry.{Entry}
 use Rattle.lossy_net.specs.Network.{Sent, Traffic, after_sending, no_traffic, nth_of, traffic_of, with_delivered, with_waiting}
-use Rattle.group_world.specs.History.{addressed, datagram, nth, one_if, put_last_if}
+use Rattle.group_world.specs.History.{addressed, datagram, one_if, put_last_if}
 use Rattle.group_world.specs.Laws.{sent_as}
 use Rattle.group_world.specs.World.{sent_if, took_if}
 
@@ -96,6 +96,6 @@ traffic_of-delivered net q p None within = none_waiting (traffic_of net p)
 traffic_of-delivered net q p (Some e) within = traffic_of-waiting net e.call.a0 p (datagram q e) within
 
 -- the numbers of the sends are those of the datagrams
-pub nth_of-map : (q n : ℕ) (es : List Entry) → nth_of (map (sent_as q) es) n ≡ option_map (sent_as q) (nth es n)
+pub nth_of-map : (q n : ℕ) (es : List Entry) → nth_of (map (sent_as q) es) n ≡ option_map (sent_as q) (nth_of es n)
 nth_of-map q zero es = refl
 nth_of-map q (suc before) es = slice_get-map (sent_as q) es before

@@ -6,7 +6,8 @@ use Rattle.std.proofs.lemmas.List.{get_or-drop}
 use Rattle.std.proofs.lemmas.List.Elements.{Contains-append_cases, Contains-append_right, Contains-push_cases}
 use Rattle.lib_calls.specs.declared.entry.Entry.{Entry}
 use Rattle.lib_calls.specs.Traffic.{is_sent}
-use Rattle.group_world.specs.History.{Act, Event, Deliver, Inject, History, addressed, datagram, given, nth, put_last_if, sends, taken_count}
+use Rattle.lossy_net.specs.Network.{nth_of}
+use Rattle.group_world.specs.History.{Act, Event, Deliver, Inject, History, addressed, datagram, given, put_last_if, sends, taken_count}
 use Rattle.group_world.specs.Laws.{HasOrigin, Origin, FromOutside, FromSend}
 
 -- ---- lists
@@ -28,17 +29,17 @@ is_only y x held = ⊎_elim (λ none. absurd (not_in_none x none)) (λ is. is) (
 
 -- ---- a number once given is kept
 
-nth-push : {A : Type 0} (xs : List A) (last x : A) (n : ℕ) → nth xs n ≡ Some x → nth (xs ++ last ∷ []) n ≡ Some x
+nth-push : {A : Type 0} (xs : List A) (last x : A) (n : ℕ) → nth_of xs n ≡ Some x → nth_of (xs ++ last ∷ []) n ≡ Some x
 nth-push xs last x zero found = found
 nth-push [] last x (suc n) found = absurd cc
 nth-push (y ∷ xs) last x (suc zero) found = found
 nth-push (y ∷ xs) last x (suc (suc n)) found = nth-push xs last x (suc n) found
 
-nth-push_if : {A : Type 0} (b : Bool) (xs : List A) (last x : A) (n : ℕ) → nth xs n ≡ Some x → nth (put_last_if b xs last) n ≡ Some x
+nth-push_if : {A : Type 0} (b : Bool) (xs : List A) (last x : A) (n : ℕ) → nth_of xs n ≡ Some x → nth_of (put_last_if b xs last) n ≡ Some x
 nth-push_if true xs last x n found = nth-push xs last x n found
 nth-push_if false xs last x n found = found
 
-stays_sent : (count : ℕ) (h : History) (a : Act) (q n : ℕ) (e : Entry) → nth (sends count h q) n ≡ Some e → nth (sends count (a ∷ h) q) n ≡ Some e
+stays_sent : (count : ℕ) (h : History) (a : Act) (q n : ℕ) (e : Entry) → nth_of (sends count h q) n ≡ Some e → nth_of (sends count (a ∷ h) q) n ≡ Some e
 stays_sent count h (Event p last) q n e found = nth-push_if ((p == q) && is_sent count last) (sends count h q) last e n found
 stays_sent count h a q n e found = found
 
@@ -55,7 +56,7 @@ addressed_to : (p : ℕ) (q : ℕ) (e : Entry) (mine : Bool) (bytes : List ℕ) 
 addressed_to p q e true bytes held = (refl, is_only (datagram q e) bytes held)
 addressed_to p q e false bytes held = absurd (not_in_none bytes held)
 
-delivers : (count : ℕ) (h : History) (p q n : ℕ) (bytes : List ℕ) (found : Option Entry) → nth (sends count h q) n ≡ found
+delivers : (count : ℕ) (h : History) (p q n : ℕ) (bytes : List ℕ) (found : Option Entry) → nth_of (sends count h q) n ≡ found
     → Contains (addressed q p found) bytes → Origin count (Deliver q n ∷ h) p bytes
 delivers count h p q n bytes None found held = absurd (not_in_none bytes held)
 delivers count h p q n bytes (Some e) found held =
@@ -77,8 +78,8 @@ given_has_origin : (count : ℕ) (h : History) (p : ℕ) (bytes : List ℕ) → 
 given_has_origin count [] p bytes held = absurd (not_in_none bytes held)
 given_has_origin count (Deliver q n ∷ h) p bytes held = ⊎_elim
     (λ before. later count h p bytes (Deliver q n) (given_has_origin count h p bytes before))
-    (λ last. delivers count h p q n bytes (nth (sends count h q) n) refl last)
-    (Contains-append_cases (given count h p) (addressed q p (nth (sends count h q) n)) bytes held)
+    (λ last. delivers count h p q n bytes (nth_of (sends count h q) n) refl last)
+    (Contains-append_cases (given count h p) (addressed q p (nth_of (sends count h q) n)) bytes held)
 given_has_origin count (Inject q last ∷ h) p bytes held =
     injects count h p q last bytes (given count h p) (q == p) refl
     (λ before. later count h p bytes (Inject q last) (given_has_origin count h p bytes before)) held

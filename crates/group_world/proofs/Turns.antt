@@ -4,7 +4,8 @@ use Rattle.std.specs.Prelude.{◌==◌, ◌⊎◌, slice_get, if◌then◌else�
 use Rattle.std.proofs.lemmas.List.{append-nil}
 use Rattle.std.proofs.lemmas.Option.{same_Some}
 use Rattle.lib_calls.specs.declared.entry.Entry.{Entry}
-use Rattle.group_world.specs.History.{Act, Deliver, Inject, History, addressed, datagram, given, nth, sends, taken_count}
+use Rattle.lossy_net.specs.Network.{nth_of}
+use Rattle.group_world.specs.History.{Act, Deliver, Inject, History, addressed, datagram, given, sends, taken_count}
 use Rattle.group_world.specs.Laws.{Giver, InTurn, gives}
 use Rattle.group_world.proofs.Lists.{put_last_is}
 
@@ -39,7 +40,7 @@ addressed_once q p None = omega arith
 addressed_once q p (Some e) = one_at_most (e.call.a0 == p) (datagram q e)
 
 gives_once : (count : ℕ) (h : History) (a : Act) (p : ℕ) → length (gives count h a p) ≤ 1
-gives_once count h (Deliver q n) p = addressed_once q p (nth (sends count h q) n)
+gives_once count h (Deliver q n) p = addressed_once q p (nth_of (sends count h q) n)
 gives_once count h (Inject q bytes) p = one_at_most (q == p) bytes
 gives_once count h a p = omega arith
 

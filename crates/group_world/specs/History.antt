@@ -1,8 +1,9 @@
 -- The acted steps of a recording, and the world around each process after them, by counting.
-use Rattle.std.specs.Prelude.{ℕ, zero, suc, ◌+◌, Bool, true, false, ◌||◌, ◌&&◌, ◌==◌, List, [], ◌∷◌, ◌++◌, drop, slice_get, Option, Some, None, if◌then◌else◌}
+use Rattle.std.specs.Prelude.{ℕ, ◌+◌, Bool, true, false, ◌||◌, ◌&&◌, ◌==◌, List, [], ◌∷◌, ◌++◌, drop, Option, Some, None, if◌then◌else◌}
 use Rattle.lamport_tag.specs.Tag.{tag_bytes}
 use Rattle.lib_calls.specs.declared.entry.Entry.{Entry}
 use Rattle.lib_calls.specs.Traffic.{drawn, is_sent, is_taken}
+use Rattle.lossy_net.specs.Network.{nth_of}
 
 -- an event of a process, by its entry; the delivery of a datagram of the process by its number, from 1; a
 -- datagram from outside for the process; its wall time, as the bits of a signed number of 64 bits; random
@@ -38,11 +39,6 @@ sends count [] p = []
 sends count (Event q e ∷ h) p = put_last_if ((q == p) && is_sent count e) (sends count h p) e
 sends count (_ ∷ h) p = sends count h p
 
--- the one with this number, from 1
-abbrev pub nth : {A : Type 0} → List A → ℕ → Option A
-nth xs zero = None
-nth xs (suc before) = slice_get xs before
-
 -- the datagram of a send of a process: the tag with the process and the send's clock, and the bytes that went out
 abbrev pub datagram : ℕ → Entry → List ℕ
 datagram p e = tag_bytes (record { sender = p; clock = e.clock }) ++ e.outgoing
@@ -56,7 +52,7 @@ addressed q p (Some e) = if e.call.a0 == p then datagram q e ∷ [] else []
 -- its sender had sent it by then
 abbrev pub given : ℕ → History → ℕ → List (List ℕ)
 given count [] p = []
-given count (Deliver q n ∷ h) p = given count h p ++ addressed q p (nth (sends count h q) n)
+given count (Deliver q n ∷ h) p = given count h p ++ addressed q p (nth_of (sends count h q) n)
 given count (Inject q bytes ∷ h) p = put_last_if (q == p) (given count h p) bytes
 given count (_ ∷ h) p = given count h p
 

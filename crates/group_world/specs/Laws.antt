@@ -4,9 +4,9 @@ use Rattle.std.specs.Prelude.{◌≡◌, ℕ, ◌<◌, ◌≤◌, ◌^◌, ◌==
 use Rattle.lamport_tag.specs.Tag.{read_datagram}
 use Rattle.lib_calls.specs.declared.entry.Entry.{Entry}
 use Rattle.lib_calls.specs.Traffic.{drawn, is_taken}
-use Rattle.lossy_net.specs.Network.{Sent, mailbox_of, sent_by}
+use Rattle.lossy_net.specs.Network.{Sent, mailbox_of, nth_of, sent_by}
 use Rattle.signal_points.specs.Signals.{most_signal}
-use Rattle.group_world.specs.History.{Act, Event, Deliver, Inject, Clock, Random, Signal, Kill, History, addressed, datagram, given, is_killed, is_pending, mailbox, nth, pool, sends, taken_count, time}
+use Rattle.group_world.specs.History.{Act, Event, Deliver, Inject, Clock, Random, Signal, Kill, History, addressed, datagram, given, is_killed, is_pending, mailbox, pool, sends, taken_count, time}
 use Rattle.group_world.specs.World.{World, has_pending, surroundings_of, world_after}
 
 -- ---- which acts can come
@@ -57,7 +57,7 @@ pub record Counting : Type 0 where
 -- was for p, and which an item delivers
 pub data Origin (count : ℕ) (h : History) (p : ℕ) (bytes : List ℕ) : Type 0 where
   FromOutside : Contains h (Inject p bytes) → Origin count h p bytes
-  FromSend : (q n : ℕ) → (e : Entry) → Contains h (Deliver q n) → nth (sends count h q) n ≡ Some e
+  FromSend : (q n : ℕ) → (e : Entry) → Contains h (Deliver q n) → nth_of (sends count h q) n ≡ Some e
       → e.call.a0 ≡ p → bytes ≡ datagram q e → Origin count h p bytes
 
 -- each datagram of a mailbox has such an origin
@@ -68,7 +68,7 @@ HasOrigin = (count : ℕ) (h : History) (p : ℕ) (bytes : List ℕ) → Contain
 
 -- the datagram, if it is one, that an act which follows these gives to process p
 abbrev pub gives : ℕ → History → Act → ℕ → List (List ℕ)
-gives count h (Deliver q n) p = addressed q p (nth (sends count h q) n)
+gives count h (Deliver q n) p = addressed q p (nth_of (sends count h q) n)
 gives count h (Inject q bytes) p = if q == p then bytes ∷ [] else []
 gives count h _ p = []
 

@@ -5,7 +5,8 @@ use Rattle.std.proofs.lemmas.Bool.{and_parts, eqb-true}
 use Rattle.lib_calls.specs.Traffic.{is_sent}
 use Rattle.lib_calls.specs.declared.entry.Entry.{Entry}
 use Rattle.guest_process.specs.Live.{Event}
-use Rattle.group_world.specs.History.{History, nth, put_last_if, sends}
+use Rattle.lossy_net.specs.Network.{nth_of}
+use Rattle.group_world.specs.History.{History, put_last_if, sends}
 use Rattle.group_world.specs.History as world
 use Rattle.group_record.specs.Run.{Group, Had, Did, Step, entries}
 use Rattle.group_record.specs.Standing.{IsRun}
@@ -57,6 +58,6 @@ sent_at count (world.Random p bytes ∷ h) q k e at = sent_at count h q k e at
 sent_at count (world.Signal p signal ∷ h) q k e at = sent_at count h q k e at
 sent_at count (world.Kill p ∷ h) q k e at = sent_at count h q k e at
 
-pub nth_is_sent : (count : ℕ) (h : History) (q n : ℕ) (e : Entry) → nth (sends count h q) n ≡ Some e → IsTrue (is_sent count e)
+pub nth_is_sent : (count : ℕ) (h : History) (q n : ℕ) (e : Entry) → nth_of (sends count h q) n ≡ Some e → IsTrue (is_sent count e)
 nth_is_sent count h q zero e at = cc
 nth_is_sent count h q (suc k) e at = sent_at count h q k e at

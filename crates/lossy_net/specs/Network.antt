@@ -52,10 +52,10 @@ with_waiting net process bytes = with_mailbox net process (mailbox_of net proces
 abbrev pub without_front : List Traffic → ℕ → List Traffic
 without_front net process = with_mailbox net process (drop 1 (mailbox_of net process))
 
--- the nth of these datagrams, from 1
-abbrev pub nth_of : List Sent → ℕ → Option Sent
-nth_of sent zero = None
-nth_of sent (suc before) = slice_get sent before
+-- the nth of these, from 1
+abbrev pub nth_of : {A : Type 0} → List A → ℕ → Option A
+nth_of xs zero = None
+nth_of xs (suc before) = slice_get xs before
 
 -- each of these datagrams is for a process of a group of `count`
 abbrev pub AreFor : ℕ → List Sent → Type 0
