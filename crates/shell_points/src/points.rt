@@ -1,5 +1,5 @@
 // The points that a session holds.
-ghost use Rattle.std.specs.Prelude.{◌≡◌, ◌+◌, ◌-◌, ◌<◌, ◌++◌, ◌∷◌, ◌==◌, [], IfOk, IfSome, OnOk, length, map, position};
+ghost use Rattle.std.specs.Prelude.{◌≡◌, ◌+◌, ◌-◌, ◌<◌, ◌++◌, ◌∷◌, ◌==◌, [], IfOk, IfSome, OnErr, OnOk, length, map, position};
 ghost use Rattle.std.specs.List.{flat_map};
 ghost use Rattle.embed_cmds.specs.Tree.{body};
 ghost use Rattle.group_state.specs.Touch.{ticks};
@@ -60,7 +60,8 @@ impl Points {
         self.held.len()
     }
 
-    /// A point more, which this line makes, with this number and without a program.
+    /// A point more, which this line makes, with this number and without a program. After want of memory there is
+    /// none more.
     pub fn add(
         &mut self,
         alloc: Global,
@@ -68,7 +69,8 @@ impl Points {
         line: &[u8],
         trigger: Trigger,
     ) -> Result<(), AllocError>
-        ensures { OnOk result (self.new ≡ self.old ++ new_point number line.now (trigger_meant trigger) ∷ []) }
+        ensures ok { OnOk result (self.new ≡ self.old ++ new_point number line.now (trigger_meant trigger) ∷ []) }
+        ensures err { OnErr result (self.new ≡ self.old) }
     {
         let text = Bytes::from_slice(alloc, line)?;
         self.held.push(Point {
