@@ -42,7 +42,8 @@ impl Streams {
         }
     }
 
-    /// A process sent a payload to another at this clock, at which no send of it is kept.
+    /// A process sent a payload to another at this clock, at which no send of it is kept. After want of memory a part
+    /// of what it changes may stand, and the streams are not used again.
     pub fn sent(
         &mut self,
         from: u32,
@@ -69,7 +70,7 @@ impl Streams {
         Ok(Mark::Counted)
     }
 
-    /// A process took a payload behind this tag.
+    /// A process took a payload behind this tag. The streams are not used again after want of memory.
     pub fn received(&mut self, by: u32, tag: Tag, payload: &[u8]) -> Result<Mark, AllocError>
         ensures { let r : Receiving = record { by = by; tag = tag; payload = payload.now } in IfOk result (λ mark. (early : List Traffic) → StandsFor self.old early → StandsFor self.new (Received r ∷ early) × (mark ≡ mark_of_receive r early)) }
     {
