@@ -11,7 +11,7 @@ use Rattle.watch_expr.specs.declared.stack.Step.TheVariants as stepped
 use Rattle.watch_expr.specs.Expression.{Expression, expression_of}
 use Rattle.watch_expr.specs.Lexing.{Lexed, texts}
 use Rattle.watch_expr.specs.Grammar.{IsExpr, TakesExpr, ParsedExpr}
-use Rattle.watch_expr.specs.Machine.{MachineState, Want, step, steps, whole, state, Finishes, Steps}
+use Rattle.watch_expr.specs.Machine.{MachineState, Want, step, steps, whole, state, Finishes, TakesToken}
 use Rattle.watch_expr.proofs.MachineReads.{Stands, steps_append, steps_keep, stands_begins, whole_says, whole_again, begins_reads}
 
 -- ---- lists
@@ -120,9 +120,9 @@ module _ (names : List (List ℕ)) where
       ∙ only (step names st t)
 
   -- the token was taken
-  pub went_on : (ts : List (List ℕ)) (from at : ℕ) (t : List ℕ) (old : MachineState) (fs : List Frame) (r : Step) (m : Mode) → Reached ts from at old → slice_get ts at ≡ Some t → r ≡ stepped.Next m → Steps names old t fs r → Reached ts from (at + 1) (state fs m)
+  pub went_on : (ts : List (List ℕ)) (from at : ℕ) (t : List ℕ) (old : MachineState) (fs : List Frame) (r : Step) (m : Mode) → Reached ts from at old → slice_get ts at ≡ Some t → r ≡ stepped.Next m → TakesToken names old t fs r → Reached ts from (at + 1) (state fs m)
   went_on ts from at t old fs r m h e is s =
-      let next : step names old t ≡ Some (state fs m) = subst (λ (q : Step). Steps names old t fs q) is s in
+      let next : step names old t ≡ Some (state fs m) = subst (λ (q : Step). TakesToken names old t fs q) is s in
       let place : at + 1 - from ≡ at - from + 1 = omega (arith, h.below) in
       record {
         below = omega (arith, h.below);
@@ -131,9 +131,9 @@ module _ (names : List (List ℕ)) where
       }
 
   -- and here it was not
-  pub stopped : (line : Lexed) (from at : ℕ) (t : List ℕ) (old : MachineState) (fs : List Frame) (r : Step) (m : Mode) (result : Result (Expr × ℕ) ExprError) → Reached (texts line) from at old → slice_get (texts line) at ≡ Some t → r ≡ stepped.Refused m → Steps names old t fs r → Finishes line (state fs m) at result → ParsedExpr names line from result
+  pub stopped : (line : Lexed) (from at : ℕ) (t : List ℕ) (old : MachineState) (fs : List Frame) (r : Step) (m : Mode) (result : Result (Expr × ℕ) ExprError) → Reached (texts line) from at old → slice_get (texts line) at ≡ Some t → r ≡ stepped.Refused m → TakesToken names old t fs r → Finishes line (state fs m) at result → ParsedExpr names line from result
   stopped line from at t old fs r m result h e is s f =
-      let both : (step names old t ≡ None) × (whole (state fs m) ≡ whole old) = subst (λ (q : Step). Steps names old t fs q) is s in
+      let both : (step names old t ≡ None) × (whole (state fs m) ≡ whole old) = subst (λ (q : Step). TakesToken names old t fs q) is s in
       parsed line from at old result (record { reached = h; refused = λ lt. reads_more (texts line) from at t old h e ∙ both.0 }) (finishes_as line (state fs m) old at result both.1 f)
 
   -- all tokens were read

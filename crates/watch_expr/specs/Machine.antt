@@ -179,8 +179,8 @@ abbrev pub GivesStep : Option MachineState → MachineState → List Frame → S
 GivesStep next old frames (stepped.Next m) = next ≡ Some (state frames m)
 GivesStep next old frames (stepped.Refused m) = (next ≡ None) × (whole (state frames m) ≡ whole old)
 
-abbrev pub Steps : List (List ℕ) → MachineState → List ℕ → List Frame → Step → Type 0
-Steps names old t frames s = GivesStep (step names old t) old frames s
+abbrev pub TakesToken : List (List ℕ) → MachineState → List ℕ → List Frame → Step → Type 0
+TakesToken names old t frames s = GivesStep (step names old t) old frames s
 
 -- what is answered where all tokens below this one led to the state
 abbrev pub Finishes : Lexed → MachineState → ℕ → Result (Expr × ℕ) ExprError → Type 0

@@ -3,7 +3,7 @@ ghost use Rattle.std.specs.Prelude.{◌≡◌, ◌<◌, ◌^◌, [], IfOk, lengt
 ghost use Rattle.watch_expr.specs.Grammar.{ParsedExpr, left_level};
 ghost use Rattle.watch_expr.specs.Expression.{expression_of};
 ghost use Rattle.watch_expr.specs.Spelling.{unary_of};
-ghost use Rattle.watch_expr.specs.Machine.{settle_operators, pile, state, Have, More, Opens, Steps, GivesStep, Finishes, begun_by, onward, at_place, after_operator, close as after_closing, want_sign, went_of, went_if, only_if, lead, is_closed_with, closing as closing_sign, enclose, Led, Closes};
+ghost use Rattle.watch_expr.specs.Machine.{settle_operators, pile, state, Have, More, Opens, TakesToken, GivesStep, Finishes, begun_by, onward, at_place, after_operator, close as after_closing, want_sign, went_of, went_if, only_if, lead, is_closed_with, closing as closing_sign, enclose, Led, Closes};
 
 use crate::error::ExprError;
 use crate::expr::{Binary, Expr, NodeName};
@@ -46,7 +46,7 @@ fn advance(
     text: &[u8],
 ) -> Result<Step, AllocError>
     requires { length names.now < 2 ^ 32 }
-    ensures { IfOk result (λ s. Steps names.now (state frames.old.items mode) text.now frames.new.items s) }
+    ensures { IfOk result (λ s. TakesToken names.now (state frames.old.items mode) text.now frames.new.items s) }
 {
     match mode {
         Mode::Want => want(frames, text),
@@ -83,7 +83,7 @@ fn finish(
 
 /// Where an operand is wanted.
 fn want(frames: &mut Vec<Frame>, text: &[u8]) -> Result<Step, AllocError>
-    ensures { IfOk result (λ s. Steps [] (state frames.old.items Mode.Want) text.now frames.new.items s) }
+    ensures { IfOk result (λ s. TakesToken [] (state frames.old.items Mode.Want) text.now frames.new.items s) }
 {
     match read_number(text) {
         Some(n) => Ok(Step::Next(Mode::Have(Expr::Number(n)))),
@@ -115,7 +115,7 @@ fn part(
     text: &[u8],
 ) -> Result<Step, AllocError>
     requires { length names.now < 2 ^ 32 }
-    ensures { IfOk result (λ s. Steps names.now (state frames.old.items (Mode.Part half)) text.now frames.new.items s) }
+    ensures { IfOk result (λ s. TakesToken names.now (state frames.old.items (Mode.Part half)) text.now frames.new.items s) }
 {
     let went = continued(alloc, names, half, text)?;
     Ok(led(frames, went, Mode::Part(half))?)
