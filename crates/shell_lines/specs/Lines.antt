@@ -5,7 +5,7 @@ use Rattle.watch_expr.specs.Computed.{expression_spelled, viable}
 use Rattle.call_table.specs.Table.{kind_named}
 use Rattle.call_table.specs.declared.kind.Kind.{Kind}
 use Rattle.watch_expr.specs.Faulty.{is_nested, lacks_node, names_variable}
-use Rattle.watch_expr.specs.Spelling.{is_word, number_of}
+use Rattle.watch_expr.specs.Spelling.{is_word, most_number, number_of}
 use Rattle.watch_expr.specs.Expression.{Expression}
 use Rattle.embed_cmds.specs.Faulty.{lacks, nests}
 use Rattle.embed_cmds.specs.Reading.{program_of, word_of}
@@ -113,10 +113,6 @@ ends_at texts n command = if nat_le (length texts) n then Ok command else Err n
 -- a dollar and a word, which name a variable
 abbrev pub variable_at : List (List ℕ) → ℕ → Result (List ℕ) ℕ
 variable_at texts n = then_takes (token_at (sign_of (codes "$")) texts n) (λ _. token_at word_of texts (n + 1))
-
--- the greatest number that a token is
-abbrev pub most_number : ℕ
-most_number = 9223372036854775807
 
 abbrev pub expression_or_at : ℕ → Option Expression → Result Expression ℕ
 expression_or_at n None = Err n

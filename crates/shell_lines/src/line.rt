@@ -13,7 +13,7 @@ use crate::verbs::read_command;
 use embed_cmds::program_faults;
 use fri_bytes::Bytes;
 use std::alloc::{AllocError, Global};
-use watch_expr::{ExprError, exact_cut, find_faults, lex};
+use watch_expr::{ExprError, exact_cut, find_faults, is_blank, lex};
 
 // How many bytes a line has at most.
 const MOST_BYTES: usize = 4096;
@@ -74,12 +74,6 @@ fn front(bytes: &[u8]) -> Option<u8>
     ensures { result ≡ find (λ b. not (is_blank b)) bytes.now }
 {
     bytes.iter().copied().find(|b| !is_blank(*b))
-}
-
-fn is_blank(b: u8) -> bool
-    ensures { result ≡ is_blank b }
-{
-    b == b' ' || b == b'\t'
 }
 
 // Whether an aggregate stands in an aggregate.

@@ -1,5 +1,5 @@
 // What single tokens of a command are, and the expression behind its verb.
-ghost use Rattle.std.specs.Prelude.{◌≡◌, ◌<◌, ◌^◌, IfSome, bytes_eq, length, option_map, position};
+ghost use Rattle.std.specs.Prelude.{◌≡◌, ◌<◌, ◌^◌, bytes_eq, length, option_map, position};
 ghost use Rattle.call_table.specs.Table.{kind_named};
 ghost use Rattle.shell_lines.specs.Lines.{count_or, ends_at, expression_from, node_named, number_from, scope_named, token_at, variable_at};
 ghost use Rattle.shell_lines.specs.Seen.{ReadsAs, ReadsCommand, command, scope};
@@ -10,7 +10,7 @@ use crate::command::{Command, Scope};
 use fri_bytes::Bytes;
 use lib_calls::Kind;
 use std::alloc::Global;
-use watch_expr::{Expr, ExprError, Tokens, exact_reading, is_word, parse};
+use watch_expr::{Expr, ExprError, Tokens, exact_reading, find_name, is_word, parse};
 
 /// The number that token n is, from the least to the most.
 pub(crate) fn read_number(
@@ -93,15 +93,8 @@ fn place_of(text: &[u8], names: &[Bytes]) -> Option<u32>
     requires { length names.now < 2 ^ 32 }
     ensures { result ≡ position (λ name. bytes_eq name text.now) names.now }
 {
-    let place = place_among(text, names)?;
+    let place = find_name(names, text)?;
     Some(place as u32)
-}
-
-fn place_among(text: &[u8], names: &[Bytes]) -> Option<usize>
-    ensures place { result ≡ position (λ name. bytes_eq name text.now) names.now }
-    ensures within { IfSome result (λ n. n < length names.now) }
-{
-    names.iter().position(|name| name.as_slice() == text)
 }
 
 /// The variable that token n and the one behind it name: a dollar and a word.

@@ -13,10 +13,7 @@ use crate::read::{
 use embed_cmds::parse_program;
 use fri_bytes::Bytes;
 use std::alloc::Global;
-use watch_expr::{ExprError, Tokens};
-
-// The greatest number that a token is.
-const MOST_NUMBER: u64 = 9_223_372_036_854_775_807;
+use watch_expr::{ExprError, MOST_NUMBER, Tokens};
 
 const VERBS: [Verb; 17] = [
     Verb::Goto,

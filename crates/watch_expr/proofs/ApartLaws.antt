@@ -15,7 +15,7 @@ use Rattle.watch_expr.specs.declared.expr.Width.{Width}
 use Rattle.watch_expr.specs.declared.expr.Width.TheVariants as width
 use Rattle.watch_expr.specs.declared.word.PlaceWord.TheVariants as place
 use Rattle.watch_expr.specs.Expression.{Expression}
-use Rattle.watch_expr.specs.Spelling.{is_word_byte, is_word, number_of, at_most, binary_sign, unary_sign, agg_word, place_word}
+use Rattle.watch_expr.specs.Spelling.{is_word_byte, is_word, number_of, at_most, most_number, binary_sign, unary_sign, agg_word, place_word}
 use Rattle.watch_expr.specs.Grammar.{IsAt, higher, two, one, number, variable, brackets, over, load, global, clock, events, size}
 use Rattle.watch_expr.specs.Laws.{is_apart, NoneApart}
 use Rattle.watch_expr.proofs.Words.{same_bytes}
@@ -74,7 +74,7 @@ no_digits rest = rw (and_right (ltb 0 (length (34 ∷ rest))) (list_all is_ascii
 
 numbers : Unlike is_number
 unfolding number_of
-numbers = record { comma = refl; semicolon = refl; opening = refl; closing = refl; string = λ rest. ap (λ (o : Option ℕ). is_some (at_most 9223372036854775807 o)) (no_digits rest); none = refl }
+numbers = record { comma = refl; semicolon = refl; opening = refl; closing = refl; string = λ rest. ap (λ (o : Option ℕ). is_some (at_most most_number o)) (no_digits rest); none = refl }
 
 number_apart : (text : List ℕ) (n : ℕ) → number_of text ≡ Some n → not (is_apart text) ≡ true
 number_apart text n e = refuted (is_apart text) (λ a. apart is_number numbers text (ap is_some e) a)

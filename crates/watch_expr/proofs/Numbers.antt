@@ -11,7 +11,7 @@ use Rattle.std.proofs.lemmas.Str.{IsUtf8-from_ascii}
 use Rattle.std.proofs.lemmas.Str.Ascii.{IsAscii-from_all}
 use Rattle.fri_text.specs.declared.error.TextError.TheVariants.{TooGreat}
 use Rattle.fri_text.specs.Decimal.{up_to}
-use Rattle.watch_expr.specs.Spelling.{at_most, hex_number_of}
+use Rattle.watch_expr.specs.Spelling.{at_most, hex_number_of, most_number}
 
 pub at_most_up_to : (max : ℕ) (o : Option ℕ) → result_ok (up_to max o) ≡ at_most max o
 at_most_up_to max None = refl
@@ -80,7 +80,7 @@ too_great max ds text parsed fault small some digits same parses failed =
     let over : max < digits_value 16 ds = elim (cases_lt (digits_value 16 ds) (2 ^ 64)) [ inl below ↦ absurd (at_digits ((long, all_digits ds digits), below)) | inr above ↦ omega arith ] in
     rw (lt-leb (digits_value 16 ds) max over) refl
 
-pub hex_number_is : (ds : List ℕ) → eqb (length ds) 0 ≡ false → list_all is_ascii_hexdigit ds ≡ true → hex_number_of ds ≡ at_most 9223372036854775807 (Some (digits_value 16 ds))
+pub hex_number_is : (ds : List ℕ) → eqb (length ds) 0 ≡ false → list_all is_ascii_hexdigit ds ≡ true → hex_number_of ds ≡ at_most most_number (Some (digits_value 16 ds))
 hex_number_is ds some digits =
     let long : 0 < length ds = let ne = eqb-false (length ds) 0 some in omega arith in
     rw (lt-ltb 0 (length ds) long, digits) refl

@@ -96,7 +96,8 @@ fn sign_length(first: u8, rest: &[u8]) -> Option<usize>
     if is_sign(first) { Some(1) } else { None }
 }
 
-fn is_blank(b: u8) -> bool
+/// Whether the byte is a space or a tab.
+pub fn is_blank(b: u8) -> bool
     ensures { result ≡ is_blank_byte b }
 {
     b == b' ' || b == b'\t'

@@ -7,7 +7,8 @@ ghost use Rattle.watch_expr.specs.Spelling.{number_of, hex_number_of};
 use fri_text::read_decimal;
 use std::str;
 
-const GREATEST: u64 = i64::MAX as u64;
+/// The greatest number that a word is.
+pub const MOST_NUMBER: u64 = i64::MAX as u64;
 
 #[tactic(auto, using(crate::proofs::Numbers::at_most_up_to), unfolding(crate::specs::Spelling::number_of))]
 /// The number that the word is, if it is one: in decimal digits, or in hexadecimal ones behind `0x`.
@@ -16,7 +17,7 @@ pub(crate) fn read_number(word: &[u8]) -> Option<u64>
 {
     match word.strip_prefix(b"0x") {
         Some(digits) => read_hexadecimal(digits),
-        None => read_decimal(word, GREATEST).ok(),
+        None => read_decimal(word, MOST_NUMBER).ok(),
     }
 }
 
@@ -32,7 +33,7 @@ fn read_hexadecimal(digits: &[u8]) -> Option<u64>
     let Ok(number) = u64::from_str_radix(text, 16) else {
         return None;
     };
-    if number > GREATEST {
+    if number > MOST_NUMBER {
         return None;
     }
     Some(number)

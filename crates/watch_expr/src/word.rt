@@ -160,13 +160,14 @@ pub(crate) fn read_node(names: &[Bytes], word: &[u8]) -> NodeName
     if word == b"_".as_slice() {
         return NodeName::Each;
     }
-    match place_among(names, word) {
+    match find_name(names, word) {
         Some(place) => NodeName::Named(Some(place as u32)),
         None => NodeName::Named(None),
     }
 }
 
-fn place_among(names: &[Bytes], word: &[u8]) -> Option<usize>
+/// Where this name stands among the names.
+pub fn find_name(names: &[Bytes], word: &[u8]) -> Option<usize>
     ensures place { result ≡ position (λ name. bytes_eq name word.now) names.now }
     ensures within { IfSome result (λ n. n < length names.now) }
 {
