@@ -5,7 +5,7 @@ use Rattle.std.proofs.Math.Seq.{take-append-add, take-length}
 use Rattle.fri_outside.specs.Outside.{WhenTold, raised}
 use Rattle.fri_outside.specs.Terminal.{Hearing}
 use Rattle.proc_replay.specs.Replaying.{Replaying}
-use Rattle.friday_shell.specs.Session.{session_text, whole_lines}
+use Rattle.friday_shell.specs.Session.{session_text}
 use Rattle.debug_command.specs.declared.converse.Ended.{Ended}
 use Rattle.debug_command.specs.declared.converse.Ended.TheVariants as cause
 use Rattle.command_run.specs.declared.refusal.Reason.TheVariants as reason
@@ -13,7 +13,7 @@ use Rattle.command_run.specs.declared.status.Status.{Status}
 use Rattle.command_run.specs.declared.status.Status.TheVariants as status
 use Rattle.command_run.specs.Call.{IsAnswerStatus, Prints, said_after}
 use Rattle.debug_command.specs.Conversation.{Converses, IsNone, TakesOfInput, TakesTurns, heard_after}
-use Rattle.debug_command.specs.Debug.{input_name, session_outcome}
+use Rattle.debug_command.specs.Debug.{input_name, session_outcome, whole_lines}
 use Rattle.command_run.specs.Outcome.{outcome_text, refused_line}
 use Rattle.debug_command.specs.Talk.{Held, SessionHolds}
 use Rattle.command_run.specs.OutcomeLaws.{prints_all}

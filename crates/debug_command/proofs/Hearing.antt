@@ -12,11 +12,11 @@ use Rattle.fri_text.specs.Line.{lines_of}
 use Rattle.proc_replay.specs.Replaying.{Replaying}
 use Rattle.friday_shell.specs.Answer.{answer}
 use Rattle.friday_shell.specs.Points.{SessionState}
-use Rattle.friday_shell.specs.Session.{answers, ends, opening, session_text, whole_lines}
+use Rattle.friday_shell.specs.Session.{answers, ends, opening, session_text}
 use Rattle.debug_command.specs.declared.converse.Ended.{Ended}
 use Rattle.debug_command.specs.declared.converse.Ended.TheVariants as cause
 use Rattle.debug_command.specs.Conversation.{AreInTurn, Asks, IsInTurn, TakesOfInput}
-use Rattle.debug_command.specs.Debug.{early_lines, is_large, session_outcome}
+use Rattle.debug_command.specs.Debug.{early_lines, is_large, session_outcome, whole_lines}
 use Rattle.debug_command.specs.Limits.{most_input}
 use Rattle.command_run.specs.Outcome.{outcome_text}
 use Rattle.debug_command.specs.Talk.{Breaks, CameInTurn, Concludes, GoesOn, NotesPiece, PrintsPart, Said, SaysSome, SessionHolds, SessionStands, Spoke, Stops, StopsAtPiece, StopsIn, ended_by}

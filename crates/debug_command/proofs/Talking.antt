@@ -9,9 +9,9 @@ use Rattle.std.proofs.Math.Seq.{take-append-add, take-append_seam, take-length}
 use Rattle.fri_text.specs.Line.{is_line_feed, lines_of}
 use Rattle.proc_replay.specs.Replaying.{Replaying}
 use Rattle.friday_shell.specs.Points.{SessionState}
-use Rattle.friday_shell.specs.Session.{answers, ends, opening, session_text, whole_lines, whole_part}
+use Rattle.friday_shell.specs.Session.{answers, ends, opening, session_text}
 use Rattle.command_run.specs.declared.refusal.Reason.TheVariants as reason
-use Rattle.debug_command.specs.Debug.{early_lines, input_name, is_large, session_outcome, spoken}
+use Rattle.debug_command.specs.Debug.{early_lines, input_name, is_large, session_outcome, spoken, whole_lines, whole_part}
 use Rattle.debug_command.specs.Limits.{most_input}
 use Rattle.command_run.specs.Outcome.{CommandOutcome, Refuses, outcome_text, refused_line}
 use Rattle.debug_command.specs.Talk.{PrintsPart, Overruns, Quits, SaysPart, SessionStands, state_after_lines}

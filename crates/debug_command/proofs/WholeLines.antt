@@ -8,7 +8,8 @@ use Rattle.fri_text.specs.Line.{is_line_feed, pieces_of, lines_of}
 use Rattle.proc_replay.specs.Replaying.{Replaying}
 use Rattle.friday_shell.specs.Answer.{answer}
 use Rattle.friday_shell.specs.Points.{SessionState}
-use Rattle.friday_shell.specs.Session.{answers, ends, opening, session_text, whole_lines, whole_part}
+use Rattle.friday_shell.specs.Session.{answers, ends, opening, session_text}
+use Rattle.debug_command.specs.Debug.{whole_lines, whole_part}
 use Rattle.debug_command.specs.Talk.{state_after_lines}
 
 -- ---- the bytes up to the last line feed

@@ -4,13 +4,13 @@ use Rattle.std.specs.Io.KnownBytes.{append_known}
 use Rattle.fri_outside.specs.Outside.{Folder, WhenTold, raised}
 use Rattle.fri_outside.specs.Terminal.{Asking, Hearing, given_in}
 use Rattle.proc_replay.specs.Replaying.{Replaying}
-use Rattle.friday_shell.specs.Session.{ends, opening, session_text, whole_lines}
+use Rattle.friday_shell.specs.Session.{ends, opening, session_text}
 use Rattle.command_run.specs.declared.refusal.Reason.TheVariants as reason
 use Rattle.command_run.specs.declared.status.Status.{Status}
 use Rattle.command_run.specs.declared.status.Status.TheVariants as status
 use Rattle.command_run.specs.Call.{IsAnswerStatus, Prints, said_after}
 use Rattle.log_pairs.specs.Pairs.{Pair}
-use Rattle.debug_command.specs.Debug.{input_name, is_large, session_outcome}
+use Rattle.debug_command.specs.Debug.{input_name, is_large, session_outcome, whole_lines}
 use Rattle.debug_command.specs.Limits.{most_input}
 use Rattle.command_run.specs.Outcome.{outcome_status, outcome_text, refused_line}
 use Rattle.log_pairs.specs.Pairs.{WasOpened}

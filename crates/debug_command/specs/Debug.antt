@@ -1,9 +1,10 @@
 -- What `debug` comes to.
-use Rattle.std.specs.Prelude.{ℕ, ◌&&◌, Bool, false, not, nat_lt, List, [], length, take, codes, Option, Some, option_map, Result, Ok, Err, if◌then◌else◌}
+use Rattle.std.specs.Prelude.{ℕ, ◌&&◌, Bool, false, not, nat_lt, List, [], ◌∷◌, length, take, codes, Option, Some, option_map, Result, Ok, Err, if◌then◌else◌}
+use Rattle.std.specs.List.{list_any}
 use Rattle.fri_outside.specs.Outside.{Folder}
-use Rattle.fri_text.specs.Line.{lines_of}
+use Rattle.fri_text.specs.Line.{is_line_feed, lines_of}
 use Rattle.proc_replay.specs.Replaying.{Replaying}
-use Rattle.friday_shell.specs.Session.{ends, opening, session_text, whole_lines}
+use Rattle.friday_shell.specs.Session.{ends, opening, session_text}
 use Rattle.command_run.specs.declared.refusal.Reason.TheVariants as reason
 use Rattle.log_pairs.specs.Pairs.{Pair}
 use Rattle.debug_command.specs.Limits.{most_input}
@@ -13,6 +14,15 @@ use Rattle.log_pairs.specs.Pairs.{replays_of_pairs}
 -- what a refusal calls the input
 abbrev pub input_name : List ℕ
 input_name = codes "input"
+
+-- the bytes up to the last line feed, and with it
+abbrev pub whole_part : List ℕ → List ℕ
+whole_part [] = []
+whole_part (b ∷ bytes) = if list_any is_line_feed (b ∷ bytes) then b ∷ whole_part bytes else []
+
+-- the lines that end with a line feed
+abbrev pub whole_lines : List ℕ → List (List ℕ)
+whole_lines bytes = lines_of (whole_part bytes)
 
 -- the lines that end within as many bytes as may be read
 abbrev pub early_lines : List ℕ → List (List ℕ)

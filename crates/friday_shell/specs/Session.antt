@@ -1,7 +1,5 @@
 -- A session from its begin to its end.
 use Rattle.std.specs.Prelude.{ℕ, Bool, false, ◌||◌, List, [], ◌∷◌, ◌++◌, codes, if◌then◌else◌}
-use Rattle.std.specs.List.{list_any}
-use Rattle.fri_text.specs.Line.{is_line_feed, lines_of}
 use Rattle.proc_replay.specs.Replaying.{Replaying}
 use Rattle.friday_shell.specs.Answer.{answer}
 use Rattle.friday_shell.specs.Points.{SessionState}
@@ -23,12 +21,3 @@ ends state (line ∷ lines) = (answer state line).quits || ends (answer state li
 -- the text of a session in which these lines are typed
 abbrev pub session_text : List Replaying → List (List ℕ) → List ℕ
 session_text start lines = codes "at 0\n" ++ answers (opening start) lines
-
--- the bytes up to the last line feed, and with it
-abbrev pub whole_part : List ℕ → List ℕ
-whole_part [] = []
-whole_part (b ∷ bytes) = if list_any is_line_feed (b ∷ bytes) then b ∷ whole_part bytes else []
-
--- the lines that end with a line feed
-abbrev pub whole_lines : List ℕ → List (List ℕ)
-whole_lines bytes = lines_of (whole_part bytes)
