@@ -8,7 +8,8 @@ use Rattle.shell_lines.specs.declared.command.Command.{Command}
 use Rattle.shell_lines.specs.declared.line.Line.{Line}
 use Rattle.shell_lines.specs.declared.line.Line.TheVariants as line
 use Rattle.shell_lines.specs.declared.refusal.Refusal.{Refusal}
-use Rattle.friday_shell.specs.Answer.{answer_of, command_answer, node_names}
+use Rattle.group_state.specs.Place.{node_names}
+use Rattle.friday_shell.specs.Answer.{answer_of, command_answer}
 use Rattle.friday_shell.specs.Points.{SessionState}
 use Rattle.friday_shell.specs.Seen.{IsLine, Performs}
 use Rattle.friday_shell.specs.Ticks.{command_ticks, line_ticks, meaning_ticks}

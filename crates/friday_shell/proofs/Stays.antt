@@ -4,7 +4,7 @@ use Rattle.std.proofs.lemmas.Bool.{cases_Bool, eqb-true, ltb-true, ltb-false, lt
 use Rattle.std.specs.Fmt.{digit_glyph, digits, digits_onto}
 use Rattle.call_table.specs.declared.kind.Kind.{Kind}
 use Rattle.group_state.specs.Moves.{last_event_of}
-use Rattle.group_state.specs.Place.{Place, events}
+use Rattle.group_state.specs.Place.{Place, events, node_names}
 use Rattle.group_texts.specs.Texts.{event_ending, position_line}
 use Rattle.embed_cmds.specs.Faulty.{set_names}
 use Rattle.embed_cmds.specs.Tree.{Statements}
@@ -18,7 +18,7 @@ use Rattle.shell_points.specs.Firing.{place_at}
 use Rattle.shell_points.specs.Points.{Trigger, has_point, place_of_point}
 use Rattle.shell_points.specs.Returning.{return_from}
 use Rattle.shell_points.specs.Walking.{Walk, walk_from}
-use Rattle.friday_shell.specs.Answer.{LineAnswer, adds, answer_of, arrives, attaches_at, breaks_at, command_answer, deletes, most_points, most_variables, node_names, says, sets, walks}
+use Rattle.friday_shell.specs.Answer.{LineAnswer, adds, answer_of, arrives, attaches_at, breaks_at, command_answer, deletes, most_points, most_variables, says, sets, walks}
 use Rattle.friday_shell.specs.Laws.{RefusedStays}
 use Rattle.friday_shell.specs.Points.{SessionState}
 

@@ -1,12 +1,12 @@
 -- What a line of a session answers, and what the session then keeps.
-use Rattle.std.specs.Prelude.{ℕ, ◌+◌, ◌-◌, min, Bool, true, false, ◌||◌, nat_le, nat_lt, List, [], ◌++◌, length, map, slice_get, codes, decimal, Option, Some, None, ℤ, if◌then◌else◌}
+use Rattle.std.specs.Prelude.{ℕ, ◌+◌, ◌-◌, min, Bool, true, false, ◌||◌, nat_le, nat_lt, List, [], ◌++◌, length, slice_get, codes, decimal, Option, Some, None, ℤ, if◌then◌else◌}
 use Rattle.std.specs.List.{flat_map}
 use Rattle.fri_text.specs.Hex.{hex_word}
 use Rattle.call_table.specs.declared.kind.Kind.{Kind}
 use Rattle.proc_replay.specs.Replaying.{Replaying}
 use Rattle.guest_process.specs.State.{State}
 use Rattle.watch_expr.specs.View.{bytes_of_node}
-use Rattle.group_state.specs.Place.{Place, events, states}
+use Rattle.group_state.specs.Place.{Place, events, node_names, states}
 use Rattle.group_state.specs.Seen.{nodes_at}
 use Rattle.group_texts.specs.Texts.{last_lines, node_name, position_line, process_lines}
 use Rattle.embed_cmds.specs.Faulty.{set_names}
@@ -151,10 +151,6 @@ command_answer state line Rcontinue = returns state (return_from state.place sta
 command_answer state line Quit = record { text = []; state = state; quits = true }
 
 -- ---- the answer of a line
-
--- the names of the processes
-abbrev pub node_names : List Replaying → List (List ℕ)
-node_names start = map (λ r. r.head.name) start
 
 -- what a line of this meaning answers, which without outer blanks is this
 abbrev pub answer_of : SessionState → List ℕ → LineMeaning → LineAnswer

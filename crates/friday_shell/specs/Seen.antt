@@ -1,6 +1,6 @@
 -- What the values of the code stand for.
 use Rattle.std.specs.Prelude.{◌≡◌, ℕ, Bool, true, false, List}
-use Rattle.group_state.specs.Place.{Place}
+use Rattle.group_state.specs.Place.{Place, node_names}
 use Rattle.shell_lines.specs.Meaning.{trimmed}
 use Rattle.shell_lines.specs.Seen.{meaning}
 use Rattle.shell_lines.specs.declared.line.Line.{Line}
@@ -8,7 +8,7 @@ use Rattle.friday_shell.specs.declared.session.Go.{Go}
 use Rattle.friday_shell.specs.declared.session.Go.TheVariants as go
 use Rattle.friday_shell.specs.declared.state.Kept.{Kept}
 use Rattle.friday_shell.specs.declared.state.State.{State as Stands}
-use Rattle.friday_shell.specs.Answer.{LineAnswer, answer, answer_of, node_names}
+use Rattle.friday_shell.specs.Answer.{LineAnswer, answer, answer_of}
 use Rattle.friday_shell.specs.Points.{SessionState}
 
 -- what a session keeps, whose group stands there

@@ -4,7 +4,7 @@ use Rattle.group_state.specs.Touch.{ticks}
 use Rattle.shell_lines.specs.Lines.{Continue, LineCommand, Rcontinue}
 use Rattle.shell_lines.specs.Meaning.{Does, LineMeaning, line_meaning}
 use Rattle.shell_points.specs.Watching.{watched}
-use Rattle.friday_shell.specs.Answer.{node_names}
+use Rattle.group_state.specs.Place.{node_names}
 use Rattle.friday_shell.specs.Points.{SessionState}
 
 -- A command that ends at position `to`: `continue` does from where the session stands to there, `rcontinue` over the positions

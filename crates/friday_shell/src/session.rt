@@ -1,7 +1,8 @@
 // A session of the debugger.
 ghost use Rattle.std.specs.Prelude.{◌≡◌, ℕ, ◌+◌, ◌<◌, ◌≤◌, ◌^◌, IfOk, List, Ok, codes, length, true};
 ghost use Rattle.std.specs.Result.{IsOk};
-ghost use Rattle.friday_shell.specs.Answer.{answer, command_answer, node_names};
+ghost use Rattle.group_state.specs.Place.{node_names};
+ghost use Rattle.friday_shell.specs.Answer.{answer, command_answer};
 ghost use Rattle.friday_shell.specs.Points.{SessionState};
 ghost use Rattle.friday_shell.specs.Seen.{IsLine, IsLineAnswer, is_quit};
 ghost use Rattle.friday_shell.specs.Session.{opening};
@@ -50,7 +51,7 @@ impl<'m, 'a> Model for Session<'m, 'a> {
 
     ghost coded = { Prim.hlevel (codes, trees_code, crew_code, expression_code, statements_code) };
 
-    ghost use Rattle.friday_shell.specs.Answer.{node_names};
+    ghost use Rattle.group_state.specs.Place.{node_names};
     ghost use Rattle.friday_shell.specs.Seen.{session_state};
 
     ghost view = { λ s. session_state s.state };

@@ -16,6 +16,10 @@ pub record Place : Type 0 where
   pub start : List Replaying
   pub at : ℕ
 
+-- the names of the processes
+abbrev pub node_names : List Replaying → List (List ℕ)
+node_names start = map (λ r. r.head.name) start
+
 -- ---- which replays make a group
 
 -- of the first of them, if there is one, the number of processes that its head names

@@ -1,5 +1,5 @@
 -- How events, positions and threads are shown.
-use Rattle.std.specs.Prelude.{ℕ, suc, ◌-◌, ◌%◌, ◌^◌, ◌==◌, Bool, true, false, List, [], ◌∷◌, ◌++◌, map, take, drop, decimal, codes, Option, Some, None, if◌then◌else◌, slice_index_or}
+use Rattle.std.specs.Prelude.{ℕ, suc, ◌-◌, ◌%◌, ◌^◌, ◌==◌, Bool, true, false, List, [], ◌∷◌, ◌++◌, take, drop, decimal, codes, Option, Some, None, if◌then◌else◌, slice_index_or}
 use Rattle.std.specs.Fmt.{signed_decimal}
 use Rattle.std.specs.Int.{w32, w64, cast_signed}
 use Rattle.std.specs.List.{flat_map}
@@ -15,7 +15,7 @@ use Rattle.guest_process.specs.State.{State, is_running}
 use Rattle.group_order.specs.Order.{NodeEvent}
 use Rattle.proc_replay.specs.Replaying.{Replaying}
 use Rattle.group_state.specs.Moves.{last_event_of}
-use Rattle.group_state.specs.Place.{Place, events}
+use Rattle.group_state.specs.Place.{Place, events, node_names}
 use Rattle.end_text.specs.Ends.{end_text}
 
 -- ---- calls
@@ -60,7 +60,7 @@ signal_text signal = if signal == 0 then [] else codes " ! " ++ decimal signal
 
 -- the name of a node's process
 abbrev pub node_name : List Replaying → ℕ → List ℕ
-node_name start node = slice_index_or (map (λ r. r.head.name) start) node []
+node_name start node = slice_index_or (node_names start) node []
 
 -- the clock, the name of the process and the thread
 abbrev pub stamp_text : List Replaying → NodeEvent Entry → List ℕ

@@ -11,7 +11,7 @@ use Rattle.schedule_text.specs.Limits.{most_schedule}
 use Rattle.schedule_text.specs.Schedule.{IsSchedule}
 use Rattle.schedule_text.specs.Text.{text_of}
 use Rattle.schedule_text.specs.declared.process.ProcessLine.{ProcessLine}
-use Rattle.group_state.specs.Place.{AreParts, PartsFit, events, group_count}
+use Rattle.group_state.specs.Place.{AreParts, PartsFit, events, group_count, node_names}
 use Rattle.schedule_back.specs.Back.{back, schedule_of}
 use Rattle.schedule_back.specs.Outcome.{text_or_refusal}
 use Rattle.schedule_back.specs.Seen.{BringBytes}
@@ -24,7 +24,7 @@ pub record IsWholeGroup (lines : List ProcessLine) (start : List Replaying) : Ty
   pub fits : PartsFit start
   pub at_heads : All IsAtHead start
   pub whole : length start ≡ group_count start
-  pub names : map (λ line. line.name) lines ≡ map (λ r. r.head.name) start
+  pub names : map (λ line. line.name) lines ≡ node_names start
   pub apart : AllPairs (λ a b. a.name ≢ b.name) lines
 
 -- the group of the schedule, with these first states, and the run of its items

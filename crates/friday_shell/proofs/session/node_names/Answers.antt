@@ -1,5 +1,5 @@
 use Rattle.std.proofs.Common.{◌≡◌, ℕ, List, Some, slice_get, ap, ◌∙◌}
-use Rattle.friday_shell.specs.Answer.{node_names}
+use Rattle.group_state.specs.Place.{node_names}
 use Rattle.friday_shell.proofs.Named.{named_more}
 use Rattle.friday_shell.proofs.session.node_names.Goals as goal
 

@@ -1,5 +1,5 @@
 use Rattle.std.proofs.Common.{◌≡◌, take}
-use Rattle.friday_shell.specs.Answer.{node_names}
+use Rattle.group_state.specs.Place.{node_names}
 use Rattle.friday_shell.proofs.session.node_names.Given as goal
 
 abbrev pub invariant-loop-node : goal.invariant-loop-node

@@ -1,6 +1,6 @@
 use Rattle.std.proofs.Common.{◌≡◌, ◌+◌, ℕ, sym, ap, ◌∙◌, arith}
 use Rattle.shell_lines.specs.Seen.{command}
-use Rattle.friday_shell.specs.Answer.{node_names}
+use Rattle.group_state.specs.Place.{node_names}
 use Rattle.friday_shell.specs.Points.{SessionState}
 use Rattle.friday_shell.specs.Ticks.{command_ticks}
 use Rattle.friday_shell.proofs.Answered.{command_ticks_of, refused_ticks, silent_ticks}
