@@ -26,7 +26,8 @@ use Rattle.call_table.specs.declared.kind.Kind.TheVariants.{Exit}
 use Rattle.guest_process.specs.declared.parts.Parts.{Parts}
 use Rattle.guest_process.specs.declared.waiting.Waiting.{Waiting}
 use Rattle.lib_calls.specs.Answer.{Answer, answer_of}
-use Rattle.guest_process.specs.Answers.{acted, effects, exited, narrow}
+use Rattle.guest_process.specs.Advancing.{acted}
+use Rattle.guest_process.specs.Answers.{effects, exited, narrow}
 use Rattle.guest_process.specs.Fits.{Each, StateFits, live_has}
 use Rattle.guest_process.specs.GoesOn.{after_running, budget, counted, finished_if_over, handler, runs_on, stands, stopped, stopped_at_call, with_handler_frame}
 use Rattle.guest_process.specs.Kinds.{ends_process, reply_value}

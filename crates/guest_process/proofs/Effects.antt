@@ -15,7 +15,8 @@ use Rattle.lib_calls.specs.declared.entry.Call.{Call}
 use Rattle.signal_points.specs.Signals.{with_handler}
 use Rattle.wasm_step.specs.Strand.{new_thread}
 use Rattle.wasm_step.specs.Thread.{Thread}
-use Rattle.guest_process.specs.Answers.{Fixed, World, acted, after_need, asked, effects, exited, handled, handler_given, handles, is_holder, joined, joins, locked, locks, narrow, spawnable, spawned, spawned_at, spawns, unlocked, with_answer}
+use Rattle.guest_process.specs.Advancing.{acted}
+use Rattle.guest_process.specs.Answers.{Fixed, World, after_need, asked, effects, exited, handled, handler_given, handles, is_holder, joined, joins, locked, locks, narrow, spawnable, spawned, spawned_at, spawns, unlocked, with_answer}
 use Rattle.guest_process.specs.Start.{beginning}
 use Rattle.guest_process.specs.State.{State, with_handlers, with_lock, with_new_thread, without_lock}
 

@@ -10,7 +10,8 @@ use Rattle.lamport_tag.specs.declared.Tag.{Tag}
 use Rattle.lib_calls.specs.declared.entry.Call.{Call}
 use Rattle.lib_calls.specs.Answer.{Answer}
 use Rattle.lib_calls.specs.Effects.{brings, has_good, is_answer, is_good, is_range, minus_one, minus_two, put_in, takes_counted, takes_nothing, written as memory_with}
-use Rattle.guest_process.specs.Answers.{Need, Fixed, World, acted, after_need, asked, effects, handled, is_drawn, is_empty, is_payload, brings_nothing, is_possible, takes_datagram, locked, narrow, need, spawned, unlocked, with_answer}
+use Rattle.guest_process.specs.Advancing.{acted}
+use Rattle.guest_process.specs.Answers.{Need, Fixed, World, after_need, asked, effects, handled, is_drawn, is_empty, is_payload, brings_nothing, is_possible, takes_datagram, locked, narrow, need, spawned, unlocked, with_answer}
 use Rattle.guest_process.specs.Kinds.{ends_process}
 use Rattle.guest_process.specs.Legal.{gives_answer}
 use Rattle.guest_process.specs.State.{State, with_memory}

@@ -188,14 +188,6 @@ after_need (Fixed reply S) S' = S
 after_need Blocked S' = S'
 after_need World S' = S'
 
--- the state after an answer, but for the end of a thread that calls `exit`
-abbrev pub acted : Option Kind → State → ℕ → Call → Answer → State
-acted (Some Spawn) S t c a = after_need (spawned S (narrow c.a0) (narrow c.a1)) S
-acted (Some Lock) S t c a = after_need (locked S (narrow c.a0) t) S
-acted (Some Unlock) S t c a = after_need (unlocked S (narrow c.a0) t) S
-acted (Some OnSignal) S t c a = after_need (handled S (narrow c.a0) (narrow c.a1)) S
-acted _ S t c a = with_answer S c a
-
 -- the state with the effects of an answer
 abbrev pub effects : Kind → State → ℕ → Call → Answer → State
 effects kind S t c a = after_need (need kind S t c) (with_answer S c a)
