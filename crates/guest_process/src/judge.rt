@@ -131,7 +131,8 @@ impl<'m> Parts<'m> {
     fn is_handled(&self, entry: &EntryView<'_>, waiting: &Waiting<'m>) -> bool
         ensures { result ≡ (checks (state_of self.now) (entry_of entry.now) waiting.now).handler }
     {
-        is_handled(waiting.kind, &self.handlers_after(waiting), entry.signal)
+        // At nearly all events there is none, and the handlers need not be put together.
+        entry.signal == 0 || is_handled(waiting.kind, &self.handlers_after(waiting), entry.signal)
     }
 }
 
