@@ -88,6 +88,7 @@ impl Surroundings {
     }
 
     /// An event takes random bytes, and delivers a signal or none.
+    #[inline(always)]
     pub(crate) fn settle(&mut self, entry: &EntryView<'_>)
         requires { drawn_of (entry_of entry.now) ≤ length self.old.pool }
         ensures { self.new ≡ after_entry self.old (entry_of entry.now) }

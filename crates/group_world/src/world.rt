@@ -107,6 +107,7 @@ impl World {
 
     /// An event of `p`: what it took is gone, what it sent into the group is kept, and the signal that it
     /// delivered is pending no longer.
+    #[inline(always)]
     pub fn event(&mut self, p: u32, entry: &EntryView<'_>) -> Result<(), AllocError>
         requires process { p < process_count self.old }
         requires datagram { IsTrue (is_taken_of (entry_of entry.now)) → 1 ≤ length (mailbox_of self.old.net p) }
@@ -123,6 +124,7 @@ impl World {
     }
 
     // Keeps the datagram that the event sent into the group, if it sent one.
+    #[inline(always)]
     #[tactic(auto, using(crate::proofs::EventLaws::sent_within))]
     fn keep_sent(&mut self, p: u32, entry: &EntryView<'_>) -> Result<(), AllocError>
         requires { p < process_count self.old }
@@ -140,6 +142,7 @@ impl World {
     }
 
     // Lets the datagram go that the event took, if it took one.
+    #[inline(always)]
     fn let_go_taken(&mut self, p: u32, entry: &EntryView<'_>)
         requires process { p < process_count self.old }
         requires datagram { IsTrue (is_taken_of (entry_of entry.now)) → 1 ≤ length (mailbox_of self.old.net p) }
@@ -223,7 +226,9 @@ fn datagram(alloc: Global, p: u32, entry: &EntryView<'_>) -> Result<Bytes, Alloc
         sender: p,
         clock: entry.clock,
     };
-    let mut bytes = Bytes::from_slice(alloc, &write_tag(tag))?;
-    bytes.push_all(entry.outgoing)?;
-    Ok(bytes)
+    let tag = write_tag(tag);
+    let mut bytes = Vec::with_capacity(alloc, tag.len() + entry.outgoing.len())?;
+    bytes.extend_from_slice(&tag)?;
+    bytes.extend_from_slice(entry.outgoing)?;
+    Ok(Bytes::from_vec(bytes))
 }
