@@ -36,7 +36,8 @@ pub fn put_head(out: &mut Vec<u8>, head: &LogHead<'_>) -> Result<(), AllocError>
     )
 }
 
-/// Adds an entry behind one with the clock `last`.
+/// Adds an entry after one with the clock `last`.
+#[inline(always)]
 pub fn put_entry(
     out: &mut Vec<u8>,
     version: Version,
@@ -60,7 +61,8 @@ fn is_small(entry: &EntryView<'_>) -> bool {
 }
 
 // Adds an entry of version 2. The length of its body most likely takes one byte, which is put in once the
-// body stands behind it, so that no field is measured first.
+// body stands after it, so that no field is measured first.
+#[inline(always)]
 fn put_small(out: &mut Vec<u8>, last: u64, entry: &EntryView<'_>) -> Result<(), AllocError>
     requires { IsShaped (entry_of entry.now) }
     ensures ok { OnOk result (out.new.items ≡ out.old.items ++ encoding Two last (entry_of entry.now)) }

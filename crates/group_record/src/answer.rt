@@ -44,6 +44,7 @@ impl Answer {
 }
 
 /// The answer to a call of process `p`, where it is given now.
+#[inline(always)]
 pub(crate) fn answer_now(
     alloc: Global,
     need: Need,

@@ -13,6 +13,7 @@ use lib_calls::{Entry, outgoing};
 use std::alloc::{AllocError, Global};
 
 /// The entry of the event of a try of this thread of process `p`, or nothing where the try is idle.
+#[inline(always)]
 pub(crate) fn live_entry(
     alloc: Global,
     process: &Process<'_>,
