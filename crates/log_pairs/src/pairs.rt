@@ -164,7 +164,7 @@ fn begin_replay<'m>(alloc: Global, loaded: &'m Loaded<'_>) -> Result<Replayer<'m
         loaded.process,
         loaded.count,
     )?;
-    Ok(Replayer::begin(begun, log))
+    Ok(Replayer::begin(alloc, begun, log)?)
 }
 
 // How many replays at the front are of processes with lower numbers.

@@ -31,7 +31,7 @@ fn begin<'m, 'a>(
     let log = LogView::begin(bytes)?;
     let head = log.head();
     let process = Process::start(alloc, module, head.process, head.count)?;
-    Ok(Replayer::begin(process, log))
+    Ok(Replayer::begin(alloc, process, log)?)
 }
 
 // The kind of the call whose event the turn makes.

@@ -21,14 +21,14 @@ use Rattle.proc_replay.proofs.Walking.{same_entry}
 
 -- ---- what is read and judged is what the turn gives
 
-pub no_entry : (S : State) (log behind : Log) → entry_at log.left ≡ None → IsAhead (replaying S log) (record { turn = code.LogEnd; behind = behind })
+pub no_entry : (S : State) (log behind : Log) → entry_at log.left ≡ None → IsAhead (replaying S log) code.LogEnd behind
 no_entry S log behind is = record {
   tells = sym (ap (turn_at S) is);
   leaves = λ e makes. let told : turn_at S None ≡ Makes e = sym (ap (turn_at S) is) ∙ makes in absurd (cc);
 }
 
 pub illegal_entry : (S : State) (log behind : Log) (e : Entry) (left : Unread) (at : ℕ) (why : Divergence) → entry_at log.left ≡ Some (e, left) → reason S e ≡ Some why → at ≡ S.events + 1
-    → IsAhead (replaying S log) (record { turn = code.Diverged at why; behind = behind })
+    → IsAhead (replaying S log) (code.Diverged at why) behind
 illegal_entry S log behind e left at why is differs count =
     let told : turn_at S (entry_at log.left) ≡ Diverges at why = ap (turn_at S) is ∙ ap (move_by S e) differs ∙ ap (λ n. Diverges n why) (sym count) in record {
       tells = sym told;
@@ -39,7 +39,7 @@ same_log : (h g : Head) (l m : Unread) → h ≡ g → l ≡ m → ◌≡◌ {A 
 same_log h g l m p q = rw (p, q) refl
 
 pub legal_entry : (S : State) (log behind : Log) (v : EntryView) → entry_at log.left ≡ Some (entry_of v, behind.left) → behind.head ≡ log.head → reason S (entry_of v) ≡ None
-    → IsAhead (replaying S log) (record { turn = code.Event v; behind = behind })
+    → IsAhead (replaying S log) (code.Event v) behind
 legal_entry S log behind v is head legal =
     let r = replaying S log in
     let left : (after r).left ≡ behind.left = ap (λ (s : Replaying). s.left) (ap (after_at r) is ∙ ap (moved r (entry_of v) behind.left) legal) in record {

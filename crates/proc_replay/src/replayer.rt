@@ -16,16 +16,17 @@ use std::marker::Model;
 #[derive(Drop)]
 pub struct Replayer<'m, 'a> {
     process: Process<'m>,
-    log: LogView<'a>,
-    // Kept, so that each entry is read and judged once.
-    ahead: Ahead<'a>,
+    // Behind a box, since a replay is moved at each event.
+    ahead: Box<Ahead<'a>>,
 }
 
-// What the next turn gives, and the log behind the entry that stands next.
+// What is left of the log; what the next turn gives, so that each entry is read and judged once; and the log after the
+// entry that stands next.
 #[derive(Drop)]
 struct Ahead<'a> {
+    log: LogView<'a>,
     turn: Turn<'a>,
-    behind: LogView<'a>,
+    following: LogView<'a>,
 }
 
 impl<'m, 'a> Model for Replayer<'m, 'a> {
@@ -38,35 +39,34 @@ impl<'m, 'a> Model for Replayer<'m, 'a> {
 
     ghost coded = { Prim.hlevel (codes, trees_code, crew_code) };
 
-    ghost view = { λ r. replaying r.process r.log };
+    ghost view = { λ r. replaying r.process r.ahead.value.log };
 
     ghost invariant = { IsReplayer };
 }
 
 impl<'m, 'a> Replayer<'m, 'a> {
     /// The replay of a process that has had no event, from the log of that process.
-    pub fn begin(process: Process<'m>, log: LogView<'a>) -> Replayer<'m, 'a>
+    pub fn begin(
+        alloc: Global,
+        process: Process<'m>,
+        log: LogView<'a>,
+    ) -> Result<Replayer<'m, 'a>, AllocError>
         requires who { process.who ≡ log.head.process }
         requires count { process.count ≡ log.head.count }
         requires fresh { process.events ≡ 0 }
-        ensures { result ≡ record { head = log.entry.head; state = process.entry; left = log.entry.left } }
+        ensures { IfOk result (λ r. r ≡ record { head = log.entry.head; state = process.entry; left = log.entry.left }) }
     {
         // The proof needs that what is left is a slice, and so shorter than 2 ^ 63 bytes.
         let _ = log.rest().len();
-        Replayer::at(process, log)
-    }
-
-    // The replay with this process and this log. It reads and judges the entry that stands next.
-    fn at(process: Process<'m>, log: LogView<'a>) -> Replayer<'m, 'a>
-        requires { IsRoomy process log }
-        ensures { result ≡ replaying process.entry log.entry }
-    {
-        let ahead = look_ahead(&process, &log);
-        Replayer {
-            process,
+        let mut following = log.copy();
+        let turn = next_turn(&process, &mut following);
+        let ahead = Ahead {
             log,
-            ahead,
-        }
+            turn,
+            following,
+        };
+        let ahead = Box::new(alloc, ahead)?;
+        Ok(Replayer { process, ahead })
     }
 
     /// What the next turn gives. It takes no memory.
@@ -83,15 +83,14 @@ impl<'m, 'a> Replayer<'m, 'a> {
     {
         entry_by_entry();
         counting();
-        let turn = self.ahead.turn;
-        match turn {
-            Turn::Event(entry) => {
-                let process = self.process.advance(&entry)?;
-                Ok((Replayer::at(process, self.ahead.behind), turn))
-            }
-            Turn::LogEnd => Ok((self, turn)),
-            Turn::Diverged(..) => Ok((self, turn)),
-        }
+        let Replayer { process, mut ahead } = self;
+        let turn = ahead.turn;
+        let Turn::Event(entry) = turn else {
+            return Ok((Replayer { process, ahead }, turn));
+        };
+        let process = process.advance(&entry)?;
+        ahead.go_on(&process);
+        Ok((Replayer { process, ahead }, turn))
     }
 
     /// The process after the events so far.
@@ -113,21 +112,21 @@ impl<'m, 'a> Replayer<'m, 'a> {
     pub fn left(&self) -> u64
         ensures { result ≡ length self.now.left.bytes }
     {
-        self.log.rest().len() as u64
+        self.ahead.log.rest().len() as u64
     }
 
     /// The log behind the entries of the events so far.
     pub fn log(&self) -> LogView<'a>
         ensures { result ≡ record { head = self.now.head; left = self.now.left } }
     {
-        self.log.copy()
+        self.ahead.log.copy()
     }
 
     /// The log's head.
     pub fn head(&self) -> LogHead<'a>
         ensures { head_of result ≡ self.now.head }
     {
-        self.log.head()
+        self.ahead.log.head()
     }
 
     /// An equal replay.
@@ -135,47 +134,43 @@ impl<'m, 'a> Replayer<'m, 'a> {
         ensures { IfOk result (λ r. r ≡ self.now) }
     {
         let process = self.process.copy(alloc)?;
-        let log = self.log.copy();
-        let ahead = self.ahead.copy();
-        Ok(Replayer {
-            process,
-            log,
-            ahead,
-        })
+        let ahead = Box::new(alloc, self.ahead.copy())?;
+        Ok(Replayer { process, ahead })
     }
 }
 
 impl<'a> Ahead<'a> {
+    // Goes on after the entry that stands next, whose event led to this process.
+    fn go_on(&mut self, process: &Process<'_>)
+        requires { IsRoomy process.now self.old.following }
+        ensures log { self.new.log ≡ self.old.following }
+        ensures ahead { IsAhead (replaying process.now self.old.following) self.new.turn self.new.following }
+    {
+        self.log = self.following.copy();
+        self.turn = next_turn(process, &mut self.following);
+    }
+
     fn copy(&self) -> Ahead<'a>
         ensures { result ≡ self.now }
     {
         Ahead {
+            log: self.log.copy(),
             turn: self.turn,
-            behind: self.behind.copy(),
+            following: self.following.copy(),
         }
     }
 }
 
 // Reads the entry that stands next in a log, and judges it.
-fn look_ahead<'a>(process: &Process<'_>, log: &LogView<'a>) -> Ahead<'a>
-    requires { IsRoomy process.now log.now }
-    ensures { IsAhead (replaying process.now log.now) result }
+fn next_turn<'a>(process: &Process<'_>, log: &mut LogView<'a>) -> Turn<'a>
+    requires { IsRoomy process.now log.old }
+    ensures { IsAhead (replaying process.now log.old) result log.new }
 {
-    let mut behind = log.copy();
-    let Some(entry) = behind.next_entry() else {
-        return Ahead {
-            turn: Turn::LogEnd,
-            behind,
-        };
+    let Some(entry) = log.next_entry() else {
+        return Turn::LogEnd;
     };
     match process.legal(&entry) {
-        Ok(()) => Ahead {
-            turn: Turn::Event(entry),
-            behind,
-        },
-        Err(why) => Ahead {
-            turn: Turn::Diverged(process.events() + 1, why),
-            behind,
-        },
+        Ok(()) => Turn::Event(entry),
+        Err(why) => Turn::Diverged(process.events() + 1, why),
     }
 }
