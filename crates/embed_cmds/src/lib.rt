@@ -1,4 +1,11 @@
 //! The programs that are attached to the points of a debugger, and the variables that they set.
+//!
+//! A program is read from the tokens of a line (`parse_program`), and run over the nodes of a group (`run_program`).
+//! Contracts see it as a list of statements (`specs/Tree`), and the variables as a list of names with their values, in the
+//! order in which they were first mentioned (`specs/Variables`). `specs/Grammar` says which tokens spell which program,
+//! `specs/Faulty` what may be wrong with one, and `specs/Running` what one does to the variables and what it says. Each call
+//! gives exactly that, or wants memory. The law `exact_programs` says that tokens spell at most one program, which
+//! `specs/Reading` computes, and at which token they stop being the front of any.
 #![tactic(auto)]
 
 mod faults;

@@ -1,5 +1,11 @@
-//! Bytes: an owned list of them, a cursor that reads from their front, and the calls that append
-//! numbers to them, of a fixed width or in the shortest LEB128 spelling.
+//! Bytes: an owned list of them, a cursor that reads from their front, and the calls that append numbers to them, of a fixed
+//! width or in the shortest LEB128 spelling.
+//!
+//! Contracts see `Bytes` as the list of its bytes, and a `Cursor` as the bytes that are left and how many were taken
+//! (`specs/Reading`). A reader takes a value from the front, as its definition says (`specs/Reading`, `specs/Leb`,
+//! `specs/Short`), or answers None and leaves the cursor as it was. What is appended is added whole, or, without memory, not
+//! at all. The law `exact_readers` says that each reader finds exactly what is spelled at the front of the bytes, and that
+//! fixed and short numbers are read back as they were written.
 #![tactic(auto)]
 
 mod bytes;

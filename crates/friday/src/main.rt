@@ -1,5 +1,10 @@
-//! The program: hands the command line's words, the files, standard input and standard output to the
-//! top call, and ends with its status.
+//! The program: hands the command line's words, the files, standard input and standard output to the top call, and ends with
+//! its status.
+//!
+//! All that it prints and makes is done by `friday` of `friday_app`, whose contract says what. What a clause here says is
+//! how the call's status goes on once the files are closed: a file that cannot be closed makes a write fault of an answer,
+//! and no status that is a fault already changes. Where a standard stream is closed, `/dev/null` takes its descriptor first,
+//! so that no file gets what is printed.
 #![tactic(auto)]
 
 ghost use Rattle.std.specs.Prelude.{◌≡◌, OnErr, OnOk};

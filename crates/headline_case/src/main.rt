@@ -1,5 +1,8 @@
 //! Records a group over files in memory and shows it there, by `replay` and by `debug`, in one call each, and prints what came
 //! of them. The modules and the schedule lie in the folder that it is run in.
+//!
+//! It is an instance of the main theorem: `record_and_show` of `two_calls` makes both calls, and its contract says that what
+//! the second shows is what the first recorded. The transcript that is printed is compared with a stored one.
 #![tactic(auto)]
 
 use fri_outside::{MemFiles, MemSink, MemSource, MemTerminal};

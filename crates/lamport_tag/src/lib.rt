@@ -1,4 +1,10 @@
-//! The tag of a datagram: who sent it, and its Lamport clock.
+//! The tag of a datagram: who sent it, and its Lamport clock; and the rule by which clocks go on.
+//!
+//! A datagram is a tag of 16 bytes and a payload, or a payload alone. `read_tag` finds a tag exactly where the bytes begin
+//! with one that a process of the group can have sent (`IsTagged`, `IsUntagged` and `tag_at` of `specs/Tag`), and
+//! `write_tag` gives its bytes. The clock of an event is one more than the greater of the clock before it and of that which
+//! its datagram brought (`next_clock_of`). The law `tags_read_back` says that a tag is found again in front of what follows
+//! it, and `cut_short` that a datagram without a tag has none after its end is cut off. Nothing here takes memory.
 #![tactic(auto)]
 
 ghost use Rattle.std.specs.Prelude.{◌≡◌, ◌^◌, ◌<◌, ◌==◌, max, IfSome, IfNone, option_map};

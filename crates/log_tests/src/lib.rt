@@ -1,5 +1,9 @@
-//! Tests of the crates of calls, logs, schedules and processes through their public calls. They lie in a
-//! crate of their own, since a crate with tests is proved twice.
+//! Tests of the crates of calls, logs, schedules, processes, replays, groups and watches, through their public calls. They lie
+//! in a crate of their own, since a crate with tests is proved twice.
+//!
+//! Each file is about one of these: the bytes that calls name and answers write, a log of known bytes that is read and written
+//! again, schedules with known answers, a process and its copies, a replay that is copied, a group that goes forwards and
+//! backwards, and how often watches load. What commands print is tested by `friday_cases`. Nothing else is in this crate.
 #![tactic(auto)]
 
 #[cfg(test)]

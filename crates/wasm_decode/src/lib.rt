@@ -1,4 +1,10 @@
 //! The binary format of WebAssembly 1.0: the module that bytes spell.
+//!
+//! `specs/Grammar` says which bytes spell which value, a case for each production of the standard's chapter 5, floats
+//! included. `decode` gives the module that the bytes spell, and is `Malformed` exactly where they spell none, unless memory
+//! runs out; blocks may nest 1,000 deep. The law `one_module` says that bytes spell at most one module, and
+//! `module_is_spelled` that `module_of_bytes` of `specs/Sections`, which computes, finds it. Whether a module is valid is not
+//! asked here. Inside, the readers follow the definitions that compute, from the front of the bytes on (`specs/Decoding`).
 #![tactic(auto)]
 
 ghost use Rattle.std.specs.Prelude.{◌≡◌, ◌↔◌, ℕ, List, Some, None, IfOk, IsErrOf, MatchResult};

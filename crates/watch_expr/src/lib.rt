@@ -1,4 +1,13 @@
-//! The expressions of the debugger's shell: what a line spells, and what it comes to over a group.
+//! The expressions of the debugger: what a line spells, and what that is worth over the nodes of a group.
+//!
+//! `lex` cuts a line into tokens (`specs/Lexing`), `parse` reads an expression from them (`specs/Grammar`), `find_faults` says
+//! what may be wrong with it (`specs/Faulty`), and `eval` gives its value (`specs/Value`): a signed number of 64 bits, or
+//! undef. Clauses speak of an `Expr` as a tree (`expression_of` of `specs/Expression`). The nodes and the variables are a
+//! `View` and a `Scope` of the caller's, which contracts see as a list of nodes and as a function (`specs/View`). `eval_reads`
+//! gives the value with the places that it was read from (`specs/Reads`). The laws say that the tokens of a line and the
+//! expression of tokens are the only ones and are computed (`exact_cut`, `exact_reading`), and that a value stays where none of
+//! its places changed (`reads_tell`). Inside, a machine with a stack reads expressions (`specs/Machine`), so that brackets in
+//! brackets take no stack of the program's.
 #![tactic(auto)]
 
 mod error;
