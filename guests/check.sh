@@ -8,7 +8,7 @@ program=${1:-$("$here/../friday" --program)} || exit 1
 PYTHONPATH=$here/../tools exec python3 - "$program" "$here" <<'PYTHON'
 import os, random, re, shutil, subprocess, sys, tempfile
 
-from logs import read_log
+from logs.format import read_log
 
 program, here = os.path.abspath(sys.argv[1]), sys.argv[2]
 TIMES = 20

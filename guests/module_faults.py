@@ -10,7 +10,7 @@ from wasm_reader import read_module
 TOOLS = os.path.join(os.path.dirname(os.path.dirname(os.path.abspath(__file__))), "tools")
 sys.path.append(TOOLS)
 
-from logs import CALLS  # noqa: E402 (it lies beside the tools)
+from logs.format import CALLS  # noqa: E402 (it lies beside the tools)
 
 DWARFDUMP = os.environ.get("LLVM_DWARFDUMP", "llvm-dwarfdump")
 MOST_BYTES, MOST_PAGES, MOST_ELEMENTS, MOST_LOCALS = 4_194_304, 256, 65_536, 4_096

@@ -16,10 +16,10 @@ import json
 import os
 import sys
 
-from logs import CALLS, BadLog, in_group_order, read_log
-from program import program_of
-from report import Refused, replayed
-from wording import bytes_lines
+from asking.program import program_of
+from asking.report import Refused, replayed
+from logs.format import CALLS, BadLog, in_group_order, read_log
+from logs.wording import bytes_lines
 
 
 def list_events(logs, chosen):

@@ -15,10 +15,10 @@ import random
 import re
 import sys
 
-from network import Network
-from program import program_of
-from recorder import Recorder, RecordingFailed
-from waiting import waits
+from asking.program import program_of
+from schedules.network import Network
+from schedules.recorder import Recorder, RecordingFailed
+from schedules.waiting import waits
 
 MOST_PROCESSES = 16
 RATES = (

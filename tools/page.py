@@ -9,13 +9,13 @@ The program is asked by `friday replay` and `friday debug`; the logs tell the re
 import argparse
 import sys
 
-from group import NotOneGroup
-from logs import BadLog
-from page_file import page
-from page_packing import packed
-from page_recording import read_recording
-from picture import OneLineParser, write
-from report import BUILT, Refused
+from asking.report import BUILT, Refused
+from logs.format import BadLog
+from logs.group import NotOneGroup
+from pages.file import page
+from pages.packing import packed
+from pages.recording import read_recording
+from pictures.command_line import OneLineParser, write
 
 
 def watch(word):

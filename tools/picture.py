@@ -7,27 +7,20 @@ threads stand of its debugger; without the program a picture is made all the sam
 """
 
 import argparse
-import os
 import sys
 
-from captions import Captions
-from drawing import Picture
-from group import NotOneGroup, read_group
-from logs import CALLS, BadLog
-from program import program_if_there
-from report import Refused, replayed
-from standing import by_logs, by_replay, threads_at
-from traffic import traffic_of
-from vector_clocks import shiviz_text
+from asking.program import program_if_there
+from asking.report import Refused, replayed
+from logs.format import CALLS, BadLog
+from logs.group import NotOneGroup, read_group
+from logs.traffic import traffic_of
+from logs.vector_clocks import shiviz_text
+from pictures.captions import Captions
+from pictures.command_line import OneLineParser, write
+from pictures.drawing import Picture
+from pictures.standing import by_logs, by_replay, threads_at
 
 MANY = 3000
-
-
-class OneLineParser(argparse.ArgumentParser):
-    """Says what is wrong with the words in one line."""
-
-    def error(self, message):
-        self.exit(2, "%s: %s\n" % (self.prog, message))
 
 
 def arguments():
@@ -117,15 +110,6 @@ def main():
     except OSError as error:
         sys.exit("%s: %s" % (error.filename, error.strerror))
     write(text)
-
-
-def write(text):
-    try:
-        sys.stdout.write(text)
-        sys.stdout.flush()
-    except OSError as error:
-        os.dup2(os.open(os.devnull, os.O_WRONLY), sys.stdout.fileno())
-        sys.exit("the output was not written: %s" % error.strerror)
 
 
 if __name__ == "__main__":

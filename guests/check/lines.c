@@ -1,4 +1,4 @@
-// Threads that come to calls in functions of all kinds, for tools/check_lines.py: it finds the lines by what stands in them.
+// Threads that come to calls in functions of all kinds, for tools/checks/check_lines.py: it finds the lines by what stands in them.
 #include "lines.h"
 #include "runtime.h"
 

@@ -4,7 +4,7 @@ import os
 import re
 import sys
 
-from logs import BadLog, head_of
+from logs.format import BadLog, head_of
 
 KIT = os.path.join(os.path.dirname(os.path.dirname(os.path.dirname(os.path.realpath(__file__)))), "guests")
 sys.path.append(KIT)

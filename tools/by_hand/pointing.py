@@ -5,7 +5,7 @@ import re
 from by_hand.names import Refusal
 from by_hand.places import meant, tests
 from by_hand.words import condition_of
-from logs import CALLS
+from logs.format import CALLS
 
 # What a condition of the session is as a program: it changes nothing, and says only where it stops.
 CONDITION = re.compile(r'do \d+ if [^{}]* \{ say [^{};]*; stop \}')

@@ -10,8 +10,8 @@ from by_hand.names import Refusal
 from by_hand.places import where_stands
 from by_hand.state import State
 from by_hand.words import expanded
-from logs import in_group_order, read_log
-from wording import bytes_lines
+from logs.format import in_group_order, read_log
+from logs.wording import bytes_lines
 
 EVENT = re.compile(r"(?:at )?(\d+): (.*)")
 # Lines that can go on for long, and whose programs may change variables.

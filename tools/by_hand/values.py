@@ -4,7 +4,7 @@ import copy
 
 from by_hand.names import Refusal
 from place_table import array_of
-from wording import shown
+from logs.wording import shown
 
 MOST = 200
 

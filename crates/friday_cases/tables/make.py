@@ -2,9 +2,12 @@
 """Writes the script and the transcript of friday_cases, its files `stdin` and `stdout`, from the tables beside this
 file and the guests in ../guests. It needs wat2wasm of the package wabt.
 
+make.py [--check]   (with --check nothing is written: it says where the files are not what the tables make)
+
 What the program is to print is put together here from the rules of docs/formats.md, and never from its output."""
 
 import os
+import sys
 
 import commands, crowds, cut_refusals, cuts, debug_inputs, debug_pauses, debug_points, debug_programs, debug_returns, debugger, drills, groups
 import guests, hostile, images, large_memories, large_modules, limits, long_bytes, long_schedules, long_sessions, many_datagrams
@@ -23,13 +26,36 @@ PARTS = (
 HERE = os.path.dirname(os.path.abspath(__file__))
 
 
-def main():
+def first_difference(path, lines):
+    """The number of the first line that a file has otherwise, or None where it has these lines."""
+    with open(path, encoding="utf-8") as file:
+        there = file.read().split("\n")
+    wanted = [*lines, ""]
+    if there == wanted:
+        return None
+    return next((at for at, (one, other) in enumerate(zip(there, wanted), 1) if one != other), min(len(there), len(wanted)) + 1)
+
+
+def main(words):
+    if words not in ([], ["--check"]):
+        sys.exit(__doc__)
     script = Script()
     for part in PARTS:
         part.table(script)
+    drifted = False
     for name, lines in (("stdin", script.lines), ("stdout", script.told)):
-        with open(os.path.join(HERE, "..", name), "w", encoding="utf-8") as file:
-            file.write("\n".join(lines) + "\n")
+        path = os.path.join(HERE, "..", name)
+        if not words:
+            with open(path, "w", encoding="utf-8") as file:
+                file.write("\n".join(lines) + "\n")
+            continue
+        line = first_difference(path, lines)
+        if line is not None:
+            drifted = True
+            print("%s: line %d is not what the tables make" % (name, line))
+    if words:
+        print("tables: %s" % ("drifted" if drifted else "as expected"))
+    return 1 if drifted else 0
 
 
-main()
+sys.exit(main(sys.argv[1:]))

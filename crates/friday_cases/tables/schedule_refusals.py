@@ -166,7 +166,7 @@ def beside(script, module, names):
 
 def many(script):
     """Of two processes: each event but the first of both has 18 bytes of text, so that of a million of them it is too long, and
-    only then. No stored run has a million whose text is not, since it would print it; `tools/check_schedule.py` makes it."""
+    only then. No stored run has a million whose text is not, since it would print it; `tools/checks/check_schedule.py` makes it."""
     script.case("logs of a million events, and of one more")
     beside(script, digits(ASKER), ("a.wasm", "a.out"))
     each = logs.spelled([entry(9, "now", (), 5)], 8)
@@ -212,7 +212,7 @@ def pieces(log):
 
 def long(script):
     """A name of the module that is a byte longer makes the text a byte too long. No stored run has the text of as many bytes as
-    there may be, since it would print them; `tools/check_schedule.py` makes it."""
+    there may be, since it would print them; `tools/checks/check_schedule.py` makes it."""
     log = drawn()
     size = len(whole(schedule((log, OTHER))))
     assert MOST_TEXT - 1 <= size <= MOST_TEXT

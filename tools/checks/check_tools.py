@@ -1,0 +1,107 @@
+#!/usr/bin/env python3
+"""Checks what events.py, make_schedule.py, idle and picture.py print and refuse, over the examples pingpong and lost_update.
+
+check_tools.py [PROGRAM]   (the program that answers ./friday, if none is given)
+"""
+
+import argparse
+import json
+import os
+import shutil
+import subprocess
+import sys
+import tempfile
+
+from tools_path import TOOLS, TOP  # before the modules of the tools, which it lets be found
+from asking.program import program_of
+
+EXAMPLES = os.path.join(TOP, "examples")
+LOGS = [os.path.join(EXAMPLES, "lost_update", name + ".log") for name in ("north", "south", "east")]
+PAIRS = [word for log in LOGS for word in (os.path.join(EXAMPLES, "bank", "bank.wasm"), log)]
+
+
+def run(name, *words, wanted=0):
+    done = subprocess.run([os.path.join(TOOLS, name), *words], stdout=subprocess.PIPE, stderr=subprocess.PIPE, text=True, timeout=600)
+    assert done.returncode == wanted, (name, words, done)
+    return done.stdout if wanted == 0 else done.stdout + done.stderr
+
+
+def check_events():
+    """The three forms tell the same events; what is unknown is refused."""
+    plain, brief = run("events.py", "list", *LOGS), run("events.py", "list", "--brief", *LOGS).splitlines()
+    records = [json.loads(line) for line in run("events.py", "list", "--json", *LOGS).splitlines()]
+    heads = [line for line in plain.splitlines() if not line.startswith("    ")]
+    assert len(records) == len(brief) == len(heads) == 125
+    for record, line, head in zip(records, brief, heads):
+        assert line.split("; ")[0] == head and head.startswith("%d: %d %s " % (record["position"], record["clock"], record["process"]))
+    took = [record for record in records if record["call"] == "recv"]
+    assert took and all(record["from"] in ("north", "south", "east") and bytes.fromhex(record["taken"]) for record in took)
+    north = run("events.py", "list", "--brief", "--process", "north", "--call", "send", *LOGS).splitlines()
+    assert north and all(" north " in line and "; sent to " in line for line in north)
+    assert "invalid choice: 'snd'" in run("events.py", "list", "--call", "snd", *LOGS, wanted=2)
+    assert "no log is of west" in run("events.py", "list", "--process", "west", *LOGS, wanted=1)
+
+
+def check_picture():
+    """A picture of some processes has their names alone, and says to whom a send went."""
+    part = run("picture.py", "--logs-alone", "--process", "north,south", "--hide", "begin,lock", "--bytes", *PAIRS)
+    assert ">east<" not in part and ">north<" in part and "send to east 0200" in part and ">3: lock 1<" not in part
+    assert "no call is named snd" in run("picture.py", "--hide", "snd", *PAIRS, wanted=2)
+    assert "no log is of west" in run("picture.py", "--process", "west", *PAIRS, wanted=1)
+
+
+def check_schedules(program):
+    """Modules are not written over, names in refusals are the caller's, and one seed makes one schedule."""
+    for name in ("ping.wasm", "pong.wasm"):
+        shutil.copy(os.path.join(EXAMPLES, "pingpong", name), ".")
+    with open("bad.wasm", "w") as file:
+        file.write("no module")
+    with open("ping.wasm", "rb") as file:
+        module = file.read()
+    for words, told in (
+        (["--output", "ping.wasm", "a=ping.wasm"], "would be written over the module ping.wasm"),
+        (["--output", "s", "a=ping.wasm", "a=pong.wasm"], "two processes are named a"),
+        (["--output", "s", "--lost", "0.1", "a=ping.wasm"], "there is no --lost"),
+        (["--output", "s", "--loss", "2", "a=ping.wasm"], "a rate is 0 to 1"),
+    ):
+        assert told in run("make_schedule.py", "--program", program, *words, wanted=2), words
+    assert "refused bad.wasm: 1" in run("make_schedule.py", "--program", program, "--output", "s", "a=bad.wasm", wanted=1)
+    with open("ping.wasm", "rb") as file:
+        assert file.read() == module
+    words = ["--program", program, "--seed", "3", "--loss", "0.2", "--rounds", "6", "ping=ping.wasm", "pong=pong.wasm", "--output"]
+    assert run("make_schedule.py", *words, "one") == run("make_schedule.py", *words, "two")
+    with open("one") as one, open("two") as two:
+        assert one.read() == two.read()
+    line = " ".join([os.path.join(TOOLS, "make_schedule.py"), *words, "three"]) + " | true"
+    done = subprocess.run(["sh", "-c", line], stderr=subprocess.PIPE, text=True)
+    assert done.returncode == 0 and done.stderr == "", done
+
+
+def check_idle(program):
+    """Idle lines are named with how many of their tries were, and a schedule from rates has none."""
+    assert run("idle", "--program", program, "one") == ""
+    with open("one", "a") as file:
+        file.write("deliver 0 999\nrun 1 5 3\n")
+    told = run("idle", "--program", program, "one").splitlines()
+    assert [line.split(": ", 1)[1] for line in told[:2]] == ["deliver 0 999: idle", "run 1 5 3: 3 of its 3 tries"], told
+    with open("one", "a") as file:
+        file.write("delivr 1\n")
+    assert "BadLine" in run("idle", "--program", program, "one", wanted=1) and "absent.s" in run("idle", "absent.s", wanted=1)
+
+
+def main():
+    parser = argparse.ArgumentParser(description=__doc__, formatter_class=argparse.RawDescriptionHelpFormatter)
+    parser.add_argument("program", nargs="?", metavar="PROGRAM")
+    program = os.path.abspath(program_of(parser.parse_args().program))
+    check_events()
+    check_picture()
+    with tempfile.TemporaryDirectory() as folder:
+        os.chdir(folder)
+        check_schedules(program)
+        check_idle(program)
+        os.chdir("/")
+    print("tools: as expected")
+
+
+if __name__ == "__main__":
+    sys.exit(main())

@@ -1,0 +1,1 @@
+"""Pages of a recording. The folder `web` has what the browser runs."""
