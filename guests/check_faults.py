@@ -12,7 +12,7 @@ CLANG = os.environ.get("CLANG", "clang")
 LINK = "--target=wasm32 -O1 -g -gdwarf-4 -ffreestanding -nostdlib -Wl,--no-entry -Wl,--export=_start".split()
 START = '#include "liblog.h"\nstatic volatile int32_t number = 200;\n'
 
-# By own flags of clang: a name, the flags, the code behind START, and parts of what is told.
+# By own flags of clang: a name, the flags, the code after START, and parts of what is told.
 BY_CLANG = (
     ("good", "-mcpu=mvp", "void _start(void) {\n    liblog_note(number);\n}", ()),
     ("half", "-mcpu=mvp", "void _start(void) {\n    liblog_note((int64_t)(number / 2.5f));\n}", ("2 HasFloat: ", "_start, half.c:4", "no flag helps")),

@@ -9,7 +9,7 @@ FEATURES = {
     **{code: "reference-types" for code in (0x1C, 0x25, 0x26, 0xD0, 0xD1, 0xD2)},
     0x12: "tail-call", 0x13: "tail-call", 0xFD: "simd128", 0xFE: "atomics",
 }
-# What stands behind a code: n for a number, b for a byte, and how many bytes of a constant.
+# What comes after a code: n for a number, b for a byte, and how many bytes of a constant.
 OPERANDS = {
     0x0C: "n", 0x0D: "n", 0x10: "n", 0x11: "nn", 0x12: "n", 0x13: "nn", **{code: "n" for code in range(0x20, 0x27)},
     **{code: "nn" for code in range(0x28, 0x3F)}, 0x3F: "b", 0x40: "b", 0x41: "n", 0x42: "n", 0x43: "4", 0x44: "8",
@@ -38,7 +38,7 @@ def faults_of(function):
         elif code in FEATURES:
             yield at, FEATURES[code], "instruction %#x" % code
         if code in (0xFD, 0xFE):
-            # What stands behind is of many forms, and the function is refused already.
+            # What comes after it is of many forms, and the function is refused already.
             return
         yield from fault_of_operands(reader, at, code)
 

@@ -17,7 +17,7 @@ RANGE = re.compile(r"([ \t]*mem[ \t]+(\w+)[ \t]+)\{", re.ASCII)
 
 
 class Place:
-    """A place that a path has come to: at an offset in a variable, or behind the value of an expression."""
+    """A place that a path has reached: at an offset in a variable, or from the address that an expression gives."""
 
     def __init__(self, node, table, variable):
         self.node, self.table, self.variable = node, table, variable

@@ -83,7 +83,7 @@ class Module:
     segments: list = field(default_factory=list)
 
     def imported(self):
-        """How many functions are imported: those of the module are numbered behind them."""
+        """How many functions are imported: those of the module are numbered after them."""
         return sum(kind == 0 for _, _, kind, _ in self.imports)
 
     def type_of(self, number):

@@ -31,7 +31,7 @@ def arguments():
     parser = OneLineParser(
         description=__doc__, formatter_class=argparse.RawDescriptionHelpFormatter, allow_abbrev=False
     )
-    parser.add_argument("pairs", nargs="+", metavar="MODULE LOG", help="the log of each process behind its module")
+    parser.add_argument("pairs", nargs="+", metavar="MODULE LOG", help="the log of each process after its module")
     parser.add_argument("--watch", dest="watches", nargs="+", action="extend", type=watch, default=[], metavar="NAME=EXPR",
                         help="an expression of the debugger, and the name that the page gives it")
     parser.add_argument("--against", nargs="+", default=[], metavar="MODULE LOG", help="another recording of the group")

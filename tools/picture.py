@@ -35,7 +35,7 @@ def arguments():
     parser.add_argument("--bytes", action="store_true", help="what events sent and took, beside them and not only by the mouse")
     parser.add_argument("--program", help="the program friday, if not the one that answers ./friday")
     parser.add_argument("--logs-alone", action="store_true", help="ask no program how the processes ended")
-    parser.add_argument("pairs", nargs="+", metavar="MODULE LOG", help="the log of each process behind its module")
+    parser.add_argument("pairs", nargs="+", metavar="MODULE LOG", help="the log of each process after its module")
     chosen = parser.parse_args()
     if len(chosen.pairs) % 2:
         parser.error("each module needs its log")

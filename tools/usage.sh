@@ -1,4 +1,4 @@
-# For scripts that source this behind their page of comments: prints that page for --help, and refuses other words with -.
+# For scripts that source this after their page of comments: prints that page for --help, and refuses other words with -.
 # shellcheck shell=sh
 case ${1-} in
 --help | -h)

@@ -8,7 +8,7 @@ def show_help(session, rest, form):
     session.print(HELP.rstrip("\n"))
 
 
-# Each gets the session, what stands behind the word, and the form behind a slash, as /x.
+# Each gets the session, what comes after the word, and the form after a slash, as /x.
 COMMANDS = {
     "help": show_help,
     "print": looking.show_value,

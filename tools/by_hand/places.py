@@ -48,7 +48,7 @@ def last_events(session, node, threads):
 
 
 def places_of_threads(session, node):
-    """Where each thread stands, in words. It kept that behind its own last event, and later ones of others kept theirs."""
+    """Where each thread is, in words. It kept that after its own last event, and later ones of others kept theirs."""
     expression = last_call(session.names, node)
     threads = threads_at_calls(session, node) if expression else {}
     events = last_events(session, node, threads)

@@ -78,7 +78,7 @@ class Session:
         self.print(text)
 
     def send(self, line, typed=None, behind=lambda answer: None):
-        """Sends a line with addresses in place of names, and prints the answer, with what is told behind each of its lines;
+        """Sends a line with addresses in place of names, and prints the answer, with what is told after each of its lines;
         whether it was accepted."""
         sent = self.names.line(line)
         verb = sent.split(" ", 1)[0]

@@ -33,7 +33,7 @@ gdb's words break, next, info break, info threads, reverse-step and so on are un
 
 
 def expanded(line):
-    """The line with a long word in front, and what stands behind it; `p/x` gives `print` and `/x`."""
+    """The line with a long word in front, and what comes after it; `p/x` gives `print` and `/x`."""
     found = re.match(r"\s*([A-Za-z_?-]+)(/\w+)?(?:\s+|$)(.*)", line, re.S)
     if not found:
         return "", "", line.strip()
@@ -45,6 +45,6 @@ def expanded(line):
 
 
 def condition_of(rest):
-    """What stands in front of `if`, and the condition behind it; `if` is no word of an expression."""
+    """What comes before `if`, and the condition after it; `if` is no word of an expression."""
     front, word, behind = rest.partition(" if ")
     return front.strip(), behind.strip() if word else None

@@ -77,7 +77,7 @@ def check_made_up(seed, folder):
 
 
 def left_over(data):
-    """How many bytes stand behind the entries of a log."""
+    """How many bytes come after the entries of a log."""
     return len(data) - len(spelled(log_in(data)))
 
 

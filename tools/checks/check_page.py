@@ -30,7 +30,7 @@ HUNTS = {
 }
 # Where something stands on the screen.
 BOX = "(({x, y, width}) => [x, y, width])(document.querySelector('%s').getBoundingClientRect())"
-# Where position 0 stands when all events are in sight, behind the names and a margin, and how much is no room for events.
+# Where position 0 is when all events are in sight, after the names and a margin, and how much is no room for events.
 BEGIN, ENDS = 164, 178
 # The recordings of the hunts that have two.
 FAILING, GOOD = "/failing", "/good"

@@ -245,7 +245,7 @@ def check_hunt(program, hunt, schedule, modules):
 
 MOST_EVENTS, MOST_TEXT = 1_000_000, 16_777_216
 HEAD = Log(1, 0, "a", [])
-# The event of a process that begins, and one of a process that yields, behind another one: six bytes each.
+# The event of a process that begins, and one of a process that yields, after another one: six bytes each.
 BEGIN, YIELD = bytes.fromhex("050100000000"), bytes.fromhex("0501000c0000")
 
 

@@ -113,7 +113,7 @@ def memories(program, folder, chosen, positions):
 
 
 def owner(event):
-    """The process of an event, which is told behind the event's clock."""
+    """The process of an event, which is told after the event's clock."""
     return event.split(" ")[1]
 
 

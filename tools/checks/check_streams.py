@@ -28,7 +28,7 @@ from talking import other_bytes, retold, talked
 
 
 def forged(draw, log, entry, sends):
-    """The event takes what some process sent, most often to this one, or nearly that, behind its tag or another one."""
+    """The event takes what some process sent, most often to this one, or nearly that, after its tag or another one."""
     to_it = [send for send in sends if send[1].arguments[0] == log.process]
     sender, send = draw.choice(to_it if to_it and draw.random() < 0.8 else sends)
     taken = other_bytes(draw, send.sent)[: entry.arguments[1]]

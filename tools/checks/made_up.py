@@ -301,7 +301,7 @@ class Process:
         return bytes(length) if length > 100 else bytes(self.draw.randrange(256) for _ in range(length))
 
     def drawn_datagram(self, cap):
-        """A tag, which need not be of any send, and bytes behind it; or none, and bytes that have no tag themselves."""
+        """A tag, which need not be of any send, and bytes after it; or none, and bytes that have no tag themselves."""
         length = min(cap, self.draw.choice((0, 1, 3, 16, 17, 40)))
         if self.draw.random() < 0.6:
             clock = self.draw.choice((*range(1, 21), self.clock or 1, MOST_CLOCK - 1, MOST_CLOCK))

@@ -20,7 +20,7 @@ TEXTS = (
     bytes(range(256)),
     b"javascript:window.owned=1\r\n<base href=//example.org>",
 )
-# The texts stand one behind the other; each process prints them, sends them to the other and takes what that sent.
+# The texts come one after the other; each process prints them, sends them to the other and takes what that sent.
 GUEST = """(module
   (import "liblog" "me" (func $me (result i32)))
   (import "liblog" "print" (func $print (param i32 i32) (result i32)))

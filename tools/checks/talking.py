@@ -111,7 +111,7 @@ def other_bytes(draw, data):
 
 
 def injected(draw, plans):
-    """What comes from outside: a payload of some process behind a tag that is made up, or behind none."""
+    """What comes from outside: a payload of some process after a tag that is made up, or without a tag."""
     data = other_bytes(draw, draw.choice([data for plan in plans for data in plan.random] or [b""]))[:1000]
     tag = tag_of(draw.randrange(len(plans)), draw.randint(1, 60)) if draw.random() < 0.7 else b""
     return (tag + data).hex() or "-"

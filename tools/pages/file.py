@@ -9,7 +9,7 @@ import json
 import os
 
 FOLDER = os.path.join(os.path.dirname(os.path.abspath(__file__)), "web")
-# Each stands behind those that it uses.
+# Each comes after those that it uses.
 SCRIPTS = (
     "bytes", "recording", "causes", "standing", "course", "filters", "compare",
     "view", "diagram", "density", "overview", "steps", "panel", "events", "stage", "differences", "controls", "main",

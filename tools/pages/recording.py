@@ -80,7 +80,7 @@ def made_by(event):
 
 
 def processes(program, pairs, logs, results, events):
-    """Each process with its end, and how each thread stands behind its own last event while the process runs."""
+    """Each process with its end, and how each thread is after its own last event while the process runs."""
     last = {event.log.name: event.position for event in events}
     ends = {log.name: results[log.name].end for log in logs}
     places = [(last[log.name] - 1 if ends[log.name] != "running" else len(events), log.name) for log in logs]

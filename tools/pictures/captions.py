@@ -50,7 +50,7 @@ class Captions:
         return words + ("; other bytes came than were sent" if taken.altered else "")
 
     def word(self, event):
-        """The call in short, behind the thread where the process has several."""
+        """The call in short, after the thread if the process has several."""
         thread = "%d: " % event.entry.thread if event.log.process in self.threaded else ""
         return thread + " ".join([*words(event.entry), *self.receiver(event), *self.bytes_of(event.entry)])
 

@@ -11,7 +11,7 @@ THREAD = re.compile(r"\d+ (ended|at .*)")
 
 @dataclass(frozen=True)
 class End:
-    """How a process is behind the last event that is drawn: in short, in full, and each thread's call."""
+    """How a process is after the last event that is drawn: in short, in full, and each thread's call."""
 
     text: str
     told: str
