@@ -11,7 +11,6 @@ import os
 import random
 import shutil
 import subprocess
-import sys
 import tempfile
 
 from tools_path import TOP  # before the modules of the tools, which it lets be found

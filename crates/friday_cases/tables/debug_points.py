@@ -4,7 +4,7 @@ import logs
 from debugger import CALLS, STANDS, caller, every_event, shown_event
 from modules import Guest, LEAST, start
 from pairs import BEGIN, Log, ping_and_pong, put, sent
-from script import digits, text, times
+from script import text, times
 from sessions import ALONE, PAIRS, PLACES, alone, files, session
 
 LAST = len(PLACES) - 1

@@ -1,6 +1,6 @@
 """The debugger: where its lines go, and what they show of events, threads and memory."""
 
-import groups, guests, logs
+import guests, logs
 from modules import Guest, LEAST, module, start
 from pairs import BEGIN, Log, echoes, ping_and_pong, put, sent
 from script import digits

@@ -2,7 +2,7 @@
 
 import groups, logs
 from common import FRONT, begin, report, summary
-from modules import Guest, start
+from modules import start
 from pairs import ping_and_pong
 import pairs
 from script import digits, text, times

@@ -9,7 +9,7 @@ from modules import LEAST, start
 from pairs import BEGIN, Log, ping_and_pong, put, sent, three, words
 from replays import ASKED, ILLEGAL, LOGS, NOW
 from schedules_of_logs import ALONE, kept, modules, schedule, whole
-from script import USAGE, digits, text, times
+from script import USAGE, digits, times
 
 INCOMPLETE, NOT_WHOLE, BAD_NAME, MANY, LONG = "7 Incomplete", "8 NotWhole", "9 BadModuleName", "10 TooManyEvents", "11 TooLong"
 MOST_EVENTS, MOST_TEXT = 1_000_000, 16_777_216
