@@ -1,4 +1,5 @@
 pub mod Ends
 pub mod Faults
+pub mod Keeping
 pub mod Made
 pub mod Modules

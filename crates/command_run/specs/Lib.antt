@@ -4,6 +4,7 @@ pub mod Limits
 pub mod Outcome
 pub mod OutcomeLaws
 pub mod Inputs
+pub mod Kept
 pub mod Call
 pub mod CountLaws
 pub mod FileLaws
