@@ -24,7 +24,7 @@ fn perform(alloc: Global, rounds: u32) -> Result<Text, Refusal>
 {
     let modules = modules(alloc)?;
     let recording = record(alloc, rounds, &modules)?;
-    let replays = begin_all(alloc, &modules[0], &recording.files)?;
+    let replays = begin_all(alloc, modules[0].module(), &recording.files)?;
     let watched = watch(alloc, Group::begin(alloc, replays)?)?;
     Ok(print(alloc, rounds, recording.idle, &watched)?)
 }

@@ -8,8 +8,8 @@ ghost use Rattle.drill_command.specs.Seen.{IsRecorded, StopsDrill};
 use command_run::{Reason, Refusal};
 use fri_outside::{MemFiles, keeps_files};
 use group_record::{RecordError, agreement, beginning, run_record};
+use shared_module::SharedModule;
 use std::alloc::Global;
-use wasm_types::ValidModule;
 use wasm_validate::exact_fault;
 
 /// The logs of a recording, and how many of its tries and items were idle.
@@ -23,7 +23,7 @@ pub(crate) struct Recording {
 pub(crate) fn record(
     alloc: Global,
     rounds: u32,
-    modules: &[ValidModule],
+    modules: &[SharedModule],
 ) -> Result<Recording, Refusal>
     requires some { 1 ≤ rounds }
     requires few { rounds ≤ most_rounds }

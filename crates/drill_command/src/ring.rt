@@ -5,10 +5,10 @@ ghost use Rattle.wasm_types.specs.Modules.{func, func_type, import_of, module_of
 ghost use Rattle.drill_command.specs.Drill.{drill_modules};
 ghost use Rattle.drill_command.specs.Ring.{add_32, add_64, and_32, eqz, hand_on, library_call, load_64, ring, ring_body, ring_types, send_first, store_64};
 
+use shared_module::SharedModule;
 use std::alloc::{AllocError, Global};
 use wasm_types::{
-    Export, ExportDesc, Func, FuncType, Import, ImportDesc, Instr, Limits, Module, ValType,
-    ValidModule, claim,
+    Export, ExportDesc, Func, FuncType, Import, ImportDesc, Instr, Limits, Module, ValType, claim,
 };
 use wasm_validate::exact_fault;
 
@@ -211,20 +211,20 @@ fn ring(alloc: Global) -> Result<Module, AllocError>
     })
 }
 
-fn valid_ring(alloc: Global) -> Result<ValidModule, AllocError>
+fn valid_ring(alloc: Global) -> Result<SharedModule, AllocError>
     ensures { IfOk result (λ m. module_of m ≡ ring) }
 {
     exact_fault();
-    claim(alloc, ring(alloc)?)
+    SharedModule::new(alloc, claim(alloc, ring(alloc)?)?)
 }
 
-/// The modules of the group.
-pub(crate) fn modules(alloc: Global) -> Result<Vec<ValidModule>, AllocError>
+/// The modules of the group, which are one.
+pub(crate) fn modules(alloc: Global) -> Result<Vec<SharedModule>, AllocError>
     ensures { IfOk result (λ modules. map module_of modules.items ≡ drill_modules) }
 {
     let n0 = valid_ring(alloc)?;
-    let n1 = valid_ring(alloc)?;
-    let n2 = valid_ring(alloc)?;
-    let n3 = valid_ring(alloc)?;
+    let n1 = n0.share()?;
+    let n2 = n0.share()?;
+    let n3 = n0.share()?;
     Ok(vec![in alloc; n0, n1, n2, n3]?)
 }

@@ -15,14 +15,14 @@ use crate::recorder::Recorder;
 use fri_outside::Files;
 use group_world::World;
 use schedule_text::{ProcessLine, Schedule};
+use shared_module::SharedModule;
 use std::alloc::{AllocError, Global};
-use wasm_types::ValidModule;
 
 /// Begins all processes and their logs. What the processes print is kept for the images, if they are asked for.
 pub(crate) fn begin<'m, F: Files>(
     alloc: Global,
     schedule: &Schedule,
-    modules: &'m [ValidModule],
+    modules: &'m [SharedModule],
     images: bool,
     files: &mut F,
 ) -> Result<Recorder<'m>, RecordError>
@@ -41,7 +41,7 @@ pub(crate) fn begin<'m, F: Files>(
 fn begin_members<'m>(
     alloc: Global,
     lines: &[ProcessLine],
-    modules: &'m [ValidModule],
+    modules: &'m [SharedModule],
 ) -> Result<Vec<Member<'m>>, RecordError>
     requires modules { length modules.now ≡ length lines.now }
     requires few { length lines.now ≤ 16 }
@@ -53,7 +53,8 @@ fn begin_members<'m>(
     let mut members = Vec::new(alloc);
     for p in 0..count {
         let place = p as usize;
-        let member = Member::start(alloc, &lines[place], &modules[place], p, count)?;
+        let module = modules[place].module();
+        let member = Member::start(alloc, &lines[place], module, p, count)?;
         members.push(member)?;
     }
     Ok(members)

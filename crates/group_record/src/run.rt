@@ -10,8 +10,8 @@ use crate::summary::{Summary, summary_of};
 use fri_outside::Files;
 use group_world::by_counting;
 use schedule_text::Schedule;
+use shared_module::SharedModule;
 use std::alloc::Global;
-use wasm_types::ValidModule;
 
 /// Records the group of a schedule, whose processes are of these modules, one for each. All processes
 /// begin; then the logs are made and their heads written, each in order of the processes; then each
@@ -21,7 +21,7 @@ use wasm_types::ValidModule;
 pub fn run_record<F: Files>(
     alloc: Global,
     schedule: &Schedule,
-    modules: &[ValidModule],
+    modules: &[SharedModule],
     files: &mut F,
     images: bool,
 ) -> Result<Summary, RecordError>

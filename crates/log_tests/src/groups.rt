@@ -11,11 +11,11 @@ use group_state::Group;
 use lib_calls::memory_bytes;
 use log_pairs::{Loaded, Pair, begin_all, load_all};
 use schedule_text::{Schedule, read_schedule};
+use shared_module::SharedModule;
 use std::alloc::{AllocError, Global};
 use std::process::Abort;
 use std::test::Fail;
 use wasm_decode::decode;
-use wasm_types::ValidModule;
 use wasm_validate::validate;
 use watch_expr::View;
 
@@ -83,11 +83,12 @@ fn schedule(alloc: Global) -> Result<Schedule, Fail> {
     Ok(read_schedule(alloc, text.bytes())?)
 }
 
-fn modules(alloc: Global, count: usize) -> Result<Vec<ValidModule>, Fail> {
+// Of so many processes, whose module is one.
+fn modules(alloc: Global, count: usize) -> Result<Vec<SharedModule>, Fail> {
+    let module = SharedModule::new(alloc, validate(alloc, decode(alloc, RING)?)?)?;
     let mut modules = Vec::new(alloc);
     for _ in 0..count {
-        let decoded = decode(alloc, RING)?;
-        modules.push(validate(alloc, decoded)?)?;
+        modules.push(module.share()?)?;
     }
     Ok(modules)
 }

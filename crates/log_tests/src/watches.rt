@@ -12,6 +12,7 @@ use group_state::Group;
 use log_pairs::{Loaded, Pair, begin_all, load_all};
 use page_watch::{TouchView, Watch};
 use schedule_text::read_schedule;
+use shared_module::SharedModule;
 use std::alloc::{AllocError, Global};
 use std::cell::Cell;
 use std::marker::Brand;
@@ -19,7 +20,6 @@ use std::process::Abort;
 use std::sync::ledger::{Blank, Ledger};
 use std::test::Fail;
 use wasm_decode::decode;
-use wasm_types::ValidModule;
 use wasm_validate::validate;
 use watch_expr::{Agg, Expr, NodeName, Steps, View, Width};
 
@@ -80,9 +80,9 @@ fn files(
     Ok(files)
 }
 
-fn module(alloc: Global, bytes: &[u8]) -> Result<ValidModule, Fail> {
+fn module(alloc: Global, bytes: &[u8]) -> Result<SharedModule, Fail> {
     let decoded = decode(alloc, bytes)?;
-    Ok(validate(alloc, decoded)?)
+    Ok(SharedModule::new(alloc, validate(alloc, decoded)?)?)
 }
 
 fn begin<'m>(alloc: Global, all: &'m [Loaded<'_>]) -> Result<Group<'m, 'm>, Fail>

@@ -5,37 +5,41 @@ ghost use Rattle.wasm_types.specs.Modules.{module_of as shown};
 ghost use Rattle.schedule_text.specs.Schedule.{IsProcess, IsSchedule};
 ghost use Rattle.command_run.specs.Call.{CountsFaults, StopsAs, Raises};
 ghost use Rattle.command_run.specs.Inputs.{module_in};
+ghost use Rattle.command_run.specs.Kept.{AreOfFiles};
 ghost use Rattle.record_command.specs.Expected.{modules_of, schedule_in};
 
-use command_run::{Reason, Refusal, take_file, take_module};
+use command_run::{ModuleFiles, Reason, Refusal, take_file};
 use fri_outside::Files;
 use schedule_text::{MOST_SCHEDULE, ProcessLine, Schedule, ScheduleError, read_schedule};
+use shared_module::SharedModule;
 use std::alloc::Global;
-use wasm_types::ValidModule;
 
 // The module of a process.
 fn take_module_of<F: Files>(
     alloc: Global,
     line: &ProcessLine,
+    modules: &mut ModuleFiles,
     files: &mut F,
-) -> Result<ValidModule, Refusal>
-    requires { IsProcess line.now }
+) -> Result<SharedModule, Refusal>
+    requires line { IsProcess line.now }
+    requires kept { AreOfFiles (F.told files.old) modules.old }
     ensures answer { WhenTold (F.told files.old) (λ folder. MatchResult result
         (λ m. module_in folder line.now.«module» ≡ Ok (shown m)) (StopsAs (module_in folder line.now.«module»))) }
+    ensures kept { AreOfFiles (F.told files.old) modules.new }
     ensures same { F.told files.new ≡ F.told files.old }
     ensures counts { CountsFaults (F.counts files.old) (F.counts files.new) result }
     ensures cause { IfErr result (Raises (F.counts files.old) (F.counts files.new)) }
 {
     let file = String::from_utf8_lossy(alloc, line.module.as_slice())?;
-    take_module(alloc, &file, files)
+    modules.take(alloc, &file, files)
 }
 
-/// The valid modules of these processes, in their order.
+/// The valid modules of these processes, in their order. A file that several name is read once, and its module kept once.
 pub fn take_modules<F: Files>(
     alloc: Global,
     lines: &[ProcessLine],
     files: &mut F,
-) -> Result<Vec<ValidModule>, Refusal>
+) -> Result<Vec<SharedModule>, Refusal>
     requires { All IsProcess lines.now }
     ensures answer { WhenTold (F.told files.old) (λ folder. MatchResult result
         (λ modules. modules_of folder lines.now ≡ Ok (map shown modules.items)) (StopsAs (modules_of folder lines.now))) }
@@ -44,9 +48,10 @@ pub fn take_modules<F: Files>(
     ensures counts { CountsFaults (F.counts files.old) (F.counts files.new) result }
     ensures cause { IfErr result (Raises (F.counts files.old) (F.counts files.new)) }
 {
+    let mut read = ModuleFiles::new(alloc);
     let mut modules = Vec::new(alloc);
     for line in lines {
-        modules.push(take_module_of(alloc, line, files)?)?;
+        modules.push(take_module_of(alloc, line, &mut read, files)?)?;
     }
     Ok(modules)
 }

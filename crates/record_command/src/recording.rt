@@ -17,8 +17,8 @@ use command_run::{Answer, Reason, Refusal};
 use fri_outside::{Files, keeps_files};
 use group_record::{RecordError, run_record};
 use schedule_text::{Schedule, exact_outcome};
+use shared_module::SharedModule;
 use std::alloc::Global;
-use wasm_types::ValidModule;
 
 // Refuses the module of process p, with which it does not begin.
 fn refuse_module(alloc: Global, schedule: &Schedule, p: u32) -> Refusal
@@ -54,7 +54,7 @@ fn refusal_of(
 #[derive(Drop)]
 struct Inputs {
     schedule: Schedule,
-    modules: Vec<ValidModule>,
+    modules: Vec<SharedModule>,
 }
 
 // Reads what a recording needs. No file has changed.
@@ -78,7 +78,7 @@ fn record_group<F: Files>(
     images: bool,
     schedule_file: &str,
     schedule: &Schedule,
-    modules: &[ValidModule],
+    modules: &[SharedModule],
     files: &mut F,
 ) -> Result<Answer, Refusal>
     requires { length modules.now ≡ length schedule.now.processes }

@@ -1,10 +1,15 @@
-use Rattle.std.proofs.Common.{◌≡◌, ◌∙◌, ◌∷◌, ◌++◌, ◌+◌, List, [], ap, drop, map, subst, sym}
+use Rattle.std.proofs.Common.{◌≡◌, ◌∙◌, ◌∷◌, ◌++◌, ◌+◌, List, [], Option, ap, drop, map, subst, sym}
 use Rattle.std.proofs.lemmas.List.{drop_more, map-append}
 use Rattle.wasm_types.specs.Modules.{Module, module_of as shown}
 use Rattle.schedule_text.specs.declared.process.ProcessLine.{ProcessLine}
+use Rattle.fri_outside.specs.Outside.{Folder}
 use Rattle.command_run.specs.CountLaws.{counts_later, counts_none}
+use Rattle.command_run.specs.Kept.{AreOfFiles}
 use Rattle.record_command.proofs.Modules.{AreTaken, one_taken}
 use Rattle.record_command.proofs.inputs.take_modules.Goals as goal
+
+pub take_module_of-requires-clause-kept : goal.take_module_of-requires-clause-kept
+take_module_of-requires-clause-kept g c = subst (λ (told : Option Folder). AreOfFiles told c.loop-line.read) (sym c.loop-line.invariant.1) c.loop-line.invariant.3
 
 pub loop-line-preserved : goal.loop-line-preserved
 loop-line-preserved g c =
@@ -20,4 +25,5 @@ loop-line-preserved g c =
           (one_taken told lines i (map shown items) c.line-item.result (shown m) taken.0 next (λ folder is. c.in_ok-take_module_of.ensures.answer folder (taken.1 ∙ is))),
       c.take_module_of.ensures.same ∙ taken.1,
       counts_later _ _ _ _ taken.2 (counts_none _ _ _ c.in_ok-take_module_of.ensures.counts),
+      subst (λ (told : Option Folder). AreOfFiles told c.take_module_of.new.modules) taken.1 c.take_module_of.ensures.kept,
     )

@@ -3,6 +3,7 @@ use Rattle.std.specs.Prelude.{⊤, Ok}
 use Rattle.wasm_types.specs.Modules.{module_of as shown}
 use Rattle.record_command.proofs.Modules.{AreTaken}
 use Rattle.command_run.specs.Call.{CountsFaults}
+use Rattle.command_run.specs.Kept.{AreOfFiles}
 use Rattle.record_command.proofs.inputs.take_modules.Given as goal
 
 abbrev pub invariant-loop-line : goal.invariant-loop-line
@@ -10,3 +11,4 @@ invariant-loop-line g l =
     AreTaken (g.F.Files.told l.initial.files) l.lines l.line-index (map shown l.modules.items)
     × (g.F.Files.told l.files ≡ g.F.Files.told l.initial.files)
     × CountsFaults {T = ⊤} (g.F.Files.counts l.initial.files) (g.F.Files.counts l.files) (Ok tt)
+    × AreOfFiles (g.F.Files.told l.initial.files) l.read
