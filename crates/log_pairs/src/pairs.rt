@@ -6,17 +6,18 @@ ghost use Rattle.call_log.specs.Head.{IsHead, head_of};
 ghost use Rattle.proc_replay.specs.AtHead.{IsAtHead};
 ghost use Rattle.group_state.specs.Place.{AreParts};
 ghost use Rattle.command_run.specs.Call.{CountsFaults, StopsAs, Raises, reads_after, writes_after};
+ghost use Rattle.command_run.specs.Kept.{AreOfFiles};
 ghost use Rattle.log_pairs.specs.Pairs.{Loaded as LoadedOf, NoneOpened, Pair as PairOf, WasOpened, clash, has_name, has_process, insert_replay, is_other_group, loaded_pair, replay_of_log};
 ghost use Rattle.log_pairs.specs.Seen.{AreLoaded, AreOneGroup, IsLoaded, WereLoaded, pair_of};
 
 use call_log::{LogHead, LogView, exact_logs};
-use command_run::{Reason, Refusal, begin_process, take_module};
+use command_run::{ModuleFiles, Reason, Refusal, begin_process};
 use fri_bytes::Bytes;
 use fri_outside::Files;
 use log_files::{begin_log, take_log};
 use proc_replay::Replayer;
+use shared_module::SharedModule;
 use std::alloc::{AllocError, Global};
-use wasm_types::ValidModule;
 
 /// The names of the files of a module and of a log of its process.
 #[derive(Clone, Copy)]
@@ -30,7 +31,7 @@ pub struct Pair<'a> {
 #[derive(Drop)]
 pub struct Loaded<'a> {
     pub(crate) module_file: &'a str,
-    pub(crate) module: ValidModule,
+    pub(crate) module: SharedModule,
     pub(crate) log: Vec<u8>,
     pub(crate) count: u32,
     pub(crate) process: u32,
@@ -87,23 +88,26 @@ fn has_name(earlier: &[Loaded<'_>], name: &[u8]) -> bool
     earlier.iter().any(|l| l.name.as_slice() == name)
 }
 
-// Reads the files of a pair: the module's, then the log's; then the log against the pairs before it.
+// Reads the files of a pair: the module's, unless it is kept, then the log's; then the log against the pairs before it.
 fn load<'a, F: Files>(
     alloc: Global,
     pair: Pair<'a>,
     earlier: &[Loaded<'a>],
+    modules: &mut ModuleFiles,
     files: &mut F,
 ) -> Result<Loaded<'a>, Refusal>
+    requires { AreOfFiles (F.told files.old) modules.old }
     ensures answer { WhenTold (F.told files.old) (λ folder. (ls : List LoadedOf) → AreLoaded earlier.now ls → MatchResult result
         (λ l. (is : LoadedOf) × ((loaded_pair folder ls (pair_of pair.entry) ≡ Ok is) × IsLoaded l is))
         (StopsAs (loaded_pair folder ls (pair_of pair.entry)))) }
     ensures fits { IfOk result (λ l. (ls : List LoadedOf) → AreLoaded earlier.now ls
         → (is : LoadedOf) × (IsLoaded l is × (clash ls is.head ≡ None))) }
+    ensures kept { AreOfFiles (F.told files.old) modules.new }
     ensures same { F.told files.new ≡ F.told files.old }
     ensures counts { CountsFaults (F.counts files.old) (F.counts files.new) result }
     ensures cause { IfErr result (Raises (F.counts files.old) (F.counts files.new)) }
 {
-    let module = take_module(alloc, pair.module_file, files)?;
+    let module = modules.take(alloc, pair.module_file, files)?;
     let log = take_log(alloc, pair.log_file, files)?;
     let head = begin_log(alloc, pair.log_file, &log)?.head();
     if let Some(why) = clash(earlier, &head) {
@@ -121,7 +125,7 @@ fn load<'a, F: Files>(
     })
 }
 
-/// Reads the files of all pairs, pair after pair.
+/// Reads the files of all pairs, pair after pair. A module whose file has the name of an earlier one is not read again.
 pub fn load_all<'a, F: Files>(
     alloc: Global,
     pairs: &[Pair<'a>],
@@ -135,9 +139,10 @@ pub fn load_all<'a, F: Files>(
     ensures counts { CountsFaults (F.counts files.old) (F.counts files.new) result }
     ensures cause { IfErr result (Raises (F.counts files.old) (F.counts files.new)) }
 {
+    let mut modules = ModuleFiles::new(alloc);
     let mut all = Vec::new(alloc);
     for pair in pairs {
-        let loaded = load(alloc, *pair, &all, files)?;
+        let loaded = load(alloc, *pair, &all, &mut modules, files)?;
         all.push(loaded)?;
     }
     Ok(all)
@@ -160,7 +165,7 @@ fn begin_replay<'m>(alloc: Global, loaded: &'m Loaded<'_>) -> Result<Replayer<'m
     let begun = begin_process(
         alloc,
         loaded.module_file,
-        &loaded.module,
+        loaded.module.module(),
         loaded.process,
         loaded.count,
     )?;

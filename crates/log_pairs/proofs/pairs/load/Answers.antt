@@ -30,7 +30,7 @@ returns-clause-answer g c folder told ls are =
       (
         pair_read folder ls (pair_of c.args.pair) (shown c.in_ok-module.module) c.deref.result.now (log.head, log.left)
             (c.in_ok-module.ensures.answer folder told)
-            (c.in_ok-log.ensures.answer folder (c.take_module.ensures.same ∙ told) ∙ ap Ok (sym c.deref.ensures.value))
+            (c.in_ok-log.ensures.answer folder (c.take.ensures.same ∙ told) ∙ ap Ok (sym c.deref.ensures.value))
             c.in_ok-begin_log.ensures.answer none,
         is_loaded _ (pair_of c.args.pair) c.deref.result.now (log.head, log.left) c.head-head.result refl c.deref.ensures.value c.in_ok-begin_log.ensures.answer c.in_ok-begin_log.ensures.head c.head-head.ensures refl refl c.in_ok-name.ensures
             c.in_ok-begin_log.ensures.shorter few,

@@ -1,12 +1,25 @@
-use Rattle.std.proofs.Common.{◌∙◌, ◌+◌, List, drop, map, subst, sym}
+use Rattle.std.proofs.Common.{◌∙◌, ◌+◌, List, Option, drop, map, refl, subst, sym}
 use Rattle.std.proofs.lemmas.List.{drop_all, drop_more}
 use Rattle.std.proofs.lemmas.Result.{err_from_is_err_and}
 use Rattle.log_pairs.specs.declared.pairs.Loaded.{Loaded}
 use Rattle.log_pairs.specs.Seen.{AreLoaded, pair_of}
 use Rattle.log_pairs.proofs.Opening.{unread_stops}
-use Rattle.log_pairs.proofs.Loading.{all_read, one_read, reading_stops}
+use Rattle.log_pairs.proofs.Loading.{AreRead, all_read, none_read, one_read, reading_stops}
+use Rattle.fri_outside.specs.Outside.{Folder}
 use Rattle.command_run.specs.CountLaws.{counts_later, counts_none}
+use Rattle.command_run.specs.Kept.{AreOfFiles}
 use Rattle.log_pairs.proofs.pairs.load_all.Goals as goal
+
+pub loop-pair-init : goal.loop-pair-init
+loop-pair-init g c = (
+  subst (λ (items : List Loaded). AreRead (g.F.Files.told c.args.files.now) c.args.pairs.now c.args.pairs.now items) (sym c.new-all.ensures.items) (none_read (g.F.Files.told c.args.files.now) c.args.pairs.now),
+  refl,
+  record { reads = refl; writes = refl; misses = refl },
+  c.new-modules.ensures.none (g.F.Files.told c.args.files.now),
+)
+
+pub load-requires : goal.load-requires
+load-requires g c = subst (λ (told : Option Folder). AreOfFiles told c.loop-pair.modules) (sym c.loop-pair.invariant.1) c.loop-pair.invariant.3
 
 pub returns-in_err-loaded-clause-answer : goal.returns-in_err-loaded-clause-answer
 returns-in_err-loaded-clause-answer g c =
@@ -30,6 +43,7 @@ loop-pair-preserved g c =
           c.in_ok-push.ensures.items,
       c.load.ensures.same ∙ read.1,
       counts_later _ _ _ _ read.2 (counts_none _ _ _ c.in_ok-loaded.ensures.counts),
+      subst (λ (told : Option Folder). AreOfFiles told c.load.new.modules) read.1 c.load.ensures.kept,
     )
 
 pub returns-clause-answer : goal.returns-clause-answer
