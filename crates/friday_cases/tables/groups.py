@@ -2,7 +2,7 @@
 
 import logs
 from common import refused
-from modules import Guest, MAGIC, start
+from modules import Guest, LEAST, MAGIC, start
 from script import digits, text
 
 PING, PONG = Guest("ping"), Guest("pong")
@@ -177,9 +177,25 @@ def full_log(script):
     script.show("a.out", None)
 
 
+def modules_read(script):
+    """The schedule is read, then each module file once, and then the first log is made."""
+    of_one, of_two = ("a.wasm", "a.wasm"), ("a.wasm", "b.wasm")
+    for said, modules, reads in (("of one module", of_one, 2), ("of two modules", of_two, 3)):
+        for call in range(1, reads + 2):
+            script.case("two processes %s, and call %d fails" % (said, call))
+            for name in of_two:
+                script.file(name, digits(LEAST))
+            script.file("s", text("friday 1\nprocess a %s\nprocess b %s\nrun 0 0\nrun 1 0\n" % modules))
+            script.fail("files", call)
+            script.run("record s", "ReadFault" if call <= reads else "WriteFault")
+            for name in "ab":
+                script.show(name + ".log", None)
+            script.run("record s", "Done", "a: 1 events, finished", "b: 1 events, finished", "items: 2 acted, 0 idle")
+
+
 def table(script):
     script.title("Groups")
     script.keep("ping", PING.module)
     script.keep("pong", PONG.module)
-    for part in (ping_and_pong, from_outside, cut_short, random_bytes, kills, order, full_log):
+    for part in (ping_and_pong, from_outside, cut_short, random_bytes, kills, order, full_log, modules_read):
         part(script)

@@ -19,6 +19,8 @@ FAR = '(memory 1) (data (i32.const 65536) "a")'
 NAMES = (b"one", b"two", b"three", b"four")
 # The pairs that are in order.
 GOOD = ("m l0", "m l1", "m l2")
+# The same, of a module file each.
+APART = ("m l0", "n l1", "o l2")
 
 
 def absent(name):
@@ -153,16 +155,36 @@ def segments(script):
     script.show("two.out", None)
 
 
+def begin_apart(script, name):
+    """The same, and the module in three files."""
+    begin(script, name)
+    for module in "no":
+        script.file(module, digits(LEAST))
+
+
+def schedules(script, pairs, outcome):
+    script.run("schedule " + " ".join(pairs), *outcome)
+
+
 def failing_reads(script):
-    for call in range(1, 7):
-        begin(script, "three pairs, of whose files read %d fails" % call)
-        script.fail("files", call)
-        replay(script, GOOD, ("ReadFault",))
-        replay(script, GOOD, ("Done", *whole((0, NAMES[0]), (1, NAMES[1]), (2, NAMES[2]))))
-        begin(script, "three pairs of which a schedule is to be made, of whose files read %d fails" % call)
-        script.fail("files", call)
-        script.run("schedule " + " ".join(GOOD), "ReadFault")
-        script.run("schedule " + " ".join(GOOD), *refused("l0", "7 Incomplete"))
+    """Pairs whose modules have three files make six reads, and those whose modules have one name four: it is read before the
+    first log, and not again."""
+    good, incomplete = ("Done", *whole((0, NAMES[0]), (1, NAMES[1]), (2, NAMES[2]))), refused("l0", "7 Incomplete")
+    for said, pairs, reads in (("of three modules", APART, 6), ("of one module", GOOD, 4)):
+        for call in range(1, reads + 1):
+            begin_apart(script, "three pairs %s, of whose files read %d fails" % (said, call))
+            script.fail("files", call)
+            replay(script, pairs, ("ReadFault",))
+            replay(script, pairs, good)
+            begin_apart(script, "three pairs %s of which a schedule is to be made, of whose files read %d fails" % (said, call))
+            script.fail("files", call)
+            schedules(script, pairs, ("ReadFault",))
+            schedules(script, pairs, incomplete)
+        begin_apart(script, "three pairs %s make %d reads, and the next one is that of the next command" % (said, reads))
+        for fails, make, outcome in ((reads + 1, replay, good), (2 * reads + 2, schedules, incomplete)):
+            script.fail("files", fails)
+            make(script, pairs, outcome)
+            make(script, pairs, ("ReadFault",))
 
 
 def table(script):
