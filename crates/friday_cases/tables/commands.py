@@ -197,10 +197,12 @@ def too_large(script):
     script.file("a.log", digits(LOG))
     script.run("replay a.wasm a.log", "Done", *report(3, "finished"))
     script.add("a.wasm", digits(b"\0"))
-    script.run("replay a.wasm a.log", *refused("a.wasm", "TooLarge"))
+    script.file("s", text(FRONT))
+    for line in ("replay a.wasm a.log", "record s", "cut 0 1 a.wasm a.log", "streams a.wasm a.log"):
+        script.run(line, *refused("a.wasm", "TooLarge"))
     script.file("long", times(33554433, b"\0"))
     for pairs in earlier:
-        for verb in ("replay", "debug", "schedule"):
+        for verb in ("replay", "debug", "schedule", "streams"):
             script.run("%s %sb.wasm long b.wasm x" % (verb, pairs), *refused("long", "TooLarge"))
     script.file("a.wasm", script.kept("now"))
     script.file("a.log", digits(logs.head()) + times(33554432 - 18, b"\0"))

@@ -82,6 +82,21 @@ ROWS = (
         "finished",
     ),
     (
+        "100,000 exports",
+        (FRONT, section(7, vector(*(named(b"f%05d" % at) + b"\0\0" for at in range(99999)), START + b"\0")), code(b"")),
+        1,
+        "finished",
+    ),
+    (
+        "a type of 1,000,000 parameters, which no function has",
+        (
+            *(digits(b"\1" + leb(1 + 3 + 1 + 3 + 1000000 + 1) + b"\2\x60\0\0" + b"\x60" + leb(1000000)), times(1000000, b"\x7f"), digits(b"\0")),
+            *(FUNCTIONS, EXPORTS, code(b"")),
+        ),
+        1,
+        "finished",
+    ),
+    (
         "50,000 element segments, and one of 65,536 functions",
         (
             *(TYPES, section(3, vector(b"\0", b"\0")), section(4, vector(b"\x70\0" + leb(65536))), EXPORTS),

@@ -13,6 +13,7 @@ SIZES = (0, 1, 30000, 30001, 59999, MOST)
 PAST = 2**32 - 1
 CALLS = """(import "liblog" "send" (func $send (param i32 i32 i32) (result i32)))
   (import "liblog" "recv" (func $recv (param i32 i32 i32) (result i32)))
+  (import "liblog" "try_recv" (func $try_recv (param i32 i32 i32) (result i32)))
   (import "liblog" "random" (func $random (param i32 i32) (result i32)))"""
 # From 100 on, an `a` and a `z` as far apart as a call's bytes can be.
 ENDS = '(memory 1) (data (i32.const 100) "a") (data (i32.const 60099) "z")'
@@ -31,7 +32,13 @@ def payload(size):
 
 
 SENDER = guest("".join(call("send", 1, 100, size) for size in (*SIZES, MOST + 1)), ENDS)
-TAKER = guest(call("recv", 100, MOST + 1, 60200) + "(loop %s (br 0))" % call("recv", 100, MOST, 60200))
+
+
+def taker(name):
+    return guest(call(name, 100, MOST + 1, 60200) + "(loop %s (br 0))" % call(name, 100, MOST, 60200))
+
+
+TAKER = taker("recv")
 
 
 def of_sender():
@@ -45,8 +52,8 @@ def of_sender():
 OUTSIDE = (30001, MOST - 1, MOST, MOST + 1, 1000000)
 
 
-def taken(last, data, tag):
-    return entry(1 + max(last, tag[1] if tag else 0), "recv", (100, MOST, 60200), len(data), data, tag)
+def taken(last, data, tag, call="recv"):
+    return entry(1 + max(last, tag[1] if tag else 0), call, (100, MOST, 60200), len(data), data, tag)
 
 
 def of_taker():
@@ -153,7 +160,21 @@ def from_outside(script):
         script.run("replay a.wasm a.log", *report_of((log, )))
 
 
+def at_once(script):
+    """`try_recv` takes as much, is refused for as much, and has nothing where nothing waits."""
+    script.case("a datagram from outside of the most bytes, and one of a byte more, that are taken where they wait")
+    script.file("a.wasm", taker("try_recv"))
+    for size in (MOST, MOST + 1):
+        script.file("s", text(FRONT + "run 0 0 2\ninject 0 ") + times(size, b"ab") + text("\nrun 0 0 2\n"))
+        script.run("record s", "Done", *summary(4, "running", 5, 0))
+        events = [BEGIN, entry(2, "try_recv", (100, MOST + 1, 60200), PAST), taken(2, b"\xab" * MOST, None, "try_recv")]
+        events.append(entry(4, "try_recv", (100, MOST, 60200), PAST - 1))
+        log = Log(1, 0, "a", events, module="a")
+        script.show("a.log", log.spelled())
+        script.run("replay a.wasm a.log", *report_of((log, )))
+
+
 def table(script):
     script.title("Bytes of calls, up to the most")
-    for part in (datagrams, random_bytes, from_outside):
+    for part in (datagrams, random_bytes, from_outside, at_once):
         part(script)

@@ -76,6 +76,9 @@ def of_items(script):
     replays(script, MOST, "running")
     jumps(script)
     walks(script)
+    script.run("cut 0 %d a.wasm a.log" % MOST, "Done", "a: %d of %d events" % (MOST, MOST))
+    script.show("a.cut", notes(MOST))
+    script.run("cut 0 %d a.wasm a.log" % (MOST + 1), *refused("a.log", "13 NoEvent"))
 
 
 PRINTS, EACH = 559, 60000
