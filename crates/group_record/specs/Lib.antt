@@ -1,12 +1,14 @@
+-- What group_record promises.
 pub mod Run
 pub mod Logs
 pub mod Images
 pub mod ImageLaws
 pub mod Files
 pub mod Answer
+pub mod Laws
+pub mod Standing
+-- What its own functions alone speak of.
 pub mod Around
 pub mod Members
 pub mod Recorded
 pub mod Begun
-pub mod Laws
-pub mod Standing
