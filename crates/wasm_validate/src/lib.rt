@@ -1,4 +1,10 @@
 //! Which modules of WebAssembly 1.0 are valid (its chapter 3).
+//!
+//! `validate` gives the module back as a `ValidModule` exactly where `IsValid` of `wasm_types` holds of it, unless memory runs
+//! out: its code and imports are typed, it has no floats, it imports calls of the library alone, it is within the limits, and
+//! it has a start. Else it gives the first refusal that holds, in the order of `Invalid` (`IsFirst` of `specs/Refusals`). The
+//! law `exact_fault` says that `fault` of `specs/Fault`, which computes, names the first refusal that holds, and none exactly
+//! where the module is valid. Code is checked by `wasm_typing`.
 #![tactic(auto)]
 
 ghost use Rattle.std.specs.Prelude.{◌≡◌, IfErr, IfOk, MatchResult};
