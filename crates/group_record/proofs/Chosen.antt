@@ -1,62 +1,56 @@
 -- Signals: which are ready after an answer, and that an event depends on the pending ones from 1 to 31 alone.
-use Rattle.std.proofs.Common.{◌≡◌, ℕ, zero, suc, ◌+◌, ◌-◌, ◌<◌, ◌≤◌, Bool, true, false, ◌&&◌, not, cond, List, [], ◌∷◌, length, Option, Some, None, refl, ap, sym, ◌∙◌, arith}
-use Rattle.std.specs.Prelude.{is_some, nat_le, option_map}
+use Rattle.std.proofs.Common.{◌≡◌, ℕ, zero, suc, ◌+◌, ◌-◌, ◌<◌, ◌≤◌, Bool, true, false, ◌&&◌, not, cond, List, Option, Some, None, refl, ap, sym, ◌∙◌, arith}
+use Rattle.std.specs.Prelude.{◌==◌, is_some, option_map}
+use Rattle.std.specs.Option.{option_map_or}
 use Rattle.std.proofs.lemmas.Option.{same_Some}
 use Rattle.call_table.specs.Table.{kind_numbered}
 use Rattle.call_table.specs.declared.kind.Kind.{Kind}
 use Rattle.call_table.specs.declared.kind.Kind.TheVariants.{Now, SleepUntil, Random, Recv, TryRecv}
 use Rattle.lamport_tag.specs.Tag.{next_clock_of}
 use Rattle.lib_calls.specs.Answer.{Answer}
+use Rattle.lib_calls.specs.Effects.{minus_two, received}
 use Rattle.lib_calls.specs.declared.entry.Call.{Call}
 use Rattle.guest_process.specs.declared.waiting.Waiting.{Waiting}
-use Rattle.guest_process.specs.Answers.{Need, Fixed, Blocked, World, after_need, effects, is_due, need, with_answer}
+use Rattle.guest_process.specs.Answers.{Need, Fixed, Blocked, World, after_need, effects, need, with_answer}
 use Rattle.guest_process.specs.GoesOn.{handler}
 use Rattle.guest_process.specs.Kinds.{ends_process}
-use Rattle.guest_process.specs.Live.{Answered, Env, answered_now, chosen_signal, event, event_by, event_of_waiting, first_taken, from_world, live, lowest, or_empty}
+use Rattle.guest_process.specs.Live.{Answered, Env, answered_now, as_given, chosen_signal, event, event_by, event_of_waiting, from_world, given, is_ready, live, lowest, world_answer}
 use Rattle.guest_process.specs.Seen.{answered_at}
-use Rattle.guest_process.specs.State.{State, is_running, thread_at}
-use Rattle.group_record.specs.Around.{is_ready, signal_with}
+use Rattle.guest_process.specs.State.{State, is_running, thread_at, with_memory}
+use Rattle.group_record.specs.Around.{handlers_at, signal_with}
 
 -- ---- the handlers after an answer
 
-where_given : (test : Bool) (a x : Answered) → cond test (Some a) None ≡ Some x → a ≡ x
-where_given true a x h = same_Some _ _ h
-where_given false a x h = cc
-
-first_handlers : (S : State) (c : Call) (mailbox : List (List ℕ)) (x : Answered) → first_taken S c mailbox ≡ Some x → x.after.handlers ≡ S.handlers
-first_handlers S c [] x h = cc
-first_handlers S c (datagram ∷ waiting) x h = sym (ap (λ (x : Answered). x.after.handlers) (same_Some _ _ h))
-
-empty_handlers : (S : State) (c : Call) (mailbox : List (List ℕ)) → (or_empty S (first_taken S c mailbox)).after.handlers ≡ S.handlers
-empty_handlers S c [] = refl
-empty_handlers S c (datagram ∷ waiting) = refl
+given_handlers : (k : Kind) (S : State) (c : Call) (a : Answer) → (given k S c a).handlers ≡ S.handlers
+given_handlers TryRecv S c a = by_test (a.reply == minus_two)
+  where
+    by_test : (none : Bool) → (cond none S (with_memory S (received c a S.store.memory))).handlers ≡ S.handlers
+    by_test true = refl
+    by_test false = refl
+given_handlers _ S c a = refl
 
 -- the world changes none
-world_handlers : (k : Kind) (S : State) (c : Call) (env : Env) (x : Answered) → from_world k S c env ≡ Some x → x.after.handlers ≡ S.handlers
-world_handlers Now S c env x h = sym (ap (λ (x : Answered). x.after.handlers) (same_Some _ _ h))
-world_handlers SleepUntil S c env x h = sym (ap (λ (x : Answered). x.after.handlers) (where_given (is_due c.a0 env.time) _ x h))
-world_handlers Random S c env x h = sym (ap (λ (x : Answered). x.after.handlers) (where_given (nat_le c.a1 (length env.pool)) _ x h))
-world_handlers Recv S c env x h = first_handlers S c env.mailbox x h
-world_handlers TryRecv S c env x h = sym (ap (λ (x : Answered). x.after.handlers) (same_Some _ _ h)) ∙ empty_handlers S c env.mailbox
-world_handlers _ S c env x h = cc
+world_handlers : (k : Kind) (S : State) (c : Call) (o : Option Answer) (x : Answered) → option_map (as_given k S c) o ≡ Some x → x.after.handlers ≡ S.handlers
+world_handlers k S c None x h = cc
+world_handlers k S c (Some a) x h = sym (ap (λ (x : Answered). x.after.handlers) (same_Some _ _ h)) ∙ given_handlers k S c a
 
 need_handlers : (n : Need) (world : Option Answered) (W : State) (x : Answered) → ((x : Answered) → world ≡ Some x → x.after.handlers ≡ W.handlers)
     → answered_now n world ≡ Some x → x.after.handlers ≡ (after_need n W).handlers
-need_handlers (Fixed reply S) world W x given h = sym (ap (λ (x : Answered). x.after.handlers) (same_Some _ _ h))
-need_handlers Blocked world W x given h = cc
-need_handlers World world W x given h = given x h
+need_handlers (Fixed reply S) world W x kept h = sym (ap (λ (x : Answered). x.after.handlers) (same_Some _ _ h))
+need_handlers Blocked world W x kept h = cc
+need_handlers World world W x kept h = kept x h
 
 -- so process and call determine them
 pub handlers_after : (k : Kind) (S : State) (t : ℕ) (c : Call) (env : Env) (x : Answered) (a : Answer) → answered_now (need k S t c) (from_world k S c env) ≡ Some x
     → x.after.handlers ≡ (effects k S t c a).handlers
-handlers_after k S t c env x a h = need_handlers (need k S t c) (from_world k S c env) (with_answer S c a) x (λ x given. world_handlers k S c env x given) h
+handlers_after k S t c env x a h = need_handlers (need k S t c) (from_world k S c env) (with_answer S c a) x (λ x is. world_handlers k S c (world_answer k c S.count env) x is) h
 
 -- and the signal that is delivered
 pub chosen_is : (S : State) (t : ℕ) (a : Answer) (w : Waiting) (c : Call) (pending : ℕ → Bool) (handlers : List (Option ℕ)) → thread_at S t ≡ Some w
-    → kind_numbered c.kind ≡ Some w.kind → handlers ≡ (effects w.kind S t w.call a).handlers → chosen_signal w.kind handlers pending ≡ signal_with S t a (kind_numbered c.kind) pending
+    → kind_numbered c.kind ≡ Some w.kind → handlers ≡ (effects w.kind S t w.call a).handlers → chosen_signal w.kind handlers pending ≡ signal_with S t a c pending
 chosen_is S t a w c pending handlers there kind are =
     ap (λ (hs : List (Option ℕ)). chosen_signal w.kind hs pending) (are ∙ sym (ap (λ (o : Option Waiting). (answered_at S t a o).handlers) there))
-    ∙ sym (ap (λ (o : Option Kind). signal_with S t a o pending) kind)
+    ∙ sym (ap (λ (o : Option Kind). option_map_or (λ kind. chosen_signal kind (handlers_at S t a) pending) o 0) kind)
 
 -- ---- the lowest
 
@@ -82,9 +76,8 @@ lowest_nowhere p zero s none = refl
 lowest_nowhere p (suc n) s none = ap (λ b. cond b s (lowest p n (s + 1))) (none s) ∙ lowest_nowhere p n (s + 1) none
 
 -- no signal is ready where none is pending
-pub none_ready : (S : State) (t : ℕ) (a : Answer) (pending : ℕ → Bool) → ((s : ℕ) → pending s ≡ false) → lowest (is_ready S t a pending) 31 1 ≡ 0
-none_ready S t a pending none =
-    lowest_nowhere (is_ready S t a pending) 31 1 (λ s. ap (λ (is : Bool). is && is_some (handler (answered_at S t a (thread_at S t)).handlers s)) (none s))
+pub none_ready : (handlers : List (Option ℕ)) (pending : ℕ → Bool) → ((s : ℕ) → pending s ≡ false) → lowest (is_ready handlers pending) 31 1 ≡ 0
+none_ready handlers pending none = lowest_nowhere (is_ready handlers pending) 31 1 (λ s. ap (λ (is : Bool). is && is_some (handler handlers s)) (none s))
 
 lowest_same : (p q : ℕ → Bool) (n s : ℕ) → 1 ≤ s → s + n ≤ 32 → ((r : ℕ) → 1 ≤ r → r ≤ 31 → p r ≡ q r) → lowest p n s ≡ lowest q n s
 unfolding lowest
@@ -101,7 +94,7 @@ with_signals env pending = record env { pending = pending }
 chosen_same : (k : Kind) (handlers : List (Option ℕ)) (p q : ℕ → Bool) → ((r : ℕ) → 1 ≤ r → r ≤ 31 → p r ≡ q r) → chosen_signal k handlers p ≡ chosen_signal k handlers q
 chosen_same k handlers p q same =
     ap (λ n. cond (ends_process k) 0 n)
-    (lowest_same (λ s. p s && is_some (handler handlers s)) (λ s. q s && is_some (handler handlers s)) 31 1 (omega arith) (omega arith)
+    (lowest_same (is_ready handlers p) (is_ready handlers q) 31 1 (omega arith) (omega arith)
     (λ r first last. ap (λ b. b && is_some (handler handlers r)) (same r first last)))
 
 from_world_same : (k : Kind) (S : State) (c : Call) (env : Env) (pending : ℕ → Bool) → from_world k S c (with_signals env pending) ≡ from_world k S c env

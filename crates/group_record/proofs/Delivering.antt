@@ -1,6 +1,6 @@
 -- The datagram that an event took stood first in its process's mailbox.
 use Rattle.std.proofs.Common.{◌≡◌, ℕ, ◌≤◌, Bool, true, false, cond, not, List, [], ◌∷◌, take, Option, Some, refl, ap, sym, subst, ◌∙◌, arith}
-use Rattle.std.specs.Prelude.{IsTrue, ◌==◌, Contains, slice_get}
+use Rattle.std.specs.Prelude.{IsTrue, ◌==◌, Contains, option_map, slice_get, unwrap_or}
 use Rattle.std.proofs.lemmas.Bool.{and_parts, eqb-false, not-true}
 use Rattle.std.proofs.lemmas.Option.{same_Some}
 use Rattle.call_table.specs.Table.{kind_numbered}
@@ -12,9 +12,9 @@ use Rattle.lib_calls.specs.Effects.{is_good, minus_one, minus_two}
 use Rattle.lib_calls.specs.Traffic.{is_taken, takes_as}
 use Rattle.lib_calls.specs.declared.entry.Call.{Call}
 use Rattle.lib_calls.specs.declared.entry.Entry.{Entry}
-use Rattle.guest_process.specs.Answers.{Need, need, replies}
+use Rattle.guest_process.specs.Answers.{need, replies}
 use Rattle.guest_process.specs.Answers as needs
-use Rattle.guest_process.specs.Live.{Answered, Env, Event, answered_now, cut_datagram, first_taken, from_world, live, or_empty}
+use Rattle.guest_process.specs.Live.{Answered, Env, Event, answered_now, as_given, cut_datagram, from_world, live, taken_of}
 use Rattle.guest_process.specs.State.{State}
 use Rattle.group_world.specs.History.{Deliver, History, mailbox, taken_count}
 use Rattle.group_world.specs.Laws.{Giver, HasOrigin, InTurn, NamesSend}
@@ -42,11 +42,11 @@ reply_is a b reply is told = told ∙ ap (λ (x : Answer). x.reply) (answer_is a
 other : (reply n : ℕ) → not (reply == n) ≡ true → reply ≡ n → ⊥
 other reply n is same = eqb-false reply n (not-true (reply == n) is) same
 
-taken_first : (S : State) (c : Call) (box : List (List ℕ)) (given : Answered) → first_taken S c box ≡ Some given → Took S c box given.answer
+taken_first : (S : State) (c : Call) (box : List (List ℕ)) (given : Answered) → option_map (as_given Recv S c) (taken_of S.count c.a1 box) ≡ Some given → Took S c box given.answer
 taken_first S c [] given is = cc
 taken_first S c (bytes ∷ later) given is = record { bytes = bytes; later = later; first = refl; answer = answer_is _ given is }
 
-taken_or_empty : (S : State) (c : Call) (box : List (List ℕ)) (given : Answered) (reply : ℕ) → Some (or_empty S (first_taken S c box)) ≡ Some given → reply ≡ given.answer.reply
+taken_or_empty : (S : State) (c : Call) (box : List (List ℕ)) (given : Answered) (reply : ℕ) → Some (as_given TryRecv S c (unwrap_or (taken_of S.count c.a1 box) (replies minus_two))) ≡ Some given → reply ≡ given.answer.reply
     → not (reply == minus_two) ≡ true → Took S c box given.answer
 taken_or_empty S c [] given reply is told not_empty = absurd (other reply minus_two not_empty (reply_is _ given reply is told))
 taken_or_empty S c (bytes ∷ later) given reply is told not_empty = record { bytes = bytes; later = later; first = refl; answer = answer_is _ given is }
@@ -60,10 +60,10 @@ if_good false S world given reply is told not_bad then = absurd (other reply min
 pub took : (k : Kind) (S : State) (t : ℕ) (c : Call) (env : Env) (given : Answered) (e : Entry) → answered_now (need k S t c) (from_world k S c env) ≡ Some given → e.reply ≡ given.answer.reply
     → takes_as (Some k) e ≡ true → Took S c env.mailbox given.answer
 took Recv S t c env given e is told takes =
-    if_good (is_good c S.store.memory) S (first_taken S c env.mailbox) given e.reply is told takes (taken_first S c env.mailbox given)
+    if_good (is_good c S.store.memory) S (from_world Recv S c env) given e.reply is told takes (taken_first S c env.mailbox given)
 took TryRecv S t c env given e is told takes =
     let tests = and_parts (not (e.reply == minus_one)) (not (e.reply == minus_two)) takes in
-    if_good (is_good c S.store.memory) S (Some (or_empty S (first_taken S c env.mailbox))) given e.reply is told tests.0
+    if_good (is_good c S.store.memory) S (from_world TryRecv S c env) given e.reply is told tests.0
     (λ here. taken_or_empty S c env.mailbox given e.reply here told tests.1)
 took _ S t c env given e is told takes = cc
 

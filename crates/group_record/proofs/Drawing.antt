@@ -1,10 +1,10 @@
 -- With good arguments an event takes what is there.
-use Rattle.std.proofs.Common.{◌≡◌, ℕ, ◌≤◌, Bool, true, false, cond, not, leb, List, [], ◌∷◌, length, take, Option, Some, refl, ap, sym, subst, ◌∙◌, arith}
-use Rattle.std.specs.Prelude.{IsTrue, ◌==◌}
+use Rattle.std.proofs.Common.{◌≡◌, ℕ, ◌≤◌, Bool, true, false, cond, not, leb, List, [], ◌∷◌, length, take, Option, Some, None, refl, ap, sym, subst, ◌∙◌, arith}
+use Rattle.std.specs.Prelude.{IsTrue, ◌==◌, option_map, unwrap_or}
 use Rattle.std.specs.Option.{option_map_or}
 use Rattle.std.proofs.lemmas.Bool.{and_from, and_parts, eq-eqb, leb-true, ne_eqb}
 use Rattle.std.proofs.lemmas.List.{length-take, length-take-le}
-use Rattle.std.proofs.lemmas.Option.{cond_some, same_Some}
+use Rattle.std.proofs.lemmas.Option.{same_Some}
 use Rattle.call_table.specs.Table.{kind_numbered}
 use Rattle.call_table.specs.declared.kind.Kind.{Kind}
 use Rattle.call_table.specs.declared.kind.Kind.TheVariants.{Random, Recv, TryRecv}
@@ -14,10 +14,9 @@ use Rattle.lib_calls.specs.Effects.{has_good, is_good, is_range, minus_one, minu
 use Rattle.lib_calls.specs.Traffic.{drawn, draws_as, is_taken, takes_as}
 use Rattle.lib_calls.specs.declared.entry.Call.{Call}
 use Rattle.lib_calls.specs.declared.entry.Entry.{Entry}
-use Rattle.guest_process.specs.Answers.{need}
+use Rattle.guest_process.specs.Answers.{need, replies}
 use Rattle.guest_process.specs.Answers as needs
-use Rattle.guest_process.specs.Live as live
-use Rattle.guest_process.specs.Live.{Answered, Env, Event, answered_now, cut_datagram, first_taken, from_world, or_empty}
+use Rattle.guest_process.specs.Live.{Answered, Env, Event, answered_now, as_given, cut_datagram, from_world, random_answer, taken_of}
 use Rattle.guest_process.specs.State.{State}
 use Rattle.group_world.specs.History.{pool}
 use Rattle.group_record.specs.Run.{Group, Step, Had, world_around, size, process_after}
@@ -58,11 +57,11 @@ cut_reply S c bytes a is few =
 answer_is : (a b : Answered) → Some a ≡ Some b → a.answer ≡ b.answer
 answer_is a b is = ap (λ (x : Answered). x.answer) (same_Some a b is)
 
-first_reply : (S : State) (c : Call) (box others : List (List ℕ)) (bytes : List ℕ) (given : Answered) → box ≡ bytes ∷ others → c.a1 ≤ 60000 → first_taken S c box ≡ Some given → given.answer.reply ≤ 60000
+first_reply : (S : State) (c : Call) (box others : List (List ℕ)) (bytes : List ℕ) (given : Answered) → box ≡ bytes ∷ others → c.a1 ≤ 60000 → option_map (as_given Recv S c) (taken_of S.count c.a1 box) ≡ Some given → given.answer.reply ≤ 60000
 first_reply S c [] others bytes given waits few is = cc
 first_reply S c (first ∷ rest) others bytes given waits few is = cut_reply S c first given.answer (answer_is _ given is) few
 
-found_reply : (S : State) (c : Call) (box others : List (List ℕ)) (bytes : List ℕ) (given : Answered) → box ≡ bytes ∷ others → c.a1 ≤ 60000 → Some (or_empty S (first_taken S c box)) ≡ Some given → given.answer.reply ≤ 60000
+found_reply : (S : State) (c : Call) (box others : List (List ℕ)) (bytes : List ℕ) (given : Answered) → box ≡ bytes ∷ others → c.a1 ≤ 60000 → Some (as_given TryRecv S c (unwrap_or (taken_of S.count c.a1 box) (replies minus_two))) ≡ Some given → given.answer.reply ≤ 60000
 found_reply S c [] others bytes given waits few is = cc
 found_reply S c (first ∷ rest) others bytes given waits few is = cut_reply S c first given.answer (answer_is _ given is) few
 
@@ -70,11 +69,11 @@ takes_kind : (k : Kind) (S : State) (t : ℕ) (c : Call) (env : Env) (given : An
     → answered_now (need k S t c) (from_world k S c env) ≡ Some given → e.reply ≡ given.answer.reply → takes_datagrams (Some k) ≡ true → is_good c S.store.memory ≡ true → c.a1 ≤ 60000
     → env.mailbox ≡ bytes ∷ others → takes_as (Some k) e ≡ true
 takes_kind Recv S t c env given e bytes others is told receive good few waits =
-    let here : first_taken S c env.mailbox ≡ Some given = by_world (is_good c S.store.memory) S (first_taken S c env.mailbox) given good is in
+    let here = by_world (is_good c S.store.memory) S (from_world Recv S c env) given good is in
     let small : e.reply ≤ 60000 = omega (arith, told, first_reply S c env.mailbox others bytes given waits few here) in
     counts e.reply minus_one small (omega arith)
 takes_kind TryRecv S t c env given e bytes others is told receive good few waits =
-    let here : Some (or_empty S (first_taken S c env.mailbox)) ≡ Some given = by_world (is_good c S.store.memory) S (Some (or_empty S (first_taken S c env.mailbox))) given good is in
+    let here = by_world (is_good c S.store.memory) S (from_world TryRecv S c env) given good is in
     let small : e.reply ≤ 60000 = omega (arith, told, found_reply S c env.mailbox others bytes given waits few here) in
     and_from (not (e.reply == minus_one)) (not (e.reply == minus_two)) (counts e.reply minus_one small (omega arith)) (counts e.reply minus_two small (omega arith))
 takes_kind _ S t c env given e bytes others is told receive good few waits = cc
@@ -131,14 +130,13 @@ record Drew (c : Call) (pool : List ℕ) (a : Answer) : Type 0 where
   incoming : a.incoming ≡ take c.a1 pool
 
 drew : (S : State) (c : Call) (env : Env) (given : Answered) → from_world Random S c env ≡ Some given → Drew c env.pool given.answer
-drew S c env given is =
-    let parts = cond_some (leb c.a1 (length env.pool)) (live.fills S c (live.random_answer c (take c.a1 env.pool))) given is in
-    let answer : (live.fills S c (live.random_answer c (take c.a1 env.pool))).answer ≡ given.answer = ap (λ (x : Answered). x.answer) parts.1 in
-    record {
-      enough = leb-true c.a1 (length env.pool) parts.0;
-      reply = sym (ap (λ (a : Answer). a.reply) answer);
-      incoming = sym (ap (λ (a : Answer). a.incoming) answer);
-    }
+drew S c env given is = by_test (leb c.a1 (length env.pool)) refl is
+  where
+    by_test : (enough : Bool) → leb c.a1 (length env.pool) ≡ enough → option_map (as_given Random S c) (cond enough (Some (random_answer c.a1 (take c.a1 env.pool))) None) ≡ Some given → Drew c env.pool given.answer
+    by_test true e is =
+        let answer = answer_is _ given is in
+        record { enough = leb-true c.a1 (length env.pool) e; reply = sym (ap (λ (a : Answer). a.reply) answer); incoming = sym (ap (λ (a : Answer). a.incoming) answer) }
+    by_test false e is = cc
 
 bad_reply : (good : Bool) (S : State) (world : Option Answered) (given : Answered) → good ≡ false → answered_now (cond good needs.World (needs.Fixed minus_one S)) world ≡ Some given → given.answer.reply ≡ minus_one
 bad_reply true S world given bad is = cc

@@ -1,12 +1,12 @@
 -- The event of a try, from what is asked of a process and of the world around it.
 use Rattle.std.proofs.Common.{◌≡◌, ℕ, ◌<◌, ◌≤◌, ◌^◌, Bool, true, false, ◌&&◌, not, eqb, cond, List, [], ◌∷◌, length, take, Option, Some, None, refl, ap, sym, subst, ◌∙◌, arith}
-use Rattle.std.specs.Prelude.{option_map, nat_le, unwrap_or}
+use Rattle.std.specs.Prelude.{option_and_then, option_map, nat_le, unwrap_or}
 use Rattle.std.proofs.lemmas.Bool.Decides.{nat_tests}
 use Rattle.std.proofs.lemmas.List.{length-take}
 use Rattle.std.proofs.lemmas.Option.{same_Some}
 use Rattle.call_table.specs.Table.{kind_numbered}
 use Rattle.call_table.specs.declared.kind.Kind.{Kind}
-use Rattle.call_table.specs.declared.kind.Kind.TheVariants.{Begin, Exit, Note, Print, Now, SleepUntil, Random, Me, Send, Recv, TryRecv, Yield, Thread, Spawn, Join, Lock, Unlock, OnSignal}
+use Rattle.call_table.specs.declared.kind.Kind.TheVariants.{Random, Recv, TryRecv}
 use Rattle.lamport_tag.specs.Tag.{clock_of, next_clock_of}
 use Rattle.lib_calls.specs.Answer.{Answer}
 use Rattle.lib_calls.specs.Effects.{is_good, minus_one, minus_two, outgoing_of}
@@ -16,13 +16,13 @@ use Rattle.lib_calls.specs.declared.entry.Entry.{Entry}
 use Rattle.lib_calls.specs.Entry.{IsShaped}
 use Rattle.guest_process.specs.declared.need.Need.{Need as PlainNeed}
 use Rattle.guest_process.specs.declared.waiting.Waiting.{Waiting}
-use Rattle.guest_process.specs.Answers.{Need, Fixed, Blocked, World, is_due, need, replies}
+use Rattle.guest_process.specs.Answers.{Need, Fixed, Blocked, World, need, replies}
 use Rattle.guest_process.specs.Fits.{EnvFits, StateFits, WaitingFits, live_has}
-use Rattle.guest_process.specs.Live.{Answered, Env, Event, answered_now, chosen_signal, event, event_of_waiting, first_taken, from_world, live, or_empty}
+use Rattle.guest_process.specs.Live.{Answered, Env, Event, answered_now, as_given, chosen_signal, drawn_of, event, event_of_waiting, from_world, live, taken_of, world_answer}
 use Rattle.guest_process.specs.OneEvent.{IsKept, OneEvent, Rises}
 use Rattle.guest_process.specs.Seen.{able, plain}
 use Rattle.guest_process.specs.State.{State, is_running, thread_at}
-use Rattle.group_record.specs.Around.{answer_by, drawn_of, signal_with, taken_of, world_answer}
+use Rattle.group_record.specs.Around.{answer_by, signal_with, world_gives}
 use Rattle.group_record.specs.Recorded.{IsLiveEntry}
 use Rattle.group_record.proofs.Chosen.{chosen_is, handlers_after}
 
@@ -31,60 +31,26 @@ use Rattle.group_record.proofs.Chosen.{chosen_is, handlers_after}
 abbrev answer_in : Answered → Answer
 answer_in a = a.answer
 
-due_same : (S : State) (time : ℕ) (due : Bool) → option_map answer_in (cond due (Some (record { answer = replies time; after = S })) None) ≡ cond due (Some (replies time)) None
-due_same S time true = refl
-due_same S time false = refl
+answers_same : (k : Kind) (S : State) (c : Call) (o : Option Answer) → option_map answer_in (option_map (as_given k S c) o) ≡ o
+answers_same k S c None = refl
+answers_same k S c (Some a) = refl
 
-drawn_same : (a : Answered) (enough : Bool) → option_map answer_in (cond enough (Some a) None) ≡ cond enough (Some a.answer) None
-drawn_same a true = refl
-drawn_same a false = refl
-
-taken_same : (S : State) (c : Call) (mailbox : List (List ℕ)) → option_map answer_in (first_taken S c mailbox) ≡ taken_of S.count c.a1 mailbox
-taken_same S c [] = refl
-taken_same S c (datagram ∷ waiting) = refl
-
-empty_same : (S : State) (c : Call) (mailbox : List (List ℕ)) → (or_empty S (first_taken S c mailbox)).answer ≡ unwrap_or (taken_of S.count c.a1 mailbox) (replies minus_two)
-empty_same S c [] = refl
-empty_same S c (datagram ∷ waiting) = refl
-
-asked_same : (S : State) (c : Call) (env : Env) (good : Bool) (found : Option Answered) → option_map answer_in found ≡ world_answer (kind_numbered c.kind) c S.count env
-    → option_map answer_in (answered_now (cond good World (Fixed minus_one S)) found) ≡ answer_by (plain (cond good World (Fixed minus_one S))) c S.count env
-asked_same S c env true found h = h
-asked_same S c env false found h = refl
-
--- where the world gives nothing
-own_same : (n : Need) (c : Call) (count : ℕ) (env : Env) → world_answer (kind_numbered c.kind) c count env ≡ None → option_map answer_in (answered_now n None) ≡ answer_by (plain n) c count env
-own_same (Fixed reply S) c count env none = refl
-own_same Blocked c count env none = refl
-own_same World c count env none = sym none
+-- of a call of this kind
+of_kind : (k : Kind) (c : Call) (count : ℕ) (env : Env) → kind_numbered c.kind ≡ Some k → world_gives c count env ≡ world_answer k c count env
+of_kind k c count env is = ap (λ (o : Option Kind). option_and_then (λ kind. world_answer kind c count env) o) is
 
 -- what is answered is what the process and the world give
-answer_same : (k : Kind) (S : State) (t : ℕ) (c : Call) (env : Env) → kind_numbered c.kind ≡ Some k
-    → option_map answer_in (answered_now (need k S t c) (from_world k S c env)) ≡ answer_by (plain (need k S t c)) c S.count env
-answer_same Begin S t c env is = refl
-answer_same Exit S t c env is = refl
-answer_same Note S t c env is = refl
-answer_same Print S t c env is = refl
-answer_same Now S t c env is = rw is refl
-answer_same SleepUntil S t c env is = rw is (due_same S env.time (is_due c.a0 env.time))
-answer_same Random S t c env is = asked_same S c env (is_good c S.store.memory) (from_world Random S c env) (rw is (drawn_same _ (nat_le c.a1 (length env.pool))))
-answer_same Me S t c env is = refl
-answer_same Send S t c env is = refl
-answer_same Recv S t c env is = asked_same S c env (is_good c S.store.memory) (from_world Recv S c env) (rw is (taken_same S c env.mailbox))
-answer_same TryRecv S t c env is = asked_same S c env (is_good c S.store.memory) (from_world TryRecv S c env) (rw is (ap Some (empty_same S c env.mailbox)))
-answer_same Yield S t c env is = refl
-answer_same Thread S t c env is = refl
-answer_same Spawn S t c env is = own_same (need Spawn S t c) c S.count env (rw is refl)
-answer_same Join S t c env is = own_same (need Join S t c) c S.count env (rw is refl)
-answer_same Lock S t c env is = own_same (need Lock S t c) c S.count env (rw is refl)
-answer_same Unlock S t c env is = own_same (need Unlock S t c) c S.count env (rw is refl)
-answer_same OnSignal S t c env is = own_same (need OnSignal S t c) c S.count env (rw is refl)
+answer_same : (k : Kind) (S : State) (c : Call) (env : Env) (n : Need) → kind_numbered c.kind ≡ Some k
+    → option_map answer_in (answered_now n (from_world k S c env)) ≡ answer_by (plain n) c S.count env
+answer_same k S c env (Fixed reply after) is = refl
+answer_same k S c env Blocked is = refl
+answer_same k S c env World is = answers_same k S c (world_answer k c S.count env) ∙ sym (of_kind k c S.count env is)
 
 -- ---- what is taken is there
 
 -- bad arguments are answered -1
 bad_or : (S : State) (c : Call) (count : ℕ) (env : Env) (a : Answer) (P : Type 0) (good : Bool) → answer_by (plain (cond good World (Fixed minus_one S))) c count env ≡ Some a
-    → (world_answer (kind_numbered c.kind) c count env ≡ Some a → P) → (a ≡ replies minus_one → P) → P
+    → (world_gives c count env ≡ Some a → P) → (a ≡ replies minus_one → P) → P
 bad_or S c count env a P true h from bad = from h
 bad_or S c count env a P false h from bad = bad (sym (same_Some _ _ h))
 
@@ -111,11 +77,11 @@ takes_there : (k : Kind) (S : State) (t : ℕ) (c : Call) (env : Env) (a : Answe
     → e.reply ≡ a.reply → takes_as (Some k) e ≡ true → 1 ≤ length env.mailbox
 takes_there Recv S t c env a e is given reply takes =
     bad_or S c S.count env a (1 ≤ length env.mailbox) (is_good c S.store.memory) given
-    (λ from. one_there S.count c.a1 env.mailbox a (sym (ap (λ o. world_answer o c S.count env) is) ∙ from))
+    (λ from. one_there S.count c.a1 env.mailbox a (sym (of_kind Recv c S.count env is) ∙ from))
     (λ bad. absurd (not_this e.reply minus_one (reply ∙ ap (λ (a : Answer). a.reply) bad) takes))
 takes_there TryRecv S t c env a e is given reply takes =
     bad_or S c S.count env a (1 ≤ length env.mailbox) (is_good c S.store.memory) given
-    (λ from. one_or_none S.count c.a1 env.mailbox a (1 ≤ length env.mailbox) (same_Some _ _ (sym (ap (λ o. world_answer o c S.count env) is) ∙ from)) (λ there. there)
+    (λ from. one_or_none S.count c.a1 env.mailbox a (1 ≤ length env.mailbox) (same_Some _ _ (sym (of_kind TryRecv c S.count env is) ∙ from)) (λ there. there)
     (λ none. absurd (not_this e.reply minus_two (reply ∙ ap (λ (a : Answer). a.reply) none) (both_not_last (not (eqb e.reply minus_one)) _ takes))))
     (λ bad. absurd (not_this e.reply minus_one (reply ∙ ap (λ (a : Answer). a.reply) bad) (both_not (not (eqb e.reply minus_one)) _ takes)))
 takes_there _ S t c env a e is given reply takes = cc
@@ -140,7 +106,7 @@ draws_there Random S t c env a e is given incoming =
     none_or (eqb e.reply minus_one) (length e.incoming) (length env.pool)
     (subst (λ (bytes : List ℕ). length bytes ≤ length env.pool) (sym incoming)
     (bad_or S c S.count env a (length a.incoming ≤ length env.pool) (is_good c S.store.memory) given
-    (λ from. few_drawn c.a1 env.pool a (sym (ap (λ o. world_answer o c S.count env) is) ∙ from))
+    (λ from. few_drawn c.a1 env.pool a (sym (of_kind Random c S.count env is) ∙ from))
     (λ bad. subst (λ (a : Answer). length a.incoming ≤ length env.pool) (sym bad) (omega arith))))
 draws_there _ S t c env a e is given incoming = omega arith
 
@@ -213,7 +179,7 @@ found_at : (S : State) (t : ℕ) (env : Env) (c : Call) (asked : PlainNeed) (fou
     → option_map answer_in (answered_now (need at.waiting.kind S t at.waiting.call) (from_world at.waiting.kind S at.waiting.call env)) ≡ found
 found_at S t env c asked found at is =
     subst (λ (call : Call). option_map answer_in (answered_now (need at.waiting.kind S t call) (from_world at.waiting.kind S call env)) ≡ found) (sym at.call)
-    (answer_same at.waiting.kind S t c env at.kind ∙ ap (λ n. answer_by n c S.count env) (sym at.need) ∙ is)
+    (answer_same at.waiting.kind S c env (need at.waiting.kind S t c) at.kind ∙ ap (λ n. answer_by n c S.count env) (sym at.need) ∙ is)
 
 none_in : (o : Option Answered) → option_map answer_in o ≡ None → o ≡ None
 none_in None h = refl
@@ -227,12 +193,12 @@ no_event S t env c asked h is =
 
 -- and one where an answer is given
 pub one_here : (S : State) (t : ℕ) (env : Env) (c : Call) (asked : PlainNeed) (a : Answer) → IsTried S t env c asked → answer_by asked c S.count env ≡ Some a
-    → (e : Event) × (live S t env ≡ Some e) × (e.entry ≡ entry_with (next_clock_of S.clock a.tag) (signal_with S t a (kind_numbered c.kind) env.pending) t c a (outgoing_of c S.store.memory))
+    → (e : Event) × (live S t env ≡ Some e) × (e.entry ≡ entry_with (next_clock_of S.clock a.tag) (signal_with S t a c env.pending) t c a (outgoing_of c S.store.memory))
 one_here S t env c asked a h is =
     let at = stands_there S t c asked h.stands in
     let w = at.waiting in
     let x = one_more answer_in (answered_now (need w.kind S t w.call) (from_world w.kind S w.call env)) a (sym (found_at S t env c asked (Some a) at is)) in
-    let signal = signal_with S t a (kind_numbered c.kind) env.pending in
+    let signal = signal_with S t a c env.pending in
     let delivers : chosen_signal w.kind x.0.after.handlers env.pending ≡ signal =
     chosen_is S t a w c env.pending x.0.after.handlers (able_is S t w at.able) at.kind (handlers_after w.kind S t w.call env x.0 a x.1) in (
       event S t env w x.0,
@@ -262,7 +228,7 @@ pub record IsFit (S : State) (env : Env) : Type 0 where
 
 -- the entry that was made is that of the event
 pub entry_tells : OneEvent → Rises → (S : State) (t : ℕ) (env : Env) (c : Call) (asked : PlainNeed) (a : Answer) (entry : Entry) → IsFit S env → IsTried S t env c asked
-    → answer_by asked c S.count env ≡ Some a → entry ≡ entry_with (next_clock_of S.clock a.tag) (signal_with S t a (kind_numbered c.kind) env.pending) t c a (outgoing_of c S.store.memory) → IsLiveEntry S t env entry
+    → answer_by asked c S.count env ≡ Some a → entry ≡ entry_with (next_clock_of S.clock a.tag) (signal_with S t a c env.pending) t c a (outgoing_of c S.store.memory) → IsLiveEntry S t env entry
 entry_tells one_event rises S t env c asked a entry fit h is made =
     let e = one_here S t env c asked a h is in
     let at = stands_there S t c asked h.stands in

@@ -1,10 +1,9 @@
 // How the world around a process answers its calls.
-ghost use Rattle.std.specs.Prelude.{◌≡◌, ◌<◌, IfOk, option_map, IfSome, OnSome, nat_lt, nat_le, take, length, if◌then◌else◌, Some, None};
-ghost use Rattle.call_table.specs.Table.{kind_numbered};
+ghost use Rattle.std.specs.Prelude.{◌≡◌, ◌<◌, IfOk, option_map, Some, None};
 ghost use Rattle.guest_process.specs.Answers.{replies};
-ghost use Rattle.guest_process.specs.Live.{cut_datagram};
-ghost use Rattle.group_world.specs.World.{process_count, surroundings_of};
-ghost use Rattle.group_record.specs.Around.{answer_by, drawn_of, env_of, seen, waking_at, world_answer};
+ghost use Rattle.guest_process.specs.Live.{cut_datagram, drawn_of, waking_at};
+ghost use Rattle.group_world.specs.World.{process_count};
+ghost use Rattle.group_record.specs.Around.{answer_by, env_of, seen, world_gives};
 
 use fri_bytes::Bytes;
 use group_world::{Front, World};
@@ -70,7 +69,7 @@ fn from_world(
     p: u32,
 ) -> Result<Option<Answer>, AllocError>
     requires { p < process_count world.now }
-    ensures { IfOk result (λ found. found ≡ world_answer (kind_numbered call.now.kind) call.now (process_count world.now) (env_of world.now p)) }
+    ensures { IfOk result (λ found. found ≡ world_gives call.now (process_count world.now) (env_of world.now p)) }
 {
     match Kind::from_number(call.kind) {
         Some(Kind::Now) => Ok(Some(Answer::plain(alloc, world.time(p)))),

@@ -1,6 +1,6 @@
 -- What is to be shown of each kind of call.
-use Rattle.std.proofs.Common.{◌≡◌, ℕ, ◌<◌, ◌≤◌, ◌^◌, Bool, true, false, cond, not, List, [], ◌∷◌, length, take, Option, Some, None, inl, inr, refl, ap, ◌∙◌, subst, arith}
-use Rattle.std.specs.Prelude.{◌==◌, nat_le, is_some, slice_get}
+use Rattle.std.proofs.Common.{◌≡◌, ℕ, ◌<◌, ◌≤◌, ◌^◌, Bool, true, false, cond, not, List, [], ◌∷◌, length, take, Option, Some, None, inl, inr, refl, ap, subst, arith}
+use Rattle.std.specs.Prelude.{◌==◌, nat_le, is_some, slice_get, unwrap_or}
 use Rattle.std.proofs.lemmas.Bool.{and_parts, and_from, or_cases, or_left, or_right, eq-eqb, leb-true, le-leb}
 use Rattle.std.proofs.lemmas.Bool.Decides.{nat_tests}
 use Rattle.std.proofs.lemmas.List.{length-take, length-take-le}
@@ -15,7 +15,7 @@ use Rattle.lamport_tag.specs.declared.Tag.{Tag}
 use Rattle.lamport_tag.specs.Laws.{IsFromGroup, StaysUntagged}
 use Rattle.lamport_tag.specs.Tag.{clock_of, is_sendable, payload_behind, read_datagram, tag_at}
 use Rattle.lib_calls.specs.declared.entry.Call.{Call}
-use Rattle.lib_calls.specs.Effects.{is_good, minus_one, minus_two, received, takes_counted}
+use Rattle.lib_calls.specs.Effects.{is_good, minus_one, minus_two, takes_counted}
 use Rattle.lib_calls.specs.Entry.{HasArguments, IsNumberIf, IsStringIf, IsTagIf}
 use Rattle.call_table.specs.Table.{kind_numbered, row}
 use Rattle.call_table.specs.declared.kind.Kind.{Kind}
@@ -23,13 +23,13 @@ use Rattle.call_table.specs.declared.kind.Kind.TheVariants.{Begin, Exit, Note, P
 use Rattle.lib_calls.specs.Answer.{Answer}
 use Rattle.wasm_step.specs.Strand.{new_thread}
 use Rattle.wasm_step.specs.Thread.{Thread}
-use Rattle.guest_process.specs.Answers.{Need, Fixed, Blocked, World, asked, need, handled, handler_given, handles, is_empty, is_holder, is_payload, is_possible, is_due, brings_nothing, takes_datagram, joined, joins, locked, locks, narrow, replied, spawnable, spawned, spawned_at, spawns, unlocked, with_answer}
+use Rattle.guest_process.specs.Answers.{Need, Fixed, Blocked, World, asked, need, handled, handler_given, handles, is_empty, is_holder, is_payload, is_possible, is_due, brings_nothing, takes_datagram, joined, joins, locked, locks, narrow, replied, replies, spawnable, spawned, spawned_at, spawns, unlocked}
 use Rattle.guest_process.specs.Fits.{EnvFits, StateFits}
 use Rattle.guest_process.specs.Legal.{gives_answer}
-use Rattle.guest_process.specs.Live.{Env, Answered, cut_datagram, random_answer, fills, first_taken, from_world, or_empty, takes}
-use Rattle.guest_process.specs.State.{State, with_memory, without_lock}
+use Rattle.guest_process.specs.Live.{Env, cut_datagram, random_answer, taken_of, world_answer}
+use Rattle.guest_process.specs.State.{State, without_lock}
 use Rattle.guest_process.proofs.Failing.{kept, same}
-use Rattle.guest_process.proofs.Written.{asked_good, good_written, not_minus_two, now_written, random_short, recv_short, sleep_written, try_recv_short}
+use Rattle.guest_process.proofs.Written.{asked_good, random_short, recv_short, try_recv_short}
 
 -- no bytes and no tag, which every kind may have
 pub no_bytes : (b : Bool) → IsStringIf b []
@@ -134,21 +134,19 @@ reply_fits Number S t c s low args = omega arith
 -- ---- what the world answers
 
 -- what its answer is to satisfy
-pub record Matches (k : Kind) (S : State) (c : Call) (a : Answered) : Type 0 where
-  pub possible : is_possible k S c a.answer ≡ true
-  pub same : with_answer S c a.answer ≡ a.after
-  pub reply : a.answer.reply < 2 ^ 64
-  pub incoming : IsStringIf (row k).entry.incoming a.answer.incoming
-  pub tag : IsTagIf (row k).entry.tag a.answer.tag
-  pub clock : clock_of a.answer.tag ≤ 2 ^ 62
+pub record Matches (k : Kind) (S : State) (c : Call) (a : Answer) : Type 0 where
+  pub possible : is_possible k S c a ≡ true
+  pub reply : a.reply < 2 ^ 64
+  pub incoming : IsStringIf (row k).entry.incoming a.incoming
+  pub tag : IsTagIf (row k).entry.tag a.tag
+  pub clock : clock_of a.tag ≤ 2 ^ 62
 
-drawn_matches : (S : State) (c : Call) (pool : List ℕ) → kind_numbered c.kind ≡ Some Random → is_good c S.store.memory ≡ true → nat_le c.a1 (length pool) ≡ true → Matches Random S c (fills S c (random_answer c (take c.a1 pool)))
+drawn_matches : (S : State) (c : Call) (pool : List ℕ) → kind_numbered c.kind ≡ Some Random → is_good c S.store.memory ≡ true → nat_le c.a1 (length pool) ≡ true → Matches Random S c (random_answer c.a1 (take c.a1 pool))
 drawn_matches S c pool e good enough =
     let long : length (take c.a1 pool) ≡ c.a1 = length-take-le c.a1 pool (leb-true c.a1 (length pool) enough) in
     let short = random_short S c e good in
     record {
       possible = and_from _ _ (same c.a1) (and_from _ _ (eq-eqb (length (take c.a1 pool)) c.a1 long) refl);
-      same = good_written Random S c (random_answer c (take c.a1 pool)) e good;
       reply = omega (arith, short);
       incoming = omega (arith, long, short);
       tag = refl;
@@ -200,56 +198,40 @@ module _ (stays : StaysUntagged) (sent : IsFromGroup) where
         clock = payload_clock S.count read.0 bytes payload;
       }
 
-  recv_matches : (S : State) (c : Call) (a : Answer) → kind_numbered c.kind ≡ Some Recv → is_good c S.store.memory ≡ true → Brings S c a → Matches Recv S c (takes S c a)
+  recv_matches : (S : State) (c : Call) (a : Answer) → kind_numbered c.kind ≡ Some Recv → is_good c S.store.memory ≡ true → Brings S c a → Matches Recv S c a
   recv_matches S c a e good b =
       let short = recv_short S c e good in
-      record {
-        possible = b.taken;
-        same = good_written Recv S c a e good;
-        reply = omega (arith, short, b.reply);
-        incoming = omega (arith, short, b.incoming);
-        tag = b.tag;
-        clock = b.clock;
-      }
+      record { possible = b.taken; reply = omega (arith, short, b.reply); incoming = omega (arith, short, b.incoming); tag = b.tag; clock = b.clock }
 
-  try_recv_matches : (S : State) (c : Call) (a : Answer) → kind_numbered c.kind ≡ Some TryRecv → is_good c S.store.memory ≡ true → Brings S c a → Matches TryRecv S c (takes S c a)
+  try_recv_matches : (S : State) (c : Call) (a : Answer) → kind_numbered c.kind ≡ Some TryRecv → is_good c S.store.memory ≡ true → Brings S c a → Matches TryRecv S c a
   try_recv_matches S c a e good b =
       let short = try_recv_short S c e good in
-      let there = not_minus_two a.reply (omega (arith, short, b.reply)) in
-      record {
-        possible = or_left _ _ b.taken;
-        same = good_written TryRecv S c a e good ∙ ap (λ none. with_memory S (cond none S.store.memory (received c a S.store.memory))) there;
-        reply = omega (arith, short, b.reply);
-        incoming = omega (arith, short, b.incoming);
-        tag = b.tag;
-        clock = b.clock;
-      }
+      record { possible = or_left _ _ b.taken; reply = omega (arith, short, b.reply); incoming = omega (arith, short, b.incoming); tag = b.tag; clock = b.clock }
 
-  none_matches : (S : State) (c : Call) → kind_numbered c.kind ≡ Some TryRecv → is_good c S.store.memory ≡ true → Matches TryRecv S c (or_empty S None)
-  none_matches S c e good = record {
-    possible = or_right (takes_datagram S.count c (or_empty S None).answer) _ refl;
-    same = good_written TryRecv S c (or_empty S None).answer e good;
+  none_matches : (S : State) (c : Call) → Matches TryRecv S c (replies minus_two)
+  none_matches S c = record {
+    possible = or_right (takes_datagram S.count c (replies minus_two)) _ refl;
     reply = omega arith;
     incoming = omega arith;
     tag = tt;
     clock = omega arith;
   }
 
-  first_matches : (S : State) (c : Call) (mailbox : List (List ℕ)) → S.count ≤ 16 → kind_numbered c.kind ≡ Some Recv → is_good c S.store.memory ≡ true → (a : Answered) → first_taken S c mailbox ≡ Some a → Matches Recv S c a
+  first_matches : (S : State) (c : Call) (mailbox : List (List ℕ)) → S.count ≤ 16 → kind_numbered c.kind ≡ Some Recv → is_good c S.store.memory ≡ true → (a : Answer) → taken_of S.count c.a1 mailbox ≡ Some a → Matches Recv S c a
   first_matches S c [] few e good a h = cc
   first_matches S c (datagram ∷ waiting) few e good a h =
       subst (Matches Recv S c) (same_Some _ _ h) (recv_matches S c _ e good (cut_brings S c datagram few))
 
-  tried_matches : (S : State) (c : Call) (mailbox : List (List ℕ)) → S.count ≤ 16 → kind_numbered c.kind ≡ Some TryRecv → is_good c S.store.memory ≡ true → Matches TryRecv S c (or_empty S (first_taken S c mailbox))
-  tried_matches S c [] few e good = none_matches S c e good
+  tried_matches : (S : State) (c : Call) (mailbox : List (List ℕ)) → S.count ≤ 16 → kind_numbered c.kind ≡ Some TryRecv → is_good c S.store.memory ≡ true → Matches TryRecv S c (unwrap_or (taken_of S.count c.a1 mailbox) (replies minus_two))
+  tried_matches S c [] few e good = none_matches S c
   tried_matches S c (datagram ∷ waiting) few e good = try_recv_matches S c _ e good (cut_brings S c datagram few)
 
-  pub world_matches : (k : Kind) (S : State) (t : ℕ) (c : Call) (env : Env) → S.count ≤ 16 → EnvFits env → kind_numbered c.kind ≡ Some k → need k S t c ≡ World → (a : Answered) → from_world k S c env ≡ Some a → Matches k S c a
+  pub world_matches : (k : Kind) (S : State) (t : ℕ) (c : Call) (env : Env) → S.count ≤ 16 → EnvFits env → kind_numbered c.kind ≡ Some k → need k S t c ≡ World → (a : Answer) → world_answer k c S.count env ≡ Some a → Matches k S c a
   world_matches Now S t c env few e n w a h =
-      subst (Matches Now S c) (same_Some _ _ h) (record { possible = refl; same = now_written S c _ n; reply = e.time; incoming = refl; tag = refl; clock = omega arith })
+      subst (Matches Now S c) (same_Some _ _ h) (record { possible = refl; reply = e.time; incoming = refl; tag = refl; clock = omega arith })
   world_matches SleepUntil S t c env few e n w a h =
       let k = kept _ _ a h in
-      subst (Matches SleepUntil S c) (same_Some _ _ k.1) (record { possible = and_from _ _ k.0 refl; same = sleep_written S c _ n; reply = e.time; incoming = refl; tag = refl; clock = omega arith })
+      subst (Matches SleepUntil S c) (same_Some _ _ k.1) (record { possible = and_from _ _ k.0 refl; reply = e.time; incoming = refl; tag = refl; clock = omega arith })
   world_matches Random S t c env few e n w a h =
       let k = kept _ _ a h in
       subst (Matches Random S c) (same_Some _ _ k.1) (drawn_matches S c env.pool n (asked_good S c w) k.0)

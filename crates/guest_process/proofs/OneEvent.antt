@@ -24,12 +24,13 @@ use Rattle.guest_process.specs.Fits.{EnvFits, StateFits, WaitingFits, live_has}
 use Rattle.guest_process.specs.GoesOn.{goes_on, handler}
 use Rattle.guest_process.specs.Kinds.{ends_process}
 use Rattle.guest_process.specs.Legal.{checks, gives_answer, is_handled}
-use Rattle.guest_process.specs.Live.{Env, Event, Answered, answered_now, chosen_signal, event, from_world, event_of_waiting, lowest}
+use Rattle.guest_process.specs.Live.{Env, Event, Answered, answered_now, as_given, chosen_signal, event, from_world, event_of_waiting, lowest, world_answer}
 use Rattle.guest_process.specs.OneEvent.{Agrees, OneEvent}
 use Rattle.guest_process.specs.State.{State, is_running, thread_at}
 use Rattle.guest_process.proofs.Failing.{same, kept, mapped, none_failing, lowest_holds}
 use Rattle.guest_process.proofs.Outgoing.{outgoing_fits}
 use Rattle.guest_process.proofs.EachKind.{no_bytes, no_tag, ReplyFits, reply_fits, world_matches}
+use Rattle.guest_process.proofs.Written.{given_written}
 
 pub live_low : (slots : List (Slot Waiting)) (t : ℕ) (w : Waiting) → option_and_then value_of (slice_get slots t) ≡ Some w → t < length slots
 live_low [] t w h = cc
@@ -57,8 +58,16 @@ answered_holds stays sent k S t c env few e is (Fixed r S') need_is fits a h =
     })
 answered_holds stays sent k S t c env few e is Blocked need_is fits a h = cc
 answered_holds stays sent k S t c env few e is World need_is fits a h =
-    let m = world_matches stays sent k S t c env few e is need_is a h in
-    record { possible = m.possible; same = m.same; reply = m.reply; incoming = m.incoming; tag = m.tag; clock = m.clock }
+    let w = mapped (as_given k S c) (world_answer k c S.count env) a h in
+    let m = world_matches stays sent k S t c env few e is need_is w.0 w.1 in
+    subst (Answers k S c World) w.2 (record {
+      possible = m.possible;
+      same = given_written k S t c w.0 is need_is;
+      reply = m.reply;
+      incoming = m.incoming;
+      tag = m.tag;
+      clock = m.clock;
+    })
 
 handled_at : (p : ℕ → Bool) (pending : Bool) (s : ℕ) → (pending && p s) ≡ true → s < 1 + most_signal → ((s == 0) || (true && (nat_le s most_signal && p s))) ≡ true
 handled_at p pending s h low = or_right _ _ (and_from _ _ (le-leb' s most_signal (omega arith)) (and_parts _ _ h).1)

@@ -1,6 +1,6 @@
 -- A legal entry is the event of a try in each world that has what it brings, and there is such a world.
 use Rattle.std.proofs.Common.{◌≡◌, ℕ, zero, suc, ◌+◌, ◌<◌, ◌≤◌, Bool, true, false, ◌&&◌, ◌||◌, not, cond, List, [], ◌∷◌, ◌++◌, length, take, Option, Some, None, inl, inr, refl, ap, sym, subst, ◌∙◌, arith}
-use Rattle.std.specs.Prelude.{◌==◌, nat_le, is_some, option_map, if◌then◌else◌}
+use Rattle.std.specs.Prelude.{◌==◌, nat_le, is_some, option_map, unwrap_or, if◌then◌else◌}
 use Rattle.std.proofs.lemmas.Slice.Eq.{bytes_eq-Decides}
 use Rattle.std.proofs.lemmas.Bool.{and_parts, or_cases, eqb-true, eqb-false, leb-true, le-leb, ne_eqb}
 use Rattle.std.proofs.lemmas.List.{length-take, take_all}
@@ -14,21 +14,21 @@ use Rattle.lamport_tag.specs.Tag.{next_clock_of, payload_behind, read_datagram, 
 use Rattle.lib_calls.specs.declared.entry.Call.{Call}
 use Rattle.lib_calls.specs.declared.entry.Entry.{Entry}
 use Rattle.lib_calls.specs.Answer.{Answer, answer_of}
-use Rattle.lib_calls.specs.Effects.{with_incoming, is_good, minus_one, minus_two, outgoing_of, received, takes_counted}
+use Rattle.lib_calls.specs.Effects.{is_good, minus_one, minus_two, outgoing_of, takes_counted}
 use Rattle.signal_points.specs.Signals.{most_signal}
 use Rattle.guest_process.specs.declared.waiting.Waiting.{Waiting}
 use Rattle.guest_process.specs.Answers.{Need, Fixed, Blocked, World, after_need, effects, is_drawn, is_due, is_empty, is_payload, brings_nothing, is_possible, takes_datagram, need, replies, with_answer}
 use Rattle.guest_process.specs.GoesOn.{goes_on, handler}
 use Rattle.guest_process.specs.Kinds.{ends_process}
 use Rattle.guest_process.specs.Legal.{checks, gives_answer, is_handled, reason_at}
-use Rattle.guest_process.specs.Live.{Env, Event, Answered, answered_now, chosen_signal, cut_datagram, random_answer, event, fills, first_taken, from_world, event_of_waiting, lowest, or_empty, takes}
+use Rattle.guest_process.specs.Live.{Env, Event, Answered, answered_now, as_given, chosen_signal, cut_datagram, drawn_of, event, event_of_waiting, from_world, is_ready, lowest, random_answer, taken_of, waking_at, world_answer}
 use Rattle.guest_process.specs.Next.{next_at}
 use Rattle.guest_process.specs.OneEvent.{Brings, IsThere, Possible, StandsFirst, Supplies, Unless, WorldIsThere, datagram_as, mailbox_for}
-use Rattle.guest_process.specs.State.{State, is_running, thread_at, with_memory}
+use Rattle.guest_process.specs.State.{State, is_running, thread_at}
 use Rattle.guest_process.specs.Fits.{StateFits}
 use Rattle.guest_process.proofs.Failing.{all_hold, unless_none}
 use Rattle.guest_process.proofs.Legality.{call_told, fits_at}
-use Rattle.guest_process.proofs.Written.{asked_good, good_written, not_minus_two, now_written, random_short, recv_short, sleep_written, taken_counted, try_recv_short}
+use Rattle.guest_process.proofs.Written.{asked_good, given_written, not_minus_two, random_short, recv_short, taken_counted, try_recv_short}
 
 not_minus_one : (reply : ℕ) → reply ≤ 60000 → (reply == minus_one) ≡ false
 not_minus_one reply low = ne_eqb reply minus_one (λ is. omega (arith, low, is))
@@ -47,9 +47,9 @@ not_there false a box is h = cc
 
 -- ---- the answer
 
-given : {A : Type 0} (b : Bool) (x y : A) → b ≡ true → cond b x y ≡ x
-given true x y h = refl
-given false x y h = cc
+found : {A : Type 0} (b : Bool) (x y : A) → b ≡ true → cond b x y ≡ x
+found true x y h = refl
+found false x y h = cc
 
 plain_is : (a : Answer) → brings_nothing a.tag a.incoming ≡ true → replies a.reply ≡ a
 plain_is a h = by_parts a.incoming a.tag h
@@ -65,16 +65,8 @@ gives S a = Some (record { answer = a; after = S })
 
 -- ---- random bytes
 
-drawn_given : (S : State) (c : Call) (a : Answer) (pool : List ℕ) → is_drawn c a ≡ true → take (length a.incoming) pool ≡ a.incoming → cond (nat_le c.a1 (length pool)) (Some (fills S c (random_answer c (take c.a1 pool)))) None ≡ Some (fills S c (random_answer c a.incoming))
-drawn_given S c a pool h first =
-    let count : length a.incoming ≡ c.a1 = eqb-true (length a.incoming) c.a1 (and_parts (length a.incoming == c.a1) (not (is_some a.tag)) (and_parts (a.reply == c.a1) _ h).1).0 in
-    let many : min (length a.incoming) (length pool) ≡ length a.incoming = sym (length-take (length a.incoming) pool) ∙ ap length first in
-    given (nat_le c.a1 (length pool)) _ _ (le-leb c.a1 (length pool) (omega (arith, count, many)))
-    ∙ ap (λ n. Some (fills S c (random_answer c (take n pool)))) (sym count)
-    ∙ ap (λ bytes. Some (fills S c (random_answer c bytes))) first
-
 -- such an answer is that of the bytes that came in
-drawn_is : (c : Call) (a : Answer) → is_drawn c a ≡ true → random_answer c a.incoming ≡ a
+drawn_is : (c : Call) (a : Answer) → is_drawn c a ≡ true → random_answer c.a1 a.incoming ≡ a
 drawn_is c a h =
     let parts = and_parts (a.reply == c.a1) (length a.incoming == c.a1 && not (is_some a.tag)) h in
     let tag = (and_parts (length a.incoming == c.a1) (not (is_some a.tag)) parts.1).1 in
@@ -87,10 +79,14 @@ drawn_is c a h =
     by_tag None h = refl
     by_tag (Some tag) h = cc
 
-random_gives : (S : State) (c : Call) (a : Answer) → kind_numbered c.kind ≡ Some Random → is_good c S.store.memory ≡ true → is_drawn c a ≡ true → Some (fills S c (random_answer c a.incoming)) ≡ gives (with_answer S c a) a
-random_gives S c a e good h =
-    let put = good_written Random S c a e good in
-    ap (gives (with_memory S (with_incoming c a S.store.memory))) (drawn_is c a h) ∙ ap (λ S'. gives S' a) (sym put)
+drawn_given : (c : Call) (a : Answer) (pool : List ℕ) → is_drawn c a ≡ true → take (length a.incoming) pool ≡ a.incoming → drawn_of c.a1 pool ≡ Some a
+drawn_given c a pool h first =
+    let count : length a.incoming ≡ c.a1 = eqb-true (length a.incoming) c.a1 (and_parts (length a.incoming == c.a1) (not (is_some a.tag)) (and_parts (a.reply == c.a1) _ h).1).0 in
+    let many : min (length a.incoming) (length pool) ≡ length a.incoming = sym (length-take (length a.incoming) pool) ∙ ap length first in
+    found (nat_le c.a1 (length pool)) _ _ (le-leb c.a1 (length pool) (omega (arith, count, many)))
+    ∙ ap (λ n. Some (random_answer c.a1 (take n pool))) (sym count)
+    ∙ ap (λ bytes. Some (random_answer c.a1 bytes)) first
+    ∙ ap Some (drawn_is c a h)
 
 -- ---- datagrams
 
@@ -105,12 +101,12 @@ module _ (again : IsReadBack) where
       ap (payload_behind (tag_bytes tag ++ payload)) (again count tag payload (omega (arith, few)) h)
 
   -- a datagram that was taken is taken so
-  cut_is : (S : State) (c : Call) (a : Answer) → S.count ≤ 16 → takes_datagram S.count c a ≡ true → cut_datagram c.a1 (read_datagram S.count (datagram_as a.tag a.incoming)) ≡ a
-  cut_is S c a few h =
-      let parts = and_parts (takes_counted c a) (is_payload S.count a.tag a.incoming) h in
+  cut_is : (count : ℕ) (c : Call) (a : Answer) → count ≤ 16 → takes_datagram count c a ≡ true → cut_datagram c.a1 (read_datagram count (datagram_as a.tag a.incoming)) ≡ a
+  cut_is count c a few h =
+      let parts = and_parts (takes_counted c a) (is_payload count a.tag a.incoming) h in
       let counts = and_parts (a.reply == length a.incoming) (nat_le (length a.incoming) c.a1) parts.0 in
       let whole = take_all c.a1 a.incoming (leb-true (length a.incoming) c.a1 counts.1) in
-      ap (cut_datagram c.a1) (read_sent S.count a.tag a.incoming few parts.1)
+      ap (cut_datagram c.a1) (read_sent count a.tag a.incoming few parts.1)
       ∙ ap {B = Answer} (λ bytes. record { reply = length bytes; incoming = bytes; tag = a.tag }) whole
       ∙ ap {B = Answer} (λ reply. record { reply = reply; incoming = a.incoming; tag = a.tag }) (sym (eqb-true a.reply (length a.incoming) counts.0))
 
@@ -119,50 +115,45 @@ module _ (again : IsReadBack) where
       let counts = and_parts (a.reply == length a.incoming) (nat_le (length a.incoming) c.a1) (taken_counted S.count c a h) in
       omega (arith, short, eqb-true a.reply (length a.incoming) counts.0, leb-true (length a.incoming) c.a1 counts.1)
 
-  first_given : (S : State) (c : Call) (a : Answer) (box : List (List ℕ)) → S.count ≤ 16 → takes_datagram S.count c a ≡ true → StandsFirst a box → first_taken S c box ≡ Some (takes S c a)
-  first_given S c a box few h first = ap (first_taken S c) first.1 ∙ ap (λ a. Some (takes S c a)) (cut_is S c a few h)
+  first_given : (count : ℕ) (c : Call) (a : Answer) (box : List (List ℕ)) → count ≤ 16 → takes_datagram count c a ≡ true → StandsFirst a box → taken_of count c.a1 box ≡ Some a
+  first_given count c a box few h first = ap (taken_of count c.a1) first.1 ∙ ap Some (cut_is count c a few h)
 
-  recv_gives : (S : State) (c : Call) (a : Answer) (box : List (List ℕ)) → S.count ≤ 16 → kind_numbered c.kind ≡ Some Recv → is_good c S.store.memory ≡ true → takes_datagram S.count c a ≡ true → Unless (a.reply == minus_one) (StandsFirst a box) → first_taken S c box ≡ gives (with_answer S c a) a
+  recv_gives : (S : State) (c : Call) (a : Answer) (box : List (List ℕ)) → S.count ≤ 16 → kind_numbered c.kind ≡ Some Recv → is_good c S.store.memory ≡ true → takes_datagram S.count c a ≡ true → Unless (a.reply == minus_one) (StandsFirst a box) → taken_of S.count c.a1 box ≡ Some a
   recv_gives S c a box few e good h first =
       let low = taken_low S c a h (recv_short S c e good) in
-      first_given S c a box few h (here (a.reply == minus_one) (not_minus_one a.reply low) first) ∙ ap (λ S'. gives S' a) (sym (good_written Recv S c a e good))
+      first_given S.count c a box few h (here (a.reply == minus_one) (not_minus_one a.reply low) first)
 
-  taken_gives : (S : State) (c : Call) (a : Answer) (box : List (List ℕ)) → S.count ≤ 16 → kind_numbered c.kind ≡ Some TryRecv → is_good c S.store.memory ≡ true → takes_datagram S.count c a ≡ true → Unless (a.reply == minus_one) (IsThere (a.reply == minus_two) a box) → Some (or_empty S (first_taken S c box)) ≡ gives (with_answer S c a) a
+  taken_gives : (S : State) (c : Call) (a : Answer) (box : List (List ℕ)) → S.count ≤ 16 → kind_numbered c.kind ≡ Some TryRecv → is_good c S.store.memory ≡ true → takes_datagram S.count c a ≡ true → Unless (a.reply == minus_one) (IsThere (a.reply == minus_two) a box) → unwrap_or (taken_of S.count c.a1 box) (replies minus_two) ≡ a
   taken_gives S c a box few e good h first =
       let low = taken_low S c a h (try_recv_short S c e good) in
-      let isnt = not_minus_two a.reply low in
-      let put = good_written TryRecv S c a e good ∙ ap (λ none. with_memory S (cond none S.store.memory (received c a S.store.memory))) isnt in
-      ap (λ taken. Some (or_empty S taken)) (first_given S c a box few h (there (a.reply == minus_two) a box isnt (here (a.reply == minus_one) (not_minus_one a.reply low) first))) ∙ ap (λ S'. gives S' a) (sym put)
+      ap (λ taken. unwrap_or taken (replies minus_two))
+      (first_given S.count c a box few h (there (a.reply == minus_two) a box (not_minus_two a.reply low) (here (a.reply == minus_one) (not_minus_one a.reply low) first)))
 
-  empty_gives : (S : State) (c : Call) (a : Answer) (box : List (List ℕ)) → kind_numbered c.kind ≡ Some TryRecv → is_good c S.store.memory ≡ true → is_empty a ≡ true → Unless (a.reply == minus_one) (IsThere (a.reply == minus_two) a box) → Some (or_empty S (first_taken S c box)) ≡ gives (with_answer S c a) a
-  empty_gives S c a box e good h first =
+  empty_gives : (S : State) (c : Call) (a : Answer) (box : List (List ℕ)) → is_empty a ≡ true → Unless (a.reply == minus_one) (IsThere (a.reply == minus_two) a box) → unwrap_or (taken_of S.count c.a1 box) (replies minus_two) ≡ a
+  empty_gives S c a box h first =
       let parts = and_parts (a.reply == minus_two) (brings_nothing a.tag a.incoming) h in
       let is = eqb-true a.reply minus_two parts.0 in
-      let put = good_written TryRecv S c a e good ∙ ap (λ none. with_memory S (cond none S.store.memory (received c a S.store.memory))) parts.0 in
-      ap (λ box. Some (or_empty S (first_taken S c box))) (not_there (a.reply == minus_two) a box parts.0 (here (a.reply == minus_one) (ne_eqb a.reply minus_one (λ one. omega (arith, is, one))) first))
-      ∙ ap (gives S) (ap replies (sym is) ∙ plain_is a parts.1)
-      ∙ ap (λ S'. gives S' a) (sym put)
+      ap (λ box. unwrap_or (taken_of S.count c.a1 box) (replies minus_two)) (not_there (a.reply == minus_two) a box parts.0 (here (a.reply == minus_one) (ne_eqb a.reply minus_one (λ one. omega (arith, is, one))) first))
+      ∙ ap replies (sym is)
+      ∙ plain_is a parts.1
 
   -- ---- an answer of the world
 
-  world_gives : (k : Kind) (S : State) (t : ℕ) (c : Call) (a : Answer) (env : Env) → S.count ≤ 16 → kind_numbered c.kind ≡ Some k → need k S t c ≡ World → is_possible k S c a ≡ true → Brings (Some k) a env → from_world k S c env ≡ gives (with_answer S c a) a
-  world_gives Now S t c a env few e w h has = ap (λ n. gives S (replies n)) has ∙ ap (gives S) (plain_is a h) ∙ ap (λ S'. gives S' a) (sym (now_written S c a e))
+  world_gives : (k : Kind) (S : State) (t : ℕ) (c : Call) (a : Answer) (env : Env) → S.count ≤ 16 → kind_numbered c.kind ≡ Some k → need k S t c ≡ World → is_possible k S c a ≡ true → Brings (Some k) a env → world_answer k c S.count env ≡ Some a
+  world_gives Now S t c a env few e w h has = ap (λ n. Some (replies n)) has ∙ ap Some (plain_is a h)
   world_gives SleepUntil S t c a env few e w h has =
       let parts = and_parts (is_due c.a0 a.reply) (brings_nothing a.tag a.incoming) h in
-      ap (λ n. cond (is_due c.a0 n) (gives S (replies n)) None) has
-      ∙ given (is_due c.a0 a.reply) _ _ parts.0
-      ∙ ap (gives S) (plain_is a parts.1)
-      ∙ ap (λ S'. gives S' a) (sym (sleep_written S c a e))
+      ap (waking_at c.a0) has ∙ found (is_due c.a0 a.reply) _ _ parts.0 ∙ ap Some (plain_is a parts.1)
   world_gives Random S t c a env few e w h has =
       let good = asked_good S c w in
       let reply = eqb-true a.reply c.a1 (and_parts (a.reply == c.a1) _ h).0 in
       let low : a.reply ≤ 60000 = omega (arith, reply, random_short S c e good) in
-      drawn_given S c a env.pool h (here (a.reply == minus_one) (not_minus_one a.reply low) has) ∙ random_gives S c a e good h
+      drawn_given c a env.pool h (here (a.reply == minus_one) (not_minus_one a.reply low) has)
   world_gives Recv S t c a env few e w h has = recv_gives S c a env.mailbox few e (asked_good S c w) h has
-  world_gives TryRecv S t c a env few e w h has = elim (or_cases (takes_datagram S.count c a) (is_empty a) h) [
+  world_gives TryRecv S t c a env few e w h has = ap Some (elim (or_cases (takes_datagram S.count c a) (is_empty a) h) [
     | inl taken ↦ taken_gives S c a env.mailbox few e (asked_good S c w) taken has
-    | inr empty ↦ empty_gives S c a env.mailbox e (asked_good S c w) empty has
-  ]
+    | inr empty ↦ empty_gives S c a env.mailbox empty has
+  ])
   world_gives _ S t c a env few e w h has = cc
 
   answer_given : (k : Kind) (S : State) (t : ℕ) (c : Call) (a : Answer) (env : Env) → S.count ≤ 16 → kind_numbered c.kind ≡ Some k → Brings (Some k) a env → (n : Need) → need k S t c ≡ n → gives_answer n a (is_possible k S c a) ≡ true → answered_now n (from_world k S c env) ≡ gives (after_need n (with_answer S c a)) a
@@ -170,7 +161,8 @@ module _ (again : IsReadBack) where
       let parts = and_parts (a.reply == reply) (brings_nothing a.tag a.incoming) h in
       ap (gives S') (ap replies (sym (eqb-true a.reply reply parts.0)) ∙ plain_is a parts.1)
   answer_given k S t c a env few e has Blocked w h = cc
-  answer_given k S t c a env few e has World w h = world_gives k S t c a env few e w h has
+  answer_given k S t c a env few e has World w h =
+      ap (option_map (as_given k S c)) (world_gives k S t c a env few e w h has) ∙ ap (λ S'. gives S' a) (sym (given_written k S t c a e w))
 
 -- ---- the signal
 
@@ -193,7 +185,7 @@ lowest_is q signal zero s low high is = absurd (omega arith)
 lowest_is q signal (suc n) s low high is = by_test (s == signal) refl (λ more. lowest_is q signal n (s + 1) more (omega arith) is)
   where
     by_test : (b : Bool) → (s == signal) ≡ b → (s + 1 ≤ signal → lowest (only signal q) n (s + 1) ≡ signal) → cond (b && q s) s (lowest (only signal q) n (s + 1)) ≡ signal
-    by_test true e rest = let same = eqb-true s signal e in given (q s) _ _ (ap q same ∙ is) ∙ same
+    by_test true e rest = let same = eqb-true s signal e in found (q s) _ _ (ap q same ∙ is) ∙ same
     by_test false e rest = rest (omega (arith, low, eqb-false s signal e))
 
 chosen_by : (p : ℕ → Bool) (signal : ℕ) (ends : Bool) → ((signal == 0) || (not ends && (nat_le signal most_signal && p signal))) ≡ true → cond ends 0 (lowest (only signal p) most_signal 1) ≡ signal
@@ -217,7 +209,7 @@ lowest_same p q (suc n) s same =
 chosen_is : (k : Kind) (handlers : List (Option ℕ)) (signal : ℕ) (pending : ℕ → Bool) → ((s : ℕ) → 1 ≤ s → s < 1 + most_signal → pending s ≡ (s == signal)) → is_handled k handlers signal ≡ true → chosen_signal k handlers pending ≡ signal
 chosen_is k handlers signal pending only_it h =
     let q : ℕ → Bool = λ s. is_some (handler handlers s) in
-    ap (λ n. cond (ends_process k) 0 n) (lowest_same (λ s. pending s && q s) (only signal q) most_signal 1 (λ s low high. ap (λ b. b && q s) (only_it s low high)))
+    ap (λ n. cond (ends_process k) 0 n) (lowest_same (is_ready handlers pending) (only signal q) most_signal 1 (λ s low high. ap (λ b. b && q s) (only_it s low high)))
     ∙ chosen_by q signal (ends_process k) h
 
 -- ---- the event
@@ -269,7 +261,7 @@ alive_is false running k r = r
 pub possible : IsReadBack → Possible
 possible again S e s h env has =
     let parts = unless_none (is_running S) _ _ h in
-    given (not env.killed && is_running S) _ _ (alive_is env.killed (is_running S) has.alive parts.0) ∙ lived again S e env s has (thread_at S e.thread) refl parts.1
+    found (not env.killed && is_running S) _ _ (alive_is env.killed (is_running S) has.alive parts.0) ∙ lived again S e env s has (thread_at S e.thread) refl parts.1
 
 -- ---- the world in which an entry comes about
 

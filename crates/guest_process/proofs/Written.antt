@@ -4,16 +4,17 @@ use Rattle.std.specs.Prelude.{◌==◌, nat_le, is_some}
 use Rattle.std.proofs.lemmas.Bool.{and_parts, and_from, or_cases, or_left, or_right, eqb-true, eq-eqb, ne_eqb, leb-true, le-leb}
 use Rattle.call_table.specs.Table.{kind_numbered}
 use Rattle.call_table.specs.declared.kind.Kind.{Kind}
-use Rattle.call_table.specs.declared.kind.Kind.TheVariants.{Begin, Exit, Note, Print, Now, SleepUntil, Random, Me, Send, Recv, TryRecv, Spawn, Yield, Join, Lock, Unlock, OnSignal, Thread}
+use Rattle.call_table.specs.declared.kind.Kind.TheVariants.{Begin, Exit, Note, Print, Random, Me, Send, Recv, TryRecv, Spawn, Yield, Join, Lock, Unlock, OnSignal, Thread}
 use Rattle.guest_memory.specs.Memory.{Memory, is_inside}
 use Rattle.lamport_tag.specs.declared.Tag.{Tag}
 use Rattle.lib_calls.specs.declared.entry.Call.{Call}
 use Rattle.lib_calls.specs.Answer.{Answer}
-use Rattle.lib_calls.specs.Effects.{brings, has_good, is_answer, is_good, is_range, minus_one, minus_two, put_in, takes_counted, takes_nothing, written as memory_with}
+use Rattle.lib_calls.specs.Effects.{brings, has_good, is_answer, is_good, is_range, minus_one, minus_two, put_in, received, takes_counted, takes_nothing, written as memory_with}
 use Rattle.guest_process.specs.Advancing.{acted}
 use Rattle.guest_process.specs.Answers.{Need, Fixed, World, after_need, asked, effects, handled, is_drawn, is_empty, is_payload, brings_nothing, is_possible, takes_datagram, locked, narrow, need, spawned, unlocked, with_answer}
 use Rattle.guest_process.specs.Kinds.{ends_process}
 use Rattle.guest_process.specs.Legal.{gives_answer}
+use Rattle.guest_process.specs.Live.{given}
 use Rattle.guest_process.specs.State.{State, with_memory}
 use Rattle.guest_process.proofs.Effects.{effects_has}
 
@@ -49,7 +50,7 @@ try_recv_short S c e good =
 
 -- ---- what is written
 
-pub good_written : (k : Kind) (S : State) (c : Call) (a : Answer) → kind_numbered c.kind ≡ Some k → is_good c S.store.memory ≡ true → with_answer S c a ≡ with_memory S (put_in k c a S.store.memory)
+good_written : (k : Kind) (S : State) (c : Call) (a : Answer) → kind_numbered c.kind ≡ Some k → is_good c S.store.memory ≡ true → with_answer S c a ≡ with_memory S (put_in k c a S.store.memory)
 unfolding memory_with
 good_written k S c a e good = ap (with_memory S) (rw (good, e) refl)
 
@@ -103,12 +104,17 @@ effects_acted OnSignal S t c a e h = fixed_written OnSignal S c a (handled S (na
 effects_acted Thread S t c a e h = sym (plain_written Thread S c a e refl)
 effects_acted _ S t c a e h = refl
 
--- a time alone writes nothing
-pub now_written : (S : State) (c : Call) (a : Answer) → kind_numbered c.kind ≡ Some Now → with_answer S c a ≡ S
-now_written S c a e = plain_written Now S c a e refl
+where_none : (S : State) (none : Bool) (memory : Memory) → with_memory S (cond none S.store.memory memory) ≡ cond none S (with_memory S memory)
+where_none S true memory = refl
+where_none S false memory = refl
 
-pub sleep_written : (S : State) (c : Call) (a : Answer) → kind_numbered c.kind ≡ Some SleepUntil → with_answer S c a ≡ S
-sleep_written S c a e = plain_written SleepUntil S c a e refl
+-- where the world answers, what its answer does is what can be told from the answer alone
+pub given_written : (k : Kind) (S : State) (t : ℕ) (c : Call) (a : Answer) → kind_numbered c.kind ≡ Some k → need k S t c ≡ World → with_answer S c a ≡ given k S c a
+given_written Random S t c a e w = good_written Random S c a e (asked_good S c w)
+given_written Recv S t c a e w = good_written Recv S c a e (asked_good S c w)
+given_written TryRecv S t c a e w =
+    good_written TryRecv S c a e (asked_good S c w) ∙ where_none S (a.reply == minus_two) (received c a S.store.memory)
+given_written k S t c a e w = plain_written k S c a e refl
 
 -- an answer by the count of bytes is not -2
 pub not_minus_two : (reply : ℕ) → reply ≤ 60000 → (reply == minus_two) ≡ false

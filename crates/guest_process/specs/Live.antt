@@ -1,5 +1,5 @@
 -- The live meaning of one try to run a thread: the event that the world around the process lets it have.
-use Rattle.std.specs.Prelude.{ℕ, zero, suc, ◌+◌, ◌&&◌, not, nat_le, is_some, List, [], ◌∷◌, length, take, Bool, Option, Some, None, if◌then◌else◌, option_map}
+use Rattle.std.specs.Prelude.{ℕ, zero, suc, ◌+◌, ◌==◌, ◌&&◌, not, nat_le, is_some, List, length, take, slice_get, Bool, Option, Some, None, if◌then◌else◌, option_map, unwrap_or}
 use Rattle.call_table.specs.declared.kind.Kind.{Kind}
 use Rattle.call_table.specs.declared.kind.Kind.TheVariants.{Now, SleepUntil, Random, Recv, TryRecv}
 use Rattle.lamport_tag.specs.declared.Tag.{Tag}
@@ -25,46 +25,60 @@ pub record Env : Type 0 where
   pub pending : ℕ → Bool
   pub killed : Bool
 
--- an answer, and the state with its effects
-pub record Answered : Type 0 where
-  pub answer : Answer
-  pub after : State
+-- ---- what the world answers
+
+-- a thread that sleeps until then gets the wall time, where it is due
+abbrev pub waking_at : ℕ → ℕ → Option Answer
+waking_at until time = if is_due until time then Some (replies time) else None
 
 -- the answer that takes these random bytes, as many as the call asks for
-abbrev pub random_answer : Call → List ℕ → Answer
-random_answer c bytes = record { reply = c.a1; incoming = bytes; tag = None }
+abbrev pub random_answer : ℕ → List ℕ → Answer
+random_answer count bytes = record { reply = count; incoming = bytes; tag = None }
 
--- what came in stands where the call named it
-abbrev pub fills : State → Call → Answer → Answered
-fills S c a = record { answer = a; after = with_memory S (with_incoming c a S.store.memory) }
+-- the first of the random bytes that are left, where there are so many
+abbrev pub drawn_of : ℕ → List ℕ → Option Answer
+drawn_of count pool = if nat_le count (length pool) then Some (random_answer count (take count pool)) else None
 
 -- the answer that takes a datagram with this tag, or none, and this payload, of which at most so many
 -- bytes come in
 abbrev pub cut_datagram : ℕ → Option Tag × List ℕ → Answer
 cut_datagram cap datagram = record { reply = length (take cap datagram.1); incoming = take cap datagram.1; tag = datagram.0 }
 
--- what came in and its sender stand where the call named them
-abbrev pub takes : State → Call → Answer → Answered
-takes S c a = record { answer = a; after = with_memory S (received c a S.store.memory) }
+-- the first datagram that waits, where there is one, in a group of `count`
+abbrev pub taken_of : ℕ → ℕ → List (List ℕ) → Option Answer
+taken_of count cap mailbox = option_map (cut_datagram cap) (option_map (read_datagram count) (slice_get mailbox 0))
 
--- the first datagram that waits, where there is one, is taken
-abbrev pub first_taken : State → Call → List (List ℕ) → Option Answered
-first_taken S c [] = None
-first_taken S c (datagram ∷ waiting) = Some (takes S c (cut_datagram c.a1 (read_datagram S.count datagram)))
+-- the answer of the world to a call of this kind in a group of `count`, where it is given now; to `try_recv` it
+-- tells also that no datagram is there
+abbrev pub world_answer : Kind → Call → ℕ → Env → Option Answer
+world_answer Now c count env = Some (replies env.time)
+world_answer SleepUntil c count env = waking_at c.a0 env.time
+world_answer Random c count env = drawn_of c.a1 env.pool
+world_answer Recv c count env = taken_of count c.a1 env.mailbox
+world_answer TryRecv c count env = Some (unwrap_or (taken_of count c.a1 env.mailbox) (replies minus_two))
+world_answer _ c count env = None
 
--- this, or that no datagram is there
-abbrev pub or_empty : State → Option Answered → Answered
-or_empty S None = record { answer = replies minus_two; after = S }
-or_empty S (Some taken) = taken
+-- ---- the effects of an answer
+
+-- after the world's answer to a call of this kind what came in, and the sender of a datagram, stand where the call
+-- named them; -2 tells that there was no datagram
+abbrev pub given : Kind → State → Call → Answer → State
+given Random S c a = with_memory S (with_incoming c a S.store.memory)
+given Recv S c a = with_memory S (received c a S.store.memory)
+given TryRecv S c a = if a.reply == minus_two then S else with_memory S (received c a S.store.memory)
+given _ S c a = S
+
+-- an answer, and the state with its effects
+pub record Answered : Type 0 where
+  pub answer : Answer
+  pub after : State
+
+abbrev pub as_given : Kind → State → Call → Answer → Answered
+as_given kind S c a = record { answer = a; after = given kind S c a }
 
 -- what the world gives, where it gives it now
 abbrev pub from_world : Kind → State → Call → Env → Option Answered
-from_world Now S c env = Some (record { answer = replies env.time; after = S })
-from_world SleepUntil S c env = if is_due c.a0 env.time then Some (record { answer = replies env.time; after = S }) else None
-from_world Random S c env = if nat_le c.a1 (length env.pool) then Some (fills S c (random_answer c (take c.a1 env.pool))) else None
-from_world Recv S c env = first_taken S c env.mailbox
-from_world TryRecv S c env = Some (or_empty S (first_taken S c env.mailbox))
-from_world _ S c env = None
+from_world kind S c env = option_map (as_given kind S c) (world_answer kind c S.count env)
 
 abbrev pub answered_now : Need → Option Answered → Option Answered
 answered_now (Fixed reply S) world = Some (record { answer = replies reply; after = S })
@@ -76,10 +90,13 @@ unfoldable pub lowest : (ℕ → Bool) → ℕ → ℕ → ℕ
 lowest p zero s = 0
 lowest p (suc n) s = if p s then s else lowest p n (s + 1)
 
--- the lowest signal that is pending and has a handler, or 0; none is delivered where the process ends
+-- a signal is pending and has one of these handlers
+abbrev pub is_ready : List (Option ℕ) → (ℕ → Bool) → ℕ → Bool
+is_ready handlers pending s = pending s && is_some (handler handlers s)
+
+-- the lowest signal that is ready, or 0; none is delivered where the process ends
 abbrev pub chosen_signal : Kind → List (Option ℕ) → (ℕ → Bool) → ℕ
-chosen_signal kind handlers pending =
-    if ends_process kind then 0 else lowest (λ s. pending s && is_some (handler handlers s)) most_signal 1
+chosen_signal kind handlers pending = if ends_process kind then 0 else lowest (is_ready handlers pending) most_signal 1
 
 -- an event: the state after it, and its entry
 pub record Event : Type 0 where

@@ -142,8 +142,8 @@ fn same_arguments(call: &Call, pending: &Call) -> bool
     call.a0 == pending.a0 && (call.a1 == pending.a1 && call.a2 == pending.a2)
 }
 
-// Whether the calls of this kind end the process.
-pub(crate) fn ends_process(kind: Kind) -> bool
+/// Whether a call of this kind ends the process.
+pub fn ends_process(kind: Kind) -> bool
     ensures { result ≡ ends_process kind }
 {
     match kind {

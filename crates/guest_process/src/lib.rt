@@ -30,6 +30,7 @@ pub use answer::is_due;
 pub use count::counting;
 pub use divergence::Divergence;
 pub use end::End;
+pub use judge::ends_process;
 pub use laws::{
     kept, legal_numbers, lock_kept, one_event, others_stay, possible, rises, unmarked_stays,
 };
