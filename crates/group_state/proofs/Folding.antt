@@ -1,7 +1,5 @@
 -- What is said of a log whose replay is at its end, and what its process leaves.
-use Rattle.std.proofs.Common.{◌≡◌, ℕ, ◌+◌, ◌<◌, List, [], ◌++◌, length, get_or, Some, option_map, ap, refl, sym, subst, ◌∙◌, arith}
-use Rattle.std.specs.List.{All, slice_get}
-use Rattle.std.proofs.lemmas.Option.{slice_get-get_or}
+use Rattle.std.proofs.Common.{◌≡◌, ℕ, ◌+◌, List, [], ◌++◌, ap, refl, sym, ◌∙◌, arith}
 use Rattle.lib_calls.specs.Traffic.{prints}
 use Rattle.lib_calls.specs.declared.entry.Entry.{Entry}
 use Rattle.call_log.specs.Log.{entries_of, rest_of}
@@ -68,14 +66,3 @@ pub image_at : AreTurns → (first copy last : Replaying) (before memory printed
 image_at turns first copy last before memory printed fresh copied ends is_memory empty is_printed =
     image_so turns copy last memory printed (ap (λ (r : Replaying). r.state.events) copied ∙ fresh) ends is_memory (is_printed ∙ ap (λ (bs : List ℕ). bs ++ prints (ahead copy)) empty)
     ∙ ap image_of copied
-
--- the replay at a node has had no event
-pub fresh_at : (items : List Replaying) (node : ℕ) (first : Replaying) → All (λ r. r.state.events ≡ 0) items → node < length items → first ≡ get_or items node first → first.state.events ≡ 0
-fresh_at items node first fresh within read = subst (λ (r : Replaying). r.state.events ≡ 0) (sym read) (fresh node first within)
-
--- its image is that of the node
-pub found_at : (start items : List Replaying) (node : ℕ) (first : Replaying) (image : Image) → items ≡ start → node < length items → first ≡ get_or items node first → image ≡ image_of first
-    → Some image ≡ option_map image_of (slice_get start node)
-found_at start items node first image same within read is =
-    let found : slice_get items node ≡ Some first = slice_get-get_or items node first within ∙ ap Some (sym read) in
-    ap Some is ∙ ap (option_map image_of) (sym found) ∙ ap (λ (rs : List Replaying). option_map image_of (slice_get rs node)) same

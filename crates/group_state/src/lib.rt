@@ -26,7 +26,7 @@ mod work;
 
 pub use event::GroupEvent;
 pub use group::Group;
-pub use image::Image;
+pub use image::{Image, image_of};
 pub use laws::{ordered, stepwise};
-pub use report::{Report, ReportLine, Verdict};
+pub use report::{Report, ReportLine, Verdict, report_of};
 pub use work::Work;

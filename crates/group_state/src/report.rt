@@ -1,10 +1,9 @@
 // What is said of a whole group.
 ghost use Rattle.std.specs.Prelude.{◌≡◌, IfOk, OnOk};
-ghost use Rattle.group_state.specs.Place.{group_count};
+ghost use Rattle.group_state.specs.Place.{AreParts, PartsFit, group_count};
 ghost use Rattle.group_state.specs.Report.{IsReport, accepted_in, report_line};
 ghost use Rattle.group_state.specs.Tallying.{AreNew, HasTallyRoomFor, with_all_accepted};
 
-use crate::group::Group;
 use crate::part::{tally_events, verdict};
 use crate::tally::Tally;
 use fri_bytes::Bytes;
@@ -76,34 +75,36 @@ fn report_log(
     })
 }
 
-impl<'m, 'a> Group<'m, 'a> {
-    /// What is said of all accepted events, whatever the position. Each log is replayed to its first entry that is
-    /// not legal, whatever the other logs hold.
-    pub fn report(self, alloc: Global) -> Result<Report, AllocError>
-        ensures { IfOk result (IsReport self.entry.start) }
-    {
-        rises();
-        kept();
-        let Group {
-            first,
-            checkpoints,
-            here,
-            ..
-        } = self;
-        drop(checkpoints);
-        drop(here);
-        let mut tally = Tally::new(alloc, group_count(&first));
-        let mut lines = Vec::new(alloc);
-        for part in first {
-            lines.push(report_log(alloc, part, &mut tally)?)?;
-        }
-        let counts = tally.counts();
-        Ok(Report {
-            lines,
-            sends: counts.sends,
-            receives: counts.receives,
-            unmatched: counts.unmatched,
-            untagged: counts.untagged,
-        })
+// The process of each log is in the ranges of its module.
+fn parts_fit(parts: &[Replayer<'_, '_>])
+    ensures { PartsFit parts.now }
+{
+    for part in parts {
+        let _ = part.process().events();
     }
+}
+
+/// What is said of all accepted events of the logs of a group. Each log is replayed to its first entry that is not
+/// legal, whatever the other logs hold.
+pub fn report_of(alloc: Global, parts: Vec<Replayer<'_, '_>>) -> Result<Report, AllocError>
+    requires { AreParts parts.items }
+    ensures { IfOk result (IsReport parts.entry.items) }
+{
+    replays();
+    rises();
+    kept();
+    parts_fit(&parts);
+    let mut tally = Tally::new(alloc, group_count(&parts));
+    let mut lines = Vec::new(alloc);
+    for part in parts {
+        lines.push(report_log(alloc, part, &mut tally)?)?;
+    }
+    let counts = tally.counts();
+    Ok(Report {
+        lines,
+        sends: counts.sends,
+        receives: counts.receives,
+        unmatched: counts.unmatched,
+        untagged: counts.untagged,
+    })
 }

@@ -1,11 +1,11 @@
 -- The images that a replay makes, one process after the other.
-use Rattle.std.proofs.Common.{◌≡◌, ◌∙◌, ◌+◌, ◌++◌, ℕ, zero, suc, List, [], ◌∷◌, map, take, drop, slice_get, true, Option, Some, None, option_map, Err, refl, ap, subst, sym, inl, inr, arith, append-nil}
+use Rattle.std.proofs.Common.{◌≡◌, ◌∙◌, ◌+◌, ◌<◌, ◌++◌, ℕ, zero, suc, List, [], ◌∷◌, length, get_or, take, drop, slice_get, true, Option, Some, refl, ap, subst, sym, inl, inr, arith, append-nil}
 use Rattle.std.specs.Prelude.{All}
-use Rattle.std.proofs.lemmas.Option.{get_or_from_slice_get, same_Some, slice_get_within}
+use Rattle.std.proofs.lemmas.Option.{same_Some, slice_get_read}
 use Rattle.fri_outside.specs.Laws.{KeepsFiles}
 use Rattle.fri_outside.specs.Outside.{Folder}
 use Rattle.fri_outside.specs.Several.{AreFronts, ChangesOnly, with_files}
-use Rattle.call_log.specs.Head.{IsHead}
+use Rattle.call_log.specs.Head.{Head, IsHead}
 use Rattle.fri_text.specs.Name.{is_name}
 use Rattle.group_record.specs.ImageLaws.{part_fronts}
 use Rattle.group_record.specs.Images.{AreMadeInPart, image_files, made_in_part}
@@ -19,26 +19,16 @@ use Rattle.replay_command.specs.Report.{images_in}
 abbrev pub files_of : Replaying → List (List ℕ × List ℕ)
 files_of r = image_files r.head.name (left_memory r) (left_print r)
 
--- ---- the process of a node
+-- ---- the log of a node
 
--- it is there where it has a name
-pub has_image : (start : List Replaying) (node : ℕ) (name : List ℕ) → Some name ≡ slice_get (map (λ r. r.head.name) start) node → None ≡ option_map image_of (slice_get start node) → ⊥
-has_image [] node name named none = cc
-has_image (r ∷ start) zero name named none = cc
-has_image (r ∷ start) (suc node) name named none = has_image start node name named none
+-- its replay has had no event
+pub node_fresh : (start : List Replaying) (node : ℕ) (r : Replaying) → All (λ r. r.state.events ≡ 0) start → node < length start → r ≡ get_or start node r → r.state.events ≡ 0
+node_fresh start node r fresh within read = subst (λ (r : Replaying). r.state.events ≡ 0) (sym read) (fresh node r within)
 
-record IsNode (start : List Replaying) (node : ℕ) (name : List ℕ) (image : Image) : Type 0 where
-  replay : Replaying
-  is : slice_get start node ≡ Some replay
-  named : name ≡ replay.head.name
-  leaves : image ≡ image_of replay
-
-node_is : (start : List Replaying) (node : ℕ) (name : List ℕ) (image : Image) → Some name ≡ slice_get (map (λ r. r.head.name) start) node → Some image ≡ option_map image_of (slice_get start node) → IsNode start node name image
-node_is [] node name image named leaves = cc
-node_is (r ∷ start) zero name image named leaves = record { replay = r; is = refl; named = same_Some _ _ named; leaves = same_Some _ _ leaves }
-node_is (r ∷ start) (suc node) name image named leaves =
-    let rest = node_is start node name image named leaves in
-    record { replay = rest.replay; is = rest.is; named = rest.named; leaves = rest.leaves }
+-- the name of its process is one
+pub node_named : (start : List Replaying) (node : ℕ) (r : Replaying) (head : Head) → All (λ r. IsHead r.head) start → node < length start → r ≡ get_or start node r → head ≡ r.head → is_name head.name ≡ true
+node_named start node r head heads within read is =
+    ap (λ (h : Head). is_name h.name) is ∙ (subst (λ (r : Replaying). IsHead r.head) (sym read) (heads node r within)).named
 
 -- the files that are made of it are its own
 pub record AreOwn (start : List Replaying) (node : ℕ) (files : List (List ℕ × List ℕ)) : Type 0 where
@@ -46,26 +36,15 @@ pub record AreOwn (start : List Replaying) (node : ℕ) (files : List (List ℕ 
   pub is : slice_get start node ≡ Some replay
   pub own : files ≡ files_of replay
 
-pub own_files : (start : List Replaying) (node : ℕ) (name memory printed : List ℕ) (image : Image) → Some name ≡ slice_get (map (λ r. r.head.name) start) node → Some image ≡ option_map image_of (slice_get start node)
-    → memory ≡ image.memory → printed ≡ image.printed → AreOwn start node (image_files name memory printed)
-own_files start node name memory printed image named leaves has prints =
-    let n = node_is start node name image named leaves in record {
-      replay = n.replay;
-      is = n.is;
-      own = ap (λ (name : List ℕ). image_files name memory printed) n.named
-          ∙ ap (λ (memory : List ℕ). image_files n.replay.head.name memory printed) (has ∙ ap (λ (i : Image). i.memory) n.leaves)
-          ∙ ap (λ (printed : List ℕ). image_files n.replay.head.name (left_memory n.replay) printed) (prints ∙ ap (λ (i : Image). i.printed) n.leaves);
-    }
-
-head_of_node : (start : List Replaying) (node : ℕ) (r : Replaying) → All (λ r. IsHead r.head) start → slice_get start node ≡ Some r → IsHead r.head
-head_of_node start node r heads is =
-    subst (λ (r : Replaying). IsHead r.head) (get_or_from_slice_get start node r r is) (heads node r (slice_get_within start node r is))
-
--- its name is one
-pub node_named : (start : List Replaying) (node : ℕ) (name : List ℕ) (image : Image) → All (λ r. IsHead r.head) start → Some name ≡ slice_get (map (λ r. r.head.name) start) node → Some image ≡ option_map image_of (slice_get start node)
-    → is_name name ≡ true
-node_named start node name image heads named leaves =
-    let n = node_is start node name image named leaves in ap is_name n.named ∙ (head_of_node start node n.replay heads n.is).named
+pub own_files : (start : List Replaying) (node : ℕ) (r : Replaying) (head : Head) (memory printed : List ℕ) (image : Image) → node < length start → r ≡ get_or start node r → head ≡ r.head → image ≡ image_of r
+    → memory ≡ image.memory → printed ≡ image.printed → AreOwn start node (image_files head.name memory printed)
+own_files start node r head memory printed image within read headed leaves has prints = record {
+  replay = r;
+  is = slice_get_read start (length start) node r refl within read;
+  own = ap (λ (h : Head). image_files h.name memory printed) headed
+      ∙ ap (λ (memory : List ℕ). image_files r.head.name memory printed) (has ∙ ap (λ (i : Image). i.memory) leaves)
+      ∙ ap (λ (printed : List ℕ). image_files r.head.name (left_memory r) printed) (prints ∙ ap (λ (i : Image). i.printed) leaves);
+}
 
 -- ---- the files of the first nodes
 

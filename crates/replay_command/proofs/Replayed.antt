@@ -1,6 +1,7 @@
 -- What `replay` comes to, from what it read and made.
-use Rattle.std.proofs.Common.{◌≡◌, ◌∙◌, ℕ, Bool, List, Option, Some, option_map, Ok, Err, Result, ap, subst, sym}
+use Rattle.std.proofs.Common.{◌≡◌, ◌∙◌, Bool, List, Option, Some, option_map, Ok, Err, Result, ap, subst, sym}
 use Rattle.fri_outside.specs.Outside.{Folder, WhenTold}
+use Rattle.fri_outside.specs.Several.{with_files}
 use Rattle.proc_replay.specs.Replaying.{Replaying}
 use Rattle.group_state.specs.declared.report.Report.{Report}
 use Rattle.group_state.specs.declared.report.ReportLine.{ReportLine}
@@ -11,7 +12,7 @@ use Rattle.group_state.specs.Tally.{tally}
 use Rattle.command_run.specs.declared.refusal.Answer.{Answer}
 use Rattle.command_run.specs.declared.refusal.Answer.TheVariants as answered
 use Rattle.command_run.specs.declared.refusal.Refusal.{Refusal}
-use Rattle.command_run.specs.Call.{Makes, StopsAs, TellsOutcome}
+use Rattle.command_run.specs.Call.{Makes, MakesAll, StopsAs, TellsOutcome}
 use Rattle.replay_command.specs.Report.{replay_outcome}
 use Rattle.command_run.specs.Outcome.{CommandOutcome, Stop, and_then, writes_of}
 use Rattle.log_pairs.specs.Pairs.{NoneOpened, Pair, WasOpened, replays_of_pairs}
@@ -33,6 +34,17 @@ opened_works images pairs told start opens o is =
     h.2 ∙ ap (λ (r : Result (List Replaying) Stop). and_then r (λ start. Ok (replay_work images start))) (opens h.0 h.1)
 
 -- ---- what is made
+
+-- by their replays behind a slice, of the files as they were found
+pub images_made : (images : Bool) (slice start : List Replaying) (told mid after : Option Folder) → slice ≡ start → mid ≡ told → after ≡ with_files (images_if images slice) mid → after ≡ with_files (images_if images start) told
+images_made images slice start told mid after same kept made =
+    made ∙ ap (with_files (images_if images slice)) kept ∙ ap (λ (rs : List Replaying). with_files (images_if images rs) told) same
+
+pub images_begun : (images : Bool) (slice start : List Replaying) (told mid after : Option Folder) (e : Refusal) → slice ≡ start → mid ≡ told → MakesAll (Err e) (images_if images slice) mid after
+    → MakesAll (Err e) (images_if images start) told after
+images_begun images slice start told mid after e same kept made =
+    subst (λ (rs : List Replaying). MakesAll (Err e) (images_if images rs) told after) same
+    (subst (λ (t : Option Folder). MakesAll (Err e) (images_if images slice) t after) kept made)
 
 -- the images were made, and whatever comes then
 pub replay_makes : (images : Bool) (pairs : List Pair) (told after : Option Folder) (start : List Replaying) (result : Result Answer Refusal) → WasOpened pairs told start

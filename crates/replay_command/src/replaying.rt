@@ -11,32 +11,29 @@ use crate::report::print_report;
 use command_run::{Answer, Refusal};
 use fri_outside::{Files, keeps_files};
 use group_record::write_image;
-use group_state::Group;
+use group_state::{image_of, report_of};
 use log_pairs::{Pair, begin_all, load_all};
+use proc_replay::Replayer;
 use std::alloc::Global;
 
 // Writes what each process leaves, in order of the processes' numbers.
 fn write_images<F: Files>(
     alloc: Global,
-    group: &Group<'_, '_>,
+    parts: &[Replayer<'_, '_>],
     files: &mut F,
 ) -> Result<(), Refusal>
-    requires { All (λ r. IsHead r.head) group.now.start }
-    ensures made { MakesAll result (images_in group.now.start) (F.told files.old) (F.told files.new) }
+    requires heads { All (λ r. IsHead r.head) parts.now }
+    requires fresh { All (λ r. r.state.events ≡ 0) parts.now }
+    ensures made { MakesAll result (images_in parts.now) (F.told files.old) (F.told files.new) }
     ensures counts { CountsFaults (F.counts files.old) (F.counts files.new) result }
     ensures cause { IfErr result (Raises (F.counts files.old) (F.counts files.new)) }
 {
     keeps_files();
-    for node in 0..group.nodes() {
-        let Some(name) = group.node_name(node) else {
-            unreachable!();
-        };
-        let Some(image) = group.image(alloc, node)? else {
-            unreachable!();
-        };
+    for part in parts {
+        let image = image_of(alloc, part)?;
         write_image(
             alloc,
-            name,
+            part.head().name,
             image.memory.as_slice(),
             image.printed.as_slice(),
             files,
@@ -49,16 +46,17 @@ fn write_images<F: Files>(
 fn write_asked<F: Files>(
     alloc: Global,
     images: bool,
-    group: &Group<'_, '_>,
+    parts: &[Replayer<'_, '_>],
     files: &mut F,
 ) -> Result<(), Refusal>
-    requires { All (λ r. IsHead r.head) group.now.start }
-    ensures made { MakesAll result (images_if images group.now.start) (F.told files.old) (F.told files.new) }
+    requires heads { All (λ r. IsHead r.head) parts.now }
+    requires fresh { All (λ r. r.state.events ≡ 0) parts.now }
+    ensures made { MakesAll result (images_if images parts.now) (F.told files.old) (F.told files.new) }
     ensures counts { CountsFaults (F.counts files.old) (F.counts files.new) result }
     ensures cause { IfErr result (Raises (F.counts files.old) (F.counts files.new)) }
 {
     if images {
-        write_images(alloc, group, files)
+        write_images(alloc, parts, files)
     } else {
         Ok(())
     }
@@ -81,8 +79,8 @@ pub fn replay<F: Files>(
 {
     keeps_files();
     let all = load_all(alloc, pairs, files)?;
-    let group = Group::begin(alloc, begin_all(alloc, &all)?)?;
-    write_asked(alloc, images, &group, files)?;
-    let report = group.report(alloc)?;
+    let parts = begin_all(alloc, &all)?;
+    write_asked(alloc, images, &parts, files)?;
+    let report = report_of(alloc, parts)?;
     Ok(print_report(alloc, &report)?)
 }

@@ -1,17 +1,13 @@
-use Rattle.std.proofs.Common.{◌∙◌, List, Ok, Err, ap, map, subst, sym}
+use Rattle.std.proofs.Common.{List, Ok, Err, map, subst, sym}
 use Rattle.std.proofs.lemmas.Result.{err_from_is_err_and}
-use Rattle.fri_outside.specs.Several.{with_files}
-use Rattle.group_state.specs.Place.{Place}
 use Rattle.command_run.specs.declared.refusal.Refusal.TheVariants as refusal
 use Rattle.command_run.specs.CountLaws.{counts_still}
-use Rattle.command_run.specs.Call.{MakesAll}
-use Rattle.command_run.specs.FileLaws.{all_made, same_changes, some_made}
+use Rattle.command_run.specs.FileLaws.{all_made, some_made}
 use Rattle.command_run.specs.OutcomeLaws.{refused_makes, refused_tells}
 use Rattle.log_pairs.specs.declared.pairs.Loaded.{Loaded}
-use Rattle.log_pairs.specs.Pairs.{WasOpened}
 use Rattle.log_pairs.specs.Seen.{WereLoaded, pair_of}
-use Rattle.replay_command.specs.Report.{images_if, replay_outcome}
-use Rattle.replay_command.proofs.Replayed.{opening_stops, replay_makes, report_tells}
+use Rattle.replay_command.specs.Report.{replay_outcome}
+use Rattle.replay_command.proofs.Replayed.{images_begun, images_made, opening_stops, replay_makes, report_tells}
 use Rattle.replay_command.proofs.replaying.replay.Goals as goal
 
 pub returns-in_err-all-clause-tells : goal.returns-in_err-all-clause-tells
@@ -25,69 +21,59 @@ returns-in_err-all-clause-makes g c =
     rw (p.1, p.2)
     (refused_makes (replay_outcome c.args.images (map pair_of c.args.pairs.now)) (g.F.Files.told c.args.files.now) (g.F.Files.told c.load_all.new.files) c.in_err-all.field-0.0 (opening_stops c.args.images (map pair_of c.args.pairs.now) (g.F.Files.told c.args.files.now) c.in_err-all.field-0.0 c.in_err-all.ensures.answer) c.load_all.ensures.same)
 
-pub returns-in_err-begin_all-clause-tells : goal.returns-in_err-begin_all-clause-tells
-returns-in_err-begin_all-clause-tells g c =
-    let p = err_from_is_err_and c.from_residual-in_err-begin_all.result c.from_residual-in_err-begin_all.ensures.1 in
-    rw (p.1, p.2) (refused_tells (replay_outcome c.args.images (map pair_of c.args.pairs.now)) (g.F.Files.told c.args.files.now) c.in_err-begin_all.field-0.0 (opening_stops c.args.images (map pair_of c.args.pairs.now) (g.F.Files.told c.args.files.now) c.in_err-begin_all.field-0.0 (c.in_err-begin_all.ensures.answer (map pair_of c.args.pairs.now) (g.F.Files.told c.args.files.now) (subst (λ (all : List Loaded). WereLoaded (map pair_of c.args.pairs.now) (g.F.Files.told c.args.files.now) all) (sym c.deref.ensures.value) c.in_ok-all.ensures.answer))))
+pub returns-in_err-parts-clause-tells : goal.returns-in_err-parts-clause-tells
+returns-in_err-parts-clause-tells g c =
+    let p = err_from_is_err_and c.from_residual-in_err-parts.result c.from_residual-in_err-parts.ensures.1 in
+    rw (p.1, p.2) (refused_tells (replay_outcome c.args.images (map pair_of c.args.pairs.now)) (g.F.Files.told c.args.files.now) c.in_err-parts.field-0.0 (opening_stops c.args.images (map pair_of c.args.pairs.now) (g.F.Files.told c.args.files.now) c.in_err-parts.field-0.0 (c.in_err-parts.ensures.answer (map pair_of c.args.pairs.now) (g.F.Files.told c.args.files.now) (subst (λ (all : List Loaded). WereLoaded (map pair_of c.args.pairs.now) (g.F.Files.told c.args.files.now) all) (sym c.deref.ensures.value) c.in_ok-all.ensures.answer))))
 
-pub returns-in_err-begin_all-clause-makes : goal.returns-in_err-begin_all-clause-makes
-returns-in_err-begin_all-clause-makes g c =
-    let p = err_from_is_err_and c.from_residual-in_err-begin_all.result c.from_residual-in_err-begin_all.ensures.1 in
+pub returns-in_err-parts-clause-makes : goal.returns-in_err-parts-clause-makes
+returns-in_err-parts-clause-makes g c =
+    let p = err_from_is_err_and c.from_residual-in_err-parts.result c.from_residual-in_err-parts.ensures.1 in
     rw (p.1, p.2)
-    (refused_makes (replay_outcome c.args.images (map pair_of c.args.pairs.now)) (g.F.Files.told c.args.files.now) (g.F.Files.told c.load_all.new.files) c.in_err-begin_all.field-0.0 (opening_stops c.args.images (map pair_of c.args.pairs.now) (g.F.Files.told c.args.files.now) c.in_err-begin_all.field-0.0 (c.in_err-begin_all.ensures.answer (map pair_of c.args.pairs.now) (g.F.Files.told c.args.files.now) (subst (λ (all : List Loaded). WereLoaded (map pair_of c.args.pairs.now) (g.F.Files.told c.args.files.now) all) (sym c.deref.ensures.value) c.in_ok-all.ensures.answer))) c.load_all.ensures.same)
+    (refused_makes (replay_outcome c.args.images (map pair_of c.args.pairs.now)) (g.F.Files.told c.args.files.now) (g.F.Files.told c.load_all.new.files) c.in_err-parts.field-0.0 (opening_stops c.args.images (map pair_of c.args.pairs.now) (g.F.Files.told c.args.files.now) c.in_err-parts.field-0.0 (c.in_err-parts.ensures.answer (map pair_of c.args.pairs.now) (g.F.Files.told c.args.files.now) (subst (λ (all : List Loaded). WereLoaded (map pair_of c.args.pairs.now) (g.F.Files.told c.args.files.now) all) (sym c.deref.ensures.value) c.in_ok-all.ensures.answer))) c.load_all.ensures.same)
 
-pub returns-in_err-begin_all-clause-cause : goal.returns-in_err-begin_all-clause-cause
-returns-in_err-begin_all-clause-cause g c =
-    let p = err_from_is_err_and c.from_residual-in_err-begin_all.result c.from_residual-in_err-begin_all.ensures.1 in
-    rw (p.1, p.2) (c.in_err-begin_all.ensures.cause (g.F.Files.counts c.args.files.now) (g.F.Files.counts c.load_all.new.files))
+pub returns-in_err-parts-clause-cause : goal.returns-in_err-parts-clause-cause
+returns-in_err-parts-clause-cause g c =
+    let p = err_from_is_err_and c.from_residual-in_err-parts.result c.from_residual-in_err-parts.ensures.1 in
+    rw (p.1, p.2) (c.in_err-parts.ensures.cause (g.F.Files.counts c.args.files.now) (g.F.Files.counts c.load_all.new.files))
 
-pub returns-in_err-begin_all-clause-counts : goal.returns-in_err-begin_all-clause-counts
-returns-in_err-begin_all-clause-counts g c =
-    let p = err_from_is_err_and c.from_residual-in_err-begin_all.result c.from_residual-in_err-begin_all.ensures.1 in
-    rw (p.1, p.2) (counts_still _ _ _ (Err c.in_err-begin_all.field-0.0) c.in_err-begin_all.ensures.still c.in_ok-all.ensures.counts)
-
-pub returns-in_err-group-clause-makes : goal.returns-in_err-group-clause-makes
-returns-in_err-group-clause-makes g c =
-    let p = err_from_is_err_and c.from_residual-in_err-group.result c.from_residual-in_err-group.ensures.1 in
-    rw (p.1, p.2) (λ o here. same_changes _ _ _ c.load_all.ensures.same)
+pub returns-in_err-parts-clause-counts : goal.returns-in_err-parts-clause-counts
+returns-in_err-parts-clause-counts g c =
+    let p = err_from_is_err_and c.from_residual-in_err-parts.result c.from_residual-in_err-parts.ensures.1 in
+    rw (p.1, p.2) (counts_still _ _ _ (Err c.in_err-parts.field-0.0) c.in_err-parts.ensures.still c.in_ok-all.ensures.counts)
 
 pub returns-in_err-write_asked-clause-makes : goal.returns-in_err-write_asked-clause-makes
 returns-in_err-write_asked-clause-makes g c =
     let p = err_from_is_err_and c.from_residual-in_err-write_asked.result c.from_residual-in_err-write_asked.ensures.1 in
     rw (p.1, p.2)
-    (replay_makes c.args.images (map pair_of c.args.pairs.now) (g.F.Files.told c.args.files.now) (g.F.Files.told c.write_asked.new.files) c.in_ok-group.group.start (Err c.in_err-write_asked.field-0.0)
-    (subst (WasOpened (map pair_of c.args.pairs.now) (g.F.Files.told c.args.files.now)) (sym (ap (λ (p : Place). p.start) c.in_ok-group.ensures))
-    (c.in_ok-begin_all.ensures.answer (map pair_of c.args.pairs.now) (g.F.Files.told c.args.files.now) (subst (λ (all : List Loaded). WereLoaded (map pair_of c.args.pairs.now) (g.F.Files.told c.args.files.now) all) (sym c.deref.ensures.value) c.in_ok-all.ensures.answer)))
-    (some_made c.in_err-write_asked.field-0.0 _ _ _ (subst (λ t. MakesAll (Err c.in_err-write_asked.field-0.0) (images_if c.args.images c.in_ok-group.group.start) t (g.F.Files.told c.write_asked.new.files)) c.load_all.ensures.same c.in_err-write_asked.ensures.made)))
+    (replay_makes c.args.images (map pair_of c.args.pairs.now) (g.F.Files.told c.args.files.now) (g.F.Files.told c.write_asked.new.files) c.in_ok-parts.parts.items (Err c.in_err-write_asked.field-0.0)
+    (c.in_ok-parts.ensures.answer (map pair_of c.args.pairs.now) (g.F.Files.told c.args.files.now) (subst (λ (all : List Loaded). WereLoaded (map pair_of c.args.pairs.now) (g.F.Files.told c.args.files.now) all) (sym c.deref.ensures.value) c.in_ok-all.ensures.answer))
+    (some_made c.in_err-write_asked.field-0.0 _ _ _ (images_begun c.args.images _ _ _ _ _ c.in_err-write_asked.field-0.0 c.deref-2.ensures.value c.load_all.ensures.same c.in_err-write_asked.ensures.made)))
 
 pub returns-in_err-report-clause-makes : goal.returns-in_err-report-clause-makes
 returns-in_err-report-clause-makes g c =
     let p = err_from_is_err_and c.from_residual-in_err-report.result c.from_residual-in_err-report.ensures.1 in
     rw (p.1, p.2)
-    (replay_makes c.args.images (map pair_of c.args.pairs.now) (g.F.Files.told c.args.files.now) (g.F.Files.told c.write_asked.new.files) c.in_ok-group.group.start (Err refusal.NoMemory)
-    (subst (WasOpened (map pair_of c.args.pairs.now) (g.F.Files.told c.args.files.now)) (sym (ap (λ (p : Place). p.start) c.in_ok-group.ensures))
-    (c.in_ok-begin_all.ensures.answer (map pair_of c.args.pairs.now) (g.F.Files.told c.args.files.now) (subst (λ (all : List Loaded). WereLoaded (map pair_of c.args.pairs.now) (g.F.Files.told c.args.files.now) all) (sym c.deref.ensures.value) c.in_ok-all.ensures.answer)))
-    (all_made c.keeps_files.ensures _ _ _ (c.in_ok-write_asked.ensures.made ∙ ap (with_files (images_if c.args.images c.in_ok-group.group.start)) c.load_all.ensures.same)))
+    (replay_makes c.args.images (map pair_of c.args.pairs.now) (g.F.Files.told c.args.files.now) (g.F.Files.told c.write_asked.new.files) c.in_ok-parts.parts.items (Err refusal.NoMemory)
+    (c.in_ok-parts.ensures.answer (map pair_of c.args.pairs.now) (g.F.Files.told c.args.files.now) (subst (λ (all : List Loaded). WereLoaded (map pair_of c.args.pairs.now) (g.F.Files.told c.args.files.now) all) (sym c.deref.ensures.value) c.in_ok-all.ensures.answer))
+    (all_made c.keeps_files.ensures _ _ _ (images_made c.args.images _ _ _ _ _ c.deref-2.ensures.value c.load_all.ensures.same c.in_ok-write_asked.ensures.made)))
 
 pub returns-in_err-print_report-clause-makes : goal.returns-in_err-print_report-clause-makes
 returns-in_err-print_report-clause-makes g c =
     let p = err_from_is_err_and c.from_residual-in_err-print_report.result c.from_residual-in_err-print_report.ensures.1 in
     rw (p.1, p.2)
-    (replay_makes c.args.images (map pair_of c.args.pairs.now) (g.F.Files.told c.args.files.now) (g.F.Files.told c.write_asked.new.files) c.in_ok-group.group.start (Err refusal.NoMemory)
-    (subst (WasOpened (map pair_of c.args.pairs.now) (g.F.Files.told c.args.files.now)) (sym (ap (λ (p : Place). p.start) c.in_ok-group.ensures))
-    (c.in_ok-begin_all.ensures.answer (map pair_of c.args.pairs.now) (g.F.Files.told c.args.files.now) (subst (λ (all : List Loaded). WereLoaded (map pair_of c.args.pairs.now) (g.F.Files.told c.args.files.now) all) (sym c.deref.ensures.value) c.in_ok-all.ensures.answer)))
-    (all_made c.keeps_files.ensures _ _ _ (c.in_ok-write_asked.ensures.made ∙ ap (with_files (images_if c.args.images c.in_ok-group.group.start)) c.load_all.ensures.same)))
+    (replay_makes c.args.images (map pair_of c.args.pairs.now) (g.F.Files.told c.args.files.now) (g.F.Files.told c.write_asked.new.files) c.in_ok-parts.parts.items (Err refusal.NoMemory)
+    (c.in_ok-parts.ensures.answer (map pair_of c.args.pairs.now) (g.F.Files.told c.args.files.now) (subst (λ (all : List Loaded). WereLoaded (map pair_of c.args.pairs.now) (g.F.Files.told c.args.files.now) all) (sym c.deref.ensures.value) c.in_ok-all.ensures.answer))
+    (all_made c.keeps_files.ensures _ _ _ (images_made c.args.images _ _ _ _ _ c.deref-2.ensures.value c.load_all.ensures.same c.in_ok-write_asked.ensures.made)))
 
 pub returns-clause-tells : goal.returns-clause-tells
 returns-clause-tells g c =
-    report_tells c.args.images (map pair_of c.args.pairs.now) (g.F.Files.told c.args.files.now) c.in_ok-group.group.start c.in_ok-report.report c.in_ok-print_report.field-0
-    (subst (WasOpened (map pair_of c.args.pairs.now) (g.F.Files.told c.args.files.now)) (sym (ap (λ (p : Place). p.start) c.in_ok-group.ensures))
-    (c.in_ok-begin_all.ensures.answer (map pair_of c.args.pairs.now) (g.F.Files.told c.args.files.now) (subst (λ (all : List Loaded). WereLoaded (map pair_of c.args.pairs.now) (g.F.Files.told c.args.files.now) all) (sym c.deref.ensures.value) c.in_ok-all.ensures.answer)))
+    report_tells c.args.images (map pair_of c.args.pairs.now) (g.F.Files.told c.args.files.now) c.in_ok-parts.parts.items c.in_ok-report.report c.in_ok-print_report.field-0
+    (c.in_ok-parts.ensures.answer (map pair_of c.args.pairs.now) (g.F.Files.told c.args.files.now) (subst (λ (all : List Loaded). WereLoaded (map pair_of c.args.pairs.now) (g.F.Files.told c.args.files.now) all) (sym c.deref.ensures.value) c.in_ok-all.ensures.answer))
     c.in_ok-report.ensures c.in_ok-print_report.ensures
 
 pub returns-clause-makes : goal.returns-clause-makes
 returns-clause-makes g c =
-    replay_makes c.args.images (map pair_of c.args.pairs.now) (g.F.Files.told c.args.files.now) (g.F.Files.told c.write_asked.new.files) c.in_ok-group.group.start (Ok c.in_ok-print_report.field-0)
-    (subst (WasOpened (map pair_of c.args.pairs.now) (g.F.Files.told c.args.files.now)) (sym (ap (λ (p : Place). p.start) c.in_ok-group.ensures))
-    (c.in_ok-begin_all.ensures.answer (map pair_of c.args.pairs.now) (g.F.Files.told c.args.files.now) (subst (λ (all : List Loaded). WereLoaded (map pair_of c.args.pairs.now) (g.F.Files.told c.args.files.now) all) (sym c.deref.ensures.value) c.in_ok-all.ensures.answer)))
-    (c.in_ok-write_asked.ensures.made ∙ ap (with_files (images_if c.args.images c.in_ok-group.group.start)) c.load_all.ensures.same)
+    replay_makes c.args.images (map pair_of c.args.pairs.now) (g.F.Files.told c.args.files.now) (g.F.Files.told c.write_asked.new.files) c.in_ok-parts.parts.items (Ok c.in_ok-print_report.field-0)
+    (c.in_ok-parts.ensures.answer (map pair_of c.args.pairs.now) (g.F.Files.told c.args.files.now) (subst (λ (all : List Loaded). WereLoaded (map pair_of c.args.pairs.now) (g.F.Files.told c.args.files.now) all) (sym c.deref.ensures.value) c.in_ok-all.ensures.answer))
+    (images_made c.args.images _ _ _ _ _ c.deref-2.ensures.value c.load_all.ensures.same c.in_ok-write_asked.ensures.made)

@@ -1,34 +1,39 @@
-use Rattle.std.proofs.Common.{◌∙◌, sym}
+use Rattle.std.proofs.Common.{◌<◌, length, arith}
 use Rattle.std.proofs.lemmas.Result.{err_from_is_err_and}
+use Rattle.call_log.specs.Head.{head_of}
 use Rattle.command_run.specs.FileLaws.{failed_makes}
-use Rattle.replay_command.proofs.Imaging.{first_made, has_image, node_named, one_made, own_files, part_made}
+use Rattle.replay_command.proofs.Imaging.{first_made, node_fresh, node_named, one_made, own_files, part_made}
 use Rattle.command_run.specs.CountLaws.{counts_same}
 use Rattle.replay_command.proofs.replaying.write_images.Goals as goal
+
+pub image_of-requires : goal.image_of-requires
+image_of-requires g c =
+    let within : c.loop-part.part-index < length c.args.parts.now = omega arith in
+    node_fresh c.args.parts.now c.loop-part.part-index c.part-item.result c.requires.fresh within c.part-item.is
 
 pub returns-in_err-image-clause-made : goal.returns-in_err-image-clause-made
 returns-in_err-image-clause-made g c =
     let p = err_from_is_err_and c.from_residual.result c.from_residual.ensures.1 in
-    rw (p.1, p.2) (first_made c.keeps_files.ensures c.args.group.now.start c.loop-node.node _ _ c.loop-node.invariant.0)
-
-pub unreachable-requires-in_default-2 : goal.unreachable-requires-in_default-2
-unreachable-requires-in_default-2 g c =
-    has_image c.args.group.now.start c.loop-node.node c.in-Some.name.now c.in-Some.ensures (sym c.in_default-2.is ∙ c.in_ok-image.ensures.image)
+    rw (p.1, p.2) (first_made c.keeps_files.ensures c.args.parts.now c.loop-part.part-index _ _ c.loop-part.invariant.0)
 
 pub write_image-requires : goal.write_image-requires
 write_image-requires g c =
-    node_named c.args.group.now.start c.loop-node.node c.in-Some.name.now c.in-Some-2.image c.requires c.in-Some.ensures (sym c.in-Some-2.is ∙ c.in_ok-image.ensures.image)
+    let within : c.loop-part.part-index < length c.args.parts.now = omega arith in
+    node_named c.args.parts.now c.loop-part.part-index c.part-item.result (head_of c.head.result) c.requires.heads within c.part-item.is c.head.ensures
 
 pub returns-in_err-write_image-clause-made : goal.returns-in_err-write_image-clause-made
 returns-in_err-write_image-clause-made g c =
     let p = err_from_is_err_and c.from_residual-in_err-write_image.result c.from_residual-in_err-write_image.ensures.1 in
-    let own = own_files c.args.group.now.start c.loop-node.node c.in-Some.name.now c.as_slice.result.now c.as_slice-in-loop-node.result.now c.in-Some-2.image c.in-Some.ensures (sym c.in-Some-2.is ∙ c.in_ok-image.ensures.image) c.as_slice.ensures c.as_slice-in-loop-node.ensures in
+    let within : c.loop-part.part-index < length c.args.parts.now = omega arith in
+    let own = own_files c.args.parts.now c.loop-part.part-index c.part-item.result (head_of c.head.result) c.as_slice.result.now c.as_slice-in-loop-part.result.now c.in_ok-image.image within c.part-item.is c.head.ensures c.in_ok-image.ensures c.as_slice.ensures c.as_slice-in-loop-part.ensures in
     rw (p.1, p.2)
     (failed_makes c.in_err-write_image.field-0.0 _ _ _
-    (part_made c.keeps_files.ensures c.args.group.now.start c.loop-node.node _ _ _ _ own c.loop-node.invariant.0 c.in_err-write_image.ensures.err))
+    (part_made c.keeps_files.ensures c.args.parts.now c.loop-part.part-index _ _ _ _ own c.loop-part.invariant.0 c.in_err-write_image.ensures.err))
 
-pub loop-node-preserved : goal.loop-node-preserved
-loop-node-preserved g c =
-    let own = own_files c.args.group.now.start c.loop-node.node c.in-Some.name.now c.as_slice.result.now c.as_slice-in-loop-node.result.now c.in-Some-2.image c.in-Some.ensures (sym c.in-Some-2.is ∙ c.in_ok-image.ensures.image) c.as_slice.ensures c.as_slice-in-loop-node.ensures in (
-      one_made c.args.group.now.start c.loop-node.node _ _ _ _ own c.loop-node.invariant.0 c.in_ok-write_image.ensures.ok,
-      counts_same _ _ _ _ c.loop-node.invariant.1 c.in_ok-write_image.ensures.counted,
+pub loop-part-preserved : goal.loop-part-preserved
+loop-part-preserved g c =
+    let within : c.loop-part.part-index < length c.args.parts.now = omega arith in
+    let own = own_files c.args.parts.now c.loop-part.part-index c.part-item.result (head_of c.head.result) c.as_slice.result.now c.as_slice-in-loop-part.result.now c.in_ok-image.image within c.part-item.is c.head.ensures c.in_ok-image.ensures c.as_slice.ensures c.as_slice-in-loop-part.ensures in (
+      one_made c.args.parts.now c.loop-part.part-index _ _ _ _ own c.loop-part.invariant.0 c.in_ok-write_image.ensures.ok,
+      counts_same _ _ _ _ c.loop-part.invariant.1 c.in_ok-write_image.ensures.counted,
     )
