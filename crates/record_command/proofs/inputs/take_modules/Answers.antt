@@ -1,12 +1,20 @@
-use Rattle.std.proofs.Common.{◌≡◌, ◌∙◌, ◌∷◌, ◌++◌, ◌+◌, List, [], Option, ap, drop, map, subst, sym}
+use Rattle.std.proofs.Common.{◌≡◌, ◌∙◌, ◌∷◌, ◌++◌, ◌+◌, List, [], Option, ap, drop, map, refl, subst, sym}
 use Rattle.std.proofs.lemmas.List.{drop_more, map-append}
 use Rattle.wasm_types.specs.Modules.{Module, module_of as shown}
 use Rattle.schedule_text.specs.declared.process.ProcessLine.{ProcessLine}
 use Rattle.fri_outside.specs.Outside.{Folder}
 use Rattle.command_run.specs.CountLaws.{counts_later, counts_none}
 use Rattle.command_run.specs.Kept.{AreOfFiles}
-use Rattle.record_command.proofs.Modules.{AreTaken, one_taken}
+use Rattle.record_command.proofs.Modules.{AreTaken, none_taken, one_taken}
 use Rattle.record_command.proofs.inputs.take_modules.Goals as goal
+
+pub loop-line-init : goal.loop-line-init
+loop-line-init g c = (
+  subst (λ (ms : List Module). AreTaken (g.F.Files.told c.args.files.now) c.args.lines.now 0 ms) (sym (ap (map shown) c.new-modules.ensures.items)) (none_taken (g.F.Files.told c.args.files.now) c.args.lines.now),
+  refl,
+  record { reads = refl; writes = refl; misses = refl },
+  c.new-read.ensures.none (g.F.Files.told c.args.files.now),
+)
 
 pub take_module_of-requires-clause-kept : goal.take_module_of-requires-clause-kept
 take_module_of-requires-clause-kept g c = subst (λ (told : Option Folder). AreOfFiles told c.loop-line.read) (sym c.loop-line.invariant.1) c.loop-line.invariant.3
