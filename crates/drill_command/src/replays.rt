@@ -44,7 +44,7 @@ fn begin<'m, 'a>(
         unreachable!();
     };
     match Process::start(alloc, module, p, COUNT) {
-        Ok(process) => Replayer::begin(alloc, process, log),
+        Ok(process) => Ok(Replayer::begin(alloc, process, log)?),
         Err(StartError::BadSegment) => unreachable!(),
         Err(StartError::NoMemory) => Err(AllocError),
     }

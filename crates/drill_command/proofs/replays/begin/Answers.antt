@@ -24,12 +24,12 @@ begin-requires-in-Ok-start-clause-count c =
     (sym c.bytes.ensures ∙ ap option_copied c.in-Some.is) c.in-Ok.log.head c.in-Ok.log.left c.in-Ok.ensures.found in
     (c.counting.ensures.begun (module_of c.args.«module».now) c.args.p 4 c.in-Ok-start.process c.in-Ok-start.ensures.ok).count ∙ sym (ap (λ (h : Head). h.count) read.head_is)
 
-pub returns-in-Ok-start : goal.returns-in-Ok-start
-returns-in-Ok-start c = (
+pub returns-in_ok-begin-in-Ok-start : goal.returns-in_ok-begin-in-Ok-start
+returns-in_ok-begin-in-Ok-start c = (
   c.in-Ok-start.process,
   begins_as (module_of c.args.«module».now) c.args.p c.in-Ok-start.process c.requires.«module» c.in-Ok-start.ensures.ok,
   λ (steps : List Step) (holds : HoldLogs steps c.args.files.now).
-      c.begin-in-Ok-start.ensures
+      c.in_ok-begin-in-Ok-start.ensures
       ∙ replay_is steps c.args.p c.in-Ok-start.process c.in-Ok.log.head c.in-Ok.log.left
       (opened_as c.exact_logs.ensures steps c.args.files.now holds c.args.p c.requires.process c.args.log.now c.in-Some.bytes.now c.requires.log
       (sym c.bytes.ensures ∙ ap option_copied c.in-Some.is) c.in-Ok.log.head c.in-Ok.log.left c.in-Ok.ensures.found),
