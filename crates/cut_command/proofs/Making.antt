@@ -9,8 +9,8 @@ use Rattle.fri_outside.specs.Several.{AreFronts, ChangesOnly, with_files}
 use Rattle.fri_text.specs.Name.{is_name}
 use Rattle.call_log.specs.Head.{IsHead}
 use Rattle.call_log.specs.Log.{entries_of, rewritten}
-use Rattle.group_record.specs.ImageLaws.{part_fronts}
-use Rattle.group_record.specs.Images.{AreMadeInPart, made_in_part}
+use Rattle.process_files.specs.PartLaws.{part_fronts}
+use Rattle.process_files.specs.Parts.{AreMadeInPart, made_in_part}
 use Rattle.command_run.specs.FileLaws.{fronts_behind, fronts_of_more, with_more}
 use Rattle.cut_command.specs.declared.fronts.Front.{Front}
 use Rattle.cut_command.specs.Cut.{cut_name}

@@ -14,8 +14,8 @@ use crate::past::take_past;
 use call_log::rewrite;
 use command_run::{Answer, Refusal};
 use fri_outside::{Files, keeps_files};
-use group_record::write_file;
 use log_pairs::{Pair, begin_all, load_all};
+use process_files::write_file;
 use std::alloc::Global;
 
 // Makes the files of the logs, one after the other, each with the part of its log that is kept.

@@ -15,12 +15,13 @@ use Rattle.group_record.specs.declared.summary.Summary.{Summary}
 use Rattle.group_record.specs.Answer.{RecordAnswers, StoppedWhere, group_of}
 use Rattle.group_record.specs.Begun.{GroupBegins, StopsAtHead}
 use Rattle.group_record.specs.Files.{Between, IsStopped}
-use Rattle.group_record.specs.Images.{AreMadeInPart, images_of}
+use Rattle.group_record.specs.Images.{images_of}
+use Rattle.process_files.specs.Parts.{AreMadeInPart}
 use Rattle.group_record.specs.Logs.{logs}
 use Rattle.group_record.specs.Recorded.{Does, FilesOf, KeepsUp, MakesFiles, MakesImages, Sums, UnderWay}
 use Rattle.group_record.specs.Run.{Group, Progress, after_items, nothing_yet, run}
 use Rattle.group_record.proofs.Going.{stopped_before, stopped_in, stopped_on}
-use Rattle.group_record.proofs.Imaging.{files_behind}
+use Rattle.process_files.specs.PartLaws.{files_after}
 
 -- what was stopped before the images
 stops_in : (asked : Bool) (schedule : Schedule) (first : List State) (before after : Option Folder) → IsStopped (group_of schedule first) (run (group_of schedule first) schedule.items).steps [] before after
@@ -108,7 +109,7 @@ run_done asked schedule begun recorder last said before now middle after b does 
       record {
         room = h.0.room;
         summary = sums group done h.0 refl;
-        files = makes group done h.0 refl ∙ ap (with_files (images_of asked group done)) h.1 ∙ sym (files_behind (logs group done.steps) (images_of asked group done) before);
+        files = makes group done h.0 refl ∙ ap (with_files (images_of asked group done)) h.1 ∙ sym (files_after (logs group done.steps) (images_of asked group done) before);
       },
     )
 

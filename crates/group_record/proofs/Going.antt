@@ -12,11 +12,11 @@ use Rattle.group_record.specs.declared.error.RecordError.{RecordError}
 use Rattle.group_record.specs.declared.error.RecordError.TheVariants as errors
 use Rattle.group_record.specs.declared.recorder.Recorder.{Recorder}
 use Rattle.group_record.specs.Files.{IsStopped, InHeads, Between, InEntry, InImages}
-use Rattle.group_record.specs.Images.{AreMadeInPart, made_in_part}
+use Rattle.process_files.specs.Parts.{AreMadeInPart, made_in_part}
 use Rattle.group_record.specs.Logs.{logs}
 use Rattle.group_record.specs.Recorded.{Comes, FilesOf}
 use Rattle.group_record.specs.Run.{Group, Progress, Step, Had, Did, IsMoment, after_item, after_items, attempt, attempts, done_by_item, event_of_try, had, log_has_room, unless_full}
-use Rattle.group_record.proofs.Imaging.{behind_none, files_behind}
+use Rattle.process_files.specs.PartLaws.{after_none, files_after}
 
 -- the steps of one progress stand in front of the other's; and where a log is full, it is all there is
 pub record LeadsTo (early late : Progress) : Type 0 where
@@ -93,21 +93,21 @@ stopped_on group early late before after on (InHeads many cut is) = InHeads many
 stopped_on group early late before after on (Between steps front is) = Between steps (front_on steps early late front on) is
 stopped_on group early late before after on (InEntry steps later p n e split short is) =
     InEntry steps (on.0 ++ later) p n e (on.1 ∙ ap (λ xs. on.0 ++ xs) split ∙ sym (append_assoc on.0 later (Had p e ∷ steps))) short is
-stopped_on group early late before after on (InImages n m is) = Between early on (is ∙ ap (λ fs. with_files fs before) (behind_none (logs group early) n m))
+stopped_on group early late before after on (InImages n m is) = Between early on (is ∙ ap (λ fs. with_files fs before) (after_none (logs group early) n m))
 
 -- so it is where images are asked for
 pub stopped_before : (group : Group) (steps : List Step) (images : List (List ℕ × List ℕ)) (before after : Option Folder) → IsStopped group steps [] before after → IsStopped group steps images before after
 stopped_before group steps images before after (InHeads many cut is) = InHeads many cut is
 stopped_before group steps images before after (Between early front is) = Between early front is
 stopped_before group steps images before after (InEntry early later p n e split short is) = InEntry early later p n e split short is
-stopped_before group steps images before after (InImages n m is) = Between steps ([], refl) (is ∙ ap (λ fs. with_files fs before) (behind_none (logs group steps) n m))
+stopped_before group steps images before after (InImages n m is) = Between steps ([], refl) (is ∙ ap (λ fs. with_files fs before) (after_none (logs group steps) n m))
 
 -- or where one was not made
 pub stopped_in : (group : Group) (steps : List Step) (images : List (List ℕ × List ℕ)) (before now after : Option Folder) → now ≡ with_files (logs group steps) before → AreMadeInPart images now after
     → IsStopped group steps images before after
 stopped_in group steps images before now after written (inl same) = Between steps ([], refl) (same ∙ written)
 stopped_in group steps images before now after written (inr (n, m, is)) =
-    InImages n m (is ∙ ap (with_files (made_in_part images n m)) written ∙ sym (files_behind (logs group steps) (made_in_part images n m) before))
+    InImages n m (is ∙ ap (with_files (made_in_part images n m)) written ∙ sym (files_after (logs group steps) (made_in_part images n m) before))
 
 -- what is answered at one moment is answered of the whole
 pub comes_on : (group : Group) (early late : Progress) (error : RecordError) (r : Recorder) (before after : Option Folder) → LeadsTo early late

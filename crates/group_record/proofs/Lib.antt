@@ -10,7 +10,6 @@ pub mod Begins
 pub mod Loops
 pub mod Summing
 pub mod Answering
-pub mod Names
 pub mod Small
 pub mod LiveEvents
 pub mod Running

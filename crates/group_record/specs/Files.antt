@@ -6,7 +6,7 @@ use Rattle.call_log.specs.Head.{head_bytes}
 use Rattle.guest_process.specs.Live.{Event}
 use Rattle.group_record.specs.Run.{Group, Step, Had, IsMoment, entry_bytes, head_of_log}
 use Rattle.group_record.specs.Logs.{files_of, logs}
-use Rattle.group_record.specs.Images.{made_in_part}
+use Rattle.process_files.specs.Parts.{made_in_part}
 
 -- a first part of each head
 abbrev pub heads_cut : Group → (ℕ → ℕ) → ℕ → List ℕ

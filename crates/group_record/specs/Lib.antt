@@ -2,7 +2,6 @@
 pub mod Run
 pub mod Logs
 pub mod Images
-pub mod ImageLaws
 pub mod Files
 pub mod Answer
 pub mod Laws

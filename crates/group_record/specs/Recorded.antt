@@ -28,7 +28,8 @@ use Rattle.group_record.specs.declared.summary.SummaryLine.{SummaryLine}
 use Rattle.group_record.specs.Run.{Group, Progress, Step, entries, history, is_running_process, log_of, name_of, process_after, size}
 use Rattle.group_record.specs.Logs.{log_name, logs}
 use Rattle.group_record.specs.Files.{IsStopped}
-use Rattle.group_record.specs.Images.{AreMadeInPart, images_of}
+use Rattle.group_record.specs.Images.{images_of}
+use Rattle.process_files.specs.Parts.{AreMadeInPart}
 use Rattle.group_record.specs.Members.{kept}
 use Rattle.group_record.specs.Answer.{IsSummary}
 

@@ -26,7 +26,6 @@ mod signals;
 mod summary;
 
 pub use error::RecordError;
-pub use images::{write_file, write_image};
 pub use laws::{agreement, beginning, delivery, standing, taking};
 pub use run::run_record;
 pub use summary::{Summary, SummaryLine};

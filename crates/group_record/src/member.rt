@@ -1,5 +1,5 @@
 // A process of a group that is recorded, and the file of its log.
-ghost use Rattle.std.specs.Prelude.{◌≡◌, ◌+◌, ◌<◌, ◌≤◌, length, option_map, IfOk, OnOk, IsTrue, string_bytes};
+ghost use Rattle.std.specs.Prelude.{◌≡◌, ◌+◌, ◌<◌, ◌≤◌, length, option_map, IfOk, OnOk, IsTrue};
 ghost use Rattle.call_log.specs.Head.{head_bytes};
 ghost use Rattle.call_log.specs.Limits.{most_log};
 ghost use Rattle.call_log.specs.declared.version.Version.TheVariants.{Two};
@@ -10,7 +10,6 @@ ghost use Rattle.guest_process.specs.Next.{next};
 ghost use Rattle.guest_process.specs.Start.{start as start_of};
 ghost use Rattle.wasm_types.specs.Modules.{module_of};
 ghost use Rattle.group_record.specs.Answer.{after_writes};
-ghost use Rattle.group_record.specs.Logs.{log_name};
 ghost use Rattle.group_record.specs.Members.{CanKeep, Starts, Writes, kept, spelled};
 
 use crate::error::RecordError;
@@ -18,6 +17,7 @@ use call_log::{LogHead, MOST_LOG, Version, put_entry, put_head};
 use fri_outside::Files;
 use guest_process::{Process, counting};
 use lib_calls::EntryView;
+use process_files::process_file;
 use schedule_text::ProcessLine;
 use std::alloc::{AllocError, Global};
 use wasm_step::StartError;
@@ -49,7 +49,7 @@ impl<'m> Member<'m> {
         ensures { Starts (start_of (module_of «module».now) p count) line.now.name p count result }
     {
         counting();
-        let log = log_file(alloc, line.name.as_slice())?;
+        let log = process_file(alloc, line.name.as_slice(), ".log")?;
         let head = log_head(alloc, line.name.as_slice(), p, count)?;
         match Process::start(alloc, module, p, count) {
             Ok(process) => Ok(Member {
@@ -118,16 +118,6 @@ impl<'m> Member<'m> {
         self.process = Some(process.advance(entry)?);
         Ok(())
     }
-}
-
-// The name of the file of a process's log.
-fn log_file(alloc: Global, name: &[u8]) -> Result<String, AllocError>
-    requires { IsTrue (is_name_word name.now) }
-    ensures { IfOk result (λ file. string_bytes file ≡ log_name name.now) }
-{
-    let mut file = String::from_utf8_lossy(alloc, name)?;
-    file.push_str(".log")?;
-    Ok(file)
 }
 
 // The head of a process's log.

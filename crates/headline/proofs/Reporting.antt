@@ -6,7 +6,8 @@ use Rattle.lib_calls.specs.Traffic.{prints}
 use Rattle.call_log.specs.Head.{Head}
 use Rattle.proc_replay.specs.Course.{ahead}
 use Rattle.proc_replay.specs.Replaying.{Replaying}
-use Rattle.group_record.specs.Images.{image_files, images_from, memory_in, images as all_images}
+use Rattle.group_record.specs.Images.{images_from, memory_in, images as all_images}
+use Rattle.process_files.specs.Images.{image_files}
 use Rattle.group_record.specs.Run.{Group, Step, entries, name_of, process_after, size}
 use Rattle.group_state.specs.declared.report.ReportLine.{ReportLine}
 use Rattle.group_state.specs.declared.tally.GroupCounts.{GroupCounts}

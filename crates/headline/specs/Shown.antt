@@ -10,7 +10,8 @@ use Rattle.guest_process.specs.State.{State}
 use Rattle.group_order.specs.Order.{IsOrder, NodeEvent, node_event}
 use Rattle.group_world.specs.History.{Inject}
 use Rattle.group_record.specs.Answer.{end_after}
-use Rattle.group_record.specs.Images.{image_files, memory_in}
+use Rattle.group_record.specs.Images.{memory_in}
+use Rattle.process_files.specs.Images.{image_files}
 use Rattle.group_record.specs.Laws.{TellsSend}
 use Rattle.group_record.specs.Run.{Group, Step, entries, head_of_log, history, name_of, process_after, process_states, size}
 use Rattle.proc_replay.specs.Course.{ahead}

@@ -13,7 +13,8 @@ use Rattle.group_record.specs.declared.summary.Summary.{Summary}
 use Rattle.group_record.specs.declared.summary.SummaryLine.{SummaryLine}
 use Rattle.group_record.specs.Answer.{RecordAnswers, StoppedWhere, IsSummary, first_states, group_of, summary_lines}
 use Rattle.group_record.specs.Files.{Between, InImages, IsStopped}
-use Rattle.group_record.specs.Images.{images_of, made_in_part, images as all_images}
+use Rattle.group_record.specs.Images.{images_of, images as all_images}
+use Rattle.process_files.specs.Parts.{made_in_part}
 use Rattle.group_record.specs.Logs.{logs}
 use Rattle.group_record.specs.Run.{Group, Progress, run}
 use Rattle.command_run.specs.declared.refusal.Answer.TheVariants as answered

@@ -8,7 +8,8 @@ use Rattle.fri_outside.specs.Several.{AreApart, grown, with_files}
 use Rattle.guest_process.specs.Live.{Event}
 use Rattle.schedule_text.specs.Laws.{GivesSchedules}
 use Rattle.group_record.specs.Files.{IsStopped, InHeads, Between, InEntry, InImages}
-use Rattle.group_record.specs.Images.{images_of, made_in_part}
+use Rattle.group_record.specs.Images.{images_of}
+use Rattle.process_files.specs.Parts.{made_in_part}
 use Rattle.group_record.specs.Logs.{log_name, logs}
 use Rattle.group_record.specs.Run.{Group, Had, IsMoment, Step, entry_bytes, log_of, name_of, size}
 use Rattle.record_command.specs.Agreement.{IsAtMoment, IsInHeads, MayFollow, Front, Nothing, group_in, run_in, steps_in}

@@ -19,7 +19,9 @@ use Rattle.schedule_text.specs.declared.process.ProcessLine.{ProcessLine}
 use Rattle.group_world.specs.History.{Act, History}
 use Rattle.group_world.specs.History as world
 use Rattle.group_record.specs.Files.{IsStopped, InHeads, Between, InEntry, InImages, heads_cut}
-use Rattle.group_record.specs.Images.{images, images_from, images_of, made_in_part, mem_name, out_name}
+use Rattle.group_record.specs.Images.{images, images_from, images_of}
+use Rattle.process_files.specs.Images.{mem_name, out_name}
+use Rattle.process_files.specs.Parts.{made_in_part}
 use Rattle.group_record.specs.Logs.{files_from, log_name, logs}
 use Rattle.group_record.specs.Run.{Group, Had, IsMoment, Progress, Step, act_of, entries, entry_bytes, head_of_log, history, log_of, name_of, size}
 use Rattle.record_command.specs.Agreement.{LeavesLogs}

@@ -7,8 +7,9 @@ use Rattle.fri_outside.specs.Outside.{Folder}
 use Rattle.fri_outside.specs.Several.{AreFronts, ChangesOnly, with_files}
 use Rattle.call_log.specs.Head.{Head, IsHead}
 use Rattle.fri_text.specs.Name.{is_name}
-use Rattle.group_record.specs.ImageLaws.{part_fronts}
-use Rattle.group_record.specs.Images.{AreMadeInPart, image_files, made_in_part}
+use Rattle.process_files.specs.PartLaws.{part_fronts}
+use Rattle.process_files.specs.Images.{image_files}
+use Rattle.process_files.specs.Parts.{AreMadeInPart, made_in_part}
 use Rattle.proc_replay.specs.Replaying.{Replaying}
 use Rattle.group_state.specs.declared.image.Image.{Image}
 use Rattle.group_state.specs.Image.{image_of, left_memory, left_print}

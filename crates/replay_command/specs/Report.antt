@@ -5,7 +5,7 @@ use Rattle.fri_outside.specs.Outside.{Folder}
 use Rattle.guest_process.specs.declared.divergence.Divergence.{Divergence}
 use Rattle.guest_process.specs.declared.divergence.Divergence.TheVariants as differs
 use Rattle.proc_replay.specs.Replaying.{Replaying}
-use Rattle.group_record.specs.Images.{image_files}
+use Rattle.process_files.specs.Images.{image_files}
 use Rattle.group_state.specs.declared.report.ReportLine.{ReportLine}
 use Rattle.group_state.specs.declared.report.Verdict.{Verdict}
 use Rattle.group_state.specs.declared.report.Verdict.TheVariants as said

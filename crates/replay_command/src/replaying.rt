@@ -10,10 +10,10 @@ ghost use Rattle.log_pairs.specs.Seen.{pair_of};
 use crate::report::print_report;
 use command_run::{Answer, Refusal};
 use fri_outside::{Files, keeps_files};
-use group_record::write_image;
 use group_state::{image_of, report_of};
 use log_pairs::{Pair, begin_all, load_all};
 use proc_replay::Replayer;
+use process_files::write_image;
 use std::alloc::Global;
 
 // Writes what each process leaves, in order of the processes' numbers.

@@ -14,7 +14,8 @@ use Rattle.schedule_text.specs.Reading.{Refusal as ScheduleRefusal, BadLineAt, T
 use Rattle.schedule_text.specs.Schedule.{IsWellFormed, Schedule, is_module_name, is_visible}
 use Rattle.schedule_text.specs.declared.process.ProcessLine.{ProcessLine}
 use Rattle.group_record.specs.Answer.{first_states}
-use Rattle.group_record.specs.Images.{images_from, images_of, mem_name, out_name, images as all_images}
+use Rattle.group_record.specs.Images.{images_from, images_of, images as all_images}
+use Rattle.process_files.specs.Images.{mem_name, out_name}
 use Rattle.group_record.specs.Logs.{files_from, log_name, logs}
 use Rattle.group_record.specs.Run.{Group, Progress, Step, log_of}
 use Rattle.command_run.specs.declared.status.Status.TheVariants as ends

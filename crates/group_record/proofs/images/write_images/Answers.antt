@@ -2,7 +2,7 @@ use Rattle.std.proofs.Common.{◌≡◌, ◌<◌, ◌∙◌, true, length, inl, 
 use Rattle.std.proofs.lemmas.Result.{err_from_is_err_and}
 use Rattle.fri_outside.specs.Several.{with_files}
 use Rattle.fri_outside.specs.declared.files.WriteError.TheVariants as writing
-use Rattle.group_record.specs.Images.{AreMadeInPart}
+use Rattle.process_files.specs.Parts.{AreMadeInPart}
 use Rattle.group_record.specs.Run.{size}
 use Rattle.group_record.proofs.Imaging.{asked_fails, image_fails, image_is, image_made, name_here, named_all, within_kept}
 use Rattle.group_record.proofs.Small.{at_place, failed_write}

@@ -1,9 +1,10 @@
 use Rattle.std.proofs.Common.{[], ◌∷◌}
 use Rattle.std.proofs.lemmas.Result.{err_from_is_err_and}
-use Rattle.group_record.specs.Images.{AreMadeInPart, image_files, mem_name, out_name}
-use Rattle.group_record.proofs.Imaging.{first_fails, second_fails}
-use Rattle.group_record.proofs.Small.{on_err}
-use Rattle.group_record.proofs.images.write_image.Goals as goal
+use Rattle.process_files.specs.Images.{image_files, mem_name, out_name}
+use Rattle.process_files.specs.Parts.{AreMadeInPart}
+use Rattle.process_files.proofs.TwoFiles.{first_fails, second_fails}
+use Rattle.process_files.proofs.OneFile.{on_err}
+use Rattle.process_files.proofs.writing.write_image.Goals as goal
 
 pub returns-in_err-write_file-clause-err : goal.returns-in_err-write_file-clause-err
 returns-in_err-write_file-clause-err g c =

@@ -1,10 +1,9 @@
 use Rattle.std.proofs.Common.{◌≡◌, ◌⊎◌, ◌++◌, ℕ, [], ◌∷◌, ◌∙◌, take, ap, sym}
 use Rattle.std.proofs.lemmas.Result.{err_from_is_err_and}
 use Rattle.fri_outside.specs.Outside.{with_file, with_piece}
-use Rattle.group_record.specs.Images.{AreMadeInPart}
-use Rattle.group_record.proofs.Imaging.{append_part, create_part}
-use Rattle.group_record.proofs.Small.{on_err}
-use Rattle.group_record.proofs.images.write_file.Goals as goal
+use Rattle.process_files.specs.Parts.{AreMadeInPart}
+use Rattle.process_files.proofs.OneFile.{append_part, create_part, on_err}
+use Rattle.process_files.proofs.writing.write_file.Goals as goal
 
 pub returns-in_err-create-clause-err : goal.returns-in_err-create-clause-err
 returns-in_err-create-clause-err g c =

@@ -1,0 +1,3 @@
+mod NamesAreText
+mod OneFile
+mod TwoFiles
