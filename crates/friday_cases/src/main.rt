@@ -18,6 +18,7 @@
 //! | `fail files N` | lets the call of this number fail, of those on files that the case makes |
 //! | `fail input N`, `fail output N` | lets the read or the write of this number fail, of those that the next command makes |
 //! | `run WORDS` | makes the call with these words |
+//! | `sum WORDS` | makes the call with these words, and tells the SHA-256 of what it prints |
 //! | `cuts NAME A B WORDS` | makes the call for each N from A to B, with the first N bytes of a file in its place |
 //! | `turns NAME A B WORDS` | makes the call for each N from A to B, with all bits turned in the byte at N of a file |
 //! | `flips NAME A B WORDS` | the same, with the lowest bit alone turned |

@@ -51,6 +51,7 @@ pub enum Order<'a> {
         call: u64,
     },
     Run(&'a str),
+    Sum(&'a str),
     Each {
         change: Change,
         name: &'a str,
@@ -128,6 +129,7 @@ pub fn read_order(line: &str) -> anyhow::Result<Order<'_>> {
         },
         "fail" => fail(rest)?,
         "run" => Order::Run(rest),
+        "sum" => Order::Sum(rest),
         "cuts" => each(Change::Cut, rest)?,
         "turns" => each(Change::Turn(0xff), rest)?,
         "flips" => each(Change::Turn(1), rest)?,

@@ -59,6 +59,7 @@ impl Session {
             Order::Input { piece, pieces } => self.hand_in(piece, pieces),
             Order::Fail { side, call } => self.fail(side, call),
             Order::Run(words) => self.run(words),
+            Order::Sum(words) => self.sum(words),
             Order::Each {
                 change,
                 name,
@@ -155,6 +156,15 @@ impl Session {
         Ok(format!(in self.alloc; "run {words}: {told}")?)
     }
 
+    // Makes the call, and tells the length and the SHA-256 of what it prints.
+    fn sum(&mut self, words: &str) -> anyhow::Result<String> {
+        let outcome = self.call(words)?;
+        let status = outcome.status;
+        let len = outcome.printed.len();
+        let digits = digest_of(self.alloc, &outcome.printed)?;
+        Ok(format!(in self.alloc; "sum {words}: {status:?}\n    {len} bytes, SHA-256 {digits}\n")?)
+    }
+
     // Makes the call with the input from its beginning, and a fresh output.
     fn call(&mut self, words: &str) -> Result<Outcome, AllocError> {
         let words = split_words(self.alloc, words)?;
@@ -202,8 +212,7 @@ impl Session {
         };
         let mut told = format!(in self.alloc; "show {name}: {} bytes\n", bytes.len())?;
         if bytes.len() > SHOWN {
-            let digest = Sha256::digest(bytes);
-            let digits = hex::encode(self.alloc, digest.as_slice())?;
+            let digits = digest_of(self.alloc, bytes)?;
             write!(told, "    SHA-256 {digits}\n")?;
             return Ok(told);
         }
@@ -213,6 +222,12 @@ impl Session {
         }
         Ok(told)
     }
+}
+
+// The digits of the SHA-256.
+fn digest_of(alloc: Global, bytes: &[u8]) -> Result<String, AllocError> {
+    let digest = Sha256::digest(bytes);
+    hex::encode(alloc, digest.as_slice())
 }
 
 fn split_words(alloc: Global, words: &str) -> Result<Vec<String>, AllocError> {

@@ -105,6 +105,11 @@ class Script:
         self.told.append("run %s: %s" % (words, status))
         self.told += ["    " + line for line in printed]
 
+    def sum(self, words, status, printed):
+        """A run of which the length and the SHA-256 of these bytes are told, and not the lines."""
+        self.lines.append("sum " + words)
+        self.told += ["sum %s: %s" % (words, status), "    %d bytes, SHA-256 %s" % (len(printed), hashlib.sha256(printed).hexdigest())]
+
     def each(self, verb, name, words, outcomes):
         """Outcomes are a status and the printed lines, for 0, 1 and so on."""
         self.lines.append("%s %s 0 %d %s" % (verb, name, len(outcomes) - 1, words))
