@@ -60,6 +60,22 @@ def all_threads(script):
     session(script, ALONE, rows)
 
 
+def full_threads(script):
+    """Each of 64 threads waits with 16,384 operands, or with its argument and one less."""
+    spawns = ["spawn 0 0 = %d" % t for t in MADE]
+    made = guest(calls(*spawns) + waiting(16384), waiting(16383))
+    events = ["begin", *spawns, *("%d: begin" % t for t in MADE), *("%d: yield" % t for t in (*MADE, 0))]
+    items = ("run 0 0 64", *("run 0 %d" % t for t in MADE), *("run 0 %d" % t for t in MADE), "run 0 0")
+    recorded(script, "64 threads that have all that a thread may have", made, items, events, "finished")
+    stands = ["%d at yield" % t for t in range(64)]
+    rows = (("goto 127", "at 127: 127 a 63 begin"), ("threads a", "a running", *stands), ("goto 191", "at 191: 191 a 0 yield"), ("goto 2", "at 2: 2 a 0 spawn 0 0 = 1"))
+    session(script, ALONE, rows)
+
+
+def waiting(operands):
+    return "i32.const 1 " * operands + "call $yield " + "drop " * operands
+
+
 def joined(script):
     """The first thread joins all 63, and then no further one is made."""
     spawns = ["spawn 0 %d = %d" % (t, t) for t in MADE]
@@ -91,5 +107,5 @@ def many_locks(script):
 
 def table(script):
     script.title("Many threads, locks and signals")
-    for part in (all_signals, repeated_signals, all_threads, joined, many_locks):
+    for part in (all_signals, repeated_signals, all_threads, full_threads, joined, many_locks):
         part(script)

@@ -153,6 +153,7 @@ WITHIN = (
     (comments(MOST - 4) + text("step"), PLACES[1]),
     (comments(MOST - 6) + text("quit\r\n") + STEP, ),
     (STEP + QUIT + times(MOST, b" "), PLACES[1]),
+    (times(2000000, b"\n") + STEP, PLACES[1]),
 )
 # Inputs that are too large: the last line of the first 16,777,216 bytes is no whole one, or does not end the session.
 BEYOND = (

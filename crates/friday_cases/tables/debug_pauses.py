@@ -3,7 +3,7 @@
 from common import summary
 from guests import Guest
 from script import digits, text, times
-from sessions import ALONE, PAIRS, PLACES, files, session
+from sessions import ALONE, PAIRS, PLACES, READ, files, session
 
 # How many empty lines one program can say, of the 512 tokens that a line may have.
 MOST = 170
@@ -78,7 +78,18 @@ def one_by_one(script):
     session(script, ALONE, rows)
 
 
+def longest(script):
+    """Each of the lines is as long as a program can say it."""
+    script.case("10,000 lines of 4,084 bytes")
+    script.file("a.wasm", digits(Guest("many_events").module))
+    script.file("s", text("friday 1\nprocess a a.wasm\nrun 0 0 10001\n"))
+    script.run("record s", "Done", *summary(10001, "finished", 10001, 0))
+    script.input(READ, text("break a note\ndo 1 say \"") + times(4084, b"x") + text("\"\ncontinue\n"))
+    answers = "at 0\npoint 1\n" + ("x" * 4084 + "\n") * 10000 + "paused\nat 10001: 10001 a 0 note 10000\n"
+    script.sum(ALONE, "Done", answers.encode())
+
+
 def table(script):
     script.title("Programs that say many lines")
-    for part in (on, stops, behind, short, one_by_one):
+    for part in (on, stops, behind, short, one_by_one, longest):
         part(script)

@@ -1,10 +1,13 @@
 """A memory of 256 pages, from its first byte to its last: in images, and in the debugger."""
 
-import logs
+import logs, pairs
 from common import begin, report, summary
-from images import PAGE, PRINT, memory, older, printing, shown
+from debug_points import TOO_MANY
+from images import PAGE, PRINT, YIELD, memory, older, printing, shown
+from logs import entry
 from modules import start
-from script import digits
+from pairs import BEGIN, Log
+from script import digits, text
 from sessions import ALONE, session
 
 PAGES = 256
@@ -59,7 +62,40 @@ def debugged(script):
     session(script, ALONE, rows)
 
 
+COUNT = 16
+# Its last byte gets the process's number.
+NUMBERED = '(import "liblog" "me" (func $me (result i32)))' + YIELD + "(memory 256)"
+KEEPS = "(i32.store8 (i32.const %d) (call $me)) (loop (call $yield) (br 0))" % (SIZE - 1)
+# What a line has room for: numbers over an edge of two watch pages, in each page of 65,536 bytes but some of the last ones.
+WIDE = "sum(%s)" % "+".join("@_.i64[%d]" % (PAGE * at + 4092) for at in range(63))
+LAST = "sum(@_.u8[%d])" % (SIZE - 1)
+
+
+def stands(p):
+    """The position at which process p has asked for its number."""
+    return "at %d: 2 p%d 0 me = %d" % (COUNT + 1 + p, p, p)
+
+
+def of_all(script):
+    """Sixteen processes of which each has all that it may, and 64 points that look at as many places as a line can name."""
+    given = [Log(COUNT, p, "p%d" % p, [BEGIN, entry(2, "me", (), p)], module="a") for p in range(COUNT)]
+    script.case("sixteen processes with memories of 256 pages, and points on 1,008 places of them")
+    script.file("a.wasm", digits(start(KEEPS, NUMBERED)))
+    runs = "".join("run %d 0 2\n" % p for p in range(COUNT))
+    script.file("s", text("friday 1\n" + "".join("process p%d a.wasm\n" % p for p in range(COUNT)) + runs))
+    script.run("record --images s", "Done", *("p%d: 2 events, running" % p for p in range(COUNT)), "items: %d acted, 0 idle" % (2 * COUNT))
+    for log in given[:: COUNT - 1]:
+        script.show(log.name + ".log", log.spelled())
+        script.show(log.name + ".mem", memory(PAGES, (SIZE - 1, bytes([log.process]))))
+    pairs.replays(script, given)
+    rows = [("print " + WIDE, "0"), ("print sum(@_.size)", str(COUNT * PAGES)), *(("watch " + WIDE, "point %d" % number) for number in range(1, 64))]
+    rows += [("watch " + LAST, "point 64"), ("watch 1", TOO_MANY), ("continue", "watch 64: 0 -> 1", stands(1)), ("goto 30", stands(13))]
+    rows += [("continue", "watch 64: 91 -> 105", stands(14)), ("continue", "watch 64: 105 -> 120", stands(15)), ("continue", "end", stands(15))]
+    rows += [("rcontinue", "watch 64: 91 -> 105", stands(14)), ("print " + LAST, "105"), ("goto 0", "at 0"), ("print " + LAST, "0")]
+    session(script, "debug " + pairs.words(given), rows)
+
+
 def table(script):
     script.title("Memories of 256 pages")
-    for part in (images, debugged):
+    for part in (images, debugged, of_all):
         part(script)

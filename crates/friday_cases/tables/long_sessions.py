@@ -2,7 +2,7 @@
 
 import logs
 from common import report
-from debug_points import TOO_MANY
+from debug_points import NO_POINT, TOO_MANY
 from program_limits import listed
 from script import USAGE, digits, text, times
 from sessions import PAIRS, PLACES, files, session
@@ -48,6 +48,17 @@ def long_points(script):
     session(script, PAIRS, rows)
 
 
+def many_points(script):
+    """Far more than may be held at once are made, of which the last 64 stay."""
+    files(script, "2,000 points that are made and deleted")
+    rows = []
+    for number in range(1, 2001):
+        rows += [("watch %d" % number, "point %d" % number), ("delete %d" % number, "deleted %d" % number)] if number <= 1936 else [("break * send", "point %d" % number)]
+    rows += [("watch 1", TOO_MANY), ("list", *("%d break * send" % number for number in range(1937, 2001)))]
+    rows += [("delete 1936", NO_POINT), ("continue", *("break %d" % number for number in range(1937, 2001)), PLACES[3])]
+    session(script, PAIRS, rows)
+
+
 def long_answers(script):
     """Lines that programs say, of as many items and bytes as there can be, at one position."""
     files(script, "long lines that programs say")
@@ -79,5 +90,5 @@ def words(script):
 
 def table(script):
     script.title("Long sessions, lines, names and words")
-    for part in (many_lines, long_names, long_points, long_answers, words):
+    for part in (many_lines, long_names, long_points, many_points, long_answers, words):
         part(script)

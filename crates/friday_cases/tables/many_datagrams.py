@@ -157,6 +157,20 @@ def most_processes(script):
     for some in (given, given[::-1], given[15:]):
         script.run("replay " + words(some), *report(some))
     of_ring(script, given, each)
+    each_of_its_own(script, given, each)
+
+
+def each_of_its_own(script, given, each):
+    """The same, of modules that are as many files."""
+    for p in range(COUNT):
+        script.file("%d.wasm" % p, RING)
+    script.file("s", text("friday 1\n" + "".join("process %s %d.wasm\n" % (name, p) for p, name in enumerate(NAMES)) + "".join(item + "\n" for item in ring_items())))
+    ends = ["%s: %d events, running" % (name, each) for name in NAMES]
+    script.run("record s", "Done", *ends, "items: %d acted, 0 idle" % (COUNT * (each + ROUNDS)))
+    given = [log.but(module=str(log.process)) for log in given]
+    script.show(NAMES[15] + ".log", given[15].spelled())
+    script.run("replay " + words(given), *report(given))
+    session(script, "debug " + words(given), [("goto 1", "at 1: 1 %s 0 begin" % NAMES[0])])
 
 
 def of_ring(script, given, each):

@@ -74,6 +74,8 @@ def of_items(script):
     script.run("record s", "Done", *summary(MOST, "running", MOST, 0))
     script.show("a.log", notes(MOST))
     replays(script, MOST, "running")
+    # Its schedule is the one that it was recorded by.
+    script.sum("schedule a.wasm a.log", "Done", FRONT.encode() + b"run 0 0\n" * MOST)
     jumps(script)
     walks(script)
     script.run("cut 0 %d a.wasm a.log" % MOST, "Done", "a: %d of %d events" % (MOST, MOST))

@@ -166,7 +166,7 @@ def beside(script, module, names):
 
 def many(script):
     """Of two processes: each event but the first of both has 18 bytes of text, so that of a million of them it is too long, and
-    only then. No stored run has a million whose text is not, since it would print it; `tools/checks/check_schedule.py` makes it."""
+    only then. `many_events` has a million whose text is not."""
     script.case("logs of a million events, and of one more")
     beside(script, digits(ASKER), ("a.wasm", "a.out"))
     each = logs.spelled([entry(9, "now", (), 5)], 8)
@@ -211,20 +211,22 @@ def pieces(log):
 
 
 def long(script):
-    """A name of the module that is a byte longer makes the text a byte too long. No stored run has the text of as many bytes as
-    there may be, since it would print them; `tools/checks/check_schedule.py` makes it."""
+    """A name of the module that is a byte longer makes the text a byte too long."""
     log = drawn()
     size = len(whole(schedule((log, OTHER))))
     assert MOST_TEXT - 1 <= size <= MOST_TEXT
     one = "a" * (1 + MOST_TEXT + 1 - size)
     assert len(whole(schedule((log, OTHER), (one + ".wasm", "least.wasm")))) == MOST_TEXT + 1
-    script.case("logs whose schedule is too long by a byte")
-    beside(script, drawer(), (one + ".wasm", one + "a.mem"))
+    script.case("logs whose schedule is too long by a byte, and that is as long as it may be")
+    beside(script, drawer(), (one + ".wasm", one + "a.mem", one[1:] + ".wasm"))
     script.file("a.log", pieces(log) + digits(b"\0"))
     script.run("schedule %sa.mem a.log least.wasm other.log" % one, *refused("a.log", NOT_WHOLE))
     script.cut("a.log", len(log.spelled()))
     script.run("schedule %sa.mem a.log least.wasm other.log" % one, *refused(one + "a.mem", BAD_NAME))
     script.run("schedule least.wasm other.log %s.wasm a.log" % one, *refused("other.log", LONG))
+    made = whole(schedule((log, OTHER), (one[1:] + ".wasm", "least.wasm"))).encode()
+    assert len(made) == MOST_TEXT
+    script.sum("schedule least.wasm other.log %s.wasm a.log" % one[1:], "Done", made)
 
 
 def failing(script):

@@ -166,6 +166,26 @@ LOCKS = (
 # Calls down to a `yield`, on which no call is left.
 DEEP = "local.get 0 if local.get 0 i32.const 1 i32.sub call $f1 else call $yield end"
 
+# Open blocks and operands of a thread where a signal comes, the locals of the handler beside its argument, and the end: all of them
+# together are 16,384, or one more.
+FULL = (
+    (0, 16383, 0, "finished"),
+    (0, 16384, 0, "trapped exhausted"),
+    (0, 12288, 4095, "finished"),
+    (0, 12289, 4095, "trapped exhausted"),
+    (1000, 15383, 0, "finished"),
+    (1000, 15384, 0, "trapped exhausted"),
+)
+
+
+def full(blocks, operands, own, end):
+    """A handler that does nothing, on a thread that has so much on it."""
+    held = "block " * blocks + "i32.const 1 " * operands + "call $yield " + "drop " * operands + "end " * blocks
+    made = guest(calls("on_signal 5 0") + held, "(local %s)" % ("i64 " * own))
+    name = "a handler of %d locals on %d blocks and %d operands" % (1 + own, blocks, operands)
+    return name, made, ("run 0 0 2", "signal 0 5", "run 0 0 2"), ("begin", "on_signal 5 0 = 0", "yield ! 5"), end
+
+
 SIGNALS = (
     (
         "a signal that has a handler, and one that has none",
@@ -258,6 +278,7 @@ SIGNALS = (
         ("begin", "on_signal 5 0 = 0", "yield ! 5"),
         "trapped exhausted",
     ),
+    *(full(*row) for row in FULL),
 )
 
 # The elements 0 to 4; the element 5 is empty, and there is no element 6.
