@@ -5,7 +5,7 @@ from common import FRONT, report, summary
 from logs import entry
 from modules import module
 from pairs import BEGIN, Log, put, report as report_of, words
-from images import memory
+from images import PRINT, memory, older, shown
 from script import digits, text, times
 
 MOST = 60000
@@ -147,6 +147,29 @@ def random_bytes(script):
     script.show("a.log", drawn(1))
 
 
+TIMES = 70000
+# Draws a byte and prints it, again and again.
+EACH = """(module %s %s (memory 1) (func (export "_start") (local $i i32)
+  (loop %s (drop (call $print (i32.const 0) (i32.const 1)))
+    (br_if 0 (i32.lt_u (local.tee $i (i32.add (local.get $i) (i32.const 1))) (i32.const %d))))))""" % (CALLS, PRINT, call("random", 0, 1), TIMES)
+
+
+def byte_by_byte(script):
+    script.case("70,000 random bytes, each of which is drawn and printed by itself")
+    script.file("a.wasm", digits(module(EACH)))
+    count = 1 + 2 * TIMES
+    script.file("s", text(FRONT + "random 0 ") + times(TIMES, b"5a") + text("\nrun 0 0 %d\n" % count))
+    script.run("record --images s", "Done", *summary(count, "finished", count + 1, 0))
+    first, second, third = (entry(2 + at, name, (0, 1), 1, b"Z") for at, name in enumerate(("random", "print", "random")))
+    both = logs.spelled([second, third], first.clock)
+    log = logs.held([BEGIN, first]) + both * (TIMES - 1) + logs.spelled([second], first.clock)
+    script.show("a.log", log)
+    shown(script, "a", memory(1, (0, b"Z")), b"Z" * TIMES)
+    older(script, "a")
+    script.run("replay --images a.wasm a.log", "Done", *report(count, "finished"))
+    shown(script, "a", memory(1, (0, b"Z")), b"Z" * TIMES)
+
+
 def from_outside(script):
     """A datagram of nearly all of a schedule, with a tag and without."""
     script.case("a datagram from outside that is as long as a schedule can make it")
@@ -176,5 +199,5 @@ def at_once(script):
 
 def table(script):
     script.title("Bytes of calls, up to the most")
-    for part in (datagrams, random_bytes, from_outside, at_once):
+    for part in (datagrams, random_bytes, byte_by_byte, from_outside, at_once):
         part(script)

@@ -182,7 +182,7 @@ def full(blocks, operands, own, end):
     """A handler that does nothing, on a thread that has so much on it."""
     held = "block " * blocks + "i32.const 1 " * operands + "call $yield " + "drop " * operands + "end " * blocks
     made = guest(calls("on_signal 5 0") + held, "(local %s)" % ("i64 " * own))
-    name = "a handler of %d locals on %d blocks and %d operands" % (1 + own, blocks, operands)
+    name = "a handler over %d blocks and %d operands, with %d locals of its own" % (blocks, operands, own)
     return name, made, ("run 0 0 2", "signal 0 5", "run 0 0 2"), ("begin", "on_signal 5 0 = 0", "yield ! 5"), end
 
 
