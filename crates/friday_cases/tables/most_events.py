@@ -1,4 +1,4 @@
-"""Logs of more events than a schedule can make, as many datagrams as one can deliver, and as many sends."""
+"""Logs of more events than a schedule can make, and as many datagrams as one can send, deliver and take."""
 
 import logs
 from common import counts_line
@@ -6,11 +6,11 @@ from images import YIELD
 from logs import entry
 from many_datagrams import CALLS
 from modules import module, start
-from pairs import BEGIN, Log, words
+from pairs import BEGIN
 from script import digits, text, times
 from sessions import session
 from shell_refusals import NO_POSITION
-from streams import AB, READER, W, WRITER
+from streams import AB, READER
 
 LOG, SCHEDULE, TRIES = 33554432, 16777216, 1000000
 
@@ -37,88 +37,75 @@ def of_yields(script):
     script.file("a.log", log)
     script.run("replay a.wasm a.log", "Done", "%s: %d events, running, log whole" % (NAME, MOST), counts_line(0, 0, 0, 0))
     rows = [
-        *goes(TRIES, TRIES + 1),
+        *goes(TRIES // 5),
         ("break * exit", "point 1"),
         ("rcontinue", "start", "at 0"),
-        *goes(2 * TRIES + 1),
-        ("back", place(2 * TRIES)),
-        ("back %d" % TRIES, place(TRIES)),
-        ("step %d" % (3 * TRIES), place(4 * TRIES)),
-        ("events 3", *(place(position)[3:] for position in range(4 * TRIES - 2, 4 * TRIES + 1))),
+        *goes(TRIES, TRIES + 1),
+        ("back", place(TRIES)),
+        *goes(MOST - 1),
         ("continue", "end", place(MOST)),
-        ("goto %d" % (MOST + 1), NO_POSITION),
         ("step", place(MOST)),
+        ("goto %d" % (MOST + 1), NO_POSITION),
+        ("events 3", *(place(position)[3:] for position in range(MOST - 2, MOST + 1))),
         ("print @%s.events + @%s.clock" % (NAME, NAME), str(2 * MOST)),
-        ("back %d" % (MOST - 1), place(1)),
+        ("back %d" % TRIES, place(MOST - TRIES)),
+        ("back %d" % MOST, "at 0"),
     ]
     session(script, "debug a.wasm a.log", rows)
 
 
-FRONT = "friday 1\nprocess w w.wasm\nprocess r r.wasm\nrun 0 0 4\nrun 1 0\n"
-TAKEN = TRIES - 5
-LAST = "run 1 0 %d\n" % TAKEN
+# Sends the same chunk again and again; so many are sent, of which the first one is delivered and taken far more often.
+ECHO = """(module %s (memory 1) (data (i32.const 0) "STRM\\01\\00\\00\\00\\00\\00\\00\\00\\00\\00ab")
+  (func (export "_start") (loop (drop (call $send (i32.const 1) (i32.const 0) (i32.const 16))) (br 0))))""" % CALLS
+SENT = TAKEN = TRIES // 2 - 1
+FRONT = "friday 1\nprocess w w.wasm\nprocess r r.wasm\nrun 0 0 %d\nrun 1 0\n" % (SENT + 1)
+LAST = "deliver 0 %d\ndeliver 0 %d\nrun 1 0 %d\n" % (SENT, SENT + 1, TAKEN)
 DELIVER = "deliver 0 1\n"
 DELIVERED = (SCHEDULE - len(FRONT + LAST)) // len(DELIVER)
 # So many more are taken in a log that no recording makes.
-MORE = 150000
+MORE = 650000
 
 
-def take(clock):
-    return entry(clock, "recv", (64, 64, 32), 16, AB, (0, 2))
+SENDS = [entry(clock, "send", (1, 0, 16), 16, AB) for clock in (2, 3)]
+TAKES = [entry(clock, "recv", (64, 64, 32), 16, AB, (0, 2)) for clock in (3, 4)]
+# The entry of a further one is the same each time.
+AGAIN = logs.spelled(TAKES[1:], 3)
+
+
+def writer():
+    return logs.held([BEGIN, SENDS[0]], name=b"w", count=2) + logs.spelled(SENDS[1:], 2) * (SENT - 1)
 
 
 def reader(count):
-    """The log of a reader that takes the first datagram of the writer so often."""
-    front = logs.held([BEGIN, take(3)], name=b"r", count=2, process=1)
-    return digits(front) + times(count - 1, logs.spelled([take(4)], 3))
+    return logs.held([BEGIN, TAKES[0]], name=b"r", count=2, process=1) + AGAIN * (count - 1)
 
 
-def at(position):
-    """Behind the first few events the reader alone has any."""
-    return "at %d: %d r 0 recv 64 64 32 = 16" % (position, position - 3)
-
-
-def of_takes(script):
-    """They are the first of what the writer wrote, again and again."""
-    script.case("a datagram that is delivered as often as a schedule can say it, and taken as often as it can try, and more often in a longer log")
-    for name, guest in (("w", WRITER), ("r", READER)):
-        script.file(name + ".wasm", digits(module(guest)))
+def of_datagrams(script):
+    """Half of the tries of a schedule send and half take, and the others of its lines deliver."""
+    script.case("a datagram that is delivered as often as a schedule can say it, among 499,999 that are sent, and taken more often than it can try")
+    script.file("w.wasm", digits(module(ECHO)))
+    script.file("r.wasm", digits(module(READER)))
     script.file("s", text(FRONT) + times(DELIVERED, DELIVER.encode()) + text(LAST))
-    ends = "w: 4 events, finished", "r: %d events, running" % (TAKEN + 1)
-    script.run("record s", "Done", *ends, "items: %d acted, 0 idle" % (TRIES + DELIVERED))
-    script.show("r.log", reader(TAKEN).data)
-    count = TAKEN + MORE
-    script.add("r.log", times(MORE, logs.spelled([take(4)], 3)))
-    given = " w.wasm w.log r.wasm r.log"
-    ends = "w: 4 events, finished, log whole", "r: %d events, running, log whole" % (count + 1)
-    script.run("replay" + given, "Done", *ends, counts_line(3, count, 0, 0))
-    script.run("streams" + given, "Done", "0 -> 1 stream 1: 4 written, 2 read", "streams: 1, 0 odd, 0 foreign")
-    script.run("cut 1 %d" % (count + 1) + given, "Done", "w: 2 of 4 events", "r: %d of %d events" % (count + 1, count + 1))
-    script.show("w.cut", W.but(events=W.events[:2]).spelled())
-    script.show("r.cut", reader(count).data)
-    last = count + 5
-    rows = (("goto %d" % last, at(last)), ("back 2", at(last - 2)), ("step 9", at(last)), ("print @r.events - @w.events", str(count - 3)))
+    ends = "w: %d events, running" % (SENT + 1), "r: %d events, running" % (TAKEN + 1)
+    script.run("record s", "Done", *ends, "items: %d acted, 1 idle" % (TRIES + DELIVERED + 1))
+    script.show("w.log", writer())
+    script.show("r.log", reader(TAKEN))
+    script.add("r.log", times(MORE, AGAIN))
+    count, given = TAKEN + MORE, " w.wasm w.log r.wasm r.log"
+    ends = "w: %d events, running, log whole" % (SENT + 1), "r: %d events, running, log whole" % (count + 1)
+    script.run("replay" + given, "Done", *ends, counts_line(SENT, count, 0, 0))
+    script.run("streams" + given, "Done", "0 -> 1 stream 1: 2 written, 2 read", "streams: 1, 0 odd, 0 foreign")
+    script.run("cut 1 %d" % (count + 1) + given, "Done", "w: 2 of %d events" % (SENT + 1), "r: %d of %d events" % (count + 1, count + 1))
+    script.show("w.cut", logs.held([BEGIN, SENDS[0]], name=b"w", count=2))
+    script.show("r.cut", reader(count))
+    # The reader's clocks go on where the writer has no event.
+    last = SENT + count + 2
+    at = "at %d: %d r 0 recv 64 64 32 = 16"
+    rows = (("goto %d" % last, at % (last, count + 2)), ("back 2", at % (last - 2, count)), ("step 9", at % (last, count + 2)), ("print @r.events - @w.events", str(MORE)))
     session(script, "debug" + given, rows)
-
-
-# Sends the same chunk to itself, again and again.
-ECHO = """(module %s (memory 1) (data (i32.const 0) "STRM\\01\\00\\00\\00\\00\\00\\00\\00\\00\\00ab")
-  (func (export "_start") (loop (drop (call $send (i32.const 0) (i32.const 0) (i32.const 16))) (br 0))))""" % CALLS
-
-
-def of_sends(script):
-    script.case("a million tries of a process that sends, of which the last datagram is delivered")
-    script.file("a.wasm", digits(module(ECHO)))
-    script.file("s", text("friday 1\nprocess a a.wasm\nrun 0 0 %d\ndeliver 0 %d\ndeliver 0 %d\n" % (TRIES, TRIES - 1, TRIES)))
-    script.run("record s", "Done", "a: %d events, running" % TRIES, "items: %d acted, 1 idle" % (TRIES + 1))
-    sent = [entry(clock, "send", (0, 0, 16), 16, AB) for clock in (2, 3)]
-    log = logs.held([BEGIN, sent[0]]) + logs.spelled([sent[1]], 2) * (TRIES - 2)
-    script.show("a.log", log)
-    script.run("replay a.wasm a.log", "Done", "a: %d events, running, log whole" % TRIES, counts_line(TRIES - 1, 0, 0, 0))
-    script.run("streams a.wasm a.log", "Done", "0 -> 0 stream 1: 2 written, 0 read", "streams: 1, 0 odd, 0 foreign")
 
 
 def table(script):
     script.title("More events than a schedule can make")
-    for part in (of_yields, of_takes, of_sends):
+    for part in (of_yields, of_datagrams):
         part(script)
