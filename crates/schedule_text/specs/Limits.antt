@@ -13,10 +13,6 @@ most_thread = 63
 abbrev pub most_datagram : ℕ
 most_datagram = 9223372036854775807
 
--- the greatest number of a signal, from 1
-abbrev pub most_signal : ℕ
-most_signal = 31
-
 -- How many run items a schedule may have, where each counts as often as it tries. So none tries more often.
 abbrev pub most_runs : ℕ
 most_runs = 1000000

@@ -4,10 +4,11 @@ ghost use Rattle.schedule_text.specs.Schedule.{tries as item_tries};
 ghost use Rattle.schedule_text.specs.Reading.{item_by, run_item, pair_in, deliver_item, bytes_in, inject_item, clock_item, random_item, signal_item, kill_item};
 
 use crate::fields::Fields;
-use crate::limits::{MOST_DATAGRAM, MOST_SIGNAL, MOST_THREAD};
+use crate::limits::{MOST_DATAGRAM, MOST_THREAD};
 use crate::word::{bytes, number, positive, process_number, times};
 use fri_bytes::Bytes;
 use fri_text::read_signed;
+use signal_points::MOST_SIGNAL;
 use std::alloc::{AllocError, Global};
 
 /// What happens next in a group. Processes are numbered from 0 in the order of their lines.

@@ -11,7 +11,7 @@
 //!   `clock P V`, `random P HEX`, `signal P S` or `kill P`.
 //!
 //! P is the number of a process, T is 0 to `MOST_THREAD`, N is 1 to `MOST_RUNS` after `run` and to
-//! `MOST_DATAGRAM` after `deliver`, S is 1 to `MOST_SIGNAL`, and V is a signed number of 64 bits. Numbers
+//! `MOST_DATAGRAM` after `deliver`, S is 1 to `MOST_SIGNAL` of `signal_points`, and V is a signed number of 64 bits. Numbers
 //! are written in decimal digits, with any zeros in front; a negative V has one minus. HEX is two hexadecimal digits of either
 //! case for each byte, or `-` for no bytes. `ProcessLine` says what NAME and MODULE may be.
 //!
@@ -35,7 +35,7 @@ pub use error::ScheduleError;
 pub use item::Item;
 pub use laws::{exact_outcome, one_schedule, spelled_or_bad, written_is_read};
 pub use limits::{
-    MOST_DATAGRAM, MOST_PROCESSES, MOST_ROUNDS, MOST_RUNS, MOST_SCHEDULE, MOST_SIGNAL, MOST_THREAD,
+    MOST_DATAGRAM, MOST_PROCESSES, MOST_ROUNDS, MOST_RUNS, MOST_SCHEDULE, MOST_THREAD,
 };
 pub use process::ProcessLine;
 pub use read::read_schedule;

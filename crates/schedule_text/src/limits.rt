@@ -9,9 +9,6 @@ pub const MOST_THREAD: u16 = 63;
 /// The greatest number of a datagram among those that a process sends, from 1.
 pub const MOST_DATAGRAM: u64 = 9_223_372_036_854_775_807;
 
-/// The greatest number of a signal, from 1.
-pub const MOST_SIGNAL: u8 = 31;
-
 /// How many run items a schedule may have, where each counts as often as it tries. So none tries more
 /// often.
 pub const MOST_RUNS: u64 = 1_000_000;
