@@ -8,6 +8,7 @@ pub mod Legality
 pub mod EachKind
 pub mod Outgoing
 pub mod Numbers
+pub mod Traffic
 pub mod OneEvent
 pub mod Worlds
 pub mod Over

@@ -1,7 +1,7 @@
 -- What a legal entry says is within the limits of its process.
 use Rattle.std.proofs.Common.{◌≡◌, ◌⊎◌, inl, inr, ℕ, zero, suc, ◌<◌, ◌≤◌, Bool, true, false, cond, ◌&&◌, ◌||◌, not, List, [], ◌∷◌, length, Option, Some, None, refl, ap, sym, ◌∙◌, arith}
 use Rattle.std.specs.Prelude.{◌==◌, nat_le, is_some, slice_get, option_and_then}
-use Rattle.std.proofs.lemmas.Bool.{and_parts, or_cases, eqb-true, leb-true, ne_eqb}
+use Rattle.std.proofs.lemmas.Bool.{and_parts, or_cases, eqb-true, leb-true}
 use Rattle.std.proofs.lemmas.Option.{same_Some}
 use Rattle.std.proofs.lemmas.Slice.Eq.{bytes_eq-Decides}
 use Rattle.call_table.specs.Table.{kind_numbered}
@@ -29,7 +29,7 @@ use Rattle.guest_process.proofs.EachKind.{drawn_tag, plain_tag}
 use Rattle.guest_process.proofs.Failing.{all_hold, unless_none}
 use Rattle.guest_process.proofs.Legality.{call_told, fits_at}
 use Rattle.guest_process.proofs.Outgoing.{outgoing_short}
-use Rattle.guest_process.proofs.Written.{not_minus_two, random_short, recv_short, try_recv_short}
+use Rattle.guest_process.proofs.Written.{not_minus_one, not_minus_two, random_short, recv_short, try_recv_short}
 
 -- ---- the thread and the signal
 
@@ -101,9 +101,6 @@ datagram S k c e room taken h =
     }
 
 -- ---- what comes in, kind by kind
-
-not_minus_one : (reply : ℕ) → reply ≤ 60000 → not (reply == minus_one) ≡ true
-not_minus_one reply low = ap not (ne_eqb reply minus_one (λ e. omega (arith, e, low)))
 
 -- where the world brings nothing, no answer does
 plain_need : (n : Need) (a : Answer) (possible : Bool) → (possible ≡ true → brings_nothing a.tag a.incoming ≡ true) → gives_answer n a possible ≡ true → brings_nothing a.tag a.incoming ≡ true

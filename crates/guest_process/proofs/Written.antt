@@ -36,6 +36,10 @@ range_short : (memory : Memory) (addr len : ℕ) → is_range memory addr len �
 unfolding is_range
 range_short memory addr len h = leb-true len 60000 (and_parts (nat_le len 60000) (is_inside memory addr len) h).0
 
+-- how many bytes may go out in a datagram
+pub send_short : (S : State) (c : Call) → kind_numbered c.kind ≡ Some Send → is_good c S.store.memory ≡ true → c.a2 ≤ 60000
+send_short S c e good = range_short S.store.memory c.a1 c.a2 (sym (good_is Send c S.store.memory e) ∙ good)
+
 -- how many bytes may come in
 pub random_short : (S : State) (c : Call) → kind_numbered c.kind ≡ Some Random → is_good c S.store.memory ≡ true → c.a1 ≤ 60000
 random_short S c e good = range_short S.store.memory c.a0 c.a1 (sym (good_is Random c S.store.memory e) ∙ good)
@@ -116,7 +120,10 @@ given_written TryRecv S t c a e w =
     good_written TryRecv S c a e (asked_good S c w) ∙ where_none S (a.reply == minus_two) (received c a S.store.memory)
 given_written k S t c a e w = plain_written k S c a e refl
 
--- an answer by the count of bytes is not -2
+-- an answer by the count of bytes is neither -1 nor -2
+pub not_minus_one : (reply : ℕ) → reply ≤ 60000 → not (reply == minus_one) ≡ true
+not_minus_one reply low = ap not (ne_eqb reply minus_one (λ e. omega (arith, e, low)))
+
 pub not_minus_two : (reply : ℕ) → reply ≤ 60000 → (reply == minus_two) ≡ false
 not_minus_two reply low = ne_eqb reply minus_two (λ e. omega (arith, e, low))
 

@@ -1,5 +1,5 @@
 -- How a call is answered: what process and call determine, and what the world gives.
-use Rattle.std.specs.Prelude.{ℕ, int_le, nat_le, nat_lt, ◌==◌, ◌&&◌, ◌||◌, ◌-◌, ◌%◌, ◌^◌, not, is_some, option_map, if◌then◌else◌, List, [], ◌∷◌, length, slice_get, Option, Some, None, Bool, true, false}
+use Rattle.std.specs.Prelude.{ℕ, int_le, nat_lt, ◌==◌, ◌&&◌, ◌||◌, ◌-◌, ◌%◌, ◌^◌, not, is_some, option_map, if◌then◌else◌, List, [], ◌∷◌, length, slice_get, Option, Some, None, Bool, true, false}
 use Rattle.std.specs.Int.{w32, w64, cast_signed}
 use Rattle.call_table.specs.declared.kind.Kind.{Kind}
 use Rattle.call_table.specs.declared.kind.Kind.TheVariants.{Begin, Exit, Note, Print, Now, SleepUntil, Random, Me, Send, Recv, TryRecv, Spawn, Yield, Join, Lock, Unlock, OnSignal, Thread}

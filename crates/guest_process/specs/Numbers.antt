@@ -1,10 +1,14 @@
--- What a legal entry says in numbers.
-use Rattle.std.specs.Prelude.{◌≡◌, ◌<◌, ◌≤◌, length, IsTrue, Some, None}
+-- What a legal entry says in numbers, of datagrams and of random bytes.
+use Rattle.std.specs.Prelude.{◌≡◌, ◌≢◌, ◌↔◌, ◌⊎◌, ℕ, ◌<◌, ◌≤◌, length, IsTrue, Some, None}
+use Rattle.call_table.specs.Table.{kind_numbered}
+use Rattle.call_table.specs.declared.kind.Kind.{Kind}
+use Rattle.call_table.specs.declared.kind.Kind.TheVariants.{Random, Send, Recv, TryRecv}
 use Rattle.coop_threads.specs.Crew.{most_threads}
 use Rattle.lamport_tag.specs.declared.Tag.{Tag}
 use Rattle.lamport_tag.specs.Tag.{is_sendable, next_clock_of}
 use Rattle.lib_calls.specs.declared.entry.Entry.{Entry}
-use Rattle.lib_calls.specs.Traffic.{is_taken}
+use Rattle.lib_calls.specs.Effects.{is_good, minus_two}
+use Rattle.lib_calls.specs.Traffic.{drawn, is_sent, is_taken}
 use Rattle.signal_points.specs.Signals.{most_signal}
 use Rattle.guest_process.specs.Fits.{StateFits}
 use Rattle.guest_process.specs.Legal.{reason}
@@ -25,3 +29,19 @@ pub record HasNumbers (S : State) (e : Entry) : Type 0 where
 
 abbrev pub LegalNumbers : Type 0
 LegalNumbers = (S : State) (e : Entry) → StateFits S → reason S e ≡ None → HasNumbers S e
+
+-- the entry's call is of this kind, and its arguments are good in the memory of the process
+abbrev pub CallsWell : Kind → State → Entry → Type 0
+CallsWell kind S e = (kind_numbered e.call.kind ≡ Some kind) × IsTrue (is_good e.call S.store.memory)
+
+-- What goes into the group is what `send` with good arguments sends to one of its processes. A datagram is taken by `recv`
+-- with good arguments, and by `try_recv` with good arguments unless it says that none is there. Random bytes are drawn by
+-- `random` with good arguments alone, as many as it asks for.
+pub record HasTraffic (S : State) (e : Entry) : Type 0 where
+  pub sent : (count : ℕ) → IsTrue (is_sent count e) ↔ (CallsWell Send S e × (e.call.a0 < count))
+  pub taken : IsTrue (is_taken e) ↔ (CallsWell Recv S e ⊎ (CallsWell TryRecv S e × (e.reply ≢ minus_two)))
+  pub draws : CallsWell Random S e → drawn e ≡ e.call.a1
+  pub draws_none : ¬ CallsWell Random S e → drawn e ≡ 0
+
+abbrev pub LegalTraffic : Type 0
+LegalTraffic = (S : State) (e : Entry) → StateFits S → reason S e ≡ None → HasTraffic S e

@@ -1,7 +1,7 @@
 // The laws over one event, as calls that do nothing.
 ghost use Rattle.guest_process.specs.Crews.{LockKept, OnlySpawnAdds, OtherThreadsStay};
 ghost use Rattle.guest_process.specs.Marks.{UnmarkedStays};
-ghost use Rattle.guest_process.specs.Numbers.{LegalNumbers};
+ghost use Rattle.guest_process.specs.Numbers.{LegalNumbers, LegalTraffic};
 ghost use Rattle.guest_process.specs.OneEvent.{IsKept, IsKeptSound, IsStarted, OneEvent, Possible, Rises, WorldIsThere};
 
 use guest_memory::stamps_no_later;
@@ -30,6 +30,12 @@ pub fn possible()
 /// What a legal entry says is within the limits of its process, and within those of the datagrams of its group.
 pub fn legal_numbers()
     ensures { LegalNumbers }
+{}
+
+/// A legal entry tells that a datagram was sent or taken, or that random bytes were drawn, exactly where its call has good
+/// arguments: what is read off the reply alone, without the memory, is so.
+pub fn legal_traffic()
+    ensures { LegalTraffic }
 {}
 
 /// With a legal event the clock of a process rises, also above that of the datagram that the event took,

@@ -32,7 +32,8 @@ pub use divergence::Divergence;
 pub use end::End;
 pub use judge::ends_process;
 pub use laws::{
-    kept, legal_numbers, lock_kept, one_event, others_stay, possible, rises, unmarked_stays,
+    kept, legal_numbers, legal_traffic, lock_kept, one_event, others_stay, possible, rises,
+    unmarked_stays,
 };
 pub use need::Need;
 pub use process::Process;
