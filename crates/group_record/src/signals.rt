@@ -1,6 +1,7 @@
 // The signal that an event delivers.
 ghost use Rattle.std.specs.Prelude.{◌≡◌, ◌<◌, ◌≤◌};
 ghost use Rattle.lib_calls.specs.Answer.{Answer};
+ghost use Rattle.signal_points.specs.Signals.{most_signal};
 ghost use Rattle.guest_process.specs.Live.{is_ready as is_ready_of, lowest};
 ghost use Rattle.group_world.specs.World.{has_pending, process_count};
 ghost use Rattle.group_record.specs.Around.{handlers_at, signal_with};
@@ -8,6 +9,7 @@ ghost use Rattle.group_record.specs.Around.{handlers_at, signal_with};
 use group_world::World;
 use guest_process::{Process, ends_process};
 use lib_calls::{Call, Kind};
+use signal_points::MOST_SIGNAL;
 
 /// The signal that is delivered with the answer to a call of the thread of process p, whatever the answer
 /// is: the lowest that is pending and then has a handler, or 0. None is where the call ends the process.
@@ -33,12 +35,12 @@ pub(crate) fn signal_after(
 // The lowest signal that is pending and has a handler after the answer, or 0. At nearly all events none is pending.
 fn lowest_ready(process: &Process<'_>, thread: u16, world: &World, p: u32) -> u8
     requires { p < process_count world.now }
-    ensures { (a : Answer) → result ≡ lowest (is_ready_of (handlers_at process.now thread a) (has_pending world.now p)) 31 1 }
+    ensures { (a : Answer) → result ≡ lowest (is_ready_of (handlers_at process.now thread a) (has_pending world.now p)) most_signal 1 }
 {
     if world.has_no_signal(p) {
         return 0;
     }
-    for s in 1..32 {
+    for s in 1..MOST_SIGNAL + 1 {
         if is_ready(process, thread, world, p, s) {
             return s;
         }
@@ -50,7 +52,7 @@ fn lowest_ready(process: &Process<'_>, thread: u16, world: &World, p: u32) -> u8
 fn is_ready(process: &Process<'_>, thread: u16, world: &World, p: u32, s: u8) -> bool
     requires process { p < process_count world.now }
     requires first { 1 ≤ s }
-    requires last { s ≤ 31 }
+    requires last { s ≤ most_signal }
     ensures { (a : Answer) → result ≡ is_ready_of (handlers_at process.now thread a) (has_pending world.now p) s }
 {
     world.is_pending(p, s) && process.handles_after(thread, s)

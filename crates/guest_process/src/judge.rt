@@ -16,7 +16,7 @@ use crate::waiting::Waiting;
 use crate::world::{brings_nothing, is_drawn, is_empty, takes_datagram};
 use lamport_tag::is_next_clock;
 use lib_calls::{Call, EntryView, Kind, REFUSED, good_arguments, is_outgoing};
-use signal_points::Handlers;
+use signal_points::{Handlers, MOST_SIGNAL};
 
 impl<'m> Parts<'m> {
     /// What the answer to the thread's pending call depends on.
@@ -156,5 +156,6 @@ pub fn ends_process(kind: Kind) -> bool
 fn is_handled(kind: Kind, handlers: &Handlers, signal: u8) -> bool
     ensures { result ≡ is_handled kind handlers.now signal }
 {
-    signal == 0 || (!ends_process(kind) && (signal <= 31 && handler(handlers, signal).is_some()))
+    signal == 0
+        || (!ends_process(kind) && (signal <= MOST_SIGNAL && handler(handlers, signal).is_some()))
 }
