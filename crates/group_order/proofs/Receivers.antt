@@ -1,13 +1,28 @@
--- The map of the sends, through a change of the tree that keeps it.
-use Rattle.std.proofs.Common.{◌≡◌, ℕ, Bool, cond, List, [], ◌∷◌, Option, Some, refl, sym, ap, ◌∙◌}
+-- The map of the sends: what a further one changes, also through the tree that keeps it.
+use Rattle.std.proofs.Common.{◌≡◌, ◌==◌, ◌&&◌, ℕ, Bool, cond, if◌then◌else◌, List, [], ◌∷◌, Option, Some, refl, sym, ap, ◌∙◌, arith}
+use Rattle.std.proofs.lemmas.Bool.Decides.{nat_tests}
 use Rattle.std.specs.Ordering.{is_eq, eq_by_cmp, nat_cmp}
-use Rattle.std.specs.Cmp.{eq_by_cmp_equiv}
+use Rattle.std.specs.Cmp.{IsTotalOrder, eq_by_cmp_equiv, nat_cmp_total, on_total, then_total, tied_then}
 use Rattle.std.specs.Map.{lookup}
 use Rattle.std.specs.BTreeMap.{is_at}
 use Rattle.std.specs.FinMap as map
 use Rattle.std.specs.FinMap.{IsAntisymmetric, find, nat_cmp-IsAntisymmetric}
 use Rattle.std.proofs.lemmas.Map.Lookups.{exact_pairs}
-use Rattle.group_order.specs.Sends.{by_sender, by_sender_total}
+use Rattle.group_order.specs.Sends.{FindsOneMore, Sends, by_sender}
+
+by_sender_total : IsTotalOrder by_sender
+by_sender_total = then_total (on_total (λ (x : ℕ × ℕ). x.0) nat_cmp_total) (on_total (λ (x : ℕ × ℕ). x.1) nat_cmp_total)
+
+same_number : (a b : ℕ) → is_eq (nat_cmp b a) ≡ (a == b)
+same_number a b = grind (arith, nat_tests)
+
+same_sender : (p clock q at : ℕ) → eq_by_cmp by_sender (q, at) (p, clock) ≡ ((p == q) && (clock == at))
+same_sender p clock q at = sym (tied_then (nat_cmp q p) (nat_cmp at clock)) ∙ (λ i. same_number p q i && same_number clock at i)
+
+pub finds_one_more : FindsOneMore
+finds_one_more sends p clock to q at =
+    map.get-insert by_sender_total sends (p, clock) to (q, at)
+    ∙ ap (λ (b : Bool). if b then Some to else map.get sends (q, at)) (same_sender p clock q at)
 
 antisymmetric : IsAntisymmetric by_sender
 antisymmetric = exact_pairs nat_cmp nat_cmp nat_cmp-IsAntisymmetric nat_cmp-IsAntisymmetric

@@ -1,5 +1,6 @@
-// The law of the order, as a call that does nothing.
+// The laws of the order and of the sends, as calls that do nothing.
 ghost use Rattle.group_order.specs.Order.{AreMerged};
+ghost use Rattle.group_order.specs.Sends.{FindsOneMore};
 
 /// Where the clocks of each node's events rise, the order of all of them is the one list that is sorted by
 /// clock and then by node, and that has of each node its events, each after the other. Its first event is
@@ -7,4 +8,9 @@ ghost use Rattle.group_order.specs.Order.{AreMerged};
 /// is left stands behind it.
 pub fn merges<A>()
     ensures { AreMerged A }
+{}
+
+/// With one send more, its receiver is found at its process and clock, and at each other what was found before.
+pub fn finds_one_more()
+    ensures { FindsOneMore }
 {}

@@ -4,13 +4,14 @@
 //! clock of the next event of each node, where it has one; it gives the node that comes next (`specs/Heads`). They see a
 //! `SendIndex` as a map from the number and the clock of a sender to the receiver (`specs/Sends`). The law `merges` says of
 //! events of any type, whose clocks rise node by node, that the order is the only sorted list that has each node's events in
-//! their own order, and that taking the first event of the node that comes next, again and again, makes it.
+//! their own order, and that taking the first event of the node that comes next, again and again, makes it; the law
+//! `finds_one_more` says what one send more changes.
 #![tactic(auto)]
 
 mod laws;
 mod merge;
 mod send_index;
 
-pub use laws::merges;
+pub use laws::{finds_one_more, merges};
 pub use merge::Merge;
 pub use send_index::SendIndex;

@@ -9,6 +9,7 @@ use Rattle.guest_process.specs.OneEvent.{IsKept, Rises}
 use Rattle.proc_replay.specs.Course.{ahead}
 use Rattle.proc_replay.specs.Replaying.{Replaying}
 use Rattle.group_order.specs.Order.{NodeEvent, events_from, insert_event, node_event, precedes, sort_events}
+use Rattle.group_order.specs.Sends.{FindsOneMore}
 use Rattle.group_state.specs.declared.report.ReportLine.{ReportLine}
 use Rattle.group_state.specs.Place.{AreParts, PartsFit, entry_clock, events, group_count}
 use Rattle.group_state.specs.Report.{accepted_in, all_accepted, report_line}
@@ -59,23 +60,23 @@ pub record Reports (start rest : List Replaying) (t : Tallying) (lines : List Re
   pub told : lines ++ map report_line rest ≡ map report_line start
   pub fresh : All (λ r. r.state.events ≡ 0) rest
 
-parts_new : Rises → IsKept → (start : List Replaying) → AreParts start → PartsFit start → AreNew (nothing_of (group_count start)) (all_accepted start)
-parts_new rises kept start parts fits = all_new rises kept (group_count start) start parts.ascends (recursion_from_All (λ r. StateFits r.state) start fits)
+parts_new : FindsOneMore → Rises → IsKept → (start : List Replaying) → AreParts start → PartsFit start → AreNew (nothing_of (group_count start)) (all_accepted start)
+parts_new finds rises kept start parts fits = all_new finds rises kept (group_count start) start parts.ascends (recursion_from_All (λ r. StateFits r.state) start fits)
 
-pub reports_first : Rises → IsKept → (start : List Replaying) → AreParts start → PartsFit start → length (events start) < 2 ^ 64 → Reports start start (nothing_of (group_count start)) []
-reports_first rises kept start parts fits few =
+pub reports_first : FindsOneMore → Rises → IsKept → (start : List Replaying) → AreParts start → PartsFit start → length (events start) < 2 ^ 64 → Reports start start (nothing_of (group_count start)) []
+reports_first finds rises kept start parts fits few =
     let many = as_many start in record {
       tallied = refl;
-      new = parts_new rises kept start parts fits;
+      new = parts_new finds rises kept start parts fits;
       room = has_room (all_accepted start) (nothing_of (group_count start)) (omega (arith, many, few)) (omega (arith, many, few));
       told = refl;
       fresh = parts.fresh;
     }
 
-pub reports_begin : Rises → IsKept → (start first items : List Replaying) (count : ℕ) (t : Tallying) (lines : List ReportLine) → first ≡ start → items ≡ first → count ≡ group_count first
+pub reports_begin : FindsOneMore → Rises → IsKept → (start first items : List Replaying) (count : ℕ) (t : Tallying) (lines : List ReportLine) → first ≡ start → items ≡ first → count ≡ group_count first
     → t ≡ nothing_of count → lines ≡ [] → AreParts first → PartsFit first → length (events first) < 2 ^ 64 → Reports start items t lines
-reports_begin rises kept start first items count t lines is_start is_items is_count is_t is_lines parts fits few =
-    let begun = reports_first rises kept first parts fits few in
+reports_begin finds rises kept start first items count t lines is_start is_items is_count is_t is_lines parts fits few =
+    let begun = reports_first finds rises kept first parts fits few in
     subst (λ (s : List Replaying). Reports s items t lines) is_start
     (subst (λ (rs : List Replaying). Reports first rs t lines) (sym is_items)
     (subst (λ (n : Tallying). Reports first first n lines) (sym (is_t ∙ ap nothing_of is_count))
@@ -104,11 +105,11 @@ reports_more start rest r t new lines line k counts said =
     })
 
 -- at the end all logs are counted
-pub all_counted : Rises → IsKept → (start first items : List Replaying) (t : Tallying) (lines : List ReportLine) → first ≡ start → items ≡ [] → AreParts first → PartsFit first
+pub all_counted : FindsOneMore → Rises → IsKept → (start first items : List Replaying) (t : Tallying) (lines : List ReportLine) → first ≡ start → items ≡ [] → AreParts first → PartsFit first
     → Reports start items t lines → counts_of t ≡ tally (group_count start) (all_accepted start)
-all_counted rises kept start first items t lines is_start none parts fits k =
+all_counted finds rises kept start first items t lines is_start none parts fits k =
     let counts : counts_of (with_all_accepted (nothing_of (group_count start)) (all_accepted start)) ≡ tally (group_count start) (all_accepted start) =
-    counted (group_count start) (all_accepted start) (subst (λ (s : List Replaying). AreNew (nothing_of (group_count s)) (all_accepted s)) is_start (parts_new rises kept first parts fits)) in
+    counted finds (group_count start) (all_accepted start) (subst (λ (s : List Replaying). AreNew (nothing_of (group_count s)) (all_accepted s)) is_start (parts_new finds rises kept first parts fits)) in
     ap counts_of (ap (λ (rs : List Replaying). with_all_accepted t (all_accepted rs)) (sym none) ∙ k.tallied) ∙ counts
 
 pub all_lines : (start items : List Replaying) (t : Tallying) (lines : List ReportLine) → items ≡ [] → Reports start items t lines → lines ≡ map report_line start

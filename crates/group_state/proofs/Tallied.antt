@@ -9,7 +9,7 @@ use Rattle.call_table.specs.Table.{kind_numbered}
 use Rattle.lamport_tag.specs.declared.Tag.{Tag}
 use Rattle.lib_calls.specs.Traffic.{is_sent, is_taken, sends_as}
 use Rattle.lib_calls.specs.declared.entry.Entry.{Entry}
-use Rattle.group_order.specs.Sends.{Sends, by_sender, receiver-insert}
+use Rattle.group_order.specs.Sends.{FindsOneMore, Sends, by_sender}
 use Rattle.group_state.specs.declared.tally.GroupCounts.{GroupCounts}
 use Rattle.group_state.specs.declared.tally.Receipt.{Receipt}
 use Rattle.group_state.specs.Tally.{Accepted, accepted_count, is_receipt, is_send, is_send_of, is_unmatched, is_unmatched_by, takes_untagged, tally}
@@ -159,50 +159,51 @@ and_false : (x y : Bool) → (x && (false && y)) ≡ false
 and_false true y = refl
 and_false false y = refl
 
--- where the event sends
-sent_here : (t : Tallying) (a : Accepted) (p : ℕ) (tag : Tag) → IsNew t a
-    → is_to p (map.get (map.insert t.sent (a.process, a.entry.clock) a.entry.call.a0) (tag.sender, tag.clock))
-    ≡ (is_to p (map.get t.sent (tag.sender, tag.clock)) || (((a.process == tag.sender) && (a.entry.clock == tag.clock)) && (true && (a.entry.call.a0 == p))))
-sent_here t a p tag new =
-    let to = a.entry.call.a0 in
-    ap (is_to p) (receiver-insert t.sent a.process a.entry.clock to tag.sender tag.clock)
-    ∙ by_key ((a.process == tag.sender) && (a.entry.clock == tag.clock)) refl
-  where
-    known : a.process ≡ tag.sender → a.entry.clock ≡ tag.clock → map.get t.sent (tag.sender, tag.clock) ≡ None
-    known process clock = ap (λ (n : ℕ). map.get t.sent (n, tag.clock)) (sym process) ∙ ap (λ (n : ℕ). map.get t.sent (a.process, n)) (sym clock) ∙ new
+module _ (finds : FindsOneMore) where
+  -- where the event sends
+  sent_here : (t : Tallying) (a : Accepted) (p : ℕ) (tag : Tag) → IsNew t a
+      → is_to p (map.get (map.insert t.sent (a.process, a.entry.clock) a.entry.call.a0) (tag.sender, tag.clock))
+      ≡ (is_to p (map.get t.sent (tag.sender, tag.clock)) || (((a.process == tag.sender) && (a.entry.clock == tag.clock)) && (true && (a.entry.call.a0 == p))))
+  sent_here t a p tag new =
+      let to = a.entry.call.a0 in
+      ap (is_to p) (finds t.sent a.process a.entry.clock to tag.sender tag.clock)
+      ∙ by_key ((a.process == tag.sender) && (a.entry.clock == tag.clock)) refl
+    where
+      known : a.process ≡ tag.sender → a.entry.clock ≡ tag.clock → map.get t.sent (tag.sender, tag.clock) ≡ None
+      known process clock = ap (λ (n : ℕ). map.get t.sent (n, tag.clock)) (sym process) ∙ ap (λ (n : ℕ). map.get t.sent (a.process, n)) (sym clock) ∙ new
 
-    process_of : ((a.process == tag.sender) && (a.entry.clock == tag.clock)) ≡ true → a.process ≡ tag.sender
-    process_of test = grind (arith, nat_tests)
+      process_of : ((a.process == tag.sender) && (a.entry.clock == tag.clock)) ≡ true → a.process ≡ tag.sender
+      process_of test = grind (arith, nat_tests)
 
-    clock_of : ((a.process == tag.sender) && (a.entry.clock == tag.clock)) ≡ true → a.entry.clock ≡ tag.clock
-    clock_of test = grind (arith, nat_tests)
+      clock_of : ((a.process == tag.sender) && (a.entry.clock == tag.clock)) ≡ true → a.entry.clock ≡ tag.clock
+      clock_of test = grind (arith, nat_tests)
 
-    by_key : (b : Bool) → ((a.process == tag.sender) && (a.entry.clock == tag.clock)) ≡ b
-        → is_to p (cond b (Some a.entry.call.a0) (map.get t.sent (tag.sender, tag.clock))) ≡ (is_to p (map.get t.sent (tag.sender, tag.clock)) || (b && (true && (a.entry.call.a0 == p))))
-    by_key true test = ap (λ (o : Option ℕ). is_to p o || (a.entry.call.a0 == p)) (sym (known (process_of test) (clock_of test)))
-    by_key false test = or_false (is_to p (map.get t.sent (tag.sender, tag.clock)))
+      by_key : (b : Bool) → ((a.process == tag.sender) && (a.entry.clock == tag.clock)) ≡ b
+          → is_to p (cond b (Some a.entry.call.a0) (map.get t.sent (tag.sender, tag.clock))) ≡ (is_to p (map.get t.sent (tag.sender, tag.clock)) || (b && (true && (a.entry.call.a0 == p))))
+      by_key true test = ap (λ (o : Option ℕ). is_to p o || (a.entry.call.a0 == p)) (sym (known (process_of test) (clock_of test)))
+      by_key false test = or_false (is_to p (map.get t.sent (tag.sender, tag.clock)))
 
-matched_by : (t : Tallying) (a : Accepted) (p : ℕ) (tag : Tag) (b : Bool) → IsNew t a
-    → is_to p (map.get (send_by b t a).sent (tag.sender, tag.clock))
-    ≡ (is_to p (map.get t.sent (tag.sender, tag.clock)) || (((a.process == tag.sender) && (a.entry.clock == tag.clock)) && (b && (a.entry.call.a0 == p))))
-matched_by t a p tag true new = sent_here t a p tag new
-matched_by t a p tag false new =
-    or_false (is_to p (map.get t.sent (tag.sender, tag.clock)))
-    ∙ ap (λ (b : Bool). is_to p (map.get t.sent (tag.sender, tag.clock)) || b) (sym (and_false ((a.process == tag.sender) && (a.entry.clock == tag.clock)) (a.entry.call.a0 == p)))
+  matched_by : (t : Tallying) (a : Accepted) (p : ℕ) (tag : Tag) (b : Bool) → IsNew t a
+      → is_to p (map.get (send_by b t a).sent (tag.sender, tag.clock))
+      ≡ (is_to p (map.get t.sent (tag.sender, tag.clock)) || (((a.process == tag.sender) && (a.entry.clock == tag.clock)) && (b && (a.entry.call.a0 == p))))
+  matched_by t a p tag true new = sent_here t a p tag new
+  matched_by t a p tag false new =
+      or_false (is_to p (map.get t.sent (tag.sender, tag.clock)))
+      ∙ ap (λ (b : Bool). is_to p (map.get t.sent (tag.sender, tag.clock)) || b) (sym (and_false ((a.process == tag.sender) && (a.entry.clock == tag.clock)) (a.entry.call.a0 == p)))
 
-matched_one : (t : Tallying) (a : Accepted) (p : ℕ) (tag : Tag) → IsNew t a
-    → is_to p (map.get (with_accepted t a).sent (tag.sender, tag.clock)) ≡ (is_to p (map.get t.sent (tag.sender, tag.clock)) || is_send_of t.count p tag a)
-matched_one t a p tag new = ap (λ (s : Sends). is_to p (map.get s (tag.sender, tag.clock))) (adds t a).sent ∙ matched_by t a p tag (is_send t.count a) new
+  matched_one : (t : Tallying) (a : Accepted) (p : ℕ) (tag : Tag) → IsNew t a
+      → is_to p (map.get (with_accepted t a).sent (tag.sender, tag.clock)) ≡ (is_to p (map.get t.sent (tag.sender, tag.clock)) || is_send_of t.count p tag a)
+  matched_one t a p tag new = ap (λ (s : Sends). is_to p (map.get s (tag.sender, tag.clock))) (adds t a).sent ∙ matched_by t a p tag (is_send t.count a) new
 
--- the send that a tag names is among those that were counted before and these
-matched : (events : List Accepted) (t : Tallying) (p : ℕ) (tag : Tag) → AreNew t events
-    → is_to p (map.get (with_all_accepted t events).sent (tag.sender, tag.clock)) ≡ (is_to p (map.get t.sent (tag.sender, tag.clock)) || list_any (is_send_of t.count p tag) events)
-matched [] t p tag new = or_false (is_to p (map.get t.sent (tag.sender, tag.clock)))
-matched (a ∷ events) t p tag new =
-    matched events (with_accepted t a) p tag new.1
-    ∙ ap (λ (n : ℕ). is_to p (map.get (with_accepted t a).sent (tag.sender, tag.clock)) || list_any (is_send_of n p tag) events) (adds t a).count
-    ∙ ap (λ (b : Bool). b || list_any (is_send_of t.count p tag) events) (matched_one t a p tag new.0)
-    ∙ or_assoc (is_to p (map.get t.sent (tag.sender, tag.clock))) (is_send_of t.count p tag a) (list_any (is_send_of t.count p tag) events)
+  -- the send that a tag names is among those that were counted before and these
+  matched : (events : List Accepted) (t : Tallying) (p : ℕ) (tag : Tag) → AreNew t events
+      → is_to p (map.get (with_all_accepted t events).sent (tag.sender, tag.clock)) ≡ (is_to p (map.get t.sent (tag.sender, tag.clock)) || list_any (is_send_of t.count p tag) events)
+  matched [] t p tag new = or_false (is_to p (map.get t.sent (tag.sender, tag.clock)))
+  matched (a ∷ events) t p tag new =
+      matched events (with_accepted t a) p tag new.1
+      ∙ ap (λ (n : ℕ). is_to p (map.get (with_accepted t a).sent (tag.sender, tag.clock)) || list_any (is_send_of n p tag) events) (adds t a).count
+      ∙ ap (λ (b : Bool). b || list_any (is_send_of t.count p tag) events) (matched_one t a p tag new.0)
+      ∙ or_assoc (is_to p (map.get t.sent (tag.sender, tag.clock))) (is_send_of t.count p tag a) (list_any (is_send_of t.count p tag) events)
 
 -- ---- the unmatched
 
@@ -233,15 +234,16 @@ unmatched_all count all sent (a ∷ events) known = unmatched_one count all sent
 same_counts : (a b c d e f g h : ℕ) → a ≡ e → b ≡ f → c ≡ g → d ≡ h → ◌≡◌ {A = GroupCounts} (record { sends = a; receives = b; unmatched = c; untagged = d }) (record { sends = e; receives = f; unmatched = g; untagged = h })
 same_counts a b c d e f g h p q r s = rw (p, q, r, s) refl
 
--- events that were new where they came
-pub counted : (count : ℕ) (events : List Accepted) → AreNew (nothing_of count) events → counts_of (with_all_accepted (nothing_of count) events) ≡ tally count events
-counted count events new =
-    let t = with_all_accepted (nothing_of count) events in
-    let known : (p : ℕ) (tag : Tag) → is_to p (map.get t.sent (tag.sender, tag.clock)) ≡ list_any (is_send_of count p tag) events =
-    λ p tag. matched events (nothing_of count) p tag new ∙ ap (λ (o : Option ℕ). is_to p o || list_any (is_send_of count p tag) events) (map.get-empty by_sender (tag.sender, tag.clock)) in
-    let taken : t.taken ≡ receipts events = all_taken events (nothing_of count) in
-    same_counts t.sends (length t.taken) (unmatched_in t.sent t.taken) t.untagged _ _ _ _
-    (let n = all_sends events (nothing_of count) in omega (arith, n))
-    (ap length taken ∙ length_receipts events)
-    (ap (unmatched_in t.sent) taken ∙ unmatched_all count events t.sent events known)
-    (let n = all_untagged events (nothing_of count) in omega (arith, n))
+module _ (finds : FindsOneMore) where
+  -- events that were new where they came
+  pub counted : (count : ℕ) (events : List Accepted) → AreNew (nothing_of count) events → counts_of (with_all_accepted (nothing_of count) events) ≡ tally count events
+  counted count events new =
+      let t = with_all_accepted (nothing_of count) events in
+      let known : (p : ℕ) (tag : Tag) → is_to p (map.get t.sent (tag.sender, tag.clock)) ≡ list_any (is_send_of count p tag) events =
+      λ p tag. matched finds events (nothing_of count) p tag new ∙ ap (λ (o : Option ℕ). is_to p o || list_any (is_send_of count p tag) events) (map.get-empty by_sender (tag.sender, tag.clock)) in
+      let taken : t.taken ≡ receipts events = all_taken events (nothing_of count) in
+      same_counts t.sends (length t.taken) (unmatched_in t.sent t.taken) t.untagged _ _ _ _
+      (let n = all_sends events (nothing_of count) in omega (arith, n))
+      (ap length taken ∙ length_receipts events)
+      (ap (unmatched_in t.sent) taken ∙ unmatched_all count events t.sent events known)
+      (let n = all_untagged events (nothing_of count) in omega (arith, n))

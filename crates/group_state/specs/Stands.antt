@@ -1,5 +1,5 @@
 -- Where groups stand.
-use Rattle.std.specs.Prelude.{◌≡◌, ℕ, suc, ◌≤◌, List, [], ◌∷◌, All, length, option_map, take, Option, Some, None}
+use Rattle.std.specs.Prelude.{◌≡◌, ℕ, suc, ◌≤◌, List, [], ◌∷◌, All, length, option_map, take}
 use Rattle.guest_memory.specs.Memory.{IsMemory}
 use Rattle.lib_calls.specs.declared.entry.Entry.{Entry}
 use Rattle.group_order.specs.Order.{NodeEvent}
@@ -7,7 +7,7 @@ use Rattle.proc_replay.specs.Course.{turns}
 use Rattle.proc_replay.specs.Replaying.{Replaying}
 use Rattle.group_state.specs.declared.stand.Stand.{Stand}
 use Rattle.group_state.specs.Moves.{event_of, last_event_of}
-use Rattle.group_state.specs.Place.{Place, events, node_event_count}
+use Rattle.group_state.specs.Place.{events, node_event_count}
 
 -- each replay from this node on, after as many turns as it has events among these
 abbrev pub parts_from : ℕ → List Replaying → List (NodeEvent Entry) → List Replaying

@@ -7,6 +7,7 @@ ghost use Rattle.group_state.specs.Tallying.{AreNew, HasTallyRoomFor, with_all_a
 use crate::part::{tally_events, verdict};
 use crate::tally::Tally;
 use fri_bytes::Bytes;
+use group_order::finds_one_more;
 use guest_process::{Divergence, End, kept, rises};
 use proc_replay::{Replayer, replays};
 use std::alloc::{AllocError, Global};
@@ -90,6 +91,7 @@ pub fn report_of(alloc: Global, parts: Vec<Replayer<'_, '_>>) -> Result<Report, 
     requires { AreParts parts.items }
     ensures { IfOk result (IsReport parts.entry.items) }
 {
+    finds_one_more();
     replays();
     rises();
     kept();
