@@ -4,7 +4,8 @@ use Rattle.call_log.specs.Head.{head_bytes}
 use Rattle.call_log.specs.Laws.{IsNewer}
 use Rattle.call_log.specs.Log.{entries_of, rest_of, rewritten}
 use Rattle.guest_process.specs.Fits.{StateFits}
-use Rattle.guest_process.specs.Replay.{Whole, accepted, state_after, verdict}
+use Rattle.guest_process.specs.declared.verdict.Verdict.TheVariants.{Whole}
+use Rattle.guest_process.specs.Replay.{accepted, state_after, verdict}
 use Rattle.proc_replay.specs.AtHead.{IsAtHead}
 use Rattle.proc_replay.specs.Course.{ahead}
 use Rattle.proc_replay.specs.Replaying.{Replaying}

@@ -4,15 +4,15 @@ use Rattle.lib_calls.specs.Traffic.{prints}
 use Rattle.lib_calls.specs.declared.entry.Entry.{Entry}
 use Rattle.call_log.specs.Log.{entries_of, rest_of}
 use Rattle.guest_process.specs.declared.end.End.{End}
-use Rattle.guest_process.specs.Replay.{Verdict, accepted, last_state, reach, verdict, verdict_of}
+use Rattle.guest_process.specs.declared.verdict.Verdict.{Verdict}
+use Rattle.guest_process.specs.Replay.{accepted, last_state, reach, verdict, verdict_of}
 use Rattle.guest_process.specs.State.{State}
 use Rattle.proc_replay.specs.Course.{AreTurns, Outcome, Tells, ahead, outcome_at}
 use Rattle.proc_replay.specs.Replaying.{Replaying, turn}
 use Rattle.group_state.specs.declared.image.Image.{Image}
 use Rattle.group_state.specs.declared.report.ReportLine.{ReportLine}
-use Rattle.group_state.specs.declared.report.Verdict.{Verdict as Said}
 use Rattle.group_state.specs.Image.{image_of, left_memory, left_print}
-use Rattle.group_state.specs.Report.{EndsAt, report_line, said_of}
+use Rattle.group_state.specs.Report.{EndsAt, report_line}
 
 -- the replay of these entries from a first state comes to the state T and this verdict
 pub record Comes (S T : State) (es : List Entry) (rest : List ℕ) (v : Verdict) : Type 0 where
@@ -34,12 +34,12 @@ pub comes : AreTurns → (first last : Replaying) (v : Verdict) → first.state.
 comes turns first last v fresh ends tells =
     comes_at first.state last.state (entries_of first.left) (rest_of first.left) (rest_of last.left) v fresh (sym ends.same ∙ (turns last).comes v tells)
 
-same_line : (n m : List ℕ) (a b : ℕ) (c d : End) (e f : Said) → n ≡ m → a ≡ b → c ≡ d → e ≡ f
+same_line : (n m : List ℕ) (a b : ℕ) (c d : End) (e f : Verdict) → n ≡ m → a ≡ b → c ≡ d → e ≡ f
     → ◌≡◌ {A = ReportLine} (record { name = n; events = a; end = c; verdict = e }) (record { name = m; events = b; end = d; verdict = f })
 same_line n m a b c d e f p q r s = rw (p, q, r, s) refl
 
-pub line_so : AreTurns → (first last : Replaying) (v : Verdict) (name : List ℕ) (count : ℕ) (end : End) (said : Said) → first.state.events ≡ 0 → EndsAt first last
-    → Tells (turn last) last.left.bytes v → name ≡ last.head.name → count ≡ last.state.events → end ≡ last.state.end → said ≡ said_of v
+pub line_so : AreTurns → (first last : Replaying) (v : Verdict) (name : List ℕ) (count : ℕ) (end : End) (said : Verdict) → first.state.events ≡ 0 → EndsAt first last
+    → Tells (turn last) last.left.bytes v → name ≡ last.head.name → count ≡ last.state.events → end ≡ last.state.end → said ≡ v
     → ◌≡◌ {A = ReportLine} (record { name = name; events = count; end = end; verdict = said }) (report_line first)
 line_so turns first last v name count end said fresh ends tells is_name is_count is_end is_said =
     let c = comes turns first last v fresh ends tells in
@@ -47,7 +47,7 @@ line_so turns first last v name count end said fresh ends tells is_name is_count
     (is_name ∙ ap (λ h. h.name) ends.head)
     (is_count ∙ c.events)
     (is_end ∙ ap (λ (S : State). S.end) c.last)
-    (is_said ∙ ap said_of c.verdict)
+    (is_said ∙ c.verdict)
 
 -- ---- what a process leaves
 

@@ -4,20 +4,20 @@ use Rattle.std.specs.Prelude.{option_map, slice_get}
 use Rattle.std.proofs.lemmas.List.{take_all}
 use Rattle.std.proofs.lemmas.Option.{get_or_from_slice_get, same_Some, slice_get-get_or, slice_get-map, slice_get_past, slice_get_read}
 use Rattle.lib_calls.specs.declared.entry.Entry.{Entry}
-use Rattle.call_log.specs.Log.{entries_of, rest_of}
+use Rattle.call_log.specs.Log.{entries_of}
 use Rattle.guest_process.specs.declared.divergence.Divergence.{Divergence}
 use Rattle.guest_process.specs.Legal.{reason}
 use Rattle.guest_process.specs.Next.{next}
 use Rattle.guest_process.specs.OneEvent.{IsKept, Rises as AreRising}
-use Rattle.guest_process.specs.Replay.{Reach, Verdict, accepted, reach, reach_then, verdict}
+use Rattle.guest_process.specs.declared.verdict.Verdict.{Verdict}
+use Rattle.guest_process.specs.Replay.{Reach, accepted, reach, reach_then}
 use Rattle.guest_process.specs.State.{State}
 use Rattle.group_order.specs.Order.{AreMerged, NodeEvent}
 use Rattle.proc_replay.specs.Course.{AreReplays, Tells, ahead, turns}
 use Rattle.proc_replay.specs.Replaying.{Replaying, turn}
 use Rattle.group_state.specs.Place.{AreParts, PartsFit, events, node_event_count}
-use Rattle.group_state.specs.Report.{said_of, verdict_on}
+use Rattle.group_state.specs.Report.{verdict_on}
 use Rattle.group_state.specs.Stands.{parts_from}
-use Rattle.group_state.specs.declared.report.Verdict.{Verdict as Said}
 use Rattle.group_state.proofs.Copying.{length_parts}
 use Rattle.group_state.proofs.Following.{start_merged}
 
@@ -49,14 +49,11 @@ part_at i (q ∷ rs) es (suc k) r is =
     let same : suc i + k ≡ i + suc k = omega arith in
     part_at (suc i) rs es k r is ∙ ap (λ n. Some (turns r (node_event_count n es))) same
 
-abbrev pub verdict_from : Replaying → Verdict
-verdict_from r = verdict r.state (entries_of r.left) (rest_of r.left)
-
 -- of a node that is there: its replay at position 0, and that the next turn tells the verdict on its log
 pub record Told (start : List Replaying) (node : ℕ) (part : Replaying) : Type 0 where
   pub first : Replaying
   pub here : slice_get start node ≡ Some first
-  pub tells : Tells (turn part) part.left.bytes (verdict_from first)
+  pub tells : Tells (turn part) part.left.bytes (verdict_on first)
 
 module _ (merging : AreMerged Entry) (rising : AreRising) (kept : IsKept) (start : List Replaying) (fits : PartsFit start) where
   -- among all events a node has as many as are ahead of its first replay
@@ -84,15 +81,15 @@ module _ (merging : AreMerged Entry) (rising : AreRising) (kept : IsKept) (start
       record {
         first = first;
         here = here;
-        tells = subst (λ (p : Replaying). Tells (turn p) p.left.bytes (verdict_from first)) (sym turned) tells;
+        tells = subst (λ (p : Replaying). Tells (turn p) p.left.bytes (verdict_on first)) (sym turned) tells;
       }
 
 -- ---- what is said of it
 
-pub said_at : (start : List Replaying) (node : ℕ) (part : Replaying) (said : Said) → Told start node part
-    → ((v : Verdict) → Tells (turn part) part.left.bytes v → said ≡ said_of v) → Some said ≡ slice_get (map verdict_on start) node
+pub said_at : (start : List Replaying) (node : ℕ) (part : Replaying) (said : Verdict) → Told start node part
+    → ((v : Verdict) → Tells (turn part) part.left.bytes v → said ≡ v) → Some said ≡ slice_get (map verdict_on start) node
 said_at start node part said t says =
-    ap Some (says (verdict_from t.first) t.tells) ∙ ap (option_map verdict_on) (sym t.here) ∙ sym (slice_get-map verdict_on start node)
+    ap Some (says (verdict_on t.first) t.tells) ∙ ap (option_map verdict_on) (sym t.here) ∙ sym (slice_get-map verdict_on start node)
 
 pub none_said : (start parts : List Replaying) (es : List (NodeEvent Entry)) (node : ℕ) → parts ≡ parts_from 0 start es → length parts ≤ node → None ≡ slice_get (map verdict_on start) node
 none_said start parts es node are past =

@@ -6,7 +6,7 @@ use Rattle.call_log.specs.Head.{Head}
 use Rattle.call_log.specs.Log.{Unread, entry_at}
 use Rattle.guest_process.specs.declared.divergence.Divergence.{Divergence}
 use Rattle.guest_process.specs.Legal.{reason}
-use Rattle.guest_process.specs.Replay.{Verdict}
+use Rattle.guest_process.specs.declared.verdict.Verdict.{Verdict}
 use Rattle.proc_replay.specs.Course.{AreTurns, Tells, ahead, outcome}
 use Rattle.proc_replay.specs.Replaying.{Makes, Replaying, after, after_at, moved, turn}
 use Rattle.group_state.specs.Report.{EndsAt, accepted_in}

@@ -2,25 +2,19 @@
 use Rattle.std.specs.Prelude.{◌≡◌, List, map}
 use Rattle.std.specs.List.{flat_map}
 use Rattle.call_log.specs.Log.{entries_of, rest_of}
-use Rattle.guest_process.specs.Replay.{Verdict, Whole, Left, Diverged, accepted, last_state, verdict}
+use Rattle.guest_process.specs.declared.verdict.Verdict.{Verdict}
+use Rattle.guest_process.specs.Replay.{accepted, last_state, verdict}
 use Rattle.proc_replay.specs.Course.{Tells, ahead, outcome}
 use Rattle.proc_replay.specs.Replaying.{Replaying, turn}
 use Rattle.group_state.specs.declared.report.Report.{Report}
 use Rattle.group_state.specs.declared.report.ReportLine.{ReportLine}
-use Rattle.group_state.specs.declared.report.Verdict.{Verdict as Said}
-use Rattle.group_state.specs.declared.report.Verdict.TheVariants as said
 use Rattle.group_state.specs.declared.tally.GroupCounts.{GroupCounts}
 use Rattle.group_state.specs.Place.{group_count}
 use Rattle.group_state.specs.Tally.{Accepted, of_process, tally}
 
-abbrev pub said_of : Verdict → Said
-said_of Whole = said.Whole
-said_of (Left bytes) = said.Left bytes
-said_of (Diverged at why) = said.Diverged at why
-
 -- the verdict on a log, whatever the other logs hold
-abbrev pub verdict_on : Replaying → Said
-verdict_on r = said_of (verdict r.state (entries_of r.left) (rest_of r.left))
+abbrev pub verdict_on : Replaying → Verdict
+verdict_on r = verdict r.state (entries_of r.left) (rest_of r.left)
 
 -- a log to its first entry that is not legal: no other log has a part in it
 abbrev pub report_line : Replaying → ReportLine

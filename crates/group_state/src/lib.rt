@@ -28,5 +28,5 @@ pub use event::GroupEvent;
 pub use group::Group;
 pub use image::{Image, image_of};
 pub use laws::{ordered, stepwise};
-pub use report::{Report, ReportLine, Verdict, report_of};
+pub use report::{Report, ReportLine, report_of};
 pub use work::Work;

@@ -1,15 +1,16 @@
 // The replay of one log to its end.
 ghost use Rattle.std.specs.Prelude.{◌≡◌, ◌++◌, Some, OnOk, IfOk, option_map};
 ghost use Rattle.lib_calls.specs.Traffic.{prints};
-ghost use Rattle.guest_process.specs.Replay.{Verdict as VerdictOf, left_over};
+ghost use Rattle.guest_process.specs.declared.verdict.Verdict.{Verdict as VerdictOf};
+ghost use Rattle.guest_process.specs.Replay.{left_over};
 ghost use Rattle.proc_replay.specs.Course.{Tells, ahead};
 ghost use Rattle.proc_replay.specs.Replaying.{turn};
-ghost use Rattle.group_state.specs.Report.{EndsAt, accepted_in, said_of};
+ghost use Rattle.group_state.specs.Report.{EndsAt, accepted_in};
 ghost use Rattle.group_state.specs.Tallying.{AreNew, HasTallyRoomFor, with_all_accepted};
 
-use crate::report::Verdict;
 use crate::tally::Tally;
 use fri_bytes::Bytes;
+use guest_process::Verdict;
 use lib_calls::printed;
 use proc_replay::{Replayer, Turn, replays};
 use std::alloc::AllocError;
@@ -60,7 +61,7 @@ pub(crate) fn print_events<'m, 'a>(
 }
 
 fn left_over(rest: &[u8]) -> Verdict
-    ensures { result ≡ said_of (left_over rest.now) }
+    ensures { result ≡ left_over rest.now }
 {
     match rest.len() {
         0 => Verdict::Whole,
@@ -71,7 +72,7 @@ fn left_over(rest: &[u8]) -> Verdict
 /// The verdict on a log at whose end a replay stands.
 pub(crate) fn verdict(part: &Replayer<'_, '_>) -> Verdict
     requires { (v : VerdictOf) × Tells (turn part.now) part.now.left.bytes v }
-    ensures { (v : VerdictOf) → Tells (turn part.now) part.now.left.bytes v → result ≡ said_of v }
+    ensures { (v : VerdictOf) → Tells (turn part.now) part.now.left.bytes v → result ≡ v }
 {
     match part.peek() {
         Turn::Event(_) => unreachable!(),

@@ -8,18 +8,9 @@ use crate::part::{tally_events, verdict};
 use crate::tally::Tally;
 use fri_bytes::Bytes;
 use group_order::finds_one_more;
-use guest_process::{Divergence, End, kept, rises};
+use guest_process::{End, Verdict, kept, rises};
 use proc_replay::{Replayer, replays};
 use std::alloc::{AllocError, Global};
-
-/// What is said of a log: all its entries are accepted and nothing is left; so many bytes are left behind them;
-/// or the entry of this number, from 1, is not legal.
-#[derive(Clone, Copy, Debug, PartialEq, Eq)]
-pub enum Verdict {
-    Whole,
-    Left(u64),
-    Diverged(u64, Divergence),
-}
 
 /// A log that was replayed to its end: the name of its process, how many entries were accepted, how the process
 /// stands after them, and the verdict.

@@ -5,9 +5,8 @@ ghost use Rattle.group_state.specs.Report.{verdict_on};
 
 use crate::group::Group;
 use crate::part::verdict;
-use crate::report::Verdict;
 use group_order::merges;
-use guest_process::{kept, rises};
+use guest_process::{Verdict, kept, rises};
 use lib_calls::Entry;
 use proc_replay::replays;
 

@@ -2,6 +2,8 @@
 use Rattle.std.specs.Prelude.{ℕ, suc, List, [], ◌∷◌, length, take, Option, Some, None, option_map, unwrap_or}
 use Rattle.lib_calls.specs.declared.entry.Entry.{Entry}
 use Rattle.guest_process.specs.declared.divergence.Divergence.{Divergence}
+use Rattle.guest_process.specs.declared.verdict.Verdict.{Verdict}
+use Rattle.guest_process.specs.declared.verdict.Verdict.TheVariants.{Whole, Left, Diverged}
 use Rattle.guest_process.specs.Legal.{reason}
 use Rattle.guest_process.specs.Next.{next}
 use Rattle.guest_process.specs.State.{State}
@@ -37,13 +39,7 @@ accepted S es = (reach S es).accepted
 abbrev pub last_state : State → List Entry → State
 last_state S es = state_after S es (accepted S es)
 
--- all entries are accepted and nothing is left behind them; or so many bytes are left; or the entry with
--- this number, from 1 on, is the first that is not legal
-pub data Verdict : Type 0 where
-  Whole : Verdict
-  Left : (bytes : ℕ) → Verdict
-  Diverged : (at : ℕ) → (why : Divergence) → Verdict
-
+-- the verdict on a log of which all entries are accepted, with these bytes behind them
 abbrev pub left_over : List ℕ → Verdict
 left_over [] = Whole
 left_over (first ∷ rest) = Left (suc (length rest))

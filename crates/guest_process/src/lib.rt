@@ -23,6 +23,7 @@ mod parts;
 mod process;
 mod spawn;
 mod threads;
+mod verdict;
 mod waiting;
 mod world;
 
@@ -37,3 +38,4 @@ pub use laws::{
 };
 pub use need::Need;
 pub use process::Process;
+pub use verdict::Verdict;

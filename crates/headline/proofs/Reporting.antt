@@ -4,6 +4,7 @@ use Rattle.std.specs.Prelude.{slice_index_or}
 use Rattle.std.proofs.lemmas.Option.{same_Some}
 use Rattle.lib_calls.specs.Traffic.{prints}
 use Rattle.call_log.specs.Head.{Head}
+use Rattle.guest_process.specs.Replay.{left_over}
 use Rattle.proc_replay.specs.Course.{ahead}
 use Rattle.proc_replay.specs.Replaying.{Replaying}
 use Rattle.group_record.specs.Images.{images_from, memory_in, images as all_images}
@@ -17,7 +18,7 @@ use Rattle.group_state.specs.Report.{accepted_in, all_accepted, report_line}
 use Rattle.group_state.specs.Tally.{Accepted, of_process, tally}
 use Rattle.command_run.specs.Outcome.{Work}
 use Rattle.replay_command.specs.Report.{diverges, images_in, images_if, is_divergence, replay_work, report_text}
-use Rattle.headline.specs.Shown.{AreShown, ShowsProcess, recorded_events, recorded_images, recorded_line, recorded_report, recorded_verdict}
+use Rattle.headline.specs.Shown.{AreShown, ShowsProcess, recorded_events, recorded_images, recorded_line, recorded_report}
 use Rattle.headline.proofs.Showing.{ComesTo}
 
 -- so many processes come to what their replays come to
@@ -34,7 +35,7 @@ lines group steps cut (p ∷ ps) (r ∷ rs) all =
 lines group steps cut [] (r ∷ rs) all = absurd all
 lines group steps cut (p ∷ ps) [] all = absurd all
 
-left_diverges_not : (cut : List ℕ) → is_divergence (recorded_verdict cut) ≡ false
+left_diverges_not : (cut : List ℕ) → is_divergence (left_over cut) ≡ false
 left_diverges_not [] = refl
 left_diverges_not (first ∷ rest) = refl
 

@@ -9,7 +9,8 @@ use Rattle.call_log.specs.Log.{entries_of, rest_of}
 use Rattle.guest_process.specs.declared.divergence.Divergence.{Divergence}
 use Rattle.guest_process.specs.Legal.{reason}
 use Rattle.guest_process.specs.Next.{next}
-use Rattle.guest_process.specs.Replay.{Verdict, accepted, last_state, left_over, reach, reach_then, replayed, state_after, verdict, verdict_of}
+use Rattle.guest_process.specs.declared.verdict.Verdict.{Verdict}
+use Rattle.guest_process.specs.Replay.{accepted, last_state, left_over, reach, reach_then, replayed, state_after, verdict, verdict_of}
 use Rattle.guest_process.specs.State.{State}
 use Rattle.proc_replay.specs.Replaying.{Replaying}
 use Rattle.group_record.specs.Logs.{TellsBefore}
@@ -20,9 +21,8 @@ use Rattle.group_record.specs.Images.{memory_in}
 use Rattle.group_record.specs.Answer.{end_after}
 use Rattle.group_state.specs.Place.{after_entries}
 use Rattle.group_state.specs.declared.report.ReportLine.{ReportLine}
-use Rattle.group_state.specs.declared.report.Verdict.{Verdict as Said}
-use Rattle.group_state.specs.Report.{report_line, said_of}
-use Rattle.headline.specs.Shown.{ShowsProcess, recorded_line, recorded_states, recorded_verdict}
+use Rattle.group_state.specs.Report.{report_line}
+use Rattle.headline.specs.Shown.{ShowsProcess, recorded_line, recorded_states}
 use Rattle.headline.proofs.Course.{states_count}
 
 -- the replay of a log
@@ -67,10 +67,6 @@ verdict_by o n rest = verdict_of (record { accepted = n; divergence = o }) rest
 is_left_over : (S : State) (es : List Entry) (rest : List ℕ) → accepted S es ≡ length es → verdict S es rest ≡ left_over rest
 is_left_over S es rest all = ap (λ (o : Option Divergence). verdict_by o (accepted S es) rest) (no_divergence S es all)
 
-said_so : (cut : List ℕ) → said_of (left_over cut) ≡ recorded_verdict cut
-said_so [] = refl
-said_so (first ∷ rest) = refl
-
 -- ---- what it comes to
 
 -- the facts of a log and of the run, at the same process
@@ -94,10 +90,10 @@ pub record ComesTo (group : Group) (steps : List Step) (cut : ℕ → List ℕ) 
   pub printed : left_print r ≡ prints (entries steps p)
 
 abbrev line_of : Replaying → List Entry → List ℕ → ReportLine
-line_of r es rest = record { name = r.head.name; events = accepted r.state es; end = (last_state r.state es).end; verdict = said_of (verdict r.state es rest) }
+line_of r es rest = record { name = r.head.name; events = accepted r.state es; end = (last_state r.state es).end; verdict = verdict r.state es rest }
 
 abbrev ended_line : Replaying → ℕ → State → Verdict → ReportLine
-ended_line r n last v = record { name = r.head.name; events = n; end = last.end; verdict = said_of v }
+ended_line r n last v = record { name = r.head.name; events = n; end = last.end; verdict = v }
 
 pub comes_to : (group : Group) (steps : List Step) (cut : ℕ → List ℕ) (p : ℕ) → RunIs group steps → p < size group → (t : TellsBefore group steps p (cut p)) → ComesTo group steps cut p (replay_of group steps cut p t)
 comes_to group steps cut p run below t =
@@ -113,7 +109,6 @@ comes_to group steps cut p run below t =
           ∙ ap (λ (S : State). ended_line r (length es) S (verdict t.first es (rest_of t.left))) (last_is t.first s.last es ends)
           ∙ ap (λ (v : Verdict). ended_line r (length es) s.last v) (is_left_over t.first es (rest_of t.left) t.accepted)
           ∙ ap (λ (rest : List ℕ). ended_line r (length es) s.last (left_over rest)) t.rest
-          ∙ ap (λ (v : Said). record (ended_line r (length es) s.last (left_over (cut p))) { verdict = v }) (said_so (cut p))
           ∙ ap (λ (o : Option State). record (recorded_line group steps cut p) { end = end_after o }) (sym s.stands);
       memory = ap (λ (S : State). S.store.memory.bytes) last ∙ ap memory_in (sym s.stands);
       printed = ap prints (shows group steps cut p run t).accepted;

@@ -6,6 +6,7 @@ use Rattle.lamport_tag.specs.Tag.{read_datagram}
 use Rattle.lib_calls.specs.Traffic.{is_sent, is_taken, prints}
 use Rattle.lib_calls.specs.declared.entry.Entry.{Entry}
 use Rattle.call_log.specs.Log.{entries_of, rest_of}
+use Rattle.guest_process.specs.Replay.{left_over}
 use Rattle.guest_process.specs.State.{State}
 use Rattle.group_order.specs.Order.{IsOrder, NodeEvent, node_event}
 use Rattle.group_world.specs.History.{Inject}
@@ -17,8 +18,6 @@ use Rattle.group_record.specs.Run.{Group, Step, entries, head_of_log, history, n
 use Rattle.proc_replay.specs.Course.{ahead}
 use Rattle.proc_replay.specs.Replaying.{Replaying}
 use Rattle.group_state.specs.declared.report.ReportLine.{ReportLine}
-use Rattle.group_state.specs.declared.report.Verdict.{Verdict}
-use Rattle.group_state.specs.declared.report.Verdict.TheVariants as said
 use Rattle.group_state.specs.Place.{after_entries, entry_clock, events, node_event_count, states}
 use Rattle.group_state.specs.Tally.{Accepted, of_process, tally}
 use Rattle.command_run.specs.Outcome.{Work}
@@ -53,18 +52,14 @@ AreShown group steps cut (p ∷ ps) [] = ⊥
 
 -- ---- what `replay` says
 
--- a log is whole, unless bytes stand after its entries, which are left over
-abbrev pub recorded_verdict : List ℕ → Verdict
-recorded_verdict [] = said.Whole
-recorded_verdict (first ∷ rest) = said.Left (length (first ∷ rest))
-
--- the line of a process: how many events were recorded, how it stood after them, and whether the log is whole
+-- the line of a process: how many events were recorded, how it stood after them, and that its log is whole, unless bytes stand
+-- after its entries, which are left over
 abbrev pub recorded_line : Group → List Step → (ℕ → List ℕ) → ℕ → ReportLine
 recorded_line group steps cut p = record {
   name = name_of group p;
   events = length (entries steps p);
   end = end_after (process_after group steps p);
-  verdict = recorded_verdict (cut p);
+  verdict = left_over (cut p);
 }
 
 -- the recorded events of these processes

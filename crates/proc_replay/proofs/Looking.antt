@@ -10,7 +10,7 @@ use Rattle.call_log.specs.Walk.{IsEnd, IsStep}
 use Rattle.guest_process.specs.declared.divergence.Divergence.{Divergence}
 use Rattle.guest_process.specs.Legal.{reason}
 use Rattle.guest_process.specs.Next.{next}
-use Rattle.guest_process.specs.Replay.{Verdict}
+use Rattle.guest_process.specs.declared.verdict.Verdict.{Verdict}
 use Rattle.guest_process.specs.State.{State}
 use Rattle.proc_replay.specs.declared.turn.Turn.TheVariants as code
 use Rattle.proc_replay.specs.Course.{Tells, outcome}

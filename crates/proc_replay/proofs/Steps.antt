@@ -8,7 +8,8 @@ use Rattle.guest_process.specs.declared.divergence.Divergence.{Divergence}
 use Rattle.guest_process.specs.EventCount.{CountsEvents}
 use Rattle.guest_process.specs.Legal.{reason}
 use Rattle.guest_process.specs.Next.{next}
-use Rattle.guest_process.specs.Replay.{Reach, Diverged, accepted, left_over, reach, reach_then, state_after, verdict_of}
+use Rattle.guest_process.specs.declared.verdict.Verdict.TheVariants.{Diverged}
+use Rattle.guest_process.specs.Replay.{Reach, accepted, left_over, reach, reach_then, state_after, verdict_of}
 use Rattle.guest_process.specs.State.{State}
 use Rattle.proc_replay.specs.Replaying.{Replaying, Makes, Ends, Diverges, after, after_at, move_by, moved, turn, turn_at}
 use Rattle.proc_replay.specs.Course.{Tells, ahead, further, outcome, outcome_at, outcome_by}

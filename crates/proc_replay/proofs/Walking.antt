@@ -7,7 +7,8 @@ use Rattle.call_log.specs.Limits.{least_entry}
 use Rattle.call_log.specs.Log.{entries_of, rest_of}
 use Rattle.call_log.specs.Walk.{IsEnd, IsStep}
 use Rattle.guest_process.specs.EventCount.{CountsEvents}
-use Rattle.guest_process.specs.Replay.{Verdict, accepted, reach, state_after, verdict, verdict_of}
+use Rattle.guest_process.specs.declared.verdict.Verdict.{Verdict}
+use Rattle.guest_process.specs.Replay.{accepted, reach, state_after, verdict, verdict_of}
 use Rattle.guest_process.specs.State.{State}
 use Rattle.proc_replay.specs.Replaying.{Replaying, Move, Makes, Ends, Diverges, after, turn}
 use Rattle.proc_replay.specs.Course.{AreReplays, AreTurns, Outcome, Tells, ahead, outcome, outcome_at, turns}

@@ -3,7 +3,9 @@ use Rattle.std.specs.Prelude.{◌≡◌, ℕ, zero, suc, ◌+◌, ◌<◌, ◌�
 use Rattle.lib_calls.specs.declared.entry.Entry.{Entry}
 use Rattle.call_log.specs.Limits.{least_entry}
 use Rattle.call_log.specs.Log.{entries_of, rest_of}
-use Rattle.guest_process.specs.Replay.{Reach, Verdict, Diverged, accepted, last_state, left_over, reach, state_after, verdict, verdict_of}
+use Rattle.guest_process.specs.declared.verdict.Verdict.{Verdict}
+use Rattle.guest_process.specs.declared.verdict.Verdict.TheVariants.{Diverged}
+use Rattle.guest_process.specs.Replay.{Reach, accepted, last_state, left_over, reach, state_after, verdict, verdict_of}
 use Rattle.guest_process.specs.State.{State}
 use Rattle.proc_replay.specs.Replaying.{Replaying, Move, Makes, Ends, Diverges, turn, after}
 

@@ -4,11 +4,11 @@ use Rattle.std.specs.List.{flat_map, list_any}
 use Rattle.fri_outside.specs.Outside.{Folder}
 use Rattle.guest_process.specs.declared.divergence.Divergence.{Divergence}
 use Rattle.guest_process.specs.declared.divergence.Divergence.TheVariants as differs
+use Rattle.guest_process.specs.declared.verdict.Verdict.{Verdict}
+use Rattle.guest_process.specs.declared.verdict.Verdict.TheVariants as said
 use Rattle.proc_replay.specs.Replaying.{Replaying}
 use Rattle.process_files.specs.Images.{image_files}
 use Rattle.group_state.specs.declared.report.ReportLine.{ReportLine}
-use Rattle.group_state.specs.declared.report.Verdict.{Verdict}
-use Rattle.group_state.specs.declared.report.Verdict.TheVariants as said
 use Rattle.group_state.specs.declared.tally.GroupCounts.{GroupCounts}
 use Rattle.group_state.specs.Image.{left_memory, left_print}
 use Rattle.group_state.specs.Place.{group_count}

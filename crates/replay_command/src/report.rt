@@ -7,8 +7,8 @@ ghost use Rattle.replay_command.specs.Seen.{Says};
 use command_run::Answer;
 use end_text::push_end;
 use fri_text::Text;
-use group_state::{Report, ReportLine, Verdict};
-use guest_process::Divergence;
+use group_state::{Report, ReportLine};
+use guest_process::{Divergence, Verdict};
 use std::alloc::{AllocError, Global};
 
 // The number and the name of a divergence.

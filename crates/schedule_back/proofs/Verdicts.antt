@@ -5,7 +5,7 @@ use Rattle.std.specs.List.{position_from}
 use Rattle.std.proofs.lemmas.Iterator.Adapters.{position_from-zero}
 use Rattle.std.proofs.lemmas.Option.{same_Some}
 use Rattle.proc_replay.specs.Replaying.{Replaying}
-use Rattle.group_state.specs.declared.report.Verdict.{Verdict}
+use Rattle.guest_process.specs.declared.verdict.Verdict.{Verdict}
 use Rattle.group_state.specs.Report.{verdict_on}
 use Rattle.schedule_back.specs.Outcome.{first_not_whole, is_whole}
 

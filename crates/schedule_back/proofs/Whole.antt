@@ -15,10 +15,10 @@ use Rattle.schedule_text.specs.Limits.{most_runs, most_schedule}
 use Rattle.schedule_text.specs.Schedule.{is_module_name}
 use Rattle.schedule_text.specs.Text.{text_of}
 use Rattle.schedule_text.specs.declared.process.ProcessLine.{ProcessLine}
-use Rattle.group_state.specs.declared.report.Verdict.{Verdict as Said}
-use Rattle.group_state.specs.declared.report.Verdict.TheVariants as said
+use Rattle.guest_process.specs.declared.verdict.Verdict.{Verdict}
+use Rattle.guest_process.specs.declared.verdict.Verdict.TheVariants as said
 use Rattle.group_state.specs.Place.{events}
-use Rattle.group_state.specs.Report.{said_of, verdict_on}
+use Rattle.group_state.specs.Report.{verdict_on}
 use Rattle.schedule_back.specs.Back.{back}
 use Rattle.schedule_back.specs.Outcome.{BadModuleName, NotWhole, Refusal, first_bad_name, first_not_whole, is_whole, refuse_where, text_or_refusal}
 use Rattle.schedule_back.proofs.Lists.{none_passes}
@@ -33,7 +33,7 @@ all_accepted S (e ∷ es) none = by_reason (all_accepted (next S e) es) (reason 
   by_reason later None none = ap suc (later none)
   by_reason later (Some why) none = absurd (cc)
 
-said_whole : (v : Said) → not (is_whole v) ≡ false → v ≡ said.Whole
+said_whole : (v : Verdict) → not (is_whole v) ≡ false → v ≡ said.Whole
 said_whole said.Whole is = refl
 said_whole (said.Left bytes) is = absurd (cc)
 said_whole (said.Diverged at why) is = absurd (cc)
@@ -41,7 +41,7 @@ said_whole (said.Diverged at why) is = absurd (cc)
 -- of a whole log nothing is left behind the entries
 pub whole_rest : (r : Replaying) → verdict_on r ≡ said.Whole → rest_of r.left ≡ []
 whole_rest r whole = by_rest (reach r.state (entries_of r.left)).divergence (rest_of r.left) whole where
-  by_rest : (d : Option Divergence) (rest : List ℕ) → said_of (verdict_of (record (reach r.state (entries_of r.left)) { divergence = d }) rest) ≡ said.Whole → rest ≡ []
+  by_rest : (d : Option Divergence) (rest : List ℕ) → verdict_of (record (reach r.state (entries_of r.left)) { divergence = d }) rest ≡ said.Whole → rest ≡ []
   by_rest d [] is = refl
   by_rest None (b ∷ rest) is = absurd (cc)
   by_rest (Some why) (b ∷ rest) is = absurd (cc)
@@ -49,11 +49,11 @@ whole_rest r whole = by_rest (reach r.state (entries_of r.left)).divergence (res
 -- and all of these are accepted
 pub whole_accepted : (r : Replaying) → verdict_on r ≡ said.Whole → accepted r.state (entries_of r.left) ≡ length (entries_of r.left)
 whole_accepted r whole = all_accepted r.state (entries_of r.left) (by_divergence (reach r.state (entries_of r.left)).divergence whole) where
-  by_divergence : (d : Option Divergence) → said_of (verdict_of (record (reach r.state (entries_of r.left)) { divergence = d }) (rest_of r.left)) ≡ said.Whole → d ≡ None
+  by_divergence : (d : Option Divergence) → verdict_of (record (reach r.state (entries_of r.left)) { divergence = d }) (rest_of r.left) ≡ said.Whole → d ≡ None
   by_divergence None is = refl
   by_divergence (Some why) is = absurd (cc)
 
-whole_from : (start : List Replaying) → AllByRecursion (λ (v : Said). not (is_whole v) ≡ false) (map verdict_on start) → AllByRecursion (λ (r : Replaying). verdict_on r ≡ said.Whole) start
+whole_from : (start : List Replaying) → AllByRecursion (λ (v : Verdict). not (is_whole v) ≡ false) (map verdict_on start) → AllByRecursion (λ (r : Replaying). verdict_on r ≡ said.Whole) start
 whole_from [] all = tt
 whole_from (r ∷ rs) all = (said_whole (verdict_on r) all.0, whole_from rs all.1)
 

@@ -1,12 +1,12 @@
 -- The text of the schedule that records to the logs of a group, or why there is none.
 use Rattle.std.specs.Prelude.{ℕ, Bool, true, false, not, nat_le, if◌then◌else◌, List, length, map, position, Option, Some, None, Result, Ok, Err}
+use Rattle.guest_process.specs.declared.verdict.Verdict.{Verdict}
+use Rattle.guest_process.specs.declared.verdict.Verdict.TheVariants as said
 use Rattle.schedule_text.specs.Limits.{most_runs, most_schedule}
 use Rattle.schedule_text.specs.Schedule.{is_module_name}
 use Rattle.schedule_text.specs.Text.{text_of}
 use Rattle.schedule_text.specs.declared.process.ProcessLine.{ProcessLine}
 use Rattle.proc_replay.specs.Replaying.{Replaying}
-use Rattle.group_state.specs.declared.report.Verdict.{Verdict}
-use Rattle.group_state.specs.declared.report.Verdict.TheVariants as said
 use Rattle.group_state.specs.Place.{events}
 use Rattle.group_state.specs.Report.{verdict_on}
 use Rattle.schedule_back.specs.Back.{back}

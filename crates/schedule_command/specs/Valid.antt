@@ -7,7 +7,7 @@ use Rattle.proc_replay.specs.Replaying.{Replaying}
 use Rattle.schedule_text.specs.Limits.{most_runs, most_schedule}
 use Rattle.schedule_text.specs.Schedule.{is_module_name}
 use Rattle.schedule_text.specs.Text.{text_of}
-use Rattle.group_state.specs.declared.report.Verdict.TheVariants.{Whole}
+use Rattle.guest_process.specs.declared.verdict.Verdict.TheVariants.{Whole}
 use Rattle.group_state.specs.Place.{events}
 use Rattle.group_state.specs.Report.{verdict_on}
 use Rattle.schedule_back.specs.Back.{back}

@@ -1,6 +1,7 @@
 use Rattle.std.proofs.Common.{ap, refl, sym, subst, ◌∙◌, ◌++◌, List, ℕ, length, arith}
 use Rattle.lib_calls.specs.Entry.{entry_of}
-use Rattle.guest_process.specs.Replay.{Diverged, left_over}
+use Rattle.guest_process.specs.declared.verdict.Verdict.TheVariants.{Diverged}
+use Rattle.guest_process.specs.Replay.{left_over}
 use Rattle.proc_replay.specs.Course.{Tells}
 use Rattle.proc_replay.specs.Replaying.{Replaying, turn}
 use Rattle.group_state.proofs.Walking.{ends, prints_all, prints_first, prints_more}

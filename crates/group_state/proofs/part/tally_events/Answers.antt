@@ -1,7 +1,8 @@
 use Rattle.std.proofs.Common.{ap, refl, sym, subst, length, arith}
 use Rattle.lib_calls.specs.Entry.{entry_of}
 use Rattle.call_log.specs.Head.{Head}
-use Rattle.guest_process.specs.Replay.{Diverged, left_over}
+use Rattle.guest_process.specs.declared.verdict.Verdict.TheVariants.{Diverged}
+use Rattle.guest_process.specs.Replay.{left_over}
 use Rattle.proc_replay.specs.Course.{Tells}
 use Rattle.proc_replay.specs.Replaying.{Replaying, turn}
 use Rattle.group_state.proofs.Walking.{ends, next_new, next_room, tallies_all, tallies_first, tallies_more}

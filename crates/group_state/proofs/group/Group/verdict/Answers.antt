@@ -1,6 +1,7 @@
 use Rattle.std.proofs.Common.{◌≡◌, ◌<◌, ◌∙◌, length, get_or, take, ap, subst, sym, arith}
 use Rattle.group_state.specs.Place.{Place, events}
-use Rattle.group_state.proofs.Telling.{none_said, said_at, told, verdict_from}
+use Rattle.group_state.specs.Report.{verdict_on}
+use Rattle.group_state.proofs.Telling.{none_said, said_at, told}
 use Rattle.group_state.proofs.group.Group.verdict.Goals as goal
 
 pub returns-in_err-part : goal.returns-in_err-part
@@ -20,7 +21,7 @@ verdict-requires c =
     let ended = subst (λ (p : Place). p.at ≡ length (events p.start)) (sym c.self.view_is) c.requires in
     let t = told c.merges.ensures c.rises.ensures c.kept.ensures.ranges g.first.items i.fits c.replays.ensures.course i.parts g.here.at g.here.parts.items c.args.node part
     ended i.here.parts within (lookup.1 ∙ ap (λ rs. get_or rs c.args.node part) c.deref.ensures.value) in
-    (verdict_from t.first, t.tells)
+    (verdict_on t.first, t.tells)
 
 pub returns : goal.returns
 returns c =
