@@ -18,7 +18,8 @@ use std::{fs, io, rt};
 ///
 /// A file that was created stays open until it is created again or all are closed. So a piece at its end
 /// costs one write, and a reader at the other end of a pipe gets all pieces as one stream.
-#[derive(Drop)]
+///
+/// Such files cannot be let go, so whoever has them has to close them.
 pub struct RealFiles<'a, R: rt::Files> {
     alloc: Global,
     rt: &'a R,
@@ -54,13 +55,19 @@ impl<'a, R: rt::Files> RealFiles<'a, R> {
         }
     }
 
-    /// Closes all files that are open. A file that cannot be closed may lack bytes that were written to
-    /// it, which is a write fault; the others are closed all the same.
-    pub fn close(&mut self) -> Result<(), WriteError>
-        ensures counted { self.new ≡ after_write self.old result }
-    {
-        let outcome = self.open.close_all();
-        self.count_write(outcome)
+    /// Closes all files that are open, also behind one that cannot be closed.
+    pub fn close(self) -> Closed {
+        let RealFiles {
+            alloc: _,
+            rt: _,
+            mut open,
+            read_faults: _,
+            write_faults: _,
+            misses: _,
+        } = self;
+        Closed {
+            is_lost: open.close_all().is_err(),
+        }
     }
 
     // Makes a file without bytes and keeps it open. The memory is asked for first, so that there is none
@@ -93,6 +100,29 @@ impl<'a, R: rt::Files> RealFiles<'a, R> {
             self.write_faults = self.write_faults.saturating_add(1);
         }
         outcome
+    }
+}
+
+/// How the files of a call were closed. Only closing files makes one, and it cannot be let go: it has to be asked.
+pub struct Closed {
+    is_lost: bool,
+}
+
+impl Model for Closed {
+    ghost use Rattle.std.specs.Prelude.{Bool};
+
+    ghost Value = { Bool };
+
+    ghost view = { λ closed. closed.is_lost };
+}
+
+impl Closed {
+    /// Whether some file could not be closed. It may lack bytes that were written to it, which is a write fault.
+    pub fn is_lost(self) -> bool
+        ensures { result ≡ self }
+    {
+        let Closed { is_lost } = self;
+        is_lost
     }
 }
 

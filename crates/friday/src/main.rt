@@ -3,14 +3,17 @@
 //!
 //! All that it prints and makes is done by `friday` of `friday_app`, whose contract says what. What a clause here says is
 //! how the call's status goes on once the files are closed: a file that cannot be closed makes a write fault of an answer,
-//! and no status that is a fault already changes. Where a standard stream is closed, `/dev/null` takes its descriptor first,
-//! so that no file gets what is printed.
+//! and no status that is a fault already changes. That they are closed, and that the status comes of that, is said by types:
+//! neither the files nor what closing them tells can be let go. Where a standard stream is closed, `/dev/null` takes its
+//! descriptor first, so that no file gets what is printed.
+//!
+//! Its stored run is a recording that fills its log, so it ends with the status of a refusal after most of its work.
 #![tactic(auto)]
 
-ghost use Rattle.std.specs.Prelude.{◌≡◌, OnErr, OnOk};
+ghost use Rattle.std.specs.Prelude.{◌≡◌, false, true};
 ghost use Rattle.command_run.specs.Call.{IsAnswerStatus};
 
-use fri_outside::{Console, ReaderSource, RealFiles, WriteError, WriterSink};
+use fri_outside::{Closed, Console, ReaderSource, RealFiles, WriterSink};
 use friday_app::{Status, friday};
 use std::process::ExitCode;
 use std::rt::{Env, Files};
@@ -30,14 +33,15 @@ fn words<R: Env + AllocGlobal>(rt: &R) -> io::Result<Vec<String>> {
 
 // How a call ends whose files were closed after it. A file that cannot be closed may lack bytes that were
 // written to it, which is a write fault where nothing failed before.
-fn status_once_closed(status: Status, closed: Result<(), WriteError>) -> Status
-    ensures closed { OnOk closed (result ≡ status) }
-    ensures lost { OnErr closed (IsAnswerStatus status → result ≡ Status.WriteFault) }
+fn status_once_closed(status: Status, closed: Closed) -> Status
+    ensures whole { closed ≡ false → result ≡ status }
+    ensures lost { closed ≡ true → IsAnswerStatus status → result ≡ Status.WriteFault }
     ensures first { ¬ IsAnswerStatus status → result ≡ status }
 {
+    let is_lost = closed.is_lost();
     match status {
         Status::ReadFault | Status::WriteFault | Status::NoMemory => status,
-        _ if closed.is_err() => Status::WriteFault,
+        _ if is_lost => Status::WriteFault,
         _ => status,
     }
 }

@@ -102,10 +102,12 @@ fn real_files(rt: HostRuntime) -> Result<(), Fail> {
     let _ = fs::remove_dir_all(&rt, FOLDER);
     fs::create_dir(&rt, FOLDER)?;
     let mut files = RealFiles::new(rt.alloc(), &rt);
-    make(&mut files, NAME, b"abc", b"de")?;
-    let bytes = text_of(&mut files, rt.alloc(), NAME)?;
+    let made = make(&mut files, NAME, b"abc", b"de");
+    let bytes = text_of(&mut files, rt.alloc(), NAME);
+    assert!(rt; !files.close().is_lost());
     fs::remove_dir_all(&rt, FOLDER)?;
-    assert_eq!(rt; bytes.as_slice(), b"abcde".as_slice());
+    made?;
+    assert_eq!(rt; bytes?.as_slice(), b"abcde".as_slice());
     Ok(())
 }
 
@@ -119,6 +121,7 @@ fn folders_are_no_files(rt: HostRuntime) {
     );
     assert_eq!(rt; files.create("/"), Err(WriteError::Failed));
     assert_eq!(rt; files.append("/", b"a"), Err(WriteError::Failed));
+    assert!(rt; !files.close().is_lost());
 }
 
 #[test]

@@ -42,7 +42,7 @@ fn call<R: Files + AllocGlobal, W: Write + Drop>(
         out: WriterSink::new(out),
     };
     let status = friday(rt.alloc(), &words, &mut files, &mut terminal);
-    Ok((status, files.close().is_ok()))
+    Ok((status, !files.close().is_lost()))
 }
 
 // The call with what it prints, and how it ended.
