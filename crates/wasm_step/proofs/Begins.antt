@@ -7,14 +7,14 @@ use Rattle.wasm_types.specs.declared.code.Value.TheVariants.{I32}
 use Rattle.wasm_types.specs.declared.code.ValType.{ValType}
 use Rattle.wasm_types.specs.declared.code.ValType.TheVariants as types
 use Rattle.wasm_types.specs.Modules.{Module, Func}
+use Rattle.wasm_types.specs.Start.{IsOwnPlain, entry_from}
 use Rattle.wasm_types.specs.Valid.{IsValid}
 use Rattle.wasm_values.specs.Values.{types_of_values}
 use Rattle.wasm_step.specs.Fits.{FramesFit, Fits}
 use Rattle.wasm_types.specs.Functions.{imported_type, own_type, type_of, own_func}
-use Rattle.wasm_step.specs.Strand.{IsHandler, started_above, new_thread, handling, entry_from, entry_thread, with_start, first_thread}
+use Rattle.wasm_step.specs.Strand.{IsHandler, started_above, new_thread, handling, entry_thread, with_start, first_thread}
 use Rattle.wasm_step.specs.Thread.{Thread, Frame, waiting_frame}
 use Rattle.wasm_step.proofs.Callees.{enter_fits}
-use Rattle.wasm_step.proofs.Starts.{entry_is_plain, start_is_plain}
 
 module _ (m : Module) where
   own_typed : (f : ℕ) → length m.imports ≤ f → type_of m f ≡ own_type m (own_func m f)
@@ -43,14 +43,14 @@ module _ (m : Module) where
   handler_fits t f signal u v h fits e =
       started_fits (waiting_frame t ∷ t.callers) f (I32 signal ∷ []) (types.I32 ∷ []) u v h.own h.type refl fits e
 
-  pub first_fits : (t : Thread) → IsValid m → first_thread m ≡ Some t → Fits m t
-  first_fits t v e = by_entry (entry_from m m.exports) refl e
+  pub first_fits : (t : Thread) → IsValid m → ((f : ℕ) → entry_from m m.exports ≡ Some f → IsOwnPlain m f) → ((f : ℕ) → m.start ≡ Some f → IsOwnPlain m f) → first_thread m ≡ Some t → Fits m t
+  first_fits t v entry start e = by_entry (entry_from m m.exports) refl e
     where
       by_start : (o : Option ℕ) (u : Thread) → m.start ≡ o → Fits m u → with_start m o (Some u) ≡ Some t → Fits m t
       by_start None u q h e' = let same : u ≡ t = cc in subst (λ (t : Thread). Fits m t) same h
       by_start (Some s) u q h e' =
-          let p = start_is_plain m v s q in
-          started_fits (waiting_frame u ∷ u.callers) s [] [] t v p.0 p.1 refl h e'
+          let p = start s q in
+          started_fits (waiting_frame u ∷ u.callers) s [] [] t v p.own p.type refl h e'
 
       by_thread : (o : Option Thread) → ((u : Thread) → o ≡ Some u → Fits m u) → with_start m m.start o ≡ Some t → Fits m t
       by_thread None h e' = cc
@@ -59,5 +59,5 @@ module _ (m : Module) where
       by_entry : (o : Option ℕ) → entry_from m m.exports ≡ o → with_start m m.start (entry_thread m o) ≡ Some t → Fits m t
       by_entry None q e' = cc
       by_entry (Some f) q e' =
-          let p = entry_is_plain m v f q in
-          by_thread (started_above (own_func m f) [] f []) (λ u b. started_fits [] f [] [] u v p.0 p.1 refl tt b) e'
+          let p = entry f q in
+          by_thread (started_above (own_func m f) [] f []) (λ u b. started_fits [] f [] [] u v p.own p.type refl tt b) e'

@@ -5,6 +5,7 @@ use Rattle.wasm_types.specs.declared.code.Value.TheVariants.{I32, I64}
 use Rattle.wasm_types.specs.declared.traps.Trap.TheVariants.{Exhausted}
 use Rattle.wasm_types.specs.Code.{Tree, Unreachable, Nop, Block, Loop, If, Br, BrIf, BrTable, Return, CallFunc, CallIndirect, DropTop, Select, LocalGet, LocalSet, LocalTee, GlobalGet, GlobalSet, Load, Store as StoreIn, MemorySize, MemoryGrow, ConstI32, ConstI64, ConstF32, ConstF64, Op, Trees, End, Then}
 use Rattle.wasm_types.specs.Context.{Context}
+use Rattle.wasm_types.specs.Functions.{TypesAgree}
 use Rattle.wasm_types.specs.Modules.{Module}
 use Rattle.wasm_types.specs.Valid.{IsValid}
 use Rattle.wasm_step.specs.declared.halt.Stopped.{Stopped}
@@ -33,7 +34,7 @@ one_step_at_module (Done stop) g = refl
 pub one_step_module : (t : Thread) (g : Store) → (one_step t g).store.«module» ≡ g.«module»
 one_step_module t g = one_step_at_module (settle t) g
 
-module _ (m : Module) where
+module _ (agree : TypesAgree) (m : Module) where
   abbrev BothFit : Both → Type 0
   BothFit b = AfterFits m b.after × Suits b.store
 
@@ -49,7 +50,7 @@ module _ (m : Module) where
   row_fits c (BrTable labels default) t g v same s r h = (br_table_fits m c labels default t r h, s)
   row_fits c Return t g v same s r h = (return_row_fits m c t r h, s)
   row_fits c (CallFunc f) t g v same s r h =
-      (subst (λ (m' : Module). AfterFits m (Rattle.wasm_step.specs.Reduce.call m' f t)) (sym same) (call_row_fits m c f t v r h), s)
+      (subst (λ (m' : Module). AfterFits m (Rattle.wasm_step.specs.Reduce.call m' f t)) (sym same) (call_row_fits m c agree f t v r h), s)
   row_fits c (CallIndirect k) t g v same s r h = (call_indirect_fits m c k g t same s v r h, s)
   row_fits c DropTop t g v same s r h = (drop_fits m c t.stack t r h, s)
   row_fits c Select t g v same s r h = (select_fits m c t.stack t r h, s)
@@ -143,8 +144,8 @@ pub record Leaving (m : Module) (stopped : Stopped) (u : Thread) (g : Store) : T
   pub suits : Suits g
   pub same_module : g.«module» ≡ m
 
-pub leaving : (m : Module) (t u : Thread) (g g' : Store) (stopped : Stopped) (call : Option ℕ) → stopped_result stopped u g' ≡ burst 10000000 t g → IsValid m → m ≡ g.«module» → Suits g → StandsFit m t call → call ≡ None → Leaving m stopped u g'
-leaving m t u g g' stopped call e v same s stands runs =
+pub leaving : TypesAgree → (m : Module) (t u : Thread) (g g' : Store) (stopped : Stopped) (call : Option ℕ) → stopped_result stopped u g' ≡ burst 10000000 t g → IsValid m → m ≡ g.«module» → Suits g → StandsFit m t call → call ≡ None → Leaving m stopped u g'
+leaving agree m t u g g' stopped call e v same s stands runs =
     let fits = subst (λ (call : Option ℕ). StandsFit m t call) runs stands in
-    let r = result_fits m 10000000 t g (stopped_result stopped u g') e v (sym same) s fits in
+    let r = result_fits agree m 10000000 t g (stopped_result stopped u g') e v (sym same) s fits in
     record { stop = r.0; suits = r.1; same_module = result_module 10000000 t g (stopped_result stopped u g') e ∙ sym same }

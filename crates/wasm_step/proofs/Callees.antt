@@ -24,7 +24,7 @@ use Rattle.wasm_values.specs.Values.{type_of_value, types_of_values}
 use Rattle.wasm_store.specs.Suits.{Suits}
 use Rattle.wasm_step.specs.Fits.{known, put_type, label_of, Leaves, FramesFit, Fits, AfterFits, CallFits}
 use Rattle.wasm_step.specs.Reduce as Reduce
-use Rattle.wasm_types.specs.Functions.{imported_type, own_type, type_of, same_types, same_type, own_func}
+use Rattle.wasm_types.specs.Functions.{TypesAgree, imported_type, own_type, type_of, same_types, same_type, own_func}
 use Rattle.wasm_step.specs.Reduce.{After, Goes, Stops, Calls, Sticks, with_result}
 use Rattle.wasm_store.specs.Store.{Store}
 use Rattle.wasm_step.specs.Strand.{IsResult, library_result, first_result}
@@ -32,7 +32,6 @@ use Rattle.wasm_step.specs.Thread as Thread'
 use Rattle.wasm_step.specs.Thread.{Thread, Frame, without, arguments, waiting_frame, has_room}
 use Rattle.wasm_step.proofs.Fits.{never_none, is_same_equal, pops_type, RestOf, LeavesAt, with_result_fits}
 use Rattle.wasm_step.proofs.Plain.{neither, step, After', End', Before, on_top_fits, on_i32_fits}
-use Rattle.wasm_step.proofs.Starts.{same_lookup}
 
 -- ---- a function of the module
 
@@ -220,8 +219,8 @@ module _ (m : Module) (c : Context) where
         rest = subst (λ s. IsSome (F s >>= G)) (ap (push_result (result_of a.value)) p.left ∙ put_push (result_of a.value) p.more) b.rest;
       }
 
-  pub call_row_fits : (f : ℕ) (t : Thread) → IsValid m → RestOf m c t → Before m c (CallFunc f) t (types_of_values t.stack) → AfterFits m (Reduce.call m f t)
-  call_row_fits f t v r h =
+  pub call_row_fits : TypesAgree → (f : ℕ) (t : Thread) → IsValid m → RestOf m c t → Before m c (CallFunc f) t (types_of_values t.stack) → AfterFits m (Reduce.call m f t)
+  call_row_fits agree f t v r h =
       let ks = types_of_values t.stack in
       let F = After' m c t in
       let G = End' m c t in
@@ -229,7 +228,7 @@ module _ (m : Module) (c : Context) where
       let d = typed_call c.types a.value ks F G a.rest in
       let funcs : slice_get (funcs_of m) f ≡ Some a.value = ap (λ (c : Context). slice_get c.funcs f) (sym r.0.same) ∙ a.is in
       let type : slice_get m.types a.value ≡ Some d.callee = ap (λ (c : Context). slice_get c.types a.value) (sym r.0.same) ∙ d.at in
-      let found : type_of m f ≡ Some d.callee = sym (same_lookup m f v.imports) ∙ ap (option_and_then (slice_get m.types)) funcs ∙ type in
+      let found : type_of m f ≡ Some d.callee = sym (agree m f v.imports) ∙ ap (option_and_then (slice_get m.types)) funcs ∙ type in
       call_fits t f d.callee d.more v r found d.there (record { typed = d.rest; no_float = h.no_float })
 
   both : (a b : Bool) → a && b ≡ true → (a ≡ true) × (b ≡ true)

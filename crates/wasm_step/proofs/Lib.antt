@@ -13,7 +13,6 @@ pub mod Opcodes
 pub mod Plain
 pub mod Runs
 pub mod SameModule
-pub mod Starts
 pub mod Stored
 pub mod Todo
 pub mod Views

@@ -1,13 +1,11 @@
 -- Threads as their owner sees them: how they begin, what they answer, and what stands above them.
-use Rattle.std.specs.Prelude.{◌≡◌, ℕ, ◌≤◌, Bool, false, List, [], ◌∷◌, ◌++◌, Option, Some, None, length, slice_get, if◌then◌else◌}
+use Rattle.std.specs.Prelude.{◌≡◌, ℕ, ◌≤◌, Bool, false, List, [], ◌∷◌, ◌++◌, Option, Some, None, length, slice_get}
 use Rattle.wasm_types.specs.declared.code.Value.{Value}
 use Rattle.wasm_types.specs.declared.code.Value.TheVariants.{I32, I64}
 use Rattle.wasm_types.specs.declared.code.ValType.{ValType}
 use Rattle.wasm_types.specs.declared.code.ValType.TheVariants as types
-use Rattle.wasm_types.specs.declared.modules.ExportDesc.{ExportDesc}
-use Rattle.wasm_types.specs.declared.modules.ExportDesc.TheVariants.{Func as ToFunc, Table as ToTable, Memory as ToMemory, Global as ToGlobal}
-use Rattle.wasm_types.specs.Modules.{Module, Func, FuncType, Export}
-use Rattle.wasm_types.specs.Valid.{is_start_export}
+use Rattle.wasm_types.specs.Modules.{Module, Func, FuncType}
+use Rattle.wasm_types.specs.Start.{entry_from}
 use Rattle.wasm_types.specs.Locals.{zeros}
 use Rattle.wasm_step.specs.Thread.{Thread, Frame, at_start, waiting_frame, is_within}
 use Rattle.wasm_types.specs.Functions.{own_func, type_of, imported_type}
@@ -67,17 +65,6 @@ abbrev pub answered : Strand → Option Value → Strand
 answered s value = record s { thread = with_result value s.thread; call = None }
 
 -- ---- the thread that runs first
-
-abbrev pub exported : ExportDesc → Option ℕ
-exported (ToFunc f) = Some f
-exported (ToTable t) = None
-exported (ToMemory x) = None
-exported (ToGlobal g) = None
-
--- the function that the module exports as its start
-abbrev pub entry_from : Module → List Export → Option ℕ
-entry_from m [] = None
-entry_from m (e ∷ es) = if is_start_export m e then exported e.desc else entry_from m es
 
 -- the frame of the function that the start section names stands above
 abbrev pub with_start : Module → Option ℕ → Option Thread → Option Thread

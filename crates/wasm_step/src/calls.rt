@@ -12,10 +12,11 @@ ghost use Rattle.wasm_step.specs.Thread.{Thread, called, has_frame_room, waiting
 use crate::halt::Next;
 use crate::stack::Stack;
 use std::alloc::AllocError;
-use wasm_store::{
-    Callee, Store, imported_type, is_same_type, own_func, result_of, type_at, type_of,
+use wasm_store::Store;
+use wasm_types::{
+    Callee, Declared, FuncType, Module, Trap, ValidModule, Value, callee_at, imported_type,
+    is_same_type, result_of, type_at, type_of,
 };
-use wasm_types::{Declared, FuncType, Module, Trap, ValidModule, Value};
 
 impl<'m> Stack<'m> {
     fn call_library(&mut self, typing: &FuncType, index: u32) -> Next
@@ -173,7 +174,7 @@ impl<'m> Stack<'m> {
         ensures { IfOk result (λ a. after_of a self.new
             ≡ limited (call_own (module_of «module».now) index (slice_get (module_of «module».now).funcs place) self.old)) }
     {
-        let Some(callee) = own_func(module, place) else {
+        let Some(callee) = callee_at(module, place) else {
             return Ok(Next::Stuck);
         };
         let Some(typing) = type_at(module.module(), callee.type_index()) else {
@@ -253,7 +254,7 @@ fn own_typed<'m>(module: &'m ValidModule, index: u32) -> Option<(Callee<'m>, &'m
     if place < imports {
         return None;
     }
-    let callee = own_func(module, place - imports)?;
+    let callee = callee_at(module, place - imports)?;
     let typing = type_at(module.module(), callee.type_index())?;
     Some((callee, typing))
 }

@@ -2,6 +2,7 @@
 ghost use Rattle.wasm_step.specs.Laws.{KeepsModule, KeepsStamps, NeverSticks, TellsMarks};
 
 use wasm_store::marked;
+use wasm_types::types_agree;
 
 /// No burst of a valid module sticks, each leaves the module as it is, and none marks anything later than
 /// the event that writes. What that event has not marked is as it was.
@@ -12,4 +13,5 @@ pub fn never_stuck()
     ensures marks { TellsMarks }
 {
     marked();
+    types_agree();
 }

@@ -1,4 +1,3 @@
-pub mod Declared
 mod Fitting
 pub mod Globals
 pub mod Marking

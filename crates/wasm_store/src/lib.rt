@@ -1,4 +1,4 @@
-//! What a WebAssembly 1.0 module has as it runs, beside its threads: its functions, memory, globals and table.
+//! What a WebAssembly 1.0 module has as it runs, beside its threads: its memory, globals and table.
 //!
 //! Contracts see a `Store` as its module, memory, globals with their marks, the mark of the memory's size, and its table
 //! (`specs/Store`). `start` makes the one with which a module begins, or says that a segment lies outside (`specs/Start`). Each
@@ -7,14 +7,11 @@
 //! one that `start` gives does. The law `marked` says that what is not marked is as it was.
 #![tactic(auto)]
 
-mod callee;
-mod functions;
 mod global;
+mod handler;
 mod laws;
 mod start;
 mod store;
 
-pub use callee::{Callee, own_func};
-pub use functions::{imported_type, is_same_type, result_of, type_at, type_of};
 pub use laws::marked;
 pub use store::{StartError, Store};

@@ -9,8 +9,8 @@ ghost use Rattle.wasm_store.specs.Start.{first_store};
 ghost use Rattle.wasm_store.specs.Store.{func_in_table, global_stamp_of, handler_at, with_global, with_growth};
 ghost use Rattle.wasm_store.specs.Lending.{LendsMemory};
 
-use crate::functions::is_handler;
 use crate::global::Global;
+use crate::handler::is_handler;
 use crate::start::{begin, segments_fit};
 use guest_memory::Memory;
 use std::alloc::{AllocError, Global as Heap};

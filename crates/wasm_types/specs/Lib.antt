@@ -19,3 +19,4 @@ pub mod Rules
 pub mod Valid
 pub mod Slots
 pub mod Locals
+pub mod Start

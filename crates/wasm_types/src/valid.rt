@@ -3,11 +3,13 @@ ghost use Rattle.std.specs.Prelude.{◌≡◌, IfNone, IfOk, IfSome, None, Some,
 ghost use Rattle.wasm_types.specs.Context.{filled, filled_locals};
 ghost use Rattle.wasm_types.specs.Library.{importable, kind_at};
 ghost use Rattle.wasm_types.specs.Modules.{module_of};
+ghost use Rattle.wasm_types.specs.Start.{IsOwnPlain, entry_from};
 ghost use Rattle.wasm_types.specs.Valid.{IsValid};
 
 use crate::declared::Declared;
 use crate::library::importable;
 use crate::modules::{Import, Module};
+use crate::start::exported_start;
 use call_table::Kind;
 use std::alloc::{AllocError, Global};
 use std::marker::Model;
@@ -23,6 +25,8 @@ pub struct ValidModule {
     kinds: Vec<Option<Kind>>,
     // For each of the module's own functions, the locals that it declares.
     locals: Vec<Declared>,
+    // The function that is exported as its start.
+    entry: u32,
 }
 
 impl Model for ValidModule {
@@ -34,10 +38,11 @@ impl Model for ValidModule {
 
     ghost coded = { Prim.hlevel (codes, instr.the_row.coded) };
 
-    ghost use Rattle.std.specs.Prelude.{◌≡◌, map};
+    ghost use Rattle.std.specs.Prelude.{◌≡◌, Some, map};
     ghost use Rattle.wasm_types.specs.Context.{filled_locals};
     ghost use Rattle.wasm_types.specs.Library.{importable};
     ghost use Rattle.wasm_types.specs.Modules.{module_of};
+    ghost use Rattle.wasm_types.specs.Start.{entry_from};
     ghost use Rattle.wasm_types.specs.Valid.{IsValid};
 
     ghost view = { λ v. v.valid };
@@ -45,7 +50,8 @@ impl Model for ValidModule {
     ghost invariant = { λ v.
         IsValid (module_of v.valid)
         × (v.locals.items ≡ filled_locals (module_of v.valid))
-        × (v.kinds.items ≡ map (λ i. importable i.name.items) v.valid.imports.items) };
+        × (v.kinds.items ≡ map (λ i. importable i.name.items) v.valid.imports.items)
+        × (entry_from (module_of v.valid) (module_of v.valid).exports ≡ Some v.entry) };
 }
 
 /// A valid module as one that is known to be.
@@ -55,10 +61,12 @@ pub fn claim(alloc: Global, module: Module) -> Result<ValidModule, AllocError>
 {
     let kinds = import_kinds(alloc, &module.imports)?;
     let locals = filled_locals(alloc, &module)?;
+    let entry = entry(&module);
     Ok(ValidModule {
         valid: module,
         kinds,
         locals,
+        entry,
     })
 }
 
@@ -88,6 +96,17 @@ fn filled_locals(alloc: Global, module: &Module) -> Result<Vec<Declared>, AllocE
     Ok(all)
 }
 
+// The function that a valid module exports as its start.
+fn entry(module: &Module) -> u32
+    requires { IsValid (module_of «module».now) }
+    ensures { entry_from (module_of «module».now) (module_of «module».now).exports ≡ Some result }
+{
+    match exported_start(module) {
+        Some(entry) => entry,
+        None => unreachable!(),
+    }
+}
+
 impl ValidModule {
     /// The module.
     pub fn module(&self) -> &Module
@@ -112,5 +131,20 @@ impl ValidModule {
         ensures none { IfNone result (slice_get (module_of self.now).funcs place ≡ None) }
     {
         self.locals.get(place)
+    }
+    /// The function that the module exports as its start.
+    pub fn entry(&self) -> u32
+        ensures is { entry_from (module_of self.now) (module_of self.now).exports ≡ Some result }
+        ensures plain { IsOwnPlain (module_of self.now) result }
+    {
+        self.entry
+    }
+
+    /// The function that the start section names, if there is one.
+    pub fn start(&self) -> Option<u32>
+        ensures is { result ≡ (module_of self.now).start }
+        ensures plain { IfSome result (λ f. IsOwnPlain (module_of self.now) f) }
+    {
+        self.valid.start
     }
 }

@@ -1,13 +1,13 @@
 // Calls and operators.
-ghost use Rattle.std.specs.Prelude.{◌≡◌, map};
-ghost use Rattle.wasm_types.specs.Calls.{typed_call, call_type, typed_call_indirect, typed_operator, result_of};
+ghost use Rattle.std.specs.Prelude.{map};
+ghost use Rattle.wasm_types.specs.Calls.{typed_call, call_type, typed_call_indirect, typed_operator};
 ghost use Rattle.wasm_types.specs.Modules.{func_type};
 ghost use Rattle.wasm_typing.specs.Steps.{Follows};
 
 use crate::operands::Operands;
 use crate::refusal::Refusal;
 use crate::steps::{operate, pop_type};
-use wasm_types::{FuncType, ValType, operator_of};
+use wasm_types::{FuncType, ValType, operator_of, result_of};
 
 /// A call of the function with this index.
 pub(crate) fn typed_call(
@@ -55,13 +55,6 @@ fn call_type(types: &[FuncType], type_index: u32, operands: &mut Operands) -> Re
         Some(callee) => operate(operands, &callee.params, result_of(callee)),
         None => Err(Refusal::Invalid),
     }
-}
-
-/// A function's result, if it has one.
-pub fn result_of(called: &FuncType) -> Option<ValType>
-    ensures { result ≡ result_of (func_type called.now) }
-{
-    called.results.get(0).copied()
 }
 
 /// An operator by its opcode.

@@ -18,7 +18,6 @@ mod refusal;
 mod steps;
 
 pub use bodies::check_body;
-pub use calls::result_of;
 pub use context::Context;
 pub use locals::Locals;
 pub use refusal::Refusal;

@@ -1,6 +1,7 @@
 // The refusals in their order.
-ghost use Rattle.std.specs.Prelude.{MatchResult, ◌≡◌};
+ghost use Rattle.std.specs.Prelude.{◌≡◌, All, MatchResult};
 ghost use Rattle.wasm_types.specs.Context.{funcs_of};
+ghost use Rattle.wasm_types.specs.Library.{IsOfLibrary};
 ghost use Rattle.wasm_types.specs.Modules.{module_of};
 ghost use Rattle.wasm_types.specs.Rules.{IsTyped};
 ghost use Rattle.wasm_types.specs.Valid.{IsValid};
@@ -39,7 +40,7 @@ pub(crate) fn check(alloc: Global, module: &Module) -> Result<(), Invalid>
     if is_over_limit(module) {
         return Err(Invalid::OverLimit);
     }
-    if has_no_start(module, &type_indices) {
+    if has_no_start(module) {
         return Err(Invalid::NoStart);
     }
     Ok(())
@@ -47,7 +48,8 @@ pub(crate) fn check(alloc: Global, module: &Module) -> Result<(), Invalid>
 
 // Whether the module is well typed.
 fn check_typed(alloc: Global, module: &Module, type_indices: &[u32]) -> Result<(), Refusal>
-    requires { type_indices.now ≡ funcs_of (module_of «module».now) }
+    requires indices { type_indices.now ≡ funcs_of (module_of «module».now) }
+    requires imports { All (IsOfLibrary (module_of «module».now).types) (module_of «module».now).imports }
     ensures { Judges (IsTyped (module_of «module».now)) result }
 {
     check_shape(alloc, module, type_indices)?;

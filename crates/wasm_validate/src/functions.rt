@@ -1,13 +1,13 @@
 // The functions of a module.
-ghost use Rattle.std.specs.Prelude.{◌≡◌, IfOk, MatchOption, None, Some, map, slice_get};
+ghost use Rattle.std.specs.Prelude.{◌≡◌, IfOk};
 ghost use Rattle.wasm_types.specs.Context.{funcs_of};
-ghost use Rattle.wasm_types.specs.Modules.{module_of, func, func_type};
+ghost use Rattle.wasm_types.specs.Modules.{module_of, func};
 ghost use Rattle.wasm_types.specs.Rules.{IsTypedFunc, AreTypedFuncs};
 ghost use Rattle.wasm_typing.specs.Steps.{Judges};
 
 use std::alloc::{AllocError, Global};
-use wasm_types::{Func, FuncType, ImportDesc, Module};
-use wasm_typing::{Context, Locals, Refusal, check_body, result_of};
+use wasm_types::{Func, ImportDesc, Module, result_of, type_at};
+use wasm_typing::{Context, Locals, Refusal, check_body};
 
 /// Whether each function has a type of the module, and code that is well typed.
 pub(crate) fn check_functions(
@@ -49,19 +49,10 @@ fn check_function(
     requires { type_indices.now ≡ funcs_of (module_of «module».now) }
     ensures { Judges (IsTypedFunc (module_of «module».now) (func function.now)) result }
 {
-    let Some(func_type) = type_at(&module.types, function.type_index) else {
+    let Some(func_type) = type_at(module, function.type_index) else {
         return Err(Refusal::Invalid);
     };
     let locals = Locals::new(alloc, &func_type.params, &function.locals)?;
     let context = Context::new(module, type_indices, locals, result_of(func_type));
     check_body(alloc, &context, &function.body)
-}
-
-/// The type with this index, if there is one.
-pub(crate) fn type_at(types: &[FuncType], index: u32) -> Option<&FuncType>
-    ensures { MatchOption result
-        (slice_get (map func_type types.now) index ≡ None)
-        (λ t. slice_get (map func_type types.now) index ≡ Some (func_type t.now)) }
-{
-    types.get(index as usize)
 }

@@ -1,6 +1,7 @@
 // The rules of a module but those of its functions' code.
-ghost use Rattle.std.specs.Prelude.{◌≡◌};
+ghost use Rattle.std.specs.Prelude.{◌≡◌, All};
 ghost use Rattle.wasm_types.specs.Context.{funcs_of};
+ghost use Rattle.wasm_types.specs.Library.{IsOfLibrary};
 ghost use Rattle.wasm_types.specs.Modules.{module_of};
 ghost use Rattle.wasm_types.specs.Rules.{HasShape};
 ghost use Rattle.wasm_validate.specs.Shape.{is_linked, is_within_limits};
@@ -22,7 +23,8 @@ pub(crate) fn check_shape(
     module: &Module,
     type_indices: &[u32],
 ) -> Result<(), Refusal>
-    requires { type_indices.now ≡ funcs_of (module_of «module».now) }
+    requires indices { type_indices.now ≡ funcs_of (module_of «module».now) }
+    requires imports { All (IsOfLibrary (module_of «module».now).types) (module_of «module».now).imports }
     ensures { Judges (HasShape (module_of «module».now)) result }
 {
     if !is_within_limits(module) {
@@ -56,7 +58,8 @@ fn is_within_limits(module: &Module) -> bool
 
 #[tactic(auto, using(crate::proofs::Lists::list_all_map))]
 fn is_linked(module: &Module, type_indices: &[u32]) -> bool
-    requires { type_indices.now ≡ funcs_of (module_of «module».now) }
+    requires indices { type_indices.now ≡ funcs_of (module_of «module».now) }
+    requires imports { All (IsOfLibrary (module_of «module».now).types) (module_of «module».now).imports }
     ensures { result ≡ is_linked (module_of «module».now) }
 {
     if !have_types(module) {
@@ -68,7 +71,7 @@ fn is_linked(module: &Module, type_indices: &[u32]) -> bool
     if !are_exports(module, type_indices) {
         return false;
     }
-    if !is_start(module, type_indices) {
+    if !is_start(module) {
         return false;
     }
     if !are_elems(module, type_indices) {

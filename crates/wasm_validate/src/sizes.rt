@@ -4,8 +4,7 @@ ghost use Rattle.std.specs.List.{list_any};
 ghost use Rattle.wasm_types.specs.Modules.{func, module_of};
 ghost use Rattle.wasm_types.specs.Valid.{is_over_limit, local_count};
 
-use crate::functions::type_at;
-use wasm_types::{Func, Limits, Module, ValType};
+use wasm_types::{Func, Limits, Module, ValType, type_at};
 
 // A memory's pages, a table's elements, and a function's parameters and locals, all at most.
 const PAGES: u32 = 256;
@@ -48,7 +47,7 @@ fn has_large_func(module: &Module) -> bool
 fn is_large(module: &Module, function: &Func) -> bool
     ensures { result ≡ nat_lt 4096 (local_count (module_of «module».now) (func function.now)) }
 {
-    let params = match type_at(&module.types, function.type_index) {
+    let params = match type_at(module, function.type_index) {
         Some(found) => found.params.len(),
         None => 0,
     };

@@ -9,8 +9,7 @@ ghost use Rattle.wasm_step.specs.Reduce.{Ends, Goes, Stops, on_top, resumed};
 
 use super::{FRAME_LIMIT, Held, SIZE_LIMIT, Stack, push_to};
 use std::alloc::AllocError;
-use wasm_store::{Callee, result_of};
-use wasm_types::{FuncType, Slot, ValType};
+use wasm_types::{Callee, FuncType, Slot, ValType, result_of};
 
 impl<'m> Stack<'m> {
     /// A function at its start, with these arguments.

@@ -3,7 +3,7 @@ use Rattle.wasm_step.proofs.Marking.{burst_marks}
 use Rattle.wasm_step.proofs.laws.never_stuck.Goals as goal
 
 pub returns-clause-stops : goal.returns-clause-stops
-returns-clause-stops c = burst_fits
+returns-clause-stops c = burst_fits c.types_agree.ensures
 
 pub returns-clause-same_module : goal.returns-clause-same_module
 returns-clause-same_module c = burst_module

@@ -1,6 +1,6 @@
--- A valid module has the functions that run first.
+-- The types of functions, and the functions that run first in a valid module.
 use Rattle.std.proofs.Common.{◌≡◌, ℕ, zero, suc, ◌-◌, ◌≤◌, Bool, true, false, List, [], ◌∷◌, ◌++◌, Option, Some, None, length, refl, sym, ap, ◌∙◌, subst, arith, rules, tests}
-use Rattle.std.specs.Prelude.{map, slice_get, nat_lt, nat_le, if◌then◌else◌, option_and_then, All, IfSome, IsSome, ◌&&◌, ◌||◌, not}
+use Rattle.std.specs.Prelude.{map, slice_get, nat_lt, nat_le, if◌then◌else◌, option_and_then, All, IfNone, IfSome, IsSome, ◌&&◌, ◌||◌, not}
 use Rattle.std.specs.List.{list_any}
 use Rattle.std.specs.Option.{option_map, option_map_or}
 use Rattle.std.proofs.lemmas.Bool.{lt-ltb, le-ltb, ltb-true, ltb-false, leb-true}
@@ -15,7 +15,7 @@ use Rattle.wasm_types.specs.declared.modules.ExportDesc.TheVariants.{Func as ToF
 use Rattle.wasm_types.specs.Modules.{Module, Import, Export, Func, FuncType}
 use Rattle.wasm_types.specs.Valid.{IsValid, import_count, is_entry, is_plain, is_start_export}
 use Rattle.wasm_types.specs.Functions.{described, imported_type, own_type, type_of, own_func}
-use Rattle.wasm_step.specs.Strand.{entry_from, exported}
+use Rattle.wasm_types.specs.Start.{IsOwnPlain, entry_from, exported}
 
 all_rest : {X : Type 0} (P : X → Type 0) (x : X) (xs : List X) → All P (x ∷ xs) → All P xs
 all_rest P x xs h = λ k d lt. h (suc k) d (omega (arith, lt))
@@ -104,14 +104,6 @@ module _ (m : Module) where
   plain_there None e = cc
   plain_there (Some t) e = search rules
 
-  -- what an export names as its start is a function of the module's own
-  entry_own : (f : ℕ) → All (IsOfLibrary m.types) m.imports → is_entry m (ToFunc f) ≡ true → IsSome (own_func m f)
-  entry_own f h e =
-      let parts = both (nat_le (import_count m) f) _ e in
-      let counted = imports_counted m.types m.imports h in
-      let past : length m.imports ≤ f = omega (arith, counted, leb-true (import_count m) f parts.0) in
-      own_there f past (subst (λ o. IsSome o) (same_lookup f h) (plain_there (func_type_of m f) parts.1))
-
   plain_type : (o : Option FuncType) → option_map_or is_plain o false ≡ true → o ≡ Some (record { params = []; results = [] })
   plain_type None e = cc
   plain_type (Some t) e =
@@ -164,35 +156,53 @@ module _ (m : Module) where
       by_case false k rest =
           subst (λ b. IsSome (if b then exported x.desc else entry_from m es)) (sym k) (rest (ap (λ b. b || list_any (is_start_export m) es) (sym k) ∙ e))
 
+  any_named : (es : List Export) (f : ℕ) → entry_from m es ≡ Some f → list_any (is_start_export m) es ≡ true
+  any_named [] f e = cc
+  any_named (x ∷ es) f e = by_case (is_start_export m x) refl (any_named es f)
+    where
+      by_case : (b : Bool) → is_start_export m x ≡ b → (entry_from m es ≡ Some f → list_any (is_start_export m) es ≡ true) → list_any (is_start_export m) (x ∷ es) ≡ true
+      by_case true k rest = ap (λ b. b || list_any (is_start_export m) es) k
+      by_case false k rest =
+          ap (λ b. b || list_any (is_start_export m) es) k ∙ rest (ap (λ b. if b then exported x.desc else entry_from m es) (sym k) ∙ e)
+
   not_false : (b : Bool) → not b ≡ false → b ≡ true
   not_false true e = refl
   not_false false e = cc
+
+  -- what is exported as a start is found, and nothing else
+  pub entry_some : (es : List Export) (o : Option ℕ) → o ≡ entry_from m es → IfSome o (λ _. list_any (is_start_export m) es ≡ true)
+  entry_some es None e = tt
+  entry_some es (Some f) e = any_named es f (sym e)
+
+  pub entry_none : (es : List Export) (o : Option ℕ) → o ≡ entry_from m es → IfNone o (list_any (is_start_export m) es ≡ false)
+  entry_none es (Some f) e = tt
+  entry_none es None e = by_case (list_any (is_start_export m) es) refl
+    where
+      by_case : (b : Bool) → list_any (is_start_export m) es ≡ b → list_any (is_start_export m) es ≡ false
+      by_case false k = k
+      by_case true k = let impossible : false ≡ true = subst (λ (o : Option ℕ). IsSome o) (sym e) (found es k) in cc
 
   -- a valid module exports its start
   pub entry_there : IsValid m → IsSome (entry_from m m.exports)
   entry_there v = found m.exports (not_false _ (neither _ _ v.has_start).0)
 
-  -- which is a function of its own
-  pub entry_is_own : IsValid m → (f : ℕ) → entry_from m m.exports ≡ Some f → IsSome (own_func m f)
-  entry_is_own v f e = entry_own f v.imports (named m.exports f e)
+  plain_there_own : (f : ℕ) → length m.imports ≤ f → type_of m f ≡ Some (record { params = []; results = [] }) → IsOwnPlain m f
+  plain_there_own f past typed =
+      record { own = past; there = own_there f past (subst (λ (o : Option FuncType). IsSome o) (sym typed) (search rules)); type = typed }
+
+  -- which is a function of its own, with no parameters and no result
+  pub entry_is_plain : IsValid m → (f : ℕ) → entry_from m m.exports ≡ Some f → IsOwnPlain m f
+  entry_is_plain v f e = let h = entry_type f v.imports (named m.exports f e) in plain_there_own f h.0 h.1
 
   -- and so is the function that its start section names
-  pub start_is_own : IsValid m → (s : ℕ) → m.start ≡ Some s → IsSome (own_func m s)
-  start_is_own v s e =
-      let counted = imports_counted m.types m.imports v.imports in
-      let not_import : nat_lt s (import_count m) ≡ false = ap (λ o. option_map_or (λ f. nat_lt f (import_count m)) o false) (sym e) ∙ (neither (not (list_any (is_start_export m) m.exports)) (option_map_or (λ f. nat_lt f (import_count m)) m.start false) v.has_start).1 in
-      let past : length m.imports ≤ s = omega (arith, counted, ltb-false s (import_count m) not_import) in
-      let typed = subst (λ o. IfSome o (λ f. func_type_of m f ≡ Some (record { params = []; results = [] }))) e v.typed.shaped.start in
-      own_there s past (subst (λ o. IsSome o) (sym (sym (same_lookup s v.imports) ∙ typed)) (search rules))
-
-  -- the functions that run first have no parameters and no result
-  pub entry_is_plain : IsValid m → (f : ℕ) → entry_from m m.exports ≡ Some f → (length m.imports ≤ f) × (type_of m f ≡ Some (record { params = []; results = [] }))
-  entry_is_plain v f e = entry_type f v.imports (named m.exports f e)
-
-  pub start_is_plain : IsValid m → (s : ℕ) → m.start ≡ Some s → (length m.imports ≤ s) × (type_of m s ≡ Some (record { params = []; results = [] }))
+  pub start_is_plain : IsValid m → (s : ℕ) → m.start ≡ Some s → IsOwnPlain m s
   start_is_plain v s e =
       let counted = imports_counted m.types m.imports v.imports in
       let not_import : nat_lt s (import_count m) ≡ false = ap (λ o. option_map_or (λ f. nat_lt f (import_count m)) o false) (sym e) ∙ (neither (not (list_any (is_start_export m) m.exports)) (option_map_or (λ f. nat_lt f (import_count m)) m.start false) v.has_start).1 in
       let past : length m.imports ≤ s = omega (arith, counted, ltb-false s (import_count m) not_import) in
       let typed = subst (λ o. IfSome o (λ f. func_type_of m f ≡ Some (record { params = []; results = [] }))) e v.typed.shaped.start in
-      (past, sym (same_lookup s v.imports) ∙ typed)
+      plain_there_own s past (sym (same_lookup s v.imports) ∙ typed)
+
+  pub starts_plain : IsValid m → (o : Option ℕ) → m.start ≡ o → IfSome o (λ f. IsOwnPlain m f)
+  starts_plain v None e = tt
+  starts_plain v (Some f) e = start_is_plain v f e

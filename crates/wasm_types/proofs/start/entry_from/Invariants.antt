@@ -1,8 +1,8 @@
 use Rattle.std.proofs.Common.{◌≡◌, drop}
 use Rattle.std.specs.Prelude.{map}
 use Rattle.wasm_types.specs.Modules.{export, module_of}
-use Rattle.wasm_step.specs.Strand.{entry_from}
-use Rattle.wasm_step.proofs.first.entry_from.Given as goal
+use Rattle.wasm_types.specs.Start.{entry_from}
+use Rattle.wasm_types.proofs.start.entry_from.Given as goal
 
 abbrev pub invariant-loop-export : goal.invariant-loop-export
 invariant-loop-export l =

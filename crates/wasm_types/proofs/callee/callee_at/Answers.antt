@@ -3,8 +3,8 @@ use Rattle.std.proofs.lemmas.Grind.{common_steps}
 use Rattle.std.proofs.lemmas.Option.{gets, slice_get-map}
 use Rattle.std.specs.Option.{option_map}
 use Rattle.wasm_types.specs.Modules.{func, module_of}
-use Rattle.wasm_store.proofs.Declared.{zeros_at}
-use Rattle.wasm_store.proofs.callee.own_func.Goals as goal
+use Rattle.wasm_types.proofs.LocalLaws.{zeros_at}
+use Rattle.wasm_types.proofs.callee.callee_at.Goals as goal
 
 module _ (c : goal.In-Some-declared) where
   own : slice_get (module_of c.args.«module».now).funcs c.args.place ≡ Some (func c.in-Some.func.now)

@@ -4,8 +4,11 @@ ghost use Rattle.wasm_types.specs.Code.{trees};
 ghost use Rattle.wasm_types.specs.Locals.{zeros};
 ghost use Rattle.wasm_types.specs.Modules.{module_of};
 
+use crate::code::Instr;
+use crate::declared::Declared;
+use crate::modules::Func;
+use crate::valid::ValidModule;
 use std::marker::Model;
-use wasm_types::{Declared, Func, Instr, ValidModule};
 
 /// A function of the module, and the locals that it declares. Contracts see the function alone.
 #[derive(Drop)]
@@ -55,7 +58,7 @@ impl<'m> Callee<'m> {
 }
 
 /// The module's own function at this place.
-pub fn own_func<'m>(module: &'m ValidModule, place: usize) -> Option<Callee<'m>>
+pub fn callee_at<'m>(module: &'m ValidModule, place: usize) -> Option<Callee<'m>>
     ensures some { IfSome result (λ callee. slice_get (module_of «module».now).funcs place ≡ Some callee) }
     ensures none { IfNone result (slice_get (module_of «module».now).funcs place ≡ None) }
 {

@@ -3,7 +3,7 @@ use Rattle.std.specs.Prelude.{◌&&◌}
 use Rattle.wasm_types.specs.declared.code.ValType.{ValType}
 use Rattle.wasm_types.specs.Stack.{is_same}
 use Rattle.wasm_types.specs.Functions.{same_types}
-use Rattle.wasm_store.proofs.functions.same_types.Goals as goal
+use Rattle.wasm_types.proofs.functions.same_types.Goals as goal
 
 and_false : (b : Bool) → false ≡ b && false
 and_false true = refl

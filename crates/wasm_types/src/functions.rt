@@ -1,13 +1,12 @@
 // The functions of a module and their types. The imports have the first indices.
-ghost use Rattle.std.specs.Prelude.{◌≡◌, IfSome, IfNone, None, Some, false, slice_get};
-ghost use Rattle.std.specs.Option.{option_map_or};
-ghost use Rattle.wasm_store.specs.Store.{is_handler, is_number, takes_number};
+ghost use Rattle.std.specs.Prelude.{◌≡◌, IfSome, IfNone, None, Some, slice_get};
 ghost use Rattle.wasm_types.specs.Calls.{result_of};
 ghost use Rattle.wasm_types.specs.Functions.{imported_type, own_type, same_type, same_types, type_of};
 ghost use Rattle.wasm_types.specs.Modules.{func_type, module_of};
 ghost use Rattle.wasm_types.specs.Stack.{is_same};
 
-use wasm_types::{FuncType, ImportDesc, Module, ValType};
+use crate::code::ValType;
+use crate::modules::{FuncType, ImportDesc, Module};
 
 /// The type of a function's result, if it has one.
 pub fn result_of(typing: &FuncType) -> Option<ValType>
@@ -62,37 +61,6 @@ pub fn type_of<'m>(module: &'m Module, index: u32) -> Option<&'m FuncType>
         imported_type(module, place)
     } else {
         own_type(module, place - module.imports.len())
-    }
-}
-
-/// Whether the module itself defines the function, with one parameter of 32 bits and no result.
-pub(crate) fn is_handler(module: &Module, index: u32) -> bool
-    ensures { result ≡ is_handler (module_of «module».now) index }
-{
-    index as usize >= module.imports.len() && has_handler_type(module, index)
-}
-
-fn has_handler_type(module: &Module, index: u32) -> bool
-    ensures { result ≡ option_map_or takes_number (type_of (module_of «module».now) index) false }
-{
-    match type_of(module, index) {
-        Some(typing) => takes_number(typing),
-        None => false,
-    }
-}
-
-fn takes_number(typing: &FuncType) -> bool
-    ensures { result ≡ takes_number (func_type typing.now) }
-{
-    is_number(&typing.params) && typing.results.is_empty()
-}
-
-fn is_number(params: &[ValType]) -> bool
-    ensures { result ≡ is_number params.now }
-{
-    match params {
-        [ValType::I32] => true,
-        _ => false,
     }
 }
 
