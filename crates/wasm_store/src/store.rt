@@ -1,8 +1,8 @@
 // What the threads of a module share: its memory, its globals and its table.
-ghost use Rattle.std.specs.Prelude.{◌≡◌, ◌↔◌, Err, IfOk, None, OnOk, Some, length, nat_lt, if◌then◌else◌, slice_get};
+ghost use Rattle.std.specs.Prelude.{◌≡◌, ◌↔◌, Err, IfOk, None, OnErr, OnOk, Some, length, nat_lt, if◌then◌else◌, slice_get};
 ghost use Rattle.std.specs.Borrow.{sem};
-ghost use Rattle.guest_memory.specs.Memory.{after_store, growth, is_inside};
-ghost use Rattle.guest_memory.specs.LittleEndian.{IsWidth};
+ghost use Rattle.guest_memory.specs.Memory.{WritesPrefix, after_store, growth, is_inside};
+ghost use Rattle.guest_memory.specs.LittleEndian.{IsWidth, low_bytes};
 ghost use Rattle.wasm_types.specs.Modules.{module_of};
 ghost use Rattle.wasm_store.specs.Suits.{Suits};
 ghost use Rattle.wasm_store.specs.Start.{first_store};
@@ -194,6 +194,8 @@ impl<'m> Store<'m> {
         requires { IsWidth width }
         ensures is { IfOk result (λ is_in. is_in ≡ is_inside self.old.memory addr width) }
         ensures new { OnOk result (self.new ≡ record self.old { memory = after_store self.old.memory addr width bits }) }
+        ensures err { OnErr result (WritesPrefix self.old.memory self.new.memory addr (low_bytes width bits)) }
+        ensures rest { OnErr result (self.new ≡ record self.old { memory = self.new.memory }) }
     {
         let is_in = self.memory.store(addr, width, bits)?;
         Ok(is_in)
@@ -213,6 +215,7 @@ impl<'m> Store<'m> {
     pub fn grow(&mut self, pages: u32) -> Result<Option<u32>, AllocError>
         ensures before { IfOk result (λ before. before ≡ growth self.old.memory pages) }
         ensures new { OnOk result (self.new ≡ with_growth self.old pages) }
+        ensures err { OnErr result (self.new ≡ self.old) }
     {
         let before = self.memory.grow(pages)?;
         if pages > 0 && before.is_some() {
