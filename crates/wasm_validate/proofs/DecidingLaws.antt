@@ -13,11 +13,12 @@ use Rattle.wasm_types.specs.declared.code.ValType.{ValType}
 use Rattle.wasm_types.specs.declared.code.ValType.TheVariants.{I32, I64, F32, F64}
 use Rattle.wasm_types.specs.Stack.{is_same}
 use Rattle.wasm_types.specs.Modules.{FuncType, Import, Func, Export, Module}
+use Rattle.wasm_types.specs.Functions.{same_type, same_types}
 use Rattle.wasm_types.specs.Library.{IsOfLibrary, importable, imported_type_index, signature_type}
 use Rattle.wasm_types.specs.Rules.{HasShape, IsTyped, IsTypedFunc}
 use Rattle.wasm_validate.specs.Shape.{is_linked, is_within_limits}
 use Rattle.wasm_validate.proofs.ShapeLaws.{linked_by, shaped_from, within_by}
-use Rattle.wasm_validate.specs.Deciding.{are_same, is_same_type, is_typed_as, is_of_library, are_of_library, are_distinct, has_shape, is_typed_body, is_typed_func, is_typed}
+use Rattle.wasm_validate.specs.Deciding.{is_typed_as, is_of_library, are_of_library, are_distinct, has_shape, is_typed_body, is_typed_func, is_typed}
 
 -- ---- types
 
@@ -28,13 +29,13 @@ same-Decides F32 F32 = (λ _. refl, λ _. refl)
 same-Decides F64 F64 = (λ _. refl, λ _. refl)
 same-Decides t u = (λ e. absurd cc, λ e. absurd cc)
 
-are_same-Decides : (ts us : List ValType) → Decides (are_same ts us) (ts ≡ us)
-are_same-Decides [] [] = (λ _. refl, λ _. refl)
-are_same-Decides [] (u ∷ us) = (λ e. absurd cc, λ e. absurd cc)
-are_same-Decides (t ∷ ts) [] = (λ e. absurd cc, λ e. absurd cc)
-are_same-Decides (t ∷ ts) (u ∷ us) =
+same_types-Decides : (ts us : List ValType) → Decides (same_types ts us) (ts ≡ us)
+same_types-Decides [] [] = (λ _. refl, λ _. refl)
+same_types-Decides [] (u ∷ us) = (λ e. absurd cc, λ e. absurd cc)
+same_types-Decides (t ∷ ts) [] = (λ e. absurd cc, λ e. absurd cc)
+same_types-Decides (t ∷ ts) (u ∷ us) =
     Decides-like _ (λ h. ap (λ (x : ValType). x ∷ ts) h.0 ∙ ap (λ (xs : List ValType). u ∷ xs) h.1) (λ e. (cc, cc))
-    (Decides-and (is_same t u) (are_same ts us) (same-Decides t u) (are_same-Decides ts us))
+    (Decides-and (is_same t u) (same_types ts us) (same-Decides t u) (same_types-Decides ts us))
 
 -- types with the same parameters and results
 same_parts : (t u : FuncType) → t.params ≡ u.params → t.results ≡ u.results → t ≡ u
@@ -42,10 +43,10 @@ same_parts t u params results =
     let made : List ValType → List ValType → FuncType = λ p r. record { params = p; results = r } in
     ap (λ (p : List ValType). made p t.results) params ∙ ap (made u.params) results
 
-same_type-Decides : (t u : FuncType) → Decides (is_same_type t u) (t ≡ u)
+same_type-Decides : (t u : FuncType) → Decides (same_type t u) (t ≡ u)
 same_type-Decides t u =
     Decides-like _ (λ h. same_parts t u h.0 h.1) (λ e. (ap (λ (f : FuncType). f.params) e, ap (λ (f : FuncType). f.results) e))
-    (Decides-and _ _ (are_same-Decides t.params u.params) (are_same-Decides t.results u.results))
+    (Decides-and _ _ (same_types-Decides t.params u.params) (same_types-Decides t.results u.results))
 
 -- ---- what may be absent
 
@@ -54,7 +55,7 @@ some-Decides p P each None = (λ e. absurd cc, λ h. absurd h)
 some-Decides p P each (Some x) = each x
 
 -- the value is this one
-is-Decides : (wanted : FuncType) (o : Option FuncType) → Decides (option_map_or (is_same_type wanted) o false) (o ≡ Some wanted)
+is-Decides : (wanted : FuncType) (o : Option FuncType) → Decides (option_map_or (same_type wanted) o false) (o ≡ Some wanted)
 is-Decides wanted None = (λ e. absurd cc, λ e. absurd cc)
 is-Decides wanted (Some found) = Decides-like _ (λ e. ap Some (sym e)) (λ e. cc) (same_type-Decides wanted found)
 

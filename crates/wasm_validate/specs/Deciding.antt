@@ -3,27 +3,19 @@ use Rattle.std.specs.Prelude.{ℕ, Bool, true, false, not, ◌&&◌, List, [], �
 use Rattle.std.specs.List.{list_all}
 use Rattle.std.specs.Option.{option_map_or, is_some}
 use Rattle.call_table.specs.Table.{row}
-use Rattle.wasm_types.specs.declared.code.ValType.{ValType}
 use Rattle.wasm_types.specs.Calls.{result_of}
 use Rattle.wasm_types.specs.Context.{context_of, expand}
+use Rattle.wasm_types.specs.Functions.{same_type}
 use Rattle.wasm_types.specs.Library.{importable, imported_type_index, signature_type}
 use Rattle.wasm_types.specs.Maybe.{◌>>=◌}
 use Rattle.wasm_types.specs.Modules.{FuncType, Import, Func, Export, Module}
-use Rattle.wasm_types.specs.Stack.{empty_stack, is_exactly, is_same}
+use Rattle.wasm_types.specs.Stack.{empty_stack, is_exactly}
 use Rattle.wasm_types.specs.Typing.{typed_instrs}
 use Rattle.wasm_validate.specs.Shape.{is_linked, is_within_limits}
 
-abbrev pub are_same : List ValType → List ValType → Bool
-are_same [] [] = true
-are_same (t ∷ ts) (u ∷ us) = is_same t u && are_same ts us
-are_same _ _ = false
-
-abbrev pub is_same_type : FuncType → FuncType → Bool
-is_same_type t u = are_same t.params u.params && are_same t.results u.results
-
 -- the type with this index, if there is one, is this type
 abbrev pub is_type_at : List FuncType → FuncType → ℕ → Bool
-is_type_at types type t = option_map_or (is_same_type type) (slice_get types t) false
+is_type_at types type t = option_map_or (same_type type) (slice_get types t) false
 
 -- the import is a function of exactly this type
 abbrev pub is_typed_as : List FuncType → Import → FuncType → Bool
