@@ -5,7 +5,7 @@ ghost use Rattle.lib_calls.specs.Answer.{answer_of};
 ghost use Rattle.lib_calls.specs.Entry.{entry_of};
 ghost use Rattle.lib_calls.specs.Effects.{WritesPart, brings, with_incoming, has_good, is_answer, put_in, received, sender_of as sender_number, written};
 
-use crate::arguments::good_arguments;
+use crate::arguments::has_good;
 use crate::entry::EntryView;
 use call_table::Kind;
 use guest_memory::Memory;
@@ -28,13 +28,14 @@ pub fn write_back(entry: &EntryView<'_>, memory: &mut Memory) -> Result<(), Allo
     ensures err { OnErr result (WritesPart entry.now.call (answer_of (entry_of entry.now)) memory.old memory.new) }
     ensures max { memory.new.max ≡ memory.old.max }
 {
-    if !good_arguments(&entry.call, memory) {
+    let Some(kind) = Kind::from_number(entry.call.kind) else {
+        return Ok(());
+    };
+    // Most calls write nothing, whatever their arguments are.
+    if !kind.has_incoming() || !has_good(kind, &entry.call, memory) {
         return Ok(());
     }
-    match Kind::from_number(entry.call.kind) {
-        Some(kind) => write_answer(kind, entry, memory),
-        None => Ok(()),
-    }
+    write_answer(kind, entry, memory)
 }
 
 // Writes what an answer does to a call of this kind with good arguments.

@@ -29,7 +29,7 @@ pub fn good_arguments(call: &Call, memory: &Memory) -> bool
 }
 
 // The same for a call of this kind.
-fn has_good(kind: Kind, call: &Call, memory: &Memory) -> bool
+pub(crate) fn has_good(kind: Kind, call: &Call, memory: &Memory) -> bool
     ensures { result ≡ has_good kind call.now memory.now }
 {
     match kind {
@@ -63,6 +63,7 @@ pub(crate) fn is_inside(memory: &Memory, addr: u64, len: u64) -> bool
 /// A copy of the bytes that the call sends out of the memory as it is now: those that print and send
 /// name, where their arguments are good, and none else.
 #[tactic(auto, unfolding(crate::specs::Effects::outgoing_of))]
+#[inline(always)]
 pub fn outgoing(alloc: Global, call: &Call, memory: &Memory) -> Result<Bytes, AllocError>
     ensures { IfOk result (λ bytes. bytes ≡ outgoing_of call.now memory.now) }
 {
@@ -73,6 +74,7 @@ pub fn outgoing(alloc: Global, call: &Call, memory: &Memory) -> Result<Bytes, Al
 }
 
 // The same for a call of this kind.
+#[inline(always)]
 fn sent_out(alloc: Global, kind: Kind, call: &Call, memory: &Memory) -> Result<Bytes, AllocError>
     ensures { IfOk result (λ bytes. bytes ≡ sent_out kind call.now memory.now) }
 {
