@@ -58,13 +58,12 @@ impl<'m, 'a> Replayer<'m, 'a> {
     {
         // The proof needs that what is left is a slice, and so shorter than 2 ^ 63 bytes.
         let _ = log.rest().len();
-        let mut following = log.copy();
-        let turn = next_turn(&process, &mut following);
-        let ahead = Ahead {
-            log,
-            turn,
-            following,
+        let mut ahead = Ahead {
+            log: log.copy(),
+            turn: Turn::LogEnd,
+            following: log,
         };
+        ahead.look(&process);
         let ahead = Box::new(alloc, ahead)?;
         Ok(Replayer { process, ahead })
     }
@@ -77,6 +76,7 @@ impl<'m, 'a> Replayer<'m, 'a> {
     }
 
     /// The next turn. At the log's end and at a divergence nothing changes, and the same comes again.
+    #[inline(always)]
     pub fn next_event(self) -> Result<(Replayer<'m, 'a>, Turn<'a>), AllocError>
         ensures turn { IfOk result (λ r. move_of r.1 ≡ turn self.entry) }
         ensures after { IfOk result (λ r. r.0 ≡ after self.entry) }
@@ -85,10 +85,10 @@ impl<'m, 'a> Replayer<'m, 'a> {
         counting();
         let Replayer { process, mut ahead } = self;
         let turn = ahead.turn;
-        let Turn::Event(entry) = turn else {
+        let Turn::Event(entry) = &turn else {
             return Ok((Replayer { process, ahead }, turn));
         };
-        let process = process.advance(&entry)?;
+        let process = process.advance(entry)?;
         ahead.go_on(&process);
         Ok((Replayer { process, ahead }, turn))
     }
@@ -147,7 +147,23 @@ impl<'a> Ahead<'a> {
         ensures ahead { IsAhead (replaying process.now self.old.following) self.new.turn self.new.following }
     {
         self.log = self.following.copy();
-        self.turn = next_turn(process, &mut self.following);
+        self.look(process);
+    }
+
+    // Reads the entry that stands next, and judges it. The turn is written where it is kept, and not moved there.
+    fn look(&mut self, process: &Process<'_>)
+        requires { IsRoomy process.now self.old.following }
+        ensures log { self.new.log ≡ self.old.log }
+        ensures ahead { IsAhead (replaying process.now self.old.following) self.new.turn self.new.following }
+    {
+        let Some(entry) = self.following.next_entry() else {
+            self.turn = Turn::LogEnd;
+            return;
+        };
+        match process.legal(&entry) {
+            Ok(()) => self.turn = Turn::Event(entry),
+            Err(why) => self.turn = Turn::Diverged(process.events() + 1, why),
+        }
     }
 
     fn copy(&self) -> Ahead<'a>
@@ -158,19 +174,5 @@ impl<'a> Ahead<'a> {
             turn: self.turn,
             following: self.following.copy(),
         }
-    }
-}
-
-// Reads the entry that stands next in a log, and judges it.
-fn next_turn<'a>(process: &Process<'_>, log: &mut LogView<'a>) -> Turn<'a>
-    requires { IsRoomy process.now log.old }
-    ensures { IsAhead (replaying process.now log.old) result log.new }
-{
-    let Some(entry) = log.next_entry() else {
-        return Turn::LogEnd;
-    };
-    match process.legal(&entry) {
-        Ok(()) => Turn::Event(entry),
-        Err(why) => Turn::Diverged(process.events() + 1, why),
     }
 }
