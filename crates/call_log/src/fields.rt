@@ -20,10 +20,14 @@ pub(crate) fn is_kind(number: u8) -> bool
 
 // How many arguments the calls of the kind have.
 #[tactic(auto, unfolding(lib_calls::specs::Kinds::argument_count))]
+#[inline(always)]
 pub(crate) fn argument_count(number: u8) -> u8
     ensures { result ≡ argument_count_of number }
 {
-    Kind::from_number(number).map_or(0, |kind| kind.argument_count())
+    match Kind::from_number(number) {
+        Some(kind) => kind.argument_count(),
+        None => 0,
+    }
 }
 
 // Whether entries of the kind have the bytes that went out.

@@ -1,9 +1,10 @@
 // Writing the head and the entries of a log.
-ghost use Rattle.std.specs.Prelude.{◌≡◌, ◌^◌, ◌<◌, ◌≤◌, ◌++◌, length, map, take, Some, OnOk, OnErr};
+ghost use Rattle.std.specs.Prelude.{◌≡◌, ◌^◌, ◌<◌, ◌≤◌, ◌++◌, ◌&&◌, nat_lt, length, map, take, Some, OnOk, OnErr};
 ghost use Rattle.std.specs.List.{concat};
 ghost use Rattle.lib_calls.specs.Entry.{IsStringIf, IsTagIf, entry_of, IsShaped};
 ghost use Rattle.call_log.specs.Entry.{argument_bytes, body_bytes, encoding, flagged, front_bytes, number_if, reply_bytes, string_if, tag_if};
 ghost use Rattle.call_log.specs.declared.version.Version.TheVariants.{Two};
+ghost use Rattle.call_log.specs.Version.{clock_gap};
 ghost use Rattle.call_log.specs.Head.{IsHead, head_bytes, head_of};
 
 use crate::fields::{argument_count, has_incoming, has_outgoing, has_tag};
@@ -122,9 +123,50 @@ fn put_body(
 }
 
 // Adds the fields in front of the arguments, or some of them where memory is wanting.
-#[tactic(auto, unfolding(crate::specs::Entry::front_bytes))]
 #[inline(always)]
 fn put_front(
+    out: &mut Vec<u8>,
+    version: Version,
+    last: u64,
+    entry: &EntryView<'_>,
+) -> Result<(), AllocError>
+    ensures ok { OnOk result (out.new.items ≡ out.old.items ++ front_bytes version last (entry_of entry.now)) }
+    ensures err { OnErr result (take (length out.old.items) out.new.items ≡ out.old.items) }
+{
+    match version {
+        Version::Two if is_short(last, entry) => put_short_front(out, last, entry),
+        _ => put_any_front(out, version, last, entry),
+    }
+}
+
+// Whether the clock and the thread take one byte each in version 2.
+#[inline(always)]
+fn is_short(last: u64, entry: &EntryView<'_>) -> bool
+    ensures { result ≡ (nat_lt (clock_gap last entry.now.clock) 128 && nat_lt entry.now.thread 128) }
+{
+    entry.clock.wrapping_sub(last) < 128 && entry.thread < 128
+}
+
+// The same of version 2, where the clock and the thread take one byte each: most often they do.
+#[tactic(auto, unfolding(crate::specs::Entry::front_bytes, fri_bytes::specs::Short::short_bytes))]
+#[inline(always)]
+fn put_short_front(out: &mut Vec<u8>, last: u64, entry: &EntryView<'_>) -> Result<(), AllocError>
+    requires gap { clock_gap last entry.now.clock < 128 }
+    requires thread { entry.now.thread < 128 }
+    ensures ok { OnOk result (out.new.items ≡ out.old.items ++ front_bytes Two last (entry_of entry.now)) }
+    ensures err { OnErr result (out.new.items ≡ out.old.items) }
+{
+    let gap = entry.clock.wrapping_sub(last);
+    put_bytes(
+        out,
+        &[gap as u8, entry.thread as u8, entry.call.kind, entry.signal],
+    )
+}
+
+// The same of any entry.
+#[tactic(auto, unfolding(crate::specs::Entry::front_bytes))]
+#[inline(always)]
+fn put_any_front(
     out: &mut Vec<u8>,
     version: Version,
     last: u64,
