@@ -13,6 +13,7 @@ use signal_points::MOST_SIGNAL;
 
 /// The signal that is delivered with the answer to a call of the thread of process p, whatever the answer
 /// is: the lowest that is pending and then has a handler, or 0. None is where the call ends the process.
+#[inline(always)]
 pub(crate) fn signal_after(
     process: &Process<'_>,
     thread: u16,
@@ -33,6 +34,7 @@ pub(crate) fn signal_after(
 }
 
 // The lowest signal that is pending and has a handler after the answer, or 0. At nearly all events none is pending.
+#[inline(always)]
 fn lowest_ready(process: &Process<'_>, thread: u16, world: &World, p: u32) -> u8
     requires { p < process_count world.now }
     ensures { (a : Answer) → result ≡ lowest (is_ready_of (handlers_at process.now thread a) (has_pending world.now p)) most_signal 1 }
@@ -40,6 +42,14 @@ fn lowest_ready(process: &Process<'_>, thread: u16, world: &World, p: u32) -> u8
     if world.has_no_signal(p) {
         return 0;
     }
+    lowest_of_all(process, thread, world, p)
+}
+
+// The same, where some signal is pending.
+fn lowest_of_all(process: &Process<'_>, thread: u16, world: &World, p: u32) -> u8
+    requires { p < process_count world.now }
+    ensures { (a : Answer) → result ≡ lowest (is_ready_of (handlers_at process.now thread a) (has_pending world.now p)) most_signal 1 }
+{
     for s in 1..MOST_SIGNAL + 1 {
         if is_ready(process, thread, world, p, s) {
             return s;
