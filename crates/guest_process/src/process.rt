@@ -131,6 +131,7 @@ impl<'m> Process<'m> {
 
     /// Whether the entry can be the process's next event, and else the first condition that fails, in
     /// the order of `Divergence`. It takes no memory.
+    #[inline(never)]
     pub fn legal(&self, entry: &EntryView<'_>) -> Result<(), Divergence>
         ensures { refused result ≡ reason self.now (entry_of entry.now) }
     {
