@@ -1,16 +1,20 @@
 -- What holds within a group.
 use Rattle.std.specs.Prelude.{◌≡◌, ◌<◌, ◌≤◌, ◌^◌, length, map}
+use Rattle.group_state.specs.declared.group.Course.{Course}
 use Rattle.group_state.specs.declared.group.Group.TheInside.{Inside}
 use Rattle.group_state.specs.Place.{AreParts, PartsFit, Place, events, head}
 use Rattle.group_state.specs.Motions.{AreMotions}
 use Rattle.group_state.specs.Stands.{AreStands, IsStand}
 
+abbrev pub place_of_course : Course → Place
+place_of_course g = record { start = g.first.items; at = g.here.at }
+
 abbrev pub place_of_group : Inside → Place
-place_of_group g = record { start = g.first.items; at = g.here.at }
+place_of_group g = place_of_course g.course.value
 
 -- the group stands at its position and stood at its checkpoints, the heads are those of the position, and it knows the
 -- positions of each node's events up to it
-pub record IsSoundGroup (g : Inside) : Type 0 where
+pub record IsSoundCourse (g : Course) : Type 0 where
   pub parts : AreParts g.first.items
   pub fits : PartsFit g.first.items
   pub few : length (events g.first.items) < 2 ^ 64
@@ -19,3 +23,6 @@ pub record IsSoundGroup (g : Inside) : Type 0 where
   pub kept : AreStands g.first.items g.checkpoints.stands.items
   pub moved : AreMotions g.first.items g.motions
   pub been : g.here.at ≤ g.motions.reached
+
+abbrev pub IsSoundGroup : Inside → Type 0
+IsSoundGroup g = IsSoundCourse g.course.value

@@ -1,6 +1,7 @@
 // A group at a position.
-ghost use Rattle.std.specs.Prelude.{◌≡◌, ◌≤◌, ◌-◌, ℕ, Some, None, IfOk, IsTrue, IsFalse, ◌↔◌, length, map, option_map, slice_get};
+ghost use Rattle.std.specs.Prelude.{◌≡◌, ◌≤◌, ◌-◌, ℕ, Some, None, IfOk, IsTrue, IsFalse, OnOk, ◌↔◌, length, map, option_map, slice_get};
 ghost use Rattle.group_state.specs.Place.{AreParts, PartsFit, Place, events, states};
+ghost use Rattle.group_state.specs.At.{IsSoundCourse, place_of_course};
 ghost use Rattle.group_state.specs.Moves.{IsThere, Moves, event_of, last_event_of};
 
 use crate::checkpoints::Checkpoints;
@@ -20,6 +21,13 @@ use std::marker::Model;
 /// clock and then by node. Contracts see the replays at position 0, and the position.
 #[derive(Drop)]
 pub struct Group<'m, 'a> {
+    // Behind a box, since a group is moved at each event.
+    pub(crate) course: Box<Course<'m, 'a>>,
+}
+
+/// Where a group began, where it stands, and what it knows of the way.
+#[derive(Drop)]
+pub(crate) struct Course<'m, 'a> {
     alloc: Global,
     // Where the group begins is a checkpoint too.
     pub(crate) first: Vec<Replayer<'m, 'a>>,
@@ -28,6 +36,74 @@ pub struct Group<'m, 'a> {
     merge: Merge,
     pub(crate) motions: Motions,
     pub(crate) counter: Counter,
+}
+
+impl<'m, 'a> Course<'m, 'a> {
+    // Makes the next event. None comes exactly at the end, and then nothing changes.
+    fn forward(&mut self) -> Result<Option<GroupEvent<'a>>, AllocError>
+        requires { IsSoundCourse self.old }
+        ensures sound { OnOk result (IsSoundCourse self.new) }
+        ensures moves { IfOk result (Moves (place_of_course self.old) (place_of_course self.new)) }
+    {
+        merges::<Entry>();
+        replays();
+        rises();
+        kept();
+        let Some(node) = self.merge.next_process() else {
+            return Ok(None);
+        };
+        let turn = take_turn(&mut self.here.parts, node)?;
+        let part = &self.here.parts[node as usize];
+        let _ = part.process().memory().size();
+        let head = head_of(part);
+        self.merge.set_head(node, head);
+        let Turn::Event(entry) = turn else {
+            unreachable!();
+        };
+        let event = GroupEvent { node, entry };
+        self.here.at += 1;
+        self.here.last = Some(event);
+        self.motions.add(node, self.here.at)?;
+        self.checkpoints.keep(self.alloc, &self.here)?;
+        self.counter.count_event();
+        Ok(Some(event))
+    }
+
+    // Stands where it comes to position k soonest: where it is, or at the last checkpoint that is not past the position.
+    // All checkpoints are where it has been.
+    fn go_near(&mut self, alloc: Global, k: u64) -> Result<(), AllocError>
+        requires { IsSoundCourse self.old }
+        ensures sound { OnOk result (IsSoundCourse self.new) }
+        ensures start { OnOk result (self.new.first.items ≡ self.old.first.items) }
+        ensures at { OnOk result (self.new.here.at ≤ k) }
+    {
+        let nearest = self.checkpoints.nearest(k.min(self.motions.reached()));
+        let from = match nearest {
+            Some(stand) => stand.at,
+            None => 0,
+        };
+        if from <= self.here.at && self.here.at <= k {
+            return Ok(());
+        }
+        let stand = Stand::at_checkpoint(alloc, nearest, &self.first)?;
+        let merge = merge_of(alloc, &stand.parts)?;
+        self.here = stand;
+        self.merge = merge;
+        Ok(())
+    }
+
+    // The replay of a node, at the position.
+    fn replay(&self, node: u32) -> Option<&Replayer<'m, 'a>>
+        requires { IsSoundCourse self.now }
+        ensures { option_map (λ part. part.now.state) result ≡ slice_get (states self.now.first.items self.now.here.at) node }
+    {
+        merges::<Entry>();
+        replays();
+        rises();
+        kept();
+        let part = self.here.parts.get(node as usize)?;
+        Some(part)
+    }
 }
 
 impl<'m, 'a> Model for Group<'m, 'a> {
@@ -56,7 +132,7 @@ impl<'m, 'a> Group<'m, 'a> {
         let here = Stand::first(alloc, &parts)?;
         let merge = merge_of(alloc, &here.parts)?;
         let motions = Motions::none(alloc, parts.len())?;
-        Ok(Group {
+        let course = Course {
             alloc,
             first: parts,
             checkpoints: Checkpoints::new(alloc),
@@ -64,7 +140,9 @@ impl<'m, 'a> Group<'m, 'a> {
             merge,
             motions,
             counter: Counter::new(),
-        })
+        };
+        let course = Box::new(alloc, course)?;
+        Ok(Group { course })
     }
 
     /// The group after the next event, and that event. None comes exactly at the end, and the group is then
@@ -72,45 +150,9 @@ impl<'m, 'a> Group<'m, 'a> {
     pub fn forward(self) -> Result<(Group<'m, 'a>, Option<GroupEvent<'a>>), AllocError>
         ensures { IfOk result (λ moved. Moves self.entry moved.0 moved.1) }
     {
-        merges::<Entry>();
-        replays();
-        rises();
-        kept();
-        let Some(node) = self.merge.next_process() else {
-            return Ok((self, None));
-        };
-        let Group {
-            alloc,
-            first,
-            mut checkpoints,
-            mut here,
-            mut merge,
-            mut motions,
-            mut counter,
-        } = self;
-        let turn = take_turn(&mut here.parts, node)?;
-        let part = &here.parts[node as usize];
-        merge.set_head(node, head_of(part));
-        let _ = part.process().memory().size();
-        let Turn::Event(entry) = turn else {
-            unreachable!();
-        };
-        let event = GroupEvent { node, entry };
-        here.at += 1;
-        here.last = Some(event);
-        motions.add(node, here.at)?;
-        checkpoints.keep(alloc, &here)?;
-        counter.count_event();
-        let group = Group {
-            alloc,
-            first,
-            checkpoints,
-            here,
-            merge,
-            motions,
-            counter,
-        };
-        Ok((group, Some(event)))
+        let Group { mut course } = self;
+        let event = course.forward()?;
+        Ok((Group { course }, event))
     }
 
     /// The group at position k, and true. False comes exactly where there are fewer than k events, and the
@@ -119,7 +161,7 @@ impl<'m, 'a> Group<'m, 'a> {
     pub fn goto(self, alloc: Global, k: u64) -> Result<(Group<'m, 'a>, bool), AllocError>
         ensures { IfOk result (λ went. IsThere self.entry k went.0 went.1) }
     {
-        let at = self.here.at;
+        let at = self.course.here.at;
         let (reached, there) = self.near(alloc, k)?.advance_to(k)?;
         if there {
             return Ok((reached, true));
@@ -128,27 +170,14 @@ impl<'m, 'a> Group<'m, 'a> {
         Ok((back, false))
     }
 
-    // The group from where it comes to position k soonest: as it is, or at the last checkpoint that is not past the position.
-    // All checkpoints are where it has been.
+    // The group from where it comes to position k soonest.
     fn near(self, alloc: Global, k: u64) -> Result<Group<'m, 'a>, AllocError>
         ensures start { IfOk result (λ group. group.start ≡ self.entry.start) }
         ensures at { IfOk result (λ group. group.at ≤ k) }
     {
-        let nearest = self.checkpoints.nearest(k.min(self.motions.reached()));
-        let from = match nearest {
-            Some(stand) => stand.at,
-            None => 0,
-        };
-        if from <= self.here.at && self.here.at <= k {
-            return Ok(self);
-        }
-        let stand = Stand::at_checkpoint(alloc, nearest, &self.first)?;
-        let merge = merge_of(alloc, &stand.parts)?;
-        Ok(Group {
-            here: stand,
-            merge,
-            ..self
-        })
+        let Group { mut course } = self;
+        course.go_near(alloc, k)?;
+        Ok(Group { course })
     }
 
     // The group at position k, which is not behind it, and true; or at its end, and false.
@@ -159,7 +188,7 @@ impl<'m, 'a> Group<'m, 'a> {
         ensures within { IfOk result (λ went. IsTrue went.1 ↔ k ≤ length (events self.entry.start)) }
     {
         let mut group = self;
-        'events: while group.here.at < k {
+        'events: while group.course.here.at < k {
             let (next, event) = group.forward()?;
             group = next;
             if event.is_none() {
@@ -176,28 +205,28 @@ impl<'m, 'a> Group<'m, 'a> {
         ensures parts { AreParts self.now.start }
         ensures fits { PartsFit self.now.start }
     {
-        self.here.at
+        self.course.here.at
     }
 
     /// The event that was made last. None comes exactly at position 0.
     pub fn last_event(&self) -> Option<GroupEvent<'a>>
         ensures { option_map event_of result ≡ last_event_of self.now }
     {
-        self.here.last
+        self.course.here.last
     }
 
     /// How many logs there are.
     pub fn nodes(&self) -> u32
         ensures { result ≡ length self.now.start }
     {
-        self.first.len() as u32
+        self.course.first.len() as u32
     }
 
     /// The name of a node's process. None comes exactly where there is no such node.
     pub fn node_name(&self, node: u32) -> Option<&'a [u8]>
         ensures { option_map (λ name. name.now) result ≡ slice_get (map (λ r. r.head.name) self.now.start) node }
     {
-        Some(self.first.get(node as usize)?.head().name)
+        Some(self.course.first.get(node as usize)?.head().name)
     }
 
     /// The process of a node, at the position. None comes exactly where there is no such node.
@@ -211,11 +240,6 @@ impl<'m, 'a> Group<'m, 'a> {
     pub(crate) fn replay(&self, node: u32) -> Option<&Replayer<'m, 'a>>
         ensures { option_map (λ part. part.now.state) result ≡ slice_get (states self.now.start self.now.at) node }
     {
-        merges::<Entry>();
-        replays();
-        rises();
-        kept();
-        let part = self.here.parts.get(node as usize)?;
-        Some(part)
+        self.course.replay(node)
     }
 }

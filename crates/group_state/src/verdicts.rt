@@ -1,9 +1,10 @@
 // The verdict on one log of a group.
 ghost use Rattle.std.specs.Prelude.{◌≡◌, length, map, slice_get};
+ghost use Rattle.group_state.specs.At.{IsSoundCourse};
 ghost use Rattle.group_state.specs.Place.{events};
 ghost use Rattle.group_state.specs.Report.{verdict_on};
 
-use crate::group::Group;
+use crate::group::{Course, Group};
 use crate::part::verdict;
 use group_order::merges;
 use guest_process::{Verdict, kept, rises};
@@ -16,6 +17,16 @@ impl<'m, 'a> Group<'m, 'a> {
     pub fn verdict(&self, node: u32) -> Option<Verdict>
         requires { self.now.at ≡ length (events self.now.start) }
         ensures { result ≡ slice_get (map verdict_on self.now.start) node }
+    {
+        self.course.verdict(node)
+    }
+}
+
+impl<'m, 'a> Course<'m, 'a> {
+    fn verdict(&self, node: u32) -> Option<Verdict>
+        requires sound { IsSoundCourse self.now }
+        requires end { self.now.here.at ≡ length (events self.now.first.items) }
+        ensures { result ≡ slice_get (map verdict_on self.now.first.items) node }
     {
         merges::<Entry>();
         replays();

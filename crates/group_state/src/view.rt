@@ -2,7 +2,7 @@
 ghost use Rattle.std.specs.Prelude.{◌≡◌};
 ghost use Rattle.group_state.specs.Seen.{signed_global};
 
-use crate::group::Group;
+use crate::group::{Course, Group};
 use crate::laws::stepwise;
 use group_order::merges;
 use guest_process::{Process, kept, rises, unmarked_stays};
@@ -50,7 +50,7 @@ impl<'m, 'a> View for Group<'m, 'a> {
     }
 
     fn part(&self, node: u32, addr: u64, len: u64) -> Option<&[u8]> {
-        self.counter.count_load();
+        self.course.counter.count_load();
         self.at(node).memory().part(addr, len)
     }
 
@@ -86,6 +86,24 @@ impl<'m, 'a> Group<'m, 'a> {
         ensures { (S : State) (l : Location) → slice_get (states self.now.start self.now.at) node ≡ Some S → node_of l ≡ node → number ≡ mark_in S l
             → result ≡ mark self.now.start self.now.at l }
     {
+        self.course.position_of(node, number)
+    }
+}
+
+impl<'m, 'a> Course<'m, 'a> {
+    ghost use Rattle.std.specs.Prelude.{slice_get, Some};
+    ghost use Rattle.group_state.specs.At.{IsSoundCourse};
+    ghost use Rattle.group_state.specs.Place.{states};
+    ghost use Rattle.group_state.specs.Touch.{mark_in, mark};
+    ghost use Rattle.guest_process.specs.State.{State};
+    ghost use Rattle.watch_expr.specs.declared.reads.Place.{Place as Location};
+    ghost use Rattle.page_watch.specs.Touch.{node_of};
+
+    fn position_of(&self, node: u32, number: u64) -> u64
+        requires { IsSoundCourse self.now }
+        ensures { (S : State) (l : Location) → slice_get (states self.now.first.items self.now.here.at) node ≡ Some S → node_of l ≡ node → number ≡ mark_in S l
+            → result ≡ mark self.now.first.items self.now.here.at l }
+    {
         stepwise();
         rises();
         kept();
@@ -112,7 +130,7 @@ impl<'m, 'a> TouchView for Group<'m, 'a> {
         kept();
         stepwise();
         unmarked_stays();
-        self.here.at
+        self.course.here.at
     }
 
     fn last_node(&self) -> Option<u32> {

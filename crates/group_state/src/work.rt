@@ -39,8 +39,8 @@ impl<'m, 'a> Group<'m, 'a> {
     /// What the group has done.
     pub fn work(&self) -> Work {
         Work {
-            events: self.counter.events,
-            loads: self.counter.loads.get(),
+            events: self.course.counter.events,
+            loads: self.course.counter.loads.get(),
         }
     }
 }

@@ -1,6 +1,7 @@
 use Rattle.std.proofs.Common.{◌∙◌, List, length, map, ap, arith, subst, sym}
 use Rattle.std.proofs.lemmas.List.Elements.{All-nil}
 use Rattle.proc_replay.specs.Replaying.{Replaying}
+use Rattle.group_state.specs.At.{IsSoundCourse}
 use Rattle.group_state.specs.Motions.{no_motions}
 use Rattle.group_state.specs.Place.{PartsFit, head}
 use Rattle.group_state.specs.Stands.{AreStands, IsStand}
@@ -17,7 +18,7 @@ merge_of-requires c =
 pub invariant_of-result : goal.invariant_of-result
 invariant_of-result c =
     let parts = c.args.parts.items in
-    record {
+    subst IsSoundCourse (sym c.in_ok-course.ensures.ok) (record {
       parts = c.requires;
       fits = subst PartsFit c.deref.ensures.value c.in_ok-here.ensures.fits;
       few = few_events c.replays.ensures.turn parts c.requires.within c.requires.few;
@@ -26,4 +27,4 @@ invariant_of-result c =
       kept = subst (AreStands parts) (sym c.new.ensures) (All-nil (IsStand parts));
       moved = first_motions parts c.in_ok-motions.motions (c.in_ok-motions.ensures ∙ ap no_motions (c.len.ensures ∙ c.args.parts.ok.0));
       been = omega (arith, c.in_ok-here.ensures.at);
-    }
+    })

@@ -5,7 +5,7 @@ use Rattle.group_state.proofs.view.GroupTouchView.position.Goals as goal
 
 pub returns-clause-tells : goal.returns-clause-tells
 returns-clause-tells c =
-    let g = c.self.inside in
+    let g = c.self.inside.course.value in
     let i = c.self.invariant in
     let states = ap (map (λ r. r.state)) i.here.parts
     ∙ states_at c.merges.ensures c.rises.ensures c.kept.ensures.ranges c.replays.ensures.turn g.first.items i.fits g.here.at c.replays.ensures.course i.parts.fresh in

@@ -1,36 +1,36 @@
-use Rattle.std.proofs.Common.{◌≡◌, ◌<◌, ◌∙◌, length, get_or, take, ap, subst, sym, arith}
-use Rattle.group_state.specs.Place.{Place, events}
+use Rattle.std.proofs.Common.{◌<◌, ◌∙◌, length, get_or, take, ap, arith}
+use Rattle.group_state.specs.Place.{events}
 use Rattle.group_state.specs.Report.{verdict_on}
 use Rattle.group_state.proofs.Telling.{none_said, said_at, told}
-use Rattle.group_state.proofs.group.Group.verdict.Goals as goal
+use Rattle.group_state.proofs.group.Course.verdict.Goals as goal
 
 pub returns-in_err-part : goal.returns-in_err-part
 returns-in_err-part c =
-    let g = c.self.inside in
+    let g = c.args.self.now in
     let past = c.in_err-part.ensures.lookup.3 in
-    let none = none_said g.first.items g.here.parts.items (take g.here.at (events g.first.items)) c.args.node c.self.invariant.here.parts (omega (arith, past, c.deref.ensures.len)) in
-    rw (← c.self.view_is) (rw c.from_residual.ensures none)
+    let none = none_said g.first.items g.here.parts.items (take g.here.at (events g.first.items)) c.args.node c.requires.sound.here.parts (omega (arith, past, c.deref.ensures.len)) in
+    (rw c.from_residual.ensures none)
 
 pub verdict-requires : goal.verdict-requires
 verdict-requires c =
-    let g = c.self.inside in
-    let i = c.self.invariant in
+    let g = c.args.self.now in
+    let i = c.requires.sound in
     let lookup = c.in_ok-part.ensures.lookup in
     let part = c.in_ok-part.part.now in
     let within : c.args.node < length g.here.parts.items = omega (arith, lookup.3.0, ap length c.deref.ensures.value) in
-    let ended = subst (λ (p : Place). p.at ≡ length (events p.start)) (sym c.self.view_is) c.requires in
+    let ended = c.requires.end in
     let t = told c.merges.ensures c.rises.ensures c.kept.ensures.ranges g.first.items i.fits c.replays.ensures.course i.parts g.here.at g.here.parts.items c.args.node part
     ended i.here.parts within (lookup.1 ∙ ap (λ rs. get_or rs c.args.node part) c.deref.ensures.value) in
     (verdict_on t.first, t.tells)
 
 pub returns : goal.returns
 returns c =
-    let g = c.self.inside in
-    let i = c.self.invariant in
+    let g = c.args.self.now in
+    let i = c.requires.sound in
     let lookup = c.in_ok-part.ensures.lookup in
     let part = c.in_ok-part.part.now in
     let within : c.args.node < length g.here.parts.items = omega (arith, lookup.3.0, ap length c.deref.ensures.value) in
-    let ended = subst (λ (p : Place). p.at ≡ length (events p.start)) (sym c.self.view_is) c.requires in
+    let ended = c.requires.end in
     let t = told c.merges.ensures c.rises.ensures c.kept.ensures.ranges g.first.items i.fits c.replays.ensures.course i.parts g.here.at g.here.parts.items c.args.node part
     ended i.here.parts within (lookup.1 ∙ ap (λ rs. get_or rs c.args.node part) c.deref.ensures.value) in
-    rw (← c.self.view_is) (said_at g.first.items c.args.node part c.verdict.result t c.verdict.ensures)
+    (said_at g.first.items c.args.node part c.verdict.result t c.verdict.ensures)

@@ -1,24 +1,24 @@
-use Rattle.std.proofs.Common.{◌≡◌, ◌≤◌, ◌∙◌, List, length, map, ap, subst, arith}
+use Rattle.std.proofs.Common.{◌∙◌, List, length, map, ap, subst, arith}
 use Rattle.std.specs.Prelude.{IfSome}
 use Rattle.proc_replay.specs.Replaying.{Replaying}
 use Rattle.group_state.specs.Place.{head}
 use Rattle.group_state.specs.Stands.{IsStand}
 use Rattle.group_state.proofs.Copying.{few_parts, kept_checkpoint}
-use Rattle.group_state.proofs.group.Group.near.Goals as goal
+use Rattle.group_state.proofs.group.Course.go_near.Goals as goal
 
 pub merge_of-requires : goal.merge_of-requires
 merge_of-requires c =
-    let g = c.self.inside in
-    let i = c.self.invariant in
+    let g = c.args.self.now in
+    let i = c.requires in
     let kept = kept_checkpoint g.first.items g.checkpoints.stands.items c.nearest-nearest.result c.nearest-nearest.ensures.among i.kept in
     let is : IsStand g.first.items c.in_ok-stand.stand =
     subst (λ (start : List Replaying). IfSome c.nearest-nearest.result (λ s. IsStand start s.now) → IsStand start c.in_ok-stand.stand) c.deref.ensures.value c.in_ok-stand.ensures.stand kept in
     omega (arith, few_parts g.first.items c.in_ok-stand.stand is i.parts.few, ap length c.deref-2.ensures.value)
 
-pub invariant_of-result : goal.invariant_of-result
-invariant_of-result c =
-    let g = c.self.inside in
-    let i = c.self.invariant in
+pub returns-clause-sound : goal.returns-clause-sound
+returns-clause-sound c =
+    let g = c.args.self.now in
+    let i = c.requires in
     let kept = kept_checkpoint g.first.items g.checkpoints.stands.items c.nearest-nearest.result c.nearest-nearest.ensures.among i.kept in
     let is : IsStand g.first.items c.in_ok-stand.stand =
     subst (λ (start : List Replaying). IfSome c.nearest-nearest.result (λ s. IsStand start s.now) → IsStand start c.in_ok-stand.stand) c.deref.ensures.value c.in_ok-stand.ensures.stand kept in

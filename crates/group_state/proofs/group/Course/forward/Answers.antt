@@ -8,46 +8,49 @@ use Rattle.group_state.proofs.Following.{ends}
 use Rattle.group_state.proofs.Forwarding.{forwarded, given, is_event, stands_on}
 use Rattle.group_state.proofs.Moved.{length_motions, moved_on}
 use Rattle.group_order.specs.Order.{node_event}
-use Rattle.group_state.proofs.group.Group.forward.Goals as goal
+use Rattle.group_state.proofs.group.Course.forward.Goals as goal
 
-pub returns-in_default : goal.returns-in_default
-returns-in_default c =
-    let g = c.self.inside in
-    let i = c.self.invariant in
-    rw (← c.self.view_is) (record {
+pub returns-in_default-clause-sound : goal.returns-in_default-clause-sound
+returns-in_default-clause-sound c = c.requires
+
+pub returns-in_default-clause-moves : goal.returns-in_default-clause-moves
+returns-in_default-clause-moves c =
+    let g = c.args.self.now in
+    let i = c.requires in
+    record {
       gives = sym (ends c.merges.ensures c.rises.ensures c.kept.ensures.ranges c.replays.ensures.turn g.first.items i.fits g.here.at
           (subst AreNone (i.heads ∙ ap (map head) i.here.parts) c.in_default.ensures.next));
       place = refl;
-    })
+    }
 
 pub index-part-requires : goal.index-part-requires
 index-part-requires c =
-    let g = c.self.inside in
-    let i = c.self.invariant in
+    let g = c.args.self.now in
+    let i = c.requires in
     let f = forwarded c.merges.ensures c.rises.ensures c.kept.ensures.ranges c.replays.ensures.turn g.first.items _ _ _ g.here.at _ _
     i.fits i.here.parts i.heads c.in-Some.ensures.next c.in_ok-turn.ensures in
     omega (arith, f.fits)
 
 pub unreachable-requires : goal.unreachable-requires
 unreachable-requires c =
-    let g = c.self.inside in
-    let i = c.self.invariant in
+    let g = c.args.self.now in
+    let i = c.requires in
     let f = forwarded c.merges.ensures c.rises.ensures c.kept.ensures.ranges c.replays.ensures.turn g.first.items _ _ _ g.here.at _ _
     i.fits i.here.parts i.heads c.in-Some.ensures.next c.in_ok-turn.ensures in
     is_event c.in_ok-turn.turn f.entry f.told c.in_default-turn.not-Event
 
-pub overflow_add-here : goal.overflow_add-here
-overflow_add-here c =
-    let g = c.self.inside in
-    let i = c.self.invariant in
+pub overflow_add-self : goal.overflow_add-self
+overflow_add-self c =
+    let g = c.args.self.now in
+    let i = c.requires in
     let f = forwarded c.merges.ensures c.rises.ensures c.kept.ensures.ranges c.replays.ensures.turn g.first.items _ _ _ g.here.at _ _
     i.fits i.here.parts i.heads c.in-Some.ensures.next c.in_ok-turn.ensures in
     omega (arith, f.within, i.few)
 
 pub add-requires : goal.add-requires
 add-requires c =
-    let g = c.self.inside in
-    let i = c.self.invariant in
+    let g = c.args.self.now in
+    let i = c.requires in
     let f = forwarded c.merges.ensures c.rises.ensures c.kept.ensures.ranges c.replays.ensures.turn g.first.items _ _ _ g.here.at _ _
     i.fits i.here.parts i.heads c.in-Some.ensures.next c.in_ok-turn.ensures in
     omega (
@@ -59,10 +62,10 @@ add-requires c =
       length_motions 0 g.first.items (take g.motions.reached (events g.first.items)),
     )
 
-pub invariant_of-group : goal.invariant_of-group
-invariant_of-group c =
-    let g = c.self.inside in
-    let i = c.self.invariant in
+pub returns-clause-sound : goal.returns-clause-sound
+returns-clause-sound c =
+    let g = c.args.self.now in
+    let i = c.requires in
     let f = forwarded c.merges.ensures c.rises.ensures c.kept.ensures.ranges c.replays.ensures.turn g.first.items _ _ _ g.here.at _ _
     i.fits i.here.parts i.heads c.in-Some.ensures.next c.in_ok-turn.ensures in
     let sound = f.sound i.here.sound c.index-part.result.now c.index-part.ensures (subst IsMemory (c.memory.ensures ∙ ap (λ (S : State). S.store.memory) c.process.ensures) c.size.ensures.sound) in
@@ -73,16 +76,16 @@ invariant_of-group c =
       fits = i.fits;
       few = i.few;
       here = stands_on _ _ _ _ _ _ _ _ _ f c.in-Event.is refl refl refl sound;
-      heads = c.set_head.ensures ∙ ap (λ h. slice_set g.merge c.in-Some.node h) c.head_of.ensures ∙ f.merged c.index-part.result.now c.index-part.ensures;
+      heads = c.set_head.ensures ∙ ap (λ h. slice_set g.merge c.in-Some.node h) c.head_of-head.ensures ∙ f.merged c.index-part.result.now c.index-part.ensures;
       moved = moved.are;
       been = moved.been;
       kept = c.keep.ensures g.first.items i.kept (stands_on _ _ _ _ _ _ _ _ _ f c.in-Event.is refl refl refl sound);
     }
 
-pub returns : goal.returns
-returns c =
-    let g = c.self.inside in
-    let i = c.self.invariant in
+pub returns-clause-moves : goal.returns-clause-moves
+returns-clause-moves c =
+    let g = c.args.self.now in
+    let i = c.requires in
     let f = forwarded c.merges.ensures c.rises.ensures c.kept.ensures.ranges c.replays.ensures.turn g.first.items _ _ _ g.here.at _ _
     i.fits i.here.parts i.heads c.in-Some.ensures.next c.in_ok-turn.ensures in
-    rw (← c.self.view_is) (record { gives = given _ _ _ _ _ _ _ c.in-Event.entry f c.in-Event.is; place = refl })
+    (record { gives = given _ _ _ _ _ _ _ c.in-Event.entry f c.in-Event.is; place = refl })
