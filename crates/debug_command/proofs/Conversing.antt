@@ -12,7 +12,7 @@ use Rattle.command_run.specs.declared.refusal.Reason.TheVariants as reason
 use Rattle.command_run.specs.declared.status.Status.{Status}
 use Rattle.command_run.specs.declared.status.Status.TheVariants as status
 use Rattle.command_run.specs.Call.{IsAnswerStatus, Prints, said_after}
-use Rattle.debug_command.specs.Conversation.{Converses, IsNone, TakesOfInput, TakesTurns, heard_after}
+use Rattle.debug_command.specs.Conversation.{Converses, IsNone, TakesOfInput, TakesTurns, TerminalState, heard_after}
 use Rattle.debug_command.specs.Debug.{input_name, session_outcome, whole_lines}
 use Rattle.command_run.specs.Outcome.{outcome_text, refused_line}
 use Rattle.debug_command.specs.Talk.{Held, SessionHolds}
@@ -54,18 +54,18 @@ none_heard count status.WriteFault other = refl
 none_heard count status.NoMemory other = refl
 
 -- the turns of a session that was held
-turns_held : (start : List Replaying) (old new : Hearing) (printed now : Option (List ℕ)) (why : Ended) → SessionHolds start old new printed now why → WhenTold old.asked (TakesTurns start old new printed)
-turns_held start old new printed now why h = λ earlier told.
+turns_held : (start : List Replaying) (old new : TerminalState) (why : Ended) → SessionHolds start old new why → WhenTold old.hearing.asked (TakesTurns start old.hearing new.hearing old.taken)
+turns_held start old new why h = λ earlier told.
     let c = h.turns earlier told in
-    record { askings = c.askings; noted = c.noted; in_turn = c.in_turn; taken = subst (λ (l : List ℕ). WhenTold old.left (λ input. TakesOfInput input new.left l)) (sym c.given) h.read }
+    record { askings = c.askings; noted = c.noted; in_turn = c.in_turn; taken = subst (λ (l : List ℕ). WhenTold old.hearing.left (λ input. TakesOfInput input new.hearing.left l)) (sym c.given) h.read }
 
-module _ (start : List Replaying) (left after : Hearing) (printed now : Option (List ℕ)) (out_faults out_faults_after : ℕ) where
-  pub conversed_done : Held start left after printed now cause.Done → after.faults ≡ left.faults → out_faults_after ≡ out_faults → Converses start left after printed now out_faults out_faults_after status.Done
+module _ (start : List Replaying) (old new : TerminalState) where
+  pub conversed_done : Held start old new cause.Done → new.hearing.faults ≡ old.hearing.faults → new.faults ≡ old.faults → Converses start old new status.Done
   unfolding Held
   conversed_done h reads writes = record {
     ended = λ input told answer. let s = h.said input told in (let fits = s.fits in rw fits refl);
     text = λ input told. let s = h.said input told in (let fits = s.fits in rw fits (prints_all _ _ _ _ _ refl s.text));
-    turns = turns_held start left after printed now cause.Done h;
+    turns = turns_held start old new cause.Done h;
     input = λ input told. record { taken = h.taken; is_taken = h.read input told; asks = h.asks; at_end = λ is. (let s = h.said input told in s.at_end) };
     answered = λ is. absurd cc;
     other = λ none. none;
@@ -74,14 +74,14 @@ module _ (start : List Replaying) (left after : Hearing) (printed now : Option (
     writes = writes;
   }
 
-  pub conversed_read : Held start left after printed now cause.ReadFault → after.faults ≡ raised left.faults → out_faults_after ≡ out_faults → Converses start left after printed now out_faults out_faults_after status.ReadFault
+  pub conversed_read : Held start old new cause.ReadFault → new.hearing.faults ≡ raised old.hearing.faults → new.faults ≡ old.faults → Converses start old new status.ReadFault
   unfolding Held
   conversed_read h reads writes = record {
     ended = λ input told answer. absurd answer;
     text = λ input told. (let s = h.said input told in let r = h.read input told in
-        let p = part_of start printed now h.taken (length (session_text start (whole_lines h.taken))) s.within (s.text ∙ ap (append_known printed) (sym (take-length (session_text start (whole_lines h.taken))))) r.rest in
-        record { whole = λ answer. absurd answer; part = (p.0, p.1 ∙ ap (λ (l : List ℕ). append_known printed (take p.0 (outcome_text (session_outcome start l)))) (sym r.whole)) });
-    turns = turns_held start left after printed now cause.ReadFault h;
+        let p = part_of start old.taken new.taken h.taken (length (session_text start (whole_lines h.taken))) s.within (s.text ∙ ap (append_known old.taken) (sym (take-length (session_text start (whole_lines h.taken))))) r.rest in
+        record { whole = λ answer. absurd answer; part = (p.0, p.1 ∙ ap (λ (l : List ℕ). append_known old.taken (take p.0 (outcome_text (session_outcome start l)))) (sym r.whole)) });
+    turns = turns_held start old new cause.ReadFault h;
     input = λ input told. record { taken = h.taken; is_taken = h.read input told; asks = h.asks; at_end = λ is. absurd cc };
     answered = λ is input told. (let s = h.said input told in record { taken = h.taken; is_taken = h.read input told; text = s.text; goes_on = s.goes_on });
     other = λ none. none;
@@ -90,12 +90,12 @@ module _ (start : List Replaying) (left after : Hearing) (printed now : Option (
     writes = writes;
   }
 
-  pub conversed_write : Held start left after printed now cause.WriteFault → after.faults ≡ left.faults → out_faults_after ≡ raised out_faults → Converses start left after printed now out_faults out_faults_after status.WriteFault
+  pub conversed_write : Held start old new cause.WriteFault → new.hearing.faults ≡ old.hearing.faults → new.faults ≡ raised old.faults → Converses start old new status.WriteFault
   unfolding Held
   conversed_write h reads writes = record {
     ended = λ input told answer. absurd answer;
     text = λ input told. record { whole = λ answer. absurd answer; part = h.said input told };
-    turns = turns_held start left after printed now cause.WriteFault h;
+    turns = turns_held start old new cause.WriteFault h;
     input = λ input told. record { taken = h.taken; is_taken = h.read input told; asks = h.asks; at_end = λ is. absurd cc };
     answered = λ is. absurd cc;
     other = λ none. none;
@@ -104,12 +104,12 @@ module _ (start : List Replaying) (left after : Hearing) (printed now : Option (
     writes = writes;
   }
 
-  pub conversed_memory : Held start left after printed now cause.NoMemory → after.faults ≡ left.faults → out_faults_after ≡ out_faults → Converses start left after printed now out_faults out_faults_after status.NoMemory
+  pub conversed_memory : Held start old new cause.NoMemory → new.hearing.faults ≡ old.hearing.faults → new.faults ≡ old.faults → Converses start old new status.NoMemory
   unfolding Held
   conversed_memory h reads writes = record {
     ended = λ input told answer. absurd answer;
     text = λ input told. record { whole = λ answer. absurd answer; part = h.said input told };
-    turns = turns_held start left after printed now cause.NoMemory h;
+    turns = turns_held start old new cause.NoMemory h;
     input = λ input told. record { taken = h.taken; is_taken = h.read input told; asks = h.asks; at_end = λ is. absurd cc };
     answered = λ is. absurd cc;
     other = λ none. none;
@@ -119,14 +119,14 @@ module _ (start : List Replaying) (left after : Hearing) (printed now : Option (
   }
 
   -- the refusal was said, or could not be said
-  pub conversed_large : (here : Hearing) (mid : Option (List ℕ)) (answer : Status) → Held start left here printed mid cause.TooLarge → after ≡ here → here.faults ≡ left.faults
-      → (IsAnswerStatus answer → answer ≡ status.Refused) → Prints answer (refused_line input_name reason.TooLarge) mid now → (answer ≡ status.ReadFault → ⊥)
-      → out_faults_after ≡ said_after out_faults answer → Converses start left after printed now out_faults out_faults_after answer
+  pub conversed_large : (here : TerminalState) (answer : Status) → Held start old here cause.TooLarge → new.hearing ≡ here.hearing → here.hearing.faults ≡ old.hearing.faults
+      → (IsAnswerStatus answer → answer ≡ status.Refused) → Prints answer (refused_line input_name reason.TooLarge) here.taken new.taken → (answer ≡ status.ReadFault → ⊥)
+      → new.faults ≡ said_after old.faults answer → Converses start old new answer
   unfolding Held
-  conversed_large here mid answer h same reads only prints not_read writes = record {
+  conversed_large here answer h same reads only prints not_read writes = record {
     ended = λ input told is. (let s = h.said input told in let large = s.0 in rw large (only is));
-    text = λ input told. (let s = h.said input told in let large = s.0 in rw large (prints_behind answer _ _ printed mid now s.1 prints));
-    turns = subst (λ (n : Hearing). WhenTold left.asked (TakesTurns start left n printed)) (sym same) (turns_held start left here printed mid cause.TooLarge h);
+    text = λ input told. (let s = h.said input told in let large = s.0 in rw large (prints_behind answer _ _ old.taken here.taken new.taken s.1 prints));
+    turns = subst (λ (n : Hearing). WhenTold old.hearing.asked (TakesTurns start old.hearing n old.taken)) (sym same) (turns_held start old here cause.TooLarge h);
     input = λ input told. record {
       taken = h.taken;
       is_taken = subst (λ (n : Hearing). TakesOfInput input n.left h.taken) (sym same) (h.read input told);
@@ -135,7 +135,7 @@ module _ (start : List Replaying) (left after : Hearing) (printed now : Option (
     };
     answered = λ is. absurd (not_read is);
     other = is_refused answer only;
-    refused = λ is. (let l = h.large refl in let w = prints_behind answer l.0 (refused_line input_name reason.TooLarge) printed mid now l.1 prints in (l.0, w.whole (subst IsAnswerStatus (sym is) tt)));
-    reads = ap (λ (n : Hearing). n.faults) same ∙ reads ∙ sym (none_heard left.faults answer not_read);
+    refused = λ is. (let l = h.large refl in let w = prints_behind answer l.0 (refused_line input_name reason.TooLarge) old.taken here.taken new.taken l.1 prints in (l.0, w.whole (subst IsAnswerStatus (sym is) tt)));
+    reads = ap (λ (n : Hearing). n.faults) same ∙ reads ∙ sym (none_heard old.hearing.faults answer not_read);
     writes = writes;
   }

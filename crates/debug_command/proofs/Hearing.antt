@@ -15,11 +15,11 @@ use Rattle.friday_shell.specs.Points.{SessionState}
 use Rattle.friday_shell.specs.Session.{answers, ends, opening, session_text}
 use Rattle.debug_command.specs.declared.converse.Ended.{Ended}
 use Rattle.debug_command.specs.declared.converse.Ended.TheVariants as cause
-use Rattle.debug_command.specs.Conversation.{AreInTurn, Asks, IsInTurn, TakesOfInput}
+use Rattle.debug_command.specs.Conversation.{AreInTurn, Asks, IsInTurn, TakesOfInput, TerminalState}
 use Rattle.debug_command.specs.Debug.{early_lines, is_large, session_outcome, whole_lines}
 use Rattle.debug_command.specs.Limits.{most_input}
 use Rattle.command_run.specs.Outcome.{outcome_text}
-use Rattle.debug_command.specs.Talk.{Breaks, CameInTurn, Concludes, GoesOn, NotesPiece, PrintsPart, Said, SaysSome, SessionHolds, SessionStands, Spoke, Stops, StopsAtPiece, StopsIn, ended_by}
+use Rattle.debug_command.specs.Talk.{Breaks, CameInTurn, Concludes, GoesOn, NotesPiece, PrintsPart, Said, SaysSome, SessionHolds, SessionStands, Spoke, Stops, StopsAtPiece, StopsIn, Talk, exchange_of, ended_by}
 use Rattle.debug_command.proofs.WholeLines.{few_lines-open, lines_of-open, session_more}
 use Rattle.debug_command.proofs.Talking.{append_twice, fits_short, overruns_more, part_more, quits_more, take_front}
 
@@ -32,20 +32,20 @@ stops_more start printed now taken more cause.ReadFault s = absurd s
 stops_more start printed now taken more cause.WriteFault s = part_more start printed now taken more s
 stops_more start printed now taken more cause.NoMemory s = part_more start printed now taken more s
 
-pub goes_on_none : (now : Option (List ℕ)) (state : SessionState) (begun : List ℕ) (count : ℕ) → GoesOn [] now now state begun count state begun count
+pub goes_on_none : (now : Option (List ℕ)) (talk : Talk) → GoesOn [] now now talk talk
 unfolding GoesOn
-goes_on_none now state begun count = λ start printed taken s. subst (SessionStands start printed now state begun count) (sym (append-nil taken)) s
+goes_on_none now talk = λ start printed taken s. subst (SessionStands start printed now talk) (sym (append-nil taken)) s
 
-pub goes_on_more : (a b : List ℕ) (before mid now : Option (List ℕ)) (state : SessionState) (begun : List ℕ) (count : ℕ) (state1 : SessionState) (begun1 : List ℕ) (count1 : ℕ) (state2 : SessionState) (begun2 : List ℕ) (count2 : ℕ)
-    → GoesOn a before mid state begun count state1 begun1 count1 → GoesOn b mid now state1 begun1 count1 state2 begun2 count2 → GoesOn (a ++ b) before now state begun count state2 begun2 count2
+pub goes_on_more : (a b : List ℕ) (before mid now : Option (List ℕ)) (talk here next : Talk)
+    → GoesOn a before mid talk here → GoesOn b mid now here next → GoesOn (a ++ b) before now talk next
 unfolding GoesOn
-goes_on_more a b before mid now state begun count state1 begun1 count1 state2 begun2 count2 first second = λ start printed taken s.
-    subst (SessionStands start printed now state2 begun2 count2) (append_assoc taken a b) (second start printed (taken ++ a) (first start printed taken s))
+goes_on_more a b before mid now talk here next first second = λ start printed taken s.
+    subst (SessionStands start printed now next) (append_assoc taken a b) (second start printed (taken ++ a) (first start printed taken s))
 
-pub stops_later : (a b more : List ℕ) (before mid now : Option (List ℕ)) (state : SessionState) (begun : List ℕ) (count : ℕ) (state1 : SessionState) (begun1 : List ℕ) (count1 : ℕ) (why : Ended)
-    → GoesOn a before mid state begun count state1 begun1 count1 → StopsIn b mid now state1 begun1 count1 why → StopsIn ((a ++ b) ++ more) before now state begun count why
+pub stops_later : (a b more : List ℕ) (before mid now : Option (List ℕ)) (talk here : Talk) (why : Ended)
+    → GoesOn a before mid talk here → StopsIn b mid now here why → StopsIn ((a ++ b) ++ more) before now talk why
 unfolding GoesOn StopsIn
-stops_later a b more before mid now state begun count state1 begun1 count1 why first second = (
+stops_later a b more before mid now talk here why first second = (
   second.0,
   λ start printed taken s.
       let there = second.1 start printed (taken ++ a) (first start printed taken s) in
@@ -90,7 +90,7 @@ given_more (a ∷ later) asking = ap (λ (l : List ℕ). a.given ++ l) (given_mo
 pub turns_none : (start : List Replaying) (printed : Option (List ℕ)) (asked : Option (List Asking)) → WhenTold asked (λ earlier. CameInTurn start printed [] earlier asked)
 turns_none start printed asked = λ earlier told. record { askings = []; noted = told ∙ ap Some (sym (append-nil earlier)); in_turn = tt; given = refl }
 
-module _ (start : List Replaying) (printed before : Option (List ℕ)) (state : SessionState) (begun : List ℕ) (count : ℕ) (taken piece : List ℕ) (stands : SessionStands start printed before state begun count taken) (short : length piece ≤ 4096) where
+module _ (start : List Replaying) (printed before : Option (List ℕ)) (talk : Talk) (taken piece : List ℕ) (stands : SessionStands start printed before talk taken) (short : length piece ≤ 4096) where
   turn_noted : (earlier : List Asking) (asked asked_after : Option (List Asking)) → CameInTurn start printed taken earlier asked → asked_after ≡ with_asking before piece asked → CameInTurn start printed (taken ++ piece) earlier asked_after
   turn_noted earlier asked asked_after came noted =
       let asking : Asking = record { said = before; given = piece } in
@@ -117,7 +117,7 @@ module _ (start : List Replaying) (printed before : Option (List ℕ)) (state : 
 -- ---- a session that stopped at a piece
 
 -- what was said is said of the input that the source told
-pub said_of : (start : List Replaying) (printed now : Option (List ℕ)) (taken rest input : List ℕ) (why : Ended) → input ≡ taken ++ rest → StopsAtPiece start printed now taken why → Said start printed now taken input why
+pub said_of : (start : List Replaying) (printed now : Option (List ℕ)) (taken rest input : List ℕ) (why : Ended) → input ≡ taken ++ rest → StopsAtPiece start printed now taken why → Said start (printed, now) taken input why
 said_of start printed now taken rest input cause.Done e q = record {
   fits = ap (is_large start) e ∙ q.fits rest;
   text = q.text rest ∙ ap (λ (l : List ℕ). append_known printed (session_text start (lines_of l))) (sym e);
@@ -138,52 +138,54 @@ large_said start printed now taken cause.ReadFault s is = absurd cc
 large_said start printed now taken cause.WriteFault s is = absurd cc
 large_said start printed now taken cause.NoMemory s is = absurd cc
 
-pub holds_broken : (start : List Replaying) (printed before now : Option (List ℕ)) (earlier : List ℕ) (old mid new : Hearing) (size : ℕ) (why : Ended)
-    → WhenTold old.left (λ input. TakesOfInput input mid.left earlier) → ends (opening start) (whole_lines earlier) ≡ false → size ≤ 4096 → length earlier + size ≤ most_input + 1
-    → (b : Breaks start printed before now earlier mid new size why) → WhenTold old.asked (λ asked. CameInTurn start printed (earlier ++ b.piece) asked new.asked) → SessionHolds start old new printed now why
-holds_broken start printed before now earlier old mid new size why read on short within b turns =
-    let whole = taken_more old.left mid.left new.left earlier b.piece read b.read in
+pub holds_broken : (start : List Replaying) (earlier : List ℕ) (old mid new : TerminalState) (size : ℕ) (why : Ended)
+    → WhenTold old.hearing.left (λ input. TakesOfInput input mid.hearing.left earlier) → ends (opening start) (whole_lines earlier) ≡ false → size ≤ 4096 → length earlier + size ≤ most_input + 1
+    → (b : Breaks start old.taken earlier (exchange_of size mid new) why) → WhenTold old.hearing.asked (λ asked. CameInTurn start old.taken (earlier ++ b.piece) asked new.hearing.asked)
+    → SessionHolds start old new why
+holds_broken start earlier old mid new size why read on short within b turns =
+    let whole = taken_more old.hearing.left mid.hearing.left new.hearing.left earlier b.piece read b.read in
+    let few : length b.piece ≤ size = b.short in
     record {
       turns = turns;
       taken = earlier ++ b.piece;
-      asks = record { earlier = earlier; piece = b.piece; parts = refl; short = omega (arith, b.short); within = rw length-append (omega (arith, b.short)); goes_on = on };
+      asks = record { earlier = earlier; piece = b.piece; parts = refl; short = omega (arith, few); within = rw length-append (omega (arith, few)); goes_on = on };
       read = whole;
-      said = λ input told. let w = whole input told in said_of start printed now (earlier ++ b.piece) w.rest input why w.whole b.stops;
-      large = large_said start printed now (earlier ++ b.piece) why b.stops;
+      said = λ input told. let w = whole input told in said_of start old.taken new.taken (earlier ++ b.piece) w.rest input why w.whole b.stops;
+      large = large_said start old.taken new.taken (earlier ++ b.piece) why b.stops;
     }
 
 -- ---- a session at the end of its input
 
-module _ (start : List Replaying) (printed mid now : Option (List ℕ)) (state : SessionState) (begun : List ℕ) (count : ℕ) (taken : List ℕ) (s : SessionStands start printed mid state begun count taken) where
+module _ (start : List Replaying) (printed mid now : Option (List ℕ)) (talk : Talk) (taken : List ℕ) (s : SessionStands start printed mid talk taken) where
   within : length taken ≤ most_input
   within = omega (arith, s.count_is, s.within)
 
   fits : is_large start taken ≡ false
   fits = fits_short most_input start taken within
 
-  lines : lines_of taken ≡ whole_lines taken ++ take 1 (lines_of begun)
-  lines = lines_of-open taken begun s.whole ∙ ap (λ (l : List (List ℕ)). whole_lines taken ++ l) (sym (few_lines-open begun s.open_line))
+  lines : lines_of taken ≡ whole_lines taken ++ take 1 (lines_of talk.begun)
+  lines = lines_of-open taken talk.begun s.whole ∙ ap (λ (l : List (List ℕ)). whole_lines taken ++ l) (sym (few_lines-open talk.begun s.open_line))
 
-  text_is : session_text start (lines_of taken) ≡ session_text start (whole_lines taken) ++ answers state (take 1 (lines_of begun))
-  text_is = ap (session_text start) lines ∙ session_more start (whole_lines taken) (take 1 (lines_of begun)) s.goes_on
-      ∙ ap (λ (p : SessionState). session_text start (whole_lines taken) ++ answers p (take 1 (lines_of begun))) (sym s.state_is)
+  text_is : session_text start (lines_of taken) ≡ session_text start (whole_lines taken) ++ answers talk.state (take 1 (lines_of talk.begun))
+  text_is = ap (session_text start) lines ∙ session_more start (whole_lines taken) (take 1 (lines_of talk.begun)) s.goes_on
+      ∙ ap (λ (p : SessionState). session_text start (whole_lines taken) ++ answers p (take 1 (lines_of talk.begun))) (sym s.state_is)
 
   whole_is : outcome_text (session_outcome start taken) ≡ session_text start (lines_of taken)
   whole_is = rw fits refl
 
-  concludes : (input : List ℕ) → input ≡ taken → now ≡ append_known mid (answers state (take 1 (lines_of begun))) → Concludes start printed now taken input
+  concludes : (input : List ℕ) → input ≡ taken → now ≡ append_known mid (answers talk.state (take 1 (lines_of talk.begun))) → Concludes start printed now taken input
   concludes input e said = record {
     fits = ap (is_large start) e ∙ fits;
-    text = said ∙ ap (λ (k : Option (List ℕ)). append_known k (answers state (take 1 (lines_of begun)))) s.text
-        ∙ append_twice printed (session_text start (whole_lines taken)) (answers state (take 1 (lines_of begun)))
+    text = said ∙ ap (λ (k : Option (List ℕ)). append_known k (answers talk.state (take 1 (lines_of talk.begun)))) s.text
+        ∙ append_twice printed (session_text start (whole_lines taken)) (answers talk.state (take 1 (lines_of talk.begun)))
         ∙ ap (append_known printed) (sym text_is) ∙ ap (λ (l : List ℕ). append_known printed (session_text start (lines_of l))) (sym e);
     at_end = inl e;
   }
 
-  some : (input : List ℕ) → input ≡ taken → PrintsPart state (take 1 (lines_of begun)) mid now → SaysSome start printed now input
+  some : (input : List ℕ) → input ≡ taken → PrintsPart talk.state (take 1 (lines_of talk.begun)) mid now → SaysSome start printed now input
   some input e p =
       let said = session_text start (whole_lines taken) in
-      let told = answers state (take 1 (lines_of begun)) in (
+      let told = answers talk.state (take 1 (lines_of talk.begun)) in (
         length said + p.0,
         p.1 ∙ ap (λ (k : Option (List ℕ)). append_known k (take p.0 told)) s.text
             ∙ append_twice printed said (take p.0 told)
@@ -191,28 +193,28 @@ module _ (start : List Replaying) (printed mid now : Option (List ℕ)) (state :
             ∙ ap (λ (l : List ℕ). append_known printed (take (length said + p.0) (outcome_text (session_outcome start l)))) (sym e),
       )
 
-  said_all : (input : List ℕ) → input ≡ taken → (printed_all : now ≡ append_known mid (answers state (take 1 (lines_of begun)))) → Said start printed now taken input cause.Done
+  said_all : (input : List ℕ) → input ≡ taken → (printed_all : now ≡ append_known mid (answers talk.state (take 1 (lines_of talk.begun)))) → Said start (printed, now) taken input cause.Done
   said_all input e spoke = concludes input e spoke
 
-  said_error : (input : List ℕ) (why : Ended) → input ≡ taken → Spoke state (take 1 (lines_of begun)) mid now (Err why) → Said start printed now taken input why
+  said_error : (input : List ℕ) (why : Ended) → input ≡ taken → Spoke talk.state (take 1 (lines_of talk.begun)) mid now (Err why) → Said start (printed, now) taken input why
   said_error input cause.Done e spoke = concludes input e spoke.0
   said_error input cause.TooLarge e spoke = absurd spoke
   said_error input cause.ReadFault e spoke = absurd spoke
   said_error input cause.WriteFault e spoke = some input e spoke
   said_error input cause.NoMemory e spoke = some input e spoke
 
-  never_large : (why : Ended) → Spoke state (take 1 (lines_of begun)) mid now (Err why) → why ≡ cause.TooLarge → ⊥
+  never_large : (why : Ended) → Spoke talk.state (take 1 (lines_of talk.begun)) mid now (Err why) → why ≡ cause.TooLarge → ⊥
   never_large cause.Done spoke is = absurd cc
   never_large cause.TooLarge spoke is = spoke
   never_large cause.ReadFault spoke is = spoke
   never_large cause.WriteFault spoke is = absurd cc
   never_large cause.NoMemory spoke is = absurd cc
 
-  module _ (old new : Hearing) (read : WhenTold old.left (λ input. TakesOfInput input new.left taken)) (last : WhenTold old.left (λ input. input ≡ taken)) (turns : WhenTold old.asked (λ earlier. CameInTurn start printed taken earlier new.asked)) where
+  module _ (old new : Hearing) (faults faults_after : ℕ) (read : WhenTold old.left (λ input. TakesOfInput input new.left taken)) (last : WhenTold old.left (λ input. input ≡ taken)) (turns : WhenTold old.asked (λ earlier. CameInTurn start printed taken earlier new.asked)) where
     asks : Asks start taken
     asks = record { earlier = taken; piece = []; parts = sym (append-nil taken); short = omega arith; within = omega (arith, within); goes_on = s.goes_on }
 
-    pub holds_all : now ≡ append_known mid (answers state (take 1 (lines_of begun))) → SessionHolds start old new printed now cause.Done
+    pub holds_all : now ≡ append_known mid (answers talk.state (take 1 (lines_of talk.begun))) → SessionHolds start (record { hearing = old; taken = printed; faults = faults }) (record { hearing = new; taken = now; faults = faults_after }) cause.Done
     holds_all spoke = record {
       taken = taken;
       asks = asks;
@@ -222,7 +224,7 @@ module _ (start : List Replaying) (printed mid now : Option (List ℕ)) (state :
       large = λ is. absurd cc;
     }
 
-    pub holds_error : (why : Ended) → Spoke state (take 1 (lines_of begun)) mid now (Err why) → SessionHolds start old new printed now why
+    pub holds_error : (why : Ended) → Spoke talk.state (take 1 (lines_of talk.begun)) mid now (Err why) → SessionHolds start (record { hearing = old; taken = printed; faults = faults }) (record { hearing = new; taken = now; faults = faults_after }) why
     holds_error why spoke = record {
       taken = taken;
       asks = asks;

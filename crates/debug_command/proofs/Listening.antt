@@ -1,5 +1,5 @@
 -- A session from its opening to its end.
-use Rattle.std.proofs.Common.{◌≡◌, ℕ, ◌+◌, ◌≤◌, Bool, false, List, [], ◌++◌, length, take, Option, refl, sym, ap, subst, ◌∙◌, append-nil, arith, inl, inr}
+use Rattle.std.proofs.Common.{◌≡◌, ℕ, ◌+◌, ◌≤◌, false, List, [], ◌++◌, length, take, Option, refl, sym, ap, subst, ◌∙◌, append-nil, arith, inl, inr}
 use Rattle.std.specs.Prelude.{codes, Result, Ok, Err}
 use Rattle.std.specs.Io.KnownBytes.{append_known}
 use Rattle.fri_outside.specs.Outside.{WhenTold}
@@ -12,9 +12,9 @@ use Rattle.friday_shell.specs.Points.{SessionState}
 use Rattle.friday_shell.specs.Session.{opening}
 use Rattle.debug_command.specs.declared.converse.Ended.{Ended}
 use Rattle.debug_command.specs.declared.converse.Ended.TheVariants as cause
-use Rattle.debug_command.specs.Conversation.{TakesOfInput}
+use Rattle.debug_command.specs.Conversation.{TakesOfInput, TerminalState}
 use Rattle.debug_command.specs.Limits.{most_input}
-use Rattle.debug_command.specs.Talk.{BreaksFrom, CameInTurn, FailsAtOpening, GoesOn, Hears, HearsFrom, Held, HoldsFrom, Opens, OpensPart, ReadsOn, SaysPart, SessionHolds, SessionStands, Spoke, StopsAtPiece, StopsIn, ended_by, listened_after}
+use Rattle.debug_command.specs.Talk.{BreaksFrom, CameInTurn, Exchange, FailsAtOpening, GoesOn, Heard, Hears, HearsFrom, Held, HoldsFrom, Opens, OpensPart, ReadsOn, SaysPart, SessionHolds, SessionStands, Spoke, StopsAtPiece, StopsIn, Talk, ended_by, exchange_of, listened_after}
 use Rattle.debug_command.proofs.Hearing.{holds_all, holds_broken, holds_error, stops_at, taken_more, taken_none, turns_none, turns_noted, turns_piece}
 use Rattle.debug_command.proofs.Talking.{append_none, part_of}
 
@@ -24,30 +24,26 @@ pub err_read : {T : Type 0} (why : Ended) → ◌≡◌ {A = Result T Ended} (Er
 err_read why is = cc
 
 -- a piece that was read and taken
-pub hears : (before now : Option (List ℕ)) (state : SessionState) (begun : List ℕ) (count : ℕ) (state_after : SessionState) (begun_after : List ℕ) (count_after : ℕ) (old new : Hearing) (piece : List ℕ) (more : Bool) (size : ℕ)
-    → length piece ≤ size → WhenTold old.left (λ input. TakesOfInput input new.left piece) → new.asked ≡ with_asking before piece old.asked → GoesOn piece before now state begun count state_after begun_after count_after
-    → (more ≡ false → (piece ≡ []) × WhenTold old.left (λ input. input ≡ [])) → HearsFrom before now state begun count state_after begun_after count_after old new more size
+pub hears : (exchange : Exchange) (talk : Talk) (heard : Heard) (piece : List ℕ)
+    → length piece ≤ exchange.room → WhenTold exchange.old.hearing.left (λ input. TakesOfInput input exchange.new.hearing.left piece)
+    → exchange.new.hearing.asked ≡ with_asking exchange.old.taken piece exchange.old.hearing.asked → GoesOn piece exchange.old.taken exchange.new.taken talk heard.talk
+    → (heard.more ≡ false → (piece ≡ []) × WhenTold exchange.old.hearing.left (λ input. input ≡ [])) → HearsFrom exchange talk heard
 unfolding GoesOn HearsFrom
-hears before now state begun count state_after begun_after count_after old new piece more size short read noted goes last = λ start printed taken s.
+hears exchange talk heard piece short read noted goes last = λ start printed taken s.
     record { piece = piece; short = short; stands = goes start printed taken s; read = read; noted = noted; at_end = last }
 
 -- a session that stopped in the piece
-pub breaks_in : (before now : Option (List ℕ)) (state : SessionState) (begun : List ℕ) (count : ℕ) (old new : Hearing) (piece : List ℕ) (size : ℕ) (why : Ended)
-    → length piece ≤ size → WhenTold old.left (λ input. TakesOfInput input new.left piece) → new.asked ≡ with_asking before piece old.asked → StopsIn piece before now state begun count why
-    → BreaksFrom before now state begun count old new size why
+pub breaks_in : (exchange : Exchange) (talk : Talk) (piece : List ℕ) (why : Ended)
+    → length piece ≤ exchange.room → WhenTold exchange.old.hearing.left (λ input. TakesOfInput input exchange.new.hearing.left piece)
+    → exchange.new.hearing.asked ≡ with_asking exchange.old.taken piece exchange.old.hearing.asked → StopsIn piece exchange.old.taken exchange.new.taken talk why
+    → BreaksFrom exchange talk why
 unfolding StopsIn BreaksFrom
-breaks_in before now state begun count old new piece size why short read noted stops = λ start printed taken s.
-    record { piece = piece; short = short; read = read; noted = inl noted; stops = stops_at start printed now (taken ++ piece) why (stops.1 start printed taken s) }
+breaks_in exchange talk piece why short read noted stops = λ start printed taken s.
+    record { piece = piece; short = short; read = read; noted = inl noted; stops = stops_at start printed exchange.new.taken (taken ++ piece) why (stops.1 start printed taken s) }
 
-pub stops_read : (before now : Option (List ℕ)) (state : SessionState) (begun : List ℕ) (count : ℕ) (piece : List ℕ) (why : Ended) → StopsIn piece before now state begun count why → why ≡ cause.ReadFault → ⊥
+pub stops_read : (before now : Option (List ℕ)) (talk : Talk) (piece : List ℕ) (why : Ended) → StopsIn piece before now talk why → why ≡ cause.ReadFault → ⊥
 unfolding StopsIn
-stops_read before now state begun count piece why stops is = subst ReadsOn is stops.0
-
--- the same, where what is taken does not change what is heard
-pub hears_on : (before now : Option (List ℕ)) (state : SessionState) (begun : List ℕ) (count : ℕ) (state_after : SessionState) (begun_after : List ℕ) (count_after : ℕ) (old mid new : Hearing) (more : Bool) (size : ℕ)
-    → new ≡ mid → HearsFrom before now state begun count state_after begun_after count_after old mid more size → HearsFrom before now state begun count state_after begun_after count_after old new more size
-hears_on before now state begun count state_after begun_after count_after old mid new more size same heard =
-    subst (λ (h : Hearing). HearsFrom before now state begun count state_after begun_after count_after old h more size) (sym same) heard
+stops_read before now talk piece why stops is = subst ReadsOn is stops.0
 
 -- another end than by a failed read counts none
 pub none_counted : (T : Type 0) (count : ℕ) (why : Ended) → (why ≡ cause.ReadFault → ⊥) → listened_after {T = T} count (Err why) ≡ count
@@ -65,91 +61,94 @@ spoke_read state lines old new cause.WriteFault spoke is = absurd cc
 spoke_read state lines old new cause.NoMemory spoke is = absurd cc
 
 -- a read that failed
-pub breaks_read : (now : Option (List ℕ)) (state : SessionState) (begun : List ℕ) (count : ℕ) (old new : Hearing) (size : ℕ) → new.left ≡ old.left → new.asked ≡ old.asked → BreaksFrom now now state begun count old new size cause.ReadFault
+pub breaks_read : (exchange : Exchange) (talk : Talk) → exchange.new.hearing.left ≡ exchange.old.hearing.left → exchange.new.hearing.asked ≡ exchange.old.hearing.asked
+    → exchange.new.taken ≡ exchange.old.taken → BreaksFrom exchange talk cause.ReadFault
 unfolding BreaksFrom
-breaks_read now state begun count old new size same unasked = λ start printed taken s.
+breaks_read exchange talk same unasked silent = λ start printed taken s.
     record {
       piece = [];
       short = omega arith;
-      read = subst (λ (l : Option (List ℕ)). WhenTold old.left (λ input. TakesOfInput input l [])) (sym same) (taken_none old.left);
+      read = subst (λ (l : Option (List ℕ)). WhenTold exchange.old.hearing.left (λ input. TakesOfInput input l [])) (sym same) (taken_none exchange.old.hearing.left);
       noted = inr (refl, unasked);
-      stops = subst (λ (l : List ℕ). StopsAtPiece start printed now l cause.ReadFault) (sym (append-nil taken)) (record { text = s.text; goes_on = s.goes_on; within = omega (arith, s.count_is, s.within) });
+      stops = subst (λ (l : List ℕ). StopsAtPiece start printed exchange.new.taken l cause.ReadFault) (sym (append-nil taken))
+          (record { text = silent ∙ s.text; goes_on = s.goes_on; within = omega (arith, s.count_is, s.within) });
     }
 
 -- ---- piece after piece
 
 -- a session took these bytes, and stands behind them
-pub record Listens (start : List Replaying) (printed now : Option (List ℕ)) (state : SessionState) (begun : List ℕ) (count : ℕ) (old new : Hearing) : Type 0 where
+pub record Listens (start : List Replaying) (printed : Option (List ℕ)) (old here : TerminalState) (talk : Talk) : Type 0 where
   pub taken : List ℕ
-  pub stands : SessionStands start printed now state begun count taken
-  pub read : WhenTold old.left (λ input. TakesOfInput input new.left taken)
-  pub turns : WhenTold old.asked (λ earlier. CameInTurn start printed taken earlier new.asked)
+  pub stands : SessionStands start printed here.taken talk taken
+  pub read : WhenTold old.hearing.left (λ input. TakesOfInput input here.hearing.left taken)
+  pub turns : WhenTold old.hearing.asked (λ earlier. CameInTurn start printed taken earlier here.hearing.asked)
 
-unfoldable pub ListensFrom : Option (List ℕ) → Option (List ℕ) → SessionState → List ℕ → ℕ → SessionState → List ℕ → ℕ → Hearing → Hearing → Type 0
-ListensFrom before now state begun count state_after begun_after count_after old new =
-    (start : List Replaying) (printed : Option (List ℕ)) → SessionStands start printed before state begun count [] → Listens start printed now state_after begun_after count_after old new
+unfoldable pub ListensFrom : TerminalState → TerminalState → Talk → Talk → Type 0
+ListensFrom old here talk next =
+    (start : List Replaying) (printed : Option (List ℕ)) → SessionStands start printed old.taken talk [] → Listens start printed old here next
 
-pub listens_none : (now : Option (List ℕ)) (state : SessionState) (begun : List ℕ) (count : ℕ) (old : Hearing) → ListensFrom now now state begun count state begun count old old
+pub listens_none : (old : TerminalState) (talk : Talk) → ListensFrom old old talk talk
 unfolding ListensFrom
-listens_none now state begun count old = λ start printed s. record { taken = []; stands = s; read = taken_none old.left; turns = turns_none start printed old.asked }
+listens_none old talk = λ start printed s. record { taken = []; stands = s; read = taken_none old.hearing.left; turns = turns_none start printed old.hearing.asked }
 
-module _ (before mid : Option (List ℕ)) (state : SessionState) (begun : List ℕ) (count : ℕ) (state1 : SessionState) (begun1 : List ℕ) (count1 : ℕ) (old here : Hearing)
-    (so_far : ListensFrom before mid state begun count state1 begun1 count1 old here) where
+module _ (old here : TerminalState) (talk next : Talk) (so_far : ListensFrom old here talk next) where
   -- what a piece adds
-  adds : (start : List Replaying) (printed now : Option (List ℕ)) (state2 : SessionState) (begun2 : List ℕ) (count2 : ℕ) (new : Hearing) (more : Bool) (size : ℕ) → size ≤ 4096
-      → (t : Listens start printed mid state1 begun1 count1 old here) → Hears start printed mid now state2 begun2 count2 t.taken here new more size → Listens start printed now state2 begun2 count2 old new
-  adds start printed now state2 begun2 count2 new more size small t h = record {
-    taken = t.taken ++ h.piece;
-    stands = h.stands;
-    read = taken_more old.left here.left new.left t.taken h.piece t.read h.read;
-    turns = turns_noted start printed mid state1 begun1 count1 t.taken h.piece t.stands (omega (arith, small, h.short)) old.asked here.asked new.asked t.turns h.noted;
-  }
+  adds : (start : List Replaying) (printed : Option (List ℕ)) (new : TerminalState) (heard : Heard) (size : ℕ) → size ≤ 4096
+      → (t : Listens start printed old here next) → Hears start printed t.taken (exchange_of size here new) heard → Listens start printed old new heard.talk
+  adds start printed new heard size small t h =
+      let short : length h.piece ≤ size = h.short in
+      record {
+        taken = t.taken ++ h.piece;
+        stands = h.stands;
+        read = taken_more old.hearing.left here.hearing.left new.hearing.left t.taken h.piece t.read h.read;
+        turns = turns_noted start printed here.taken next t.taken h.piece t.stands (omega (arith, small, short)) old.hearing.asked here.hearing.asked new.hearing.asked t.turns h.noted;
+      }
 
-  pub listens_more : (now : Option (List ℕ)) (state2 : SessionState) (begun2 : List ℕ) (count2 : ℕ) (new : Hearing) (more : Bool) (size : ℕ) → size ≤ 4096
-      → HearsFrom mid now state1 begun1 count1 state2 begun2 count2 here new more size → ListensFrom before now state begun count state2 begun2 count2 old new
+  pub listens_more : (new : TerminalState) (heard : Heard) (size : ℕ) → size ≤ 4096 → HearsFrom (exchange_of size here new) next heard → ListensFrom old new talk heard.talk
   unfolding ListensFrom HearsFrom
-  listens_more now state2 begun2 count2 new more size small heard = λ start printed s.
+  listens_more new heard size small hears = λ start printed s.
       let t = so_far start printed s in
-      adds start printed now state2 begun2 count2 new more size small t (heard start printed t.taken t.stands)
+      adds start printed new heard size small t (hears start printed t.taken t.stands)
 
-  pub listens_broken : (now : Option (List ℕ)) (new : Hearing) (size : ℕ) (why : Ended) → size ≤ 4096 → count1 + size ≤ most_input + 1
-      → BreaksFrom mid now state1 begun1 count1 here new size why → HoldsFrom before now state begun count old new why
+  pub listens_broken : (new : TerminalState) (size : ℕ) (why : Ended) → size ≤ 4096 → next.count + size ≤ most_input + 1
+      → BreaksFrom (exchange_of size here new) next why → HoldsFrom old new talk why
   unfolding ListensFrom BreaksFrom HoldsFrom
-  listens_broken now new size why small room broke = λ start printed s.
+  listens_broken new size why small room broke = λ start printed s.
       let t = so_far start printed s in
       let b = broke start printed t.taken t.stands in
       let q = t.stands in
-      holds_broken start printed mid now t.taken old here new size why t.read q.goes_on small (omega (arith, q.count_is, room)) b
-      (turns_piece start printed mid state1 begun1 count1 t.taken b.piece t.stands (omega (arith, small, b.short)) old.asked here.asked new.asked t.turns b.noted)
+      let short : length b.piece ≤ size = b.short in
+      holds_broken start t.taken (record old { taken = printed }) here new size why t.read q.goes_on small (omega (arith, q.count_is, room)) b
+      (turns_piece start printed here.taken next t.taken b.piece t.stands (omega (arith, small, short)) old.hearing.asked here.hearing.asked new.hearing.asked t.turns b.noted)
 
-  module _ (now : Option (List ℕ)) (state2 : SessionState) (begun2 : List ℕ) (count2 : ℕ) (new : Hearing) (more : Bool) (size : ℕ) (small : size ≤ 4096) (none : more ≡ false)
-      (heard : HearsFrom mid now state1 begun1 count1 state2 begun2 count2 here new more size) (end : Option (List ℕ)) where
-    last_told : (taken piece : List ℕ) → WhenTold old.left (λ input. TakesOfInput input here.left taken) → (piece ≡ []) × WhenTold here.left (λ input. input ≡ []) → WhenTold old.left (λ input. input ≡ taken ++ piece)
+  module _ (new : TerminalState) (heard : Heard) (size : ℕ) (small : size ≤ 4096) (none : heard.more ≡ false) (hears : HearsFrom (exchange_of size here new) next heard) (end : TerminalState) where
+    last_told : (taken piece : List ℕ) → WhenTold old.hearing.left (λ input. TakesOfInput input here.hearing.left taken) → (piece ≡ []) × WhenTold here.hearing.left (λ input. input ≡ [])
+        → WhenTold old.hearing.left (λ input. input ≡ taken ++ piece)
     last_told taken piece read last = λ input told.
         let f = read input told in
         f.whole ∙ ap (λ (l : List ℕ). taken ++ l) (last.1 f.rest f.left ∙ sym last.0)
 
-    pub listens_all : (next : SessionState) (new_end : Hearing) → new_end ≡ new → Spoke state2 (take 1 (lines_of begun2)) now end (Ok next) → HoldsFrom before end state begun count old new_end cause.Done
+    pub listens_all : (state : SessionState) → end.hearing ≡ new.hearing → Spoke heard.talk.state (take 1 (lines_of heard.talk.begun)) new.taken end.taken (Ok state) → HoldsFrom old end talk cause.Done
     unfolding ListensFrom HearsFrom HoldsFrom adds
-    listens_all next new_end same spoke = λ start printed s.
+    listens_all state same spoke = λ start printed s.
         let t = so_far start printed s in
-        let h = heard start printed t.taken t.stands in
-        let all = adds start printed now state2 begun2 count2 new more size small t h in
-        subst (λ (n : Hearing). SessionHolds start old n printed end cause.Done) (sym same)
-        (holds_all start printed now end state2 begun2 count2 (t.taken ++ h.piece) h.stands old new all.read (last_told t.taken h.piece t.read (h.at_end none)) all.turns spoke.0)
+        let h = hears start printed t.taken t.stands in
+        let all = adds start printed new heard size small t h in
+        subst (λ (n : Hearing). SessionHolds start (record old { taken = printed }) (record end { hearing = n }) cause.Done) (sym same)
+        (holds_all start printed new.taken end.taken heard.talk (t.taken ++ h.piece) h.stands old.hearing new.hearing old.faults end.faults all.read (last_told t.taken h.piece t.read (h.at_end none)) all.turns spoke.0)
 
-    pub listens_error : (why : Ended) (new_end : Hearing) → new_end ≡ new → Spoke state2 (take 1 (lines_of begun2)) now end (Err why) → HoldsFrom before end state begun count old new_end why
+    pub listens_error : (why : Ended) → end.hearing ≡ new.hearing → Spoke heard.talk.state (take 1 (lines_of heard.talk.begun)) new.taken end.taken (Err why) → HoldsFrom old end talk why
     unfolding ListensFrom HearsFrom HoldsFrom adds
-    listens_error why new_end same spoke = λ start printed s.
+    listens_error why same spoke = λ start printed s.
         let t = so_far start printed s in
-        let h = heard start printed t.taken t.stands in
-        let all = adds start printed now state2 begun2 count2 new more size small t h in
-        subst (λ (n : Hearing). SessionHolds start old n printed end why) (sym same)
-        (holds_error start printed now end state2 begun2 count2 (t.taken ++ h.piece) h.stands old new all.read (last_told t.taken h.piece t.read (h.at_end none)) all.turns why spoke)
+        let h = hears start printed t.taken t.stands in
+        let all = adds start printed new heard size small t h in
+        subst (λ (n : Hearing). SessionHolds start (record old { taken = printed }) (record end { hearing = n }) why) (sym same)
+        (holds_error start printed new.taken end.taken heard.talk (t.taken ++ h.piece) h.stands old.hearing new.hearing old.faults end.faults all.read (last_told t.taken h.piece t.read (h.at_end none)) all.turns why spoke)
 
 -- ---- the opening
 
-pub opens : (start : List Replaying) (printed now : Option (List ℕ)) (state : SessionState) → state ≡ opening start → now ≡ append_known printed (codes "at 0\n") → Opens start printed now state [] 0
+pub opens : (start : List Replaying) (printed now : Option (List ℕ)) (state : SessionState) → state ≡ opening start → now ≡ append_known printed (codes "at 0\n") → Opens start printed now (record { state = state; begun = []; count = 0 })
 unfolding Opens
 opens start printed now state is e = record {
   whole = refl;
@@ -179,10 +178,12 @@ opens_read start printed now why part is = subst FailsAtOpening is part.1
 
 -- ---- the whole session
 
-pub held : (start : List Replaying) (printed mid now : Option (List ℕ)) (state : SessionState) (begun : List ℕ) (count : ℕ) (old here new : Hearing) (why : Ended)
-    → here ≡ old → Opens start printed mid state begun count → HoldsFrom mid now state begun count here new why → Held start old new printed now why
+pub held : (start : List Replaying) (old here new : TerminalState) (talk : Talk) (why : Ended)
+    → here.hearing ≡ old.hearing → Opens start old.taken here.taken talk → HoldsFrom here new talk why → Held start old new why
 unfolding Opens HoldsFrom Held
-held start printed mid now state begun count old here new why same opened holds = subst (λ (o : Hearing). SessionHolds start o new printed now why) same (holds start printed opened)
+held start old here new talk why same opened holds =
+    let h = subst (λ (o : Hearing). SessionHolds start (record { hearing = o; taken = old.taken; faults = here.faults }) new why) same (holds start old.taken opened) in
+    record { taken = h.taken; asks = h.asks; read = h.read; turns = h.turns; said = h.said; large = h.large }
 
 stops_unopened : (start : List Replaying) (printed now : Option (List ℕ)) (why : Ended) → SaysPart start printed now [] → FailsAtOpening why → StopsAtPiece start printed now [] why
 stops_unopened start printed now cause.Done part fails = absurd fails
@@ -191,10 +192,11 @@ stops_unopened start printed now cause.ReadFault part fails = absurd fails
 stops_unopened start printed now cause.WriteFault part fails = part
 stops_unopened start printed now cause.NoMemory part fails = part
 
-pub held_unopened : (start : List Replaying) (printed now : Option (List ℕ)) (old new : Hearing) (why : Ended) → new ≡ old → OpensPart start printed now why → Held start old new printed now why
+pub held_unopened : (start : List Replaying) (old new : TerminalState) (why : Ended) → new.hearing ≡ old.hearing → OpensPart start old.taken new.taken why → Held start old new why
 unfolding OpensPart Held
-held_unopened start printed now old new why same part =
-    subst (λ (n : Hearing). SessionHolds start old n printed now why) (sym same)
-    (holds_broken start printed now now [] old old old 0 why (taken_none old.left) refl (omega arith) (omega arith)
-    (record { piece = []; short = omega arith; read = taken_none old.left; noted = inr (refl, refl); stops = stops_unopened start printed now why part.0 part.1 })
-    (turns_none start printed old.asked))
+held_unopened start old new why same part =
+    let none : 0 ≤ 0 = omega arith in
+    subst (λ (n : Hearing). SessionHolds start old (record new { hearing = n }) why) (sym same)
+    (holds_broken start [] old old (record new { hearing = old.hearing }) 0 why (taken_none old.hearing.left) refl (omega arith) (omega arith)
+    (record { piece = []; short = none; read = taken_none old.hearing.left; noted = inr (refl, refl); stops = stops_unopened start old.taken new.taken why part.0 part.1 })
+    (turns_none start old.taken old.hearing.asked))

@@ -19,7 +19,7 @@ use Rattle.command_run.specs.Outcome.{CommandOutcome, Refuses, Stop, outcome_sta
 use Rattle.command_run.specs.OutcomeLaws.{none_left, stops_make, stops_tell}
 use Rattle.command_run.specs.Run.{FaultsTold, Finished, Outside, Performed}
 use Rattle.log_pairs.specs.Pairs.{NoneOpened, Pair, WasOpened, replays_of_pairs}
-use Rattle.debug_command.specs.Conversation.{Converses, IsNone, heard_after}
+use Rattle.debug_command.specs.Conversation.{Converses, IsNone, TerminalState, heard_after}
 use Rattle.debug_command.specs.Debug.{early_lines, input_name, is_large, opened_outcome, session_outcome, spoken}
 use Rattle.debug_command.specs.Run.{DebugRun, debug_expected}
 
@@ -128,8 +128,12 @@ conversed_faults ends.ReadFault old new reads writes h s = inr (counted new _ _ 
 conversed_faults ends.WriteFault old new reads writes h s = inr (counted new _ _ _ _ reads writes h s)
 conversed_faults ends.NoMemory old new reads writes h s = counted new _ _ _ _ reads writes h s
 
+-- the terminal of what is handed in
+abbrev pub terminal_of : Outside → TerminalState
+terminal_of o = record { hearing = o.hearing; taken = o.taken; faults = o.out_faults }
+
 pub run_conversed : (pairs : List Pair) (start : List Replaying) (answer : Status) (old new : Outside) → WasOpened pairs old.told start
-    → Converses start old.hearing new.hearing old.taken new.taken old.out_faults new.out_faults answer
+    → Converses start (terminal_of old) (terminal_of new) answer
     → new.told ≡ old.told → CountsFaults {T = ⊤} old.counts new.counts (Ok tt)
     → DebugRun pairs old new answer
 run_conversed pairs start answer old new opens c same counts = record {

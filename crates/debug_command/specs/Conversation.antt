@@ -15,6 +15,18 @@ use Rattle.debug_command.specs.Limits.{most_input}
 use Rattle.command_run.specs.Outcome.{outcome_status, outcome_text, refused_line}
 use Rattle.log_pairs.specs.Pairs.{WasOpened}
 
+-- ---- a terminal
+
+-- what a terminal tells at one moment: what is heard, what it took, and how many of its writes failed
+pub record TerminalState : Type 0 where
+  pub hearing : Hearing
+  pub taken : Option (List ℕ)
+  pub faults : ℕ
+
+-- all of it, of an object that tells each of these
+abbrev pub terminal_at : {A : Type 0} → (A → Hearing) → (A → Option (List ℕ)) → (A → ℕ) → A → TerminalState
+terminal_at hearing taken faults io = record { hearing = hearing io; taken = taken io; faults = faults io }
+
 -- ---- what was taken of an input
 
 -- of an input that told these bytes, these ones were taken, and the others are left
@@ -88,17 +100,16 @@ heard_after count status.ReadFault = raised count
 heard_after count answer = count
 
 -- a session read an input, answered it, and ended with this status
-pub record Converses (start : List Replaying) (before after : Hearing) (printed printed_after : Option (List ℕ))
-    (out_faults out_faults_after : ℕ) (answer : Status) : Type 0 where
-  pub ended : WhenTold before.left (λ input. IsAnswerStatus answer → answer ≡ outcome_status (session_outcome start input))
-  pub text : WhenTold before.left (λ input. Prints answer (outcome_text (session_outcome start input)) printed printed_after)
-  pub input : WhenTold before.left (λ input. HasRead start input after.left answer)
-  pub turns : WhenTold before.asked (TakesTurns start before after printed)
-  pub answered : answer ≡ status.ReadFault → WhenTold before.left (λ input. HasAnswered start input after.left printed printed_after)
+pub record Converses (start : List Replaying) (old new : TerminalState) (answer : Status) : Type 0 where
+  pub ended : WhenTold old.hearing.left (λ input. IsAnswerStatus answer → answer ≡ outcome_status (session_outcome start input))
+  pub text : WhenTold old.hearing.left (λ input. Prints answer (outcome_text (session_outcome start input)) old.taken new.taken)
+  pub input : WhenTold old.hearing.left (λ input. HasRead start input new.hearing.left answer)
+  pub turns : WhenTold old.hearing.asked (TakesTurns start old.hearing new.hearing old.taken)
+  pub answered : answer ≡ status.ReadFault → WhenTold old.hearing.left (λ input. HasAnswered start input new.hearing.left old.taken new.taken)
   pub other : IsNone answer → ⊥
-  pub refused : answer ≡ status.Refused → SaysLarge printed printed_after
-  pub reads : after.faults ≡ heard_after before.faults answer
-  pub writes : out_faults_after ≡ said_after out_faults answer
+  pub refused : answer ≡ status.Refused → SaysLarge old.taken new.taken
+  pub reads : new.hearing.faults ≡ heard_after old.hearing.faults answer
+  pub writes : new.faults ≡ said_after old.faults answer
 
 -- ---- what `debug` says of the input
 

@@ -3,7 +3,7 @@ use Rattle.std.specs.Prelude.{◌≡◌, ◌⊎◌, ◌≤◌, ℕ, ◌+◌, Boo
 use Rattle.std.specs.List.{list_any}
 use Rattle.std.specs.Io.KnownBytes.{append_known}
 use Rattle.fri_outside.specs.Outside.{WhenTold, raised}
-use Rattle.fri_outside.specs.Terminal.{Asking, Hearing, given_in, with_asking}
+use Rattle.fri_outside.specs.Terminal.{Asking, given_in, with_asking}
 use Rattle.fri_outside.specs.declared.files.WriteError.{WriteError}
 use Rattle.fri_outside.specs.declared.files.WriteError.TheVariants as writing
 use Rattle.fri_text.specs.Line.{is_line_feed, lines_of}
@@ -13,10 +13,20 @@ use Rattle.friday_shell.specs.Points.{SessionState}
 use Rattle.friday_shell.specs.Session.{answers, ends, opening, session_text}
 use Rattle.debug_command.specs.declared.converse.Ended.{Ended}
 use Rattle.debug_command.specs.declared.converse.Ended.TheVariants as cause
-use Rattle.debug_command.specs.Conversation.{AreInTurn, Asks, TakesOfInput}
+use Rattle.debug_command.specs.declared.converse.Talk.{Talk as TalkOfCode}
+use Rattle.debug_command.specs.Conversation.{AreInTurn, Asks, TakesOfInput, TerminalState}
 use Rattle.debug_command.specs.Debug.{early_lines, is_large, session_outcome, whole_lines, whole_part}
 use Rattle.debug_command.specs.Limits.{most_input}
 use Rattle.command_run.specs.Outcome.{outcome_text}
+
+-- where a session stands between two bytes: its state, the bytes of the line that has begun, and how many were taken
+pub record Talk : Type 0 where
+  pub state : SessionState
+  pub begun : List ℕ
+  pub count : ℕ
+
+abbrev pub talk_of : TalkOfCode → Talk
+talk_of talk = record { state = talk.session; begun = talk.begun.items; count = talk.count }
 
 -- how many writes failed once a session, or a part of one, came to this
 abbrev pub spoken_after : {T : Type 0} → ℕ → Result T Ended → ℕ
@@ -61,15 +71,14 @@ Spoke state lines printed printed_after (Err cause.WriteFault) = PrintsPart stat
 Spoke state lines printed printed_after (Err cause.NoMemory) = PrintsPart state lines printed printed_after
 
 -- a session over these replays took these bytes, and answered each whole line of them; none of them ends it
-pub record SessionStands (start : List Replaying) (printed now : Option (List ℕ)) (state : SessionState)
-    (begun : List ℕ) (count : ℕ) (taken : List ℕ) : Type 0 where
-  pub whole : taken ≡ whole_part taken ++ begun
-  pub open_line : list_any is_line_feed begun ≡ false
-  pub state_is : state ≡ state_after_lines (opening start) (whole_lines taken)
+pub record SessionStands (start : List Replaying) (printed now : Option (List ℕ)) (talk : Talk) (taken : List ℕ) : Type 0 where
+  pub whole : taken ≡ whole_part taken ++ talk.begun
+  pub open_line : list_any is_line_feed talk.begun ≡ false
+  pub state_is : talk.state ≡ state_after_lines (opening start) (whole_lines taken)
   pub goes_on : ends (opening start) (whole_lines taken) ≡ false
   pub text : now ≡ append_known printed (session_text start (whole_lines taken))
-  pub count_is : count ≡ length taken
-  pub within : count ≤ most_input
+  pub count_is : talk.count ≡ length taken
+  pub within : talk.count ≤ most_input
 
 -- some of the front of what is to be printed was printed, whatever comes behind the bytes that were taken
 abbrev pub SaysPart : List Replaying → Option (List ℕ) → Option (List ℕ) → List ℕ → Type 0
@@ -95,10 +104,10 @@ Stops start printed now taken cause.WriteFault = SaysPart start printed now take
 Stops start printed now taken cause.NoMemory = SaysPart start printed now taken
 
 -- from where a session stood on, it stands so after more bytes
-unfoldable pub GoesOn : List ℕ → Option (List ℕ) → Option (List ℕ) → SessionState → List ℕ → ℕ → SessionState → List ℕ → ℕ → Type 0
-GoesOn bytes before now state begun count new new_begun new_count =
+unfoldable pub GoesOn : List ℕ → Option (List ℕ) → Option (List ℕ) → Talk → Talk → Type 0
+GoesOn bytes before now talk next =
     (start : List Replaying) (printed : Option (List ℕ)) (taken : List ℕ)
-    → SessionStands start printed before state begun count taken → SessionStands start printed now new new_begun new_count (taken ++ bytes)
+    → SessionStands start printed before talk taken → SessionStands start printed now next (taken ++ bytes)
 
 -- no read failed
 abbrev pub ReadsOn : Ended → Type 0
@@ -109,22 +118,38 @@ ReadsOn cause.WriteFault = Unit {0}
 ReadsOn cause.NoMemory = Unit {0}
 
 -- from where a session stood on, it stopped in these bytes
-unfoldable pub StopsIn : List ℕ → Option (List ℕ) → Option (List ℕ) → SessionState → List ℕ → ℕ → Ended → Type 0
-StopsIn bytes before now state begun count why =
+unfoldable pub StopsIn : List ℕ → Option (List ℕ) → Option (List ℕ) → Talk → Ended → Type 0
+StopsIn bytes before now talk why =
     ReadsOn why × ((start : List Replaying) (printed : Option (List ℕ)) (taken : List ℕ)
-    → SessionStands start printed before state begun count taken → Stops start printed now (taken ++ bytes) why)
+    → SessionStands start printed before talk taken → Stops start printed now (taken ++ bytes) why)
 
 -- ---- a piece of the input
 
+-- a piece of at most so many bytes is asked for and answered, from one state of the terminal to another
+pub record Exchange : Type 0 where
+  pub room : ℕ
+  pub old : TerminalState
+  pub new : TerminalState
+
+abbrev pub exchange_of : ℕ → TerminalState → TerminalState → Exchange
+exchange_of room old new = record { room = room; old = old; new = new }
+
+-- where a session stands after an exchange, and whether a piece came in it
+pub record Heard : Type 0 where
+  pub talk : Talk
+  pub more : Bool
+
+abbrev pub heard_of : TalkOfCode × Bool → Heard
+heard_of heard = record { talk = talk_of heard.0; more = heard.1 }
+
 -- a piece was read and taken, or there was none left. What had been printed before was noted with it
-pub record Hears (start : List Replaying) (printed before now : Option (List ℕ)) (state : SessionState) (begun : List ℕ) (count : ℕ)
-    (taken : List ℕ) (old new : Hearing) (more : Bool) (size : ℕ) : Type 0 where
+pub record Hears (start : List Replaying) (printed : Option (List ℕ)) (taken : List ℕ) (exchange : Exchange) (heard : Heard) : Type 0 where
   pub piece : List ℕ
-  pub short : length piece ≤ size
-  pub stands : SessionStands start printed now state begun count (taken ++ piece)
-  pub read : WhenTold old.left (λ input. TakesOfInput input new.left piece)
-  pub noted : new.asked ≡ with_asking before piece old.asked
-  pub at_end : more ≡ false → (piece ≡ []) × WhenTold old.left (λ input. input ≡ [])
+  pub short : length piece ≤ exchange.room
+  pub stands : SessionStands start printed exchange.new.taken heard.talk (taken ++ piece)
+  pub read : WhenTold exchange.old.hearing.left (λ input. TakesOfInput input exchange.new.hearing.left piece)
+  pub noted : exchange.new.hearing.asked ≡ with_asking exchange.old.taken piece exchange.old.hearing.asked
+  pub at_end : heard.more ≡ false → (piece ≡ []) × WhenTold exchange.old.hearing.left (λ input. input ≡ [])
 
 -- all whole lines of these bytes are answered
 pub record Pauses (start : List Replaying) (printed now : Option (List ℕ)) (taken : List ℕ) : Type 0 where
@@ -145,25 +170,24 @@ abbrev pub NotesPiece : Option (List ℕ) → List ℕ → Option (List Asking) 
 NotesPiece before piece asked asked_after = (asked_after ≡ with_asking before piece asked) ⊎ ((piece ≡ []) × (asked_after ≡ asked))
 
 -- no piece was read, or the session stopped in it
-pub record Breaks (start : List Replaying) (printed before now : Option (List ℕ)) (taken : List ℕ) (old new : Hearing) (size : ℕ) (why : Ended) : Type 0 where
+pub record Breaks (start : List Replaying) (printed : Option (List ℕ)) (taken : List ℕ) (exchange : Exchange) (why : Ended) : Type 0 where
   pub piece : List ℕ
-  pub short : length piece ≤ size
-  pub read : WhenTold old.left (λ input. TakesOfInput input new.left piece)
-  pub noted : NotesPiece before piece old.asked new.asked
-  pub stops : StopsAtPiece start printed now (taken ++ piece) why
+  pub short : length piece ≤ exchange.room
+  pub read : WhenTold exchange.old.hearing.left (λ input. TakesOfInput input exchange.new.hearing.left piece)
+  pub noted : NotesPiece exchange.old.taken piece exchange.old.hearing.asked exchange.new.hearing.asked
+  pub stops : StopsAtPiece start printed exchange.new.taken (taken ++ piece) why
 
 -- from where a session stood on, it hears so
-unfoldable pub HearsFrom : Option (List ℕ) → Option (List ℕ) → SessionState → List ℕ → ℕ
-    → SessionState → List ℕ → ℕ → Hearing → Hearing → Bool → ℕ → Type 0
-HearsFrom before now state begun count state_after begun_after count_after old new more size =
+unfoldable pub HearsFrom : Exchange → Talk → Heard → Type 0
+HearsFrom exchange talk heard =
     (start : List Replaying) (printed : Option (List ℕ)) (taken : List ℕ)
-    → SessionStands start printed before state begun count taken → Hears start printed before now state_after begun_after count_after taken old new more size
+    → SessionStands start printed exchange.old.taken talk taken → Hears start printed taken exchange heard
 
 -- from where a session stood on, it breaks so
-unfoldable pub BreaksFrom : Option (List ℕ) → Option (List ℕ) → SessionState → List ℕ → ℕ → Hearing → Hearing → ℕ → Ended → Type 0
-BreaksFrom before now state begun count old new size why =
+unfoldable pub BreaksFrom : Exchange → Talk → Ended → Type 0
+BreaksFrom exchange talk why =
     (start : List Replaying) (printed : Option (List ℕ)) (taken : List ℕ)
-    → SessionStands start printed before state begun count taken → Breaks start printed before now taken old new size why
+    → SessionStands start printed exchange.old.taken talk taken → Breaks start printed taken exchange why
 
 -- ---- the whole session
 
@@ -182,14 +206,14 @@ pub record Concludes (start : List Replaying) (printed now : Option (List ℕ)) 
 abbrev pub SaysSome : List Replaying → Option (List ℕ) → Option (List ℕ) → List ℕ → Type 0
 SaysSome start printed now input = (n : ℕ) × (now ≡ append_known printed (take n (outcome_text (session_outcome start input))))
 
--- what was said of an input of which these bytes were taken
-abbrev pub Said : List Replaying → Option (List ℕ) → Option (List ℕ) → List ℕ → List ℕ → Ended → Type 0
-Said start printed now taken input cause.Done = Concludes start printed now taken input
-Said start printed now taken input cause.TooLarge =
-    (is_large start input ≡ true) × (now ≡ append_known printed (session_text start (early_lines input)))
-Said start printed now taken input cause.ReadFault = Pauses start printed now taken
-Said start printed now taken input cause.WriteFault = SaysSome start printed now input
-Said start printed now taken input cause.NoMemory = SaysSome start printed now input
+-- what was said of an input of which these bytes were taken: what had been printed before, and what then was
+abbrev pub Said : List Replaying → Option (List ℕ) × Option (List ℕ) → List ℕ → List ℕ → Ended → Type 0
+Said start printed taken input cause.Done = Concludes start printed.0 printed.1 taken input
+Said start printed taken input cause.TooLarge =
+    (is_large start input ≡ true) × (printed.1 ≡ append_known printed.0 (session_text start (early_lines input)))
+Said start printed taken input cause.ReadFault = Pauses start printed.0 printed.1 taken
+Said start printed taken input cause.WriteFault = SaysSome start printed.0 printed.1 input
+Said start printed taken input cause.NoMemory = SaysSome start printed.0 printed.1 input
 
 -- these bytes came in turn, each piece once all whole lines before it were answered
 pub record CameInTurn (start : List Replaying) (printed : Option (List ℕ)) (taken : List ℕ) (earlier : List Asking) (asked_after : Option (List Asking)) : Type 0 where
@@ -199,28 +223,28 @@ pub record CameInTurn (start : List Replaying) (printed : Option (List ℕ)) (ta
   pub given : given_in askings ≡ taken
 
 -- a session over these replays read some of an input, and is over
-pub record SessionHolds (start : List Replaying) (old new : Hearing) (printed now : Option (List ℕ)) (why : Ended) : Type 0 where
+pub record SessionHolds (start : List Replaying) (old new : TerminalState) (why : Ended) : Type 0 where
   pub taken : List ℕ
   pub asks : Asks start taken
-  pub read : WhenTold old.left (λ input. TakesOfInput input new.left taken)
-  pub turns : WhenTold old.asked (λ earlier. CameInTurn start printed taken earlier new.asked)
-  pub said : WhenTold old.left (λ input. Said start printed now taken input why)
-  pub large : why ≡ cause.TooLarge → (earlier : List ℕ) × (now ≡ append_known printed earlier)
+  pub read : WhenTold old.hearing.left (λ input. TakesOfInput input new.hearing.left taken)
+  pub turns : WhenTold old.hearing.asked (λ earlier. CameInTurn start old.taken taken earlier new.hearing.asked)
+  pub said : WhenTold old.hearing.left (λ input. Said start (old.taken, new.taken) taken input why)
+  pub large : why ≡ cause.TooLarge → (earlier : List ℕ) × (new.taken ≡ append_known old.taken earlier)
 
 -- from its opening on, a session is held so
-unfoldable pub HoldsFrom : Option (List ℕ) → Option (List ℕ) → SessionState → List ℕ → ℕ → Hearing → Hearing → Ended → Type 0
-HoldsFrom before now state begun count old new why =
+unfoldable pub HoldsFrom : TerminalState → TerminalState → Talk → Ended → Type 0
+HoldsFrom old new talk why =
     (start : List Replaying) (printed : Option (List ℕ))
-    → SessionStands start printed before state begun count [] → SessionHolds start old new printed now why
+    → SessionStands start printed old.taken talk [] → SessionHolds start (record old { taken = printed }) new why
 
 -- a session is open, and no byte was taken
-unfoldable pub Opens : List Replaying → Option (List ℕ) → Option (List ℕ) → SessionState → List ℕ → ℕ → Type 0
-Opens start printed now state begun count = SessionStands start printed now state begun count []
+unfoldable pub Opens : List Replaying → Option (List ℕ) → Option (List ℕ) → Talk → Type 0
+Opens start printed now talk = SessionStands start printed now talk []
 
 -- a session did not open
 unfoldable pub OpensPart : List Replaying → Option (List ℕ) → Option (List ℕ) → Ended → Type 0
 OpensPart start printed now why = SaysPart start printed now [] × FailsAtOpening why
 
 -- a session was held
-unfoldable pub Held : List Replaying → Hearing → Hearing → Option (List ℕ) → Option (List ℕ) → Ended → Type 0
-Held start old new printed now why = SessionHolds start old new printed now why
+unfoldable pub Held : List Replaying → TerminalState → TerminalState → Ended → Type 0
+Held start old new why = SessionHolds start old new why

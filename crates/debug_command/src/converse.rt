@@ -3,8 +3,8 @@ ghost use Rattle.std.specs.Prelude.{◌≡◌, ◌∷◌, ◌≤◌, ◌<◌, �
 ghost use Rattle.fri_text.specs.Line.{lines_of};
 ghost use Rattle.group_state.specs.Place.{AreParts};
 ghost use Rattle.debug_command.specs.declared.converse.Ended.TheVariants as cause;
-ghost use Rattle.debug_command.specs.Conversation.{Converses};
-ghost use Rattle.debug_command.specs.Talk.{BreaksFrom, GoesOn, HearsFrom, Held, HoldsFrom, Opens, OpensPart, Spoke, StopsIn, ended_by, listened_after, spoken_after, why_of};
+ghost use Rattle.debug_command.specs.Conversation.{Converses, terminal_at};
+ghost use Rattle.debug_command.specs.Talk.{BreaksFrom, GoesOn, HearsFrom, Held, HoldsFrom, Opens, OpensPart, Spoke, StopsIn, ended_by, exchange_of, heard_of, listened_after, spoken_after, talk_of, why_of};
 
 use command_run::{Reason, Status, say_refused};
 use fri_bytes::Cursor;
@@ -84,7 +84,7 @@ fn begin<'m, 'a, K: Sink>(
 ) -> Result<Talk<'m, 'a>, Ended>
     requires { AreParts parts.items }
     ensures said { MatchResult result
-        (λ talk. Opens parts.entry.items (K.taken out.old) (K.taken out.new) talk.session talk.begun.items talk.count)
+        (λ talk. Opens parts.entry.items (K.taken out.old) (K.taken out.new) (talk_of talk))
         (OpensPart parts.entry.items (K.taken out.old) (K.taken out.new)) }
     ensures count { IfOk result (λ talk. talk.count ≡ 0) }
     ensures counted { K.faults out.new ≡ spoken_after (K.faults out.old) result }
@@ -132,9 +132,8 @@ fn take_byte<'m, 'a, K: Sink, L: Ledger>(
     steps: &mut Steps<L>,
 ) -> Result<Talk<'m, 'a>, Ended>
     ensures said { MatchResult result
-        (λ new. GoesOn (b ∷ []) (K.taken out.old) (K.taken out.new) talk.entry.session talk.entry.begun.items talk.entry.count
-        new.session new.begun.items new.count)
-        (StopsIn (b ∷ []) (K.taken out.old) (K.taken out.new) talk.entry.session talk.entry.begun.items talk.entry.count) }
+        (λ next. GoesOn (b ∷ []) (K.taken out.old) (K.taken out.new) (talk_of talk.entry) (talk_of next))
+        (StopsIn (b ∷ []) (K.taken out.old) (K.taken out.new) (talk_of talk.entry)) }
     ensures count { IfOk result (λ new. new.count ≡ talk.entry.count + 1) }
     ensures within { IfOk result (λ new. new.count ≤ INPUT_LIMIT) }
     ensures counted { K.faults out.new ≡ spoken_after (K.faults out.old) result }
@@ -175,9 +174,8 @@ fn take_piece<'m, 'a, K: Sink, L: Ledger>(
 ) -> Result<Talk<'m, 'a>, Ended>
     requires { talk.count ≤ INPUT_LIMIT }
     ensures said { MatchResult result
-        (λ new. GoesOn piece.now (K.taken out.old) (K.taken out.new) talk.entry.session talk.entry.begun.items talk.entry.count
-        new.session new.begun.items new.count)
-        (StopsIn piece.now (K.taken out.old) (K.taken out.new) talk.entry.session talk.entry.begun.items talk.entry.count) }
+        (λ next. GoesOn piece.now (K.taken out.old) (K.taken out.new) (talk_of talk.entry) (talk_of next))
+        (StopsIn piece.now (K.taken out.old) (K.taken out.new) (talk_of talk.entry)) }
     ensures count { IfOk result (λ new. new.count ≡ talk.entry.count + length piece.now) }
     ensures within { IfOk result (λ new. new.count ≤ INPUT_LIMIT) }
     ensures counted { K.faults out.new ≡ spoken_after (K.faults out.old) result }
@@ -200,11 +198,10 @@ fn hear<'m, 'a, T: Terminal, L: Ledger>(
 ) -> Result<(Talk<'m, 'a>, bool), Ended>
     requires within { talk.count ≤ INPUT_LIMIT }
     requires room { 0 < length piece.old }
-    ensures said { MatchResult result
-        (λ heard. HearsFrom (T.taken io.old) (T.taken io.new) talk.entry.session talk.entry.begun.items talk.entry.count
-        heard.0.session heard.0.begun.items heard.0.count (T.hearing io.old) (T.hearing io.new) heard.1 (length piece.old))
-        (BreaksFrom (T.taken io.old) (T.taken io.new) talk.entry.session talk.entry.begun.items talk.entry.count
-        (T.hearing io.old) (T.hearing io.new) (length piece.old)) }
+    ensures said { let terminal = terminal_at T.hearing T.taken T.faults in
+        let exchange = exchange_of (length piece.old) (terminal io.old) (terminal io.new) in MatchResult result
+        (λ heard. HearsFrom exchange (talk_of talk.entry) (heard_of heard))
+        (BreaksFrom exchange (talk_of talk.entry)) }
     ensures count { IfOk result (λ heard. IsTrue heard.1 → talk.entry.count < heard.0.count) }
     ensures within { IfOk result (λ heard. heard.0.count ≤ INPUT_LIMIT) }
     ensures reads { (T.hearing io.new).faults ≡ listened_after (T.hearing io.old).faults result }
@@ -223,8 +220,8 @@ fn listen<T: Terminal, L: Ledger>(
     steps: &mut Steps<L>,
 ) -> Result<(), Ended>
     requires { talk.count ≡ 0 }
-    ensures said { HoldsFrom (T.taken io.old) (T.taken io.new) talk.entry.session talk.entry.begun.items talk.entry.count
-        (T.hearing io.old) (T.hearing io.new) (why_of result) }
+    ensures said { let terminal = terminal_at T.hearing T.taken T.faults in
+        HoldsFrom (terminal io.old) (terminal io.new) (talk_of talk.entry) (why_of result) }
     ensures reads { (T.hearing io.new).faults ≡ listened_after (T.hearing io.old).faults result }
     ensures counted { T.faults io.new ≡ spoken_after (T.faults io.old) result }
 {
@@ -249,7 +246,7 @@ fn hold<T: Terminal, L: Ledger>(
     steps: &mut Steps<L>,
 ) -> Result<(), Ended>
     requires { AreParts parts.items }
-    ensures said { Held parts.entry.items (T.hearing io.old) (T.hearing io.new) (T.taken io.old) (T.taken io.new) (why_of result) }
+    ensures said { let terminal = terminal_at T.hearing T.taken T.faults in Held parts.entry.items (terminal io.old) (terminal io.new) (why_of result) }
     ensures reads { (T.hearing io.new).faults ≡ listened_after (T.hearing io.old).faults result }
     ensures counted { T.faults io.new ≡ spoken_after (T.faults io.old) result }
 {
@@ -269,8 +266,7 @@ pub(crate) fn converse<T: Terminal, L: Ledger>(
     requires parts { blank.parts ≡ L.parts }
     requires some { 0 < blank.parts }
     requires replays { AreParts parts.items }
-    ensures { Converses parts.entry.items (T.hearing io.old) (T.hearing io.new) (T.taken io.old) (T.taken io.new)
-        (T.faults io.old) (T.faults io.new) result }
+    ensures { let terminal = terminal_at T.hearing T.taken T.faults in Converses parts.entry.items (terminal io.old) (terminal io.new) result }
 {
     let mut steps = Steps::<L>::new(blank);
     match hold(alloc, parts, io, &mut steps) {

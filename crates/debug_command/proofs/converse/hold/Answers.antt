@@ -1,14 +1,16 @@
 use Rattle.std.proofs.Common.{◌∙◌, ℕ, ap, sym}
 use Rattle.std.proofs.lemmas.Result.{err_from_is_err_and}
 use Rattle.fri_outside.specs.Terminal.{Hearing}
-use Rattle.debug_command.specs.Talk.{why_of}
+use Rattle.debug_command.specs.Conversation.{terminal_at}
+use Rattle.debug_command.specs.Talk.{talk_of, why_of}
 use Rattle.debug_command.proofs.Listening.{held, held_unopened, none_counted, opens_read}
 use Rattle.debug_command.proofs.converse.hold.Goals as goal
 
 pub returns-in_err-talk-clause-said : goal.returns-in_err-talk-clause-said
 returns-in_err-talk-clause-said g c =
     let p = err_from_is_err_and c.from_residual.result c.from_residual.ensures.1 in
-    rw (p.1, p.2) (held_unopened c.args.parts.items (g.T.Sink.taken c.args.io.now) (g.T.Sink.taken c.begin.new.out) (g.T.Sink.hearing c.args.io.now) (g.T.Sink.hearing c.begin.new.out) c.in_err-talk.field-0.0 c.begin.ensures.heard c.in_err-talk.ensures.said)
+    let terminal = terminal_at g.T.Sink.hearing g.T.Sink.taken g.T.Sink.faults in
+    rw (p.1, p.2) (held_unopened c.args.parts.items (terminal c.args.io.now) (terminal c.begin.new.out) c.in_err-talk.field-0.0 c.begin.ensures.heard c.in_err-talk.ensures.said)
 
 pub returns-in_err-talk-clause-reads : goal.returns-in_err-talk-clause-reads
 returns-in_err-talk-clause-reads g c =
@@ -19,6 +21,5 @@ returns-in_err-talk-clause-reads g c =
 
 pub returns-clause-said : goal.returns-clause-said
 returns-clause-said g c =
-    let talk = c.in_ok-talk.talk in
-    held c.args.parts.items (g.T.Sink.taken c.args.io.now) (g.T.Sink.taken c.begin.new.out) (g.T.Sink.taken c.listen.new.io) talk.session talk.begun.items talk.count
-    (g.T.Sink.hearing c.args.io.now) (g.T.Sink.hearing c.begin.new.out) (g.T.Sink.hearing c.listen.new.io) (why_of c.listen.result) c.begin.ensures.heard c.in_ok-talk.ensures.said c.listen.ensures.said
+    let terminal = terminal_at g.T.Sink.hearing g.T.Sink.taken g.T.Sink.faults in
+    held c.args.parts.items (terminal c.args.io.now) (terminal c.begin.new.out) (terminal c.listen.new.io) (talk_of c.in_ok-talk.talk) (why_of c.listen.result) c.begin.ensures.heard c.in_ok-talk.ensures.said c.listen.ensures.said

@@ -3,15 +3,16 @@ use Rattle.std.specs.Prelude.{Ok, Err}
 use Rattle.std.proofs.lemmas.Result.{err_from_is_err_and}
 use Rattle.fri_text.specs.Line.{lines_of}
 use Rattle.fri_outside.specs.Terminal.{Hearing}
+use Rattle.debug_command.specs.Conversation.{terminal_at}
 use Rattle.debug_command.specs.Limits.{most_input}
-use Rattle.debug_command.specs.Talk.{Spoke, listened_after, spoken_after}
+use Rattle.debug_command.specs.Talk.{Spoke, heard_of, listened_after, spoken_after, talk_of}
 use Rattle.debug_command.proofs.Listening.{listens_all, listens_broken, listens_error, listens_more, listens_none, none_counted, spoke_read}
 use Rattle.debug_command.proofs.converse.listen.Goals as goal
 
 pub hearing-init : goal.hearing-init
 hearing-init g c = record {
   within = omega (arith, c.requires);
-  stands = listens_none (g.T.Sink.taken c.args.io.now) c.args.talk.session c.args.talk.begun.items c.args.talk.count (g.T.Sink.hearing c.args.io.now);
+  stands = listens_none (terminal_at g.T.Sink.hearing g.T.Sink.taken g.T.Sink.faults c.args.io.now) (talk_of c.args.talk);
   counted = refl;
   reads = refl;
 }
@@ -19,14 +20,12 @@ hearing-init g c = record {
 pub returns-in_err-next-clause-said : goal.returns-in_err-next-clause-said
 returns-in_err-next-clause-said g c =
     let p = err_from_is_err_and c.from_residual.result c.from_residual.ensures.1 in
-    let talk = c.args.talk in
-    let here = c.hearing.talk in
+    let terminal = terminal_at g.T.Sink.hearing g.T.Sink.taken g.T.Sink.faults in
     let room = c.min-room.result in
     let size = length (take room c.hearing.piece) in
     let short : size ≤ 4096 = omega (arith, length-take room c.hearing.piece, c.min-room.ensures) in
-    let within : here.count + size ≤ most_input + 1 = omega (arith, length-take room c.hearing.piece, c.min-room.ensures, c.hearing.invariant.within) in
-    rw (p.1, p.2) (listens_broken (g.T.Sink.taken c.args.io.now) (g.T.Sink.taken c.hearing.io) talk.session talk.begun.items talk.count here.session here.begun.items here.count
-    (g.T.Sink.hearing c.args.io.now) (g.T.Sink.hearing c.hearing.io) c.hearing.invariant.stands (g.T.Sink.taken c.hear.new.io) (g.T.Sink.hearing c.hear.new.io) size c.in_err-next.field-0.0 short within c.in_err-next.ensures.said)
+    let within : c.hearing.talk.count + size ≤ most_input + 1 = omega (arith, length-take room c.hearing.piece, c.min-room.ensures, c.hearing.invariant.within) in
+    rw (p.1, p.2) (listens_broken (terminal c.args.io.now) (terminal c.hearing.io) (talk_of c.args.talk) (talk_of c.hearing.talk) c.hearing.invariant.stands (terminal c.hear.new.io) size c.in_err-next.field-0.0 short within c.in_err-next.ensures.said)
 
 pub returns-in_err-next-clause-reads : goal.returns-in_err-next-clause-reads
 returns-in_err-next-clause-reads g c =
@@ -42,16 +41,14 @@ pub returns-in_err-answer-clause-said : goal.returns-in_err-answer-clause-said
 returns-in_err-answer-clause-said g c =
     let p = err_from_is_err_and c.from_residual-in_err-answer.result c.from_residual-in_err-answer.ensures.1 in
     let why = c.in_err-answer.field-0.0 in
-    let talk = c.args.talk in
-    let here = c.hearing.talk in
+    let terminal = terminal_at g.T.Sink.hearing g.T.Sink.taken g.T.Sink.faults in
     let next = c.in_ok-next.next in
     let old = g.T.Sink.taken c.hear.new.io in
     let new = g.T.Sink.taken c.answer.new.out in
     let size = length (take c.min-room.result c.hearing.piece) in
     let short : size ≤ 4096 = omega (arith, length-take c.min-room.result c.hearing.piece, c.min-room.ensures) in
-    rw (p.1, p.2) (listens_error (g.T.Sink.taken c.args.io.now) (g.T.Sink.taken c.hearing.io) talk.session talk.begun.items talk.count here.session here.begun.items here.count
-    (g.T.Sink.hearing c.args.io.now) (g.T.Sink.hearing c.hearing.io) c.hearing.invariant.stands old next.session next.begun.items next.count (g.T.Sink.hearing c.hear.new.io) c.in_ok-next.more size short c.if-not-more.true
-    c.in_ok-next.ensures.said new why (g.T.Sink.hearing c.answer.new.out) c.answer.ensures.heard
+    rw (p.1, p.2) (listens_error (terminal c.args.io.now) (terminal c.hearing.io) (talk_of c.args.talk) (talk_of c.hearing.talk) c.hearing.invariant.stands
+    (terminal c.hear.new.io) (heard_of (next, c.in_ok-next.more)) size short c.if-not-more.true c.in_ok-next.ensures.said (terminal c.answer.new.out) why c.answer.ensures.heard
     (subst (λ (l : List ℕ). Spoke next.session (take 1 (lines_of l)) old new (Err why)) c.as_slice.ensures.value c.in_err-answer.ensures.said))
 
 pub returns-in_err-answer-clause-reads : goal.returns-in_err-answer-clause-reads
@@ -68,16 +65,14 @@ returns-in_err-answer-clause-counted g c =
 
 pub returns-then-not-more-clause-said : goal.returns-then-not-more-clause-said
 returns-then-not-more-clause-said g c =
-    let talk = c.args.talk in
-    let here = c.hearing.talk in
+    let terminal = terminal_at g.T.Sink.hearing g.T.Sink.taken g.T.Sink.faults in
     let next = c.in_ok-next.next in
     let old = g.T.Sink.taken c.hear.new.io in
     let new = g.T.Sink.taken c.answer.new.out in
     let size = length (take c.min-room.result c.hearing.piece) in
     let short : size ≤ 4096 = omega (arith, length-take c.min-room.result c.hearing.piece, c.min-room.ensures) in
-    listens_all (g.T.Sink.taken c.args.io.now) (g.T.Sink.taken c.hearing.io) talk.session talk.begun.items talk.count here.session here.begun.items here.count
-    (g.T.Sink.hearing c.args.io.now) (g.T.Sink.hearing c.hearing.io) c.hearing.invariant.stands old next.session next.begun.items next.count (g.T.Sink.hearing c.hear.new.io) c.in_ok-next.more size short c.if-not-more.true
-    c.in_ok-next.ensures.said new c.in_ok-answer.field-0 (g.T.Sink.hearing c.answer.new.out) c.answer.ensures.heard
+    listens_all (terminal c.args.io.now) (terminal c.hearing.io) (talk_of c.args.talk) (talk_of c.hearing.talk) c.hearing.invariant.stands
+    (terminal c.hear.new.io) (heard_of (next, c.in_ok-next.more)) size short c.if-not-more.true c.in_ok-next.ensures.said (terminal c.answer.new.out) c.in_ok-answer.field-0 c.answer.ensures.heard
     (subst (λ (l : List ℕ). Spoke next.session (take 1 (lines_of l)) old new (Ok c.in_ok-answer.field-0)) c.as_slice.ensures.value c.in_ok-answer.ensures.said)
 
 pub returns-then-not-more-clause-reads : goal.returns-then-not-more-clause-reads
@@ -88,15 +83,14 @@ returns-then-not-more-clause-counted g c = c.in_ok-answer.ensures.counted ∙ c.
 
 pub hearing-preserved : goal.hearing-preserved
 hearing-preserved g c =
-    let talk = c.args.talk in
-    let here = c.hearing.talk in
+    let terminal = terminal_at g.T.Sink.hearing g.T.Sink.taken g.T.Sink.faults in
     let next = c.in_ok-next.next in
     let size = length (take c.min-room.result c.hearing.piece) in
     let short : size ≤ 4096 = omega (arith, length-take c.min-room.result c.hearing.piece, c.min-room.ensures) in
     record {
       within = c.in_ok-next.ensures.within;
-      stands = listens_more (g.T.Sink.taken c.args.io.now) (g.T.Sink.taken c.hearing.io) talk.session talk.begun.items talk.count here.session here.begun.items here.count
-          (g.T.Sink.hearing c.args.io.now) (g.T.Sink.hearing c.hearing.io) c.hearing.invariant.stands (g.T.Sink.taken c.hear.new.io) next.session next.begun.items next.count (g.T.Sink.hearing c.hear.new.io) c.in_ok-next.more size short c.in_ok-next.ensures.said;
+      stands = listens_more (terminal c.args.io.now) (terminal c.hearing.io) (talk_of c.args.talk) (talk_of c.hearing.talk) c.hearing.invariant.stands
+          (terminal c.hear.new.io) (heard_of (next, c.in_ok-next.more)) size short c.in_ok-next.ensures.said;
       counted = c.in_ok-next.ensures.counted ∙ c.hearing.invariant.counted;
       reads = c.in_ok-next.ensures.reads ∙ c.hearing.invariant.reads;
     }
