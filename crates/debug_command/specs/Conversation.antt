@@ -9,6 +9,7 @@ use Rattle.command_run.specs.declared.refusal.Reason.TheVariants as reason
 use Rattle.command_run.specs.declared.status.Status.{Status}
 use Rattle.command_run.specs.declared.status.Status.TheVariants as status
 use Rattle.command_run.specs.Call.{IsAnswerStatus, Prints, said_after}
+use Rattle.command_run.specs.Run.{Outside}
 use Rattle.log_pairs.specs.Pairs.{Pair}
 use Rattle.debug_command.specs.Debug.{input_name, is_large, session_outcome, whole_lines}
 use Rattle.debug_command.specs.Limits.{most_input}
@@ -114,20 +115,21 @@ pub record Converses (start : List Replaying) (old new : TerminalState) (answer 
 -- ---- what `debug` says of the input
 
 -- a session read an input, by turns with what it printed. It began over the replays of these pairs
-pub record ReadsOpened (pairs : List Pair) (told : Option Folder) (before after : Hearing) (printed : Option (List ℕ)) (answer : Status) : Type 0 where
+pub record ReadsOpened (pairs : List Pair) (old new : Outside) (answer : Status) : Type 0 where
   pub start : List Replaying
-  pub opened : WasOpened pairs told start
-  pub read : WhenTold before.left (λ input. HasRead start input after.left answer)
-  pub turns : WhenTold before.asked (TakesTurns start before after printed)
+  pub opened : WasOpened pairs old.told start
+  pub read : WhenTold old.hearing.left (λ input. HasRead start input new.hearing.left answer)
+  pub turns : WhenTold old.hearing.asked (TakesTurns start old.hearing new.hearing old.taken)
 
 -- only a session reads the input, and without one `debug` is not done
-abbrev pub TakesInput : List Pair → Option Folder → Hearing → Hearing → Option (List ℕ) → Status → Type 0
-TakesInput pairs told before after printed answer = ((after ≡ before) × (answer ≢ status.Done)) ⊎ ReadsOpened pairs told before after printed answer
+abbrev pub TakesInput : List Pair → Outside → Outside → Status → Type 0
+TakesInput pairs old new answer = ((new.hearing ≡ old.hearing) × (answer ≢ status.Done)) ⊎ ReadsOpened pairs old new answer
 
 -- a session over these pairs had begun, and all that was taken was answered
-abbrev pub HadAnswered : List Pair → Option Folder → Option (List ℕ) → Option (List ℕ) → Option (List ℕ) → Option (List ℕ) → Type 0
-HadAnswered pairs told left after printed printed_after =
-    (start : List Replaying) × (WasOpened pairs told start × WhenTold left (λ input. HasAnswered start input after printed printed_after))
+abbrev pub HadAnswered : List Pair → Outside → Outside → Type 0
+HadAnswered pairs old new =
+    (start : List Replaying)
+    × (WasOpened pairs old.told start × WhenTold old.hearing.left (λ input. HasAnswered start input new.hearing.left old.taken new.taken))
 
 -- this file is the input, and it is too large for a session over these pairs
 abbrev pub IsTooLarge : List Pair → Option Folder → Option (List ℕ) → List ℕ → Type 0

@@ -19,7 +19,7 @@ pub record DebugRun (pairs : List Pair) (old new : Outside) (answer : Status) : 
   pub call : CallEnds (debug_expected pairs old) (λ folder. []) old new answer
   pub is_command : answer ≢ status.Usage
   pub no_divergence : answer ≢ status.Diverged
-  pub input : TakesInput pairs old.told old.hearing new.hearing old.taken answer
-  pub answered : answer ≡ status.ReadFault → (Rose old.counts.reads new.counts.reads → ⊥) → HadAnswered pairs old.told old.hearing.left new.hearing.left old.taken new.taken
+  pub input : TakesInput pairs old new answer
+  pub answered : answer ≡ status.ReadFault → (Rose old.counts.reads new.counts.reads → ⊥) → HadAnswered pairs old new
   pub refused : answer ≡ status.Refused
       → PrintsRefusal old.taken new.taken (λ file. Rose old.counts.misses new.counts.misses ⊎ IsTooLarge pairs old.told old.hearing.left file)

@@ -295,7 +295,7 @@ run_stopped rest law command o answer is call = subst (λ (a : Status). CommandR
   not_done : ends.NoMemory ≡ ends.Done → ⊥
   not_done e = cc
 
-  unread : (command : Option Command) → KeepsInput command o.told o.hearing o.hearing o.taken ends.NoMemory
+  unread : (command : Option Command) → KeepsInput command o o ends.NoMemory
   unread None = refl
   unread (Some (Record images schedule_name)) = refl
   unread (Some (Replay images pairs)) = refl

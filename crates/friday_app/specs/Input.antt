@@ -1,35 +1,35 @@
 -- What each command says of the input.
 use Rattle.std.specs.Prelude.{◌≡◌, ℕ, List, Option, Some, None}
 use Rattle.fri_outside.specs.Outside.{Folder}
-use Rattle.fri_outside.specs.Terminal.{Hearing}
 use Rattle.command_run.specs.declared.status.Status.{Status}
+use Rattle.command_run.specs.Run.{Outside}
 use Rattle.debug_command.specs.Conversation.{HadAnswered, IsTooLarge, TakesInput}
 use Rattle.friday_app.specs.Command.{Command, Cut, Debug, Drill, Migrate, Record, Replay, Schedule, Streams}
 
 -- the input is read by `debug` alone, and by it no further than it must. Each time it is asked for more, each whole line
 -- before is answered
-abbrev pub KeepsInput : Option Command → Option Folder → Hearing → Hearing → Option (List ℕ) → Status → Type 0
-KeepsInput None told before after printed answer = after ≡ before
-KeepsInput (Some (Record images schedule_name)) told before after printed answer = after ≡ before
-KeepsInput (Some (Replay images pairs)) told before after printed answer = after ≡ before
-KeepsInput (Some (Debug pairs)) told before after printed answer = TakesInput pairs told before after printed answer
-KeepsInput (Some (Drill rounds)) told before after printed answer = after ≡ before
-KeepsInput (Some (Migrate log_name new_name)) told before after printed answer = after ≡ before
-KeepsInput (Some (Schedule pairs)) told before after printed answer = after ≡ before
-KeepsInput (Some (Cut process event pairs)) told before after printed answer = after ≡ before
-KeepsInput (Some (Streams pairs)) told before after printed answer = after ≡ before
+abbrev pub KeepsInput : Option Command → Outside → Outside → Status → Type 0
+KeepsInput None old new answer = new.hearing ≡ old.hearing
+KeepsInput (Some (Record images schedule_name)) old new answer = new.hearing ≡ old.hearing
+KeepsInput (Some (Replay images pairs)) old new answer = new.hearing ≡ old.hearing
+KeepsInput (Some (Debug pairs)) old new answer = TakesInput pairs old new answer
+KeepsInput (Some (Drill rounds)) old new answer = new.hearing ≡ old.hearing
+KeepsInput (Some (Migrate log_name new_name)) old new answer = new.hearing ≡ old.hearing
+KeepsInput (Some (Schedule pairs)) old new answer = new.hearing ≡ old.hearing
+KeepsInput (Some (Cut process event pairs)) old new answer = new.hearing ≡ old.hearing
+KeepsInput (Some (Streams pairs)) old new answer = new.hearing ≡ old.hearing
 
 -- where a read of the input failed, and none of a file, the session had begun, and all that was taken was answered
-abbrev pub AnswersFirst : Option Command → Option Folder → Option (List ℕ) → Option (List ℕ) → Option (List ℕ) → Option (List ℕ) → Type 0
-AnswersFirst None told left after printed printed_after = ⊥
-AnswersFirst (Some (Record images schedule_name)) told left after printed printed_after = ⊥
-AnswersFirst (Some (Replay images pairs)) told left after printed printed_after = ⊥
-AnswersFirst (Some (Debug pairs)) told left after printed printed_after = HadAnswered pairs told left after printed printed_after
-AnswersFirst (Some (Drill rounds)) told left after printed printed_after = ⊥
-AnswersFirst (Some (Migrate log_name new_name)) told left after printed printed_after = ⊥
-AnswersFirst (Some (Schedule pairs)) told left after printed printed_after = ⊥
-AnswersFirst (Some (Cut process event pairs)) told left after printed printed_after = ⊥
-AnswersFirst (Some (Streams pairs)) told left after printed printed_after = ⊥
+abbrev pub AnswersFirst : Option Command → Outside → Outside → Type 0
+AnswersFirst None old new = ⊥
+AnswersFirst (Some (Record images schedule_name)) old new = ⊥
+AnswersFirst (Some (Replay images pairs)) old new = ⊥
+AnswersFirst (Some (Debug pairs)) old new = HadAnswered pairs old new
+AnswersFirst (Some (Drill rounds)) old new = ⊥
+AnswersFirst (Some (Migrate log_name new_name)) old new = ⊥
+AnswersFirst (Some (Schedule pairs)) old new = ⊥
+AnswersFirst (Some (Cut process event pairs)) old new = ⊥
+AnswersFirst (Some (Streams pairs)) old new = ⊥
 
 -- this file is the input of `debug`, and it is too large
 abbrev pub IsLargeInput : Option Command → Option Folder → Option (List ℕ) → List ℕ → Type 0

@@ -40,9 +40,8 @@ pub record CommandRun (command : Option Command) (old new : Outside) (answer : S
   -- the logs that are cut: the least closed family that holds the event, of each log its first events, whose replay makes
   -- what the log's replay does
   pub past : answer ≡ ends.Done → WhenTold old.told (KeepsPast command)
-  pub input : KeepsInput command old.told old.hearing new.hearing old.taken answer
-  pub answered : answer ≡ ends.ReadFault → (Rose old.counts.reads new.counts.reads → ⊥)
-      → AnswersFirst command old.told old.hearing.left new.hearing.left old.taken new.taken
+  pub input : KeepsInput command old new answer
+  pub answered : answer ≡ ends.ReadFault → (Rose old.counts.reads new.counts.reads → ⊥) → AnswersFirst command old new
   pub refused : answer ≡ ends.Refused
       → PrintsRefusal old.taken new.taken (λ file. Rose old.counts.misses new.counts.misses ⊎ IsLargeInput command old.told old.hearing.left file)
 
