@@ -10,7 +10,7 @@ use Rattle.std.proofs.lemmas.Nat.{from_le_bytes-to_le_bytes_2, from_le_bytes-to_
 use Rattle.std.proofs.lemmas.Slice.Eq.{starts_is}
 use Rattle.fri_bytes.specs.Laws.{AreBytes}
 use Rattle.byteorder.specs.Endian.{little_number}
-use Rattle.byte_streams.specs.Chunk.{IsChunk, IsNoChunk, Piece, chunk_at, chunk_bytes, magic, piece_in}
+use Rattle.byte_streams.specs.Chunk.{IsChunk, IsNoChunk, Piece, chunk_at, chunk_bytes, chunk_magic, piece_in}
 
 -- ---- a chunk is found
 
@@ -25,7 +25,7 @@ is_long : (piece : Piece) → nat_le 14 (length (chunk_bytes piece)) ≡ true
 unfolding chunk_bytes
 is_long piece = grind (arith, nat_tests)
 
-begins : (piece : Piece) → starts_with nat_eq (chunk_bytes piece) magic ≡ true
+begins : (piece : Piece) → starts_with nat_eq (chunk_bytes piece) chunk_magic ≡ true
 unfolding chunk_bytes
 begins piece = refl
 
@@ -39,7 +39,7 @@ pub short_is_none : (payload : List ℕ) → length payload < 14 → chunk_at pa
 unfolding chunk_at
 short_is_none payload short = let no : nat_le 14 (length payload) ≡ false = grind (arith, nat_tests) in rw no refl
 
-pub other_is_none : (payload : List ℕ) → 14 ≤ length payload → starts_with nat_eq payload magic ≡ false → chunk_at payload ≡ None
+pub other_is_none : (payload : List ℕ) → 14 ≤ length payload → starts_with nat_eq payload chunk_magic ≡ false → chunk_at payload ≡ None
 unfolding chunk_at
 other_is_none payload long other = let yes : nat_le 14 (length payload) ≡ true = grind (arith, nat_tests) in rw (yes, other) refl
 
@@ -67,14 +67,14 @@ front_8 (a ∷ b ∷ c ∷ d ∷ e ∷ f ∷ g ∷ h ∷ rest) bytes long =
 front_8 list bytes long = absurd (omega arith)
 
 -- where the magic bytes stand, the bytes are those of the piece whose numbers stand behind them
-spelled_at : (payload : List ℕ) → AreBytes payload → 14 ≤ length payload → starts_with nat_eq payload magic ≡ true → payload ≡ chunk_bytes (piece_in payload)
+spelled_at : (payload : List ℕ) → AreBytes payload → 14 ≤ length payload → starts_with nat_eq payload chunk_magic ≡ true → payload ≡ chunk_bytes (piece_in payload)
 unfolding piece_in chunk_bytes
 spelled_at payload bytes long starts =
-    let magical : payload ≡ magic ++ drop 4 payload = (starts_is Decides-eqb payload magic _ refl).0 starts in
+    let magical : payload ≡ chunk_magic ++ drop 4 payload = (starts_is Decides-eqb payload chunk_magic _ refl).0 starts in
     let stream = front_2 (drop 4 payload) (AreBytes-drop 4 payload bytes) (omega (arith, length-drop 4 payload)) in
     let offset = front_8 (drop 6 payload) (AreBytes-drop 6 payload bytes) (omega (arith, length-drop 6 payload)) in
     magical
-    ∙ ap (λ (x : List ℕ). magic ++ x) (stream
+    ∙ ap (λ (x : List ℕ). chunk_magic ++ x) (stream
     ∙ ap (λ (x : List ℕ). to_le_bytes w16 (from_le_bytes w16 (drop 4 payload)) ++ x) (drop-drop 2 4 payload ∙ offset
     ∙ ap (λ (x : List ℕ). to_le_bytes w64 (from_le_bytes w64 (drop 6 payload)) ++ x) (drop-drop 8 6 payload)))
 
@@ -82,7 +82,7 @@ spelled_at payload bytes long starts =
 pub record Reads (payload : List ℕ) (stream offset : ℕ) : Type 0 where
   pub bytes : AreBytes payload
   pub long : 14 ≤ length payload
-  pub starts : starts_with nat_eq payload magic ≡ true
+  pub starts : starts_with nat_eq payload chunk_magic ≡ true
   pub stream_read : stream ≡ little_number 2 (drop 4 payload)
   pub offset_read : offset ≡ little_number 8 (drop 6 payload)
   pub stream_fits : stream < 2 ^ 16

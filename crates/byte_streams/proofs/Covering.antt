@@ -4,22 +4,22 @@ use Rattle.std.specs.Prelude.{◌&&◌, ◌||◌, nat_le, nat_lt}
 use Rattle.std.proofs.lemmas.Bool.{cases_lt, le-leb, le-ltb, lt-leb, lt-ltb}
 use Rattle.std.proofs.lemmas.List.{get_or-append_right, get_or-drop, get_or-replicate, get_or-take, get_or_append_left, get_or_at, length-map, length-replicate, length-take, length-take-le, map-append, same_lists}
 use Rattle.byte_streams.specs.Keeping.{cover}
-use Rattle.byte_streams.specs.Traffic.{below}
+use Rattle.byte_streams.specs.Traffic.{numbers_below}
 
-pub length-below : (n : ℕ) → length (below n) ≡ n
+pub length-below : (n : ℕ) → length (numbers_below n) ≡ n
 length-below zero = refl
-length-below (suc n) = omega (arith, length-append (below n) (n ∷ []), length-below n)
+length-below (suc n) = omega (arith, length-append (numbers_below n) (n ∷ []), length-below n)
 
-length-map_below : (f : ℕ → Bool) (n : ℕ) → length (map f (below n)) ≡ n
-length-map_below f n = length-map (below n) f ∙ length-below n
+length-map_below : (f : ℕ → Bool) (n : ℕ) → length (map f (numbers_below n)) ≡ n
+length-map_below f n = length-map (numbers_below n) f ∙ length-below n
 
-get_below : (f : ℕ → Bool) (n i : ℕ) (d : Bool) → i < n → get_or (map f (below n)) i d ≡ f i
+get_below : (f : ℕ → Bool) (n i : ℕ) (d : Bool) → i < n → get_or (map f (numbers_below n)) i d ≡ f i
 get_below f zero i d less = absurd (omega arith)
 get_below f (suc n) i d less =
-    ap (λ (l : List Bool). get_or l i d) (map-append f (below n) (n ∷ []))
+    ap (λ (l : List Bool). get_or l i d) (map-append f (numbers_below n) (n ∷ []))
     ∙ ⊎_elim
-    (λ before. get_or_append_left (map f (below n)) (f n ∷ []) d i (omega (arith, length-map_below f n)) ∙ get_below f n i d before)
-    (λ past. let at : n ≡ i = omega arith in get_or_at (map f (below n)) (f n) [] d i (length-map_below f n ∙ at) ∙ ap f at)
+    (λ before. get_or_append_left (map f (numbers_below n)) (f n ∷ []) d i (omega (arith, length-map_below f n)) ∙ get_below f n i d before)
+    (λ past. let at : n ≡ i = omega arith in get_or_at (map f (numbers_below n)) (f n) [] d i (length-map_below f n ∙ at) ∙ ap f at)
     (cases_lt i n)
 
 length-cover : (offset count : ℕ) (l : List Bool) → offset + count ≤ length l → length (cover offset count l) ≡ length l
@@ -60,12 +60,12 @@ get_cover offset count l i d within less = ⊎_elim
 
 -- to cover positions is to ask of each whether it is one of them, and else as before
 pub cover_below : (f : ℕ → Bool) (offset count n : ℕ) → offset + count ≤ n
-    → map (λ (i : ℕ). (nat_le offset i && nat_lt i (offset + count)) || f i) (below n) ≡ cover offset count (map f (below n))
+    → map (λ (i : ℕ). (nat_le offset i && nat_lt i (offset + count)) || f i) (numbers_below n) ≡ cover offset count (map f (numbers_below n))
 cover_below f offset count n within =
-    let room : offset + count ≤ length (map f (below n)) = omega (arith, length-map_below f n) in
+    let room : offset + count ≤ length (map f (numbers_below n)) = omega (arith, length-map_below f n) in
     let covered : ℕ → Bool = λ i. (nat_le offset i && nat_lt i (offset + count)) || f i in
-    same_lists _ _ (length-map_below covered n ∙ sym (length-cover offset count (map f (below n)) room ∙ length-map_below f n))
+    same_lists _ _ (length-map_below covered n ∙ sym (length-cover offset count (map f (numbers_below n)) room ∙ length-map_below f n))
     (λ i d less.
     let inside : i < n = omega (arith, length-map_below covered n) in
     get_below covered n i d inside
-    ∙ sym (get_cover offset count (map f (below n)) i d room (omega (arith, length-map_below f n)) ∙ ap (λ (b : Bool). (nat_le offset i && nat_lt i (offset + count)) || b) (get_below f n i d inside)))
+    ∙ sym (get_cover offset count (map f (numbers_below n)) i d room (omega (arith, length-map_below f n)) ∙ ap (λ (b : Bool). (nat_le offset i && nat_lt i (offset + count)) || b) (get_below f n i d inside)))

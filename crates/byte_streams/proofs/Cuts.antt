@@ -8,9 +8,9 @@ use Rattle.std.proofs.lemmas.List.{drop-take, length-take, length-take-le, take-
 use Rattle.std.proofs.lemmas.Option.{cond_some}
 use Rattle.std.proofs.lemmas.Slice.Eq.{starts_is}
 use Rattle.byte_streams.specs.declared.mark.Mark.TheVariants.{Counted, Plain, Strange}
-use Rattle.byte_streams.specs.Chunk.{Piece, chunk_at, magic, piece_in}
+use Rattle.byte_streams.specs.Chunk.{Piece, chunk_at, chunk_magic, piece_in}
 use Rattle.byte_streams.specs.Laws.{FrontsCount, IsFrontOf, IsUnsent, PlainFronts, ShortIsPlain, StrangeBySend}
-use Rattle.byte_streams.specs.Traffic.{Received, Sending, Sent, Traffic, Written, counted_send, goes_on, is_front_of, latest, mark_of_send, stream_of, written}
+use Rattle.byte_streams.specs.Traffic.{Received, Sending, Sent, SendOrReceive, Written, counted_send, continues_or_repeats, is_front_of, latest, mark_of_send, stream_of, written}
 use Rattle.byte_streams.proofs.ChunkLaws.{short_is_none}
 use Rattle.byte_streams.proofs.Written.{Counts, counted_is}
 
@@ -34,8 +34,8 @@ piece_cut payload count long =
     ∙ ap (λ (l : List ℕ). let p : Piece = piece_in l in record { stream = p.stream; offset = p.offset; bytes = take (count - 14) (drop 14 payload) }) (take-append-drop 14 payload)
 
 -- so do the magic bytes
-front_begins : (payload : List ℕ) (count : ℕ) → 14 ≤ length (take count payload) → starts_with nat_eq (take count payload) magic ≡ starts_with nat_eq payload magic
-front_begins payload count long = ap (bytes_eq magic) (take-take 4 count payload (omega (arith, length-take count payload)))
+front_begins : (payload : List ℕ) (count : ℕ) → 14 ≤ length (take count payload) → starts_with nat_eq (take count payload) chunk_magic ≡ starts_with nat_eq payload chunk_magic
+front_begins payload count long = ap (bytes_eq chunk_magic) (take-take 4 count payload (omega (arith, length-take count payload)))
 
 -- the chunk of a front
 chunk_cut : (payload : List ℕ) (piece : Piece) (count : ℕ) → chunk_at payload ≡ Some piece → 14 ≤ length (take count payload)
@@ -44,8 +44,8 @@ unfolding chunk_at piece_in
 chunk_cut payload piece count at long =
     let chosen = cond_some _ _ _ at in
     let is : piece_in payload ≡ piece = chosen.1 in
-    let starts : starts_with nat_eq payload magic ≡ true = (and_parts (nat_le 14 (length payload)) (starts_with nat_eq payload magic) chosen.0).1 in
-    let begins : starts_with nat_eq (take count payload) magic ≡ true = front_begins payload count long ∙ starts in
+    let starts : starts_with nat_eq payload chunk_magic ≡ true = (and_parts (nat_le 14 (length payload)) (starts_with nat_eq payload chunk_magic) chosen.0).1 in
+    let begins : starts_with nat_eq (take count payload) chunk_magic ≡ true = front_begins payload count long ∙ starts in
     rw (le-leb 14 (length (take count payload)) long, begins)
     (ap Some (piece_cut payload count long ∙ ap (λ (p : Piece). record { stream = p.stream; offset = p.offset; bytes = take (count - 14) p.bytes }) is))
 
@@ -72,13 +72,13 @@ short_plain r early short = rw (short_is_none r.payload short) refl
 none_cut : (payload : List ℕ) (count : ℕ) → chunk_at payload ≡ None → chunk_at (take count payload) ≡ None
 unfolding chunk_at
 none_cut payload count none = by_test _ refl where
-  by_test : (b : Bool) → (nat_le 14 (length (take count payload)) && starts_with nat_eq (take count payload) magic) ≡ b → chunk_at (take count payload) ≡ None
+  by_test : (b : Bool) → (nat_le 14 (length (take count payload)) && starts_with nat_eq (take count payload) chunk_magic) ≡ b → chunk_at (take count payload) ≡ None
   by_test false other = rw other refl
   by_test true is =
-      let parts = and_parts (nat_le 14 (length (take count payload))) (starts_with nat_eq (take count payload) magic) is in
+      let parts = and_parts (nat_le 14 (length (take count payload))) (starts_with nat_eq (take count payload) chunk_magic) is in
       let long = leb-true 14 (length (take count payload)) parts.0 in
       let room : nat_le 14 (length payload) ≡ true = le-leb 14 (length payload) (omega (arith, long, length-take count payload)) in
-      let starts : starts_with nat_eq payload magic ≡ true = sym (front_begins payload count long) ∙ parts.1 in
+      let starts : starts_with nat_eq payload chunk_magic ≡ true = sym (front_begins payload count long) ∙ parts.1 in
       let some : chunk_at payload ≡ Some (piece_in payload) = rw (room, starts) refl in
       absurd cc
 
@@ -88,7 +88,7 @@ plain_fronts r early payload count none front = rw (ap chunk_at front ∙ none_c
 -- ---- a front of what a send brought
 
 -- the latest send at a clock is found behind what came later
-sent_stays : (s : Sending) (early later : List Traffic) (w : Written) → IsUnsent s.from s.clock later → Counts s early w
+sent_stays : (s : Sending) (early later : List SendOrReceive) (w : Written) → IsUnsent s.from s.clock later → Counts s early w
     → counted_send s.from s.clock (later ++ Sent s ∷ early) ≡ Some w
 sent_stays s early [] w none h =
     rw (eq-eqb s.from s.from refl, eq-eqb s.clock s.clock refl) (ap (λ (c : Option Written). latest c (counted_send s.from s.clock early)) (counted_is s early w h))
@@ -97,7 +97,7 @@ sent_stays s early (Sent t ∷ later) w none h = rw none.0 (sent_stays s early l
 
 pub strange_by_send : StrangeBySend
 strange_by_send r s later early count t strange = by_chunk _ refl where
-  not_counted : (piece : Piece) → chunk_at s.payload ≡ Some piece → goes_on piece (written (stream_of s piece) early) ≡ true → mark_of_send s early ≡ Strange
+  not_counted : (piece : Piece) → chunk_at s.payload ≡ Some piece → continues_or_repeats piece (written (stream_of s piece) early) ≡ true → mark_of_send s early ≡ Strange
   not_counted piece at on =
       let traffic = later ++ Sent s ∷ early in
       let w : Written = record { to = s.to; piece = piece } in
@@ -109,7 +109,7 @@ strange_by_send r s later early count t strange = by_chunk _ refl where
       (λ long. let counts : Strange ≡ Counted = sym strange ∙ front_counts r traffic count front long in absurd cc)
       (cases_lt (length r.payload) 14)
 
-  by_test : (piece : Piece) (b : Bool) → chunk_at s.payload ≡ Some piece → goes_on piece (written (stream_of s piece) early) ≡ b → mark_of_send s early ≡ Strange
+  by_test : (piece : Piece) (b : Bool) → chunk_at s.payload ≡ Some piece → continues_or_repeats piece (written (stream_of s piece) early) ≡ b → mark_of_send s early ≡ Strange
   by_test piece true at on = not_counted piece at on
   by_test piece false at off = rw (at, off) refl
 

@@ -13,7 +13,7 @@ use Rattle.std.specs.FinMap as map
 use Rattle.std.specs.FinMap.Entries.{below_all}
 use Rattle.std.specs.FinMap.{IsAntisymmetric, find, is_sorted, nat_cmp-IsAntisymmetric}
 use Rattle.std.proofs.lemmas.Map.Lookups.{exact_pairs}
-use Rattle.byte_streams.specs.Keys.{StreamKey, by_sender, by_stream}
+use Rattle.byte_streams.specs.Keys.{StreamKey, by_process_and_clock, by_stream}
 
 tied : (r : Ordering) → is_eq r ≡ true → r ≡ Equal
 tied Less e = cc
@@ -79,7 +79,7 @@ module _ {K X : Type 0} {R : K → K → Ordering} (o : IsExact R) where
 
 -- ---- the orders of the keys
 
-pub by_sender_exact : IsExact by_sender
+pub by_sender_exact : IsExact by_process_and_clock
 by_sender_exact = record {
   total = then_total (on_total (λ (x : ℕ × ℕ). x.0) nat_cmp_total) (on_total (λ (x : ℕ × ℕ). x.1) nat_cmp_total);
   same = exact_pairs nat_cmp nat_cmp nat_cmp-IsAntisymmetric nat_cmp-IsAntisymmetric;
@@ -88,5 +88,5 @@ by_sender_exact = record {
 pub by_stream_exact : IsExact by_stream
 by_stream_exact = record {
   total = then_total (on_total (λ (x : StreamKey). x.0) nat_cmp_total) (on_total (λ (x : StreamKey). x.1) by_sender_exact.total);
-  same = exact_pairs nat_cmp by_sender nat_cmp-IsAntisymmetric by_sender_exact.same;
+  same = exact_pairs nat_cmp by_process_and_clock nat_cmp-IsAntisymmetric by_sender_exact.same;
 }

@@ -6,7 +6,7 @@ use Rattle.std.proofs.lemmas.Bool.{and_parts, eqb-true, false_from_ne_true, le-l
 use Rattle.std.proofs.lemmas.List.{drop-append-le, drop_at, length-take, take-append-le, take-take, take_all}
 use Rattle.std.proofs.lemmas.Slice.Eq.{bytes_eq-Decides}
 use Rattle.byte_streams.specs.Chunk.{Piece}
-use Rattle.byte_streams.specs.Traffic.{goes_on, stands_in}
+use Rattle.byte_streams.specs.Traffic.{continues_or_repeats, stands_in}
 
 -- the piece lies within the bytes and is what stands there
 pub record Stands (piece : Piece) (bytes : List ℕ) : Type 0 where
@@ -36,7 +36,7 @@ Stands-end piece before at = record {
 }
 
 -- so does one that goes on, with the bytes that it adds
-pub Stands-sent : (piece : Piece) (before : List ℕ) → goes_on piece before ≡ true → Stands piece (before ++ (if piece.offset == length before then piece.bytes else []))
+pub Stands-sent : (piece : Piece) (before : List ℕ) → continues_or_repeats piece before ≡ true → Stands piece (before ++ (if piece.offset == length before then piece.bytes else []))
 Stands-sent piece before on = by_end _ refl where
   by_end : (b : Bool) → (piece.offset == length before) ≡ b → Stands piece (before ++ (if piece.offset == length before then piece.bytes else []))
   by_end true at = rw at (Stands-end piece before (eqb-true _ _ at))

@@ -9,13 +9,13 @@ use Rattle.std.proofs.lemmas.Option.{same_Some}
 use Rattle.byte_streams.specs.Keys.{Contents, chunk_of, key_of}
 use Rattle.byte_streams.specs.Laws.{IsReadOf, IsUnsent, ReadIsKept, UnsentIsFree}
 use Rattle.byte_streams.specs.Lines.{covered_front}
-use Rattle.byte_streams.specs.Stands.{Kept, StandsFor, contents}
-use Rattle.byte_streams.specs.Traffic.{Received, Sent, StreamName, Traffic, below, counted_send, is_covered, is_listed, read_count, written}
+use Rattle.byte_streams.specs.Stands.{KeptTraffic, StandsFor, contents}
+use Rattle.byte_streams.specs.Traffic.{Received, Sent, StreamName, SendOrReceive, numbers_below, counted_send, is_covered, is_listed, read_count, written}
 use Rattle.byte_streams.proofs.Covering.{length-below}
 
 -- ---- a send that was not made
 
-never_sent : (from clock : ℕ) (traffic : List Traffic) → IsUnsent from clock traffic → counted_send from clock traffic ≡ None
+never_sent : (from clock : ℕ) (traffic : List SendOrReceive) → IsUnsent from clock traffic → counted_send from clock traffic ≡ None
 never_sent from clock [] none = refl
 never_sent from clock (Received r ∷ early) none = never_sent from clock early none.1
 never_sent from clock (Sent s ∷ early) none = rw none.0 (never_sent from clock early none.1)
@@ -32,18 +32,18 @@ prefix_len-map f (x ∷ xs) = ap (λ (n : ℕ). cond (f x) (1 + n) 0) (prefix_le
 length-take_while : {A : Type 0} (p : A → Bool) (xs : List A) → length (take_while p xs) ≡ prefix_len p xs
 length-take_while p xs = length-prefix_len p xs
 
-front_count : (name : StreamName) (traffic : List Traffic) → covered_front (contents name traffic) ≡ read_count name traffic
+front_count : (name : StreamName) (traffic : List SendOrReceive) → covered_front (contents name traffic) ≡ read_count name traffic
 front_count name traffic =
-    let positions = below (length (written name traffic)) in
+    let positions = numbers_below (length (written name traffic)) in
     length-take_while (λ (is : Bool). is) (map (is_covered name traffic) positions) ∙ prefix_len-map (is_covered name traffic) positions
     ∙ sym (length-take_while (is_covered name traffic) positions)
 
-read_within : (name : StreamName) (traffic : List Traffic) → read_count name traffic ≤ length (written name traffic)
+read_within : (name : StreamName) (traffic : List SendOrReceive) → read_count name traffic ≤ length (written name traffic)
 read_within name traffic =
-    let positions = below (length (written name traffic)) in
+    let positions = numbers_below (length (written name traffic)) in
     omega (arith, length-take (prefix_len (is_covered name traffic) positions) positions, length-below (length (written name traffic)))
 
-kept_is : (kept : Kept) (traffic : List Traffic) (name : StreamName) (c : Contents) → StandsFor kept traffic → map.get kept.streams (key_of name) ≡ Some c
+kept_is : (kept : KeptTraffic) (traffic : List SendOrReceive) (name : StreamName) (c : Contents) → StandsFor kept traffic → map.get kept.streams (key_of name) ≡ Some c
     → contents name traffic ≡ c
 kept_is kept traffic name c h has = by_listed (is_listed name traffic) (sym (h.streams name) ∙ has) where
   by_listed : (b : Bool) → (if b then Some (contents name traffic) else None) ≡ Some c → contents name traffic ≡ c

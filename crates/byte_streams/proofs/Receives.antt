@@ -5,10 +5,10 @@ use Rattle.std.specs.FinMap as map
 use Rattle.std.proofs.lemmas.Bool.{and_right, cond-true}
 use Rattle.byte_streams.specs.declared.mark.Mark.TheVariants.{Counted, Plain, Strange}
 use Rattle.byte_streams.specs.Chunk.{Piece, chunk_at}
-use Rattle.byte_streams.specs.Keeping.{cover, is_taken_of, is_within, kept_of, stands_among, with_cover, with_taken}
+use Rattle.byte_streams.specs.Keeping.{cover, is_taken_of, is_front_of_sent, kept_of, stands_among, with_cover, with_taken}
 use Rattle.byte_streams.specs.Keys.{Contents, key_of}
-use Rattle.byte_streams.specs.Stands.{Kept, StandsFor, contents}
-use Rattle.byte_streams.specs.Traffic.{Received, Receiving, StreamName, Traffic, below, counted_send, covers, is_covered, is_front_of, is_listed, is_stream, mark_of_receive, written}
+use Rattle.byte_streams.specs.Stands.{KeptTraffic, StandsFor, contents}
+use Rattle.byte_streams.specs.Traffic.{Received, Receiving, StreamName, SendOrReceive, numbers_below, counted_send, covers, is_covered, is_front_of, is_listed, is_stream, mark_of_receive, written}
 use Rattle.byte_streams.proofs.Covering.{cover_below}
 use Rattle.byte_streams.proofs.Fronts.{front_is, is_front, listed_contents}
 use Rattle.byte_streams.proofs.Maps.{by_stream_exact}
@@ -23,12 +23,12 @@ abbrev pub source_key : Receiving → Piece → ℕ × (ℕ × ℕ)
 source_key r piece = (r.tag.sender, (r.by, piece.stream))
 
 -- whether the receive counts, by what is kept
-abbrev pub counts_kept : Receiving → Piece → Kept → Bool
-counts_kept r piece kept = is_within r.by piece (map.get kept.sends (r.tag.sender, r.tag.clock)) && is_taken_of (source_key r piece) piece kept.streams
+abbrev pub counts_kept : Receiving → Piece → KeptTraffic → Bool
+counts_kept r piece kept = is_front_of_sent r.by piece (map.get kept.sends (r.tag.sender, r.tag.clock)) && is_taken_of (source_key r piece) piece kept.streams
 
 -- ---- a receive that does not count
 
-uncovering : (r : Receiving) (early : List Traffic) → ((name : StreamName) (i : ℕ) → covers name i r (chunk_at r.payload) early ≡ false) → Unchanged (Received r) early
+uncovering : (r : Receiving) (early : List SendOrReceive) → ((name : StreamName) (i : ℕ) → covers name i r (chunk_at r.payload) early ≡ false) → Unchanged (Received r) early
 uncovering r early none = record {
   listed = λ name. refl;
   written = λ name. refl;
@@ -36,16 +36,16 @@ uncovering r early none = record {
   sends = λ from clock. refl;
 }
 
-pub received_plain : (kept : Kept) (r : Receiving) (early : List Traffic) → chunk_at r.payload ≡ None → StandsFor kept early
+pub received_plain : (kept : KeptTraffic) (r : Receiving) (early : List SendOrReceive) → chunk_at r.payload ≡ None → StandsFor kept early
     → StandsFor kept (Received r ∷ early) × (Plain ≡ mark_of_receive r early)
 received_plain kept r early none h = (StandsFor-same kept (Received r) early (uncovering r early (λ name i. rw none refl)) h, rw none refl)
 
-front_by_kept : (kept : Kept) (r : Receiving) (early : List Traffic) (piece : Piece) → StandsFor kept early
+front_by_kept : (kept : KeptTraffic) (r : Receiving) (early : List SendOrReceive) (piece : Piece) → StandsFor kept early
     → counts_kept r piece kept ≡ is_front_of r.by piece (counted_send r.tag.sender r.tag.clock early)
 front_by_kept kept r early piece h =
-    (λ i. is_within r.by piece (h.sends r.tag.sender r.tag.clock i) && stands_among piece (h.streams (source r piece) i)) ∙ sym (front_is r.tag.sender r.tag.clock r.by piece early)
+    (λ i. is_front_of_sent r.by piece (h.sends r.tag.sender r.tag.clock i) && stands_among piece (h.streams (source r piece) i)) ∙ sym (front_is r.tag.sender r.tag.clock r.by piece early)
 
-pub received_strange : (kept : Kept) (r : Receiving) (early : List Traffic) (piece : Piece) → chunk_at r.payload ≡ Some piece → counts_kept r piece kept ≡ false
+pub received_strange : (kept : KeptTraffic) (r : Receiving) (early : List SendOrReceive) (piece : Piece) → chunk_at r.payload ≡ Some piece → counts_kept r piece kept ≡ false
     → StandsFor kept early → StandsFor kept (Received r ∷ early) × (Strange ≡ mark_of_receive r early)
 received_strange kept r early piece at apart h =
     let off : is_front_of r.by piece (counted_send r.tag.sender r.tag.clock early) ≡ false = sym (front_by_kept kept r early piece h) ∙ apart in (
@@ -55,7 +55,7 @@ received_strange kept r early piece at apart h =
 
 -- ---- one that counts
 
-module _ (r : Receiving) (early : List Traffic) (piece : Piece) (at : chunk_at r.payload ≡ Some piece)
+module _ (r : Receiving) (early : List SendOrReceive) (piece : Piece) (at : chunk_at r.payload ≡ Some piece)
     (front : is_front_of r.by piece (counted_send r.tag.sender r.tag.clock early) ≡ true) where
   covers_own : (i : ℕ) → is_covered (source r piece) (Received r ∷ early) i
       ≡ ((nat_le piece.offset i && nat_lt i (piece.offset + length piece.bytes)) || is_covered (source r piece) early i)
@@ -64,9 +64,9 @@ module _ (r : Receiving) (early : List Traffic) (piece : Piece) (at : chunk_at r
   contents_taken : contents (source r piece) (Received r ∷ early) ≡ with_cover piece (contents (source r piece) early)
   contents_taken =
       let bytes = written (source r piece) early in
-      let covered : map (is_covered (source r piece) (Received r ∷ early)) (below (length bytes))
-      ≡ cover piece.offset (length piece.bytes) (map (is_covered (source r piece) early) (below (length bytes))) =
-      (λ j. map (λ (i : ℕ). covers_own i j) (below (length bytes)))
+      let covered : map (is_covered (source r piece) (Received r ∷ early)) (numbers_below (length bytes))
+      ≡ cover piece.offset (length piece.bytes) (map (is_covered (source r piece) early) (numbers_below (length bytes))) =
+      (λ j. map (λ (i : ℕ). covers_own i j) (numbers_below (length bytes)))
       ∙ cover_below (is_covered (source r piece) early) piece.offset (length piece.bytes) (length bytes) (is_front r.tag.sender r.tag.clock r.by piece early front).stands.within in
       λ j. record { written = bytes; covered = covered j }
 
@@ -74,7 +74,7 @@ module _ (r : Receiving) (early : List Traffic) (piece : Piece) (at : chunk_at r
   covers_other name i other = rw (at, other) refl
 
   -- what the streams have then
-  stream_at : (kept : Kept) (name : StreamName) → StandsFor kept early
+  stream_at : (kept : KeptTraffic) (name : StreamName) → StandsFor kept early
       → map.get (with_taken (source_key r piece) piece kept.streams) (key_of name) ≡ listed_contents name (Received r ∷ early)
   stream_at kept name stands =
       map.get-insert by_stream_exact.total kept.streams (source_key r piece) (with_cover piece (kept_of (source_key r piece) kept.streams)) (key_of name)
@@ -90,7 +90,7 @@ module _ (r : Receiving) (early : List Traffic) (piece : Piece) (at : chunk_at r
             ∙ ap (λ (n : StreamName). listed_contents n (Received r ∷ early)) (sym (same_name name r.tag.sender r.by piece.stream is))
         by_name false other = stands.streams name ∙ sym (listed_same name (Received r) early refl refl (λ i. covers_other name i other))
 
-pub received_counted : (kept : Kept) (r : Receiving) (early : List Traffic) (piece : Piece) → chunk_at r.payload ≡ Some piece → counts_kept r piece kept ≡ true
+pub received_counted : (kept : KeptTraffic) (r : Receiving) (early : List SendOrReceive) (piece : Piece) → chunk_at r.payload ≡ Some piece → counts_kept r piece kept ≡ true
     → StandsFor kept early
     → StandsFor (record { streams = with_taken (source_key r piece) piece kept.streams; sends = kept.sends }) (Received r ∷ early) × (Counted ≡ mark_of_receive r early)
 received_counted kept r early piece at counts h =

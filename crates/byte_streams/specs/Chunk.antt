@@ -10,13 +10,13 @@ pub record Piece : Type 0 where
   pub bytes : List ℕ
 
 -- the bytes that each chunk begins with
-abbrev pub magic : List ℕ
-magic = codes "STRM"
+abbrev pub chunk_magic : List ℕ
+chunk_magic = codes "STRM"
 
 -- a chunk: the magic bytes, the stream's number in two bytes and the offset in eight, the lowest byte of a number first, and
 -- then the piece's own bytes
 unfoldable pub chunk_bytes : Piece → List ℕ
-chunk_bytes piece = magic ++ to_le_bytes w16 piece.stream ++ to_le_bytes w64 piece.offset ++ piece.bytes
+chunk_bytes piece = chunk_magic ++ to_le_bytes w16 piece.stream ++ to_le_bytes w64 piece.offset ++ piece.bytes
 
 -- the payload is the chunk of this piece
 pub record IsChunk (payload : List ℕ) (piece : Piece) : Type 0 where
@@ -34,4 +34,4 @@ piece_in payload = record { stream = from_le_bytes w16 (drop 4 payload); offset 
 
 -- the piece that the payload is a chunk of, or nothing where it is none
 unfoldable pub chunk_at : List ℕ → Option Piece
-chunk_at payload = if nat_le 14 (length payload) && starts_with nat_eq payload magic then Some (piece_in payload) else None
+chunk_at payload = if nat_le 14 (length payload) && starts_with nat_eq payload chunk_magic then Some (piece_in payload) else None

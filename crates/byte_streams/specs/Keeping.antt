@@ -2,8 +2,8 @@
 use Rattle.std.specs.FinMap as map
 use Rattle.std.specs.Prelude.{ℕ, ◌+◌, ◌==◌, ◌&&◌, nat_le, Bool, true, false, if◌then◌else◌, List, [], ◌++◌, length, take, drop, replicate, Option, Some, None}
 use Rattle.byte_streams.specs.Chunk.{Piece}
-use Rattle.byte_streams.specs.Keys.{Contents, Streams, StreamKey}
-use Rattle.byte_streams.specs.Traffic.{goes_on, stands_in}
+use Rattle.byte_streams.specs.Keys.{Contents, ContentsByStream, StreamKey}
+use Rattle.byte_streams.specs.Traffic.{continues_or_repeats, stands_in}
 use Rattle.byte_streams.specs.declared.send_map.SentChunk.{SentChunk}
 
 -- ---- of one stream
@@ -17,8 +17,8 @@ abbrev pub with_written : List ℕ → Contents → Contents
 with_written bytes c = record { written = c.written ++ bytes; covered = c.covered ++ replicate (length bytes) false }
 
 -- a piece that was sent: only one that begins at the end adds its bytes
-abbrev pub with_piece : Piece → Contents → Contents
-with_piece piece c = if piece.offset == length c.written then with_written piece.bytes c else c
+abbrev pub with_sent_piece : Piece → Contents → Contents
+with_sent_piece piece c = if piece.offset == length c.written then with_written piece.bytes c else c
 
 -- so many positions, from this one on, are covered
 abbrev pub cover : ℕ → ℕ → List Bool → List Bool
@@ -35,31 +35,31 @@ abbrev pub or_empty : Option Contents → Contents
 or_empty None = empty_contents
 or_empty (Some c) = c
 
-abbrev pub kept_of : StreamKey → Streams → Contents
+abbrev pub kept_of : StreamKey → ContentsByStream → Contents
 kept_of key streams = or_empty (map.get streams key)
 
 -- a piece is sent to a stream
-abbrev pub is_written_to : StreamKey → Piece → Streams → Bool
-is_written_to key piece streams = goes_on piece (kept_of key streams).written
+abbrev pub is_written_to : StreamKey → Piece → ContentsByStream → Bool
+is_written_to key piece streams = continues_or_repeats piece (kept_of key streams).written
 
-abbrev pub with_sent : StreamKey → Piece → Streams → Streams
-with_sent key piece streams = map.insert streams key (with_piece piece (kept_of key streams))
+abbrev pub with_stream_sent : StreamKey → Piece → ContentsByStream → ContentsByStream
+with_stream_sent key piece streams = map.insert streams key (with_sent_piece piece (kept_of key streams))
 
 -- a piece is taken of a stream, which is there
 abbrev pub stands_among : Piece → Option Contents → Bool
 stands_among piece None = false
 stands_among piece (Some c) = stands_in piece c.written
 
-abbrev pub is_taken_of : StreamKey → Piece → Streams → Bool
+abbrev pub is_taken_of : StreamKey → Piece → ContentsByStream → Bool
 is_taken_of key piece streams = stands_among piece (map.get streams key)
 
-abbrev pub with_taken : StreamKey → Piece → Streams → Streams
+abbrev pub with_taken : StreamKey → Piece → ContentsByStream → ContentsByStream
 with_taken key piece streams = map.insert streams key (with_cover piece (kept_of key streams))
 
 -- ---- of the sends that count
 
 -- the piece begins where this send's does, in the same stream, for the same process, and is not longer
-abbrev pub is_within : ℕ → Piece → Option SentChunk → Bool
-is_within by piece None = false
-is_within by piece (Some sent) =
+abbrev pub is_front_of_sent : ℕ → Piece → Option SentChunk → Bool
+is_front_of_sent by piece None = false
+is_front_of_sent by piece (Some sent) =
     (sent.to == by) && ((sent.stream == piece.stream) && ((sent.offset == piece.offset) && nat_le (length piece.bytes) sent.count))

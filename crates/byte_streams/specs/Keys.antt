@@ -29,10 +29,10 @@ contents_code =
     (λ p. record { written = p.0; covered = p.1 })
     (λ _. refl)
 
-abbrev pub Streams : Type 0
-Streams = map.FinMap by_stream Contents
+abbrev pub ContentsByStream : Type 0
+ContentsByStream = map.FinMap by_stream Contents
 
-abbrev pub streams_code : Coded Streams
+abbrev pub streams_code : Coded ContentsByStream
 streams_code = map.code (coded× coded_ℕ (coded× coded_ℕ coded_ℕ)) contents_code
 
 -- of a send that counts: where it goes to, its stream, its offset and how many bytes it has, which are part of what was written
@@ -47,11 +47,11 @@ sent_code =
     (λ _. refl)
 
 -- by process, and then by clock
-abbrev pub by_sender : ℕ × ℕ → ℕ × ℕ → Ordering
-by_sender x y = ordering_then (nat_cmp x.0 y.0) (nat_cmp x.1 y.1)
+abbrev pub by_process_and_clock : ℕ × ℕ → ℕ × ℕ → Ordering
+by_process_and_clock x y = ordering_then (nat_cmp x.0 y.0) (nat_cmp x.1 y.1)
 
 abbrev pub Chunks : Type 0
-Chunks = map.FinMap by_sender SentChunk
+Chunks = map.FinMap by_process_and_clock SentChunk
 
 abbrev pub chunks_code : Coded Chunks
 chunks_code = map.code (coded× coded_ℕ coded_ℕ) sent_code

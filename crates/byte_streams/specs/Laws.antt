@@ -6,25 +6,25 @@ use Rattle.byte_streams.specs.declared.mark.Mark.TheVariants.{Plain, Counted, St
 use Rattle.byte_streams.specs.Chunk.{chunk_at}
 use Rattle.byte_streams.specs.Keys.{Contents, key_of}
 use Rattle.byte_streams.specs.Lines.{covered_front, read_of}
-use Rattle.byte_streams.specs.Stands.{Kept, StandsFor}
-use Rattle.byte_streams.specs.Traffic.{Receiving, Received, Sending, Sent, StreamName, Traffic, Written, counted_send, mark_of_receive, mark_of_send, read_bytes, read_count, written}
+use Rattle.byte_streams.specs.Stands.{KeptTraffic, StandsFor}
+use Rattle.byte_streams.specs.Traffic.{Receiving, Received, Sending, Sent, StreamName, SendOrReceive, Written, counted_send, mark_of_receive, mark_of_send, read_bytes, read_count, written}
 
 -- this is a send of the process at this clock
-abbrev pub is_send_at : ℕ → ℕ → Traffic → Bool
+abbrev pub is_send_at : ℕ → ℕ → SendOrReceive → Bool
 is_send_at from clock (Sent s) = (s.from == from) && (s.clock == clock)
 is_send_at from clock (Received r) = false
 
 -- none of these is
-abbrev pub IsUnsent : ℕ → ℕ → List Traffic → Type 0
+abbrev pub IsUnsent : ℕ → ℕ → List SendOrReceive → Type 0
 IsUnsent from clock traffic = AllByRecursion (λ t. is_send_at from clock t ≡ false) traffic
 
 abbrev pub UnsentIsFree : Type 0
 UnsentIsFree =
-    (kept : Kept) (traffic : List Traffic) (from clock : ℕ) → StandsFor kept traffic → IsUnsent from clock traffic
+    (kept : KeptTraffic) (traffic : List SendOrReceive) (from clock : ℕ) → StandsFor kept traffic → IsUnsent from clock traffic
     → map.get kept.sends (from, clock) ≡ None
 
 -- what is read of a stream that is kept is what was read of it: a front of what was written
-pub record IsReadOf (c : Contents) (name : StreamName) (traffic : List Traffic) : Type 0 where
+pub record IsReadOf (c : Contents) (name : StreamName) (traffic : List SendOrReceive) : Type 0 where
   pub bytes : read_of c ≡ read_bytes name traffic
   pub count : covered_front c ≡ read_count name traffic
   pub within : read_count name traffic ≤ length (written name traffic)
@@ -32,11 +32,11 @@ pub record IsReadOf (c : Contents) (name : StreamName) (traffic : List Traffic) 
 
 abbrev pub ReadIsKept : Type 0
 ReadIsKept =
-    (kept : Kept) (traffic : List Traffic) (name : StreamName) (c : Contents) → StandsFor kept traffic
+    (kept : KeptTraffic) (traffic : List SendOrReceive) (name : StreamName) (c : Contents) → StandsFor kept traffic
     → map.get kept.streams (key_of name) ≡ Some c → IsReadOf c name traffic
 
 -- the payload is the front, so many bytes long, of what the send that the tag names brought to this process
-pub record IsFrontOf (r : Receiving) (early : List Traffic) (count : ℕ) : Type 0 where
+pub record IsFrontOf (r : Receiving) (early : List SendOrReceive) (count : ℕ) : Type 0 where
   pub sent : Written
   pub payload : List ℕ
   pub counted : counted_send r.tag.sender r.tag.clock early ≡ Some sent
@@ -46,18 +46,18 @@ pub record IsFrontOf (r : Receiving) (early : List Traffic) (count : ℕ) : Type
 
 -- such a front counts where it has room for a chunk
 abbrev pub FrontsCount : Type 0
-FrontsCount = (r : Receiving) (early : List Traffic) (count : ℕ) → IsFrontOf r early count → 14 ≤ length r.payload → mark_of_receive r early ≡ Counted
+FrontsCount = (r : Receiving) (early : List SendOrReceive) (count : ℕ) → IsFrontOf r early count → 14 ≤ length r.payload → mark_of_receive r early ≡ Counted
 
 -- and what has none is plain
 abbrev pub ShortIsPlain : Type 0
-ShortIsPlain = (r : Receiving) (early : List Traffic) → length r.payload < 14 → mark_of_receive r early ≡ Plain
+ShortIsPlain = (r : Receiving) (early : List SendOrReceive) → length r.payload < 14 → mark_of_receive r early ≡ Plain
 
 -- the front of a payload that is no chunk is plain too
 abbrev pub PlainFronts : Type 0
-PlainFronts = (r : Receiving) (early : List Traffic) (payload : List ℕ) (count : ℕ) → chunk_at payload ≡ None → r.payload ≡ take count payload → mark_of_receive r early ≡ Plain
+PlainFronts = (r : Receiving) (early : List SendOrReceive) (payload : List ℕ) (count : ℕ) → chunk_at payload ≡ None → r.payload ≡ take count payload → mark_of_receive r early ≡ Plain
 
 -- a process took a front of what this send brought to it, and its sender made no later one at that clock
-pub record IsTakenOf (r : Receiving) (s : Sending) (later : List Traffic) (count : ℕ) : Type 0 where
+pub record IsTakenOf (r : Receiving) (s : Sending) (later : List SendOrReceive) (count : ℕ) : Type 0 where
   pub sender : r.tag.sender ≡ s.from
   pub clock : r.tag.clock ≡ s.clock
   pub by : r.by ≡ s.to
@@ -67,5 +67,5 @@ pub record IsTakenOf (r : Receiving) (s : Sending) (later : List Traffic) (count
 -- such a receive is strange only where the send is
 abbrev pub StrangeBySend : Type 0
 StrangeBySend =
-    (r : Receiving) (s : Sending) (later early : List Traffic) (count : ℕ) → IsTakenOf r s later count
+    (r : Receiving) (s : Sending) (later early : List SendOrReceive) (count : ℕ) → IsTakenOf r s later count
     → mark_of_receive r (later ++ Sent s ∷ early) ≡ Strange → mark_of_send s early ≡ Strange

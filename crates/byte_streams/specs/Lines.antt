@@ -3,7 +3,7 @@ use Rattle.std.specs.Prelude.{ℕ, List, length, map, take}
 use Rattle.std.specs.FinMap as map
 use Rattle.std.specs.List.{take_while}
 use Rattle.byte_streams.specs.declared.line.StreamLine.{StreamLine}
-use Rattle.byte_streams.specs.Keys.{Contents, StreamKey, Streams}
+use Rattle.byte_streams.specs.Keys.{Contents, StreamKey, ContentsByStream}
 
 -- how many positions at the front are covered
 abbrev pub covered_front : Contents → ℕ
@@ -13,9 +13,9 @@ covered_front c = length (take_while (λ is. is) c.covered)
 abbrev pub read_of : Contents → List ℕ
 read_of c = take (covered_front c) c.written
 
-abbrev pub line_of : StreamKey × Contents → StreamLine
-line_of entry = record { from = entry.0.0; to = entry.0.1.0; stream = entry.0.1.1; written = length entry.1.written; read = covered_front entry.1 }
+abbrev pub stream_line : StreamKey × Contents → StreamLine
+stream_line entry = record { from = entry.0.0; to = entry.0.1.0; stream = entry.0.1.1; written = length entry.1.written; read = covered_front entry.1 }
 
 -- a line for each stream, by the process that writes, by the one that reads, and by number
-abbrev pub lines_of : Streams → List StreamLine
-lines_of streams = map line_of (map.entries streams)
+abbrev pub stream_lines : ContentsByStream → List StreamLine
+stream_lines streams = map stream_line (map.entries streams)

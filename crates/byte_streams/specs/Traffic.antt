@@ -19,9 +19,9 @@ pub record Receiving : Type 0 where
   pub tag : Tag
   pub payload : List ℕ
 
-pub data Traffic : Type 0 where
-  Sent : (s : Sending) → Traffic
-  Received : (r : Receiving) → Traffic
+pub data SendOrReceive : Type 0 where
+  Sent : (s : Sending) → SendOrReceive
+  Received : (r : Receiving) → SendOrReceive
 
 -- a stream: the processes that write it and read it, and its number
 pub record StreamName : Type 0 where
@@ -35,14 +35,14 @@ is_stream name from to number = (name.from == from) && ((name.to == to) && (name
 -- ---- what was written
 
 -- the bytes that a send adds behind those that were written to the stream before
-abbrev pub added : StreamName → Sending → Option Piece → List ℕ → List ℕ
-added name s None before = []
-added name s (Some piece) before = if is_stream name s.from s.to piece.stream && (piece.offset == length before) then piece.bytes else []
+abbrev pub added_bytes : StreamName → Sending → Option Piece → List ℕ → List ℕ
+added_bytes name s None before = []
+added_bytes name s (Some piece) before = if is_stream name s.from s.to piece.stream && (piece.offset == length before) then piece.bytes else []
 
-abbrev pub written : StreamName → List Traffic → List ℕ
+abbrev pub written : StreamName → List SendOrReceive → List ℕ
 written name [] = []
 written name (Received r ∷ early) = written name early
-written name (Sent s ∷ early) = written name early ++ added name s (chunk_at s.payload) (written name early)
+written name (Sent s ∷ early) = written name early ++ added_bytes name s (chunk_at s.payload) (written name early)
 
 -- ---- what a send is
 
@@ -51,18 +51,18 @@ abbrev pub stands_in : Piece → List ℕ → Bool
 stands_in piece bytes = nat_le (piece.offset + length piece.bytes) (length bytes) && bytes_eq piece.bytes (take (length piece.bytes) (drop piece.offset bytes))
 
 -- it begins at the end of what was written before, or repeats a part of it
-abbrev pub goes_on : Piece → List ℕ → Bool
-goes_on piece before = (piece.offset == length before) || stands_in piece before
+abbrev pub continues_or_repeats : Piece → List ℕ → Bool
+continues_or_repeats piece before = (piece.offset == length before) || stands_in piece before
 
 abbrev pub stream_of : Sending → Piece → StreamName
 stream_of s piece = record { from = s.from; to = s.to; number = piece.stream }
 
-abbrev pub send_mark : Sending → Option Piece → List Traffic → Mark
+abbrev pub send_mark : Sending → Option Piece → List SendOrReceive → Mark
 send_mark s None early = Plain
-send_mark s (Some piece) early = if goes_on piece (written (stream_of s piece) early) then Counted else Strange
+send_mark s (Some piece) early = if continues_or_repeats piece (written (stream_of s piece) early) then Counted else Strange
 
 -- behind the traffic before it
-abbrev pub mark_of_send : Sending → List Traffic → Mark
+abbrev pub mark_of_send : Sending → List SendOrReceive → Mark
 mark_of_send s early = send_mark s (chunk_at s.payload) early
 
 -- ---- the sends that count
@@ -73,9 +73,9 @@ pub record Written : Type 0 where
   pub piece : Piece
 
 -- the send where it counts
-abbrev pub counted : Sending → Option Piece → List Traffic → Option Written
-counted s None early = None
-counted s (Some piece) early = if goes_on piece (written (stream_of s piece) early) then Some (record { to = s.to; piece = piece }) else None
+abbrev pub send_that_counts : Sending → Option Piece → List SendOrReceive → Option Written
+send_that_counts s None early = None
+send_that_counts s (Some piece) early = if continues_or_repeats piece (written (stream_of s piece) early) then Some (record { to = s.to; piece = piece }) else None
 
 -- the latest of these, or of what was before
 abbrev pub latest : Option Written → Option Written → Option Written
@@ -83,21 +83,21 @@ latest None before = before
 latest (Some w) before = Some w
 
 -- the send of a process at this clock, where one counts
-abbrev pub counted_send : ℕ → ℕ → List Traffic → Option Written
+abbrev pub counted_send : ℕ → ℕ → List SendOrReceive → Option Written
 counted_send from clock [] = None
 counted_send from clock (Received r ∷ early) = counted_send from clock early
 counted_send from clock (Sent s ∷ early) =
-    if (s.from == from) && (s.clock == clock) then latest (counted s (chunk_at s.payload) early) (counted_send from clock early) else counted_send from clock early
+    if (s.from == from) && (s.clock == clock) then latest (send_that_counts s (chunk_at s.payload) early) (counted_send from clock early) else counted_send from clock early
 
 -- some send to the stream counts
-abbrev pub is_of : StreamName → Sending → Option Written → Bool
-is_of name s None = false
-is_of name s (Some w) = is_stream name s.from w.to w.piece.stream
+abbrev pub is_to_stream : StreamName → Sending → Option Written → Bool
+is_to_stream name s None = false
+is_to_stream name s (Some w) = is_stream name s.from w.to w.piece.stream
 
-abbrev pub is_listed : StreamName → List Traffic → Bool
+abbrev pub is_listed : StreamName → List SendOrReceive → Bool
 is_listed name [] = false
 is_listed name (Received r ∷ early) = is_listed name early
-is_listed name (Sent s ∷ early) = is_of name s (counted s (chunk_at s.payload) early) || is_listed name early
+is_listed name (Sent s ∷ early) = is_to_stream name s (send_that_counts s (chunk_at s.payload) early) || is_listed name early
 
 -- ---- what a receive is
 
@@ -107,18 +107,18 @@ is_front_of by piece None = false
 is_front_of by piece (Some w) =
     (w.to == by) && ((w.piece.stream == piece.stream) && ((w.piece.offset == piece.offset) && starts_with nat_eq w.piece.bytes piece.bytes))
 
-abbrev pub receive_mark : Receiving → Option Piece → List Traffic → Mark
+abbrev pub receive_mark : Receiving → Option Piece → List SendOrReceive → Mark
 receive_mark r None early = Plain
 receive_mark r (Some piece) early = if is_front_of r.by piece (counted_send r.tag.sender r.tag.clock early) then Counted else Strange
 
 -- behind the traffic before it
-abbrev pub mark_of_receive : Receiving → List Traffic → Mark
+abbrev pub mark_of_receive : Receiving → List SendOrReceive → Mark
 mark_of_receive r early = receive_mark r (chunk_at r.payload) early
 
 -- ---- what was read
 
 -- a receive that counts has its bytes over this position of the stream
-abbrev pub covers : StreamName → ℕ → Receiving → Option Piece → List Traffic → Bool
+abbrev pub covers : StreamName → ℕ → Receiving → Option Piece → List SendOrReceive → Bool
 covers name i r None early = false
 covers name i r (Some piece) early =
     is_stream name r.tag.sender r.by piece.stream
@@ -126,20 +126,20 @@ covers name i r (Some piece) early =
     && (nat_le piece.offset i && nat_lt i (piece.offset + length piece.bytes)))
 
 -- some receive has
-abbrev pub is_covered : StreamName → List Traffic → ℕ → Bool
+abbrev pub is_covered : StreamName → List SendOrReceive → ℕ → Bool
 is_covered name [] i = false
 is_covered name (Sent s ∷ early) i = is_covered name early i
 is_covered name (Received r ∷ early) i = covers name i r (chunk_at r.payload) early || is_covered name early i
 
 -- the numbers below this one
-abbrev pub below : ℕ → List ℕ
-below zero = []
-below (suc n) = below n ++ n ∷ []
+abbrev pub numbers_below : ℕ → List ℕ
+numbers_below zero = []
+numbers_below (suc n) = numbers_below n ++ n ∷ []
 
 -- how many positions at the front of what was written are covered
-abbrev pub read_count : StreamName → List Traffic → ℕ
-read_count name traffic = length (take_while (is_covered name traffic) (below (length (written name traffic))))
+abbrev pub read_count : StreamName → List SendOrReceive → ℕ
+read_count name traffic = length (take_while (is_covered name traffic) (numbers_below (length (written name traffic))))
 
 -- the bytes that were read: the longest front of those written that is covered
-abbrev pub read_bytes : StreamName → List Traffic → List ℕ
+abbrev pub read_bytes : StreamName → List SendOrReceive → List ℕ
 read_bytes name traffic = take (read_count name traffic) (written name traffic)

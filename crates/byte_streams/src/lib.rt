@@ -2,7 +2,7 @@
 //!
 //! A datagram whose payload is a chunk (`read_chunk`) carries a piece of a stream. `Streams` is told of all sends and receives
 //! of a group, one after the other, and keeps of each stream what was written to it and which of its bytes were taken.
-//! Contracts see what it keeps (`Kept` of `specs/Stands`), and say that this stands for the sends and receives so far
+//! Contracts see what it keeps (`KeptTraffic` of `specs/Stands`), and say that this stands for the sends and receives so far
 //! (`StandsFor`), over the definitions of `specs/Traffic`: which of them count, what was written, and what was read.
 #![tactic(auto)]
 

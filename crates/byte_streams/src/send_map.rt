@@ -1,7 +1,7 @@
 // The sends that count.
 ghost use Rattle.std.specs.Prelude.{◌≡◌, OnOk};
 ghost use Rattle.std.specs.FinMap as map;
-ghost use Rattle.byte_streams.specs.Keeping.{is_within};
+ghost use Rattle.byte_streams.specs.Keeping.{is_front_of_sent};
 ghost use Rattle.byte_streams.specs.Seen.{piece_of};
 
 use crate::chunk::Chunk;
@@ -21,7 +21,7 @@ pub(crate) struct SentChunk {
 
 impl SentChunk {
     fn has_place_of(&self, by: u32, chunk: &Chunk<'_>) -> bool
-        ensures { result ≡ is_within by (piece_of chunk.now) (Some self.now) }
+        ensures { result ≡ is_front_of_sent by (piece_of chunk.now) (Some self.now) }
     {
         self.to == by
             && self.stream == chunk.stream
@@ -67,7 +67,7 @@ impl SendMap {
 
     // Whether a piece that a process takes has the place of the send that another made at this clock, and not more bytes.
     pub(crate) fn is_within(&self, from: u32, clock: u64, by: u32, chunk: &Chunk<'_>) -> bool
-        ensures { result ≡ is_within by (piece_of chunk.now) (map.get self.now (from, clock)) }
+        ensures { result ≡ is_front_of_sent by (piece_of chunk.now) (map.get self.now (from, clock)) }
     {
         let Some(sent) = self.chunks.get(&(from, clock)) else {
             return false;

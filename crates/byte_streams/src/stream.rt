@@ -1,9 +1,9 @@
 // What is kept of one stream.
 ghost use Rattle.std.specs.Prelude.{◌≡◌, ◌≤◌, length, IfOk, OnOk, if◌then◌else◌};
-ghost use Rattle.byte_streams.specs.Keeping.{empty_contents, with_cover, with_piece, with_written};
+ghost use Rattle.byte_streams.specs.Keeping.{empty_contents, with_cover, with_sent_piece, with_written};
 ghost use Rattle.byte_streams.specs.Lines.{covered_front, read_of};
 ghost use Rattle.byte_streams.specs.Seen.{piece_of};
-ghost use Rattle.byte_streams.specs.Traffic.{goes_on, stands_in};
+ghost use Rattle.byte_streams.specs.Traffic.{continues_or_repeats, stands_in};
 
 use crate::chunk::Chunk;
 use std::alloc::{AllocError, Global};
@@ -42,8 +42,8 @@ impl Stream {
 
     // A piece that is sent: one that begins at the end adds its bytes. Says whether it counts.
     pub(crate) fn write(&mut self, chunk: &Chunk<'_>) -> Result<bool, AllocError>
-        ensures counts { IfOk result (λ counts. counts ≡ goes_on (piece_of chunk.now) self.old.written) }
-        ensures contents { OnOk result (self.new ≡ with_piece (piece_of chunk.now) self.old) }
+        ensures counts { IfOk result (λ counts. counts ≡ continues_or_repeats (piece_of chunk.now) self.old.written) }
+        ensures contents { OnOk result (self.new ≡ with_sent_piece (piece_of chunk.now) self.old) }
     {
         if chunk.offset == self.written.len() as u64 {
             self.push(chunk.bytes)?;

@@ -1,10 +1,10 @@
 // The streams by their names.
 ghost use Rattle.std.specs.Prelude.{◌≡◌, [], IfOk, OnOk, option_map, if◌then◌else◌};
 ghost use Rattle.std.specs.FinMap as map;
-ghost use Rattle.byte_streams.specs.Keeping.{empty_contents, is_taken_of, is_written_to, with_piece, with_sent, with_taken};
-ghost use Rattle.byte_streams.specs.Lines.{line_of, lines_of, read_of};
+ghost use Rattle.byte_streams.specs.Keeping.{empty_contents, is_taken_of, is_written_to, with_sent_piece, with_stream_sent, with_taken};
+ghost use Rattle.byte_streams.specs.Lines.{stream_line, stream_lines, read_of};
 ghost use Rattle.byte_streams.specs.Seen.{piece_of};
-ghost use Rattle.byte_streams.specs.Traffic.{goes_on};
+ghost use Rattle.byte_streams.specs.Traffic.{continues_or_repeats};
 
 use crate::chunk::Chunk;
 use crate::line::StreamLine;
@@ -24,9 +24,9 @@ pub(crate) struct StreamMap {
 
 impl Model for StreamMap {
     ghost use Rattle.std.specs.FinMap as map;
-    ghost use Rattle.byte_streams.specs.Keys.{Streams, streams_code};
+    ghost use Rattle.byte_streams.specs.Keys.{ContentsByStream, streams_code};
 
-    ghost Value = { Streams };
+    ghost Value = { ContentsByStream };
 
     ghost coded = { streams_code };
 
@@ -52,7 +52,7 @@ impl StreamMap {
         chunk: &Chunk<'_>,
     ) -> Result<bool, AllocError>
         ensures counts { IfOk result (λ counts. counts ≡ is_written_to (from, (to, chunk.now.stream)) (piece_of chunk.now) self.old) }
-        ensures streams { IfOk result (λ counts. self.new ≡ (if counts then with_sent (from, (to, chunk.now.stream)) (piece_of chunk.now) self.old else self.old)) }
+        ensures streams { IfOk result (λ counts. self.new ≡ (if counts then with_stream_sent (from, (to, chunk.now.stream)) (piece_of chunk.now) self.old else self.old)) }
     {
         let key = (from, (to, chunk.stream));
         if let Some(stream) = self.streams.get_mut(&key) {
@@ -63,8 +63,8 @@ impl StreamMap {
 
     // The first piece that is sent to a stream.
     fn begin(&mut self, key: StreamKey, chunk: &Chunk<'_>) -> Result<bool, AllocError>
-        ensures counts { IfOk result (λ counts. counts ≡ goes_on (piece_of chunk.now) []) }
-        ensures streams { IfOk result (λ counts. self.new ≡ (if counts then map.insert self.old key (with_piece (piece_of chunk.now) empty_contents) else self.old)) }
+        ensures counts { IfOk result (λ counts. counts ≡ continues_or_repeats (piece_of chunk.now) []) }
+        ensures streams { IfOk result (λ counts. self.new ≡ (if counts then map.insert self.old key (with_sent_piece (piece_of chunk.now) empty_contents) else self.old)) }
     {
         let mut stream = Stream::new(self.alloc);
         if !stream.write(chunk)? {
@@ -94,7 +94,7 @@ impl StreamMap {
 
     // A line for each stream.
     pub(crate) fn lines(&self, alloc: Global) -> Result<Vec<StreamLine>, AllocError>
-        ensures { IfOk result (λ lines. lines.items ≡ lines_of self.now) }
+        ensures { IfOk result (λ lines. lines.items ≡ stream_lines self.now) }
     {
         self.streams.iter().map(line_of).collect(alloc)
     }
@@ -108,7 +108,7 @@ impl StreamMap {
 }
 
 fn line_of(entry: (&StreamKey, &Stream)) -> StreamLine
-    ensures { result ≡ line_of (entry.entry.0.now, entry.entry.1.now) }
+    ensures { result ≡ stream_line (entry.entry.0.now, entry.entry.1.now) }
 {
     let (key, stream) = entry;
     let (from, (to, number)) = *key;

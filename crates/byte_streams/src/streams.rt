@@ -1,9 +1,9 @@
 // The streams of a group.
 ghost use Rattle.std.specs.Prelude.{◌≡◌, ◌∷◌, [], None, IfOk, List, option_map};
 ghost use Rattle.std.specs.FinMap as map;
-ghost use Rattle.byte_streams.specs.Lines.{lines_of, read_of};
+ghost use Rattle.byte_streams.specs.Lines.{stream_lines, read_of};
 ghost use Rattle.byte_streams.specs.Stands.{StandsFor};
-ghost use Rattle.byte_streams.specs.Traffic.{Received, Receiving, Sending, Sent, Traffic, mark_of_receive, mark_of_send};
+ghost use Rattle.byte_streams.specs.Traffic.{Received, Receiving, Sending, Sent, SendOrReceive, mark_of_receive, mark_of_send};
 
 use crate::chunk::read_chunk;
 use crate::line::StreamLine;
@@ -22,9 +22,9 @@ pub struct Streams {
 }
 
 impl Model for Streams {
-    ghost use Rattle.byte_streams.specs.Stands.{Kept, kept_code};
+    ghost use Rattle.byte_streams.specs.Stands.{KeptTraffic, kept_code};
 
-    ghost Value = { Kept };
+    ghost Value = { KeptTraffic };
 
     ghost coded = { kept_code };
 
@@ -52,7 +52,7 @@ impl Streams {
         payload: &[u8],
     ) -> Result<Mark, AllocError>
         requires { map.get self.old.sends (from, clock) ≡ None }
-        ensures { let s : Sending = record { from = from; clock = clock; to = to; payload = payload.now } in IfOk result (λ mark. (early : List Traffic) → StandsFor self.old early → StandsFor self.new (Sent s ∷ early) × (mark ≡ mark_of_send s early)) }
+        ensures { let s : Sending = record { from = from; clock = clock; to = to; payload = payload.now } in IfOk result (λ mark. (early : List SendOrReceive) → StandsFor self.old early → StandsFor self.new (Sent s ∷ early) × (mark ≡ mark_of_send s early)) }
     {
         let Some(chunk) = read_chunk(payload) else {
             return Ok(Mark::Plain);
@@ -72,7 +72,7 @@ impl Streams {
 
     /// A process took a payload behind this tag. The streams are not used again after want of memory.
     pub fn received(&mut self, by: u32, tag: Tag, payload: &[u8]) -> Result<Mark, AllocError>
-        ensures { let r : Receiving = record { by = by; tag = tag; payload = payload.now } in IfOk result (λ mark. (early : List Traffic) → StandsFor self.old early → StandsFor self.new (Received r ∷ early) × (mark ≡ mark_of_receive r early)) }
+        ensures { let r : Receiving = record { by = by; tag = tag; payload = payload.now } in IfOk result (λ mark. (early : List SendOrReceive) → StandsFor self.old early → StandsFor self.new (Received r ∷ early) × (mark ≡ mark_of_receive r early)) }
     {
         let Some(chunk) = read_chunk(payload) else {
             return Ok(Mark::Plain);
@@ -87,7 +87,7 @@ impl Streams {
 
     /// A line for each stream with a send that counts.
     pub fn lines(&self, alloc: Global) -> Result<Vec<StreamLine>, AllocError>
-        ensures { IfOk result (λ lines. lines.items ≡ lines_of self.now.streams) }
+        ensures { IfOk result (λ lines. lines.items ≡ stream_lines self.now.streams) }
     {
         self.streams.lines(alloc)
     }

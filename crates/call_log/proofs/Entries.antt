@@ -11,7 +11,7 @@ use Rattle.lib_calls.specs.Entry.{IsShaped}
 use Rattle.call_log.specs.declared.version.Version.{Version}
 use Rattle.call_log.specs.Entry.{BeginsNoEntry, clock_after, encoding, encodings}
 use Rattle.call_log.specs.Limits.{least_entry}
-use Rattle.call_log.specs.Log.{Holds, Unread, Walked, entry_at, entries_of, past, rest_of, walk_then, walk_within, with_first}
+use Rattle.call_log.specs.Log.{Holds, Unread, EntriesAndRest, entry_at, entries_of, unread_after_entry, rest_of, walk_then, walk_within, with_first}
 use Rattle.call_log.proofs.EntryLaws.{entry_at-begins, entry_at-found, entry_at-none}
 use Rattle.call_log.proofs.Sizes.{length-encoding}
 
@@ -45,7 +45,7 @@ held_alone v last entries shaped = record { shaped = shaped; spelled = sym (appe
 module _ (readers : ExactReaders) where
   cases : (left : Unread) (o : Option (Entry × Unread)) → entry_at left ≡ o → Begins left ⊎ Stops left
   cases left None e = inr (λ entry rest shaped spelled.
-      let some : entry_at left ≡ Some (entry, past left entry rest) = entry_at-begins readers left entry rest shaped spelled in
+      let some : entry_at left ≡ Some (entry, unread_after_entry left entry rest) = entry_at-begins readers left entry rest shaped spelled in
       absurd cc)
   cases left (Some x) e =
       let found = entry_at-found left x.0 x.1 e in
@@ -55,7 +55,7 @@ module _ (readers : ExactReaders) where
   front_cases left = cases left (entry_at left) refl
 
   -- what is read where an entry stands in front
-  reads : (left : Unread) (b : Begins left) → entry_at left ≡ Some (b.entry, past left b.entry b.rest)
+  reads : (left : Unread) (b : Begins left) → entry_at left ≡ Some (b.entry, unread_after_entry left b.entry b.rest)
   reads left b = entry_at-begins readers left b.entry b.rest b.shaped b.spelled
 
   -- ---- the limit does not matter where it is the number of bytes or more
@@ -74,7 +74,7 @@ module _ (readers : ExactReaders) where
   walk-limit (suc n) (suc m) left p q = elim (front_cases left) [
     | inl b ↦
         let less = fewer left b in
-        let more = walk-limit n m (past left b.entry b.rest) (omega arith) (omega arith) in
+        let more = walk-limit n m (unread_after_entry left b.entry b.rest) (omega arith) (omega arith) in
         rw (reads left b) (ap (with_first b.entry) more)
     | inr none ↦ rw (entry_at-none left none) refl
   ]
@@ -85,35 +85,35 @@ module _ (readers : ExactReaders) where
   unfolding walk_within
   walk-step left = walk-limit (length left.bytes) (suc (length left.bytes)) left (omega arith) (omega arith)
 
-  walk-next : (left : Unread) (e : Entry) (rest : List ℕ) → IsShaped e → left.bytes ≡ encoding left.version left.last e ++ rest → walk_within (length left.bytes) left ≡ with_first e (walk_within (length rest) (past left e rest))
+  walk-next : (left : Unread) (e : Entry) (rest : List ℕ) → IsShaped e → left.bytes ≡ encoding left.version left.last e ++ rest → walk_within (length left.bytes) left ≡ with_first e (walk_within (length rest) (unread_after_entry left e rest))
   walk-next left e rest shaped begins =
       let less = shorter left.version left.last left.bytes e rest begins in
       walk-step left
       ∙ ap (walk_then (walk_within (length left.bytes)) left.bytes) (entry_at-begins readers left e rest shaped begins)
-      ∙ ap (with_first e) (walk-limit (length left.bytes) (length rest) (past left e rest) (omega arith) (omega arith))
+      ∙ ap (with_first e) (walk-limit (length left.bytes) (length rest) (unread_after_entry left e rest) (omega arith) (omega arith))
 
   walk-none : (left : Unread) → entry_at left ≡ None → walk_within (length left.bytes) left ≡ record { entries = []; rest = left.bytes }
   walk-none left none = walk-step left ∙ ap (walk_then (walk_within (length left.bytes)) left.bytes) none
 
   -- the entry that stands in front is the first of all
-  pub entries_of-next : (left : Unread) (e : Entry) (rest : List ℕ) → IsShaped e → left.bytes ≡ encoding left.version left.last e ++ rest → entries_of left ≡ e ∷ entries_of (past left e rest)
+  pub entries_of-next : (left : Unread) (e : Entry) (rest : List ℕ) → IsShaped e → left.bytes ≡ encoding left.version left.last e ++ rest → entries_of left ≡ e ∷ entries_of (unread_after_entry left e rest)
   unfolding entries_of
-  entries_of-next left e rest shaped begins = ap (λ (w : Walked). w.entries) (walk-next left e rest shaped begins)
+  entries_of-next left e rest shaped begins = ap (λ (w : EntriesAndRest). w.entries) (walk-next left e rest shaped begins)
 
   -- and the bytes behind all entries are those behind the others
-  pub rest_of-next : (left : Unread) (e : Entry) (rest : List ℕ) → IsShaped e → left.bytes ≡ encoding left.version left.last e ++ rest → rest_of left ≡ rest_of (past left e rest)
+  pub rest_of-next : (left : Unread) (e : Entry) (rest : List ℕ) → IsShaped e → left.bytes ≡ encoding left.version left.last e ++ rest → rest_of left ≡ rest_of (unread_after_entry left e rest)
   unfolding rest_of
-  rest_of-next left e rest shaped begins = ap (λ (w : Walked). w.rest) (walk-next left e rest shaped begins)
+  rest_of-next left e rest shaped begins = ap (λ (w : EntriesAndRest). w.rest) (walk-next left e rest shaped begins)
 
   -- where none is found, there is none
   pub entries_of-none : (left : Unread) → entry_at left ≡ None → entries_of left ≡ []
   unfolding entries_of
-  entries_of-none left none = ap (λ (w : Walked). w.entries) (walk-none left none)
+  entries_of-none left none = ap (λ (w : EntriesAndRest). w.entries) (walk-none left none)
 
   -- and all bytes are left
   pub rest_of-none : (left : Unread) → entry_at left ≡ None → rest_of left ≡ left.bytes
   unfolding rest_of
-  rest_of-none left none = ap (λ (w : Walked). w.rest) (walk-none left none)
+  rest_of-none left none = ap (λ (w : EntriesAndRest). w.rest) (walk-none left none)
 
   pub entries_of-end : (left : Unread) → Stops left → entries_of left ≡ []
   entries_of-end left none = entries_of-none left (entry_at-none left none)
@@ -124,7 +124,7 @@ module _ (readers : ExactReaders) where
   -- ---- the two functions give what is held, and nothing else is held
 
   -- one more entry in front
-  pub Holds-next : (left : Unread) (e : Entry) (rest : List ℕ) (entries : List Entry) (over : List ℕ) → IsShaped e → left.bytes ≡ encoding left.version left.last e ++ rest → Holds (past left e rest) entries over → Holds left (e ∷ entries) over
+  pub Holds-next : (left : Unread) (e : Entry) (rest : List ℕ) (entries : List Entry) (over : List ℕ) → IsShaped e → left.bytes ≡ encoding left.version left.last e ++ rest → Holds (unread_after_entry left e rest) entries over → Holds left (e ∷ entries) over
   Holds-next left e rest entries over shaped begins h = record {
     shaped = All-cons IsShaped e entries shaped h.shaped;
     spelled = begins ∙ ap (λ (t : List ℕ). encoding left.version left.last e ++ t) h.spelled ∙ sym (append_assoc (encoding left.version left.last e) (encodings left.version e.clock entries) over);
@@ -144,7 +144,7 @@ module _ (readers : ExactReaders) where
   holds-limit (suc n) left p = elim (front_cases left) [
     | inl b ↦
         let less = fewer left b in
-        let next : Unread = past left b.entry b.rest in
+        let next : Unread = unread_after_entry left b.entry b.rest in
         let more = holds-limit n next (omega arith) in
         rw (entries_of-next left b.entry b.rest b.shaped b.spelled, rest_of-next left b.entry b.rest b.shaped b.spelled)
         (Holds-next left b.entry b.rest (entries_of next) (rest_of next) b.shaped b.spelled more)
@@ -162,8 +162,8 @@ module _ (readers : ExactReaders) where
       let shaped : IsShaped e = All-head IsShaped e entries h.shaped in
       let others : List ℕ = encodings left.version e.clock entries ++ rest in
       let begins : left.bytes ≡ encoding left.version left.last e ++ others = h.spelled ∙ append_assoc (encoding left.version left.last e) (encodings left.version e.clock entries) rest in
-      let next : Holds (past left e others) entries rest = record { shaped = All-tail IsShaped e entries h.shaped; spelled = refl; longest = h.longest } in
-      let more = holds_once (past left e others) entries rest next in (
+      let next : Holds (unread_after_entry left e others) entries rest = record { shaped = All-tail IsShaped e entries h.shaped; spelled = refl; longest = h.longest } in
+      let more = holds_once (unread_after_entry left e others) entries rest next in (
         ap (λ (es : List Entry). e ∷ es) more.0 ∙ sym (entries_of-next left e others shaped begins),
         more.1 ∙ sym (rest_of-next left e others shaped begins),
       )
@@ -185,8 +185,8 @@ module _ (readers : ExactReaders) where
       let after : List ℕ = rest ++ drop n whole in
       let is : whole ≡ encoding v last other ++ after =
       sym (take-append-drop n whole) ∙ ap (λ (b : List ℕ). b ++ drop n whole) begins ∙ append_assoc (encoding v last other) rest (drop n whole) in
-      let one : entry_at left ≡ Some (e, past left e []) = entry_at-begins readers left e [] shaped (sym (append-nil whole)) in
-      let two : entry_at left ≡ Some (other, past left other after) = entry_at-begins readers left other after fits is in
+      let one : entry_at left ≡ Some (e, unread_after_entry left e []) = entry_at-begins readers left e [] shaped (sym (append-nil whole)) in
+      let two : entry_at left ≡ Some (other, unread_after_entry left other after) = entry_at-begins readers left other after fits is in
       let same : length after ≡ 0 = sym (ap (λ (x : Entry × Unread). length x.1.bytes) (same_Some _ _ (sym one ∙ two))) in
       omega (arith, low, same, length-append rest (drop n whole), length-drop n whole)
 

@@ -17,7 +17,7 @@ use Rattle.call_log.specs.declared.version.Version.{Version}
 use Rattle.call_log.specs.Version.{clock_at, clock_bytes, number_at, number_bytes}
 use Rattle.call_log.specs.Entry.{BeginsNoEntry, body_bytes, encoding, argument_bytes, string_if, tag_if}
 use Rattle.call_log.specs.Reading.{read_entry, body_at, call_at, string_if_at, tag_if_at}
-use Rattle.call_log.specs.Log.{Unread, entry_at, entry_in, past}
+use Rattle.call_log.specs.Log.{Unread, entry_at, entry_in, unread_after_entry}
 use Rattle.call_log.proofs.Sizes.{length-body_lt}
 use Rattle.call_log.proofs.Shapes.{and_true, both_true, is_shaped-from, kind_within, shaped_from_test, within_kind}
 use Rattle.call_log.proofs.FieldLaws.{bind_some, front_in_range, bytes_after, onto, next, when_true, kept, clock_field, u16_field, u32_field, u64_field, byte_field, string_if_field, tag_if_field, call_at-kind, call_field}
@@ -247,20 +247,20 @@ module _ (readers : ExactReaders) where
 
   -- ---- the entry in front
 
-  pub entry_at-begins : (left : Unread) (e : Entry) (rest : List ℕ) → IsShaped e → left.bytes ≡ encoding left.version left.last e ++ rest → entry_at left ≡ Some (e, past left e rest)
+  pub entry_at-begins : (left : Unread) (e : Entry) (rest : List ℕ) → IsShaped e → left.bytes ≡ encoding left.version left.last e ++ rest → entry_at left ≡ Some (e, unread_after_entry left e rest)
   unfolding entry_at entry_in
   entry_at-begins left e rest shaped begins =
       let spelling : List ℕ = encoding left.version left.last e in
       let read : read_entry left.version left.last left.bytes ≡ Some (e, rest) = ap (read_entry left.version left.last) begins ∙ read_entry-encoding left.version left.last e rest shaped in
       let starts : starts_with nat_eq left.bytes spelling ≡ true = (starts_is Decides-eqb left.bytes spelling _ refl).1 rest begins in
       let after : drop (length spelling) left.bytes ≡ rest = ap (drop (length spelling)) begins ∙ drop_at spelling rest (length spelling) refl in
-      next _ _ (e, rest) _ read (when_true _ _ _ _ (both_true _ _ (is_shaped-from e shaped) starts) (ap (λ (t : List ℕ). Some (e, past left e t)) after))
+      next _ _ (e, rest) _ read (when_true _ _ _ _ (both_true _ _ (is_shaped-from e shaped) starts) (ap (λ (t : List ℕ). Some (e, unread_after_entry left e t)) after))
 
 -- an entry in front, and what is left behind it
 pub record IsNext (left : Unread) (e : Entry) (next : Unread) : Type 0 where
   pub shaped : IsShaped e
   pub spelled : left.bytes ≡ encoding left.version left.last e ++ next.bytes
-  pub left_is : next ≡ past left e next.bytes
+  pub left_is : next ≡ unread_after_entry left e next.bytes
 
 pub entry_at-found : (left : Unread) (e : Entry) (next : Unread) → entry_at left ≡ Some (e, next) → IsNext left e next
 unfolding entry_at entry_in

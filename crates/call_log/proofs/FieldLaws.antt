@@ -14,7 +14,7 @@ use Rattle.lib_calls.specs.Kinds.{argument_count}
 use Rattle.lib_calls.specs.Entry.{IsNumberIf, IsStringIf, IsTagIf, HasArguments}
 use Rattle.call_log.specs.declared.version.Version.{Version}
 use Rattle.call_log.specs.declared.version.Version.TheVariants.{One, Two}
-use Rattle.call_log.specs.Version.{below, clock_above, clock_at, clock_bytes, clock_gap, number_at, number_bytes}
+use Rattle.call_log.specs.Version.{if_below, clock_above, clock_at, clock_bytes, clock_gap, number_at, number_bytes}
 use Rattle.call_log.specs.Entry.{number_if, string_if, flagged, tag_if, argument_bytes}
 use Rattle.call_log.specs.Reading.{number_if_at, call_at, string_at, string_if_at, tag_fields_at, flagged_at, tag_if_at}
 
@@ -132,7 +132,7 @@ module _ (readers : ExactReaders) where
   le_field w = record { again = readers.reads_written w; found = readers.rewritten w }
 
   -- a short number below a limit
-  short_field : (limit : ℕ) → limit ≤ 2 ^ 64 → ReadsBack (λ n. n < limit) short_bytes (λ bytes. below limit (short_at bytes))
+  short_field : (limit : ℕ) → limit ≤ 2 ^ 64 → ReadsBack (λ n. n < limit) short_bytes (λ bytes. if_below limit (short_at bytes))
   short_field limit fits = record {
     again = λ n rest small. next _ _ (n, rest) _ (readers.reads_short n rest (omega arith)) (when_true (ltb n limit) _ _ _ (lt-ltb n limit small) refl);
     found = λ bytes n rest are e.

@@ -15,7 +15,7 @@ use Rattle.call_log.specs.Version.{version_number, version_numbered}
 use Rattle.call_log.specs.Head.{Head, IsHead, BeginsNoHead, head_bytes}
 use Rattle.fri_text.specs.Name.{is_name}
 use Rattle.call_log.specs.Reading.{mark_at, name_at, read_head}
-use Rattle.call_log.specs.Log.{Unread, behind, head_at, head_in}
+use Rattle.call_log.specs.Log.{Unread, unread_after_head, head_at, head_in}
 use Rattle.call_log.proofs.FieldLaws.{bind_some, rest_in_range, ReadsBack, bytes_after, onto, concat-append, next, when_true, kept, chosen, le_field, byte_field}
 use Rattle.call_log.proofs.Shapes.{and_true, both_true, head_from_test, is_head-from}
 use Rattle.call_log.proofs.EntryLaws.{none_from}
@@ -178,19 +178,19 @@ module _ (readers : ExactReaders) where
 
   -- ---- the head in front
 
-  pub head_at-begins : (bytes : List ℕ) (h : Head) (rest : List ℕ) → IsHead h → bytes ≡ head_bytes h ++ rest → head_at bytes ≡ Some (h, behind h rest)
+  pub head_at-begins : (bytes : List ℕ) (h : Head) (rest : List ℕ) → IsHead h → bytes ≡ head_bytes h ++ rest → head_at bytes ≡ Some (h, unread_after_head h rest)
   unfolding head_at head_in
   head_at-begins bytes h rest fits begins =
       let read : read_head bytes ≡ Some (h, rest) = ap read_head begins ∙ read_head-head_bytes h rest fits in
       let starts : starts_with nat_eq bytes (head_bytes h) ≡ true = (starts_is Decides-eqb bytes (head_bytes h) _ refl).1 rest begins in
       let after : drop (length (head_bytes h)) bytes ≡ rest = ap (drop (length (head_bytes h))) begins ∙ drop_at (head_bytes h) rest (length (head_bytes h)) refl in
-      next _ _ (h, rest) _ read (when_true _ _ _ _ (both_true _ _ (is_head-from h fits) starts) (ap (λ (t : List ℕ). Some (h, behind h t)) after))
+      next _ _ (h, rest) _ read (when_true _ _ _ _ (both_true _ _ (is_head-from h fits) starts) (ap (λ (t : List ℕ). Some (h, unread_after_head h t)) after))
 
 -- a head in front, and what is left behind it
 pub record IsInFront (bytes : List ℕ) (h : Head) (left : Unread) : Type 0 where
   pub fits : IsHead h
   pub spelled : bytes ≡ head_bytes h ++ left.bytes
-  pub left_is : left ≡ behind h left.bytes
+  pub left_is : left ≡ unread_after_head h left.bytes
 
 pub head_at-found : (bytes : List ℕ) (h : Head) (left : Unread) → head_at bytes ≡ Some (h, left) → IsInFront bytes h left
 unfolding head_at head_in

@@ -1,12 +1,12 @@
 -- Reading a log entry by entry.
 use Rattle.std.proofs.Common.{length, sym, ap, ◌∙◌, subst}
 use Rattle.fri_bytes.specs.Laws.{ExactReaders}
-use Rattle.call_log.specs.Walk.{IsEnd, IsStep, Leads}
+use Rattle.call_log.specs.Walk.{IsEnd, EntryLeads, Leads}
 use Rattle.call_log.proofs.Entries.{entries_of-next, entries_of-none, rest_of-next, rest_of-none, shorter}
 use Rattle.call_log.proofs.EntryLaws.{entry_at-found}
 
 module _ (readers : ExactReaders) where
-  pub step : IsStep
+  pub step : EntryLeads
   step left e next found =
       let there = entry_at-found left e next found in
       subst (Leads left e) (sym there.left_is) (record {

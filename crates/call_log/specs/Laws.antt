@@ -7,17 +7,17 @@ use Rattle.call_log.specs.declared.version.Version.{Version}
 use Rattle.call_log.specs.declared.version.Version.TheVariants.{One, Two}
 use Rattle.call_log.specs.Entry.{clock_after, encoding, encodings}
 use Rattle.call_log.specs.Head.{Head, IsHead, head_bytes}
-use Rattle.call_log.specs.Log.{Holds, Unread, behind, entries_of, entry_at, head_at, past, rest_of, rewritten}
+use Rattle.call_log.specs.Log.{Holds, Unread, unread_after_head, entries_of, entry_at, head_at, unread_after_entry, rest_of, rewritten}
 
 -- ---- reading
 
 -- the head that is found is the one that stands in front
 abbrev pub FindsHeads : Type 0
-FindsHeads = (bytes : List ℕ) (head : Head) (left : Unread) → (head_at bytes ≡ Some (head, left)) ↔ (IsHead head × ((bytes ≡ head_bytes head ++ left.bytes) × (left ≡ behind head left.bytes)))
+FindsHeads = (bytes : List ℕ) (head : Head) (left : Unread) → (head_at bytes ≡ Some (head, left)) ↔ (IsHead head × ((bytes ≡ head_bytes head ++ left.bytes) × (left ≡ unread_after_head head left.bytes)))
 
 -- the entry that is found is the one that stands in front
 abbrev pub FindsEntries : Type 0
-FindsEntries = (left : Unread) (e : Entry) (next : Unread) → (entry_at left ≡ Some (e, next)) ↔ (IsShaped e × ((left.bytes ≡ encoding left.version left.last e ++ next.bytes) × (next ≡ past left e next.bytes)))
+FindsEntries = (left : Unread) (e : Entry) (next : Unread) → (entry_at left ≡ Some (e, next)) ↔ (IsShaped e × ((left.bytes ≡ encoding left.version left.last e ++ next.bytes) × (next ≡ unread_after_entry left e next.bytes)))
 
 -- what is left holds the entries that are read of it and the rest, and nothing else
 abbrev pub FindsAll : Type 0

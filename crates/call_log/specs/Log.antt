@@ -27,12 +27,12 @@ pub record Log : Type 0 where
   pub left : Unread
 
 -- these bytes, behind a head
-abbrev pub behind : Head → List ℕ → Unread
-behind head bytes = record { version = head.version; last = 0; bytes = bytes }
+abbrev pub unread_after_head : Head → List ℕ → Unread
+unread_after_head head bytes = record { version = head.version; last = 0; bytes = bytes }
 
 -- these bytes, behind an entry of what was left
-abbrev pub past : Unread → Entry → List ℕ → Unread
-past left e bytes = record { version = left.version; last = e.clock; bytes = bytes }
+abbrev pub unread_after_entry : Unread → Entry → List ℕ → Unread
+unread_after_entry left e bytes = record { version = left.version; last = e.clock; bytes = bytes }
 
 -- what is left is these entries and then the rest, and there is no longer list of entries
 pub record Holds (left : Unread) (entries : List Entry) (rest : List ℕ) : Type 0 where
@@ -83,7 +83,7 @@ is_shaped e =
 unfoldable pub entry_in : Unread → Entry → Option (Entry × Unread)
 entry_in left e =
     if is_shaped e && starts_with nat_eq left.bytes (encoding left.version left.last e)
-    then Some (e, past left e (drop (length (encoding left.version left.last e)) left.bytes))
+    then Some (e, unread_after_entry left e (drop (length (encoding left.version left.last e)) left.bytes))
     else None
 
 -- the entry at the front of what is left and what is left behind it, or nothing where none stands there
@@ -91,21 +91,21 @@ unfoldable pub entry_at : Unread → Option (Entry × Unread)
 entry_at left = option_and_then (λ x. entry_in left x.0) (read_entry left.version left.last left.bytes)
 
 -- the entries at the front of some bytes, and the bytes behind them
-pub record Walked : Type 0 where
+pub record EntriesAndRest : Type 0 where
   pub entries : List Entry
   pub rest : List ℕ
 
 -- and this entry in front of them
-abbrev pub with_first : Entry → Walked → Walked
+abbrev pub with_first : Entry → EntriesAndRest → EntriesAndRest
 with_first e w = record w { entries = e ∷ w.entries }
 
 -- the entry that was found in front of those that follow, or none, and then all bytes are left
-abbrev pub walk_then : (Unread → Walked) → List ℕ → Option (Entry × Unread) → Walked
+abbrev pub walk_then : (Unread → EntriesAndRest) → List ℕ → Option (Entry × Unread) → EntriesAndRest
 walk_then more bytes None = record { entries = []; rest = bytes }
 walk_then more bytes (Some x) = with_first x.0 (more x.1)
 
 -- at most so many entries at the front of what is left
-unfoldable pub walk_within : ℕ → Unread → Walked
+unfoldable pub walk_within : ℕ → Unread → EntriesAndRest
 walk_within zero left = record { entries = []; rest = left.bytes }
 walk_within (suc limit) left = walk_then (walk_within limit) left.bytes (entry_at left)
 
@@ -124,7 +124,7 @@ is_head h = nat_le 1 h.count && nat_le h.count 16 && nat_lt h.process h.count &&
 -- the head, where it is one and the bytes begin with its spelling, and what is left behind it
 unfoldable pub head_in : List ℕ → Head → Option (Head × Unread)
 head_in bytes h =
-    if is_head h && starts_with nat_eq bytes (head_bytes h) then Some (h, behind h (drop (length (head_bytes h)) bytes)) else None
+    if is_head h && starts_with nat_eq bytes (head_bytes h) then Some (h, unread_after_head h (drop (length (head_bytes h)) bytes)) else None
 
 -- the head at the front of the bytes and what is left behind it, or nothing where none stands there
 unfoldable pub head_at : List ℕ → Option (Head × Unread)

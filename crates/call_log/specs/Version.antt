@@ -34,13 +34,13 @@ clock_bytes Two last clock = short_bytes (clock_gap last clock)
 -- ---- reading from the front: the number and the bytes after it, or nothing
 
 -- what was read, where it is below the limit
-abbrev pub below : ℕ → Option (ℕ × List ℕ) → Option (ℕ × List ℕ)
-below limit found = option_and_then (λ x. if nat_lt x.0 limit then Some x else None) found
+abbrev pub if_below : ℕ → Option (ℕ × List ℕ) → Option (ℕ × List ℕ)
+if_below limit found = option_and_then (λ x. if nat_lt x.0 limit then Some x else None) found
 
 -- a number within the width
 abbrev pub number_at : Version → Width → List ℕ → Option (ℕ × List ℕ)
 number_at One w bytes = le_at w bytes
-number_at Two w bytes = below (256 ^ byte_len w) (short_at bytes)
+number_at Two w bytes = if_below (256 ^ byte_len w) (short_at bytes)
 
 -- the clock that is so far above that of the entry before
 abbrev pub clock_above : ℕ → ℕ → ℕ

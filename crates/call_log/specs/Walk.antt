@@ -10,8 +10,8 @@ pub record Leads (left : Unread) (e : Entry) (next : Unread) : Type 0 where
   pub entries : entries_of left ≡ e ∷ entries_of next
   pub rest : rest_of left ≡ rest_of next
 
-abbrev pub IsStep : Type 0
-IsStep = (left : Unread) (e : Entry) (next : Unread) → entry_at left ≡ Some (e, next) → Leads left e next
+abbrev pub EntryLeads : Type 0
+EntryLeads = (left : Unread) (e : Entry) (next : Unread) → entry_at left ≡ Some (e, next) → Leads left e next
 
 -- behind the last entry
 pub record Over (left : Unread) : Type 0 where

@@ -3,7 +3,7 @@ ghost use Rattle.std.specs.Prelude.{◌≡◌, ◌^◌, ◌<◌, ◌≤◌, ◌+
 ghost use Rattle.std.specs.Int.{w16, w32, w64};
 ghost use Rattle.fri_bytes.specs.Short.{short_at};
 ghost use Rattle.call_log.specs.Reading.{Gives};
-ghost use Rattle.call_log.specs.Version.{below, clock_at, clock_bytes, number_at, number_bytes};
+ghost use Rattle.call_log.specs.Version.{if_below, clock_at, clock_bytes, number_at, number_bytes};
 
 use crate::version::Version;
 use fri_bytes::{Cursor, put_short, put_u16, put_u32, put_u64, short_length};
@@ -45,7 +45,7 @@ pub(crate) fn read_u64(cursor: &mut Cursor<'_>, version: Version) -> Option<u64>
 // The next short number, which is below the limit.
 #[inline(always)]
 fn read_below(cursor: &mut Cursor<'_>, limit: u64) -> Option<u64>
-    ensures found { Gives result cursor.new (below limit (short_at cursor.old.left)) }
+    ensures found { Gives result cursor.new (if_below limit (short_at cursor.old.left)) }
     ensures small { IfSome result (λ number. number < limit) }
 {
     let number = cursor.short_u64()?;

@@ -1,5 +1,5 @@
 // The law of reading a log entry by entry, as a call that does nothing.
-ghost use Rattle.call_log.specs.Walk.{IsEnd, IsStep};
+ghost use Rattle.call_log.specs.Walk.{IsEnd, EntryLeads};
 
 use fri_bytes::exact_readers;
 
@@ -7,7 +7,7 @@ use fri_bytes::exact_readers;
 /// entries, and what is left behind it has the others and the same rest. Where none stands there, there
 /// is no entry, and all bytes are the rest.
 pub fn entry_by_entry()
-    ensures step { IsStep }
+    ensures step { EntryLeads }
     ensures end { IsEnd }
 {
     exact_readers();

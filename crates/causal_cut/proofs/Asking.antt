@@ -16,8 +16,8 @@ use Rattle.proc_replay.specs.Replaying.{Replaying}
 use Rattle.group_state.specs.Laws.{SendsFirst}
 use Rattle.group_state.specs.Place.{Ascends, PartsFit, entry_clock, events}
 use Rattle.causal_cut.specs.declared.asks.Ask.{Ask}
-use Rattle.causal_cut.specs.Asks.{ask_by, ask_for, ask_of, number_of, processes}
-use Rattle.causal_cut.specs.Past.{asked, count_to, is_within}
+use Rattle.causal_cut.specs.Asks.{ask_by, ask_for, ask_of, number_among, processes}
+use Rattle.causal_cut.specs.Past.{count_asked, count_to, is_within}
 use Rattle.causal_cut.proofs.Families.{at}
 use Rattle.causal_cut.proofs.Nodes.{is_later, own_take}
 use Rattle.causal_cut.proofs.Numbering.{all_get}
@@ -26,7 +26,7 @@ use Rattle.causal_cut.proofs.Places.{IsPlace, NonePasses, front_place, place}
 -- ---- how it is found
 
 pub found_ask : (processes : List ℕ) (clocks : List (List ℕ)) (e : NodeEvent Entry) (tag : Tag) (of : ℕ) (n : Option ℕ) → e.entry.tag ≡ Some tag → position (λ p. p == tag.sender) processes ≡ Some of
-    → number_of tag.clock (get_or clocks of []) ≡ n
+    → number_among tag.clock (get_or clocks of []) ≡ n
     → ask_of processes clocks e ≡ option_map (λ upto. record { node = e.node; number = suc (length (get_or clocks e.node [])); of = of; upto = upto }) n
 found_ask processes clocks e tag of n tagged found number =
     ap (option_and_then (ask_by processes clocks e.node)) tagged ∙ ap (option_and_then (ask_for clocks e.node tag.clock)) found ∙ ap (option_map (λ upto. record {
@@ -136,7 +136,7 @@ module _ (sends : SendsFirst) (start : List Replaying) (fits : PartsFit start) (
 
 -- the event of this node behind k others asks for what a tag names
 abbrev Wants : List Replaying → Option Tag → List ℕ → Type 0
-Wants start tag family = IsTrue (is_within (map (asked tag) start) family)
+Wants start tag family = IsTrue (is_within (map (count_asked tag) start) family)
 
 pub record IsAsk (start : List Replaying) (k node : ℕ) (tag : Option Tag) (a : Ask) : Type 0 where
   pub node_is : a.node ≡ node
@@ -151,10 +151,10 @@ Asks start k node tag None = (family : List ℕ) → length family ≡ length st
 Asks start k node tag (Some a) = IsAsk start k node tag a
 
 -- what is asked of a log by a tag
-asked_own : (tag : Tag) (r : Replaying) → r.head.process ≡ tag.sender → asked (Some tag) r ≡ count_to tag.clock (ahead r)
+asked_own : (tag : Tag) (r : Replaying) → r.head.process ≡ tag.sender → count_asked (Some tag) r ≡ count_to tag.clock (ahead r)
 asked_own tag r same = ap (λ b. cond b (count_to tag.clock (ahead r)) 0) ((Decides-eqb r.head.process tag.sender).1 same)
 
-asked_other : (tag : Tag) (r : Replaying) → (r.head.process == tag.sender) ≡ false → asked (Some tag) r ≡ 0
+asked_other : (tag : Tag) (r : Replaying) → (r.head.process == tag.sender) ≡ false → count_asked (Some tag) r ≡ 0
 asked_other tag r other = ap (λ b. cond b (count_to tag.clock (ahead r)) 0) other
 
 module _ (sends : SendsFirst) (start : List Replaying) (fits : PartsFit start) (up : Ascends start) (own : (j : ℕ) (r : Replaying) → slice_get start j ≡ Some r → of_node j (events start) ≡ ahead r)
@@ -165,7 +165,7 @@ module _ (sends : SendsFirst) (start : List Replaying) (fits : PartsFit start) (
 
   -- where the log of the sender has no such event
   none_named : (tag : Tag) (of : ℕ) (r : Replaying) → slice_get start of ≡ Some r → r.head.process ≡ tag.sender → count_to tag.clock (ahead r) ≡ 0 → Asks start k taken.node (Some tag) None
-  none_named tag of r at_of same none family long = within_places (asked (Some tag)) start family long (λ j s at_j. elim (cases_Bool (s.head.process == tag.sender)) [
+  none_named tag of r at_of same none family long = within_places (count_asked (Some tag)) start family long (λ j s at_j. elim (cases_Bool (s.head.process == tag.sender)) [
     | inl is ↦
         let here : of ≡ j = one_node start of j r s up at_of at_j (same ∙ sym ((Decides-eqb s.head.process tag.sender).0 is)) in
         let one : r ≡ s = same_Some r s (sym at_of ∙ ap (slice_get start) here ∙ at_j) in
@@ -180,19 +180,19 @@ module _ (sends : SendsFirst) (start : List Replaying) (fits : PartsFit start) (
     number_is = ap (λ (l : List ℕ). suc (length l)) (so_far taken.node) ∙ ap suc (length-map (of_node taken.node (take k (events start))) entry_clock);
     of_within = slice_get_within start of r at_of;
     upto_within = within;
-    enough = λ family long enough. within_places (asked (Some tag)) start family long (λ j s at_j. elim (cases_Bool (s.head.process == tag.sender)) [
+    enough = λ family long enough. within_places (count_asked (Some tag)) start family long (λ j s at_j. elim (cases_Bool (s.head.process == tag.sender)) [
       | inl is ↦
           let here : of ≡ j = one_node start of j r s up at_of at_j (same ∙ sym ((Decides-eqb s.head.process tag.sender).0 is)) in
           let one : r ≡ s = same_Some r s (sym at_of ∙ ap (slice_get start) here ∙ at_j) in
           omega (arith, asked_own tag s ((Decides-eqb s.head.process tag.sender).0 is), count, ap (λ (q : Replaying). count_to tag.clock (ahead q)) one, enough, ap (at family) here)
       | inr other ↦ omega (arith, asked_other tag s other)
     ]);
-    needed = λ family wants. omega (arith, places_within (asked (Some tag)) start family wants of r at_of, asked_own tag r same, count);
+    needed = λ family wants. omega (arith, places_within (count_asked (Some tag)) start family wants of r at_of, asked_own tag r same, count);
   }
 
   -- by the number of the named event among those before
   by_number : (tag : Tag) (of : ℕ) (r : Replaying) → taken.entry.tag ≡ Some tag → slice_get start of ≡ Some r → r.head.process ≡ tag.sender
-      → (n : Option ℕ) → number_of tag.clock (get_or clocks of []) ≡ n → Asks start k taken.node (Some tag) (option_map (ask_with of) n)
+      → (n : Option ℕ) → number_among tag.clock (get_or clocks of []) ≡ n → Asks start k taken.node (Some tag) (option_map (ask_with of) n)
   by_number tag of r tagged at_of same n number = by_value n counted number where
     before : position (λ c. c == tag.clock) (get_or clocks of []) ≡ position (has_clock tag.clock) (ahead r)
     before = ap (position (λ c. c == tag.clock)) (so_far of) ∙ named_place sends start fits k taken there tag tagged of r (own of r at_of)
@@ -200,7 +200,7 @@ module _ (sends : SendsFirst) (start : List Replaying) (fits : PartsFit start) (
     counted : option_map suc (position (has_clock tag.clock) (ahead r)) ≡ n
     counted = ap (option_map suc) (sym before) ∙ number
 
-    below_all : (upto : ℕ) → number_of tag.clock (get_or clocks of []) ≡ Some upto → upto ≤ length (of_node of (take k (events start)))
+    below_all : (upto : ℕ) → number_among tag.clock (get_or clocks of []) ≡ Some upto → upto ≤ length (of_node of (take k (events start)))
     below_all upto is = elim (place (λ c. c == tag.clock) (get_or clocks of [])) [
       | inl found ↦
           let within = slice_get_within (get_or clocks of []) found.0 found.2.item found.2.at in
@@ -209,13 +209,13 @@ module _ (sends : SendsFirst) (start : List Replaying) (fits : PartsFit start) (
       | inr none ↦ absurd (cc (ap (option_map suc) none.0, is))
     ]
 
-    by_value : (n : Option ℕ) → option_map suc (position (has_clock tag.clock) (ahead r)) ≡ n → number_of tag.clock (get_or clocks of []) ≡ n → Asks start k taken.node (Some tag) (option_map (ask_with of) n)
+    by_value : (n : Option ℕ) → option_map suc (position (has_clock tag.clock) (ahead r)) ≡ n → number_among tag.clock (get_or clocks of []) ≡ n → Asks start k taken.node (Some tag) (option_map (ask_with of) n)
     by_value None count number = none_named tag of r at_of same (count_none (position (has_clock tag.clock) (ahead r)) count)
     by_value (Some upto) count number = one_named tag of r upto at_of same (count_is (position (has_clock tag.clock) (ahead r)) upto count) (below_all upto number)
 
   -- where no log is of the sender
   no_sender : (tag : Tag) → NonePasses (λ p. p == tag.sender) (processes start) → Asks start k taken.node (Some tag) None
-  no_sender tag none family long = within_places (asked (Some tag)) start family long (λ j s at_j. omega (arith, asked_other tag s (none j s.head.process (map_at process_of start j s at_j))))
+  no_sender tag none family long = within_places (count_asked (Some tag)) start family long (λ j s at_j. omega (arith, asked_other tag s (none j s.head.process (map_at process_of start j s at_j))))
 
   by_place : (tag : Tag) → taken.entry.tag ≡ Some tag → IsPlace (λ p. p == tag.sender) (processes start) → Asks start k taken.node (Some tag) (ask_by (processes start) clocks taken.node tag)
   by_place tag tagged here = elim here [
@@ -223,13 +223,13 @@ module _ (sends : SendsFirst) (start : List Replaying) (fits : PartsFit start) (
         let m = mapped process_of start found.0 found.2.item found.2.at in
         let same : m.from.head.process ≡ tag.sender = m.is ∙ (Decides-eqb found.2.item tag.sender).0 found.2.passes in
         subst (λ (o : Option ℕ). Asks start k taken.node (Some tag) (option_and_then (ask_for clocks taken.node tag.clock) o)) (sym found.1)
-        (by_number tag found.0 m.from tagged m.at same (number_of tag.clock (get_or clocks found.0 [])) refl)
+        (by_number tag found.0 m.from tagged m.at same (number_among tag.clock (get_or clocks found.0 [])) refl)
     | inr none ↦
         subst (λ (o : Option ℕ). Asks start k taken.node (Some tag) (option_and_then (ask_for clocks taken.node tag.clock) o)) (sym none.0) (no_sender tag none.1)
   ]
 
   by_tag : (t : Option Tag) → taken.entry.tag ≡ t → Asks start k taken.node t (option_and_then (ask_by (processes start) clocks taken.node) t)
-  by_tag None tagged = λ family long. within_places (asked None) start family long (λ j s at_j. omega arith)
+  by_tag None tagged = λ family long. within_places (count_asked None) start family long (λ j s at_j. omega arith)
   by_tag (Some tag) tagged = by_place tag tagged (place (λ p. p == tag.sender) (processes start))
 
   -- what the code finds that it asks for

@@ -3,7 +3,7 @@ use Rattle.std.proofs.Common.{◌≡◌, ◌∙◌, ◌⊎◌, ℕ, zero, suc, �
 use Rattle.std.specs.Prelude.{IsTrue, filter, nat_le}
 use Rattle.std.specs.List.{AllByRecursion, flat_map}
 use Rattle.std.proofs.lemmas.Bool.{and_from, and_parts, cases_eq, le-leb, leb-true}
-use Rattle.causal_cut.specs.Past.{families, is_within, least_of, lesser, up_to}
+use Rattle.causal_cut.specs.Past.{families, is_within, least_of, lesser, numbers_up_to}
 
 -- ---- place by place
 
@@ -135,15 +135,15 @@ module _ {A : Type 0} where
       | inr later ↦ rest later
     ]
 
-all_up_to : (P : ℕ → Type 0) (n : ℕ) → ((m : ℕ) → m ≤ n → P m) → AllByRecursion P (up_to n)
+all_up_to : (P : ℕ → Type 0) (n : ℕ) → ((m : ℕ) → m ≤ n → P m) → AllByRecursion P (numbers_up_to n)
 all_up_to P zero holds = (holds 0 (omega arith), tt)
-all_up_to P (suc n) holds = all_append P (up_to n) (suc n ∷ []) (all_up_to P n (λ m most. holds m (omega (arith, most)))) (holds (suc n) (omega arith), tt)
+all_up_to P (suc n) holds = all_append P (numbers_up_to n) (suc n ∷ []) (all_up_to P n (λ m most. holds m (omega (arith, most)))) (holds (suc n) (omega arith), tt)
 
-has_up_to : (m n : ℕ) → m ≤ n → Has (up_to n) m
+has_up_to : (m n : ℕ) → m ≤ n → Has (numbers_up_to n) m
 has_up_to m zero most = inl (omega (arith, most))
 has_up_to m (suc n) most = elim (cases_eq m (suc n)) [
-  | inl same ↦ has_right (up_to n) (suc n ∷ []) m (inl (sym same))
-  | inr other ↦ has_left (up_to n) (suc n ∷ []) m (has_up_to m n (omega (arith, most, other)))
+  | inl same ↦ has_right (numbers_up_to n) (suc n ∷ []) m (inl (sym same))
+  | inr other ↦ has_left (numbers_up_to n) (suc n ∷ []) m (has_up_to m n (omega (arith, most, other)))
 ]
 
 abbrev longer : List (List ℕ) → ℕ → List (List ℕ)
@@ -161,7 +161,7 @@ all_flat P fs (m ∷ ms) all = all_append P (longer fs m) (flat_map (longer fs) 
 pub all_families : (P : List ℕ → Type 0) (ns : List ℕ) → ((f : List ℕ) → IsTrue (is_within f ns) → P f) → AllByRecursion P (families ns)
 all_families P [] holds = (holds [] refl, tt)
 all_families P (n ∷ ns) holds =
-    all_flat P (families ns) (up_to n) (all_up_to (λ m. AllByRecursion (λ f. P (m ∷ f)) (families ns)) n (λ m most.
+    all_flat P (families ns) (numbers_up_to n) (all_up_to (λ m. AllByRecursion (λ f. P (m ∷ f)) (families ns)) n (λ m most.
     all_families (λ f. P (m ∷ f)) ns (λ f within. holds (m ∷ f) (and_from (nat_le m n) (is_within f ns) (le-leb m n most) within))))
 
 has_longer : (m : ℕ) (fs : List (List ℕ)) (f : List ℕ) → Has fs f → Has (longer fs m) (m ∷ f)
@@ -184,4 +184,4 @@ has_families [] (n ∷ ns) within = absurd (cc)
 has_families (m ∷ ms) [] within = absurd (cc)
 has_families (m ∷ ms) (n ∷ ns) within =
     let parts = and_parts (nat_le m n) (is_within ms ns) within in
-    has_flat (families ns) (up_to n) m ms (has_up_to m n (leb-true m n parts.0)) (has_families ms ns parts.1)
+    has_flat (families ns) (numbers_up_to n) m ms (has_up_to m n (leb-true m n parts.0)) (has_families ms ns parts.1)

@@ -7,9 +7,9 @@ use Rattle.std.proofs.lemmas.Option.{get_or_from_slice_get, slice_get-get_or}
 use Rattle.proc_replay.specs.Course.{ahead}
 use Rattle.proc_replay.specs.Replaying.{Replaying}
 use Rattle.causal_cut.specs.declared.asks.Ask.{Ask}
-use Rattle.causal_cut.specs.Asks.{AreAsks, AreWithin, alone, settled}
+use Rattle.causal_cut.specs.Asks.{AreAsks, AreOfNodes, alone, settled}
 use Rattle.causal_cut.specs.Laws.{IsLeastPast}
-use Rattle.causal_cut.specs.Past.{accepted_counts, closed_families, families, holds, is_closed, is_within, least_past, lengths_or_none}
+use Rattle.causal_cut.specs.Past.{accepted_counts, closed_families, families, holds_event, is_closed, is_within, least_past, lengths_or_none}
 use Rattle.causal_cut.proofs.Families.{AreBelow, all_families, all_filter, at, has_families, has_filter, least_is, within_from, within_length}
 use Rattle.causal_cut.proofs.Settling.{IsAlone, length_settled, settled_below, settled_exact, settled_meets}
 
@@ -47,7 +47,7 @@ settled_least start asks node event a within most =
     settled_exact node asks first (is_alone (length start) node event) a.counted a.ordered ∙ alone_at (length start) node event within in
     record {
       within = within_from (settled asks first) (accepted_counts start) (long ∙ sym counts) (settled_below asks first (accepted_counts start) (alone_below (length start) node event (accepted_counts start) within most) a.had);
-      closed = (a.closes (settled asks first) long).1 (settled_meets asks first a.ordered (subst (λ n. AreWithin n asks) (sym (length_alone (length start) node event)) a.within));
+      closed = (a.closes (settled asks first) long).1 (settled_meets asks first a.ordered (subst (λ n. AreOfNodes n asks) (sym (length_alone (length start) node event)) a.within));
       exact = slice_get-get_or (settled asks first) node 0 (omega (arith, long, within)) ∙ ap Some own;
       least = λ family few closed has.
           let wide : length family ≡ length start = within_length family (accepted_counts start) few ∙ counts in
@@ -60,14 +60,14 @@ settled_least start asks node event a within most =
 least_past_is : (start : List Replaying) (node event : ℕ) (lengths : List ℕ) → IsLeastPast start node event lengths → least_past start node event ≡ lengths
 least_past_is start node event lengths least =
     let counts = accepted_counts start in
-    let test = λ (family : List ℕ). is_closed start family && holds node event family in
+    let test = λ (family : List ℕ). is_closed start family && holds_event node event family in
     let own : event ≤ at lengths node = omega (arith, get_or_from_slice_get lengths node event 0 least.exact) in
     least_is lengths counts (closed_families start node event) least.within
     (all_filter (λ (f : List ℕ). IsTrue (is_within lengths f)) test (families counts) (all_families (λ (f : List ℕ). test f ≡ true → IsTrue (is_within lengths f)) counts (λ f few passes.
-    let parts = and_parts (is_closed start f) (holds node event f) passes in
+    let parts = and_parts (is_closed start f) (holds_event node event f) passes in
     least.least f few parts.0 parts.1)))
     (has_filter test (families counts) lengths (has_families lengths counts least.within)
-    (and_from (is_closed start lengths) (holds node event lengths) least.closed (le-leb event (at lengths node) own)))
+    (and_from (is_closed start lengths) (holds_event node event lengths) least.closed (le-leb event (at lengths node) own)))
 
 pub some_lengths : (start : List Replaying) (node event : ℕ) (lengths : List ℕ) → event ≤ at (accepted_counts start) node → IsLeastPast start node event lengths
     → lengths_or_none start node event ≡ Some (record { kept = lengths; accepted = accepted_counts start })

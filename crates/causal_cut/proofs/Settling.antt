@@ -6,7 +6,7 @@ use Rattle.std.proofs.lemmas.Bool.Decides.{leb_tells}
 use Rattle.std.proofs.lemmas.List.{get_or-set_same, length-set}
 use Rattle.causal_cut.proofs.Families.{AreBelow, at}
 use Rattle.causal_cut.specs.declared.asks.Ask.{Ask}
-use Rattle.causal_cut.specs.Asks.{AreCounted, AreOrdered, AreWithin, IsMet, Precedes, follow, settled}
+use Rattle.causal_cut.specs.Asks.{AreCounted, AreOrdered, AreOfNodes, IsMet, Precedes, follow, settled}
 
 -- ---- one length is raised
 
@@ -91,7 +91,7 @@ all_met_more : (a : Ask) (asks : List Ask) (ns : List ℕ) → AllByRecursion (P
 all_met_more a [] ns before met = tt
 all_met_more a (b ∷ asks) ns before met = (met_more a b ns before.0 met.0, all_met_more a asks ns before.1 met.1)
 
-pub settled_meets : (asks : List Ask) (ns : List ℕ) → AreOrdered asks → AreWithin (length ns) asks → AllByRecursion (IsMet (settled asks ns)) asks
+pub settled_meets : (asks : List Ask) (ns : List ℕ) → AreOrdered asks → AreOfNodes (length ns) asks → AllByRecursion (IsMet (settled asks ns)) asks
 settled_meets [] ns ordered within = tt
 settled_meets (a ∷ asks) ns ordered within = (
   met_self a (settled asks ns) ordered.0 (omega (arith, within.0.1, length_settled asks ns)),
@@ -149,7 +149,7 @@ pub settled_last : (asks : List Ask) (a : Ask) (ns : List ℕ) → settled (asks
 settled_last [] a ns = refl
 settled_last (b ∷ asks) a ns = ap (follow b) (settled_last asks a ns)
 
-pub within_parts : (n : ℕ) (asks : List Ask) (a : Ask) → AreWithin n (asks ++ a ∷ []) → AreWithin n asks × (a.node < n) × (a.of < n)
+pub within_parts : (n : ℕ) (asks : List Ask) (a : Ask) → AreOfNodes n (asks ++ a ∷ []) → AreOfNodes n asks × (a.node < n) × (a.of < n)
 within_parts n [] a within = (tt, within.0.0, within.0.1)
 within_parts n (b ∷ asks) a within =
     let rest = within_parts n asks a within.1 in

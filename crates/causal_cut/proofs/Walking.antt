@@ -13,11 +13,11 @@ use Rattle.proc_replay.specs.Course.{ahead}
 use Rattle.proc_replay.specs.Replaying.{Replaying}
 use Rattle.group_state.specs.Laws.{Ordered, SendsFirst}
 use Rattle.group_state.specs.Moves.{Moves, event_of}
-use Rattle.group_state.specs.Place.{AreParts, PartsFit, Place, entry_clock, events}
+use Rattle.group_state.specs.Place.{AreParts, PartsFit, GroupPlace, entry_clock, events}
 use Rattle.group_state.specs.declared.event.GroupEvent.{GroupEvent}
 use Rattle.causal_cut.specs.declared.asks.Ask.{Ask}
-use Rattle.causal_cut.specs.Asks.{AreAsks, AreClocks, AreCounted, AreOrdered, AreRising, AreWithin, IsMet, Precedes, ask_of, processes, with_clock}
-use Rattle.causal_cut.specs.Past.{accepted_counts, asked, is_within}
+use Rattle.causal_cut.specs.Asks.{AreAsks, AreClocks, AreCounted, AreOrdered, AreRising, AreOfNodes, IsMet, Precedes, ask_of, processes, with_clock}
+use Rattle.causal_cut.specs.Past.{accepted_counts, count_asked, is_within}
 use Rattle.causal_cut.proofs.Asking.{Asks, IsAsk, event_asks}
 use Rattle.causal_cut.proofs.Closing.{EachPasses, each_passes, passes_each}
 use Rattle.causal_cut.proofs.Families.{all_append, at, within_both, within_from}
@@ -28,7 +28,7 @@ use Rattle.causal_cut.proofs.Places.{get_new, get_old, get_pushed, past, take_mo
 
 -- the test of an event within a family
 abbrev has_asked : List Replaying → List ℕ → Entry → Bool
-has_asked start family e = is_within (map (asked e.tag) start) family
+has_asked start family e = is_within (map (count_asked e.tag) start) family
 
 -- each event of each node within the family has what it asks for in it
 abbrev EachHas : List Replaying → (ℕ → List Entry) → List ℕ → Type 0
@@ -38,7 +38,7 @@ EachHas start own family = EachPasses (has_asked start family) own family
 pub record IsSeen (start : List Replaying) (front : List (NodeEvent Entry)) (clocks : List (List ℕ)) (asks : List Ask) : Type 0 where
   pub count : length clocks ≡ length start
   pub so_far : (j : ℕ) → get_or clocks j [] ≡ map entry_clock (of_node j front)
-  pub within : AreWithin (length start) asks
+  pub within : AreOfNodes (length start) asks
   pub counted : AreCounted asks
   pub ordered : AreOrdered asks
   pub had : AllByRecursion (λ a. a.upto ≤ length (of_node a.of front)) asks
@@ -258,12 +258,12 @@ module _ (ordered : Ordered) (sends : SendsFirst) (start : List Replaying) (part
 -- ---- a group that walks
 
 -- the walk of a group has come to a position
-pub record IsWalked (first here : Place) (clocks : List (List ℕ)) (asks : List Ask) : Type 0 where
+pub record IsWalked (first here : GroupPlace) (clocks : List (List ℕ)) (asks : List Ask) : Type 0 where
   pub start : here.start ≡ first.start
   pub within : here.at ≤ length (events first.start)
   pub seen : IsSeen first.start (take here.at (events first.start)) clocks asks
 
-pub walk_begins : (first : Place) (numbers : List ℕ) (clocks : List (List ℕ)) (asks : List Ask) → first.at ≡ 0 → numbers ≡ processes first.start → clocks ≡ replicate (length numbers) no_clocks → asks ≡ []
+pub walk_begins : (first : GroupPlace) (numbers : List ℕ) (clocks : List (List ℕ)) (asks : List Ask) → first.at ≡ 0 → numbers ≡ processes first.start → clocks ≡ replicate (length numbers) no_clocks → asks ≡ []
     → IsWalked first first clocks asks
 walk_begins first numbers clocks asks none are none_yet no_asks =
     let count : length numbers ≡ length first.start = ap length are ∙ length-map first.start (λ (r : Replaying). r.head.process) in
@@ -275,8 +275,8 @@ walk_begins first numbers clocks asks none are none_yet no_asks =
           (subst (λ (n : ℕ). IsSeen first.start (take n (events first.start)) clocks []) (sym none) seen);
     }
 
-module _ (ordered : Ordered) (sends : SendsFirst) (first : Place) (parts : AreParts first.start) (fits : PartsFit first.start) (numbers : List ℕ) (are : numbers ≡ processes first.start)
-    (old new : Place) (clocks : List (List ℕ)) (asks : List Ask) (so_far : IsWalked first old clocks asks) where
+module _ (ordered : Ordered) (sends : SendsFirst) (first : GroupPlace) (parts : AreParts first.start) (fits : PartsFit first.start) (numbers : List ℕ) (are : numbers ≡ processes first.start)
+    (old new : GroupPlace) (clocks : List (List ℕ)) (asks : List Ask) (so_far : IsWalked first old clocks asks) where
   count : length numbers ≡ length first.start
   count = ap length are ∙ length-map first.start (λ (r : Replaying). r.head.process)
 
@@ -296,12 +296,12 @@ module _ (ordered : Ordered) (sends : SendsFirst) (first : Place) (parts : ArePa
       → more ≡ asks ++ option_to_list (ask_of numbers clocks (event_of event)) → IsWalked first new later more × (old.at < length (events first.start)) × (new.at ≡ suc old.at)
   walk_more event later more moves added asked_so =
       let one : old.at + 1 ≡ suc old.at = omega arith in
-      let at_new : new.at ≡ suc old.at = ap (λ (p : Place). p.at) moves.place ∙ one in
+      let at_new : new.at ≡ suc old.at = ap (λ (p : GroupPlace). p.at) moves.place ∙ one in
       let below_end = slice_get_within (events first.start) old.at (event_of event) (given event moves) in
       let seen = one_seen ordered sends first.start parts fits old.at (event_of event) clocks asks (given event moves) so_far.seen in
       let all : more ≡ asks ++ option_to_list (ask_of (processes first.start) clocks (event_of event)) = asked_so ∙ ap (λ (ps : List ℕ). asks ++ option_to_list (ask_of ps clocks (event_of event))) are in (
         record {
-          start = ap (λ (p : Place). p.start) moves.place ∙ so_far.start;
+          start = ap (λ (p : GroupPlace). p.start) moves.place ∙ so_far.start;
           within = omega (arith, below_end, at_new);
           seen = subst (λ (n : ℕ). IsSeen first.start (take n (events first.start)) later more) (sym at_new)
               (subst (λ (cs : List (List ℕ)). IsSeen first.start (take (suc old.at) (events first.start)) cs more) (sym added)

@@ -16,8 +16,8 @@ abbrev pub with_clock : List (List ℕ) → ℕ → ℕ → List (List ℕ)
 with_clock clocks node clock = slice_set clocks node (slice_index_or clocks node [] ++ clock ∷ [])
 
 -- the number of this one among them, from 1
-abbrev pub number_of : ℕ → List ℕ → Option ℕ
-number_of clock clocks = option_map suc (position (λ c. c == clock) clocks)
+abbrev pub number_among : ℕ → List ℕ → Option ℕ
+number_among clock clocks = option_map suc (position (λ c. c == clock) clocks)
 
 abbrev pub AreRising : List ℕ → Type 0
 AreRising clocks = ClocksRise (λ (clock : ℕ). clock) clocks
@@ -35,7 +35,7 @@ processes start = map (λ r. r.head.process) start
 -- the next event of `node` asks for the event of `of` with this clock, where that is among the clocks
 abbrev pub ask_for : List (List ℕ) → ℕ → ℕ → ℕ → Option Ask
 ask_for clocks node clock of =
-    option_map (λ upto. record { node = node; number = suc (length (slice_index_or clocks node [])); of = of; upto = upto }) (number_of clock (slice_index_or clocks of []))
+    option_map (λ upto. record { node = node; number = suc (length (slice_index_or clocks node [])); of = of; upto = upto }) (number_among clock (slice_index_or clocks of []))
 
 -- it is of the first node whose process the tag names
 abbrev pub ask_by : List ℕ → List (List ℕ) → ℕ → Tag → Option Ask
@@ -61,8 +61,8 @@ AreOrdered [] = Unit {0}
 AreOrdered (a ∷ asks) = Precedes a a × AllByRecursion (Precedes a) asks × AreOrdered asks
 
 -- the nodes are below this count
-abbrev pub AreWithin : ℕ → List Ask → Type 0
-AreWithin nodes asks = AllByRecursion (λ a. (a.node < nodes) × (a.of < nodes)) asks
+abbrev pub AreOfNodes : ℕ → List Ask → Type 0
+AreOfNodes nodes asks = AllByRecursion (λ a. (a.node < nodes) × (a.of < nodes)) asks
 
 abbrev pub AreCounted : List Ask → Type 0
 AreCounted asks = AllByRecursion (λ a. 1 ≤ a.number) asks
@@ -70,7 +70,7 @@ AreCounted asks = AllByRecursion (λ a. 1 ≤ a.number) asks
 -- all that the events of a group ask for, in their order: a family is closed exactly where it is met. All events together
 -- have it
 pub record AreAsks (start : List Replaying) (asks : List Ask) : Type 0 where
-  pub within : AreWithin (length start) asks
+  pub within : AreOfNodes (length start) asks
   pub counted : AreCounted asks
   pub ordered : AreOrdered asks
   pub had : AllByRecursion (IsMet (map (λ r. length (ahead r)) start)) asks

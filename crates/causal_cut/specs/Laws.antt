@@ -9,7 +9,7 @@ use Rattle.guest_process.specs.Replay.{accepted, state_after, verdict}
 use Rattle.proc_replay.specs.AtHead.{IsAtHead}
 use Rattle.proc_replay.specs.Course.{ahead}
 use Rattle.proc_replay.specs.Replaying.{Replaying}
-use Rattle.causal_cut.specs.Past.{accepted_counts, holds, is_closed, is_within}
+use Rattle.causal_cut.specs.Past.{accepted_counts, holds_event, is_closed, is_within}
 
 -- The family is closed and holds the event, of whose node it has no event more; and at each node it has at most as many
 -- events as any closed family that holds the event.
@@ -17,7 +17,7 @@ pub record IsLeastPast (start : List Replaying) (node event : ℕ) (lengths : Li
   pub within : IsTrue (is_within lengths (accepted_counts start))
   pub closed : IsTrue (is_closed start lengths)
   pub exact : slice_get lengths node ≡ Some event
-  pub least : (family : List ℕ) → IsTrue (is_within family (accepted_counts start)) → IsTrue (is_closed start family) → IsTrue (holds node event family)
+  pub least : (family : List ℕ) → IsTrue (is_within family (accepted_counts start)) → IsTrue (is_closed start family) → IsTrue (holds_event node event family)
       → IsTrue (is_within lengths family)
 
 -- These bytes are a log of version 2 with the head and the first n entries of a log, and nothing behind them. Its replay

@@ -14,9 +14,9 @@ abbrev pub count_to : ℕ → List Entry → ℕ
 count_to clock es = option_map_or suc (position (λ e. e.clock == clock) es) 0
 
 -- how many of a log's accepted events there are up to the one that a tag names, or 0 where the tag names none of them
-abbrev pub asked : Option Tag → Replaying → ℕ
-asked None r = 0
-asked (Some tag) r = if r.head.process == tag.sender then count_to tag.clock (ahead r) else 0
+abbrev pub count_asked : Option Tag → Replaying → ℕ
+count_asked None r = 0
+count_asked (Some tag) r = if r.head.process == tag.sender then count_to tag.clock (ahead r) else 0
 
 -- ---- families of lengths, one for each log
 
@@ -39,23 +39,23 @@ events_within (r ∷ rs) (n ∷ ns) = take n (ahead r) ++ events_within rs ns
 
 -- each of these events that took a tag has the event that the tag names among them, where a given log has it
 abbrev pub is_closed : List Replaying → List ℕ → Bool
-is_closed start family = list_all (λ e. is_within (map (asked e.tag) start) family) (events_within start family)
+is_closed start family = list_all (λ e. is_within (map (count_asked e.tag) start) family) (events_within start family)
 
 -- the log of this node has at least so many events in the family
-abbrev pub holds : ℕ → ℕ → List ℕ → Bool
-holds node event family = nat_le event (slice_index_or family node 0)
+abbrev pub holds_event : ℕ → ℕ → List ℕ → Bool
+holds_event node event family = nat_le event (slice_index_or family node 0)
 
 -- ---- the least one
 
 -- the numbers from 0 to this one
-abbrev pub up_to : ℕ → List ℕ
-up_to zero = 0 ∷ []
-up_to (suc n) = up_to n ++ suc n ∷ []
+abbrev pub numbers_up_to : ℕ → List ℕ
+numbers_up_to zero = 0 ∷ []
+numbers_up_to (suc n) = numbers_up_to n ++ suc n ∷ []
 
 -- all families of at most these lengths
 abbrev pub families : List ℕ → List (List ℕ)
 families [] = [] ∷ []
-families (n ∷ ns) = flat_map (λ m. map (λ family. m ∷ family) (families ns)) (up_to n)
+families (n ∷ ns) = flat_map (λ m. map (λ family. m ∷ family) (families ns)) (numbers_up_to n)
 
 -- at each place the lesser of two
 abbrev pub lesser : List ℕ → List ℕ → List ℕ
@@ -70,7 +70,7 @@ least_of most (family ∷ families) = lesser family (least_of most families)
 
 -- the closed families of a group's logs that hold so many events of a node
 abbrev pub closed_families : List Replaying → ℕ → ℕ → List (List ℕ)
-closed_families start node event = filter (λ family. is_closed start family && holds node event family) (families (accepted_counts start))
+closed_families start node event = filter (λ family. is_closed start family && holds_event node event family) (families (accepted_counts start))
 
 -- at each node the least length that one of them has
 abbrev pub least_past : List Replaying → ℕ → ℕ → List ℕ

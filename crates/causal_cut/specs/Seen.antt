@@ -5,6 +5,6 @@ use Rattle.causal_cut.specs.declared.refusal.CutError.TheVariants as error
 use Rattle.causal_cut.specs.Past.{Lengths}
 
 -- the error is that there is no such event, or want of memory, which may come at any time
-abbrev pub FailsAs : Option Lengths → CutError → Type 0
-FailsAs lengths error.NoEvent = lengths ≡ None
-FailsAs lengths error.NoMemory = Unit {0}
+abbrev pub IsCutError : Option Lengths → CutError → Type 0
+IsCutError lengths error.NoEvent = lengths ≡ None
+IsCutError lengths error.NoMemory = Unit {0}

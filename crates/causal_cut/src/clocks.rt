@@ -1,6 +1,6 @@
 // The clocks of the events so far.
 ghost use Rattle.std.specs.Prelude.{◌≡◌, ◌<◌, ◌^◌, [], IfOk, OnOk, length, map, replicate, slice_index_or};
-ghost use Rattle.causal_cut.specs.Asks.{AreRising, number_of, with_clock};
+ghost use Rattle.causal_cut.specs.Asks.{AreRising, number_among, with_clock};
 
 use std::alloc::{AllocError, Global};
 use std::marker::Model;
@@ -53,7 +53,7 @@ impl Clocks {
     pub(crate) fn number(&self, node: u32, clock: u64) -> Option<u64>
         requires node { node < length self.now }
         requires rises { AreRising (slice_index_or self.now node []) }
-        ensures { result ≡ number_of clock (slice_index_or self.now node []) }
+        ensures { result ≡ number_among clock (slice_index_or self.now node []) }
     {
         let index = self.of[node as usize].binary_search(&clock).ok()?;
         Some(index as u64 + 1)

@@ -3,7 +3,7 @@ ghost use Rattle.std.specs.Prelude.{◌≡◌, ◌<◌, IfOk, MatchResult, Some,
 ghost use Rattle.group_state.specs.Place.{AreParts, PartsFit};
 ghost use Rattle.causal_cut.specs.Laws.{IsLeastPast};
 ghost use Rattle.causal_cut.specs.Past.{lengths_or_none};
-ghost use Rattle.causal_cut.specs.Seen.{FailsAs};
+ghost use Rattle.causal_cut.specs.Seen.{IsCutError};
 
 use crate::asks::processes;
 use crate::refusal::CutError;
@@ -56,7 +56,7 @@ pub fn least_cut(
     requires parts { AreParts parts.items }
     requires node { node < length parts.items }
     ensures answer { MatchResult result (λ cut. lengths_or_none parts.entry.items node event ≡ Some cut)
-        (FailsAs (lengths_or_none parts.entry.items node event)) }
+        (IsCutError (lengths_or_none parts.entry.items node event)) }
     ensures least { IfOk result (λ cut. IsLeastPast parts.entry.items node event cut.kept) }
     ensures fits { IfOk result (λ _. PartsFit parts.entry.items) }
 {

@@ -1,6 +1,6 @@
 // How long a family must be for what its events ask for.
 ghost use Rattle.std.specs.Prelude.{◌≡◌, ◌<◌, IfOk, length};
-ghost use Rattle.causal_cut.specs.Asks.{AreWithin, alone, follow, settled};
+ghost use Rattle.causal_cut.specs.Asks.{AreOfNodes, alone, follow, settled};
 
 use crate::asks::Ask;
 use std::alloc::{AllocError, Global};
@@ -20,7 +20,7 @@ fn follow(lengths: &mut [u64], ask: &Ask)
 // Gives a family all that its events ask for. Once is enough, from the last of them to the first: what an event asks for
 // comes before it.
 fn settle(lengths: &mut [u64], asks: &[Ask])
-    requires { AreWithin (length lengths.old) asks.now }
+    requires { AreOfNodes (length lengths.old) asks.now }
     ensures { lengths.new ≡ settled asks.now lengths.old }
 {
     for ask in asks.iter().rev() {
@@ -37,7 +37,7 @@ pub(crate) fn least_family(
     event: u64,
 ) -> Result<Vec<u64>, AllocError>
     requires node { node < nodes }
-    requires asks { AreWithin nodes asks.now }
+    requires asks { AreOfNodes nodes asks.now }
     ensures { IfOk result (λ family. family.items ≡ settled asks.now (alone nodes node event)) }
 {
     let mut family = Vec::from_elem(alloc, 0, nodes)?;

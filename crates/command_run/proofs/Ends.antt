@@ -8,19 +8,19 @@ use Rattle.fri_outside.specs.Terminal.{Hearing}
 use Rattle.fri_outside.specs.Several.{with_files}
 use Rattle.command_run.specs.declared.status.Status.{Status}
 use Rattle.command_run.specs.declared.status.Status.TheVariants as ends
-use Rattle.command_run.specs.declared.refusal.Answer.{Answer}
-use Rattle.command_run.specs.declared.refusal.Answer.TheVariants as answered
-use Rattle.command_run.specs.declared.refusal.Refusal.{Refusal}
-use Rattle.command_run.specs.declared.refusal.Refusal.TheVariants as refusal
+use Rattle.command_run.specs.declared.refusal.WorkText.{WorkText}
+use Rattle.command_run.specs.declared.refusal.WorkText.TheVariants as answered
+use Rattle.command_run.specs.declared.refusal.StopCause.{StopCause}
+use Rattle.command_run.specs.declared.refusal.StopCause.TheVariants as refusal
 use Rattle.command_run.specs.Outcome.{CommandOutcome, NotACommand, refused_line, usage_line, outcome_status, outcome_text, writes_of}
 use Rattle.command_run.specs.Run.{CallEnds, FaultsTold, Finished, Outside, Performed}
-use Rattle.command_run.specs.Call.{CountsFaults, DivergesOnlyIf, FaultStatus, FinishesCall, IsAnswerResult, IsAnswerStatus, LeavesFiles, Makes, Prints, PrintsAbsent, PrintsLast, PrintsRefusal, Raises, TellsOutcome, said_after, status_and_text}
-use Rattle.command_run.specs.CountLaws.{counted}
+use Rattle.command_run.specs.Call.{CountsFaults, DivergesOnlyIf, FaultStatus, FinishesCall, IsAnswerResult, IsAnswerStatus, LeavesFiles, MakesWorkFiles, Prints, PrintsAbsent, PrintsLast, PrintsRefusal, Raises, TellsOutcome, said_after, status_and_text}
+use Rattle.command_run.specs.CountLaws.{counted_faults}
 use Rattle.command_run.specs.FileLaws.{same_changes, same_others}
 use Rattle.command_run.specs.OutcomeLaws.{none_left, prints_none}
 use Rattle.command_run.proofs.Made.{all_changes, makes_others}
 
-text_ends : (ended : Result Answer Refusal) (answer : Status) (outcome : CommandOutcome) (before after : Option (List ℕ))
+text_ends : (ended : Result WorkText StopCause) (answer : Status) (outcome : CommandOutcome) (before after : Option (List ℕ))
     → TellsOutcome outcome ended
     → IfSome (status_and_text ended) (λ a. Prints answer a.1 before after)
     → IfNone (status_and_text ended) (after ≡ before)
@@ -41,8 +41,8 @@ text_ends (Err refusal.WriteFault) answer outcome before after is prints silent 
 text_ends (Err refusal.NoMemory) answer outcome before after is prints silent fault =
     prints_none answer _ before after (λ h. subst IsAnswerStatus fault h) silent
 
-files_end : (ended : Result Answer Refusal) (answer : Status) (files : List (List ℕ × List ℕ)) (before after : Option Folder)
-    → Makes ended files before after
+files_end : (ended : Result WorkText StopCause) (answer : Status) (files : List (List ℕ × List ℕ)) (before after : Option Folder)
+    → MakesWorkFiles ended files before after
     → FaultStatus ended answer
     → LeavesFiles answer files before after
 files_end (Ok given) answer files before after makes fault = record { whole = λ _. makes; part = all_changes files before after makes }
@@ -52,7 +52,7 @@ files_end (Err refusal.ReadFault) answer files before after makes fault = record
 files_end (Err refusal.WriteFault) answer files before after makes fault = record { whole = λ h. absurd (subst IsAnswerStatus fault h); part = makes }
 files_end (Err refusal.NoMemory) answer files before after makes fault = record { whole = λ h. absurd (subst IsAnswerStatus fault h); part = makes }
 
-refusal_ends : (ended : Result Answer Refusal) (answer : Status) (before after : Option (List ℕ)) (old new : Counts)
+refusal_ends : (ended : Result WorkText StopCause) (answer : Status) (before after : Option (List ℕ)) (old new : Counts)
     → IfSome (status_and_text ended) (λ a. IsAnswerStatus answer → answer ≡ a.0)
     → IfSome (status_and_text ended) (λ a. Prints answer a.1 before after)
     → FaultStatus ended answer
@@ -72,7 +72,7 @@ refusal_ends (Err refusal.WriteFault) answer before after old new answers prints
 refusal_ends (Err refusal.NoMemory) answer before after old new answers prints fault cause is = let e = sym is ∙ fault in cc
 
 -- the status of a finished result
-status_ends : (ended : Result Answer Refusal) (answer : Status) (outcome : CommandOutcome)
+status_ends : (ended : Result WorkText StopCause) (answer : Status) (outcome : CommandOutcome)
     → TellsOutcome outcome ended
     → IfSome (status_and_text ended) (λ a. IsAnswerStatus answer → answer ≡ a.0)
     → FaultStatus ended answer
@@ -89,7 +89,7 @@ status_ends (Err refusal.WriteFault) answer outcome is answers fault h = absurd 
 status_ends (Err refusal.NoMemory) answer outcome is answers fault h = absurd (subst IsAnswerStatus fault h)
 
 -- at an answer a command came to its end
-is_end : (ended : Result Answer Refusal) (answer : Status) → FaultStatus ended answer → IsAnswerStatus answer → IsAnswerResult ended
+is_end : (ended : Result WorkText StopCause) (answer : Status) → FaultStatus ended answer → IsAnswerStatus answer → IsAnswerResult ended
 is_end (Ok given) answer fault is = tt
 is_end (Err (refusal.Refused file why)) answer fault is = tt
 is_end (Err (refusal.Absent file)) answer fault is = tt
@@ -98,7 +98,7 @@ is_end (Err refusal.WriteFault) answer fault is = subst IsAnswerStatus fault is
 is_end (Err refusal.NoMemory) answer fault is = subst IsAnswerStatus fault is
 
 -- the text of an absent file
-absent_ends : (ended : Result Answer Refusal) (answer : Status) (before after : Option (List ℕ))
+absent_ends : (ended : Result WorkText StopCause) (answer : Status) (before after : Option (List ℕ))
     → IfSome (status_and_text ended) (λ a. IsAnswerStatus answer → answer ≡ a.0)
     → IfSome (status_and_text ended) (λ a. Prints answer a.1 before after)
     → FaultStatus ended answer
@@ -113,8 +113,8 @@ absent_ends (Err refusal.WriteFault) answer before after answers prints fault is
 absent_ends (Err refusal.NoMemory) answer before after answers prints fault is = let e = sym is ∙ fault in cc
 
 -- a text is printed where all files were made, and none where some were not
-last_ends : (ended : Result Answer Refusal) (files : List (List ℕ × List ℕ)) (printed printed_after : Option (List ℕ)) (before after : Option Folder)
-    → Makes ended files before after
+last_ends : (ended : Result WorkText StopCause) (files : List (List ℕ × List ℕ)) (printed printed_after : Option (List ℕ)) (before after : Option Folder)
+    → MakesWorkFiles ended files before after
     → IfNone (status_and_text ended) (printed_after ≡ printed)
     → PrintsLast files printed printed_after before after
 last_ends (Ok (answered.Done text)) files printed printed_after before after makes silent = inr makes
@@ -126,7 +126,7 @@ last_ends (Err refusal.WriteFault) files printed printed_after before after make
 last_ends (Err refusal.NoMemory) files printed printed_after before after makes silent = inl silent
 
 -- a failed read was one of a file
-reads_end : (ended : Result Answer Refusal) (answer : Status) (old new : Counts)
+reads_end : (ended : Result WorkText StopCause) (answer : Status) (old new : Counts)
     → IfSome (status_and_text ended) (λ _. answer ≢ ends.ReadFault)
     → FaultStatus ended answer
     → IfErr ended (Raises old new)
@@ -145,29 +145,29 @@ reads_end (Err refusal.NoMemory) answer old new other fault cause is = let e = s
 -- a text was written, or its write failed, or memory ran out
 pub said_faults : (answer : Status) (old new : Outside) → new.counts.reads ≡ old.counts.reads → new.counts.writes ≡ old.counts.writes → new.hearing ≡ old.hearing
     → new.out_faults ≡ said_after old.out_faults answer → (answer ≢ ends.ReadFault) → FaultsTold answer old new
-said_faults ends.Done old new r w h s other = counted new _ _ _ _ r w (ap (λ (n : Hearing). n.faults) h) s
-said_faults ends.Diverged old new r w h s other = counted new _ _ _ _ r w (ap (λ (n : Hearing). n.faults) h) s
-said_faults ends.Usage old new r w h s other = counted new _ _ _ _ r w (ap (λ (n : Hearing). n.faults) h) s
-said_faults ends.Refused old new r w h s other = counted new _ _ _ _ r w (ap (λ (n : Hearing). n.faults) h) s
-said_faults ends.Absent old new r w h s other = counted new _ _ _ _ r w (ap (λ (n : Hearing). n.faults) h) s
+said_faults ends.Done old new r w h s other = counted_faults new _ _ _ _ r w (ap (λ (n : Hearing). n.faults) h) s
+said_faults ends.Diverged old new r w h s other = counted_faults new _ _ _ _ r w (ap (λ (n : Hearing). n.faults) h) s
+said_faults ends.Usage old new r w h s other = counted_faults new _ _ _ _ r w (ap (λ (n : Hearing). n.faults) h) s
+said_faults ends.Refused old new r w h s other = counted_faults new _ _ _ _ r w (ap (λ (n : Hearing). n.faults) h) s
+said_faults ends.Absent old new r w h s other = counted_faults new _ _ _ _ r w (ap (λ (n : Hearing). n.faults) h) s
 said_faults ends.ReadFault old new r w h s other = absurd (other refl)
-said_faults ends.WriteFault old new r w h s other = inr (counted new _ _ _ _ r w (ap (λ (n : Hearing). n.faults) h) s)
-said_faults ends.NoMemory old new r w h s other = counted new _ _ _ _ r w (ap (λ (n : Hearing). n.faults) h) s
+said_faults ends.WriteFault old new r w h s other = inr (counted_faults new _ _ _ _ r w (ap (λ (n : Hearing). n.faults) h) s)
+said_faults ends.NoMemory old new r w h s other = counted_faults new _ _ _ _ r w (ap (λ (n : Hearing). n.faults) h) s
 
-ended_faults : (ended : Result Answer Refusal) (answer : Status) (old new : Outside) → CountsFaults old.counts new.counts ended → FinishesCall ended answer old.taken new.taken old.out_faults new.out_faults
+ended_faults : (ended : Result WorkText StopCause) (answer : Status) (old new : Outside) → CountsFaults old.counts new.counts ended → FinishesCall ended answer old.taken new.taken old.out_faults new.out_faults
     → new.hearing ≡ old.hearing → FaultsTold answer old new
 ended_faults (Ok (answered.Done text)) answer old new c f h = said_faults answer old new c.reads c.writes h f.counted f.read_fault
 ended_faults (Ok (answered.Diverged text)) answer old new c f h = said_faults answer old new c.reads c.writes h f.counted f.read_fault
 ended_faults (Err (refusal.Refused file why)) answer old new c f h = said_faults answer old new c.reads c.writes h f.counted f.read_fault
 ended_faults (Err (refusal.Absent file)) answer old new c f h = said_faults answer old new c.reads c.writes h f.counted f.read_fault
-ended_faults (Err refusal.ReadFault) answer old new c f h = subst (λ (a : Status). FaultsTold a old new) (sym f.fault) (inl (counted new _ _ _ _ c.reads c.writes (ap (λ (n : Hearing). n.faults) h) f.quiet))
-ended_faults (Err refusal.WriteFault) answer old new c f h = subst (λ (a : Status). FaultsTold a old new) (sym f.fault) (inl (counted new _ _ _ _ c.reads c.writes (ap (λ (n : Hearing). n.faults) h) f.quiet))
-ended_faults (Err refusal.NoMemory) answer old new c f h = subst (λ (a : Status). FaultsTold a old new) (sym f.fault) (counted new _ _ _ _ c.reads c.writes (ap (λ (n : Hearing). n.faults) h) f.quiet)
+ended_faults (Err refusal.ReadFault) answer old new c f h = subst (λ (a : Status). FaultsTold a old new) (sym f.fault) (inl (counted_faults new _ _ _ _ c.reads c.writes (ap (λ (n : Hearing). n.faults) h) f.quiet))
+ended_faults (Err refusal.WriteFault) answer old new c f h = subst (λ (a : Status). FaultsTold a old new) (sym f.fault) (inl (counted_faults new _ _ _ _ c.reads c.writes (ap (λ (n : Hearing). n.faults) h) f.quiet))
+ended_faults (Err refusal.NoMemory) answer old new c f h = subst (λ (a : Status). FaultsTold a old new) (sym f.fault) (counted_faults new _ _ _ _ c.reads c.writes (ap (λ (n : Hearing). n.faults) h) f.quiet)
 
 -- ---- which statuses never come
 
 -- a command's result is never that the words are none
-not_usage : (ended : Result Answer Refusal) (answer : Status)
+not_usage : (ended : Result WorkText StopCause) (answer : Status)
     → IfSome (status_and_text ended) (λ a. IsAnswerStatus answer → answer ≡ a.0)
     → FaultStatus ended answer
     → answer ≡ ends.Usage → ⊥
@@ -180,7 +180,7 @@ not_usage (Err refusal.WriteFault) answer answers fault is = let e = sym is ∙ 
 not_usage (Err refusal.NoMemory) answer answers fault is = let e = sym is ∙ fault in cc
 
 -- nor a divergence, where none may be told
-diverged_ends : (may_diverge : Bool) (ended : Result Answer Refusal) (answer : Status) → DivergesOnlyIf may_diverge ended
+diverged_ends : (may_diverge : Bool) (ended : Result WorkText StopCause) (answer : Status) → DivergesOnlyIf may_diverge ended
     → IfSome (status_and_text ended) (λ a. IsAnswerStatus answer → answer ≡ a.0)
     → FaultStatus ended answer
     → answer ≡ ends.Diverged → IsTrue may_diverge
@@ -193,7 +193,7 @@ diverged_ends may_diverge (Err refusal.WriteFault) answer only answers fault is 
 diverged_ends may_diverge (Err refusal.NoMemory) answer only answers fault is = let e = sym is ∙ fault in cc
 
 -- nor that a stop is work that is done
-done_ends : (ended : Result Answer Refusal) (answer : Status)
+done_ends : (ended : Result WorkText StopCause) (answer : Status)
     → IfSome (status_and_text ended) (λ a. IsAnswerStatus answer → answer ≡ a.0)
     → FaultStatus ended answer
     → answer ≡ ends.Done → IsOk ended
@@ -207,7 +207,7 @@ done_ends (Err refusal.NoMemory) answer answers fault is = let e = sym is ∙ fa
 -- ---- the whole end of a call
 
 module _ (expected : Option CommandOutcome) (written : Folder → List (List ℕ)) where
-  call_ends : (may_diverge : Bool) (ended : Result Answer Refusal) (answer : Status) (old new : Outside)
+  call_ends : (may_diverge : Bool) (ended : Result WorkText StopCause) (answer : Status) (old new : Outside)
       → Performed expected written may_diverge old.told new.told old.counts new.counts ended
       → FinishesCall ended answer old.taken new.taken old.out_faults new.out_faults
       → new.hearing ≡ old.hearing
@@ -232,7 +232,7 @@ module _ (expected : Option CommandOutcome) (written : Folder → List (List ℕ
       }
 
   -- a result whose text was printed
-  pub finishes : (may_diverge : Bool) (ended : Result Answer Refusal) (answer : Status) (old new : Outside)
+  pub finishes : (may_diverge : Bool) (ended : Result WorkText StopCause) (answer : Status) (old new : Outside)
       → Performed expected written may_diverge old.told new.told old.counts new.counts ended
       → FinishesCall ended answer old.taken new.taken old.out_faults new.out_faults
       → new.hearing ≡ old.hearing

@@ -9,10 +9,10 @@ use Rattle.std.specs.Cmp.Lexicographic.{slice_cmp, nat_list_cmp_total}
 use Rattle.std.specs.FinMap.{insert, get, get-insert, slice_cmp-IsAntisymmetric, nat_cmp-IsAntisymmetric}
 use Rattle.fri_outside.specs.Outside.{Folder, with_file}
 use Rattle.fri_outside.specs.Several.{with_files, IsLeft, ChangesOnly, OthersStay}
-use Rattle.command_run.specs.declared.refusal.Answer.{Answer}
-use Rattle.command_run.specs.declared.refusal.Refusal.{Refusal}
-use Rattle.command_run.specs.declared.refusal.Refusal.TheVariants as refusal
-use Rattle.command_run.specs.Call.{Makes}
+use Rattle.command_run.specs.declared.refusal.WorkText.{WorkText}
+use Rattle.command_run.specs.declared.refusal.StopCause.{StopCause}
+use Rattle.command_run.specs.declared.refusal.StopCause.TheVariants as refusal
+use Rattle.command_run.specs.Call.{MakesWorkFiles}
 use Rattle.command_run.specs.FileLaws.{same_changes}
 use Rattle.command_run.specs.Outcome.{CommandOutcome, writes_of}
 use Rattle.command_run.specs.Run.{WritesOnly}
@@ -60,7 +60,7 @@ all_changes (file ∷ files) before after e = record {
 }
 
 -- whatever a command comes to, it changed only the files that it was to make
-pub makes_changes : (ended : Result Answer Refusal) (files : List (List ℕ × List ℕ)) (before after : Option Folder) → Makes ended files before after → ChangesOnly before files after
+pub makes_changes : (ended : Result WorkText StopCause) (files : List (List ℕ × List ℕ)) (before after : Option Folder) → MakesWorkFiles ended files before after → ChangesOnly before files after
 makes_changes (Ok answer) files before after makes = all_changes files before after makes
 makes_changes (Err (refusal.Refused file why)) files before after makes = all_changes files before after makes
 makes_changes (Err (refusal.Absent file)) files before after makes = all_changes files before after makes
@@ -88,8 +88,8 @@ changes_others files before after changes = record {
   stays old new name out (inr (bytes, among, part)) = absurd (out (name_among (files old) (name, bytes) among))
 
 -- whatever it comes to, the names of the files that it was to make alone changed
-pub makes_others : (written : Folder → List (List ℕ)) (expected : Option CommandOutcome) (before after : Option Folder) (ended : Result Answer Refusal)
-    → ((o : CommandOutcome) → expected ≡ Some o → Makes ended (writes_of o) before after)
+pub makes_others : (written : Folder → List (List ℕ)) (expected : Option CommandOutcome) (before after : Option Folder) (ended : Result WorkText StopCause)
+    → ((o : CommandOutcome) → expected ≡ Some o → MakesWorkFiles ended (writes_of o) before after)
     → ((folder : Folder) → before ≡ Some folder → WritesOnly written expected before after folder)
     → OthersStay written before after
 makes_others written expected before after ended makes names = record {

@@ -16,7 +16,7 @@ use Rattle.command_run.specs.Fault.{fault_of, reason_of}
 use Rattle.command_run.specs.Inputs.{module_in, module_unless_refused, spelled_module, valid_module}
 use Rattle.command_run.specs.Laws.{ReadsModules}
 use Rattle.command_run.specs.Limits.{most_module}
-use Rattle.command_run.specs.Outcome.{Stop, and_then, bytes_or_stop, file_of}
+use Rattle.command_run.specs.Outcome.{CommandStop, and_then, bytes_or_stop, file_of}
 use Rattle.command_run.specs.OutcomeLaws.{follows, same_Ok}
 use Rattle.command_run.specs.Valid.{IsFileWithin}
 use Rattle.command_run.proofs.Faults.{no_fault}
@@ -58,7 +58,7 @@ pub modules_read : KeepsFiles → ((bytes : List ℕ) (m : Module) → (module_o
 modules_read keeps spelled exact = record {
   files = within_limit keeps;
   modules = λ folder name file.
-      ap (λ (r : Result (List ℕ) Stop). and_then r (λ bytes. and_then (spelled_module name (module_of_bytes bytes)) (valid_module name))) (within_limit keeps folder name most_module file.bytes file.stands)
+      ap (λ (r : Result (List ℕ) CommandStop). and_then r (λ bytes. and_then (spelled_module name (module_of_bytes bytes)) (valid_module name))) (within_limit keeps folder name most_module file.bytes file.stands)
       ∙ ap (λ (m : Option Module). and_then (spelled_module name m) (valid_module name)) ((spelled file.bytes file.«module»).1 file.spelled)
       ∙ ap (module_unless_refused name file.«module») (no_fault exact file.«module» file.valid);
   valid = module_valid exact;

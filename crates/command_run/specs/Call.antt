@@ -7,13 +7,13 @@ use Rattle.fri_outside.specs.declared.files.WriteError.{WriteError}
 use Rattle.fri_outside.specs.declared.files.WriteError.TheVariants as writing
 use Rattle.command_run.specs.declared.status.Status.{Status}
 use Rattle.command_run.specs.declared.status.Status.TheVariants as ends
-use Rattle.command_run.specs.declared.refusal.Answer.{Answer}
-use Rattle.command_run.specs.declared.refusal.Answer.TheVariants as answered
+use Rattle.command_run.specs.declared.refusal.WorkText.{WorkText}
+use Rattle.command_run.specs.declared.refusal.WorkText.TheVariants as answered
 use Rattle.command_run.specs.declared.refusal.Reason.{Reason}
 use Rattle.command_run.specs.declared.refusal.Reason.TheVariants as reason
-use Rattle.command_run.specs.declared.refusal.Refusal.{Refusal}
-use Rattle.command_run.specs.declared.refusal.Refusal.TheVariants as refusal
-use Rattle.command_run.specs.Outcome.{CommandOutcome, Work, Stop, Refuses, Lacks, refuses_at_once, refused_line, absent_line}
+use Rattle.command_run.specs.declared.refusal.StopCause.{StopCause}
+use Rattle.command_run.specs.declared.refusal.StopCause.TheVariants as refusal
+use Rattle.command_run.specs.Outcome.{CommandOutcome, CommandWork, CommandStop, Refuses, Lacks, refuses_at_once, refused_line, absent_line}
 
 -- statuses 0 to 4: the call came to its end, with no fault and no want of memory
 abbrev pub IsAnswerStatus : Status → Type 0
@@ -56,7 +56,7 @@ PrintsLast files printed printed_after before after = (printed_after ≡ printed
 -- A COMMAND'S RESULT, before its text is written
 
 -- a command came to an answer: its work, or a refusal
-abbrev pub IsAnswerResult : Result Answer Refusal → Type 0
+abbrev pub IsAnswerResult : Result WorkText StopCause → Type 0
 IsAnswerResult (Ok answer) = Unit {0}
 IsAnswerResult (Err (refusal.Refused file why)) = Unit {0}
 IsAnswerResult (Err (refusal.Absent file)) = Unit {0}
@@ -65,7 +65,7 @@ IsAnswerResult (Err refusal.WriteFault) = ⊥
 IsAnswerResult (Err refusal.NoMemory) = ⊥
 
 -- a refusal tells the stop at which this comes to no value
-abbrev pub StopsAs : {A : Type 0} → Result A Stop → Refusal → Type 0
+abbrev pub StopsAs : {A : Type 0} → Result A CommandStop → StopCause → Type 0
 StopsAs wanted (refusal.Refused file why) = wanted ≡ Err (refuses_at_once (string_bytes file) why)
 StopsAs wanted (refusal.Absent file) = wanted ≡ Err (Lacks (string_bytes file))
 StopsAs wanted refusal.ReadFault = Unit {0}
@@ -74,29 +74,29 @@ StopsAs wanted refusal.NoMemory = Unit {0}
 
 -- a refusal that came before anything was printed
 abbrev pub RefusesWith : CommandOutcome → List ℕ → Reason → Type 0
-RefusesWith outcome file why = (done : Work) × (outcome ≡ Err (Refuses file why done)) × (done.text ≡ [])
+RefusesWith outcome file why = (done : CommandWork) × (outcome ≡ Err (Refuses file why done)) × (done.text ≡ [])
 
 -- what a failed write comes to
-abbrev pub write_refusal : WriteError → Refusal
+abbrev pub write_refusal : WriteError → StopCause
 write_refusal writing.Failed = refusal.WriteFault
 write_refusal writing.NoMemory = refusal.NoMemory
 
 -- this refusal of this file, or want of memory
-abbrev pub RefusesFile : List ℕ → Reason → Refusal → Type 0
+abbrev pub RefusesFile : List ℕ → Reason → StopCause → Type 0
 RefusesFile name why (refusal.Refused file reason) = (string_bytes file ≡ name) × (reason ≡ why)
 RefusesFile name why refusal.NoMemory = Unit {0}
 RefusesFile name why other = ⊥
 
 -- that this file is absent, or want of memory
-abbrev pub NamesAbsent : List ℕ → Refusal → Type 0
+abbrev pub NamesAbsent : List ℕ → StopCause → Type 0
 NamesAbsent name (refusal.Absent file) = string_bytes file ≡ name
 NamesAbsent name refusal.NoMemory = Unit {0}
 NamesAbsent name other = ⊥
 
 -- a command's result tells this outcome
-abbrev pub TellsOutcome : CommandOutcome → Result Answer Refusal → Type 0
-TellsOutcome outcome (Ok (answered.Done text)) = (work : Work) × (outcome ≡ Ok work) × (text ≡ work.text) × (work.diverged ≡ false)
-TellsOutcome outcome (Ok (answered.Diverged text)) = (work : Work) × (outcome ≡ Ok work) × (text ≡ work.text) × (work.diverged ≡ true)
+abbrev pub TellsOutcome : CommandOutcome → Result WorkText StopCause → Type 0
+TellsOutcome outcome (Ok (answered.Done text)) = (work : CommandWork) × (outcome ≡ Ok work) × (text ≡ work.text) × (work.diverged ≡ false)
+TellsOutcome outcome (Ok (answered.Diverged text)) = (work : CommandWork) × (outcome ≡ Ok work) × (text ≡ work.text) × (work.diverged ≡ true)
 TellsOutcome outcome (Err (refusal.Refused file why)) = RefusesWith outcome (string_bytes file) why
 TellsOutcome outcome (Err (refusal.Absent file)) = outcome ≡ Err (Lacks (string_bytes file))
 TellsOutcome outcome (Err refusal.ReadFault) = Unit {0}
@@ -104,7 +104,7 @@ TellsOutcome outcome (Err refusal.WriteFault) = Unit {0}
 TellsOutcome outcome (Err refusal.NoMemory) = Unit {0}
 
 -- a refusal has its cause in the counts
-abbrev pub Raises : Counts → Counts → Refusal → Type 0
+abbrev pub Raises : Counts → Counts → StopCause → Type 0
 Raises old new (refusal.Refused file why) = why ≡ reason.TooLarge → Rose old.misses new.misses
 Raises old new (refusal.Absent file) = Rose old.misses new.misses
 Raises old new refusal.ReadFault = Rose old.reads new.reads
@@ -113,43 +113,43 @@ Raises old new refusal.NoMemory = Unit {0}
 
 -- how many reads failed once a command, or a part of one, came to this: a fault that ended it was counted once, and no
 -- other was
-abbrev pub reads_after : {T : Type 0} → ℕ → Result T Refusal → ℕ
+abbrev pub reads_after : {T : Type 0} → ℕ → Result T StopCause → ℕ
 reads_after count (Err refusal.ReadFault) = raised count
 reads_after count result = count
 
 -- how many writes failed, alike
-abbrev pub writes_after : {T : Type 0} → ℕ → Result T Refusal → ℕ
+abbrev pub writes_after : {T : Type 0} → ℕ → Result T StopCause → ℕ
 writes_after count (Err refusal.WriteFault) = raised count
 writes_after count result = count
 
 -- no miss was counted where it came to a value
-abbrev pub KeepsMisses : {T : Type 0} → Counts → Counts → Result T Refusal → Type 0
+abbrev pub KeepsMisses : {T : Type 0} → Counts → Counts → Result T StopCause → Type 0
 KeepsMisses old new (Ok value) = new.misses ≡ old.misses
 KeepsMisses old new (Err e) = Unit {0}
 
 -- the counts of files, once it came to this
-pub record CountsFaults {T : Type 0} (old new : Counts) (result : Result T Refusal) : Type 0 where
+pub record CountsFaults {T : Type 0} (old new : Counts) (result : Result T StopCause) : Type 0 where
   pub reads : new.reads ≡ reads_after old.reads result
   pub writes : new.writes ≡ writes_after old.writes result
   pub misses : KeepsMisses old new result
 
 -- no file changed where a command found no file or could not read, whatever the folder
-abbrev pub Keeps : Result Answer Refusal → Option Folder → Option Folder → Type 0
-Keeps (Err (refusal.Absent file)) before after = after ≡ before
-Keeps (Err refusal.ReadFault) before after = after ≡ before
-Keeps result before after = Unit {0}
+abbrev pub KeepsFolder : Result WorkText StopCause → Option Folder → Option Folder → Type 0
+KeepsFolder (Err (refusal.Absent file)) before after = after ≡ before
+KeepsFolder (Err refusal.ReadFault) before after = after ≡ before
+KeepsFolder result before after = Unit {0}
 
 -- the files that were to be made are made at an answer, and some of them in part where a write or memory failed
-abbrev pub Makes : Result Answer Refusal → List (List ℕ × List ℕ) → Option Folder → Option Folder → Type 0
-Makes (Ok answer) files before after = after ≡ with_files files before
-Makes (Err (refusal.Refused file why)) files before after = after ≡ with_files files before
-Makes (Err (refusal.Absent file)) files before after = after ≡ with_files files before
-Makes (Err refusal.ReadFault) files before after = ChangesOnly before files after
-Makes (Err refusal.WriteFault) files before after = ChangesOnly before files after
-Makes (Err refusal.NoMemory) files before after = ChangesOnly before files after
+abbrev pub MakesWorkFiles : Result WorkText StopCause → List (List ℕ × List ℕ) → Option Folder → Option Folder → Type 0
+MakesWorkFiles (Ok answer) files before after = after ≡ with_files files before
+MakesWorkFiles (Err (refusal.Refused file why)) files before after = after ≡ with_files files before
+MakesWorkFiles (Err (refusal.Absent file)) files before after = after ≡ with_files files before
+MakesWorkFiles (Err refusal.ReadFault) files before after = ChangesOnly before files after
+MakesWorkFiles (Err refusal.WriteFault) files before after = ChangesOnly before files after
+MakesWorkFiles (Err refusal.NoMemory) files before after = ChangesOnly before files after
 
 -- these files were to be made, and some are made in part where a write or memory failed
-abbrev pub MakesAll : Result ⊤ Refusal → List (List ℕ × List ℕ) → Option Folder → Option Folder → Type 0
+abbrev pub MakesAll : Result ⊤ StopCause → List (List ℕ × List ℕ) → Option Folder → Option Folder → Type 0
 MakesAll (Ok _) files before after = after ≡ with_files files before
 MakesAll (Err refusal.WriteFault) files before after = ChangesOnly before files after
 MakesAll (Err refusal.NoMemory) files before after = ChangesOnly before files after
@@ -158,12 +158,12 @@ MakesAll (Err (refusal.Refused file why)) files before after = ⊥
 MakesAll (Err (refusal.Absent file)) files before after = ⊥
 
 -- a divergence is told only where it may be
-abbrev pub DivergesOnlyIf : Bool → Result Answer Refusal → Type 0
+abbrev pub DivergesOnlyIf : Bool → Result WorkText StopCause → Type 0
 DivergesOnlyIf may_diverge (Ok (answered.Diverged text)) = IsTrue may_diverge
 DivergesOnlyIf may_diverge result = Unit {0}
 
 -- the status and the text that a command's result comes to, unless a fault or want of memory ended it
-abbrev pub status_and_text : Result Answer Refusal → Option (Status × List ℕ)
+abbrev pub status_and_text : Result WorkText StopCause → Option (Status × List ℕ)
 status_and_text (Ok (answered.Done text)) = Some (ends.Done, text)
 status_and_text (Ok (answered.Diverged text)) = Some (ends.Diverged, text)
 status_and_text (Err (refusal.Refused file why)) = Some (ends.Refused, refused_line (string_bytes file) why)
@@ -173,7 +173,7 @@ status_and_text (Err refusal.WriteFault) = None
 status_and_text (Err refusal.NoMemory) = None
 
 -- the status of a fault, and of want of memory
-abbrev pub FaultStatus : Result Answer Refusal → Status → Type 0
+abbrev pub FaultStatus : Result WorkText StopCause → Status → Type 0
 FaultStatus (Err refusal.ReadFault) answer = answer ≡ ends.ReadFault
 FaultStatus (Err refusal.WriteFault) answer = answer ≡ ends.WriteFault
 FaultStatus (Err refusal.NoMemory) answer = answer ≡ ends.NoMemory
@@ -185,7 +185,7 @@ said_after count ends.WriteFault = raised count
 said_after count answer = count
 
 -- what a command's result comes to, with its text written
-pub record FinishesCall (ended : Result Answer Refusal) (answer : Status) (before after : Option (List ℕ)) (faults_before faults_after : ℕ) : Type 0 where
+pub record FinishesCall (ended : Result WorkText StopCause) (answer : Status) (before after : Option (List ℕ)) (faults_before faults_after : ℕ) : Type 0 where
   pub status : IfSome (status_and_text ended) (λ a. IsAnswerStatus answer → answer ≡ a.0)
   pub text : IfSome (status_and_text ended) (λ a. Prints answer a.1 before after)
   pub silent : IfNone (status_and_text ended) (after ≡ before)

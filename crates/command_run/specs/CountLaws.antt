@@ -3,22 +3,22 @@ use Rattle.std.specs.Prelude.{◌≡◌, ℕ, List, ⊤, Result, Ok, Err}
 use Rattle.std.proofs.Common.{sym, ap, subst, refl, ◌∙◌}
 use Rattle.fri_outside.specs.Outside.{Counts, raised}
 use Rattle.command_run.specs.declared.refusal.Reason.{Reason}
-use Rattle.command_run.specs.declared.refusal.Refusal.{Refusal}
-use Rattle.command_run.specs.declared.refusal.Refusal.TheVariants as refusal
+use Rattle.command_run.specs.declared.refusal.StopCause.{StopCause}
+use Rattle.command_run.specs.declared.refusal.StopCause.TheVariants as refusal
 use Rattle.command_run.specs.Call.{CountsFaults, KeepsMisses, NamesAbsent, RefusesFile, reads_after, writes_after}
 use Rattle.command_run.specs.Run.{Outside, faults_of}
 
 -- a value or not, where no miss was counted
-keeps : {T : Type 0} (a b : Counts) (result : Result T Refusal) → b.misses ≡ a.misses → KeepsMisses a b result
+keeps : {T : Type 0} (a b : Counts) (result : Result T StopCause) → b.misses ≡ a.misses → KeepsMisses a b result
 keeps a b (Ok value) e = e
 keeps a b (Err why) e = tt
 
-keeps_later : {T : Type 0} (a b c : Counts) (result : Result T Refusal) → b.misses ≡ a.misses → KeepsMisses b c result → KeepsMisses a c result
+keeps_later : {T : Type 0} (a b c : Counts) (result : Result T StopCause) → b.misses ≡ a.misses → KeepsMisses b c result → KeepsMisses a c result
 keeps_later a b c (Ok value) first then = then ∙ first
 keeps_later a b c (Err why) first then = tt
 
 -- no fault was counted, and then those that this names
-pub counts_later : {T : Type 0} (a b c : Counts) (result : Result T Refusal) → CountsFaults {T = ⊤} a b (Ok tt) → CountsFaults b c result → CountsFaults a c result
+pub counts_later : {T : Type 0} (a b c : Counts) (result : Result T StopCause) → CountsFaults {T = ⊤} a b (Ok tt) → CountsFaults b c result → CountsFaults a c result
 counts_later a b c result first then = record {
   reads = then.reads ∙ ap (λ (n : ℕ). reads_after n result) first.reads;
   writes = then.writes ∙ ap (λ (n : ℕ). writes_after n result) first.writes;
@@ -30,29 +30,29 @@ pub counts_none : {T : Type 0} (a b : Counts) (value : T) → CountsFaults a b (
 counts_none a b value counts = record { reads = counts.reads; writes = counts.writes; misses = counts.misses }
 
 -- what came of one part is what came of the whole
-pub counts_of : {T U : Type 0} (a b : Counts) (e : Refusal) → CountsFaults {T = T} a b (Err e) → CountsFaults {T = U} a b (Err e)
-counts_of a b e counts = record { reads = counts.reads; writes = counts.writes; misses = tt }
+pub counts_of_part : {T U : Type 0} (a b : Counts) (e : StopCause) → CountsFaults {T = T} a b (Err e) → CountsFaults {T = U} a b (Err e)
+counts_of_part a b e counts = record { reads = counts.reads; writes = counts.writes; misses = tt }
 
 -- none was counted, and what came of it names none
-pub counts_still : {T U : Type 0} (a b : Counts) (value : T) (result : Result U Refusal) → ((n : ℕ) → (reads_after n result ≡ n) × (writes_after n result ≡ n)) → CountsFaults a b (Ok value) → CountsFaults a b result
+pub counts_still : {T U : Type 0} (a b : Counts) (value : T) (result : Result U StopCause) → ((n : ℕ) → (reads_after n result ≡ n) × (writes_after n result ≡ n)) → CountsFaults a b (Ok value) → CountsFaults a b result
 counts_still a b value result still counts = record { reads = counts.reads ∙ sym (still a.reads).0; writes = counts.writes ∙ sym (still a.writes).1; misses = keeps a b result counts.misses }
 
 -- the same counts as those
-pub counts_same : {T : Type 0} (a b c : Counts) (result : Result T Refusal) → CountsFaults a b result → c ≡ b → CountsFaults a c result
+pub counts_same : {T : Type 0} (a b c : Counts) (result : Result T StopCause) → CountsFaults a b result → c ≡ b → CountsFaults a c result
 counts_same a b c result first same = subst (λ (d : Counts). CountsFaults a d result) (sym same) first
 
 -- a file that was not there, or was too large
-missed : {T : Type 0} (a b : Counts) (e : Refusal) → b ≡ record a { misses = raised a.misses } → reads_after {T = T} a.reads (Err e) ≡ a.reads → writes_after {T = T} a.writes (Err e) ≡ a.writes → CountsFaults {T = T} a b (Err e)
+missed : {T : Type 0} (a b : Counts) (e : StopCause) → b ≡ record a { misses = raised a.misses } → reads_after {T = T} a.reads (Err e) ≡ a.reads → writes_after {T = T} a.writes (Err e) ≡ a.writes → CountsFaults {T = T} a b (Err e)
 missed a b e same reads writes = record { reads = ap (λ (c : Counts). c.reads) same ∙ sym reads; writes = ap (λ (c : Counts). c.writes) same ∙ sym writes; misses = tt }
 
-pub counts_absent : {T : Type 0} (a b : Counts) (name : List ℕ) (e : Refusal) → b ≡ record a { misses = raised a.misses } → NamesAbsent name e → CountsFaults {T = T} a b (Err e)
+pub counts_absent : {T : Type 0} (a b : Counts) (name : List ℕ) (e : StopCause) → b ≡ record a { misses = raised a.misses } → NamesAbsent name e → CountsFaults {T = T} a b (Err e)
 counts_absent a b name (refusal.Refused file why) same is = absurd is
 counts_absent a b name (refusal.Absent file) same is = missed a b _ same refl refl
 counts_absent a b name refusal.ReadFault same is = absurd is
 counts_absent a b name refusal.WriteFault same is = absurd is
 counts_absent a b name refusal.NoMemory same is = missed a b _ same refl refl
 
-pub counts_too_large : {T : Type 0} (a b : Counts) (name : List ℕ) (why : Reason) (e : Refusal) → b ≡ record a { misses = raised a.misses } → RefusesFile name why e → CountsFaults {T = T} a b (Err e)
+pub counts_too_large : {T : Type 0} (a b : Counts) (name : List ℕ) (why : Reason) (e : StopCause) → b ≡ record a { misses = raised a.misses } → RefusesFile name why e → CountsFaults {T = T} a b (Err e)
 counts_too_large a b name why (refusal.Refused file reason) same is = missed a b _ same refl refl
 counts_too_large a b name why (refusal.Absent file) same is = absurd is
 counts_too_large a b name why refusal.ReadFault same is = absurd is
@@ -61,9 +61,9 @@ counts_too_large a b name why refusal.NoMemory same is = missed a b _ same refl 
 
 -- ---- all counts of faults
 
-pub counted : (new : Outside) (reads writes heard said : ℕ) → new.counts.reads ≡ reads → new.counts.writes ≡ writes → new.hearing.faults ≡ heard → new.out_faults ≡ said
+pub counted_faults : (new : Outside) (reads writes heard said : ℕ) → new.counts.reads ≡ reads → new.counts.writes ≡ writes → new.hearing.faults ≡ heard → new.out_faults ≡ said
     → faults_of new ≡ ((reads, writes), (heard, said))
-counted new reads writes heard said r w h s =
+counted_faults new reads writes heard said r w h s =
     ap (λ (n : ℕ). ((n, new.counts.writes), (new.hearing.faults, new.out_faults))) r
     ∙ ap (λ (n : ℕ). ((reads, n), (new.hearing.faults, new.out_faults))) w
     ∙ ap (λ (n : ℕ). ((reads, writes), (n, new.out_faults))) h

@@ -6,9 +6,9 @@ use Rattle.fri_outside.specs.Outside.{Folder, with_file}
 use Rattle.fri_outside.specs.Several.{AreFronts, ChangesOnly, OthersStay, with_files}
 use Rattle.fri_outside.specs.declared.files.WriteError.{WriteError}
 use Rattle.fri_outside.specs.declared.files.WriteError.TheVariants as writing
-use Rattle.command_run.specs.declared.refusal.Refusal.{Refusal}
-use Rattle.command_run.specs.declared.refusal.Refusal.TheVariants as refusal
-use Rattle.command_run.specs.Call.{Makes, MakesAll, write_refusal}
+use Rattle.command_run.specs.declared.refusal.StopCause.{StopCause}
+use Rattle.command_run.specs.declared.refusal.StopCause.TheVariants as refusal
+use Rattle.command_run.specs.Call.{MakesWorkFiles, MakesAll, write_refusal}
 
 -- what did not change at all changed these files only
 pub same_changes : (before after : Option Folder) (files : List (List ℕ × List ℕ)) → after ≡ before → ChangesOnly before files after
@@ -57,7 +57,7 @@ failed_makes writing.Failed files before after changes = changes
 failed_makes writing.NoMemory files before after changes = changes
 
 -- they were not all made
-pub some_made : (e : Refusal) (files : List (List ℕ × List ℕ)) (before after : Option Folder) → MakesAll (Err e) files before after → Makes (Err e) files before after
+pub some_made : (e : StopCause) (files : List (List ℕ × List ℕ)) (before after : Option Folder) → MakesAll (Err e) files before after → MakesWorkFiles (Err e) files before after
 some_made (refusal.Refused file why) files before after made = absurd made
 some_made (refusal.Absent file) files before after made = absurd made
 some_made refusal.ReadFault files before after made = absurd made

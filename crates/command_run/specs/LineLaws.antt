@@ -5,9 +5,9 @@ use Rattle.std.proofs.Math.ListN.{drop_of_length-le}
 use Rattle.std.proofs.lemmas.List.{drop_more}
 
 module _ {A : Type 0} (line_of : A → List ℕ) where
-  pub next_line : (text whole : List ℕ) (lines : List A) (i : ℕ) (line d : A) → i < length lines → line ≡ slice_index_or lines i d
+  pub next_line_joins : (text whole : List ℕ) (lines : List A) (i : ℕ) (line d : A) → i < length lines → line ≡ slice_index_or lines i d
       → text ++ flat_map line_of (drop i lines) ≡ whole → (text ++ line_of line) ++ flat_map line_of (drop (i + 1) lines) ≡ whole
-  next_line text whole lines i line d below is so_far =
+  next_line_joins text whole lines i line d below is so_far =
       let rest = flat_map line_of (drop (i + 1) lines) in
       append_assoc text (line_of line) rest
       ∙ ap (λ (t : List ℕ). text ++ t) (ap (λ (l : A). line_of l ++ rest) is ∙ sym (ap (flat_map line_of) (drop_more lines i d below)))

@@ -7,40 +7,40 @@ use Rattle.command_run.specs.declared.refusal.Reason.{Reason}
 use Rattle.command_run.specs.declared.refusal.Reason.TheVariants as reason
 
 -- what a command does: the text that it prints, the files that it makes, each with its bytes and in their order, and whether a log diverged
-pub record Work : Type 0 where
+pub record CommandWork : Type 0 where
   pub text : List ℕ
   pub writes : List (List ℕ × List ℕ)
   pub diverged : Bool
 
 -- what was done before a stop, where it comes before all work
-abbrev pub nothing_done : Work
+abbrev pub nothing_done : CommandWork
 nothing_done = record { text = []; writes = []; diverged = false }
 
 -- why a command does not do its work. A refusal says what was printed and written before it
-pub data Stop : Type 0 where
-  NotACommand : Stop
-  Refuses : (file : List ℕ) → Reason → (done : Work) → Stop
-  Lacks : (file : List ℕ) → Stop
+pub data CommandStop : Type 0 where
+  NotACommand : CommandStop
+  Refuses : (file : List ℕ) → Reason → (done : CommandWork) → CommandStop
+  Lacks : (file : List ℕ) → CommandStop
 
 -- a refusal before all work
-abbrev pub refuses_at_once : List ℕ → Reason → Stop
+abbrev pub refuses_at_once : List ℕ → Reason → CommandStop
 refuses_at_once file why = Refuses file why nothing_done
 
 abbrev pub CommandOutcome : Type 0
-CommandOutcome = Result Work Stop
+CommandOutcome = Result CommandWork CommandStop
 
 -- what follows, unless there is a stop
-abbrev pub and_then : {A B : Type 0} → Result A Stop → (A → Result B Stop) → Result B Stop
+abbrev pub and_then : {A B : Type 0} → Result A CommandStop → (A → Result B CommandStop) → Result B CommandStop
 and_then (Ok value) next = next value
 and_then (Err stop) next = Err stop
 
 -- the bytes of a file, where it is there and within its limit
-abbrev pub bytes_or_stop : List ℕ → Found → Result (List ℕ) Stop
+abbrev pub bytes_or_stop : List ℕ → Found → Result (List ℕ) CommandStop
 bytes_or_stop name Missing = Err (Lacks name)
 bytes_or_stop name Over = Err (refuses_at_once name reason.TooLarge)
 bytes_or_stop name (Held bytes) = Ok bytes
 
-abbrev pub file_of : Folder → List ℕ → ℕ → Result (List ℕ) Stop
+abbrev pub file_of : Folder → List ℕ → ℕ → Result (List ℕ) CommandStop
 file_of folder name limit = bytes_or_stop name (found folder name limit)
 
 -- why a file is refused, as it is printed

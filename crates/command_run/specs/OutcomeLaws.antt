@@ -7,11 +7,11 @@ use Rattle.std.proofs.lemmas.Option.{same_Some}
 use Rattle.fri_outside.specs.Outside.{Folder, WhenTold}
 use Rattle.fri_outside.specs.Several.{with_files}
 use Rattle.command_run.specs.declared.status.Status.{Status}
-use Rattle.command_run.specs.declared.refusal.Refusal.{Refusal}
-use Rattle.command_run.specs.declared.refusal.Refusal.TheVariants as refusal
-use Rattle.command_run.specs.Call.{IsAnswerStatus, LeavesFiles, Makes, Prints, StopsAs, TellsOutcome}
+use Rattle.command_run.specs.declared.refusal.StopCause.{StopCause}
+use Rattle.command_run.specs.declared.refusal.StopCause.TheVariants as refusal
+use Rattle.command_run.specs.Call.{IsAnswerStatus, LeavesFiles, MakesWorkFiles, Prints, StopsAs, TellsOutcome}
 use Rattle.command_run.specs.FileLaws.{same_changes}
-use Rattle.command_run.specs.Outcome.{CommandOutcome, Stop, and_then, nothing_done, writes_of}
+use Rattle.command_run.specs.Outcome.{CommandOutcome, CommandStop, and_then, nothing_done, writes_of}
 
 -- ---- values of results
 
@@ -23,17 +23,17 @@ pub same_Ok : {A E : Type 0} (r : Result A E) (x y : A) → r ≡ Ok x → r ≡
 same_Ok r x y one other = ap (value_or x) (sym one ∙ other)
 
 -- a value came of a first value
-pub record Follows {A B : Type 0} (first : Result A Stop) (next : A → Result B Stop) (value : B) : Type 0 where
+pub record ComesOf {A B : Type 0} (first : Result A CommandStop) (next : A → Result B CommandStop) (value : B) : Type 0 where
   pub given : A
   pub is_given : first ≡ Ok given
   pub comes : next given ≡ Ok value
 
-pub follows : {A B : Type 0} (first : Result A Stop) (next : A → Result B Stop) (value : B) → and_then first next ≡ Ok value → Follows first next value
+pub follows : {A B : Type 0} (first : Result A CommandStop) (next : A → Result B CommandStop) (value : B) → and_then first next ≡ Ok value → ComesOf first next value
 follows (Ok given) next value is = record { given = given; is_given = refl; comes = is }
-follows {B = B} (Err stop) next value is = absurd (subst (λ (r : Result B Stop). IfErr r (λ _. ⊥)) (sym is) tt)
+follows {B = B} (Err stop) next value is = absurd (subst (λ (r : Result B CommandStop). IfErr r (λ _. ⊥)) (sym is) tt)
 
 -- what stops at first stops
-pub stops_then : {A B : Type 0} (r : Result A Stop) (next : A → Result B Stop) (e : Refusal) → StopsAs r e → StopsAs (and_then r next) e
+pub stops_then : {A B : Type 0} (r : Result A CommandStop) (next : A → Result B CommandStop) (e : StopCause) → StopsAs r e → StopsAs (and_then r next) e
 stops_then r next (refusal.Refused file why) is = ap (λ r. and_then r next) is
 stops_then r next (refusal.Absent file) is = ap (λ r. and_then r next) is
 stops_then r next refusal.ReadFault is = tt
@@ -43,14 +43,14 @@ stops_then r next refusal.NoMemory is = tt
 -- ---- what a refusal tells
 
 -- a refusal that a command stops at tells its outcome, and no file was to be made
-pub stops_tell : (o : CommandOutcome) (e : Refusal) → StopsAs o e → TellsOutcome o (Err e)
+pub stops_tell : (o : CommandOutcome) (e : StopCause) → StopsAs o e → TellsOutcome o (Err e)
 stops_tell o (refusal.Refused file why) is = (nothing_done, is, refl)
 stops_tell o (refusal.Absent file) is = is
 stops_tell o refusal.ReadFault is = tt
 stops_tell o refusal.WriteFault is = tt
 stops_tell o refusal.NoMemory is = tt
 
-pub stops_make : (o : CommandOutcome) (e : Refusal) (before after : Option Folder) → StopsAs o e → after ≡ before → Makes (Err e) (writes_of o) before after
+pub stops_make : (o : CommandOutcome) (e : StopCause) (before after : Option Folder) → StopsAs o e → after ≡ before → MakesWorkFiles (Err e) (writes_of o) before after
 stops_make o (refusal.Refused file why) before after is same = same ∙ sym (ap (λ f. with_files f before) (ap writes_of is))
 stops_make o (refusal.Absent file) before after is same = same ∙ sym (ap (λ f. with_files f before) (ap writes_of is))
 stops_make o refusal.ReadFault before after is same = same_changes before after (writes_of o) same
@@ -58,20 +58,20 @@ stops_make o refusal.WriteFault before after is same = same_changes before after
 stops_make o refusal.NoMemory before after is same = same_changes before after (writes_of o) same
 
 -- the outcome of a command over a folder that is told
-pub outcome_at : (f : Folder → CommandOutcome) (told : Option Folder) (o : CommandOutcome) → option_map f told ≡ Some o → (folder : Folder) × (told ≡ Some folder) × (o ≡ f folder)
-outcome_at f None o e = absurd (subst (λ (t : Option CommandOutcome). IfSome t (λ _. ⊥)) e tt)
-outcome_at f (Some folder) o e = (folder, refl, sym (same_Some _ _ e))
+pub outcome_when_told : (f : Folder → CommandOutcome) (told : Option Folder) (o : CommandOutcome) → option_map f told ≡ Some o → (folder : Folder) × (told ≡ Some folder) × (o ≡ f folder)
+outcome_when_told f None o e = absurd (subst (λ (t : Option CommandOutcome). IfSome t (λ _. ⊥)) e tt)
+outcome_when_told f (Some folder) o e = (folder, refl, sym (same_Some _ _ e))
 
 -- so it is with what is refused over a folder that may be told
-pub refused_tells : (f : Folder → CommandOutcome) (told : Option Folder) (e : Refusal) → WhenTold told (λ folder. StopsAs (f folder) e) → (o : CommandOutcome) → option_map f told ≡ Some o → TellsOutcome o (Err e)
+pub refused_tells : (f : Folder → CommandOutcome) (told : Option Folder) (e : StopCause) → WhenTold told (λ folder. StopsAs (f folder) e) → (o : CommandOutcome) → option_map f told ≡ Some o → TellsOutcome o (Err e)
 refused_tells f told e stops o is =
-    let h = outcome_at f told o is in
+    let h = outcome_when_told f told o is in
     subst (λ (o : CommandOutcome). TellsOutcome o (Err e)) (sym h.2) (stops_tell (f h.0) e (stops h.0 h.1))
 
-pub refused_makes : (f : Folder → CommandOutcome) (told after : Option Folder) (e : Refusal) → WhenTold told (λ folder. StopsAs (f folder) e) → after ≡ told → (o : CommandOutcome) → option_map f told ≡ Some o → Makes (Err e) (writes_of o) told after
+pub refused_makes : (f : Folder → CommandOutcome) (told after : Option Folder) (e : StopCause) → WhenTold told (λ folder. StopsAs (f folder) e) → after ≡ told → (o : CommandOutcome) → option_map f told ≡ Some o → MakesWorkFiles (Err e) (writes_of o) told after
 refused_makes f told after e stops same o is =
-    let h = outcome_at f told o is in
-    subst (λ (o : CommandOutcome). Makes (Err e) (writes_of o) told after) (sym h.2) (stops_make (f h.0) e told after (stops h.0 h.1) same)
+    let h = outcome_when_told f told o is in
+    subst (λ (o : CommandOutcome). MakesWorkFiles (Err e) (writes_of o) told after) (sym h.2) (stops_make (f h.0) e told after (stops h.0 h.1) same)
 
 -- ---- texts
 

@@ -6,10 +6,10 @@ use Rattle.fri_outside.specs.Terminal.{Hearing}
 use Rattle.fri_outside.specs.Several.{with_files, OthersStay}
 use Rattle.command_run.specs.declared.status.Status.{Status}
 use Rattle.command_run.specs.declared.status.Status.TheVariants as ends
-use Rattle.command_run.specs.declared.refusal.Answer.{Answer}
-use Rattle.command_run.specs.declared.refusal.Refusal.{Refusal}
+use Rattle.command_run.specs.declared.refusal.WorkText.{WorkText}
+use Rattle.command_run.specs.declared.refusal.StopCause.{StopCause}
 use Rattle.command_run.specs.Outcome.{CommandOutcome, outcome_status, outcome_text, writes_of, written_names}
-use Rattle.command_run.specs.Call.{CountsFaults, DivergesOnlyIf, IsAnswerResult, IsAnswerStatus, IsIdle, Keeps, LeavesFiles, Makes, Prints, PrintsAbsent, PrintsLast, PrintsRefusal, Raises, TellsOutcome}
+use Rattle.command_run.specs.Call.{CountsFaults, DivergesOnlyIf, IsAnswerResult, IsAnswerStatus, IsIdle, KeepsFolder, LeavesFiles, MakesWorkFiles, Prints, PrintsAbsent, PrintsLast, PrintsRefusal, Raises, TellsOutcome}
 
 -- what is handed in, as far as it tells
 pub record Outside : Type 0 where
@@ -82,18 +82,18 @@ WritesOnly written expected before after folder =
 
 -- its work is done or was stopped, and nothing is printed yet
 pub record Performed (expected : Option CommandOutcome) (written : Folder → List (List ℕ)) (may_diverge : Bool)
-    (before after : Option Folder) (counts counts_after : Counts) (ended : Result Answer Refusal) : Type 0 where
+    (before after : Option Folder) (counts counts_after : Counts) (ended : Result WorkText StopCause) : Type 0 where
   pub tells : WhenTold expected (λ outcome. TellsOutcome outcome ended)
-  pub makes : WhenTold expected (λ outcome. Makes ended (writes_of outcome) before after)
+  pub makes : WhenTold expected (λ outcome. MakesWorkFiles ended (writes_of outcome) before after)
   pub names : WhenTold before (WritesOnly written expected before after)
-  pub keeps : Keeps ended before after
+  pub keeps : KeepsFolder ended before after
   pub diverges : DivergesOnlyIf may_diverge ended
   pub counted : CountsFaults counts counts_after ended
   pub cause : IfErr ended (Raises counts counts_after)
 
 -- and its text was printed. It read no input
 pub record Finished (expected : Option CommandOutcome) (written : Folder → List (List ℕ)) (may_diverge : Bool)
-    (ended : Result Answer Refusal) (old new : Outside) (answer : Status) : Type 0 where
+    (ended : Result WorkText StopCause) (old new : Outside) (answer : Status) : Type 0 where
   pub call : CallEnds expected written old new answer
   pub is_command : answer ≢ ends.Usage
   pub diverged : answer ≡ ends.Diverged → IsTrue may_diverge

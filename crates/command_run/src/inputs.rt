@@ -8,7 +8,7 @@ ghost use Rattle.guest_process.specs.EventCount.{IsFresh};
 ghost use Rattle.command_run.specs.Inputs.{first_state_of, module_in, spelled_module, valid_module};
 ghost use Rattle.command_run.specs.Call.{CountsFaults, StopsAs, Raises, reads_after, writes_after};
 
-use crate::refusal::{Reason, Refusal};
+use crate::refusal::{Reason, StopCause};
 use fri_outside::{FileError, Files};
 use guest_process::{Process, counting};
 use std::alloc::Global;
@@ -25,7 +25,7 @@ pub fn take_file<F: Files>(
     name: &str,
     limit: usize,
     files: &mut F,
-) -> Result<Vec<u8>, Refusal>
+) -> Result<Vec<u8>, StopCause>
     ensures within { IfOk result (λ bytes. vec_len bytes ≤ limit) }
     ensures answer { WhenTold (F.told files.old) (λ folder. MatchResult result
         (λ bytes. file_of folder name.now limit ≡ Ok bytes.items) (StopsAs (file_of folder name.now limit))) }
@@ -35,15 +35,15 @@ pub fn take_file<F: Files>(
 {
     match files.read(alloc, name, limit) {
         Ok(bytes) => Ok(bytes),
-        Err(FileError::Absent) => Err(Refusal::absent(alloc, name)),
-        Err(FileError::TooLarge) => Err(Refusal::refuse(alloc, name, Reason::TooLarge)),
-        Err(FileError::Failed) => Err(Refusal::ReadFault),
-        Err(FileError::NoMemory) => Err(Refusal::NoMemory),
+        Err(FileError::Absent) => Err(StopCause::absent(alloc, name)),
+        Err(FileError::TooLarge) => Err(StopCause::refuse(alloc, name, Reason::TooLarge)),
+        Err(FileError::Failed) => Err(StopCause::ReadFault),
+        Err(FileError::NoMemory) => Err(StopCause::NoMemory),
     }
 }
 
 // The module that the bytes of a file spell.
-fn spelled(alloc: Global, name: &str, bytes: &[u8]) -> Result<Module, Refusal>
+fn spelled(alloc: Global, name: &str, bytes: &[u8]) -> Result<Module, StopCause>
     ensures answer { MatchResult result
         (λ m. spelled_module name.now (module_of_bytes bytes.now) ≡ Ok (shown m))
         (StopsAs (spelled_module name.now (module_of_bytes bytes.now))) }
@@ -52,14 +52,14 @@ fn spelled(alloc: Global, name: &str, bytes: &[u8]) -> Result<Module, Refusal>
 {
     match decode(alloc, bytes) {
         Ok(module) => Ok(module),
-        Err(DecodeError::Malformed) => Err(Refusal::refuse(alloc, name, Reason::Malformed)),
-        Err(DecodeError::NoMemory) => Err(Refusal::NoMemory),
+        Err(DecodeError::Malformed) => Err(StopCause::refuse(alloc, name, Reason::Malformed)),
+        Err(DecodeError::NoMemory) => Err(StopCause::NoMemory),
     }
 }
 
 // The module, where it is valid.
 #[tactic(auto, using(crate::proofs::Faults::no_fault, crate::proofs::Faults::has_float, crate::proofs::Faults::bad_import, crate::proofs::Faults::untyped, crate::proofs::Faults::over_limit, crate::proofs::Faults::no_start))]
-fn valid(alloc: Global, name: &str, module: Module) -> Result<ValidModule, Refusal>
+fn valid(alloc: Global, name: &str, module: Module) -> Result<ValidModule, StopCause>
     ensures answer { MatchResult result
         (λ v. valid_module name.now (shown «module») ≡ Ok (shown v))
         (StopsAs (valid_module name.now (shown «module»))) }
@@ -69,17 +69,17 @@ fn valid(alloc: Global, name: &str, module: Module) -> Result<ValidModule, Refus
     exact_fault();
     match validate(alloc, module) {
         Ok(valid) => Ok(valid),
-        Err(Invalid::HasFloat) => Err(Refusal::refuse(alloc, name, Reason::HasFloat)),
-        Err(Invalid::BadImport) => Err(Refusal::refuse(alloc, name, Reason::BadImport)),
-        Err(Invalid::Untyped) => Err(Refusal::refuse(alloc, name, Reason::Untyped)),
-        Err(Invalid::OverLimit) => Err(Refusal::refuse(alloc, name, Reason::OverLimit)),
-        Err(Invalid::NoStart) => Err(Refusal::refuse(alloc, name, Reason::NoStart)),
-        Err(Invalid::NoMemory) => Err(Refusal::NoMemory),
+        Err(Invalid::HasFloat) => Err(StopCause::refuse(alloc, name, Reason::HasFloat)),
+        Err(Invalid::BadImport) => Err(StopCause::refuse(alloc, name, Reason::BadImport)),
+        Err(Invalid::Untyped) => Err(StopCause::refuse(alloc, name, Reason::Untyped)),
+        Err(Invalid::OverLimit) => Err(StopCause::refuse(alloc, name, Reason::OverLimit)),
+        Err(Invalid::NoStart) => Err(StopCause::refuse(alloc, name, Reason::NoStart)),
+        Err(Invalid::NoMemory) => Err(StopCause::NoMemory),
     }
 }
 
 // The valid module that the bytes of a file spell.
-fn read_module(alloc: Global, name: &str, bytes: &[u8]) -> Result<ValidModule, Refusal>
+fn read_module(alloc: Global, name: &str, bytes: &[u8]) -> Result<ValidModule, StopCause>
     ensures answer { MatchResult result
         (λ v. and_then (spelled_module name.now (module_of_bytes bytes.now)) (valid_module name.now) ≡ Ok (shown v))
         (StopsAs (and_then (spelled_module name.now (module_of_bytes bytes.now)) (valid_module name.now))) }
@@ -95,7 +95,7 @@ pub fn take_module<F: Files>(
     alloc: Global,
     name: &str,
     files: &mut F,
-) -> Result<ValidModule, Refusal>
+) -> Result<ValidModule, StopCause>
     ensures answer { WhenTold (F.told files.old) (λ folder. MatchResult result
         (λ m. module_in folder name.now ≡ Ok (shown m)) (StopsAs (module_in folder name.now))) }
     ensures same { F.told files.new ≡ F.told files.old }
@@ -113,7 +113,7 @@ pub fn begin_process<'m>(
     module: &'m ValidModule,
     who: u32,
     count: u32,
-) -> Result<Process<'m>, Refusal>
+) -> Result<Process<'m>, StopCause>
     requires who { who < count }
     requires count { count ≤ 16 }
     ensures answer { MatchResult result
@@ -126,7 +126,7 @@ pub fn begin_process<'m>(
     counting();
     match Process::start(alloc, module, who, count) {
         Ok(process) => Ok(process),
-        Err(StartError::BadSegment) => Err(Refusal::refuse(alloc, name, Reason::BadSegment)),
-        Err(StartError::NoMemory) => Err(Refusal::NoMemory),
+        Err(StartError::BadSegment) => Err(StopCause::refuse(alloc, name, Reason::BadSegment)),
+        Err(StartError::NoMemory) => Err(StopCause::NoMemory),
     }
 }

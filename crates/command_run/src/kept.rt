@@ -7,7 +7,7 @@ ghost use Rattle.command_run.specs.Inputs.{module_in};
 ghost use Rattle.command_run.specs.Kept.{AddsFile, AreOfFiles, has_file};
 
 use crate::inputs::take_module;
-use crate::refusal::Refusal;
+use crate::refusal::StopCause;
 use fri_outside::Files;
 use shared_module::SharedModule;
 use std::alloc::{AllocError, Global};
@@ -63,7 +63,7 @@ impl ModuleFiles {
         alloc: Global,
         name: &str,
         files: &mut F,
-    ) -> Result<SharedModule, Refusal>
+    ) -> Result<SharedModule, StopCause>
         requires { AreOfFiles (F.told files.old) self.old }
         ensures answer { WhenTold (F.told files.old) (λ folder. MatchResult result
             (λ m. module_in folder name.now ≡ Ok (shown m)) (StopsAs (module_in folder name.now))) }

@@ -1,7 +1,7 @@
 //! What all commands share: how a call ends, what a command comes to, and the files of modules.
 //!
-//! A command reads its files by `take_file` and `take_module`, which answer with what stands in them or with a `Refusal`, and
-//! those of its modules by `ModuleFiles`, which reads each once and keeps it. It comes to an `Answer` or a `Refusal`; `finish` prints that and gives the `Status` (`Finished` of `specs/Run`).
+//! A command reads its files by `take_file` and `take_module`, which answer with what stands in them or with a `StopCause`, and
+//! those of its modules by `ModuleFiles`, which reads each once and keeps it. It comes to a `WorkText` or a `StopCause`; `finish` prints that and gives the `Status` (`Finished` of `specs/Run`).
 //! Contracts see a command's outcome (`specs/Outcome`: its work, or the stop at which it ends) as far as the folder tells
 //! its files, and say of a call's end what `CallEnds` says. `specs/OutcomeLaws`, `FileLaws`, `LineLaws` and `CountLaws` are what
 //! follows from these definitions by computing, for the proofs of the commands.
@@ -18,5 +18,5 @@ pub use inputs::{begin_process, take_file, take_module};
 pub use kept::ModuleFiles;
 pub use laws::reads_modules;
 pub use printing::{finish, give_up, refuse_words, say_refused};
-pub use refusal::{Answer, Reason, Refusal};
+pub use refusal::{Reason, StopCause, WorkText};
 pub use status::Status;

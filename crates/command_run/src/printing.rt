@@ -5,7 +5,7 @@ ghost use Rattle.command_run.specs.Outcome.{CommandOutcome, NotACommand, absent_
 ghost use Rattle.command_run.specs.Call.{IsAnswerStatus, Prints, FinishesCall, said_after};
 ghost use Rattle.command_run.specs.Run.{CallEnds, Finished, Outside, Performed, outside};
 
-use crate::refusal::{Answer, Reason, Refusal};
+use crate::refusal::{Reason, StopCause, WorkText};
 use crate::status::Status;
 use fri_outside::{Sink, WriteError, write_whole};
 use fri_text::Text;
@@ -117,24 +117,24 @@ fn say_absent<K: Sink>(alloc: Global, file: &str, out: &mut K) -> Status
 }
 
 // Writes what a command's result comes to.
-fn print_end<K: Sink>(alloc: Global, ended: Result<Answer, Refusal>, out: &mut K) -> Status
+fn print_end<K: Sink>(alloc: Global, ended: Result<WorkText, StopCause>, out: &mut K) -> Status
     ensures ends { FinishesCall ended result (K.taken out.old) (K.taken out.new) (K.faults out.old) (K.faults out.new) }
     ensures heard { K.hearing out.new ≡ K.hearing out.old }
 {
     match ended {
-        Ok(Answer::Done(text)) => say(out, text.bytes(), Status::Done),
-        Ok(Answer::Diverged(text)) => say(out, text.bytes(), Status::Diverged),
-        Err(Refusal::Refused(file, reason)) => say_refused(alloc, &file, reason, out),
-        Err(Refusal::Absent(file)) => say_absent(alloc, &file, out),
-        Err(Refusal::ReadFault) => Status::ReadFault,
-        Err(Refusal::WriteFault) => Status::WriteFault,
-        Err(Refusal::NoMemory) => Status::NoMemory,
+        Ok(WorkText::Done(text)) => say(out, text.bytes(), Status::Done),
+        Ok(WorkText::Diverged(text)) => say(out, text.bytes(), Status::Diverged),
+        Err(StopCause::Refused(file, reason)) => say_refused(alloc, &file, reason, out),
+        Err(StopCause::Absent(file)) => say_absent(alloc, &file, out),
+        Err(StopCause::ReadFault) => Status::ReadFault,
+        Err(StopCause::WriteFault) => Status::WriteFault,
+        Err(StopCause::NoMemory) => Status::NoMemory,
     }
 }
 
 /// Writes what a command's result comes to, and ends the call. What the files were before the command and are behind it,
 /// and how their faults were counted, is what the command says of its result.
-pub fn finish<K: Sink>(alloc: Global, ended: Result<Answer, Refusal>, out: &mut K) -> Status
+pub fn finish<K: Sink>(alloc: Global, ended: Result<WorkText, StopCause>, out: &mut K) -> Status
     ensures { (expected : Option CommandOutcome) (written : Folder → List (List ℕ)) (may_diverge : Bool) (before after : Option Folder) (counts counts_after : Counts)
         → Performed expected written may_diverge before after counts counts_after ended
         → Finished expected written may_diverge ended

@@ -1,6 +1,6 @@
 // What a command comes to, before its text is written.
 ghost use Rattle.std.specs.Prelude.{◌≡◌};
-ghost use Rattle.command_run.specs.declared.refusal.Refusal.TheVariants as refusal;
+ghost use Rattle.command_run.specs.declared.refusal.StopCause.TheVariants as refusal;
 ghost use Rattle.command_run.specs.Call.{write_refusal};
 
 use fri_outside::WriteError;
@@ -49,14 +49,14 @@ pub enum Reason {
 
 /// What a command prints at the end of its work, at which a log may have diverged.
 #[derive(Drop)]
-pub enum Answer {
+pub enum WorkText {
     Done(Text),
     Diverged(Text),
 }
 
 /// Why a command does not come to its end. A file's name is kept, since it may come from another file.
 #[derive(Drop)]
-pub enum Refusal {
+pub enum StopCause {
     Refused(String, Reason),
     Absent(String),
     ReadFault,
@@ -64,53 +64,53 @@ pub enum Refusal {
     NoMemory,
 }
 
-impl Refusal {
+impl StopCause {
     ghost use Rattle.command_run.specs.Call.{NamesAbsent, RefusesFile};
 
     /// The refusal of a file, or want of memory for its name.
-    pub fn refuse(alloc: Global, file: &str, reason: Reason) -> Refusal
+    pub fn refuse(alloc: Global, file: &str, reason: Reason) -> StopCause
         ensures { RefusesFile file.now reason result }
     {
         match String::from_str(alloc, file) {
-            Ok(file) => Refusal::Refused(file, reason),
-            Err(_) => Refusal::NoMemory,
+            Ok(file) => StopCause::Refused(file, reason),
+            Err(_) => StopCause::NoMemory,
         }
     }
 
     /// That a file is absent, or want of memory for its name.
-    pub fn absent(alloc: Global, file: &str) -> Refusal
+    pub fn absent(alloc: Global, file: &str) -> StopCause
         ensures { NamesAbsent file.now result }
     {
         match String::from_str(alloc, file) {
-            Ok(file) => Refusal::Absent(file),
-            Err(_) => Refusal::NoMemory,
+            Ok(file) => StopCause::Absent(file),
+            Err(_) => StopCause::NoMemory,
         }
     }
 }
 
-impl From<AllocError> for Refusal {
+impl From<AllocError> for StopCause {
     ghost from_gives = { λ _ e. e ≡ refusal.NoMemory };
 
     fn from(_: AllocError) -> Self {
-        Refusal::NoMemory
+        StopCause::NoMemory
     }
 }
 
-impl<T: Drop> From<AllocFailed<T>> for Refusal {
+impl<T: Drop> From<AllocFailed<T>> for StopCause {
     ghost from_gives = { λ _ e. e ≡ refusal.NoMemory };
 
     fn from(_: AllocFailed<T>) -> Self {
-        Refusal::NoMemory
+        StopCause::NoMemory
     }
 }
 
-impl From<WriteError> for Refusal {
+impl From<WriteError> for StopCause {
     ghost from_gives = { λ error e. e ≡ write_refusal error };
 
     fn from(error: WriteError) -> Self {
         match error {
-            WriteError::Failed => Refusal::WriteFault,
-            WriteError::NoMemory => Refusal::NoMemory,
+            WriteError::Failed => StopCause::WriteFault,
+            WriteError::NoMemory => StopCause::NoMemory,
         }
     }
 }

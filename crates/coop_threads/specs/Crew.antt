@@ -26,20 +26,20 @@ stored Lent = Some None
 stored Over = None
 
 -- the thread of which this is stored
-abbrev pub slot_of : {T : Type 0} → Option (Option T) → Slot T
-slot_of (Some (Some value)) = Kept value
-slot_of (Some None) = Lent
-slot_of None = Over
+abbrev pub slot_of_thread : {T : Type 0} → Option (Option T) → Slot T
+slot_of_thread (Some (Some value)) = Kept value
+slot_of_thread (Some None) = Lent
+slot_of_thread None = Over
 
 -- nothing of a thread is lost by that
-pub slot_of-stored : {T : Type 0} (slot : Slot T) → slot_of (stored slot) ≡ slot
+pub slot_of-stored : {T : Type 0} (slot : Slot T) → slot_of_thread (stored slot) ≡ slot
 slot_of-stored (Kept value) = refl
 slot_of-stored Lent = refl
 slot_of-stored Over = refl
 
 -- a thread is stored as the value that it may have, where it is not over
 abbrev pub slot_code : {T : Type 0} → Coded T → Coded (Slot T)
-slot_code {T} code = code_by (Option (Option T)) (coded_option (coded_option code)) stored slot_of slot_of-stored
+slot_code {T} code = code_by (Option (Option T)) (coded_option (coded_option code)) stored slot_of_thread slot_of-stored
 
 -- a crew is stored as the pair of its fields
 abbrev pub crew_code : {T : Type 0} → Coded T → Coded (Crew T)
@@ -82,9 +82,9 @@ module _ {T : Type 0} where
   with_live crew value = record crew { threads = crew.threads ++ Kept value ∷ [] }
 
   -- the value that comes back where no thread was made
-  abbrev pub returned : SpawnError T → T
-  returned (Full value) = value
-  returned (NoMemory value) = value
+  abbrev pub value_not_spawned : SpawnError T → T
+  value_not_spawned (Full value) = value
+  value_not_spawned (NoMemory value) = value
 
   -- the thread stands so, and all else is as it was
   abbrev pub with_slot : Crew T → ℕ → Slot T → Crew T

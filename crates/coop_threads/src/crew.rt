@@ -4,7 +4,7 @@ ghost use Rattle.std.specs.Option.{option_copied};
 ghost use Rattle.std.specs.Bool.{OnTrue, OnFalse};
 ghost use Rattle.coop_threads.specs.declared.slot.Slot.TheVariants.{Kept, Lent, Over};
 ghost use Rattle.coop_threads.specs.Locks.{grip_of};
-ghost use Rattle.coop_threads.specs.Crew.{empty, holder_of, IsTaken, live_at, most_threads, returned, status_of, after_lock, with_live, with_slot, after_unlock};
+ghost use Rattle.coop_threads.specs.Crew.{empty, holder_of, IsTaken, live_at, most_threads, value_not_spawned, status_of, after_lock, with_live, with_slot, after_unlock};
 
 use crate::copy_out::CopyOut;
 use crate::grip::Grip;
@@ -55,7 +55,7 @@ impl<T> Crew<T> {
         ensures number { IfOk result (λ thread. thread ≡ length self.old.threads) }
         ensures ok { OnOk result (self.new ≡ with_live self.old value) }
         ensures full { (result ≡ Err (SpawnError.Full value)) ↔ (length self.old.threads ≡ most_threads) }
-        ensures returned { IfErr result (λ e. returned e ≡ value) }
+        ensures returned { IfErr result (λ e. value_not_spawned e ≡ value) }
         ensures err { OnErr result (self.new ≡ self.old) }
     {
         if self.threads.len() >= usize::from(MOST_THREADS) {

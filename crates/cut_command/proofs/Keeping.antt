@@ -19,9 +19,9 @@ use Rattle.log_pairs.specs.Finding.{log_file}
 use Rattle.log_pairs.specs.Pairs.{Loaded, Pair}
 use Rattle.cut_command.specs.declared.fronts.Front.{Front}
 use Rattle.cut_command.specs.declared.past.Past.{Past}
-use Rattle.cut_command.specs.Cut.{cut_files, cut_line, cut_name, cut_of_replays, cut_text, front_of, node_of, unless_few, unless_other}
+use Rattle.cut_command.specs.Cut.{cut_files, cut_line, cut_name, cut_of_replays, cut_text, front_of, node_of_process, unless_few, unless_other}
 use Rattle.cut_command.specs.Laws.{IsCut}
-use Rattle.cut_command.specs.Seen.{AreLeast, file_of, fronts_of, line_of, log_of, work_of}
+use Rattle.cut_command.specs.Seen.{AreLeast, front_file, fronts_of, front_line, log_of_replay, work_of_past}
 
 -- ---- log after log
 
@@ -90,13 +90,13 @@ fit_logs start node event lengths found least =
 
 -- ---- the text and the files
 
-pub text_is : (start : List Replaying) (kept accepted : List ℕ) → flat_map line_of (fronts_of (map log_of start) kept accepted) ≡ cut_text start kept accepted
+pub text_is : (start : List Replaying) (kept accepted : List ℕ) → flat_map front_line (fronts_of (map log_of_replay start) kept accepted) ≡ cut_text start kept accepted
 text_is [] kept accepted = refl
 text_is (r ∷ start) [] accepted = refl
 text_is (r ∷ start) (n ∷ kept) [] = refl
 text_is (r ∷ start) (n ∷ kept) (m ∷ accepted) = ap (λ (text : List ℕ). cut_line r.head.name n m ++ text) (text_is start kept accepted)
 
-pub files_are : (start : List Replaying) (kept accepted : List ℕ) → length kept ≡ length accepted → map file_of (fronts_of (map log_of start) kept accepted) ≡ cut_files start kept
+pub files_are : (start : List Replaying) (kept accepted : List ℕ) → length kept ≡ length accepted → map front_file (fronts_of (map log_of_replay start) kept accepted) ≡ cut_files start kept
 files_are [] kept accepted same = refl
 files_are (r ∷ start) [] accepted same = refl
 files_are (r ∷ start) (n ∷ kept) [] same = cc
@@ -119,7 +119,7 @@ file_at (s ∷ start) (m ∷ kept) (suc i) n r at kept_at = file_at start kept i
 
 -- ---- what the files are
 
-read_heads : (start : List Replaying) (kept accepted : List ℕ) → AllByRecursion IsAtHead start → AllByRecursion (λ (f : Front). IsHead f.log.head) (fronts_of (map log_of start) kept accepted)
+read_heads : (start : List Replaying) (kept accepted : List ℕ) → AllByRecursion IsAtHead start → AllByRecursion (λ (f : Front). IsHead f.log.head) (fronts_of (map log_of_replay start) kept accepted)
 read_heads [] kept accepted heads = tt
 read_heads (r ∷ start) [] accepted heads = tt
 read_heads (r ∷ start) (n ∷ kept) [] heads = tt
@@ -128,18 +128,18 @@ read_heads (r ∷ start) (n ∷ kept) (m ∷ accepted) heads = (heads.0.head, re
 pub all_heads : (node event : ℕ) (start : List Replaying) (fronts : List Front) → All IsAtHead start → AreLeast start node event fronts → All (λ (f : Front). IsHead f.log.head) fronts
 all_heads node event start fronts heads a =
     subst (All (λ (f : Front). IsHead f.log.head)) (sym a.are)
-    (All-from_recursion (λ (f : Front). IsHead f.log.head) (fronts_of (map log_of start) a.lengths.kept a.lengths.accepted) (read_heads start a.lengths.kept a.lengths.accepted (recursion_from_All IsAtHead start heads)))
+    (All-from_recursion (λ (f : Front). IsHead f.log.head) (fronts_of (map log_of_replay start) a.lengths.kept a.lengths.accepted) (read_heads start a.lengths.kept a.lengths.accepted (recursion_from_All IsAtHead start heads)))
 
 at_place : (P : Replaying → Type 0) (start : List Replaying) (i : ℕ) (r : Replaying) → All P start → slice_get start i ≡ Some r → P r
 at_place P start i r all at = subst P (get_or_from_slice_get start i r r at) (all i r (slice_get_within start i r at))
 
-same_files : (start : List Replaying) (node event : ℕ) (fronts : List Front) → (a : AreLeast start node event fronts) → map file_of fronts ≡ cut_files start a.lengths.kept
+same_files : (start : List Replaying) (node event : ℕ) (fronts : List Front) → (a : AreLeast start node event fronts) → map front_file fronts ≡ cut_files start a.lengths.kept
 same_files start node event fronts a =
     let fit = fit_logs start node event a.lengths a.found a.least in
-    ap (map file_of) a.are ∙ files_are start a.lengths.kept a.lengths.accepted (fit.kept ∙ sym fit.accepted)
+    ap (map front_file) a.are ∙ files_are start a.lengths.kept a.lengths.accepted (fit.kept ∙ sym fit.accepted)
 
-pub is_cut : FrontsReplay → (process event node : ℕ) (start : List Replaying) (past : Past) → All IsAtHead start → node_of process start ≡ Some node → AreLeast start node event past.fronts.items
-    → IsCut process event start (work_of past)
+pub is_cut : FrontsReplay → (process event node : ℕ) (start : List Replaying) (past : Past) → All IsAtHead start → node_of_process process start ≡ Some node → AreLeast start node event past.fronts.items
+    → IsCut process event start (work_of_past past)
 is_cut replays process event node start past heads at a =
     let kept = a.lengths.kept in
     let files = same_files start node event past.fronts.items a in
@@ -161,11 +161,11 @@ is_cut replays process event node start past heads at a =
 abbrev done_with : List ℕ → List (List ℕ × List ℕ) → CommandOutcome
 done_with text files = Ok (record { text = text; writes = files; diverged = false })
 
-pub past_works : (pairs : List Pair) (ls : List Loaded) (process event node : ℕ) (start : List Replaying) (past : Past) → node_of process start ≡ Some node → AreLeast start node event past.fronts.items
-    → past.text ≡ flat_map line_of past.fronts.items → cut_of_replays pairs ls process event start ≡ Ok (work_of past)
+pub past_works : (pairs : List Pair) (ls : List Loaded) (process event node : ℕ) (start : List Replaying) (past : Past) → node_of_process process start ≡ Some node → AreLeast start node event past.fronts.items
+    → past.text ≡ flat_map front_line past.fronts.items → cut_of_replays pairs ls process event start ≡ Ok (work_of_past past)
 past_works pairs ls process event node start past at a says =
     let kept = a.lengths.kept in
     ap (unless_other pairs ls process event start) at
     ∙ ap (unless_few (log_file pairs ls process) start) a.found
-    ∙ ap (λ (text : List ℕ). done_with text (cut_files start kept)) (sym (says ∙ ap (flat_map line_of) a.are ∙ text_is start kept a.lengths.accepted))
+    ∙ ap (λ (text : List ℕ). done_with text (cut_files start kept)) (sym (says ∙ ap (flat_map front_line) a.are ∙ text_is start kept a.lengths.accepted))
     ∙ ap (done_with past.text) (sym (same_files start node event past.fronts.items a))

@@ -14,17 +14,17 @@ use Rattle.process_files.specs.Parts.{AreMadeInPart, made_in_part}
 use Rattle.command_run.specs.FileLaws.{fronts_behind, fronts_of_more, with_more}
 use Rattle.cut_command.specs.declared.fronts.Front.{Front}
 use Rattle.cut_command.specs.Cut.{cut_name}
-use Rattle.cut_command.specs.Seen.{file_of}
+use Rattle.cut_command.specs.Seen.{front_file}
 
 abbrev a_file : List ℕ → List ℕ → Option (List ℕ × List ℕ)
 a_file name bytes = Some (cut_name name, bytes)
 
 -- the file of the log at a place
 pub file_here : (fronts : List Front) (n : ℕ) (front d : Front) (name bytes : List ℕ) → n < length fronts → front ≡ get_or fronts n d → name ≡ front.log.head.name
-    → bytes ≡ rewritten front.log.head (take front.kept (entries_of front.log.left)) → slice_get (map file_of fronts) n ≡ a_file name bytes
+    → bytes ≡ rewritten front.log.head (take front.kept (entries_of front.log.left)) → slice_get (map front_file fronts) n ≡ a_file name bytes
 file_here fronts n front d name bytes within is named rewrites =
-    slice_get-map file_of fronts n ∙ ap (option_map file_of) (slice_get-get_or fronts n d within ∙ ap Some (sym is))
-    ∙ ap (λ (name : List ℕ). a_file name (file_of front).1) (sym named) ∙ ap (a_file name) (sym rewrites)
+    slice_get-map front_file fronts n ∙ ap (option_map front_file) (slice_get-get_or fronts n d within ∙ ap Some (sym is))
+    ∙ ap (λ (name : List ℕ). a_file name (front_file front).1) (sym named) ∙ ap (a_file name) (sym rewrites)
 
 -- the head of the log there is one
 pub head_here : (fronts : List Front) (n : ℕ) (front d : Front) (name : List ℕ) → All (λ (f : Front). IsHead f.log.head) fronts → n < length fronts → front ≡ get_or fronts n d → name ≡ front.log.head.name → is_name name ≡ true

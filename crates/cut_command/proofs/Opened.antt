@@ -7,13 +7,13 @@ use Rattle.fri_outside.specs.Outside.{Folder, WhenTold}
 use Rattle.proc_replay.specs.Course.{ahead}
 use Rattle.proc_replay.specs.Replaying.{Replaying}
 use Rattle.causal_cut.specs.Past.{Lengths, accepted_counts, least_past}
-use Rattle.command_run.specs.declared.refusal.Answer.{Answer}
-use Rattle.command_run.specs.declared.refusal.Answer.TheVariants as answered
-use Rattle.command_run.specs.declared.refusal.Refusal.{Refusal}
-use Rattle.command_run.specs.declared.refusal.Refusal.TheVariants as refusal
-use Rattle.command_run.specs.Call.{Makes, MakesAll, StopsAs, TellsOutcome}
-use Rattle.command_run.specs.Outcome.{CommandOutcome, Stop, and_then, writes_of}
-use Rattle.command_run.specs.OutcomeLaws.{follows, outcome_at, same_Ok}
+use Rattle.command_run.specs.declared.refusal.WorkText.{WorkText}
+use Rattle.command_run.specs.declared.refusal.WorkText.TheVariants as answered
+use Rattle.command_run.specs.declared.refusal.StopCause.{StopCause}
+use Rattle.command_run.specs.declared.refusal.StopCause.TheVariants as refusal
+use Rattle.command_run.specs.Call.{MakesWorkFiles, MakesAll, StopsAs, TellsOutcome}
+use Rattle.command_run.specs.Outcome.{CommandOutcome, CommandStop, and_then, writes_of}
+use Rattle.command_run.specs.OutcomeLaws.{follows, outcome_when_told, same_Ok}
 use Rattle.log_pairs.specs.declared.pairs.Loaded.{Loaded as LoadedFiles}
 use Rattle.log_pairs.specs.Finding.{log_file}
 use Rattle.log_pairs.specs.Laws.{OpensGroups}
@@ -23,7 +23,7 @@ use Rattle.cut_command.specs.declared.fronts.Front.{Front}
 use Rattle.cut_command.specs.declared.past.Past.{Past}
 use Rattle.cut_command.specs.Cut.{cut_of_replays, cut_outcome, cut_work, unless_few, unless_other}
 use Rattle.cut_command.specs.Laws.{CutsToPast, CutsWork, IsCut}
-use Rattle.cut_command.specs.Seen.{file_of, work_of}
+use Rattle.cut_command.specs.Seen.{front_file, work_of_past}
 
 -- ---- what was read decides
 
@@ -32,32 +32,32 @@ opened : (process event : ℕ) (folder : Folder) (pairs : List Pair) (ls : List 
     → cut_outcome process event pairs folder ≡ cut_of_replays pairs ls process event start
 opened process event folder pairs ls start loaded is =
     let after : and_then (replays_of ls) (λ rs. Ok (sort_replays [] rs)) ≡ Ok start =
-    ap (λ (r : Result (List Loaded) Stop). and_then r (λ ls. and_then (replays_of ls) (λ rs. Ok (sort_replays [] rs)))) (sym loaded) ∙ is in
+    ap (λ (r : Result (List Loaded) CommandStop). and_then r (λ ls. and_then (replays_of ls) (λ rs. Ok (sort_replays [] rs)))) (sym loaded) ∙ is in
     let f = follows (replays_of ls) (λ rs. Ok (sort_replays [] rs)) start after in
-    ap (λ (r : Result (List Loaded) Stop). and_then r (λ ls. and_then (replays_of ls) (λ rs. cut_of_replays pairs ls process event (sort_replays [] rs)))) loaded
-    ∙ ap (λ (r : Result (List Replaying) Stop). and_then r (λ rs. cut_of_replays pairs ls process event (sort_replays [] rs))) f.is_given
+    ap (λ (r : Result (List Loaded) CommandStop). and_then r (λ ls. and_then (replays_of ls) (λ rs. cut_of_replays pairs ls process event (sort_replays [] rs)))) loaded
+    ∙ ap (λ (r : Result (List Replaying) CommandStop). and_then r (λ rs. cut_of_replays pairs ls process event (sort_replays [] rs))) f.is_given
     ∙ ap (cut_of_replays pairs ls process event) (same_Ok (Ok (sort_replays [] f.given)) (sort_replays [] f.given) start refl f.comes)
 
-stop_or : {A : Type 0} → Stop → Result A Stop → Stop
+stop_or : {A : Type 0} → CommandStop → Result A CommandStop → CommandStop
 stop_or default (Ok value) = default
 stop_or default (Err stop) = stop
 
-abbrev Stopped : (A : Type 0) → Stop → Result A Stop
+abbrev Stopped : (A : Type 0) → CommandStop → Result A CommandStop
 Stopped A s = Err s
 
-same_stop : {A B : Type 0} (s stop : Stop) → Stopped A s ≡ Stopped A stop → Stopped B s ≡ Stopped B stop
+same_stop : {A B : Type 0} (s stop : CommandStop) → Stopped A s ≡ Stopped A stop → Stopped B s ≡ Stopped B stop
 unfolding stop_or
-same_stop s stop is = ap (λ (s : Stop). Err s) (ap (stop_or s) is)
+same_stop s stop is = ap (λ (s : CommandStop). Err s) (ap (stop_or s) is)
 
-stop_too : (process event : ℕ) (pairs : List Pair) (a : Result (List Loaded) Stop) (stop : Stop) → and_then a (λ ls. and_then (replays_of ls) (λ rs. Ok (sort_replays [] rs))) ≡ Err stop
+stop_too : (process event : ℕ) (pairs : List Pair) (a : Result (List Loaded) CommandStop) (stop : CommandStop) → and_then a (λ ls. and_then (replays_of ls) (λ rs. Ok (sort_replays [] rs))) ≡ Err stop
     → and_then a (λ ls. and_then (replays_of ls) (λ rs. cut_of_replays pairs ls process event (sort_replays [] rs))) ≡ Err stop
 stop_too process event pairs (Err s) stop is = same_stop s stop is
 stop_too process event pairs (Ok ls) stop is = by_replays (replays_of ls) is where
-  by_replays : (b : Result (List Replaying) Stop) → and_then b (λ rs. Ok (sort_replays [] rs)) ≡ Err stop → and_then b (λ rs. cut_of_replays pairs ls process event (sort_replays [] rs)) ≡ Err stop
+  by_replays : (b : Result (List Replaying) CommandStop) → and_then b (λ rs. Ok (sort_replays [] rs)) ≡ Err stop → and_then b (λ rs. cut_of_replays pairs ls process event (sort_replays [] rs)) ≡ Err stop
   by_replays (Ok rs) is = absurd (cc)
   by_replays (Err s) is = same_stop s stop is
 
-stops_too : (process event : ℕ) (folder : Folder) (pairs : List Pair) (e : Refusal) → StopsAs (replays_of_pairs folder pairs) e → StopsAs (cut_outcome process event pairs folder) e
+stops_too : (process event : ℕ) (folder : Folder) (pairs : List Pair) (e : StopCause) → StopsAs (replays_of_pairs folder pairs) e → StopsAs (cut_outcome process event pairs folder) e
 stops_too process event folder pairs (refusal.Refused file why) is = stop_too process event pairs (loaded_pairs folder [] pairs) _ is
 stops_too process event folder pairs (refusal.Absent file) is = stop_too process event pairs (loaded_pairs folder [] pairs) _ is
 stops_too process event folder pairs refusal.ReadFault is = tt
@@ -65,42 +65,42 @@ stops_too process event folder pairs refusal.WriteFault is = tt
 stops_too process event folder pairs refusal.NoMemory is = tt
 
 -- pairs that could not be read stop the cut
-pub opening_stops : (process event : ℕ) (pairs : List Pair) (told : Option Folder) (e : Refusal) → NoneOpened pairs told e → WhenTold told (λ folder. StopsAs (cut_outcome process event pairs folder) e)
+pub opening_stops : (process event : ℕ) (pairs : List Pair) (told : Option Folder) (e : StopCause) → NoneOpened pairs told e → WhenTold told (λ folder. StopsAs (cut_outcome process event pairs folder) e)
 opening_stops process event pairs told e none folder is = stops_too process event folder pairs e (none folder is)
 
 -- what the replays came to
-pub found_past : (process event : ℕ) (pairs : List Pair) (told : Option Folder) (all : List LoadedFiles) (start : List Replaying) (found : Result Past Refusal) → WereLoaded pairs told all → WasOpened pairs told start
-    → ((ls : List Loaded) → AreLoaded all ls → MatchResult found (λ past. cut_of_replays pairs ls process event start ≡ Ok (work_of past)) (StopsAs (cut_of_replays pairs ls process event start)))
-    → WhenTold told (λ folder. MatchResult found (λ past. cut_outcome process event pairs folder ≡ Ok (work_of past)) (StopsAs (cut_outcome process event pairs folder)))
+pub found_past : (process event : ℕ) (pairs : List Pair) (told : Option Folder) (all : List LoadedFiles) (start : List Replaying) (found : Result Past StopCause) → WereLoaded pairs told all → WasOpened pairs told start
+    → ((ls : List Loaded) → AreLoaded all ls → MatchResult found (λ past. cut_of_replays pairs ls process event start ≡ Ok (work_of_past past)) (StopsAs (cut_of_replays pairs ls process event start)))
+    → WhenTold told (λ folder. MatchResult found (λ past. cut_outcome process event pairs folder ≡ Ok (work_of_past past)) (StopsAs (cut_outcome process event pairs folder)))
 found_past process event pairs told all start found loaded begun answer folder is =
     let l = loaded folder is in
-    subst (λ (o : CommandOutcome). MatchResult found (λ past. o ≡ Ok (work_of past)) (StopsAs o)) (sym (opened process event folder pairs l.0 start l.1.0 (begun folder is))) (answer l.0 l.1.1)
+    subst (λ (o : CommandOutcome). MatchResult found (λ past. o ≡ Ok (work_of_past past)) (StopsAs o)) (sym (opened process event folder pairs l.0 start l.1.0 (begun folder is))) (answer l.0 l.1.1)
 
 -- ---- what was made
 
 -- the files of these logs, over the folder that was read
-pub files_made : (result : Result ⊤ Refusal) (fronts items : List Front) (before told after : Option Folder) → fronts ≡ items → before ≡ told → MakesAll result (map file_of fronts) before after
-    → MakesAll result (map file_of items) told after
+pub files_made : (result : Result ⊤ StopCause) (fronts items : List Front) (before told after : Option Folder) → fronts ≡ items → before ≡ told → MakesAll result (map front_file fronts) before after
+    → MakesAll result (map front_file items) told after
 files_made result fronts items before told after same read made =
-    subst (λ (fronts : List Front). MakesAll result (map file_of fronts) told after) same (subst (λ (t : Option Folder). MakesAll result (map file_of fronts) t after) read made)
+    subst (λ (fronts : List Front). MakesAll result (map front_file fronts) told after) same (subst (λ (t : Option Folder). MakesAll result (map front_file fronts) t after) read made)
 
 -- the outcome is this work, where the folder is told
 abbrev pub IsWork : ℕ → ℕ → List Pair → Option Folder → Past → Type 0
-IsWork process event pairs told past = WhenTold told (λ folder. cut_outcome process event pairs folder ≡ Ok (work_of past))
+IsWork process event pairs told past = WhenTold told (λ folder. cut_outcome process event pairs folder ≡ Ok (work_of_past past))
 
 module _ (process event : ℕ) (pairs : List Pair) (told : Option Folder) (past : Past) (works : IsWork process event pairs told past) where
-  work_is : (o : CommandOutcome) → option_map (cut_outcome process event pairs) told ≡ Some o → o ≡ Ok (work_of past)
-  work_is o here = let h = outcome_at (cut_outcome process event pairs) told o here in h.2 ∙ works h.0 h.1
+  work_is : (o : CommandOutcome) → option_map (cut_outcome process event pairs) told ≡ Some o → o ≡ Ok (work_of_past past)
+  work_is o here = let h = outcome_when_told (cut_outcome process event pairs) told o here in h.2 ∙ works h.0 h.1
 
-  pub work_makes : (after : Option Folder) (result : Result Answer Refusal) → Makes result (map file_of past.fronts.items) told after
-      → (o : CommandOutcome) → option_map (cut_outcome process event pairs) told ≡ Some o → Makes result (writes_of o) told after
-  work_makes after result makes o here = subst (λ (o : CommandOutcome). Makes result (writes_of o) told after) (sym (work_is o here)) makes
+  pub work_makes : (after : Option Folder) (result : Result WorkText StopCause) → MakesWorkFiles result (map front_file past.fronts.items) told after
+      → (o : CommandOutcome) → option_map (cut_outcome process event pairs) told ≡ Some o → MakesWorkFiles result (writes_of o) told after
+  work_makes after result makes o here = subst (λ (o : CommandOutcome). MakesWorkFiles result (writes_of o) told after) (sym (work_is o here)) makes
 
   pub work_tells : (o : CommandOutcome) → option_map (cut_outcome process event pairs) told ≡ Some o → TellsOutcome o (Ok (answered.Done past.text))
-  work_tells o here = (work_of past, work_is o here, refl, refl)
+  work_tells o here = (work_of_past past, work_is o here, refl, refl)
 
-  pub work_cuts : (start : List Replaying) → WasOpened pairs told start → IsCut process event start (work_of past) → WhenTold told (CutsToPast process event pairs)
-  work_cuts start begun is_cut folder is = record { start = start; opened = begun folder is; work = work_of past; is = works folder is; cut = is_cut }
+  pub work_cuts : (start : List Replaying) → WasOpened pairs told start → IsCut process event start (work_of_past past) → WhenTold told (CutsToPast process event pairs)
+  work_cuts start begun is_cut folder is = record { start = start; opened = begun folder is; work = work_of_past past; is = works folder is; cut = is_cut }
 
 -- ---- the files of a group whose process has the event
 

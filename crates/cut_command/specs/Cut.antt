@@ -4,7 +4,7 @@ use Rattle.fri_outside.specs.Outside.{Folder}
 use Rattle.call_log.specs.Log.{entries_of, rewritten}
 use Rattle.proc_replay.specs.Replaying.{Replaying}
 use Rattle.command_run.specs.declared.refusal.Reason.TheVariants as reason
-use Rattle.command_run.specs.Outcome.{CommandOutcome, Work, and_then, refuses_at_once}
+use Rattle.command_run.specs.Outcome.{CommandOutcome, CommandWork, and_then, refuses_at_once}
 use Rattle.log_pairs.specs.Finding.{first_log, log_file}
 use Rattle.log_pairs.specs.Pairs.{Loaded, Pair, loaded_pairs, replays_of, sort_replays}
 use Rattle.causal_cut.specs.Past.{Lengths, lengths_or_none}
@@ -35,14 +35,14 @@ cut_files [] kept = []
 cut_files (r ∷ rs) [] = []
 cut_files (r ∷ rs) (n ∷ kept) = (cut_name r.head.name, front_of r n) ∷ cut_files rs kept
 
-abbrev pub cut_work : List Replaying → Lengths → Work
+abbrev pub cut_work : List Replaying → Lengths → CommandWork
 cut_work start lengths = record { text = cut_text start lengths.kept lengths.accepted; writes = cut_files start lengths.kept; diverged = false }
 
 -- ---- the outcome
 
 -- the node of a process, where its log is given
-abbrev pub node_of : ℕ → List Replaying → Option ℕ
-node_of process start = position (λ r. r.head.process == process) start
+abbrev pub node_of_process : ℕ → List Replaying → Option ℕ
+node_of_process process start = position (λ r. r.head.process == process) start
 
 -- the log of the process is refused where it has fewer events
 abbrev pub unless_few : List ℕ → List Replaying → Option Lengths → CommandOutcome
@@ -55,7 +55,7 @@ unless_other pairs ls process event start None = Err (refuses_at_once (first_log
 unless_other pairs ls process event start (Some node) = unless_few (log_file pairs ls process) start (lengths_or_none start node event)
 
 abbrev pub cut_of_replays : List Pair → List Loaded → ℕ → ℕ → List Replaying → CommandOutcome
-cut_of_replays pairs ls process event start = unless_other pairs ls process event start (node_of process start)
+cut_of_replays pairs ls process event start = unless_other pairs ls process event start (node_of_process process start)
 
 abbrev pub cut_outcome : ℕ → ℕ → List Pair → Folder → CommandOutcome
 cut_outcome process event pairs folder =

@@ -5,14 +5,14 @@ use Rattle.proc_replay.specs.Replaying.{Replaying}
 use Rattle.group_state.specs.Place.{PartsFit}
 use Rattle.causal_cut.specs.Laws.{IsLeastPast}
 use Rattle.causal_cut.specs.Past.{Lengths, lengths_or_none}
-use Rattle.command_run.specs.Outcome.{Work}
+use Rattle.command_run.specs.Outcome.{CommandWork}
 use Rattle.cut_command.specs.declared.fronts.Front.{Front}
 use Rattle.cut_command.specs.declared.past.Past.{Past}
 use Rattle.cut_command.specs.Cut.{cut_line, cut_name}
 
 -- the log of a replay
-abbrev pub log_of : Replaying → Log
-log_of r = record { head = r.head; left = r.left }
+abbrev pub log_of_replay : Replaying → Log
+log_of_replay r = record { head = r.head; left = r.left }
 
 -- so many events of each log are kept, and so many accepted
 abbrev pub fronts_of : List Log → List ℕ → List ℕ → List Front
@@ -22,12 +22,12 @@ fronts_of (log ∷ logs) (n ∷ kept) [] = []
 fronts_of (log ∷ logs) (n ∷ kept) (m ∷ accepted) = record { log = log; kept = n; accepted = m } ∷ fronts_of logs kept accepted
 
 -- the line of a log
-abbrev pub line_of : Front → List ℕ
-line_of front = cut_line front.log.head.name front.kept front.accepted
+abbrev pub front_line : Front → List ℕ
+front_line front = cut_line front.log.head.name front.kept front.accepted
 
 -- the file that is made of a log, with what is kept of it
-abbrev pub file_of : Front → List ℕ × List ℕ
-file_of front = (cut_name front.log.head.name, rewritten front.log.head (take front.kept (entries_of front.log.left)))
+abbrev pub front_file : Front → List ℕ × List ℕ
+front_file front = (cut_name front.log.head.name, rewritten front.log.head (take front.kept (entries_of front.log.left)))
 
 -- of each log of a group so much is kept as the event of a node needs
 pub record AreLeast (start : List Replaying) (node event : ℕ) (fronts : List Front) : Type 0 where
@@ -35,8 +35,8 @@ pub record AreLeast (start : List Replaying) (node event : ℕ) (fronts : List F
   pub found : lengths_or_none start node event ≡ Some lengths
   pub least : IsLeastPast start node event lengths.kept
   pub fits : PartsFit start
-  pub are : fronts ≡ fronts_of (map log_of start) lengths.kept lengths.accepted
+  pub are : fronts ≡ fronts_of (map log_of_replay start) lengths.kept lengths.accepted
 
 -- the text, and the files that are to be made
-abbrev pub work_of : Past → Work
-work_of past = record { text = past.text; writes = map file_of past.fronts.items; diverged = false }
+abbrev pub work_of_past : Past → CommandWork
+work_of_past past = record { text = past.text; writes = map front_file past.fronts.items; diverged = false }

@@ -5,12 +5,12 @@ use Rattle.proc_replay.specs.Course.{ahead}
 use Rattle.proc_replay.specs.Replaying.{Replaying}
 use Rattle.log_pairs.specs.Pairs.{Pair, replays_of_pairs}
 use Rattle.log_pairs.specs.Valid.{IsGroup}
-use Rattle.cut_command.specs.Cut.{node_of}
+use Rattle.cut_command.specs.Cut.{node_of_process}
 
 -- a log is of the process, and so many of its events are accepted
 pub record IsEventOf (process event : ℕ) (start : List Replaying) : Type 0 where
   pub node : ℕ
-  pub at : node_of process start ≡ Some node
+  pub at : node_of_process process start ≡ Some node
   pub replay : Replaying
   pub is : slice_get start node ≡ Some replay
   pub within : event ≤ length (ahead replay)

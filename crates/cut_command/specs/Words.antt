@@ -13,9 +13,9 @@ last_event = 2 ^ 63 - 1
 abbrev pub process_of : List ℕ → Option ℕ
 process_of word = result_ok (up_to last_process (decimal_of word))
 
-abbrev pub unless_zero : ℕ → Option ℕ
-unless_zero n = if n == 0 then None else Some n
+abbrev pub event_unless_zero : ℕ → Option ℕ
+event_unless_zero n = if n == 0 then None else Some n
 
 -- the number of an event of a process, counted from 1
-abbrev pub event_of : List ℕ → Option ℕ
-event_of word = option_and_then unless_zero (result_ok (up_to last_event (decimal_of word)))
+abbrev pub event_number_of : List ℕ → Option ℕ
+event_number_of word = option_and_then event_unless_zero (result_ok (up_to last_event (decimal_of word)))

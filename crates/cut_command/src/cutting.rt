@@ -2,26 +2,26 @@
 ghost use Rattle.std.specs.Prelude.{◌≡◌, All, false, map, option_map, IfErr, IfOk};
 ghost use Rattle.fri_outside.specs.Outside.{WhenTold};
 ghost use Rattle.call_log.specs.Head.{IsHead};
-ghost use Rattle.command_run.specs.Call.{CountsFaults, DivergesOnlyIf, Keeps, Makes, MakesAll, Raises, TellsOutcome};
+ghost use Rattle.command_run.specs.Call.{CountsFaults, DivergesOnlyIf, KeepsFolder, MakesWorkFiles, MakesAll, Raises, TellsOutcome};
 ghost use Rattle.command_run.specs.Outcome.{writes_of};
 ghost use Rattle.log_pairs.specs.Seen.{pair_of};
 ghost use Rattle.cut_command.specs.Cut.{cut_outcome};
 ghost use Rattle.cut_command.specs.Laws.{CutsToPast};
-ghost use Rattle.cut_command.specs.Seen.{file_of};
+ghost use Rattle.cut_command.specs.Seen.{front_file};
 
 use crate::fronts::Front;
 use crate::past::take_past;
 use call_log::rewrite;
-use command_run::{Answer, Refusal};
+use command_run::{StopCause, WorkText};
 use fri_outside::{Files, keeps_files};
 use log_pairs::{Pair, begin_all, load_all};
 use process_files::write_file;
 use std::alloc::Global;
 
 // Makes the files of the logs, one after the other, each with the part of its log that is kept.
-fn write_cuts<F: Files>(alloc: Global, fronts: &[Front<'_>], files: &mut F) -> Result<(), Refusal>
+fn write_cuts<F: Files>(alloc: Global, fronts: &[Front<'_>], files: &mut F) -> Result<(), StopCause>
     requires { All (λ front. IsHead front.log.head) fronts.now }
-    ensures made { MakesAll result (map file_of fronts.now) (F.told files.old) (F.told files.new) }
+    ensures made { MakesAll result (map front_file fronts.now) (F.told files.old) (F.told files.new) }
     ensures counts { CountsFaults (F.counts files.old) (F.counts files.new) result }
     ensures cause { IfErr result (Raises (F.counts files.old) (F.counts files.new)) }
 {
@@ -41,11 +41,11 @@ pub fn cut<F: Files>(
     event: u64,
     pairs: &[Pair<'_>],
     files: &mut F,
-) -> Result<Answer, Refusal>
+) -> Result<WorkText, StopCause>
     ensures tells { WhenTold (option_map (cut_outcome process event (map pair_of pairs.now)) (F.told files.old)) (λ outcome. TellsOutcome outcome result) }
     ensures makes { WhenTold (option_map (cut_outcome process event (map pair_of pairs.now)) (F.told files.old)) (λ outcome.
-        Makes result (writes_of outcome) (F.told files.old) (F.told files.new)) }
-    ensures keeps { Keeps result (F.told files.old) (F.told files.new) }
+        MakesWorkFiles result (writes_of outcome) (F.told files.old) (F.told files.new)) }
+    ensures keeps { KeepsFolder result (F.told files.old) (F.told files.new) }
     ensures done { DivergesOnlyIf false result }
     ensures counts { CountsFaults (F.counts files.old) (F.counts files.new) result }
     ensures cause { IfErr result (Raises (F.counts files.old) (F.counts files.new)) }
@@ -55,5 +55,5 @@ pub fn cut<F: Files>(
     let parts = begin_all(alloc, &all)?;
     let past = take_past(alloc, process, event, pairs, &all, parts)?;
     write_cuts(alloc, &past.fronts, files)?;
-    Ok(Answer::Done(past.text))
+    Ok(WorkText::Done(past.text))
 }

@@ -2,7 +2,7 @@
 ghost use Rattle.std.specs.Prelude.{◌≡◌, ◌++◌, ◌≤◌, IfOk, OnOk, length, map};
 ghost use Rattle.std.specs.List.{flat_map};
 ghost use Rattle.cut_command.specs.Cut.{cut_line};
-ghost use Rattle.cut_command.specs.Seen.{fronts_of, line_of, log_of};
+ghost use Rattle.cut_command.specs.Seen.{fronts_of, front_line, log_of_replay};
 
 use call_log::LogView;
 use causal_cut::Cut;
@@ -23,7 +23,7 @@ pub(crate) fn logs_of<'m>(
     alloc: Global,
     parts: &[Replayer<'_, 'm>],
 ) -> Result<Vec<LogView<'m>>, AllocError>
-    ensures { IfOk result (λ logs. logs.items ≡ map log_of parts.now) }
+    ensures { IfOk result (λ logs. logs.items ≡ map log_of_replay parts.now) }
 {
     let mut logs = Vec::new(alloc);
     for part in parts {
@@ -73,7 +73,7 @@ fn push_line(text: &mut Text, name: &[u8], kept: u64, accepted: u64) -> Result<(
 
 /// A line for each log.
 pub(crate) fn print(alloc: Global, fronts: &[Front<'_>]) -> Result<Text, AllocError>
-    ensures { IfOk result (λ text. text ≡ flat_map line_of fronts.now) }
+    ensures { IfOk result (λ text. text ≡ flat_map front_line fronts.now) }
 {
     let mut text = Text::new(alloc);
     for front in fronts {

@@ -3,7 +3,7 @@
 //! `cut` reads the modules and logs (`log_pairs`), finds how much of each the event needs (`causal_cut`), and makes of each
 //! log a file with that part, in version 2. Contracts see what the files come to (`cut_outcome` of `specs/Cut`): the text and
 //! the new files, or the stop. What was made is cut to the least past, and each file replays as its log does (`CutsToPast` of
-//! `specs/Laws`); the law `cuts_work` says which files have work, and `process_of` and `event_of` (`specs/Words`) read the words that
+//! `specs/Laws`); the law `cuts_work` says which files have work, and `process_of` and `event_number_of` (`specs/Words`) read the words that
 //! name an event.
 #![tactic(auto)]
 
@@ -15,4 +15,4 @@ mod words;
 
 pub use cutting::cut;
 pub use laws::cuts_work;
-pub use words::{event_of, process_of};
+pub use words::{event_number_of, process_of};

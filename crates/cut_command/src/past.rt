@@ -6,16 +6,16 @@ ghost use Rattle.command_run.specs.Call.{Raises, StopsAs, reads_after, writes_af
 ghost use Rattle.proc_replay.specs.AtHead.{IsAtHead};
 ghost use Rattle.group_state.specs.Place.{AreParts};
 ghost use Rattle.causal_cut.specs.Past.{lengths_or_none};
-ghost use Rattle.causal_cut.specs.Seen.{FailsAs};
+ghost use Rattle.causal_cut.specs.Seen.{IsCutError};
 ghost use Rattle.log_pairs.specs.Pairs.{Loaded as LoadedOf};
 ghost use Rattle.log_pairs.specs.Seen.{AreLoaded, pair_of};
-ghost use Rattle.cut_command.specs.Cut.{cut_of_replays, node_of};
+ghost use Rattle.cut_command.specs.Cut.{cut_of_replays, node_of_process};
 ghost use Rattle.cut_command.specs.Laws.{IsCut};
-ghost use Rattle.cut_command.specs.Seen.{AreLeast, work_of};
+ghost use Rattle.cut_command.specs.Seen.{AreLeast, work_of_past};
 
 use crate::fronts::{Front, fronts_of, logs_of, print};
 use causal_cut::{CutError, fronts_replay, least_cut};
-use command_run::{Reason, Refusal};
+use command_run::{Reason, StopCause};
 use fri_text::Text;
 use log_pairs::{Loaded, Pair, first_log, log_file};
 use proc_replay::Replayer;
@@ -30,7 +30,7 @@ pub(crate) struct Past<'m> {
 
 // The node of this process.
 fn node_of(parts: &[Replayer<'_, '_>], process: u32) -> Option<usize>
-    ensures { result ≡ node_of process parts.now }
+    ensures { result ≡ node_of_process process parts.now }
 {
     parts.iter().position(|part| part.head().process == process)
 }
@@ -45,7 +45,7 @@ fn least_fronts<'m>(
     requires parts { AreParts parts.items }
     requires node { node < length parts.items }
     ensures { MatchResult result (λ fronts. AreLeast parts.entry.items node event fronts.items)
-        (FailsAs (lengths_or_none parts.entry.items node event)) }
+        (IsCutError (lengths_or_none parts.entry.items node event)) }
 {
     let logs = logs_of(alloc, &parts)?;
     let cut = least_cut(alloc, parts, node as u32, event)?;
@@ -60,28 +60,28 @@ pub(crate) fn take_past<'m>(
     pairs: &[Pair<'_>],
     all: &[Loaded<'_>],
     parts: Vec<Replayer<'m, 'm>>,
-) -> Result<Past<'m>, Refusal>
+) -> Result<Past<'m>, StopCause>
     requires parts { AreParts parts.items }
     requires at_heads { All IsAtHead parts.items }
     ensures answer { (ls : List LoadedOf) → AreLoaded all.now ls → MatchResult result
-        (λ past. cut_of_replays (map pair_of pairs.now) ls process event parts.entry.items ≡ Ok (work_of past))
+        (λ past. cut_of_replays (map pair_of pairs.now) ls process event parts.entry.items ≡ Ok (work_of_past past))
         (StopsAs (cut_of_replays (map pair_of pairs.now) ls process event parts.entry.items)) }
-    ensures least { IfOk result (λ past. IsCut process event parts.entry.items (work_of past)) }
+    ensures least { IfOk result (λ past. IsCut process event parts.entry.items (work_of_past past)) }
     ensures heads { IfOk result (λ past. All (λ front. IsHead front.log.head) past.fronts.items) }
     ensures cause { (old new : Counts) → IfErr result (Raises old new) }
     ensures still { (n : ℕ) → (reads_after n result ≡ n) × (writes_after n result ≡ n) }
 {
     fronts_replay();
     let Some(node) = node_of(&parts, process) else {
-        return Err(Refusal::refuse(alloc, first_log(pairs), Reason::NoProcess));
+        return Err(StopCause::refuse(alloc, first_log(pairs), Reason::NoProcess));
     };
     let fronts = match least_fronts(alloc, parts, node, event) {
         Ok(fronts) => fronts,
         Err(CutError::NoEvent) => {
             let file = log_file(pairs, all, process);
-            return Err(Refusal::refuse(alloc, file, Reason::NoEvent));
+            return Err(StopCause::refuse(alloc, file, Reason::NoEvent));
         }
-        Err(CutError::NoMemory) => return Err(Refusal::NoMemory),
+        Err(CutError::NoMemory) => return Err(StopCause::NoMemory),
     };
     let text = print(alloc, &fronts)?;
     Ok(Past { fronts, text })

@@ -1,6 +1,6 @@
 // Which event two words name.
 ghost use Rattle.std.specs.Prelude.{◌≡◌};
-ghost use Rattle.cut_command.specs.Words.{event_of, process_of};
+ghost use Rattle.cut_command.specs.Words.{event_number_of, process_of};
 
 use fri_text::read_decimal;
 
@@ -17,8 +17,8 @@ pub fn process_of(word: &str) -> Option<u32>
 }
 
 /// The event of a process that the word names, counted from 1: a decimal number from 1 to 2^63 - 1.
-pub fn event_of(word: &str) -> Option<u64>
-    ensures { result ≡ event_of word.now }
+pub fn event_number_of(word: &str) -> Option<u64>
+    ensures { result ≡ event_number_of word.now }
 {
     let number = read_decimal(word.as_bytes(), LAST_EVENT).ok()?;
     if number == 0 {

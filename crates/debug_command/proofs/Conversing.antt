@@ -12,10 +12,10 @@ use Rattle.command_run.specs.declared.refusal.Reason.TheVariants as reason
 use Rattle.command_run.specs.declared.status.Status.{Status}
 use Rattle.command_run.specs.declared.status.Status.TheVariants as status
 use Rattle.command_run.specs.Call.{IsAnswerStatus, Prints, said_after}
-use Rattle.debug_command.specs.Conversation.{Converses, IsNone, TakesOfInput, TakesTurns, TerminalState, heard_after}
+use Rattle.debug_command.specs.Conversation.{Converses, NeverOfASession, TakesOfInput, TakesTurns, TerminalState, heard_after}
 use Rattle.debug_command.specs.Debug.{input_name, session_outcome, whole_lines}
 use Rattle.command_run.specs.Outcome.{outcome_text, refused_line}
-use Rattle.debug_command.specs.Talk.{Held, SessionHolds}
+use Rattle.debug_command.specs.Talk.{HeldSession, SessionHolds}
 use Rattle.command_run.specs.OutcomeLaws.{prints_all}
 use Rattle.debug_command.proofs.Talking.{append_twice, part_of}
 
@@ -29,7 +29,7 @@ prints_behind answer earlier line before mid after e p = record {
   );
 }
 
-is_refused : (answer : Status) → (IsAnswerStatus answer → answer ≡ status.Refused) → IsNone answer → ⊥
+is_refused : (answer : Status) → (IsAnswerStatus answer → answer ≡ status.Refused) → NeverOfASession answer → ⊥
 is_refused status.Done only none = none
 is_refused status.Diverged only none = let e = only tt in absurd cc
 is_refused status.Usage only none = let e = only tt in absurd cc
@@ -60,8 +60,8 @@ turns_held start old new why h = λ earlier told.
     record { askings = c.askings; noted = c.noted; in_turn = c.in_turn; taken = subst (λ (l : List ℕ). WhenTold old.hearing.left (λ input. TakesOfInput input new.hearing.left l)) (sym c.given) h.read }
 
 module _ (start : List Replaying) (old new : TerminalState) where
-  pub conversed_done : Held start old new cause.Done → new.hearing.faults ≡ old.hearing.faults → new.faults ≡ old.faults → Converses start old new status.Done
-  unfolding Held
+  pub conversed_done : HeldSession start old new cause.Done → new.hearing.faults ≡ old.hearing.faults → new.faults ≡ old.faults → Converses start old new status.Done
+  unfolding HeldSession
   conversed_done h reads writes = record {
     ended = λ input told answer. let s = h.said input told in (let fits = s.fits in rw fits refl);
     text = λ input told. let s = h.said input told in (let fits = s.fits in rw fits (prints_all _ _ _ _ _ refl s.text));
@@ -74,8 +74,8 @@ module _ (start : List Replaying) (old new : TerminalState) where
     writes = writes;
   }
 
-  pub conversed_read : Held start old new cause.ReadFault → new.hearing.faults ≡ raised old.hearing.faults → new.faults ≡ old.faults → Converses start old new status.ReadFault
-  unfolding Held
+  pub conversed_read : HeldSession start old new cause.ReadFault → new.hearing.faults ≡ raised old.hearing.faults → new.faults ≡ old.faults → Converses start old new status.ReadFault
+  unfolding HeldSession
   conversed_read h reads writes = record {
     ended = λ input told answer. absurd answer;
     text = λ input told. (let s = h.said input told in let r = h.read input told in
@@ -90,8 +90,8 @@ module _ (start : List Replaying) (old new : TerminalState) where
     writes = writes;
   }
 
-  pub conversed_write : Held start old new cause.WriteFault → new.hearing.faults ≡ old.hearing.faults → new.faults ≡ raised old.faults → Converses start old new status.WriteFault
-  unfolding Held
+  pub conversed_write : HeldSession start old new cause.WriteFault → new.hearing.faults ≡ old.hearing.faults → new.faults ≡ raised old.faults → Converses start old new status.WriteFault
+  unfolding HeldSession
   conversed_write h reads writes = record {
     ended = λ input told answer. absurd answer;
     text = λ input told. record { whole = λ answer. absurd answer; part = h.said input told };
@@ -104,8 +104,8 @@ module _ (start : List Replaying) (old new : TerminalState) where
     writes = writes;
   }
 
-  pub conversed_memory : Held start old new cause.NoMemory → new.hearing.faults ≡ old.hearing.faults → new.faults ≡ old.faults → Converses start old new status.NoMemory
-  unfolding Held
+  pub conversed_memory : HeldSession start old new cause.NoMemory → new.hearing.faults ≡ old.hearing.faults → new.faults ≡ old.faults → Converses start old new status.NoMemory
+  unfolding HeldSession
   conversed_memory h reads writes = record {
     ended = λ input told answer. absurd answer;
     text = λ input told. record { whole = λ answer. absurd answer; part = h.said input told };
@@ -119,10 +119,10 @@ module _ (start : List Replaying) (old new : TerminalState) where
   }
 
   -- the refusal was said, or could not be said
-  pub conversed_large : (here : TerminalState) (answer : Status) → Held start old here cause.TooLarge → new.hearing ≡ here.hearing → here.hearing.faults ≡ old.hearing.faults
+  pub conversed_large : (here : TerminalState) (answer : Status) → HeldSession start old here cause.TooLarge → new.hearing ≡ here.hearing → here.hearing.faults ≡ old.hearing.faults
       → (IsAnswerStatus answer → answer ≡ status.Refused) → Prints answer (refused_line input_name reason.TooLarge) here.taken new.taken → (answer ≡ status.ReadFault → ⊥)
       → new.faults ≡ said_after old.faults answer → Converses start old new answer
-  unfolding Held
+  unfolding HeldSession
   conversed_large here answer h same reads only prints not_read writes = record {
     ended = λ input told is. (let s = h.said input told in let large = s.0 in rw large (only is));
     text = λ input told. (let s = h.said input told in let large = s.0 in rw large (prints_behind answer _ _ old.taken here.taken new.taken s.1 prints));

@@ -14,7 +14,7 @@ use Rattle.debug_command.specs.declared.converse.Ended.{Ended}
 use Rattle.debug_command.specs.declared.converse.Ended.TheVariants as cause
 use Rattle.debug_command.specs.Conversation.{TakesOfInput, TerminalState}
 use Rattle.debug_command.specs.Limits.{most_input}
-use Rattle.debug_command.specs.Talk.{BreaksFrom, CameInTurn, Exchange, FailsAtOpening, GoesOn, Heard, Hears, HearsFrom, Held, HoldsFrom, Opens, OpensPart, ReadsOn, SaysPart, SessionHolds, SessionStands, Spoke, StopsAtPiece, StopsIn, Talk, ended_by, exchange_of, listened_after}
+use Rattle.debug_command.specs.Talk.{BreaksFrom, CameInTurn, Exchange, FailsAtOpening, GoesOn, Heard, HearsPiece, HearsFrom, HeldSession, HoldsFrom, Opens, OpensPart, ReadsOn, SaysPart, SessionHolds, SessionStands, Spoke, StopsAtPiece, StopsIn, Talk, ended_by, exchange_of, listened_after}
 use Rattle.debug_command.proofs.Hearing.{holds_all, holds_broken, holds_error, stops_at, taken_more, taken_none, turns_none, turns_noted, turns_piece}
 use Rattle.debug_command.proofs.Talking.{append_none, part_of}
 
@@ -94,7 +94,7 @@ listens_none old talk = λ start printed s. record { taken = []; stands = s; rea
 module _ (old here : TerminalState) (talk next : Talk) (so_far : ListensFrom old here talk next) where
   -- what a piece adds
   adds : (start : List Replaying) (printed : Option (List ℕ)) (new : TerminalState) (heard : Heard) (size : ℕ) → size ≤ 4096
-      → (t : Listens start printed old here next) → Hears start printed t.taken (exchange_of size here new) heard → Listens start printed old new heard.talk
+      → (t : Listens start printed old here next) → HearsPiece start printed t.taken (exchange_of size here new) heard → Listens start printed old new heard.talk
   adds start printed new heard size small t h =
       let short : length h.piece ≤ size = h.short in
       record {
@@ -179,8 +179,8 @@ opens_read start printed now why part is = subst FailsAtOpening is part.1
 -- ---- the whole session
 
 pub held : (start : List Replaying) (old here new : TerminalState) (talk : Talk) (why : Ended)
-    → here.hearing ≡ old.hearing → Opens start old.taken here.taken talk → HoldsFrom here new talk why → Held start old new why
-unfolding Opens HoldsFrom Held
+    → here.hearing ≡ old.hearing → Opens start old.taken here.taken talk → HoldsFrom here new talk why → HeldSession start old new why
+unfolding Opens HoldsFrom HeldSession
 held start old here new talk why same opened holds =
     let h = subst (λ (o : Hearing). SessionHolds start (record { hearing = o; taken = old.taken; faults = here.faults }) new why) same (holds start old.taken opened) in
     record { taken = h.taken; asks = h.asks; read = h.read; turns = h.turns; said = h.said; large = h.large }
@@ -192,8 +192,8 @@ stops_unopened start printed now cause.ReadFault part fails = absurd fails
 stops_unopened start printed now cause.WriteFault part fails = part
 stops_unopened start printed now cause.NoMemory part fails = part
 
-pub held_unopened : (start : List Replaying) (old new : TerminalState) (why : Ended) → new.hearing ≡ old.hearing → OpensPart start old.taken new.taken why → Held start old new why
-unfolding OpensPart Held
+pub held_unopened : (start : List Replaying) (old new : TerminalState) (why : Ended) → new.hearing ≡ old.hearing → OpensPart start old.taken new.taken why → HeldSession start old new why
+unfolding OpensPart HeldSession
 held_unopened start old new why same part =
     let none : 0 ≤ 0 = omega arith in
     subst (λ (n : Hearing). SessionHolds start old (record new { hearing = n }) why) (sym same)

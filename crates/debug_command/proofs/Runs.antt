@@ -10,38 +10,38 @@ use Rattle.friday_shell.specs.Session.{session_text}
 use Rattle.command_run.specs.declared.status.Status.{Status}
 use Rattle.command_run.specs.declared.status.Status.TheVariants as ends
 use Rattle.command_run.specs.declared.refusal.Reason.TheVariants as reason
-use Rattle.command_run.specs.declared.refusal.Refusal.{Refusal}
-use Rattle.command_run.specs.declared.refusal.Refusal.TheVariants as refusal
-use Rattle.command_run.specs.Call.{CountsFaults, IsAnswerStatus, Keeps, Prints, PrintsRefusal, Raises, StopsAs, said_after}
-use Rattle.command_run.specs.CountLaws.{counted}
+use Rattle.command_run.specs.declared.refusal.StopCause.{StopCause}
+use Rattle.command_run.specs.declared.refusal.StopCause.TheVariants as refusal
+use Rattle.command_run.specs.Call.{CountsFaults, IsAnswerStatus, KeepsFolder, Prints, PrintsRefusal, Raises, StopsAs, said_after}
+use Rattle.command_run.specs.CountLaws.{counted_faults}
 use Rattle.command_run.specs.FileLaws.{same_others}
-use Rattle.command_run.specs.Outcome.{CommandOutcome, Refuses, Stop, outcome_status, outcome_text, writes_of}
+use Rattle.command_run.specs.Outcome.{CommandOutcome, Refuses, CommandStop, outcome_status, outcome_text, writes_of}
 use Rattle.command_run.specs.OutcomeLaws.{none_left, stops_make, stops_tell}
 use Rattle.command_run.specs.Run.{FaultsTold, Finished, Outside, Performed}
 use Rattle.log_pairs.specs.Pairs.{NoneOpened, Pair, WasOpened, replays_of_pairs}
-use Rattle.debug_command.specs.Conversation.{Converses, IsNone, TerminalState, heard_after}
+use Rattle.debug_command.specs.Conversation.{Converses, NeverOfASession, TerminalState, heard_after}
 use Rattle.debug_command.specs.Debug.{early_lines, input_name, is_large, opened_outcome, session_outcome, spoken}
 use Rattle.debug_command.specs.Run.{DebugRun, debug_expected}
 
 -- ---- no session began
 
 -- the outcome is the stop at which the replays could not begin
-stop_is : (begun : Result (List Replaying) Stop) (left : Option (List ℕ)) (o : CommandOutcome) (stop : Stop) → begun ≡ Err stop → opened_outcome begun left ≡ Some o → o ≡ Err stop
-stop_is begun left o stop is here = sym (same_Some _ _ (sym (ap (λ (r : Result (List Replaying) Stop). opened_outcome r left) is) ∙ here))
+stop_is : (begun : Result (List Replaying) CommandStop) (left : Option (List ℕ)) (o : CommandOutcome) (stop : CommandStop) → begun ≡ Err stop → opened_outcome begun left ≡ Some o → o ≡ Err stop
+stop_is begun left o stop is here = sym (same_Some _ _ (sym (ap (λ (r : Result (List Replaying) CommandStop). opened_outcome r left) is) ∙ here))
 
-stops_as : (begun : Result (List Replaying) Stop) (left : Option (List ℕ)) (o : CommandOutcome) (e : Refusal) → StopsAs begun e → opened_outcome begun left ≡ Some o → StopsAs o e
+stops_as : (begun : Result (List Replaying) CommandStop) (left : Option (List ℕ)) (o : CommandOutcome) (e : StopCause) → StopsAs begun e → opened_outcome begun left ≡ Some o → StopsAs o e
 stops_as begun left o (refusal.Refused file why) is here = stop_is begun left o _ is here
 stops_as begun left o (refusal.Absent file) is here = stop_is begun left o _ is here
 stops_as begun left o refusal.ReadFault is here = tt
 stops_as begun left o refusal.WriteFault is here = tt
 stops_as begun left o refusal.NoMemory is here = tt
 
-refused_stops : (pairs : List Pair) (told : Option Folder) (left : Option (List ℕ)) (e : Refusal) → NoneOpened pairs told e → (o : CommandOutcome) → option_and_then (λ folder. opened_outcome (replays_of_pairs folder pairs) left) told ≡ Some o → StopsAs o e
+refused_stops : (pairs : List Pair) (told : Option Folder) (left : Option (List ℕ)) (e : StopCause) → NoneOpened pairs told e → (o : CommandOutcome) → option_and_then (λ folder. opened_outcome (replays_of_pairs folder pairs) left) told ≡ Some o → StopsAs o e
 refused_stops pairs None left e stops o here = cc
 refused_stops pairs (Some folder) left e stops o here = stops_as (replays_of_pairs folder pairs) left o e (stops folder refl) here
 
 -- its result is told so
-pub performed : (pairs : List Pair) (e : Refusal) (old new : Outside) → NoneOpened pairs old.told e → Raises old.counts new.counts e
+pub performed : (pairs : List Pair) (e : StopCause) (old new : Outside) → NoneOpened pairs old.told e → Raises old.counts new.counts e
     → CountsFaults {T = ⊤} old.counts new.counts (Err e)
     → new.told ≡ old.told
     → Performed (debug_expected pairs old) (λ folder. []) false old.told new.told old.counts new.counts (Err e)
@@ -54,7 +54,7 @@ performed pairs e old new stops cause counts same = record {
   counted = record { reads = counts.reads; writes = counts.writes; misses = counts.misses };
   cause = cause;
 } where
-  keeps : (e : Refusal) → Keeps (Err e) old.told new.told
+  keeps : (e : StopCause) → KeepsFolder (Err e) old.told new.told
   keeps (refusal.Refused file why) = tt
   keeps (refusal.Absent file) = same
   keeps refusal.ReadFault = same
@@ -66,7 +66,7 @@ other_refusal : {Large : List ℕ → Type 0} (old new : Outside) → PrintsRefu
     → PrintsRefusal old.taken new.taken (λ file. Rose old.counts.misses new.counts.misses ⊎ Large file)
 other_refusal old new (earlier, file, (why, is, cause)) = (earlier, file, (why, is, λ large. inl (cause large)))
 
-pub run_refused : (pairs : List Pair) (e : Refusal) (answer : Status) (old new : Outside)
+pub run_refused : (pairs : List Pair) (e : StopCause) (answer : Status) (old new : Outside)
     → Finished (debug_expected pairs old) (λ folder. []) false (Err e) old new answer → DebugRun pairs old new answer
 run_refused pairs e answer old new f = record {
   call = f.call;
@@ -92,7 +92,7 @@ spoken_by start (Some input) o here = record { input = input; told = refl; outco
 is_spoken : (pairs : List Pair) (told : Option Folder) (left : Option (List ℕ)) (start : List Replaying) → WasOpened pairs told start → (o : CommandOutcome) → option_and_then (λ folder. opened_outcome (replays_of_pairs folder pairs) left) told ≡ Some o → IsSpoken start left o
 is_spoken pairs None left start opens o here = cc
 is_spoken pairs (Some folder) left start opens o here =
-    spoken_by start left o (sym (ap (λ (r : Result (List Replaying) Stop). opened_outcome r left) (opens folder refl)) ∙ here)
+    spoken_by start left o (sym (ap (λ (r : Result (List Replaying) CommandStop). opened_outcome r left) (opens folder refl)) ∙ here)
 
 -- by whether the input is too large
 abbrev pub spoken_if : Bool → List ℕ → List ℕ → CommandOutcome
@@ -119,14 +119,14 @@ said_rose answer old new is fault = omega (arith, is ∙ ap (said_after old) fau
 
 conversed_faults : (answer : Status) (old new : Outside) → new.counts.reads ≡ old.counts.reads → new.counts.writes ≡ old.counts.writes
     → new.hearing.faults ≡ heard_after old.hearing.faults answer → new.out_faults ≡ said_after old.out_faults answer → FaultsTold answer old new
-conversed_faults ends.Done old new reads writes h s = counted new _ _ _ _ reads writes h s
-conversed_faults ends.Diverged old new reads writes h s = counted new _ _ _ _ reads writes h s
-conversed_faults ends.Usage old new reads writes h s = counted new _ _ _ _ reads writes h s
-conversed_faults ends.Refused old new reads writes h s = counted new _ _ _ _ reads writes h s
-conversed_faults ends.Absent old new reads writes h s = counted new _ _ _ _ reads writes h s
-conversed_faults ends.ReadFault old new reads writes h s = inr (counted new _ _ _ _ reads writes h s)
-conversed_faults ends.WriteFault old new reads writes h s = inr (counted new _ _ _ _ reads writes h s)
-conversed_faults ends.NoMemory old new reads writes h s = counted new _ _ _ _ reads writes h s
+conversed_faults ends.Done old new reads writes h s = counted_faults new _ _ _ _ reads writes h s
+conversed_faults ends.Diverged old new reads writes h s = counted_faults new _ _ _ _ reads writes h s
+conversed_faults ends.Usage old new reads writes h s = counted_faults new _ _ _ _ reads writes h s
+conversed_faults ends.Refused old new reads writes h s = counted_faults new _ _ _ _ reads writes h s
+conversed_faults ends.Absent old new reads writes h s = counted_faults new _ _ _ _ reads writes h s
+conversed_faults ends.ReadFault old new reads writes h s = inr (counted_faults new _ _ _ _ reads writes h s)
+conversed_faults ends.WriteFault old new reads writes h s = inr (counted_faults new _ _ _ _ reads writes h s)
+conversed_faults ends.NoMemory old new reads writes h s = counted_faults new _ _ _ _ reads writes h s
 
 -- the terminal of what is handed in
 abbrev pub terminal_of : Outside → TerminalState
@@ -145,14 +145,14 @@ run_conversed pairs start answer old new opens c same counts = record {
     idle = λ _. same;
     prints_last = λ o e. inr (made o e);
     faults = conversed_faults answer old new counts.reads counts.writes c.reads c.writes;
-    absent = λ is. absurd (c.other (subst IsNone (sym is) tt));
-    absent_text = λ is. absurd (c.other (subst IsNone (sym is) tt));
+    absent = λ is. absurd (c.other (subst NeverOfASession (sym is) tt));
+    absent_text = λ is. absurd (c.other (subst NeverOfASession (sym is) tt));
     read_fault = λ is. inr (heard_rose answer _ _ c.reads is);
     write_fault = λ is. inr (said_rose answer _ _ c.writes is);
     out_fault = λ o e is. inr (made o e);
   };
-  is_command = λ is. absurd (c.other (subst IsNone (sym is) tt));
-  no_divergence = λ is. absurd (c.other (subst IsNone (sym is) tt));
+  is_command = λ is. absurd (c.other (subst NeverOfASession (sym is) tt));
+  no_divergence = λ is. absurd (c.other (subst NeverOfASession (sym is) tt));
   input = inr (record { start = start; opened = opens; read = c.input; turns = c.turns });
   answered = λ is quiet. (start, (opens, c.answered is));
   refused = λ is. let s = c.refused is in (s.0, input_name, (reason.TooLarge, s.1, λ _. inr (refl, (start, (opens, large is)))));

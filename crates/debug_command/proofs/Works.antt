@@ -3,7 +3,7 @@ use Rattle.std.proofs.Common.{◌≡◌, ℕ, List, Bool, false, Some, option_ma
 use Rattle.fri_text.specs.Line.{lines_of}
 use Rattle.proc_replay.specs.Replaying.{Replaying}
 use Rattle.friday_shell.specs.Session.{session_text}
-use Rattle.command_run.specs.Outcome.{CommandOutcome, Stop}
+use Rattle.command_run.specs.Outcome.{CommandOutcome, CommandStop}
 use Rattle.log_pairs.specs.Laws.{OpensGroups}
 use Rattle.debug_command.specs.Debug.{early_lines, is_large, opened_outcome, session_outcome, spoken}
 use Rattle.debug_command.specs.Laws.{SessionsWork}
@@ -17,7 +17,7 @@ pub sessions_do_work : OpensGroups → SessionsWork
 sessions_do_work opens pairs folder left h =
     let opened = opens folder pairs h.group in (
       spoken (session_text opened.0 (lines_of h.input)),
-      ap (λ (r : Result (List Replaying) Stop). opened_outcome r left) opened.1
+      ap (λ (r : Result (List Replaying) CommandStop). opened_outcome r left) opened.1
           ∙ ap (option_map (session_outcome opened.0)) h.told
           ∙ ap (λ (o : CommandOutcome). Some o) (within_input opened.0 h.input (h.within opened.0 opened.1)),
     )

@@ -89,11 +89,11 @@ abbrev pub SaysLarge : Option (List ℕ) → Option (List ℕ) → Type 0
 SaysLarge printed printed_after = (earlier : List ℕ) × (printed_after ≡ append_known printed (earlier ++ refused_line input_name reason.TooLarge))
 
 -- statuses with which a session never ends
-abbrev pub IsNone : Status → Type 0
-IsNone status.Diverged = Unit {0}
-IsNone status.Usage = Unit {0}
-IsNone status.Absent = Unit {0}
-IsNone answer = ⊥
+abbrev pub NeverOfASession : Status → Type 0
+NeverOfASession status.Diverged = Unit {0}
+NeverOfASession status.Usage = Unit {0}
+NeverOfASession status.Absent = Unit {0}
+NeverOfASession answer = ⊥
 
 -- how many reads of an input failed by a session that ended so: one, exactly where it ended for that
 abbrev pub heard_after : ℕ → Status → ℕ
@@ -107,7 +107,7 @@ pub record Converses (start : List Replaying) (old new : TerminalState) (answer 
   pub input : WhenTold old.hearing.left (λ input. HasRead start input new.hearing.left answer)
   pub turns : WhenTold old.hearing.asked (TakesTurns start old.hearing new.hearing old.taken)
   pub answered : answer ≡ status.ReadFault → WhenTold old.hearing.left (λ input. HasAnswered start input new.hearing.left old.taken new.taken)
-  pub other : IsNone answer → ⊥
+  pub other : NeverOfASession answer → ⊥
   pub refused : answer ≡ status.Refused → SaysLarge old.taken new.taken
   pub reads : new.hearing.faults ≡ heard_after old.hearing.faults answer
   pub writes : new.faults ≡ said_after old.faults answer

@@ -8,7 +8,7 @@ use Rattle.friday_shell.specs.Session.{ends, opening, session_text}
 use Rattle.command_run.specs.declared.refusal.Reason.TheVariants as reason
 use Rattle.log_pairs.specs.Pairs.{Pair}
 use Rattle.debug_command.specs.Limits.{most_input}
-use Rattle.command_run.specs.Outcome.{CommandOutcome, Refuses, Stop, Work}
+use Rattle.command_run.specs.Outcome.{CommandOutcome, Refuses, CommandStop, CommandWork}
 use Rattle.log_pairs.specs.Pairs.{replays_of_pairs}
 
 -- what a refusal calls the input
@@ -33,7 +33,7 @@ abbrev pub is_large : List Replaying → List ℕ → Bool
 is_large start input = nat_lt most_input (length input) && not (ends (opening start) (early_lines input))
 
 -- a session prints this, and makes no file
-abbrev pub spoken : List ℕ → Work
+abbrev pub spoken : List ℕ → CommandWork
 spoken text = record { text = text; writes = []; diverged = false }
 
 -- what a session over these replays comes to, where this is typed
@@ -43,7 +43,7 @@ session_outcome start input =
     else Ok (spoken (session_text start (lines_of input)))
 
 -- where the replays cannot begin the input does not matter, and need not be told
-abbrev pub opened_outcome : Result (List Replaying) Stop → Option (List ℕ) → Option CommandOutcome
+abbrev pub opened_outcome : Result (List Replaying) CommandStop → Option (List ℕ) → Option CommandOutcome
 opened_outcome (Err stop) left = Some (Err stop)
 opened_outcome (Ok start) left = option_map (session_outcome start) left
 

@@ -1,7 +1,7 @@
 -- What is so of all sessions.
 use Rattle.std.specs.Prelude.{◌≡◌, ℕ, List, Option, Some, Ok}
 use Rattle.fri_outside.specs.Outside.{Folder}
-use Rattle.command_run.specs.Outcome.{Work}
+use Rattle.command_run.specs.Outcome.{CommandWork}
 use Rattle.log_pairs.specs.Pairs.{Pair}
 use Rattle.debug_command.specs.Debug.{debug_outcome}
 use Rattle.debug_command.specs.Valid.{IsSession}
@@ -9,4 +9,4 @@ use Rattle.debug_command.specs.Valid.{IsSession}
 -- a group and an input within the limit have an outcome that is work
 abbrev pub SessionsWork : Type 0
 SessionsWork = (pairs : List Pair) (folder : Folder) (left : Option (List ℕ)) → IsSession folder pairs left
-    → (work : Work) × (debug_outcome pairs left folder ≡ Some (Ok work))
+    → (work : CommandWork) × (debug_outcome pairs left folder ≡ Some (Ok work))

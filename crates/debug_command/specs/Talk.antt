@@ -143,7 +143,7 @@ abbrev pub heard_of : TalkOfCode × Bool → Heard
 heard_of heard = record { talk = talk_of heard.0; more = heard.1 }
 
 -- a piece was read and taken, or there was none left. What had been printed before was noted with it
-pub record Hears (start : List Replaying) (printed : Option (List ℕ)) (taken : List ℕ) (exchange : Exchange) (heard : Heard) : Type 0 where
+pub record HearsPiece (start : List Replaying) (printed : Option (List ℕ)) (taken : List ℕ) (exchange : Exchange) (heard : Heard) : Type 0 where
   pub piece : List ℕ
   pub short : length piece ≤ exchange.room
   pub stands : SessionStands start printed exchange.new.taken heard.talk (taken ++ piece)
@@ -181,7 +181,7 @@ pub record Breaks (start : List Replaying) (printed : Option (List ℕ)) (taken 
 unfoldable pub HearsFrom : Exchange → Talk → Heard → Type 0
 HearsFrom exchange talk heard =
     (start : List Replaying) (printed : Option (List ℕ)) (taken : List ℕ)
-    → SessionStands start printed exchange.old.taken talk taken → Hears start printed taken exchange heard
+    → SessionStands start printed exchange.old.taken talk taken → HearsPiece start printed taken exchange heard
 
 -- from where a session stood on, it breaks so
 unfoldable pub BreaksFrom : Exchange → Talk → Ended → Type 0
@@ -246,5 +246,5 @@ unfoldable pub OpensPart : List Replaying → Option (List ℕ) → Option (List
 OpensPart start printed now why = SaysPart start printed now [] × FailsAtOpening why
 
 -- a session was held
-unfoldable pub Held : List Replaying → TerminalState → TerminalState → Ended → Type 0
-Held start old new why = SessionHolds start old new why
+unfoldable pub HeldSession : List Replaying → TerminalState → TerminalState → Ended → Type 0
+HeldSession start old new why = SessionHolds start old new why

@@ -4,7 +4,7 @@ ghost use Rattle.fri_text.specs.Line.{lines_of};
 ghost use Rattle.group_state.specs.Place.{AreParts};
 ghost use Rattle.debug_command.specs.declared.converse.Ended.TheVariants as cause;
 ghost use Rattle.debug_command.specs.Conversation.{Converses, terminal_at};
-ghost use Rattle.debug_command.specs.Talk.{BreaksFrom, GoesOn, HearsFrom, Held, HoldsFrom, Opens, OpensPart, Spoke, StopsIn, ended_by, exchange_of, heard_of, listened_after, spoken_after, talk_of, why_of};
+ghost use Rattle.debug_command.specs.Talk.{BreaksFrom, GoesOn, HearsFrom, HeldSession, HoldsFrom, Opens, OpensPart, Spoke, StopsIn, ended_by, exchange_of, heard_of, listened_after, spoken_after, talk_of, why_of};
 
 use command_run::{Reason, Status, say_refused};
 use fri_bytes::Cursor;
@@ -246,7 +246,7 @@ fn hold<T: Terminal, L: Ledger>(
     steps: &mut Steps<L>,
 ) -> Result<(), Ended>
     requires { AreParts parts.items }
-    ensures said { let terminal = terminal_at T.hearing T.taken T.faults in Held parts.entry.items (terminal io.old) (terminal io.new) (why_of result) }
+    ensures said { let terminal = terminal_at T.hearing T.taken T.faults in HeldSession parts.entry.items (terminal io.old) (terminal io.new) (why_of result) }
     ensures reads { (T.hearing io.new).faults ≡ listened_after (T.hearing io.old).faults result }
     ensures counted { T.faults io.new ≡ spoken_after (T.faults io.old) result }
 {

@@ -3,20 +3,20 @@ use Rattle.std.proofs.Common.{◌≡◌, ◌∙◌, ℕ, false, List, [], Option
 use Rattle.std.specs.Prelude.{IfErr, codes, string_bytes}
 use Rattle.std.proofs.lemmas.Option.{same_Some}
 use Rattle.fri_outside.specs.Outside.{Counts, Folder}
-use Rattle.command_run.specs.declared.refusal.Answer.{Answer}
-use Rattle.command_run.specs.declared.refusal.Answer.TheVariants as answered
+use Rattle.command_run.specs.declared.refusal.WorkText.{WorkText}
+use Rattle.command_run.specs.declared.refusal.WorkText.TheVariants as answered
 use Rattle.command_run.specs.declared.refusal.Reason.{Reason}
 use Rattle.command_run.specs.declared.refusal.Reason.TheVariants as reason
-use Rattle.command_run.specs.declared.refusal.Refusal.{Refusal}
-use Rattle.command_run.specs.declared.refusal.Refusal.TheVariants as refusal
-use Rattle.command_run.specs.Call.{CountsFaults, DivergesOnlyIf, Keeps, Makes, Raises, StopsAs, TellsOutcome}
+use Rattle.command_run.specs.declared.refusal.StopCause.{StopCause}
+use Rattle.command_run.specs.declared.refusal.StopCause.TheVariants as refusal
+use Rattle.command_run.specs.Call.{CountsFaults, DivergesOnlyIf, KeepsFolder, MakesWorkFiles, Raises, StopsAs, TellsOutcome}
 use Rattle.command_run.specs.Outcome.{CommandOutcome, refuses_at_once, writes_of}
 use Rattle.command_run.specs.OutcomeLaws.{stops_make, stops_tell}
 use Rattle.command_run.specs.Run.{Performed}
-use Rattle.drill_command.specs.Drill.{drill_outcome, drill_run, drill_work, outcome_by_room}
+use Rattle.drill_command.specs.Drill.{drill_outcome, drill_run, drill_work, drill_by_room}
 use Rattle.drill_command.specs.Seen.{IsFullLog, StopsDrill}
 
-abbrev pub Performs : ℕ → Result Answer Refusal → Type 0
+abbrev pub Performs : ℕ → Result WorkText StopCause → Type 0
 Performs rounds ended = (told : Option Folder) (counts : Counts) → Performed (Some (drill_outcome rounds)) (λ folder. []) false told told counts counts ended
 
 -- what is said of its outcome is said of the one that is expected
@@ -26,7 +26,7 @@ at_outcome rounds P so o is = subst P (same_Some (drill_outcome rounds) o is) so
 pub done_performs : (rounds : ℕ) → (drill_run rounds).full ≡ None → (text : List ℕ) → text ≡ (drill_work rounds (drill_run rounds)).text → Performs rounds (Ok (answered.Done text))
 done_performs rounds room text is told counts = record {
   tells = at_outcome rounds (λ o. TellsOutcome o (Ok (answered.Done text))) (drill_work rounds (drill_run rounds), whole, is, refl);
-  makes = at_outcome rounds (λ o. Makes (Ok (answered.Done text)) (writes_of o) told told) (subst (λ (o : CommandOutcome). Makes (Ok (answered.Done text)) (writes_of o) told told) (sym whole) refl);
+  makes = at_outcome rounds (λ o. MakesWorkFiles (Ok (answered.Done text)) (writes_of o) told told) (subst (λ (o : CommandOutcome). MakesWorkFiles (Ok (answered.Done text)) (writes_of o) told told) (sym whole) refl);
   names = λ folder here. inl refl;
   keeps = tt;
   diverges = tt;
@@ -34,37 +34,37 @@ done_performs rounds room text is told counts = record {
   cause = tt;
 } where
   whole : drill_outcome rounds ≡ Ok (drill_work rounds (drill_run rounds))
-  whole = ap (outcome_by_room rounds (drill_run rounds)) room
+  whole = ap (drill_by_room rounds (drill_run rounds)) room
 
 -- ---- a stop
 
-stops_as : (rounds : ℕ) (e : Refusal) → StopsDrill rounds e → StopsAs (drill_outcome rounds) e
+stops_as : (rounds : ℕ) (e : StopCause) → StopsDrill rounds e → StopsAs (drill_outcome rounds) e
 stops_as rounds (refusal.Refused file (reason.LogFull item)) (named, full) =
-    ap (outcome_by_room rounds (drill_run rounds)) full ∙ ap (λ (name : List ℕ). Err (refuses_at_once name (reason.LogFull item))) (sym named)
+    ap (drill_by_room rounds (drill_run rounds)) full ∙ ap (λ (name : List ℕ). Err (refuses_at_once name (reason.LogFull item))) (sym named)
 stops_as rounds (refusal.Refused file other) (named, full) = absurd full
 stops_as rounds refusal.NoMemory stops = tt
 stops_as rounds other stops = absurd stops
 
-keeps_all : (rounds : ℕ) (e : Refusal) (told : Option Folder) → StopsDrill rounds e → Keeps (Err e) told told
+keeps_all : (rounds : ℕ) (e : StopCause) (told : Option Folder) → StopsDrill rounds e → KeepsFolder (Err e) told told
 keeps_all rounds (refusal.Refused file why) told stops = tt
 keeps_all rounds refusal.NoMemory told stops = tt
 keeps_all rounds other told stops = absurd stops
 
-counts_none : (rounds : ℕ) (e : Refusal) (counts : Counts) → StopsDrill rounds e → CountsFaults {T = Answer} counts counts (Err e)
+counts_none : (rounds : ℕ) (e : StopCause) (counts : Counts) → StopsDrill rounds e → CountsFaults {T = WorkText} counts counts (Err e)
 counts_none rounds (refusal.Refused file why) counts stops = record { reads = refl; writes = refl; misses = tt }
 counts_none rounds refusal.NoMemory counts stops = record { reads = refl; writes = refl; misses = tt }
 counts_none rounds other counts stops = absurd stops
 
-raises : (rounds : ℕ) (e : Refusal) (counts : Counts) → StopsDrill rounds e → Raises counts counts e
+raises : (rounds : ℕ) (e : StopCause) (counts : Counts) → StopsDrill rounds e → Raises counts counts e
 raises rounds (refusal.Refused file (reason.LogFull item)) counts stops = λ large. absurd cc
 raises rounds (refusal.Refused file other) counts stops = absurd stops.1
 raises rounds refusal.NoMemory counts stops = tt
 raises rounds other counts stops = absurd stops
 
-pub stop_performs : (rounds : ℕ) (e : Refusal) → StopsDrill rounds e → Performs rounds (Err e)
+pub stop_performs : (rounds : ℕ) (e : StopCause) → StopsDrill rounds e → Performs rounds (Err e)
 stop_performs rounds e stops told counts = record {
   tells = at_outcome rounds (λ o. TellsOutcome o (Err e)) (stops_tell (drill_outcome rounds) e stopped);
-  makes = at_outcome rounds (λ o. Makes (Err e) (writes_of o) told told) (stops_make (drill_outcome rounds) e told told stopped refl);
+  makes = at_outcome rounds (λ o. MakesWorkFiles (Err e) (writes_of o) told told) (stops_make (drill_outcome rounds) e told told stopped refl);
   names = λ folder here. inl refl;
   keeps = keeps_all rounds e told stops;
   diverges = tt;

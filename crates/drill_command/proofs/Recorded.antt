@@ -18,19 +18,19 @@ use Rattle.guest_process.specs.State.{State}
 use Rattle.group_record.specs.declared.error.RecordError.{RecordError}
 use Rattle.group_record.specs.declared.error.RecordError.TheVariants as errors
 use Rattle.group_record.specs.declared.summary.Summary.{Summary}
-use Rattle.group_record.specs.Answer.{IsDone, IsFull, RecordAnswers, first_states, first_states_from, group_of}
+use Rattle.group_record.specs.Answer.{IsRecordedWhole, IsFull, RecordAnswers, first_states, first_states_from, group_of}
 use Rattle.group_record.specs.Laws.{Agreement, Beginning, IsBegun}
 use Rattle.group_record.specs.Logs.{TellsEvents, log_name, logs}
-use Rattle.group_record.specs.Run.{Step, log_of, name_of, run, size}
+use Rattle.group_record.specs.Run.{Step, log_of, name_of_process, run, size}
 use Rattle.command_run.specs.declared.refusal.Reason.TheVariants as reason
-use Rattle.command_run.specs.declared.refusal.Refusal.{Refusal}
-use Rattle.command_run.specs.declared.refusal.Refusal.TheVariants as refusal
+use Rattle.command_run.specs.declared.refusal.StopCause.{StopCause}
+use Rattle.command_run.specs.declared.refusal.StopCause.TheVariants as refusal
 use Rattle.command_run.specs.Call.{RefusesFile}
 use Rattle.command_run.specs.OutcomeLaws.{same_Ok}
 use Rattle.drill_command.specs.declared.recording.Recording.{Recording}
 use Rattle.drill_command.specs.Drill.{drill_group, drill_modules, drill_run, drill_states}
 use Rattle.drill_command.specs.Ring.{ring}
-use Rattle.drill_command.specs.Seen.{HoldLogs, IsRecorded, StopsDrill}
+use Rattle.drill_command.specs.Seen.{HoldLogs, HasAllRounds, StopsDrill}
 use Rattle.drill_command.proofs.Begins.{all_begin}
 use Rattle.drill_command.proofs.Valid.{ring_is_valid}
 
@@ -64,7 +64,7 @@ unlike a b differ same = differ (ap digit same)
 -- ---- the logs
 
 abbrev log_at : List Step → ℕ → File
-log_at steps p = (log_name (name_of drill_group p), log_of drill_group steps p)
+log_at steps p = (log_name (name_of_process drill_group p), log_of drill_group steps p)
 
 abbrev all_logs : List Step → List File
 all_logs steps = log_at steps 0 ∷ log_at steps 1 ∷ log_at steps 2 ∷ log_at steps 3 ∷ []
@@ -82,14 +82,14 @@ logs_apart steps = all_apart (all_logs steps) (
 )
 
 logs_held : KeepsFiles → (steps : List Step) (folder : Folder) → Some folder ≡ with_files (all_logs steps) (Some empty)
-    → (p : ℕ) → p < 4 → get folder (log_name (name_of drill_group p)) ≡ Some (log_of drill_group steps p)
+    → (p : ℕ) → p < 4 → get folder (log_name (name_of_process drill_group p)) ≡ Some (log_of drill_group steps p)
 logs_held keeps steps folder is = at
   where
     stands : Adds (all_logs steps) empty folder
     stands = let made = keeps.stands empty (all_logs steps) (logs_apart steps) in
         subst (Adds (all_logs steps) empty) (sym (same_Some folder made.0 (is ∙ made.1))) made.2
 
-    at : (p : ℕ) → p < 4 → get folder (log_name (name_of drill_group p)) ≡ Some (log_of drill_group steps p)
+    at : (p : ℕ) → p < 4 → get folder (log_name (name_of_process drill_group p)) ≡ Some (log_of drill_group steps p)
     at zero below = stands.held 0 (log_at steps 0).0 (log_at steps 0).1 refl
     at (suc zero) below = stands.held 1 (log_at steps 1).0 (log_at steps 1).1 refl
     at (suc (suc zero)) below = stands.held 2 (log_at steps 2).0 (log_at steps 2).1 refl
@@ -109,12 +109,12 @@ logs_tell exact beginning agreement rounds schedule p below =
 
 pub recorded : KeepsFiles → ExactFault → Beginning → Agreement → (rounds : ℕ) → IsSchedule (drill_schedule rounds) → (ms : List Module) → ms ≡ drill_modules
     → (summary : Summary) (files : FilesInMemory) → RecordAnswers (drill_schedule rounds) false (first_states (drill_schedule rounds) ms) (Ok summary) (Some empty) (Some files.folder)
-    → IsRecorded rounds (record { files = files; idle = summary.idle })
+    → HasAllRounds rounds (record { files = files; idle = summary.idle })
 unfolding drill_run
 recorded keeps exact beginning agreement rounds schedule ms are summary files (first, begun, done) =
     let same : first ≡ drill_states = same_Ok (first_states_from 4 0 ms) first drill_states begun (ap (first_states_from 4 0) are ∙ all_begin) in
-    let is : IsDone false drill_group (drill_run rounds) summary (Some empty) (Some files.folder) =
-    subst (λ (states : List State). IsDone false (group_of (drill_schedule rounds) states) (run (group_of (drill_schedule rounds) states) (drill_schedule rounds).items) summary (Some empty) (Some files.folder)) same done in
+    let is : IsRecordedWhole false drill_group (drill_run rounds) summary (Some empty) (Some files.folder) =
+    subst (λ (states : List State). IsRecordedWhole false (group_of (drill_schedule rounds) states) (run (group_of (drill_schedule rounds) states) (drill_schedule rounds).items) summary (Some empty) (Some files.folder)) same done in
     record {
       room = is.room;
       idle = is.summary.idle;
@@ -128,7 +128,7 @@ recorded keeps exact beginning agreement rounds schedule ms are summary files (f
 pub recorded_by : KeepsFiles → ExactFault → Beginning → Agreement → (rounds : ℕ) → IsSchedule (drill_schedule rounds) → (ms : List Module) → ms ≡ drill_modules
     → (s : Schedule) → s ≡ drill_schedule rounds → (before : Folder) → before ≡ empty
     → (summary : Summary) (files : FilesInMemory) → RecordAnswers s false (first_states s ms) (Ok summary) (Some before) (Some files.folder)
-    → IsRecorded rounds (record { files = files; idle = summary.idle })
+    → HasAllRounds rounds (record { files = files; idle = summary.idle })
 recorded_by keeps exact beginning agreement rounds schedule ms are s is before fresh summary files answers =
     recorded keeps exact beginning agreement rounds schedule ms are summary files
     (subst (λ (f : Folder). RecordAnswers (drill_schedule rounds) false (first_states (drill_schedule rounds) ms) (Ok summary) (Some f) (Some files.folder)) fresh
@@ -143,7 +143,7 @@ never_bad rounds ms are p before after answers = refuted (sym answers.0 ∙ ap (
 
 pub full_stops : (rounds : ℕ) (ms : List Module) → ms ≡ drill_modules → (item : ℕ) (before after : Option Folder)
     → RecordAnswers (drill_schedule rounds) false (first_states (drill_schedule rounds) ms) (Err (errors.LogFull item)) before after
-    → (e : Refusal) → RefusesFile (codes "drill") (reason.LogFull item) e → StopsDrill rounds e
+    → (e : StopCause) → RefusesFile (codes "drill") (reason.LogFull item) e → StopsDrill rounds e
 unfolding drill_run
 full_stops rounds ms are item before after (first, begun, full) e refuses = stops e refuses
   where
@@ -153,7 +153,7 @@ full_stops rounds ms are item before after (first, begun, full) e refuses = stop
     is : (drill_run rounds).full ≡ Some item
     is = (subst (λ (states : List State). IsFull (group_of (drill_schedule rounds) states) (run (group_of (drill_schedule rounds) states) (drill_schedule rounds).items) item before after) same full).full
 
-    stops : (e : Refusal) → RefusesFile (codes "drill") (reason.LogFull item) e → StopsDrill rounds e
+    stops : (e : StopCause) → RefusesFile (codes "drill") (reason.LogFull item) e → StopsDrill rounds e
     stops (refusal.Refused file why) (named, because) = rw because (named, is)
     stops refusal.NoMemory refuses = tt
     stops other refuses = absurd refuses
@@ -161,7 +161,7 @@ full_stops rounds ms are item before after (first, begun, full) e refuses = stop
 -- the same of a schedule and an answer that are these
 pub full_stops_by : (rounds : ℕ) (ms : List Module) → ms ≡ drill_modules → (s : Schedule) → s ≡ drill_schedule rounds → (item : ℕ) (error : RecordError) → error ≡ errors.LogFull item
     → (before after : Option Folder) → RecordAnswers s false (first_states s ms) (Err error) before after
-    → (e : Refusal) → RefusesFile (codes "drill") (reason.LogFull item) e → StopsDrill rounds e
+    → (e : StopCause) → RefusesFile (codes "drill") (reason.LogFull item) e → StopsDrill rounds e
 full_stops_by rounds ms are s is item error full before after answers =
     full_stops rounds ms are item before after
     (subst (λ (x : RecordError). RecordAnswers (drill_schedule rounds) false (first_states (drill_schedule rounds) ms) (Err x) before after) full

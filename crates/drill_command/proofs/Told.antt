@@ -1,21 +1,21 @@
 -- The text of the drill is that of the whole run.
 use Rattle.std.proofs.Common.{◌≡◌, ◌∙◌, ℕ, List, ap, subst}
 use Rattle.proc_replay.specs.Replaying.{Replaying}
-use Rattle.group_state.specs.Place.{Place}
+use Rattle.group_state.specs.Place.{GroupPlace}
 use Rattle.group_record.specs.Run.{Step}
 use Rattle.drill_command.specs.declared.recording.Recording.{Recording}
 use Rattle.drill_command.specs.declared.watching.Watched.{Watched}
 use Rattle.drill_command.specs.Drill.{drill_group, drill_run, drill_text, replays_of_logs}
-use Rattle.drill_command.specs.Seen.{HoldLogs, IsRecorded, IsWatched, TellsDrill}
+use Rattle.drill_command.specs.Seen.{HoldLogs, HasAllRounds, IsWatched, TellsDrill}
 
-pub tells : (rounds : ℕ) (recording : Recording) → IsRecorded rounds recording
+pub tells : (rounds : ℕ) (recording : Recording) → HasAllRounds rounds recording
     → (parts : List Replaying) → ((steps : List Step) → HoldLogs steps recording.files → parts ≡ replays_of_logs drill_group steps)
-    → (group : Place) → group ≡ record { start = parts; at = 0 }
+    → (group : GroupPlace) → group ≡ record { start = parts; at = 0 }
     → (watched : Watched) → IsWatched group.start watched
     → (text : List ℕ) → ((start : List Replaying) → IsWatched start watched → text ≡ drill_text rounds recording.idle start) → TellsDrill rounds text
 tells rounds recording is parts are group begun watched walked text printed =
     let steps = (drill_run rounds).steps in
-    let here : group.start ≡ replays_of_logs drill_group steps = ap (λ (g : Place). g.start) begun ∙ are steps is.logs in
+    let here : group.start ≡ replays_of_logs drill_group steps = ap (λ (g : GroupPlace). g.start) begun ∙ are steps is.logs in
     record {
       room = is.room;
       told = printed group.start walked ∙ ap (drill_text rounds recording.idle) here ∙ ap (λ (idle : ℕ). drill_text rounds idle (replays_of_logs drill_group steps)) is.idle;

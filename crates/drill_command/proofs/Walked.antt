@@ -8,8 +8,8 @@ use Rattle.std.proofs.lemmas.List.FromFn.{length-range_with_len}
 use Rattle.proc_replay.specs.Replaying.{Replaying}
 use Rattle.group_state.specs.declared.event.GroupEvent.{GroupEvent}
 use Rattle.group_state.specs.Moves.{Moves, event_of}
-use Rattle.group_state.specs.Place.{Place, events}
-use Rattle.shell_points.specs.Firing.{fires, is_same_value, place_at, value_at_position}
+use Rattle.group_state.specs.Place.{GroupPlace, events}
+use Rattle.shell_points.specs.Firing.{fires, is_unchanged, place_at, value_at_position}
 use Rattle.watch_expr.specs.Expression.{Expression}
 use Rattle.drill_command.specs.Drill.{drill_watch}
 use Rattle.drill_command.specs.Seen.{IsWatched}
@@ -48,7 +48,7 @@ past [] n none = omega arith
 past (x ∷ xs) zero none = cc
 past (x ∷ xs) (suc n) none = let rest = past xs n none in omega (arith, rest)
 
-pub moves_on : (old new : Place) (event : Option GroupEvent) → is_some event ≡ true → Moves old new event
+pub moves_on : (old new : GroupPlace) (event : Option GroupEvent) → is_some event ≡ true → Moves old new event
     → (new ≡ place_at old.start (suc old.at)) × (old.at < length (events old.start))
 moves_on old new None some moves = absurd cc
 moves_on old new (Some e) some moves =
@@ -56,46 +56,46 @@ moves_on old new (Some e) some moves =
     (moves.place ∙ ap (place_at old.start) one, slice_get_within (events old.start) old.at (event_of e) (sym moves.gives))
 
 -- there is no event more
-pub stays : (old new : Place) (event : Option GroupEvent) → is_some event ≡ false → Moves old new event → (new ≡ old) × (length (events old.start) ≤ old.at)
+pub stays : (old new : GroupPlace) (event : Option GroupEvent) → is_some event ≡ false → Moves old new event → (new ≡ old) × (length (events old.start) ≤ old.at)
 stays old new None none moves = (moves.place, past (events old.start) old.at moves.gives)
 stays old new (Some e) none moves = absurd cc
 
 -- the walk has come to a position, and this was seen up to there
-pub record WalkedTo (first here : Place) (firings : ℕ) (last : Option ℤ) : Type 0 where
+pub record WalkedTo (first here : GroupPlace) (firings : ℕ) (last : Option ℤ) : Type 0 where
   pub start : here.start ≡ first.start
   pub within : here.at ≤ length (events first.start)
   pub fired : firings ≡ fired_by first.start here.at
   pub value : last ≡ value_at_position first.start drill_watch here.at
 
 -- at the end all of it was seen
-pub all_watched : (first old new : Place) (event : Option GroupEvent) (walked firings : ℕ) (last : Option ℤ) → WalkedTo first old firings last → Moves old new event
+pub all_watched : (first old new : GroupPlace) (event : Option GroupEvent) (walked firings : ℕ) (last : Option ℤ) → WalkedTo first old firings last → Moves old new event
     → is_some event ≡ false → walked ≡ new.at → IsWatched first.start (record { events = walked; firings = firings; last = last })
 all_watched first old new event walked firings last so_far moves none at =
     let stay = stays old new event none moves in
     let same : length (events old.start) ≡ length (events first.start) = ap (λ (s : List Replaying). length (events s)) so_far.start in
     let end : old.at ≡ length (events first.start) = omega (arith, so_far.within, stay.1, same) in
     record {
-      walked = at ∙ ap (λ (p : Place). p.at) stay.0 ∙ end;
+      walked = at ∙ ap (λ (p : GroupPlace). p.at) stay.0 ∙ end;
       firings = so_far.fired ∙ ap (fired_by first.start) end;
       last = so_far.value ∙ ap (value_at_position first.start drill_watch) end;
     }
 
 -- at one position more
-pub one_walked : (first old new : Place) (event : Option GroupEvent) (firings next : ℕ) (last now : Option ℤ) → WalkedTo first old firings last → Moves old new event
-    → is_some event ≡ true → now ≡ value_at_position new.start drill_watch new.at → next ≡ firings + cond (not (is_same_value last now)) 1 0 → WalkedTo first new next now
+pub one_walked : (first old new : GroupPlace) (event : Option GroupEvent) (firings next : ℕ) (last now : Option ℤ) → WalkedTo first old firings last → Moves old new event
+    → is_some event ≡ true → now ≡ value_at_position new.start drill_watch new.at → next ≡ firings + cond (not (is_unchanged last now)) 1 0 → WalkedTo first new next now
 one_walked first old new event firings next last now so_far moves some is counted =
     let went = moves_on old new event some moves in
     let here : new ≡ place_at first.start (suc old.at) = went.0 ∙ ap (λ (s : List Replaying). place_at s (suc old.at)) so_far.start in
-    let start : new.start ≡ first.start = ap (λ (p : Place). p.start) here in
-    let at : new.at ≡ suc old.at = ap (λ (p : Place). p.at) here in
+    let start : new.start ≡ first.start = ap (λ (p : GroupPlace). p.start) here in
+    let at : new.at ≡ suc old.at = ap (λ (p : GroupPlace). p.at) here in
     let same : length (events old.start) ≡ length (events first.start) = ap (λ (s : List Replaying). length (events s)) so_far.start in
-    let value : now ≡ value_at_position first.start drill_watch (suc old.at) = is ∙ ap (λ (p : Place). value_at_position p.start drill_watch p.at) here in
-    let fires_here : cond (not (is_same_value last now)) 1 0 ≡ once first.start (suc old.at) =
-    ap (λ (v : Option ℤ). cond (not (is_same_value v now)) 1 0) so_far.value ∙ ap (λ (v : Option ℤ). cond (not (is_same_value (value_at_position first.start drill_watch old.at) v)) 1 0) value in
+    let value : now ≡ value_at_position first.start drill_watch (suc old.at) = is ∙ ap (λ (p : GroupPlace). value_at_position p.start drill_watch p.at) here in
+    let fires_here : cond (not (is_unchanged last now)) 1 0 ≡ once first.start (suc old.at) =
+    ap (λ (v : Option ℤ). cond (not (is_unchanged v now)) 1 0) so_far.value ∙ ap (λ (v : Option ℤ). cond (not (is_unchanged (value_at_position first.start drill_watch old.at) v)) 1 0) value in
     record {
       start = start;
       within = omega (arith, went.1, same, at);
-      fired = counted ∙ ap (λ (n : ℕ). n + cond (not (is_same_value last now)) 1 0) so_far.fired ∙ ap (λ (n : ℕ). fired_by first.start old.at + n) fires_here
+      fired = counted ∙ ap (λ (n : ℕ). n + cond (not (is_unchanged last now)) 1 0) so_far.fired ∙ ap (λ (n : ℕ). fired_by first.start old.at + n) fires_here
           ∙ sym (fired_more first.start old.at) ∙ ap (fired_by first.start) (sym at);
       value = value ∙ ap (value_at_position first.start drill_watch) (sym at);
     }

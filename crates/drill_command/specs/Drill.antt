@@ -1,16 +1,16 @@
--- What `drill` comes to.
+-- What `drill_rounds` comes to.
 use Rattle.std.specs.Prelude.{ℕ, suc, false, List, [], ◌∷◌, ◌++◌, length, drop, map, decimal, codes, count_by, unwrap_or, Option, Some, None, Ok, Err}
 use Rattle.std.specs.List.{range_with_len}
 use Rattle.std.specs.Result.{result_ok}
 use Rattle.wasm_types.specs.Modules.{Module}
 use Rattle.schedule_text.specs.Drill.{drill_processes, drill_schedule}
 use Rattle.call_log.specs.Head.{head_bytes}
-use Rattle.call_log.specs.Log.{Unread, behind}
+use Rattle.call_log.specs.Log.{Unread, unread_after_head}
 use Rattle.guest_process.specs.State.{State}
 use Rattle.proc_replay.specs.Replaying.{Replaying}
 use Rattle.group_state.specs.Place.{events}
 use Rattle.group_record.specs.Answer.{first_states_from}
-use Rattle.group_record.specs.Run.{Group, Progress, Step, head_of_log, log_of, run}
+use Rattle.group_record.specs.Run.{GroupStart, Progress, Step, head_of_log, log_of, run}
 use Rattle.watch_expr.specs.declared.expr.Agg.TheVariants.{Sum}
 use Rattle.watch_expr.specs.declared.expr.NodeName.TheVariants.{Each}
 use Rattle.watch_expr.specs.declared.expr.Width.TheVariants.{I64}
@@ -18,7 +18,7 @@ use Rattle.watch_expr.specs.Expression.{Expression, Number, Over, Load}
 use Rattle.embed_cmds.specs.Running.{value_word}
 use Rattle.shell_points.specs.Firing.{fires, value_at_position}
 use Rattle.command_run.specs.declared.refusal.Reason.TheVariants as reason
-use Rattle.command_run.specs.Outcome.{CommandOutcome, Work, refuses_at_once}
+use Rattle.command_run.specs.Outcome.{CommandOutcome, CommandWork, refuses_at_once}
 use Rattle.drill_command.specs.Ring.{ring}
 
 -- ---- the recording
@@ -31,7 +31,7 @@ drill_modules = ring ∷ ring ∷ ring ∷ ring ∷ []
 unfoldable pub drill_states : List State
 drill_states = unwrap_or (result_ok (first_states_from 4 0 drill_modules)) []
 
-abbrev pub drill_group : Group
+abbrev pub drill_group : GroupStart
 drill_group = record { names = map (λ line. line.name) drill_processes; first = drill_states }
 
 unfoldable pub drill_run : ℕ → Progress
@@ -40,19 +40,19 @@ drill_run rounds = run drill_group (drill_schedule rounds).items
 -- ---- the replays of its logs
 
 -- what a log has after its head
-abbrev pub left_of_log : Group → List Step → ℕ → Unread
-left_of_log group steps p = behind (head_of_log group p) (drop (length (head_bytes (head_of_log group p))) (log_of group steps p))
+abbrev pub left_of_log : GroupStart → List Step → ℕ → Unread
+left_of_log group steps p = unread_after_head (head_of_log group p) (drop (length (head_bytes (head_of_log group p))) (log_of group steps p))
 
-abbrev pub replay_of_log : Group → List Step → ℕ → State → Replaying
-replay_of_log group steps p S = record { head = head_of_log group p; state = S; left = left_of_log group steps p }
+abbrev pub replay_of_process : GroupStart → List Step → ℕ → State → Replaying
+replay_of_process group steps p S = record { head = head_of_log group p; state = S; left = left_of_log group steps p }
 
 -- of the processes from p on, which begin so
-abbrev pub replays_from : Group → List Step → ℕ → List State → List Replaying
+abbrev pub replays_from : GroupStart → List Step → ℕ → List State → List Replaying
 replays_from group steps p [] = []
-replays_from group steps p (S ∷ states) = replay_of_log group steps p S ∷ replays_from group steps (suc p) states
+replays_from group steps p (S ∷ states) = replay_of_process group steps p S ∷ replays_from group steps (suc p) states
 
 -- of all logs that a group has after some steps
-abbrev pub replays_of_logs : Group → List Step → List Replaying
+abbrev pub replays_of_logs : GroupStart → List Step → List Replaying
 replays_of_logs group steps = replays_from group steps 0 group.first
 
 -- ---- what is watched
@@ -77,14 +77,14 @@ drill_text rounds idle start =
     ++ (number_line (codes "idle ") idle ++ (number_line (codes "firings ") (firing_count start)
     ++ (codes "last " ++ (value_word (value_at_position start drill_watch (length (events start))) ++ codes "\n")))))
 
-abbrev pub drill_work : ℕ → Progress → Work
+abbrev pub drill_work : ℕ → Progress → CommandWork
 drill_work rounds done = record { text = drill_text rounds done.idle (replays_of_logs drill_group done.steps); writes = []; diverged = false }
 
-abbrev pub outcome_by_room : ℕ → Progress → Option ℕ → CommandOutcome
-outcome_by_room rounds done None = Ok (drill_work rounds done)
-outcome_by_room rounds done (Some item) = Err (refuses_at_once (codes "drill") (reason.LogFull item))
+abbrev pub drill_by_room : ℕ → Progress → Option ℕ → CommandOutcome
+drill_by_room rounds done None = Ok (drill_work rounds done)
+drill_by_room rounds done (Some item) = Err (refuses_at_once (codes "drill") (reason.LogFull item))
 
 -- The group is recorded, its logs are replayed, and all positions are watched. Where a log has no room for an event, that
 -- item of the schedule is told.
 abbrev pub drill_outcome : ℕ → CommandOutcome
-drill_outcome rounds = outcome_by_room rounds (drill_run rounds) (drill_run rounds).full
+drill_outcome rounds = drill_by_room rounds (drill_run rounds) (drill_run rounds).full

@@ -8,9 +8,9 @@ use Rattle.wasm_types.specs.Code.{Tree, Trees, End, Then, If, Loop, Br, CallFunc
 use Rattle.wasm_types.specs.Modules.{FuncType, Import, Module}
 
 -- instructions one after the other
-abbrev pub sequence : List Tree → Trees
-sequence [] = End
-sequence (first ∷ rest) = Then first (sequence rest)
+abbrev pub instruction_sequence : List Tree → Trees
+instruction_sequence [] = End
+instruction_sequence (first ∷ rest) = Then first (instruction_sequence rest)
 
 -- ---- the functions, by their numbers
 
@@ -57,11 +57,11 @@ store_64 = Store 55 3 0
 
 -- the 8 bytes at 64 go to process 1
 abbrev pub send_first : Trees
-send_first = sequence (ConstI32 1 ∷ ConstI32 64 ∷ ConstI32 8 ∷ call_send ∷ DropTop ∷ [])
+send_first = instruction_sequence (ConstI32 1 ∷ ConstI32 64 ∷ ConstI32 8 ∷ call_send ∷ DropTop ∷ [])
 
 -- 8 bytes come to 64, and the sender's number to 32; one is added there, and one at 1024; and they go to the next process
 abbrev pub hand_on : Trees
-hand_on = sequence (
+hand_on = instruction_sequence (
     ConstI32 64 ∷ ConstI32 8 ∷ ConstI32 32 ∷ call_recv ∷ DropTop
     ∷ ConstI32 64 ∷ ConstI32 64 ∷ load_64 ∷ ConstI64 1 ∷ add_64 ∷ store_64
     ∷ ConstI32 1024 ∷ ConstI32 1024 ∷ load_64 ∷ ConstI64 1 ∷ add_64 ∷ store_64
@@ -69,7 +69,7 @@ hand_on = sequence (
     ∷ Br 0 ∷ [])
 
 abbrev pub ring_body : Trees
-ring_body = sequence (call_me ∷ LocalSet 0 ∷ LocalGet 0 ∷ eqz ∷ If None send_first End ∷ Loop None hand_on ∷ [])
+ring_body = instruction_sequence (call_me ∷ LocalSet 0 ∷ LocalGet 0 ∷ eqz ∷ If None send_first End ∷ Loop None hand_on ∷ [])
 
 abbrev pub ring : Module
 ring = record {

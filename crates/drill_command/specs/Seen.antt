@@ -5,12 +5,12 @@ use Rattle.fri_outside.specs.Memory.{FilesInMemory}
 use Rattle.proc_replay.specs.Replaying.{Replaying}
 use Rattle.group_state.specs.Place.{events}
 use Rattle.group_record.specs.Logs.{TellsEvents, log_name}
-use Rattle.group_record.specs.Run.{Step, log_of, name_of}
+use Rattle.group_record.specs.Run.{Step, log_of, name_of_process}
 use Rattle.shell_points.specs.Firing.{value_at_position}
 use Rattle.command_run.specs.declared.refusal.Reason.{Reason}
 use Rattle.command_run.specs.declared.refusal.Reason.TheVariants as reason
-use Rattle.command_run.specs.declared.refusal.Refusal.{Refusal}
-use Rattle.command_run.specs.declared.refusal.Refusal.TheVariants as refusal
+use Rattle.command_run.specs.declared.refusal.StopCause.{StopCause}
+use Rattle.command_run.specs.declared.refusal.StopCause.TheVariants as refusal
 use Rattle.drill_command.specs.declared.recording.Recording.{Recording}
 use Rattle.drill_command.specs.declared.watching.Watched.{Watched}
 use Rattle.drill_command.specs.Drill.{drill_group, drill_run, drill_text, drill_watch, firing_count, replays_of_logs}
@@ -19,11 +19,11 @@ use Rattle.drill_command.specs.Drill.{drill_group, drill_run, drill_text, drill_
 
 -- the files are the group's logs after some steps, and each tells the events of its process
 pub record HoldLogs (steps : List Step) (files : FilesInMemory) : Type 0 where
-  pub logs : (p : ℕ) → p < 4 → get files.folder (log_name (name_of drill_group p)) ≡ Some (log_of drill_group steps p)
+  pub logs : (p : ℕ) → p < 4 → get files.folder (log_name (name_of_process drill_group p)) ≡ Some (log_of drill_group steps p)
   pub tells : (p : ℕ) → p < 4 → TellsEvents drill_group steps p
 
 -- all rounds were recorded
-pub record IsRecorded (rounds : ℕ) (r : Recording) : Type 0 where
+pub record HasAllRounds (rounds : ℕ) (r : Recording) : Type 0 where
   pub room : (drill_run rounds).full ≡ None
   pub idle : r.idle ≡ (drill_run rounds).idle
   pub logs : HoldLogs (drill_run rounds).steps r.files
@@ -33,7 +33,7 @@ abbrev pub IsFullLog : Option ℕ → Reason → Type 0
 IsFullLog full (reason.LogFull item) = full ≡ Some item
 IsFullLog full other = ⊥
 
-abbrev pub StopsDrill : ℕ → Refusal → Type 0
+abbrev pub StopsDrill : ℕ → StopCause → Type 0
 StopsDrill rounds (refusal.Refused file why) = (string_bytes file ≡ codes "drill") × IsFullLog (drill_run rounds).full why
 StopsDrill rounds refusal.NoMemory = Unit {0}
 StopsDrill rounds other = ⊥

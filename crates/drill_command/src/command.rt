@@ -11,13 +11,13 @@ use crate::replays::begin_all;
 use crate::ring::modules;
 use crate::text::print;
 use crate::watching::watch;
-use command_run::{Answer, Refusal};
+use command_run::{StopCause, WorkText};
 use fri_text::Text;
 use group_state::Group;
 use std::alloc::Global;
 
 // Records, replays and walks, and prints what came of it.
-fn perform(alloc: Global, rounds: u32) -> Result<Text, Refusal>
+fn perform(alloc: Global, rounds: u32) -> Result<Text, StopCause>
     requires some { 1 ≤ rounds }
     requires few { rounds ≤ most_rounds }
     ensures { MatchResult result (TellsDrill rounds) (StopsDrill rounds) }
@@ -32,14 +32,14 @@ fn perform(alloc: Global, rounds: u32) -> Result<Text, Refusal>
 #[tactic(none)]
 /// Records so many rounds into files in memory, replays the logs, and walks all positions with a watchpoint. No other
 /// file is read or made.
-pub fn drill(alloc: Global, rounds: u32) -> Result<Answer, Refusal>
+pub fn drill_rounds(alloc: Global, rounds: u32) -> Result<WorkText, StopCause>
     requires some { 1 ≤ rounds }
     requires few { rounds ≤ most_rounds }
     ensures { (told : Option Folder) (counts : Counts)
         → Performed (Some (drill_outcome rounds)) (λ folder. []) false told told counts counts result }
 {
     match perform(alloc, rounds) {
-        Ok(text) => Ok(Answer::Done(text)),
+        Ok(text) => Ok(WorkText::Done(text)),
         Err(refusal) => Err(refusal),
     }
 }

@@ -14,5 +14,5 @@ mod rounds;
 mod text;
 mod watching;
 
-pub use command::drill;
+pub use command::drill_rounds;
 pub use rounds::rounds_of;

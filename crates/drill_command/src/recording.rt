@@ -3,9 +3,9 @@ ghost use Rattle.std.specs.Prelude.{◌≡◌, ◌≤◌, MatchResult, map};
 ghost use Rattle.wasm_types.specs.Modules.{module_of};
 ghost use Rattle.schedule_text.specs.Limits.{most_rounds};
 ghost use Rattle.drill_command.specs.Drill.{drill_modules};
-ghost use Rattle.drill_command.specs.Seen.{IsRecorded, StopsDrill};
+ghost use Rattle.drill_command.specs.Seen.{HasAllRounds, StopsDrill};
 
-use command_run::{Reason, Refusal};
+use command_run::{Reason, StopCause};
 use fri_outside::{MemFiles, keeps_files};
 use group_record::{RecordError, agreement, beginning, run_record};
 use shared_module::SharedModule;
@@ -24,11 +24,11 @@ pub(crate) fn record(
     alloc: Global,
     rounds: u32,
     modules: &[SharedModule],
-) -> Result<Recording, Refusal>
+) -> Result<Recording, StopCause>
     requires some { 1 ≤ rounds }
     requires few { rounds ≤ most_rounds }
     requires modules { map module_of modules.now ≡ drill_modules }
-    ensures { MatchResult result (IsRecorded rounds) (StopsDrill rounds) }
+    ensures { MatchResult result (HasAllRounds rounds) (StopsDrill rounds) }
 {
     keeps_files();
     exact_fault();
@@ -42,10 +42,10 @@ pub(crate) fn record(
             idle: summary.idle,
         }),
         Err(RecordError::LogFull(item)) => {
-            Err(Refusal::refuse(alloc, "drill", Reason::LogFull(item)))
+            Err(StopCause::refuse(alloc, "drill", Reason::LogFull(item)))
         }
         Err(RecordError::BadSegment(_)) => unreachable!(),
         // No call on these files is to fail, so a write fails for want of memory alone.
-        Err(RecordError::WriteFault | RecordError::NoMemory) => Err(Refusal::NoMemory),
+        Err(RecordError::WriteFault | RecordError::NoMemory) => Err(StopCause::NoMemory),
     }
 }

@@ -4,9 +4,9 @@ ghost use Rattle.wasm_types.specs.Modules.{module_of};
 ghost use Rattle.guest_process.specs.Start.{start};
 ghost use Rattle.guest_process.specs.State.{State};
 ghost use Rattle.group_record.specs.Logs.{log_name};
-ghost use Rattle.group_record.specs.Run.{Step, name_of};
+ghost use Rattle.group_record.specs.Run.{Step, name_of_process};
 ghost use Rattle.group_state.specs.Place.{AreParts};
-ghost use Rattle.drill_command.specs.Drill.{drill_group, replay_of_log, replays_of_logs};
+ghost use Rattle.drill_command.specs.Drill.{drill_group, replay_of_process, replays_of_logs};
 ghost use Rattle.drill_command.specs.Ring.{ring};
 ghost use Rattle.drill_command.specs.Seen.{HoldLogs};
 
@@ -30,10 +30,10 @@ fn begin<'m, 'a>(
 ) -> Result<Replayer<'m, 'a>, AllocError>
     requires module { module_of «module».now ≡ ring }
     requires process { p < 4 }
-    requires log { log.now ≡ log_name (name_of drill_group p) }
+    requires log { log.now ≡ log_name (name_of_process drill_group p) }
     requires held { (steps : List Step) × HoldLogs steps files.now }
     ensures { IfOk result (λ r. (S : State) × (start ring p 4 ≡ Some S)
-        × ((steps : List Step) → HoldLogs steps files.now → r ≡ replay_of_log drill_group steps p S)) }
+        × ((steps : List Step) → HoldLogs steps files.now → r ≡ replay_of_process drill_group steps p S)) }
 {
     exact_logs();
     counting();

@@ -1,7 +1,7 @@
 // The walk over all positions, with a watchpoint.
 ghost use Rattle.std.specs.Prelude.{◌≡◌, IfOk};
 ghost use Rattle.watch_expr.specs.Expression.{expression_of};
-ghost use Rattle.shell_points.specs.Firing.{is_same_value};
+ghost use Rattle.shell_points.specs.Firing.{is_unchanged};
 ghost use Rattle.drill_command.specs.Drill.{drill_watch};
 ghost use Rattle.drill_command.specs.Seen.{IsWatched};
 
@@ -41,7 +41,7 @@ fn watchpoint(alloc: Global) -> Result<Expr, AllocError>
 
 // Whether two values are the same, where `undef` is so to itself alone.
 fn is_same_value(before: Option<i64>, now: Option<i64>) -> bool
-    ensures { result ≡ is_same_value before now }
+    ensures { result ≡ is_unchanged before now }
 {
     match (before, now) {
         (None, None) => true,

@@ -6,7 +6,7 @@ use Rattle.watch_expr.specs.View.{Node}
 use Rattle.watch_expr.specs.declared.expr.Expr.{Expr}
 use Rattle.embed_cmds.proofs.Mentioned.{mention_all_append}
 use Rattle.embed_cmds.specs.Faulty.{set_by, set_names}
-use Rattle.embed_cmds.specs.Running.{ProgramState, after_statement, after_statements, holds, value_in}
+use Rattle.embed_cmds.specs.Running.{ProgramState, after_statement, after_statements, is_nonzero, value_in}
 use Rattle.embed_cmds.specs.Tree.{If, Statement, statement_of, statements}
 use Rattle.embed_cmds.specs.TreeLaws.{statement_of-if}
 use Rattle.embed_cmds.specs.Variables.{Variable, mention_all}
@@ -18,17 +18,17 @@ module _ (s : Stmt) (x : Expr) (a b : Vec Stmt) (is : s ≡ stmt.If x a b) where
   choice_is = ap statement_of is ∙ statement_of-if x a b
 
   module _ (nodes : List Node) (r : ProgramState) where
-    chosen : (which : Bool) → holds (value_in nodes r.variables (expression_of x)) ≡ which → after_statement nodes r (statement_of s) ≡ cond which (after_statements nodes r (statements a.items)) (after_statements nodes r (statements b.items))
+    chosen : (which : Bool) → is_nonzero (value_in nodes r.variables (expression_of x)) ≡ which → after_statement nodes r (statement_of s) ≡ cond which (after_statements nodes r (statements a.items)) (after_statements nodes r (statements b.items))
     chosen which test =
         ap (after_statement nodes r) choice_is
         ∙ ap (λ (w : Bool). cond w (after_statements nodes r (statements a.items)) (after_statements nodes r (statements b.items))) test
 
     -- the first is run where the value holds
-    pub runs_first : (xs : List Stmt) → xs ≡ a.items → holds (value_in nodes r.variables (expression_of x)) ≡ true → after_statements nodes r (statements xs) ≡ after_statement nodes r (statement_of s)
+    pub runs_first : (xs : List Stmt) → xs ≡ a.items → is_nonzero (value_in nodes r.variables (expression_of x)) ≡ true → after_statements nodes r (statements xs) ≡ after_statement nodes r (statement_of s)
     runs_first xs same test = ap (λ (ys : List Stmt). after_statements nodes r (statements ys)) same ∙ sym (chosen true test)
 
     -- and the second where it doesn't
-    pub runs_second : (xs : List Stmt) → xs ≡ b.items → holds (value_in nodes r.variables (expression_of x)) ≡ false → after_statements nodes r (statements xs) ≡ after_statement nodes r (statement_of s)
+    pub runs_second : (xs : List Stmt) → xs ≡ b.items → is_nonzero (value_in nodes r.variables (expression_of x)) ≡ false → after_statements nodes r (statements xs) ≡ after_statement nodes r (statement_of s)
     runs_second xs same test = ap (λ (ys : List Stmt). after_statements nodes r (statements ys)) same ∙ sym (chosen false test)
 
   -- what both parts set is mentioned, the first part's in front

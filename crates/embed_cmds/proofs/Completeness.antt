@@ -8,8 +8,8 @@ use Rattle.watch_expr.specs.Expression.{Expression}
 use Rattle.embed_cmds.specs.declared.keyword.Keyword.{Keyword}
 use Rattle.embed_cmds.specs.declared.keyword.Keyword.TheVariants as keyword
 use Rattle.embed_cmds.specs.Grammar.{IsItems, IsStatement, IsProgram, last, more, set, say, stop, if_alone, if_else}
-use Rattle.embed_cmds.specs.Reading.{Left, Read, then_reads, then_goes, behind, or_stays, keyword_text, expression, then_more, separated_in, item, part, else_part, if_statement, statement_by, statement, program_in}
-use Rattle.embed_cmds.specs.Tree.{Item, Statement, Set, Say, If, Statements, End, Then, sequence}
+use Rattle.embed_cmds.specs.Reading.{Left, Read, then_reads, then_goes, after_token, or_stays, keyword_text, expression, then_more, separated_in, item, part, else_part, if_statement, statement_by, statement, program_in}
+use Rattle.embed_cmds.specs.Tree.{SaidItem, Statement, Set, Say, If, Statements, End, Then, sequence}
 use Rattle.embed_cmds.proofs.ExpressionLaws.{EndsWith, expression_reads}
 use Rattle.embed_cmds.proofs.ItemLaws.{item_takes, item_reads}
 use Rattle.embed_cmds.proofs.StatementLaws.{keyword_again}
@@ -34,7 +34,7 @@ no_else inside ts (end nothing) = refl
 no_else inside ts (end brace) = refl
 no_else inside ts semicolon = refl
 
-no_item : (rest : Left → Read (List Item)) (i : Item) (ts : Left) → StatementEnd ts → then_more (codes ",") rest i ts ≡ Ok (i ∷ [], ts)
+no_item : (rest : Left → Read (List SaidItem)) (i : SaidItem) (ts : Left) → StatementEnd ts → then_more (codes ",") rest i ts ≡ Ok (i ∷ [], ts)
 no_item rest i ts (end nothing) = refl
 no_item rest i ts (end brace) = refl
 no_item rest i ts semicolon = refl
@@ -49,7 +49,7 @@ then_is : {A B : Type 0} (r : Read A) (a : A) (left : Left) (next : A → Left �
 then_is r a left next e = ap (λ (q : Read _). then_reads q next) e
 
 part_reads : (inside : Left → Read Statements) (b rest : Left) (p : Statements) → inside (b ++ codes "}" ∷ rest) ≡ Ok (p, codes "}" ∷ rest) → part inside (codes "{" ∷ (b ++ codes "}" ∷ rest)) ≡ Ok (p, rest)
-part_reads inside b rest p e = then_is (inside (b ++ codes "}" ∷ rest)) p (codes "}" ∷ rest) (λ body us. then_goes (behind (codes "}") us) (λ left. Ok (body, left))) e
+part_reads inside b rest p e = then_is (inside (b ++ codes "}" ∷ rest)) p (codes "}" ∷ rest) (λ body us. then_goes (after_token (codes "}") us) (λ left. Ok (body, left))) e
 
 module _ (names : List (List ℕ)) (inside : Left → Read Statements) where
   said : (k : Keyword) (ts : Left) → statement inside names (keyword_text k ∷ ts) ≡ statement_by inside names k ts
@@ -64,7 +64,7 @@ module _ (names : List (List ℕ)) (inside : Left → Read Statements) where
 -- ---- statements
 
 module _ (exact : ExactReading) (apart : NoneApart) (names : List (List ℕ)) where
-  items_read : {a : Left} {is : List Item} → IsItems names a is → (n : ℕ) → length a ≤ n → (rest : Left) → StatementEnd rest → separated_in (codes ",") (item names) n (a ++ rest) ≡ Ok (is, rest)
+  items_read : {a : Left} {is : List SaidItem} → IsItems names a is → (n : ℕ) → length a ≤ n → (rest : Left) → StatementEnd rest → separated_in (codes ",") (item names) n (a ++ rest) ≡ Ok (is, rest)
   items_read (last {a} {i} h) zero le rest e = absurd (omega (arith, item_takes exact names h))
   items_read (last {a} {i} h) (suc n) le rest e =
       then_is (item names (a ++ rest)) i rest _ (item_reads exact apart names a rest i h (no_expression rest e))
@@ -84,7 +84,7 @@ module _ (exact : ExactReading) (apart : NoneApart) (names : List (List ℕ)) wh
     set_reads : (name : List ℕ) (a rest : Left) (x : Expression) → is_word name ≡ true → IsExpr names a x → StatementEnd rest → statement_by inside names keyword.Set (codes "$" ∷ name ∷ (a ++ rest)) ≡ Ok (Set name x, rest)
     set_reads name a rest x w h e = rw w (then_is (expression names (a ++ rest)) x rest (λ x left. Ok (Set name x, left)) (expression_reads exact apart names a rest x h (no_expression rest e)))
 
-    say_reads : (a rest : Left) (is : List Item) → IsItems names a is → StatementEnd rest → statement_by inside names keyword.Say (a ++ rest) ≡ Ok (Say is, rest)
+    say_reads : (a rest : Left) (is : List SaidItem) → IsItems names a is → StatementEnd rest → statement_by inside names keyword.Say (a ++ rest) ≡ Ok (Say is, rest)
     say_reads a rest is h e = then_is (separated_in (codes ",") (item names) (length (a ++ rest)) (a ++ rest)) is rest (λ items left. Ok (Say items, left)) (items_read h (length (a ++ rest)) (omega (arith, length-append a rest)) rest e)
 
     braces_read : (b rest : Left) (p : Statements) → IsProgram names b p → length b ≤ n → part inside (codes "{" ∷ (b ++ codes "}" ∷ rest)) ≡ Ok (p, rest)

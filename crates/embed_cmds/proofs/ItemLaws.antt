@@ -8,7 +8,7 @@ use Rattle.watch_expr.specs.Computed.{expression_spelled}
 use Rattle.watch_expr.specs.Expression.{Expression}
 use Rattle.embed_cmds.specs.Grammar.{IsItem, words, value}
 use Rattle.embed_cmds.specs.Reading.{Left, Read, then_reads, before_quote, string_of, expression, item}
-use Rattle.embed_cmds.specs.Tree.{Item, Words, Value}
+use Rattle.embed_cmds.specs.Tree.{SaidItem, Words, Value}
 use Rattle.embed_cmds.proofs.Splits.{SameHead, same_head_behind, empty_too, Split, SpellsSome}
 use Rattle.embed_cmds.proofs.Joins.{as_split}
 use Rattle.embed_cmds.proofs.ExpressionLaws.{EndsWith, some_expression, expression_split, expression_reads}
@@ -112,7 +112,7 @@ module _ (exact : ExactReading) (names : List (List ℕ)) where
   none_spelled : (x : Expression) → IsExpr names [] x → ⊥
   none_spelled x h = let none : ◌≡◌ {A = Option Expression} None (Some x) = sym (no_tree names) ∙ (exact.expressions names [] x).1 h in cc
 
-  pub item_takes : {a : Left} {i : Item} → IsItem names a i → 1 ≤ length a
+  pub item_takes : {a : Left} {i : SaidItem} → IsItem names a i → 1 ≤ length a
   item_takes (words body) = omega arith
   item_takes (value {a} {x} h) = some_taken a x h
     where
@@ -125,7 +125,7 @@ module _ (exact : ExactReading) (apart : NoneApart) (names : List (List ℕ)) wh
   expression_begins [] rest x h = absurd (none_spelled exact names x h)
   expression_begins (t ∷ a) rest x h = no_string t (and_parts (not (is_apart t)) (list_all (λ u. not (is_apart u)) a) (apart names (t ∷ a) x h)).0
 
-  pub item_reads : (a rest : Left) (i : Item) → IsItem names a i → EndsWith is_apart rest → item names (a ++ rest) ≡ Ok (i, rest)
+  pub item_reads : (a rest : Left) (i : SaidItem) → IsItem names a i → EndsWith is_apart rest → item names (a ++ rest) ≡ Ok (i, rest)
   item_reads a rest i (words body) e = rw (before_again body) refl
   item_reads a rest i (value {x} h) e =
       item_value names (a ++ rest) (expression_begins a rest x h)

@@ -1,7 +1,7 @@
 -- Reading one thing behind another splits tokens as each of both does.
 use Rattle.std.proofs.Common.{◌≡◌, ℕ, true, false, List, [], ◌∷◌, ◌++◌, Option, Some, None, option_map, Ok, Err, bytes_eq, inl, inr, refl, sym, ap, ◌∙◌, subst, append_assoc}
 use Rattle.std.proofs.lemmas.Bool.{cases_Bool}
-use Rattle.embed_cmds.specs.Reading.{Left, Read, then_reads, then_goes, behind, token_as}
+use Rattle.embed_cmds.specs.Reading.{Left, Read, then_reads, then_goes, after_token, token_as}
 use Rattle.embed_cmds.proofs.Splits.{same_bytes, SameHead, same_head_behind, empty_too, headed_too, outcome, Spelled, Split, SpellsSome, stuck}
 
 -- ---- one after the other
@@ -87,18 +87,18 @@ module _ {B : Type 0} (text : List ℕ) (M : Left → B → Type 0) (N : Left �
   some_behind : SpellsSome M → SpellsSome N
   some_behind some = (text ∷ some.0, some.1, more some.0 some.1 some.2)
 
-  taken : (next : Left → Read B) (t : List ℕ) (ts : Left) → bytes_eq t text ≡ true → then_goes (behind text (t ∷ ts)) next ≡ next ts
+  taken : (next : Left → Read B) (t : List ℕ) (ts : Left) → bytes_eq t text ≡ true → then_goes (after_token text (t ∷ ts)) next ≡ next ts
   taken next t ts e = rw e refl
 
-  not_taken : (next : Left → Read B) (t : List ℕ) (ts : Left) → bytes_eq t text ≡ false → then_goes (behind text (t ∷ ts)) next ≡ Err (t ∷ ts)
+  not_taken : (next : Left → Read B) (t : List ℕ) (ts : Left) → bytes_eq t text ≡ false → then_goes (after_token text (t ∷ ts)) next ≡ Err (t ∷ ts)
   not_taken next t ts e = rw e refl
 
-  pub goes_split : (next : Left → Read B) → SpellsSome M → ((ts : Left) → Split next M ts) → (ts : Left) → Split (λ us. then_goes (behind text us) next) N ts
-  goes_split next some s [] = stuck _ N [] (some_behind some) (empty_too (λ other. then_goes (behind text other) next ≡ Err other) refl)
+  pub goes_split : (next : Left → Read B) → SpellsSome M → ((ts : Left) → Split next M ts) → (ts : Left) → Split (λ us. then_goes (after_token text us) next) N ts
+  goes_split next some s [] = stuck _ N [] (some_behind some) (empty_too (λ other. then_goes (after_token text other) next ≡ Err other) refl)
   goes_split next some s (t ∷ ts) =
       elim (cases_Bool (bytes_eq t text)) [
-        | inl e ↦ subst (λ (u : List ℕ). Split (λ us. then_goes (behind text us) next) N (u ∷ ts)) (sym (same_bytes t text e)) (behind_split _ next (λ us. taken next text us (subst (λ (u : List ℕ). bytes_eq u text ≡ true) (same_bytes t text e) e)) ts (s ts))
-        | inr e ↦ stuck _ N (t ∷ ts) (some_behind some) (headed_too (λ other. then_goes (behind text other) next ≡ Err other) t ts (λ us. not_taken next t us e))
+        | inl e ↦ subst (λ (u : List ℕ). Split (λ us. then_goes (after_token text us) next) N (u ∷ ts)) (sym (same_bytes t text e)) (behind_split _ next (λ us. taken next text us (subst (λ (u : List ℕ). bytes_eq u text ≡ true) (same_bytes t text e) e)) ts (s ts))
+        | inr e ↦ stuck _ N (t ∷ ts) (some_behind some) (headed_too (λ other. then_goes (after_token text other) next ≡ Err other) t ts (λ us. not_taken next t us e))
       ]
 
 -- ---- a token with a meaning

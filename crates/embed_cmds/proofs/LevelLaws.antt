@@ -6,7 +6,7 @@ use Rattle.watch_expr.specs.Expression.{Expression}
 use Rattle.embed_cmds.specs.declared.keyword.Keyword.{Keyword}
 use Rattle.embed_cmds.specs.declared.keyword.Keyword.TheVariants as keyword
 use Rattle.embed_cmds.specs.Grammar.{IsProgram}
-use Rattle.embed_cmds.specs.Reading.{Left, Read, then_reads, then_goes, behind, keyword_of, or_stays, expression, part, else_part, if_statement, statement_by, statement, program_in}
+use Rattle.embed_cmds.specs.Reading.{Left, Read, then_reads, then_goes, after_token, keyword_of, or_stays, expression, part, else_part, if_statement, statement_by, statement, program_in}
 use Rattle.embed_cmds.specs.Tree.{Statement, If, Statements, End, sequence}
 use Rattle.embed_cmds.proofs.Splits.{Split}
 use Rattle.embed_cmds.proofs.ExpressionLaws.{expression_split}
@@ -23,7 +23,7 @@ less m n inside other le h ts lt = h ts (omega arith)
 in_braces : (inside other : Left → Read Statements) (ts : Left) → AgreeBelow (length ts) inside other → part inside ts ≡ part other ts
 in_braces inside other [] h = refl
 in_braces inside other (t ∷ ts) h =
-    let close : Statements → Left → Read Statements = λ body us. then_goes (behind (codes "}") us) (λ left. Ok (body, left)) in
+    let close : Statements → Left → Read Statements = λ body us. then_goes (after_token (codes "}") us) (λ left. Ok (body, left)) in
     elim (cases_Bool (bytes_eq t (codes "{"))) [
       | inl e ↦ rw e (ap (λ (r : Read Statements). then_reads r close) (h ts (omega arith)))
       | inr e ↦ rw e refl

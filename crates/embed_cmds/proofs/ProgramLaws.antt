@@ -1,7 +1,7 @@
 -- What is computed of tokens is the program that they spell, or the place where they stop to begin one.
 use Rattle.std.proofs.Common.{◌≡◌, ◌↔◌, ◌⊎◌, ℕ, ◌+◌, ◌≤◌, List, [], ◌∷◌, ◌++◌, length, Option, Some, None, Result, Ok, Err, inl, inr, refl, sym, ap, ◌∙◌, subst, append_assoc, append-nil, arith}
 use Rattle.watch_expr.specs.Laws.{ExactReading, NoneApart}
-use Rattle.embed_cmds.specs.Grammar.{IsProgram, BeginsProgram, GoesOnWithNone, StopsAt}
+use Rattle.embed_cmds.specs.Grammar.{IsProgram, BeginsProgram, NoProgramGoesOn, StopsAt}
 use Rattle.embed_cmds.specs.Reading.{Left, Read, program_in, whole_program, program_of}
 use Rattle.embed_cmds.specs.Tree.{Statements}
 use Rattle.embed_cmds.proofs.Splits.{outcome, Spelled, same_outcome, split_at, local_of}
@@ -50,7 +50,7 @@ module _ (names : List (List ℕ)) where
   begins_spelled front (Some p) h = begins_whole front p h
 
   -- where no more goes on, nothing stands between
-  none_between : (front left other rest middle : Left) → GoesOnWithNone names front left → BeginsProgram names other → other ≡ front ++ middle → left ≡ middle ++ rest → left ≡ rest
+  none_between : (front left other rest middle : Left) → NoProgramGoesOn names front left → BeginsProgram names other → other ≡ front ++ middle → left ≡ middle ++ rest → left ≡ rest
   none_between front left other rest [] stops b e f = f
   none_between front [] other rest (t ∷ middle) stops b e f = absurd cc
   none_between front (u ∷ left) other rest (t ∷ middle) stops b e f =
@@ -65,7 +65,7 @@ module _ (names : List (List ℕ)) where
     | inr o ↦ sym (none_between k.front rest h.front left o.0 k.stops h.begins o.1 o.2)
   ]
 
-  no_program : (front left : Left) (p : Statements) → GoesOnWithNone names front left → IsProgram names (front ++ left) p → ⊥
+  no_program : (front left : Left) (p : Statements) → NoProgramGoesOn names front left → IsProgram names (front ++ left) p → ⊥
   no_program front [] p stops h = stops p (subst (λ (us : Left). IsProgram names us p) (append-nil front) h)
   no_program front (t ∷ left) p stops h =
       stops (begins_front (front ++ t ∷ []) left (begins_whole ((front ++ t ∷ []) ++ left) p (subst (λ (us : Left). IsProgram names us p) (sym (append_assoc front (t ∷ []) left)) h)))
@@ -88,7 +88,7 @@ module _ (exact : ExactReading) (apart : NoneApart) (names : List (List ℕ)) wh
   spelled ts p h = ap whole_program (reads_alone (length ts) ts p h (omega arith))
 
   -- what goes on at the token at which reading stopped would be read as a whole
-  goes_on_with_none : (ts front left : Left) (got : Option Statements) → ts ≡ front ++ left → program_in (length ts) names ts ≡ outcome got left → program_of names ts ≡ Err left → GoesOnWithNone names front left
+  goes_on_with_none : (ts front left : Left) (got : Option Statements) → ts ≡ front ++ left → program_in (length ts) names ts ≡ outcome got left → program_of names ts ≡ Err left → NoProgramGoesOn names front left
   goes_on_with_none ts front [] got parts e f = λ p h.
       let again : program_of names ts ≡ Ok p = spelled ts p (subst (λ (us : Left). IsProgram names us p) (sym (parts ∙ append-nil front)) h) in
       let never : ◌≡◌ {A = Result Statements Left} (Ok p) (Err []) = sym again ∙ f in

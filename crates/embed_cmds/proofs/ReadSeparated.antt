@@ -6,7 +6,7 @@ use Rattle.watch_expr.specs.declared.error.ExprError.{ExprError}
 use Rattle.watch_expr.specs.declared.error.ExprError.TheVariants.{Syntax, NoNode, TooDeep, Nested, NoMemory}
 use Rattle.watch_expr.specs.Lexing.{Lexed}
 use Rattle.embed_cmds.specs.Parsing.{ReadAs}
-use Rattle.embed_cmds.specs.Reading.{Left, Read, behind, separated, separated_in, then_more, then_reads}
+use Rattle.embed_cmds.specs.Reading.{Left, Read, after_token, separated, separated_in, then_more, then_reads}
 use Rattle.embed_cmds.proofs.ReadTokens.{drop_one, first_is}
 
 -- what was read so far, in front of what the rest gives
@@ -47,16 +47,16 @@ onto a more = then_reads more (λ more left. Ok (a ∷ more, left))
 abbrev going : {A : Type 0} → Bool → A → Read (List A) → Left → Read (List A)
 going b a more left = if b then onto a more else Ok (a ∷ [], left)
 
-more_stops : {A : Type 0} (sign : List ℕ) (rest : Left → Read (List A)) (a : A) (left : Left) → is_ok (behind sign left) ≡ false → then_more sign rest a left ≡ Ok (a ∷ [], left)
+more_stops : {A : Type 0} (sign : List ℕ) (rest : Left → Read (List A)) (a : A) (left : Left) → is_ok (after_token sign left) ≡ false → then_more sign rest a left ≡ Ok (a ∷ [], left)
 more_stops sign rest a [] e = refl
 more_stops sign rest a (t ∷ left) e = ap (λ (b : Bool). going b a (rest left) (t ∷ left)) (sym (first_is sign t left) ∙ e)
 
-more_goes : {A : Type 0} (sign : List ℕ) (rest : Left → Read (List A)) (a : A) (left : Left) → is_ok (behind sign left) ≡ true → then_more sign rest a left ≡ onto a (rest (drop 1 left))
+more_goes : {A : Type 0} (sign : List ℕ) (rest : Left → Read (List A)) (a : A) (left : Left) → is_ok (after_token sign left) ≡ true → then_more sign rest a left ≡ onto a (rest (drop 1 left))
 more_goes sign rest a [] e = absurd (cc)
 more_goes sign rest a (t ∷ left) e = ap (λ (b : Bool). going b a (rest left) (t ∷ left)) (sym (first_is sign t left) ∙ e)
 
 -- something stands where a sign does
-some_there : (sign : List ℕ) (left : Left) → is_ok (behind sign left) ≡ true → 0 < length left
+some_there : (sign : List ℕ) (left : Left) → is_ok (after_token sign left) ≡ true → 0 < length left
 some_there sign [] e = absurd (cc)
 some_there sign (t ∷ left) e = omega arith
 
@@ -69,13 +69,13 @@ read_first sign one zero here left a le nothing e = let is = short here le in ab
 read_first sign one (suc most) here left a le nothing e = (most, refl, ap (λ (r : Read _). then_reads r (then_more sign (separated_in sign one most))) e)
 
 -- where no sign follows what was read last, all was read
-pub ends : {A : Type 0} (sign : List ℕ) (one : Left → Read A) (all : Left) (front : List A) (here left : Left) (a : A) → Reached sign one all front here → one [] ≡ Err [] → one here ≡ Ok (a, left) → is_ok (behind sign left) ≡ false → separated sign one all ≡ Ok (front ++ a ∷ [], left)
+pub ends : {A : Type 0} (sign : List ℕ) (one : Left → Read A) (all : Left) (front : List A) (here left : Left) (a : A) → Reached sign one all front here → one [] ≡ Err [] → one here ≡ Ok (a, left) → is_ok (after_token sign left) ≡ false → separated sign one all ≡ Ok (front ++ a ∷ [], left)
 ends sign one all front here left a h nothing e none =
     let p = read_first sign one h.most here left a h.enough nothing e in
     h.same ∙ ap (in_front front) (p.2 ∙ more_stops sign (separated_in sign one p.0) a left none)
 
 -- where one does, reading goes on behind it
-pub goes_on : {A : Type 0} (sign : List ℕ) (one : Left → Read A) (all : Left) (front : List A) (here left : Left) (a : A) → Reached sign one all front here → one [] ≡ Err [] → one here ≡ Ok (a, left) → is_ok (behind sign left) ≡ true → length left ≤ length here → Reached sign one all (front ++ a ∷ []) (drop 1 left)
+pub goes_on : {A : Type 0} (sign : List ℕ) (one : Left → Read A) (all : Left) (front : List A) (here left : Left) (a : A) → Reached sign one all front here → one [] ≡ Err [] → one here ≡ Ok (a, left) → is_ok (after_token sign left) ≡ true → length left ≤ length here → Reached sign one all (front ++ a ∷ []) (drop 1 left)
 goes_on sign one all front here left a h nothing e some shorter =
     let p = read_first sign one h.most here left a h.enough nothing e in
     record {
@@ -98,12 +98,12 @@ refused_among f g line sign one all front here TooDeep reached nothing h = h
 refused_among f g line sign one all front here Nested reached nothing h = h
 
 -- all were read
-pub ended : {X A : Type 0} (f : X → A) (sign : List ℕ) (one : Left → Read A) (ts all : Left) (items more : List X) (x : X) (at next : ℕ) → Reached sign one all (map f items) (drop at ts) → one [] ≡ Err [] → one (drop at ts) ≡ Ok (f x, drop next ts) → more ≡ items ++ x ∷ [] → is_ok (behind sign (drop next ts)) ≡ false → separated sign one all ≡ Ok (map f more, drop next ts)
+pub ended : {X A : Type 0} (f : X → A) (sign : List ℕ) (one : Left → Read A) (ts all : Left) (items more : List X) (x : X) (at next : ℕ) → Reached sign one all (map f items) (drop at ts) → one [] ≡ Err [] → one (drop at ts) ≡ Ok (f x, drop next ts) → more ≡ items ++ x ∷ [] → is_ok (after_token sign (drop next ts)) ≡ false → separated sign one all ≡ Ok (map f more, drop next ts)
 ended f sign one ts all items more x at next reached nothing e pushed none =
     ends sign one all (map f items) (drop at ts) (drop next ts) (f x) reached nothing e none ∙ ap (λ (list : List _). Ok (list, drop next ts)) (map_push f items more x pushed)
 
 -- one more was read, and a sign stands behind it
-pub went_on : {X A : Type 0} (f : X → A) (sign : List ℕ) (one : Left → Read A) (ts all : Left) (items more : List X) (x : X) (at next : ℕ) → Reached sign one all (map f items) (drop at ts) → one [] ≡ Err [] → one (drop at ts) ≡ Ok (f x, drop next ts) → more ≡ items ++ x ∷ [] → is_ok (behind sign (drop next ts)) ≡ true → at ≤ next → Reached sign one all (map f more) (drop (next + 1) ts)
+pub went_on : {X A : Type 0} (f : X → A) (sign : List ℕ) (one : Left → Read A) (ts all : Left) (items more : List X) (x : X) (at next : ℕ) → Reached sign one all (map f items) (drop at ts) → one [] ≡ Err [] → one (drop at ts) ≡ Ok (f x, drop next ts) → more ≡ items ++ x ∷ [] → is_ok (after_token sign (drop next ts)) ≡ true → at ≤ next → Reached sign one all (map f more) (drop (next + 1) ts)
 went_on f sign one ts all items more x at next reached nothing e pushed some onward =
     let shorter : length (drop next ts) ≤ length (drop at ts) = omega (arith, length-drop next ts, length-drop at ts) in
     let went = goes_on sign one all (map f items) (drop at ts) (drop next ts) (f x) reached nothing e some shorter in

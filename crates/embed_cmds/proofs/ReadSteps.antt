@@ -13,8 +13,8 @@ use Rattle.embed_cmds.specs.declared.program.Stmt.TheVariants as stmt
 use Rattle.embed_cmds.specs.TreeLaws.{statement_of-if}
 use Rattle.embed_cmds.specs.declared.program.Stmt.{Stmt}
 use Rattle.embed_cmds.specs.Parsing.{ReadAs}
-use Rattle.embed_cmds.specs.Reading.{Left, Read, behind, else_part, expression, if_statement, item, part, program_in, separated, statement, string_of, string_or_value, then_reads}
-use Rattle.embed_cmds.specs.Tree.{Item, Words, Value, Statement, Statements, End, Then, sequence, statement_of, statements}
+use Rattle.embed_cmds.specs.Reading.{Left, Read, after_token, else_part, expression, if_statement, item, part, program_in, separated, statement, string_of, string_or_value, then_reads}
+use Rattle.embed_cmds.specs.Tree.{SaidItem, Words, Value, Statement, Statements, End, Then, sequence, statement_of, statements}
 use Rattle.embed_cmds.proofs.ReadTokens.{at_end, at_token, drop_one, first_is}
 
 -- where a first step is refused, so is the whole
@@ -34,7 +34,7 @@ pub item_words : (names ts : List (List ℕ)) (n : ℕ) (body : List ℕ) → op
 item_words names ts n body h = words_at names ts n body (slice_get ts n) refl h
 
 -- the value of what was read
-abbrev pub as_value : Expression → Left → Read Item
+abbrev pub as_value : Expression → Left → Read SaidItem
 as_value x left = Ok (Value x, left)
 
 nothing_read : (names : List (List ℕ)) → then_reads (expression names []) as_value ≡ Err []
@@ -85,10 +85,10 @@ choice_read inside names ts behind_test behind_true left x on_true on_false test
 abbrev part_if : Bool → Read Statements → Left → Read Statements
 part_if b read left = if b then read else Ok (End, left)
 
-else_there : (inside : Left → Read Statements) (left : Left) → is_ok (behind (codes "else") left) ≡ true → else_part inside left ≡ part inside (drop 1 left)
+else_there : (inside : Left → Read Statements) (left : Left) → is_ok (after_token (codes "else") left) ≡ true → else_part inside left ≡ part inside (drop 1 left)
 else_there inside [] e = absurd (cc)
 else_there inside (t ∷ left) e = ap (λ (b : Bool). part_if b (part inside left) (t ∷ left)) (sym (first_is (codes "else") t left) ∙ e)
 
 -- a second part behind `else`
-pub else_is : (inside : Left → Read Statements) (ts : Left) (n : ℕ) → is_ok (behind (codes "else") (drop n ts)) ≡ true → else_part inside (drop n ts) ≡ part inside (drop (n + 1) ts)
+pub else_is : (inside : Left → Read Statements) (ts : Left) (n : ℕ) → is_ok (after_token (codes "else") (drop n ts)) ≡ true → else_part inside (drop n ts) ≡ part inside (drop (n + 1) ts)
 else_is inside ts n e = else_there inside (drop n ts) e ∙ ap (part inside) (drop_one ts n)

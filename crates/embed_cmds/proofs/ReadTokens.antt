@@ -8,7 +8,7 @@ use Rattle.std.specs.Option.{option_and_then}
 use Rattle.std.specs.Result.{is_ok}
 use Rattle.watch_expr.specs.Lexing.{Lexed, Placed, column_at, texts}
 use Rattle.embed_cmds.specs.Parsing.{column_of}
-use Rattle.embed_cmds.specs.Reading.{Left, before_quote, behind, or_stays, token_as}
+use Rattle.embed_cmds.specs.Reading.{Left, before_quote, after_token, or_stays, token_as}
 
 -- the tokens from one on, where it is there
 pub at_token : (ts : Left) (n : ℕ) (t : List ℕ) → slice_get ts n ≡ Some t → drop n ts ≡ t ∷ drop (n + 1) ts
@@ -61,23 +61,23 @@ ok_picked true x y = refl
 ok_picked false x y = refl
 
 -- whether the first token has a text
-pub first_is : (text t : List ℕ) (left : Left) → is_ok (behind text (t ∷ left)) ≡ bytes_eq t text
+pub first_is : (text t : List ℕ) (left : Left) → is_ok (after_token text (t ∷ left)) ≡ bytes_eq t text
 first_is text t left = ok_picked (bytes_eq t text) left (t ∷ left)
 
 -- whether the token with a number has it
-pub stands_here : (text : List ℕ) (ts : Left) (n : ℕ) (t : List ℕ) → slice_get ts n ≡ Some t → is_ok (behind text (drop n ts)) ≡ bytes_eq t text
+pub stands_here : (text : List ℕ) (ts : Left) (n : ℕ) (t : List ℕ) → slice_get ts n ≡ Some t → is_ok (after_token text (drop n ts)) ≡ bytes_eq t text
 stands_here text ts n t e = rw (at_token ts n t e) (first_is text t (drop (n + 1) ts))
 
-pub stands_nowhere : (text : List ℕ) (ts : Left) (n : ℕ) → slice_get ts n ≡ None → is_ok (behind text (drop n ts)) ≡ false
+pub stands_nowhere : (text : List ℕ) (ts : Left) (n : ℕ) → slice_get ts n ≡ None → is_ok (after_token text (drop n ts)) ≡ false
 stands_nowhere text ts n e = rw (at_end ts n e) refl
 
 -- past a token with the text
-pub goes : (text : List ℕ) (left : Left) → is_ok (behind text left) ≡ true → behind text left ≡ Ok (drop 1 left)
+pub goes : (text : List ℕ) (left : Left) → is_ok (after_token text left) ≡ true → after_token text left ≡ Ok (drop 1 left)
 goes text [] e = absurd (cc)
 goes text (t ∷ left) e = ap (λ (b : Bool). picked b left (t ∷ left)) (sym (first_is text t left) ∙ e)
 
 -- not past another one
-pub stays : (text : List ℕ) (left : Left) → is_ok (behind text left) ≡ false → behind text left ≡ Err left
+pub stays : (text : List ℕ) (left : Left) → is_ok (after_token text left) ≡ false → after_token text left ≡ Err left
 stays text [] e = refl
 stays text (t ∷ left) e = ap (λ (b : Bool). picked b left (t ∷ left)) (sym (first_is text t left) ∙ e)
 

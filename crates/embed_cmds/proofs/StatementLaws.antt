@@ -9,7 +9,7 @@ use Rattle.watch_expr.specs.Expression.{Expression}
 use Rattle.embed_cmds.specs.declared.keyword.Keyword.{Keyword}
 use Rattle.embed_cmds.specs.declared.keyword.Keyword.TheVariants as keyword
 use Rattle.embed_cmds.specs.Grammar.{IsItem, IsItems, IsStatement, IsProgram, last, more, set, say, stop, if_alone, if_else}
-use Rattle.embed_cmds.specs.Reading.{Left, Read, then_goes, behind, token_as, word_of, keyword_text, keywords, keyword_of, expression, separated, item, set_statement, say_statement, part, else_part, if_statement, statement_by, statement, program_in}
+use Rattle.embed_cmds.specs.Reading.{Left, Read, then_goes, after_token, token_as, word_of, keyword_text, keywords, keyword_of, expression, separated, item, set_statement, say_statement, part, else_part, if_statement, statement_by, statement, program_in}
 use Rattle.embed_cmds.specs.Tree.{Statement, Set, Say, Stop, If, Statements, End, Then, sequence}
 use Rattle.embed_cmds.proofs.Splits.{same_bytes, empty_too, headed_too, Split, SpellsSome, stuck}
 use Rattle.embed_cmds.proofs.Joins.{then_split, as_split, behind_split, goes_split, Means, token_split}
@@ -70,7 +70,7 @@ module _ (names : List (List ℕ)) where
   data Closing (p : Statements) : Left → Statements → Type 0 where
     closing : Closing p (codes "}" ∷ []) p
 
-  close_split : (p : Statements) (ts : Left) → Split (λ us. then_goes (behind (codes "}") us) (λ left. Ok (p, left))) (Closing p) ts
+  close_split : (p : Statements) (ts : Left) → Split (λ us. then_goes (after_token (codes "}") us) (λ left. Ok (p, left))) (Closing p) ts
   close_split p ts = goes_split (codes "}") (Just p) (Closing p) closes (λ left. Ok (p, left)) ([], p, just) (just_split p) ts
     where
       closes : (back : Left) (q : Statements) → Just p back q → Closing p (codes "}" ∷ back) q

@@ -5,30 +5,30 @@ use Rattle.std.proofs.Common.{ap, ◌∙◌, ◌⊎◌, inl, inr}
 use Rattle.std.specs.Coded.{Coded, code_by, coded×, coded⊎, coded_ℕ, coded_list}
 use Rattle.watch_expr.specs.Coding.{expression_code}
 use Rattle.watch_expr.specs.Expression.{Expression}
-use Rattle.embed_cmds.specs.Tree.{Item, Words, Value, Statement, Set, Say, Stop, If, Statements, End, Then}
+use Rattle.embed_cmds.specs.Tree.{SaidItem, Words, Value, Statement, Set, Say, Stop, If, Statements, End, Then}
 
 -- ---- items
 
-abbrev of_item : Item → List ℕ ⊎ Expression
+abbrev of_item : SaidItem → List ℕ ⊎ Expression
 of_item (Words bytes) = inl bytes
 of_item (Value x) = inr x
 
-abbrev item_in : List ℕ ⊎ Expression → Item
+abbrev item_in : List ℕ ⊎ Expression → SaidItem
 item_in (inl bytes) = Words bytes
 item_in (inr x) = Value x
 
-pub item_back : (i : Item) → item_in (of_item i) ≡ i
+pub item_back : (i : SaidItem) → item_in (of_item i) ≡ i
 item_back (Words bytes) = refl
 item_back (Value x) = refl
 
-abbrev item_code : Coded Item
+abbrev item_code : Coded SaidItem
 item_code = code_by (List ℕ ⊎ Expression) (coded⊎ (coded_list coded_ℕ) expression_code) of_item item_in item_back
 
 -- ---- words
 
 -- of a statement that is set, of one that is said, of a choice, or the number of what has no part
 abbrev Word : Type 0
-Word = (List ℕ × Expression) ⊎ (List Item ⊎ (Expression ⊎ ℕ))
+Word = (List ℕ × Expression) ⊎ (List SaidItem ⊎ (Expression ⊎ ℕ))
 
 abbrev word_code : Coded Word
 word_code = coded⊎ (coded× (coded_list coded_ℕ) expression_code) (coded⊎ (coded_list item_code) (coded⊎ expression_code coded_ℕ))

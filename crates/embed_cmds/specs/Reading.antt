@@ -6,7 +6,7 @@ use Rattle.watch_expr.specs.Spelling.{is_word}
 use Rattle.watch_expr.specs.Expression.{Expression}
 use Rattle.embed_cmds.specs.declared.keyword.Keyword.{Keyword}
 use Rattle.embed_cmds.specs.declared.keyword.Keyword.TheVariants as keyword
-use Rattle.embed_cmds.specs.Tree.{Item, Words, Value, Statement, Set, Say, Stop, If, Statements, End, sequence}
+use Rattle.embed_cmds.specs.Tree.{SaidItem, Words, Value, Statement, Set, Say, Stop, If, Statements, End, sequence}
 
 -- the tokens that are left
 abbrev pub Left : Type 0
@@ -27,9 +27,9 @@ then_goes (Err left) next = Err left
 -- ---- one token
 
 -- behind this token
-abbrev pub behind : List ℕ → Left → Result Left Left
-behind text [] = Err []
-behind text (t ∷ ts) = if bytes_eq t text then Ok ts else Err (t ∷ ts)
+abbrev pub after_token : List ℕ → Left → Result Left Left
+after_token text [] = Err []
+after_token text (t ∷ ts) = if bytes_eq t text then Ok ts else Err (t ∷ ts)
 
 abbrev pub or_stays : {A : Type 0} → Option A → Left → Left → Read A
 or_stays None here left = Err here
@@ -96,17 +96,17 @@ separated sign one ts = separated_in sign one (length ts) ts
 -- ---- statements
 
 -- a string, or the value of an expression
-abbrev pub string_or_value : List (List ℕ) → Option (List ℕ) → List ℕ → Left → Read Item
+abbrev pub string_or_value : List (List ℕ) → Option (List ℕ) → List ℕ → Left → Read SaidItem
 string_or_value names (Some body) t ts = Ok (Words body, ts)
 string_or_value names None t ts = then_reads (expression names (t ∷ ts)) (λ x left. Ok (Value x, left))
 
-abbrev pub item : List (List ℕ) → Left → Read Item
+abbrev pub item : List (List ℕ) → Left → Read SaidItem
 item names [] = Err []
 item names (t ∷ ts) = string_or_value names (string_of t) t ts
 
 abbrev pub set_statement : List (List ℕ) → Left → Read Statement
 set_statement names ts =
-    then_goes (behind (codes "$") ts) (λ ts. then_reads (token_as word_of ts) (λ name ts.
+    then_goes (after_token (codes "$") ts) (λ ts. then_reads (token_as word_of ts) (λ name ts.
     then_reads (expression names ts) (λ x left. Ok (Set name x, left))))
 
 abbrev pub say_statement : List (List ℕ) → Left → Read Statement
@@ -115,8 +115,8 @@ say_statement names ts = then_reads (separated (codes ",") (item names) ts) (λ 
 -- a part in braces, in which `inside` reads
 abbrev pub part : (Left → Read Statements) → Left → Read Statements
 part inside ts =
-    then_goes (behind (codes "{") ts) (λ ts. then_reads (inside ts) (λ body ts.
-    then_goes (behind (codes "}") ts) (λ left. Ok (body, left))))
+    then_goes (after_token (codes "{") ts) (λ ts. then_reads (inside ts) (λ body ts.
+    then_goes (after_token (codes "}") ts) (λ left. Ok (body, left))))
 
 -- a second part, which may be left out
 abbrev pub else_part : (Left → Read Statements) → Left → Read Statements

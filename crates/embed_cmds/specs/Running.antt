@@ -5,7 +5,7 @@ use Rattle.std.specs.List.{flat_map}
 use Rattle.watch_expr.specs.Expression.{Expression}
 use Rattle.watch_expr.specs.Value.{is_zero, value}
 use Rattle.watch_expr.specs.View.{Node}
-use Rattle.embed_cmds.specs.Tree.{Item, Words, Value, Statement, Set, Say, Stop, If, Statements, End, Then}
+use Rattle.embed_cmds.specs.Tree.{SaidItem, Words, Value, Statement, Set, Say, Stop, If, Statements, End, Then}
 use Rattle.embed_cmds.specs.Variables.{Variable, variable_value, with_value}
 
 -- how far a program is: the variables, the text with the lines that it said, and whether it stopped
@@ -27,18 +27,18 @@ value_word (Some z) = signed_decimal z
 abbrev pub value_in : List Node → List Variable → Expression → Option ℤ
 value_in nodes variables x = value nodes (variable_value variables) x
 
-abbrev pub said_item : List Node → List Variable → Item → List ℕ
+abbrev pub said_item : List Node → List Variable → SaidItem → List ℕ
 said_item nodes variables (Words bytes) = bytes
 said_item nodes variables (Value x) = value_word (value_in nodes variables x)
 
 -- a line that is said: its items one after the other
-abbrev pub said_line : List Node → List Variable → List Item → List ℕ
+abbrev pub said_line : List Node → List Variable → List SaidItem → List ℕ
 said_line nodes variables items = flat_map (said_item nodes variables) items ++ codes "\n"
 
 -- a number other than 0
-abbrev pub holds : Option ℤ → Bool
-holds None = false
-holds (Some z) = not (is_zero z)
+abbrev pub is_nonzero : Option ℤ → Bool
+is_nonzero None = false
+is_nonzero (Some z) = not (is_zero z)
 
 abbrev mutual
   -- after a statement
@@ -47,7 +47,7 @@ abbrev mutual
   after_statement nodes r (Say items) = record { variables = r.variables; text = r.text ++ said_line nodes r.variables items; stopped = r.stopped }
   after_statement nodes r Stop = record { variables = r.variables; text = r.text; stopped = true }
   after_statement nodes r (If x on_true on_false) =
-      if holds (value_in nodes r.variables x) then after_statements nodes r on_true else after_statements nodes r on_false
+      if is_nonzero (value_in nodes r.variables x) then after_statements nodes r on_true else after_statements nodes r on_false
 
   -- after statements, of which none is run behind a `stop`
   pub after_statements : List Node → ProgramState → Statements → ProgramState

@@ -8,15 +8,15 @@ use Rattle.embed_cmds.specs.declared.program.Stmt.{Stmt, Row_of-Stmt, end_of-Stm
 use Rattle.embed_cmds.specs.declared.program.Stmt as stmt
 
 -- what a line says: the bytes of a string, or a value
-pub data Item : Type 0 where
-  Words : (bytes : List ℕ) → Item
-  Value : (x : Expression) → Item
+pub data SaidItem : Type 0 where
+  Words : (bytes : List ℕ) → SaidItem
+  Value : (x : Expression) → SaidItem
 
 mutual
   -- a statement with those inside it
   pub data Statement : Type 0 where
     Set : (name : List ℕ) → (x : Expression) → Statement
-    Say : (items : List Item) → Statement
+    Say : (items : List SaidItem) → Statement
     Stop : Statement
     If : (x : Expression) → (on_true on_false : Statements) → Statement
 
@@ -30,7 +30,7 @@ abbrev pub sequence : List Statement → Statements
 sequence [] = End
 sequence (first ∷ rest) = Then first (sequence rest)
 
-abbrev pub item_of : SayItem → Item
+abbrev pub item_of : SayItem → SaidItem
 item_of (said.Words bytes) = Words bytes
 item_of (said.Value x) = Value (expression_of x)
 

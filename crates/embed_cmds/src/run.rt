@@ -1,7 +1,7 @@
 // What programs do.
 ghost use Rattle.std.specs.Prelude.{◌≡◌, ◌++◌, false, map, IfOk, OnErr, OnOk};
 ghost use Rattle.watch_expr.specs.Expression.{expression_of};
-ghost use Rattle.embed_cmds.specs.Running.{after_statement, after_statements, holds, program_state, said_item, said_line, value_in, value_word};
+ghost use Rattle.embed_cmds.specs.Running.{after_statement, after_statements, is_nonzero, program_state, said_item, said_line, value_in, value_word};
 ghost use Rattle.embed_cmds.specs.Tree.{body, item_of, statement_of, statements};
 ghost use Rattle.embed_cmds.specs.Variables.{with_value};
 
@@ -122,7 +122,7 @@ fn push_item<V: View>(said: &SayItem, v: &V, vars: &Vars, out: &mut Text) -> Res
 
 // A number other than 0.
 fn is_true(value: Option<i64>) -> bool
-    ensures { result ≡ holds value }
+    ensures { result ≡ is_nonzero value }
 {
     match value {
         Some(number) => number != 0,

@@ -5,7 +5,7 @@ ghost use Rattle.std.specs.Result.{is_ok};
 ghost use Rattle.watch_expr.specs.Lexing.{texts};
 ghost use Rattle.watch_expr.specs.Expression.{expression_of};
 ghost use Rattle.embed_cmds.specs.Parsing.{GoesAs, ReadAs};
-ghost use Rattle.embed_cmds.specs.Reading.{before_quote as before_quote_of, behind, expression, keyword_of, string_of, token_as, word_of};
+ghost use Rattle.embed_cmds.specs.Reading.{before_quote as before_quote_of, after_token, expression, keyword_of, string_of, token_as, word_of};
 
 use crate::keyword::{Keyword, keyword_from};
 use fri_bytes::Bytes;
@@ -14,7 +14,7 @@ use watch_expr::{Expr, ExprError, Tokens, exact_reading, is_word, parse};
 
 /// Whether a token has this text.
 pub(crate) fn stands(tokens: &Tokens<'_>, at: usize, text: &str) -> bool
-    ensures text { result ≡ is_ok (behind text.now (drop at (texts tokens.now))) }
+    ensures text { result ≡ is_ok (after_token text.now (drop at (texts tokens.now))) }
     ensures within { result ≡ true → at < length (texts tokens.now) }
     ensures small { result ≡ true → at < 2 ^ 63 }
 {
@@ -26,7 +26,7 @@ pub(crate) fn stands(tokens: &Tokens<'_>, at: usize, text: &str) -> bool
 
 /// The number of the token behind one that has to have this text.
 pub(crate) fn expect(tokens: &Tokens<'_>, at: usize, text: &str) -> Result<usize, ExprError>
-    ensures goes { GoesAs tokens.now (behind text.now (drop at (texts tokens.now))) result }
+    ensures goes { GoesAs tokens.now (after_token text.now (drop at (texts tokens.now))) result }
     ensures onward { IfOk result (λ next. at ≤ next) }
 {
     if stands(tokens, at, text) {

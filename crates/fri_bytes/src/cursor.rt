@@ -20,9 +20,9 @@ pub struct Cursor<'a> {
 
 impl<'a> Model for Cursor<'a> {
     ghost use Rattle.std.specs.Prelude.{◌+◌, ◌^◌, ◌<◌, length};
-    ghost use Rattle.fri_bytes.specs.Reading.{Reading};
+    ghost use Rattle.fri_bytes.specs.Reading.{CursorState};
 
-    ghost Value = { Reading };
+    ghost Value = { CursorState };
 
     ghost view = { λ c. record { left = c.rest.now; at = c.at } };
 

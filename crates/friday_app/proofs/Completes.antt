@@ -4,12 +4,12 @@ use Rattle.fri_outside.specs.Outside.{Folder}
 use Rattle.command_run.specs.declared.status.Status.{Status}
 use Rattle.command_run.specs.declared.status.Status.TheVariants as ends
 use Rattle.command_run.specs.Call.{IsAnswerStatus}
-use Rattle.command_run.specs.Outcome.{Work}
+use Rattle.command_run.specs.Outcome.{CommandWork}
 use Rattle.command_run.specs.Run.{NoFault, Outside}
 use Rattle.record_command.specs.Laws.{RecordingsWork}
 use Rattle.replay_command.specs.Laws.{ReplaysWork}
 use Rattle.debug_command.specs.Laws.{SessionsWork}
-use Rattle.drill_command.specs.Drill.{drill_run, drill_work, outcome_by_room}
+use Rattle.drill_command.specs.Drill.{drill_run, drill_work, drill_by_room}
 use Rattle.migrate_command.specs.Laws.{MigrationsWork}
 use Rattle.schedule_command.specs.Laws.{SchedulesWork}
 use Rattle.cut_command.specs.Laws.{CutsWork}
@@ -36,11 +36,11 @@ either (inr b) f g = g b
 module _ (recordings : RecordingsWork) (replays : ReplaysWork) (sessions : SessionsWork) (migrations : MigrationsWork) (schedules : SchedulesWork) (cuts : CutsWork) (streams : StreamsWork) where
   -- what is valid has an outcome that is work
   has_work : (command : Command) (folder : Folder) (left : Option (List ℕ)) → IsValidCall (Some command) folder left
-      → (work : Work) × (expected (Some command) (Some folder) left ≡ Some (Ok work))
+      → (work : CommandWork) × (expected (Some command) (Some folder) left ≡ Some (Ok work))
   has_work (Record images schedule_name) folder left h = let w = recordings images schedule_name folder h in (w.0, ap Some w.1)
   has_work (Replay images pairs) folder left h = let w = replays images pairs folder h in (w.0, ap Some w.1)
   has_work (Debug pairs) folder left h = sessions pairs folder left h
-  has_work (Drill rounds) folder left h = (drill_work rounds (drill_run rounds), ap (λ full. Some (outcome_by_room rounds (drill_run rounds) full)) h)
+  has_work (Drill rounds) folder left h = (drill_work rounds (drill_run rounds), ap (λ full. Some (drill_by_room rounds (drill_run rounds) full)) h)
   has_work (Migrate log_name new_name) folder left h = let w = migrations log_name new_name folder h in (w.0, ap Some w.1)
   has_work (Schedule pairs) folder left h = let w = schedules pairs folder h in (w.0, ap Some w.1)
   has_work (Cut process event pairs) folder left h = let w = cuts process event pairs folder h in (w.0, ap Some w.1)

@@ -6,10 +6,10 @@ use Rattle.std.proofs.lemmas.Option.{same_Some}
 use Rattle.fri_outside.specs.Outside.{Folder, Counts, Rose, WhenTold}
 use Rattle.command_run.specs.declared.status.Status.{Status}
 use Rattle.command_run.specs.declared.status.Status.TheVariants as ends
-use Rattle.command_run.specs.declared.refusal.Answer.{Answer}
-use Rattle.command_run.specs.declared.refusal.Answer.TheVariants as answered
-use Rattle.command_run.specs.declared.refusal.Refusal.{Refusal}
-use Rattle.command_run.specs.Call.{CountsFaults, DivergesOnlyIf, IsAnswerResult, IsAnswerStatus, Keeps, Makes, PrintsRefusal, Raises, TellsOutcome}
+use Rattle.command_run.specs.declared.refusal.WorkText.{WorkText}
+use Rattle.command_run.specs.declared.refusal.WorkText.TheVariants as answered
+use Rattle.command_run.specs.declared.refusal.StopCause.{StopCause}
+use Rattle.command_run.specs.Call.{CountsFaults, DivergesOnlyIf, IsAnswerResult, IsAnswerStatus, KeepsFolder, MakesWorkFiles, PrintsRefusal, Raises, TellsOutcome}
 use Rattle.command_run.specs.Outcome.{CommandOutcome, outcome_text, writes_of, written_names}
 use Rattle.command_run.specs.Run.{CallEnds, Finished, Outside, Performed}
 use Rattle.record_command.specs.Agreement.{IsRecordable, LeavesMoment, LeavesRecording}
@@ -39,10 +39,10 @@ run_same {old = old} {new = new} {answer = answer} is run = subst (λ k. Command
 -- ---- a command that prints once, at its end
 
 -- what it did, where its outcome depends on the folder alone
-pub performed : (f : Folder → CommandOutcome) (may_diverge : Bool) (before after : Option Folder) (counts counts_after : Counts) (ended : Result Answer Refusal)
+pub performed : (f : Folder → CommandOutcome) (may_diverge : Bool) (before after : Option Folder) (counts counts_after : Counts) (ended : Result WorkText StopCause)
     → ((o : CommandOutcome) → option_map f before ≡ Some o → TellsOutcome o ended)
-    → ((o : CommandOutcome) → option_map f before ≡ Some o → Makes ended (writes_of o) before after)
-    → Keeps ended before after → DivergesOnlyIf may_diverge ended → CountsFaults counts counts_after ended → IfErr ended (Raises counts counts_after)
+    → ((o : CommandOutcome) → option_map f before ≡ Some o → MakesWorkFiles ended (writes_of o) before after)
+    → KeepsFolder ended before after → DivergesOnlyIf may_diverge ended → CountsFaults counts counts_after ended → IfErr ended (Raises counts counts_after)
     → Performed (option_map f before) (λ folder. written_names (f folder)) may_diverge before after counts counts_after ended
 performed f may_diverge before after counts counts_after ended tells makes keeps diverges counted cause = record {
   tells = tells;
@@ -67,7 +67,7 @@ left_shown : LeftIsShown → (images : Bool) (name : List ℕ) (answer : Status)
 left_shown law images name answer old new recorded moment before is after here =
     law images name answer before after (λ answers. recorded answers before is after here) (subst (LeavesMoment images name before) here (moment before is))
 
-pub run_recorded : LeftIsShown → (images : Bool) (name : List ℕ) (ended : Result Answer Refusal) (answer : Status) (old new : Outside)
+pub run_recorded : LeftIsShown → (images : Bool) (name : List ℕ) (ended : Result WorkText StopCause) (answer : Status) (old new : Outside)
     → Finished (option_map (record_outcome images name) old.told) (λ folder. written_names (record_outcome images name folder)) false ended old new answer
     → (IsAnswerResult ended → WhenTold old.told (λ before. WhenTold new.told (LeavesRecording name before)))
     → WhenTold old.told (λ before. LeavesMoment images name before new.told)
@@ -87,12 +87,12 @@ run_recorded law images name ended answer old new f recorded moment = record {
 }
 
 -- a replay may tell that a log diverged
-pub may_diverge : (ended : Result Answer Refusal) → DivergesOnlyIf true ended
+pub may_diverge : (ended : Result WorkText StopCause) → DivergesOnlyIf true ended
 may_diverge (Ok (answered.Done text)) = tt
 may_diverge (Ok (answered.Diverged text)) = refl
 may_diverge (Err e) = tt
 
-pub run_replayed : (images : Bool) (pairs : List Pair) (ended : Result Answer Refusal) (answer : Status) (old new : Outside)
+pub run_replayed : (images : Bool) (pairs : List Pair) (ended : Result WorkText StopCause) (answer : Status) (old new : Outside)
     → Finished (option_map (replay_outcome images pairs) old.told) (λ folder. written_names (replay_outcome images pairs folder)) true ended old new answer
     → CommandRun (Some (Replay images pairs)) old new answer
 run_replayed images pairs ended answer old new f = record {
@@ -109,7 +109,7 @@ run_replayed images pairs ended answer old new f = record {
   refused = λ is. refused_file old new (f.refused is);
 }
 
-pub run_drilled : (rounds : ℕ) (ended : Result Answer Refusal) (answer : Status) (old new : Outside)
+pub run_drilled : (rounds : ℕ) (ended : Result WorkText StopCause) (answer : Status) (old new : Outside)
     → Finished (Some (drill_outcome rounds)) (λ folder. []) false ended old new answer → CommandRun (Some (Drill rounds)) old new answer
 run_drilled rounds ended answer old new f = record {
   call = f.call;
@@ -125,7 +125,7 @@ run_drilled rounds ended answer old new f = record {
   refused = λ is. refused_file old new (f.refused is);
 }
 
-pub run_migrated : (log_name new_name : List ℕ) (ended : Result Answer Refusal) (answer : Status) (old new : Outside)
+pub run_migrated : (log_name new_name : List ℕ) (ended : Result WorkText StopCause) (answer : Status) (old new : Outside)
     → Finished (option_map (migrate_outcome log_name new_name) old.told) (λ folder. written_names (migrate_outcome log_name new_name folder)) false ended old new answer
     → CommandRun (Some (Migrate log_name new_name)) old new answer
 run_migrated log_name new_name ended answer old new f = record {
@@ -143,13 +143,13 @@ run_migrated log_name new_name ended answer old new f = record {
 }
 
 -- what was printed records to the logs
-again : (pairs : List Pair) (folder : Folder) (ended : Result Answer Refusal) (answer : Status) (before after : List ℕ) → IsOk ended → TellsOutcome (schedule_outcome pairs folder) ended
+again : (pairs : List Pair) (folder : Folder) (ended : Result WorkText StopCause) (answer : Status) (before after : List ℕ) → IsOk ended → TellsOutcome (schedule_outcome pairs folder) ended
     → IfOk ended (AnswerRecordsBack pairs folder) → after ≡ before ++ outcome_text (schedule_outcome pairs folder) → PrintsConverse (Some (Schedule pairs)) folder before after
 again pairs folder (Ok (answered.Done text)) answer before after ok tells records is = (text, is ∙ ap (λ t. before ++ t) (ap outcome_text tells.1 ∙ sym tells.2), records)
 again pairs folder (Ok (answered.Diverged text)) answer before after ok tells records is = (text, is ∙ ap (λ t. before ++ t) (ap outcome_text tells.1 ∙ sym tells.2), records)
 again pairs folder (Err e) answer before after ok tells records is = let wrong : false ≡ true = ok in cc
 
-pub run_scheduled : (pairs : List Pair) (ended : Result Answer Refusal) (answer : Status) (old new : Outside)
+pub run_scheduled : (pairs : List Pair) (ended : Result WorkText StopCause) (answer : Status) (old new : Outside)
     → Finished (option_map (schedule_outcome pairs) old.told) (λ folder. []) false ended old new answer
     → ((o : CommandOutcome) → option_map (schedule_outcome pairs) old.told ≡ Some o → TellsOutcome o ended)
     → WhenTold old.told (λ folder. IfOk ended (AnswerRecordsBack pairs folder))
@@ -176,11 +176,11 @@ never_ok : false ≡ true → ⊥
 never_ok e = cc
 
 -- what was cut has the least past
-kept_past : (process event : ℕ) (pairs : List Pair) (folder : Folder) (ended : Result Answer Refusal) → IsOk ended → IfOk ended (λ _. CutsToPast process event pairs folder) → CutsToPast process event pairs folder
+kept_past : (process event : ℕ) (pairs : List Pair) (folder : Folder) (ended : Result WorkText StopCause) → IsOk ended → IfOk ended (λ _. CutsToPast process event pairs folder) → CutsToPast process event pairs folder
 kept_past process event pairs folder (Ok answer) ok cuts = cuts
 kept_past process event pairs folder (Err e) ok cuts = absurd (never_ok ok)
 
-pub run_cut : (process event : ℕ) (pairs : List Pair) (ended : Result Answer Refusal) (answer : Status) (old new : Outside)
+pub run_cut : (process event : ℕ) (pairs : List Pair) (ended : Result WorkText StopCause) (answer : Status) (old new : Outside)
     → Finished (option_map (cut_outcome process event pairs) old.told) (λ folder. written_names (cut_outcome process event pairs folder)) false ended old new answer
     → WhenTold old.told (λ folder. IfOk ended (λ _. CutsToPast process event pairs folder))
     → CommandRun (Some (Cut process event pairs)) old new answer
@@ -198,7 +198,7 @@ run_cut process event pairs ended answer old new f cuts = record {
   refused = λ is. refused_file old new (f.refused is);
 }
 
-pub run_streamed : (pairs : List Pair) (ended : Result Answer Refusal) (answer : Status) (old new : Outside)
+pub run_streamed : (pairs : List Pair) (ended : Result WorkText StopCause) (answer : Status) (old new : Outside)
     → Finished (option_map (streams_outcome pairs) old.told) (λ folder. []) false ended old new answer → CommandRun (Some (Streams pairs)) old new answer
 run_streamed pairs ended answer old new f = record {
   call = f.call;

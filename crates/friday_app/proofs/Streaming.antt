@@ -12,14 +12,14 @@ use Rattle.lib_calls.specs.Traffic.{is_sent, is_taken}
 use Rattle.lib_calls.specs.declared.entry.Entry.{Entry}
 use Rattle.call_log.specs.Head.{Head}
 use Rattle.group_order.specs.Order.{IsSorted, NodeEvent, list_of, node_event, of_node, precedes}
-use Rattle.group_record.specs.Run.{Group, Step, entries, size}
+use Rattle.group_record.specs.Run.{GroupStart, Step, entries, size}
 use Rattle.group_state.specs.Place.{entry_clock, events, group_count}
 use Rattle.proc_replay.specs.Replaying.{Replaying}
 use Rattle.byte_streams.specs.Laws.{IsTakenOf, IsUnsent, StrangeBySend, is_send_at}
-use Rattle.byte_streams.specs.Traffic.{Sent, Traffic, mark_of_receive}
+use Rattle.byte_streams.specs.Traffic.{Sent, SendOrReceive, mark_of_receive}
 use Rattle.headline.specs.Headline.{Ascend}
 use Rattle.headline.specs.Shown.{AreShown, FromOutside, FromSend}
-use Rattle.streams_command.specs.Streams.{process_at, received, traffic_by, traffic_of, traffic_of_event}
+use Rattle.streams_command.specs.Streams.{process_at, received, traffic_by, traffic_of_events, traffic_of_event}
 use Rattle.friday_app.specs.Streams.{RecordedStreams, receiving_of, sending_of, tag_of, traffic_before}
 
 and_false : (b : Bool) → (b && false) ≡ false
@@ -111,7 +111,7 @@ one_place (p ∷ ps) up (suc m) (suc n) first second same = ap suc (one_place ps
 
 -- none of the events between is a send of the same process at the same clock
 module _ (count : ℕ) (start : List Replaying) (q clock : ℕ) where
-  abbrev told : NodeEvent Entry → List Traffic
+  abbrev told : NodeEvent Entry → List SendOrReceive
   told e = traffic_of_event count (process_at start e.node) e.entry
 
   -- the event is of another process, or at another clock
@@ -157,7 +157,7 @@ other_event start ps processes up q node sent e of within behind inside = by_pro
         let wrong = sym behind ∙ never in cc
 
 -- the traffic of some events, of this one, and of those behind it
-split_traffic : (f : NodeEvent Entry → List Traffic) (front mid : List (NodeEvent Entry)) (e : NodeEvent Entry) (t : Traffic) → f e ≡ t ∷ []
+split_traffic : (f : NodeEvent Entry → List SendOrReceive) (front mid : List (NodeEvent Entry)) (e : NodeEvent Entry) (t : SendOrReceive) → f e ≡ t ∷ []
     → reverse (flat_map f (front ++ (e ∷ mid))) ≡ reverse (flat_map f mid) ++ (t ∷ reverse (flat_map f front))
 split_traffic f front mid e t is =
     ap reverse (flat_map-append f front (e ∷ mid)) ∙ reverse-append (flat_map f front) (f e ++ flat_map f mid)
@@ -167,14 +167,14 @@ split_traffic f front mid e t is =
 -- ---- the recording
 
 module _ (strange : StrangeBySend) where
-  processes_are : (group : Group) (steps : List Step) (cut : ℕ → List ℕ) (ps : List ℕ) (rs : List Replaying) → AreShown group steps cut ps rs → map (λ (r : Replaying). r.head.process) rs ≡ ps
+  processes_are : (group : GroupStart) (steps : List Step) (cut : ℕ → List ℕ) (ps : List ℕ) (rs : List Replaying) → AreShown group steps cut ps rs → map (λ (r : Replaying). r.head.process) rs ≡ ps
   processes_are group steps cut [] [] each = refl
   processes_are group steps cut (p ∷ ps) (r ∷ rs) each =
       ap (λ (h : Head). h.process ∷ map (λ (r : Replaying). r.head.process) rs) each.0.head ∙ ap (λ (qs : List ℕ). p ∷ qs) (processes_are group steps cut ps rs each.1)
   processes_are group steps cut [] (r ∷ rs) each = absurd each
   processes_are group steps cut (p ∷ ps) [] each = absurd each
 
-  count_is : (group : Group) (steps : List Step) (cut : ℕ → List ℕ) (ps : List ℕ) (rs : List Replaying) → AreShown group steps cut ps rs → (node p : ℕ) → slice_get ps node ≡ Some p → group_count rs ≡ size group
+  count_is : (group : GroupStart) (steps : List Step) (cut : ℕ → List ℕ) (ps : List ℕ) (rs : List Replaying) → AreShown group steps cut ps rs → (node p : ℕ) → slice_get ps node ≡ Some p → group_count rs ≡ size group
   count_is group steps cut [] rs each node p at = cc
   count_is group steps cut (q ∷ ps) [] each node p at = absurd each
   count_is group steps cut (q ∷ ps) (r ∷ rs) each node p at = ap (λ (h : Head). h.count) each.0.head
@@ -201,7 +201,7 @@ module _ (strange : StrangeBySend) where
       ∙ ap (λ f. Sent (sending_of f sent) ∷ []) of_other in
       let before = traffic_before start place.0 in
       let early : traffic_before start j ≡ reverse (flat_map (told (group_count start) start q sent.clock) b.mid) ++ (Sent sending ∷ before) =
-      ap (traffic_of start) b.is ∙ split_traffic (told (group_count start) start q sent.clock) (take place.0 order) b.mid send_event (Sent sending) at_send in
+      ap (traffic_of_events start) b.is ∙ split_traffic (told (group_count start) start q sent.clock) (take place.0 order) b.mid send_event (Sent sending) at_send in
       let taken_of : IsTakenOf (receiving_of p (tag_of q sent) e) sending (reverse (flat_map (told (group_count start) start q sent.clock) b.mid)) e.call.a1 = record {
         sender = refl;
         clock = refl;

@@ -5,7 +5,7 @@ use Rattle.command_run.specs.declared.status.Status.{Status}
 use Rattle.record_command.specs.Agreement.{IsRecordable, LeavesMoment, LeavesRecording}
 use Rattle.headline.specs.Headline.{ShowsRun}
 use Rattle.cut_command.specs.Laws.{CutsToPast}
-use Rattle.schedule_command.specs.Laws.{RecordsBack}
+use Rattle.schedule_command.specs.Laws.{RecordsToLogs}
 use Rattle.friday_app.specs.Command.{Command, Cut, Debug, Drill, Migrate, Record, Replay, Schedule, Streams}
 
 -- a command that records leaves its recording
@@ -52,7 +52,7 @@ PrintsConverse (Some (Replay images pairs)) folder before after = Unit {0}
 PrintsConverse (Some (Debug pairs)) folder before after = Unit {0}
 PrintsConverse (Some (Drill rounds)) folder before after = Unit {0}
 PrintsConverse (Some (Migrate log_name new_name)) folder before after = Unit {0}
-PrintsConverse (Some (Schedule pairs)) folder before after = (text : List ℕ) × (after ≡ before ++ text) × RecordsBack pairs folder text
+PrintsConverse (Some (Schedule pairs)) folder before after = (text : List ℕ) × (after ≡ before ++ text) × RecordsToLogs pairs folder text
 PrintsConverse (Some (Cut process event pairs)) folder before after = Unit {0}
 PrintsConverse (Some (Streams pairs)) folder before after = Unit {0}
 

@@ -2,7 +2,7 @@
 use Rattle.std.specs.Prelude.{ℕ, List, [], ◌∷◌, ◌==◌, ◌&&◌, Bool, false, not, nat_le, length, filter, Option, Some, None, option_map, codes, bytes_eq, if◌then◌else◌}
 use Rattle.std.specs.List.{list_all}
 use Rattle.log_pairs.specs.Pairs.{Pair}
-use Rattle.cut_command.specs.Words.{event_of, process_of}
+use Rattle.cut_command.specs.Words.{event_number_of, process_of}
 use Rattle.drill_command.specs.Rounds.{rounds_of}
 
 pub data Command : Type 0 where
@@ -41,9 +41,9 @@ abbrev pub recording : Bool → List (List ℕ) → Option Command
 recording images (schedule_name ∷ []) = Some (Record images schedule_name)
 recording images names = None
 
-abbrev pub replaying : Bool → List (List ℕ) → Option Command
-replaying images [] = None
-replaying images names = option_map (Replay images) (pairs_of names)
+abbrev pub replay_of_names : Bool → List (List ℕ) → Option Command
+replay_of_names images [] = None
+replay_of_names images names = option_map (Replay images) (pairs_of names)
 
 abbrev pub debugging : Bool → List (List ℕ) → Option Command
 debugging images [] = None
@@ -69,7 +69,7 @@ cutting_by (Some process) (Some event) pairs = option_map (Cut process event) pa
 
 abbrev pub cutting : Bool → List (List ℕ) → Option Command
 cutting images (process ∷ event ∷ module_name ∷ names) =
-    if images then None else cutting_by (process_of process) (event_of event) (pairs_of (module_name ∷ names))
+    if images then None else cutting_by (process_of process) (event_number_of event) (pairs_of (module_name ∷ names))
 cutting images names = None
 
 abbrev pub streaming : Bool → List (List ℕ) → Option Command
@@ -80,7 +80,7 @@ streaming images names = if images then None else option_map Streams (pairs_of n
 abbrev pub command_by : List ℕ → Bool → List (List ℕ) → Option Command
 command_by verb images names =
     if bytes_eq verb (codes "record") then recording images names
-    else if bytes_eq verb (codes "replay") then replaying images names
+    else if bytes_eq verb (codes "replay") then replay_of_names images names
     else if bytes_eq verb (codes "debug") then debugging images names
     else if bytes_eq verb (codes "drill") then drilling images names
     else if bytes_eq verb (codes "migrate") then migrating images names

@@ -4,7 +4,7 @@ use Rattle.fri_outside.specs.Outside.{Folder, WhenTold, Rose}
 use Rattle.command_run.specs.declared.status.Status.{Status}
 use Rattle.command_run.specs.declared.status.Status.TheVariants as ends
 use Rattle.command_run.specs.Call.{IsAnswerStatus, PrintsRefusal}
-use Rattle.command_run.specs.Outcome.{Work, outcome_status}
+use Rattle.command_run.specs.Outcome.{CommandWork, outcome_status}
 use Rattle.command_run.specs.Run.{CallEnds, Outside}
 use Rattle.friday_app.specs.Agreement.{KeepsMoment, KeepsPast, KeepsRecording, PrintsConverse, ShowsRecording}
 use Rattle.friday_app.specs.Command.{Command, IsReplayCommand}
@@ -47,6 +47,6 @@ pub record CommandRun (command : Option Command) (old new : Outside) (answer : S
 
 -- the command has work to do, and the status is that of the work, or want of memory
 pub record Works (command : Option Command) (told : Option Folder) (left : Option (List ℕ)) (answer : Status) : Type 0 where
-  pub work : Work
+  pub work : CommandWork
   pub is_expected : expected command told left ≡ Some (Ok work)
   pub status : (answer ≡ outcome_status (Ok work)) ⊎ (answer ≡ ends.NoMemory)

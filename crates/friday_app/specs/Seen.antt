@@ -6,15 +6,15 @@ use Rattle.friday_app.specs.declared.command.Command.{Command as Words}
 use Rattle.friday_app.specs.declared.command.Command.TheVariants as words
 use Rattle.friday_app.specs.Command.{Command, Cut, Debug, Drill, Migrate, Record, Replay, Schedule, Streams}
 
-abbrev pub meaning : Words → Command
-meaning (words.Record images schedule_name) = Record images schedule_name.now
-meaning (words.Replay images pairs) = Replay images (map pair_of pairs.items)
-meaning (words.Debug pairs) = Debug (map pair_of pairs.items)
-meaning (words.Drill rounds) = Drill rounds
-meaning (words.Migrate log_name new_name) = Migrate log_name.now new_name.now
-meaning (words.Schedule pairs) = Schedule (map pair_of pairs.items)
-meaning (words.Cut process event pairs) = Cut process event (map pair_of pairs.items)
-meaning (words.Streams pairs) = Streams (map pair_of pairs.items)
+abbrev pub command_meaning : Words → Command
+command_meaning (words.Record images schedule_name) = Record images schedule_name.now
+command_meaning (words.Replay images pairs) = Replay images (map pair_of pairs.items)
+command_meaning (words.Debug pairs) = Debug (map pair_of pairs.items)
+command_meaning (words.Drill rounds) = Drill rounds
+command_meaning (words.Migrate log_name new_name) = Migrate log_name.now new_name.now
+command_meaning (words.Schedule pairs) = Schedule (map pair_of pairs.items)
+command_meaning (words.Cut process event pairs) = Cut process event (map pair_of pairs.items)
+command_meaning (words.Streams pairs) = Streams (map pair_of pairs.items)
 
 -- a drill of so many rounds as there may be
 abbrev pub HasRounds : Words → Type 0

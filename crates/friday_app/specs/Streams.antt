@@ -5,15 +5,15 @@ use Rattle.lamport_tag.specs.declared.Tag.{Tag}
 use Rattle.lib_calls.specs.Traffic.{is_taken}
 use Rattle.lib_calls.specs.declared.entry.Entry.{Entry}
 use Rattle.group_order.specs.Order.{node_event}
-use Rattle.group_record.specs.Run.{Group, Step}
+use Rattle.group_record.specs.Run.{GroupStart, Step}
 use Rattle.group_state.specs.Place.{events}
 use Rattle.proc_replay.specs.Replaying.{Replaying}
 use Rattle.log_pairs.specs.Pairs.{Pair}
 use Rattle.byte_streams.specs.declared.mark.Mark.TheVariants.{Strange}
-use Rattle.byte_streams.specs.Traffic.{Receiving, Sending, Traffic, mark_of_receive, mark_of_send}
+use Rattle.byte_streams.specs.Traffic.{Receiving, Sending, SendOrReceive, mark_of_receive, mark_of_send}
 use Rattle.headline.specs.Headline.{IsShown}
 use Rattle.headline.specs.Shown.{FromOutside, FromSend, Received}
-use Rattle.streams_command.specs.Streams.{traffic_of}
+use Rattle.streams_command.specs.Streams.{traffic_of_events}
 
 -- what process q sent by this event
 abbrev pub sending_of : ℕ → Entry → Sending
@@ -28,12 +28,12 @@ abbrev pub receiving_of : ℕ → Tag → Entry → Receiving
 receiving_of p tag e = record { by = p; tag = tag; payload = e.incoming }
 
 -- the sends and receives of the first k events
-abbrev pub traffic_before : List Replaying → ℕ → List Traffic
-traffic_before start k = traffic_of start (take k (events start))
+abbrev pub traffic_before : List Replaying → ℕ → List SendOrReceive
+traffic_before start k = traffic_of_events start (take k (events start))
 
 -- The send of process q stands before place j of the order. There process p took what it sent, under its name; and to the
 -- streams this is not strange, unless the send is.
-pub record IsReadOf (start : List Replaying) (j p : ℕ) (e : Entry) (q node : ℕ) (sent : Entry) : Type 0 where
+pub record IsSendTaken (start : List Replaying) (j p : ℕ) (e : Entry) (q node : ℕ) (sent : Entry) : Type 0 where
   pub place : ℕ
   pub before : place < j
   pub stands : slice_get (events start) place ≡ Some (node_event node sent)
@@ -42,13 +42,13 @@ pub record IsReadOf (start : List Replaying) (j p : ℕ) (e : Entry) (q node : �
       → mark_of_receive (receiving_of p (tag_of q sent) e) (traffic_before start j) ≢ Strange
 
 -- so it is with a datagram that a process sent whose log is given, where its clock is one that a tag can bear
-abbrev pub ReadsSend : (start : List Replaying) (group : Group) (steps : List Step) (ps : List ℕ) (j p : ℕ) (e : Entry) → Received group steps ps (events start) j p e → Type 0
+abbrev pub ReadsSend : (start : List Replaying) (group : GroupStart) (steps : List Step) (ps : List ℕ) (j p : ℕ) (e : Entry) → Received group steps ps (events start) j p e → Type 0
 ReadsSend start group steps ps j p e (FromOutside bytes given tag payload) = Unit {0}
-ReadsSend start group steps ps j p e (FromSend q k sent at is to tells before) = sent.clock ≤ 2 ^ 62 → (node : ℕ) → slice_get ps node ≡ Some q → IsReadOf start j p e q node sent
+ReadsSend start group steps ps j p e (FromSend q k sent at is to tells before) = sent.clock ≤ 2 ^ 62 → (node : ℕ) → slice_get ps node ≡ Some q → IsSendTaken start j p e q node sent
 
 -- wherever the logs of a recording are shown, each taken datagram that was sent is read so
 abbrev pub RecordedStreams : Type 0
 RecordedStreams =
-    (group : Group) (steps : List Step) (cut : ℕ → List ℕ) (folder : Folder) (ps : List ℕ) (pairs : List Pair) → (s : IsShown group steps cut folder ps pairs)
+    (group : GroupStart) (steps : List Step) (cut : ℕ → List ℕ) (folder : Folder) (ps : List ℕ) (pairs : List Pair) → (s : IsShown group steps cut folder ps pairs)
     → (j node p : ℕ) (e : Entry) → slice_get s.sorted node ≡ Some p → slice_get (events s.start) j ≡ Some (node_event node e) → IsTrue (is_taken e)
     → (r : Received group steps s.sorted (events s.start) j p e) → ReadsSend s.start group steps s.sorted j p e r

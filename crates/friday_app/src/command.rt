@@ -1,11 +1,11 @@
 // Which command the words name.
 ghost use Rattle.std.specs.Prelude.{◌≡◌, length, map, option_map, string_bytes, IfOk, IfSome};
 ghost use Rattle.std.specs.List.{list_all};
-ghost use Rattle.friday_app.specs.Command.{command_by, command_of, cutting, debugging, drilling, is_file_word, is_images, migrating, names_in, options_in, pairs_of, recording, replaying, scheduling, streaming};
-ghost use Rattle.friday_app.specs.Seen.{HasRounds, meaning};
+ghost use Rattle.friday_app.specs.Command.{command_by, command_of, cutting, debugging, drilling, is_file_word, is_images, migrating, names_in, options_in, pairs_of, recording, replay_of_names, scheduling, streaming};
+ghost use Rattle.friday_app.specs.Seen.{HasRounds, command_meaning};
 ghost use Rattle.log_pairs.specs.Seen.{pair_of};
 
-use cut_command::{event_of, process_of};
+use cut_command::{event_number_of, process_of};
 use drill_command::rounds_of;
 use log_pairs::Pair;
 use std::alloc::{AllocError, Global};
@@ -42,8 +42,8 @@ fn is_images(word: &str) -> bool
 }
 
 /// The command that the words name: a verb, and behind it names of files or a number, and once at most `--images`.
-pub fn parse(alloc: Global, words: &[String]) -> Result<Option<Command<'_>>, AllocError>
-    ensures names { IfOk result (λ command. option_map meaning command ≡ command_of (map string_bytes words.now)) }
+pub fn parse_words(alloc: Global, words: &[String]) -> Result<Option<Command<'_>>, AllocError>
+    ensures names { IfOk result (λ command. option_map command_meaning command ≡ command_of (map string_bytes words.now)) }
     ensures rounds { IfOk result (λ command. IfSome command HasRounds) }
 {
     let [verb, words @ ..] = words else {
@@ -92,7 +92,7 @@ fn command_by<'a>(
     images: bool,
     names: &[&'a str],
 ) -> Result<Option<Command<'a>>, AllocError>
-    ensures names { IfOk result (λ command. option_map meaning command ≡ command_by verb.now images (map (λ name. name.now) names.now)) }
+    ensures names { IfOk result (λ command. option_map command_meaning command ≡ command_by verb.now images (map (λ name. name.now) names.now)) }
     ensures rounds { IfOk result (λ command. IfSome command HasRounds) }
 {
     match verb {
@@ -109,7 +109,7 @@ fn command_by<'a>(
 }
 
 fn record_command<'a>(images: bool, names: &[&'a str]) -> Option<Command<'a>>
-    ensures { option_map meaning result ≡ recording images (map (λ name. name.now) names.now) }
+    ensures { option_map command_meaning result ≡ recording images (map (λ name. name.now) names.now) }
 {
     match names {
         [schedule_file] => Some(Command::Record(images, schedule_file)),
@@ -122,7 +122,7 @@ fn replay_command<'a>(
     images: bool,
     names: &[&'a str],
 ) -> Result<Option<Command<'a>>, AllocError>
-    ensures { IfOk result (λ command. option_map meaning command ≡ replaying images (map (λ name. name.now) names.now)) }
+    ensures { IfOk result (λ command. option_map command_meaning command ≡ replay_of_names images (map (λ name. name.now) names.now)) }
 {
     if names.is_empty() {
         return Ok(None);
@@ -136,7 +136,7 @@ fn debug_command<'a>(
     images: bool,
     names: &[&'a str],
 ) -> Result<Option<Command<'a>>, AllocError>
-    ensures { IfOk result (λ command. option_map meaning command ≡ debugging images (map (λ name. name.now) names.now)) }
+    ensures { IfOk result (λ command. option_map command_meaning command ≡ debugging images (map (λ name. name.now) names.now)) }
 {
     if images || names.is_empty() {
         return Ok(None);
@@ -146,7 +146,7 @@ fn debug_command<'a>(
 }
 
 fn drill_command<'a>(images: bool, words: &[&'a str]) -> Option<Command<'a>>
-    ensures names { option_map meaning result ≡ drilling images (map (λ word. word.now) words.now) }
+    ensures names { option_map command_meaning result ≡ drilling images (map (λ word. word.now) words.now) }
     ensures rounds { IfSome result HasRounds }
 {
     match words {
@@ -156,7 +156,7 @@ fn drill_command<'a>(images: bool, words: &[&'a str]) -> Option<Command<'a>>
 }
 
 fn migrate_command<'a>(images: bool, names: &[&'a str]) -> Option<Command<'a>>
-    ensures { option_map meaning result ≡ migrating images (map (λ name. name.now) names.now) }
+    ensures { option_map command_meaning result ≡ migrating images (map (λ name. name.now) names.now) }
 {
     match names {
         [log_file, new_file] if !images => Some(Command::Migrate(log_file, new_file)),
@@ -169,7 +169,7 @@ fn schedule_command<'a>(
     images: bool,
     names: &[&'a str],
 ) -> Result<Option<Command<'a>>, AllocError>
-    ensures { IfOk result (λ command. option_map meaning command ≡ scheduling images (map (λ name. name.now) names.now)) }
+    ensures { IfOk result (λ command. option_map command_meaning command ≡ scheduling images (map (λ name. name.now) names.now)) }
 {
     if images || names.is_empty() {
         return Ok(None);
@@ -183,7 +183,7 @@ fn cut_command<'a>(
     images: bool,
     words: &[&'a str],
 ) -> Result<Option<Command<'a>>, AllocError>
-    ensures names { IfOk result (λ command. option_map meaning command ≡ cutting images (map (λ word. word.now) words.now)) }
+    ensures names { IfOk result (λ command. option_map command_meaning command ≡ cutting images (map (λ word. word.now) words.now)) }
     ensures rounds { IfOk result (λ command. IfSome command HasRounds) }
 {
     let [process, event, names @ ..] = words else {
@@ -195,7 +195,7 @@ fn cut_command<'a>(
     let Some(process) = process_of(process) else {
         return Ok(None);
     };
-    let Some(event) = event_of(event) else {
+    let Some(event) = event_number_of(event) else {
         return Ok(None);
     };
     let pairs = pairs_of(alloc, names)?;
@@ -207,7 +207,7 @@ fn streams_command<'a>(
     images: bool,
     names: &[&'a str],
 ) -> Result<Option<Command<'a>>, AllocError>
-    ensures { IfOk result (λ command. option_map meaning command ≡ streaming images (map (λ name. name.now) names.now)) }
+    ensures { IfOk result (λ command. option_map command_meaning command ≡ streaming images (map (λ name. name.now) names.now)) }
 {
     if images || names.is_empty() {
         return Ok(None);

@@ -6,11 +6,11 @@ ghost use Rattle.friday_app.specs.Command.{command_of};
 ghost use Rattle.friday_app.specs.Run.{CommandRun, Works};
 ghost use Rattle.friday_app.specs.Valid.{IsValidCall};
 
-use crate::command::{Command, parse};
+use crate::command::{Command, parse_words};
 use command_run::{Status, finish, give_up, refuse_words};
 use cut_command::{cut, cuts_work};
 use debug_command::{debug, sessions_work};
-use drill_command::drill;
+use drill_command::drill_rounds;
 use fri_outside::{Files, Terminal};
 use headline::left_is_shown;
 use migrate_command::{migrate, migrations_work};
@@ -29,7 +29,7 @@ fn run<F: Files, T: Terminal>(alloc: Global, words: &[String], files: &mut F, io
 {
     recordings_rest();
     left_is_shown();
-    match parse(alloc, words) {
+    match parse_words(alloc, words) {
         Ok(None) => refuse_words(io),
         Ok(Some(Command::Record(images, schedule_file))) => {
             let ended = record(alloc, images, schedule_file, files);
@@ -41,7 +41,7 @@ fn run<F: Files, T: Terminal>(alloc: Global, words: &[String], files: &mut F, io
         }
         Ok(Some(Command::Debug(pairs))) => debug(alloc, &pairs, files, io),
         Ok(Some(Command::Drill(rounds))) => {
-            let ended = drill(alloc, rounds);
+            let ended = drill_rounds(alloc, rounds);
             finish(alloc, ended, io)
         }
         Ok(Some(Command::Migrate(log_file, new_file))) => {

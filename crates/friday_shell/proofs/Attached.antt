@@ -4,7 +4,7 @@ use Rattle.embed_cmds.specs.Faulty.{set_names}
 use Rattle.embed_cmds.specs.Tree.{Statements}
 use Rattle.embed_cmds.specs.Variables.{Variable, mention_all}
 use Rattle.shell_lines.specs.Refusals.{refusal_line}
-use Rattle.shell_lines.specs.declared.refusal.Refusal.TheVariants as refusal
+use Rattle.shell_lines.specs.declared.refusal.LineRefusal.TheVariants as refusal
 use Rattle.shell_points.specs.Points.{Point, place_of_point, with_program}
 use Rattle.friday_shell.specs.Answer.{LineAnswer, attaches, attaches_at, most_variables, refuses, says}
 use Rattle.friday_shell.specs.Points.{SessionState}

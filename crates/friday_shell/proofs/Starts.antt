@@ -5,7 +5,7 @@ use Rattle.group_state.specs.Place.{events}
 use Rattle.embed_cmds.specs.Faulty.{set_names}
 use Rattle.embed_cmds.specs.Tree.{Statements}
 use Rattle.embed_cmds.specs.Variables.{is_mentioned, mention_all}
-use Rattle.shell_lines.specs.Lines.{At, Back, Break, LineCommand, Continue, Delete, Do, Events, Everywhere, Goto, ListPoints, ListVariables, Mem, Print, Quit, Rcontinue, Scope, SetTo, Step, Threads, Watch}
+use Rattle.shell_lines.specs.Lines.{At, Back, Break, LineCommand, Continue, Delete, Do, Events, Everywhere, Goto, ListPoints, ListVariables, Mem, Print, Quit, Rcontinue, WhichNodes, SetTo, Step, Threads, Watch}
 use Rattle.shell_points.specs.Points.{Trigger, has_point, place_of_point}
 use Rattle.friday_shell.specs.Answer.{LineAnswer, adds, attaches_at, breaks_at, command_answer, deletes, most_points, most_variables, sets}
 use Rattle.friday_shell.specs.Points.{SessionState}
@@ -31,7 +31,7 @@ module _ (state : SessionState) where
   setting : (name : List ℕ) (value : Option ℤ) → Keeps (sets state name value)
   setting name value = either (is_mentioned state.variables name || nat_lt (length state.variables) most_variables) _ _ refl refl
 
-  breaking : (line : List ℕ) (kind : Kind) (scope : Scope) → Keeps (breaks_at state line kind scope)
+  breaking : (line : List ℕ) (kind : Kind) (scope : WhichNodes) → Keeps (breaks_at state line kind scope)
   breaking line kind Everywhere = adding line _
   breaking line kind (At None) = refl
   breaking line kind (At (Some n)) = adding line _

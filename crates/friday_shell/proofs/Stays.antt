@@ -4,21 +4,21 @@ use Rattle.std.proofs.lemmas.Bool.{cases_Bool, eqb-true, ltb-true, ltb-false, lt
 use Rattle.std.specs.Fmt.{digit_glyph, digits, digits_onto}
 use Rattle.call_table.specs.declared.kind.Kind.{Kind}
 use Rattle.group_state.specs.Moves.{last_event_of}
-use Rattle.group_state.specs.Place.{Place, events, node_names}
+use Rattle.group_state.specs.Place.{GroupPlace, events, node_names}
 use Rattle.group_texts.specs.Texts.{event_ending, position_line}
 use Rattle.embed_cmds.specs.Faulty.{set_names}
 use Rattle.embed_cmds.specs.Tree.{Statements}
 use Rattle.embed_cmds.specs.Variables.{is_mentioned, mention_all}
-use Rattle.shell_lines.specs.Lines.{At, Back, Break, LineCommand, Continue, Delete, Do, Events, Everywhere, Goto, ListPoints, ListVariables, Mem, Print, Quit, Rcontinue, Scope, SetTo, Step, Threads, Watch}
+use Rattle.shell_lines.specs.Lines.{At, Back, Break, LineCommand, Continue, Delete, Do, Events, Everywhere, Goto, ListPoints, ListVariables, Mem, Print, Quit, Rcontinue, WhichNodes, SetTo, Step, Threads, Watch}
 use Rattle.shell_lines.specs.Meaning.{Does, LineMeaning, Refuses, Silent, line_meaning, trimmed}
 use Rattle.shell_lines.specs.Refusals.{refusal_line}
-use Rattle.shell_lines.specs.declared.refusal.Refusal.{Refusal}
-use Rattle.shell_lines.specs.declared.refusal.Refusal.TheVariants as refusal
+use Rattle.shell_lines.specs.declared.refusal.LineRefusal.{LineRefusal}
+use Rattle.shell_lines.specs.declared.refusal.LineRefusal.TheVariants as refusal
 use Rattle.shell_points.specs.Firing.{place_at}
 use Rattle.shell_points.specs.Points.{Trigger, has_point, place_of_point}
 use Rattle.shell_points.specs.Returning.{return_from}
 use Rattle.shell_points.specs.Walking.{Walk, walk_from}
-use Rattle.friday_shell.specs.Answer.{LineAnswer, adds, answer_of, arrives, attaches_at, breaks_at, command_answer, deletes, most_points, most_variables, says, sets, walks}
+use Rattle.friday_shell.specs.Answer.{LineAnswer, adds, answer_of_meaning, arrives, attaches_at, breaks_at, command_answer, deletes, most_points, most_variables, says, sets, walks}
 use Rattle.friday_shell.specs.Laws.{RefusedStays}
 use Rattle.friday_shell.specs.Points.{SessionState}
 
@@ -100,7 +100,7 @@ low_head : (ds rest : List ℕ) → LowSome ds → nat_lt (head (ds ++ rest)) 97
 low_head [] rest h = absurd h
 low_head (d ∷ ds) rest h = lt-ltb d 97 h.0
 
-position_begins : (place : Place) → begins_at (position_line place) ≡ true
+position_begins : (place : GroupPlace) → begins_at (position_line place) ≡ true
 position_begins place = low_head (decimal place.at) (event_ending place.start (last_event_of place)) (decimal_low place.at)
 
 other_byte : (d : ℕ) → d < 97 → nat_eq d 97 ≡ false
@@ -113,7 +113,7 @@ digits_say_none (d ∷ ds) h =
     let not_here : begins_at (d ∷ rest) ≡ false = ap (λ (b : Bool). (b && bytes_eq (take 2 rest) (codes "t ")) && nat_lt (head (drop 3 (d ∷ rest))) 97) (other_byte d h.0) in
     or_none (begins_at (d ∷ rest)) (says_at rest) not_here (digits_say_none ds h.1)
 
-refusal_says_none : (why : Refusal) → says_at (refusal_line why) ≡ false
+refusal_says_none : (why : LineRefusal) → says_at (refusal_line why) ≡ false
 refusal_says_none (refusal.Syntax column) = digits_say_none (decimal column) (all_low (decimal column) (decimal_low column))
 refusal_says_none refusal.NoNode = refl
 refusal_says_none refusal.TooDeep = refl
@@ -125,13 +125,13 @@ refusal_says_none refusal.TooLong = refl
 refusal_says_none refusal.TooMany = refl
 
 -- no refusal ends with a position
-no_position : (front : List ℕ) (place : Place) (why : Refusal) → front ++ position_line place ≡ refusal_line why → ⊥
+no_position : (front : List ℕ) (place : GroupPlace) (why : LineRefusal) → front ++ position_line place ≡ refusal_line why → ⊥
 no_position front place why e =
     let never : ◌≡◌ {A = Bool} true false = sym (said_at front (position_line place) (position_begins place)) ∙ ap says_at e ∙ refusal_says_none why in
     cc
 
 -- each begins with a question mark
-first_byte : (why : Refusal) → head (refusal_line why) ≡ 63
+first_byte : (why : LineRefusal) → head (refusal_line why) ≡ 63
 first_byte (refusal.Syntax column) = refl
 first_byte refusal.NoNode = refl
 first_byte refusal.TooDeep = refl
@@ -142,7 +142,7 @@ first_byte refusal.NoPosition = refl
 first_byte refusal.TooLong = refl
 first_byte refusal.TooMany = refl
 
-other_text : (text : List ℕ) (why : Refusal) → (head text ≡ 63 → ⊥) → text ≡ refusal_line why → ⊥
+other_text : (text : List ℕ) (why : LineRefusal) → (head text ≡ 63 → ⊥) → text ≡ refusal_line why → ⊥
 other_text text why other e = other (ap head e ∙ first_byte why)
 
 -- ---- answers
@@ -150,7 +150,7 @@ other_text text why other e = other (ap head e ∙ first_byte why)
 module _ (state : SessionState) where
   -- where it is a refusal's line, nothing changed
   abbrev Stays : LineAnswer → Type 0
-  Stays a = (why : Refusal) → a.text ≡ refusal_line why → (a.state ≡ state) × (a.quits ≡ false)
+  Stays a = (why : LineRefusal) → a.text ≡ refusal_line why → (a.state ≡ state) × (a.quits ≡ false)
 
   either : (b : Bool) (a c : LineAnswer) → Stays a → Stays c → Stays (cond b a c)
   either true a c h k = h
@@ -160,7 +160,7 @@ module _ (state : SessionState) where
   same text why e = (refl, refl)
 
   -- an answer with a text that no refusal has
-  apart : (a : LineAnswer) → ((why : Refusal) → a.text ≡ refusal_line why → ⊥) → Stays a
+  apart : (a : LineAnswer) → ((why : LineRefusal) → a.text ≡ refusal_line why → ⊥) → Stays a
   apart a never why e = absurd (never why e)
 
   other_byte_first : (a : LineAnswer) → (head a.text ≡ 63 → ⊥) → Stays a
@@ -185,7 +185,7 @@ module _ (state : SessionState) where
   setting : (name : List ℕ) (value : Option ℤ) → Stays (sets state name value)
   setting name value = either (is_mentioned state.variables name || nat_lt (length state.variables) most_variables) _ _ (other_byte_first _ (λ e. absurd (omega (arith, e)))) (same _)
 
-  breaking : (line : List ℕ) (kind : Kind) (scope : Scope) → Stays (breaks_at state line kind scope)
+  breaking : (line : List ℕ) (kind : Kind) (scope : WhichNodes) → Stays (breaks_at state line kind scope)
   breaking line kind Everywhere = adding line _
   breaking line kind (At None) = same []
   breaking line kind (At (Some n)) = adding line _
@@ -209,7 +209,7 @@ module _ (state : SessionState) where
   commanding line Rcontinue = let r = return_from state.place state.points in arriving r.text r.at
   commanding line Quit = other_byte_first _ (λ e. absurd (omega (arith, e)))
 
-  answering : (line : List ℕ) (m : LineMeaning) → Stays (answer_of state line m)
+  answering : (line : List ℕ) (m : LineMeaning) → Stays (answer_of_meaning state line m)
   answering line Silent = same []
   answering line (Refuses why) = same _
   answering line (Does c) = commanding line c

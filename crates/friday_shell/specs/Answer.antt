@@ -6,18 +6,18 @@ use Rattle.call_table.specs.declared.kind.Kind.{Kind}
 use Rattle.proc_replay.specs.Replaying.{Replaying}
 use Rattle.guest_process.specs.State.{State}
 use Rattle.watch_expr.specs.View.{bytes_of_node}
-use Rattle.group_state.specs.Place.{Place, events, node_names, states}
+use Rattle.group_state.specs.Place.{GroupPlace, events, node_names, states}
 use Rattle.group_state.specs.Seen.{nodes_at}
 use Rattle.group_texts.specs.Texts.{last_lines, node_name, position_line, process_lines}
 use Rattle.embed_cmds.specs.Faulty.{set_names}
 use Rattle.embed_cmds.specs.Running.{value_in, value_word}
 use Rattle.embed_cmds.specs.Tree.{Statements}
 use Rattle.embed_cmds.specs.Variables.{Variable, is_mentioned, mention_all, with_value}
-use Rattle.shell_lines.specs.Lines.{At, Back, Break, LineCommand, Continue, Delete, Do, Events, Everywhere, Goto, ListPoints, ListVariables, Mem, Print, Quit, Rcontinue, Scope, SetTo, Step, Threads, Watch}
+use Rattle.shell_lines.specs.Lines.{At, Back, Break, LineCommand, Continue, Delete, Do, Events, Everywhere, Goto, ListPoints, ListVariables, Mem, Print, Quit, Rcontinue, WhichNodes, SetTo, Step, Threads, Watch}
 use Rattle.shell_lines.specs.Meaning.{Does, LineMeaning, Refuses, Silent, line_meaning, trimmed}
 use Rattle.shell_lines.specs.Refusals.{refusal_line}
-use Rattle.shell_lines.specs.declared.refusal.Refusal.{Refusal}
-use Rattle.shell_lines.specs.declared.refusal.Refusal.TheVariants as refusal
+use Rattle.shell_lines.specs.declared.refusal.LineRefusal.{LineRefusal}
+use Rattle.shell_lines.specs.declared.refusal.LineRefusal.TheVariants as refusal
 use Rattle.shell_points.specs.Firing.{place_at}
 use Rattle.shell_points.specs.Points.{Trigger, has_point, place_of_point, point_text, with_program, without_point}
 use Rattle.shell_points.specs.Points.{Break as OnCall, Watch as OnChange}
@@ -36,7 +36,7 @@ abbrev pub says : SessionState → List ℕ → LineAnswer
 says state text = record { text = text; state = state; quits = false }
 
 -- a refusal, which leaves the session as it was
-abbrev pub refuses : SessionState → Refusal → LineAnswer
+abbrev pub refuses : SessionState → LineRefusal → LineAnswer
 refuses state why = says state (refusal_line why)
 
 -- the session at this position
@@ -57,7 +57,7 @@ piece_text None = codes "undef\n"
 piece_text (Some bytes) = hex_word bytes ++ codes "\n"
 
 -- of a node that no process is, nothing is said: such a line is refused
-abbrev pub memory_text : Place → Option ℕ → ℕ → ℕ → List ℕ
+abbrev pub memory_text : GroupPlace → Option ℕ → ℕ → ℕ → List ℕ
 memory_text place None addr len = []
 memory_text place (Some n) addr len = piece_text (bytes_of_node (nodes_at place) n addr len)
 
@@ -65,7 +65,7 @@ abbrev pub text_of_state : List ℕ → Option State → List ℕ
 text_of_state name None = []
 text_of_state name (Some S) = process_lines name S
 
-abbrev pub threads_of : Place → Option ℕ → List ℕ
+abbrev pub threads_of : GroupPlace → Option ℕ → List ℕ
 threads_of place None = []
 threads_of place (Some n) = text_of_state (node_name place.start n) (slice_get (states place.start place.at) n)
 
@@ -125,7 +125,7 @@ abbrev pub variable_text : Variable → List ℕ
 variable_text v = codes "$" ++ (v.0 ++ (codes " " ++ value_text v.1))
 
 -- of a breakpoint for a node that no process is, nothing is said either
-abbrev pub breaks_at : SessionState → List ℕ → Kind → Scope → LineAnswer
+abbrev pub breaks_at : SessionState → List ℕ → Kind → WhichNodes → LineAnswer
 breaks_at state text kind Everywhere = adds state text (OnCall None kind)
 breaks_at state text kind (At None) = says state []
 breaks_at state text kind (At (Some n)) = adds state text (OnCall (Some n) kind)
@@ -153,11 +153,11 @@ command_answer state line Quit = record { text = []; state = state; quits = true
 -- ---- the answer of a line
 
 -- what a line of this meaning answers, which without outer blanks is this
-abbrev pub answer_of : SessionState → List ℕ → LineMeaning → LineAnswer
-answer_of state line Silent = says state []
-answer_of state line (Refuses why) = refuses state why
-answer_of state line (Does command) = command_answer state line command
+abbrev pub answer_of_meaning : SessionState → List ℕ → LineMeaning → LineAnswer
+answer_of_meaning state line Silent = says state []
+answer_of_meaning state line (Refuses why) = refuses state why
+answer_of_meaning state line (Does command) = command_answer state line command
 
 -- the answer of a line
 abbrev pub answer : SessionState → List ℕ → LineAnswer
-answer state line = answer_of state (trimmed line) (line_meaning (node_names state.place.start) line)
+answer state line = answer_of_meaning state (trimmed line) (line_meaning (node_names state.place.start) line)

@@ -1,6 +1,6 @@
 -- What the values of the code stand for.
 use Rattle.std.specs.Prelude.{◌≡◌, ℕ, Bool, true, false, List}
-use Rattle.group_state.specs.Place.{Place, node_names}
+use Rattle.group_state.specs.Place.{GroupPlace, node_names}
 use Rattle.shell_lines.specs.Meaning.{trimmed}
 use Rattle.shell_lines.specs.Seen.{meaning}
 use Rattle.shell_lines.specs.declared.line.Line.{Line}
@@ -8,11 +8,11 @@ use Rattle.friday_shell.specs.declared.session.Go.{Go}
 use Rattle.friday_shell.specs.declared.session.Go.TheVariants as go
 use Rattle.friday_shell.specs.declared.state.Kept.{Kept}
 use Rattle.friday_shell.specs.declared.state.State.{State as Stands}
-use Rattle.friday_shell.specs.Answer.{LineAnswer, answer, answer_of}
+use Rattle.friday_shell.specs.Answer.{LineAnswer, answer, answer_of_meaning}
 use Rattle.friday_shell.specs.Points.{SessionState}
 
 -- what a session keeps, whose group stands there
-abbrev pub state_with : Place → Kept → SessionState
+abbrev pub state_with : GroupPlace → Kept → SessionState
 state_with place kept = record { place = place; points = kept.points; made = kept.made; variables = kept.variables }
 
 -- where a session stands
@@ -36,4 +36,4 @@ pub record IsLineAnswer (answered : LineAnswer) (new : SessionState) (text : Lis
 
 -- what a line is, over a group whose processes have these names: what each session over it answers
 abbrev pub IsLine : List (List ℕ) → List ℕ → Line → Type 0
-IsLine names bytes line = (state : SessionState) → node_names state.place.start ≡ names → answer state bytes ≡ answer_of state (trimmed bytes) (meaning line)
+IsLine names bytes line = (state : SessionState) → node_names state.place.start ≡ names → answer state bytes ≡ answer_of_meaning state (trimmed bytes) (meaning line)

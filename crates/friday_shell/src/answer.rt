@@ -16,7 +16,7 @@ use crate::variables::{list_variables, set};
 use fri_text::Text;
 use group_state::Group;
 use group_texts::push_event_line;
-use shell_lines::{Command, Refusal, refused};
+use shell_lines::{DebuggerCommand, LineRefusal, refused};
 use shell_points::Trigger;
 use std::alloc::{AllocError, Global};
 use std::sync::ledger::Ledger;
@@ -27,7 +27,7 @@ pub(crate) fn perform<'m, 'a, L: Ledger>(
     alloc: Global,
     state: State<'m, 'a>,
     line: &[u8],
-    command: Command,
+    command: DebuggerCommand,
     steps: &mut Steps<L>,
 ) -> Result<(State<'m, 'a>, Text), AllocError>
     ensures answer { IfOk result (λ done.
@@ -43,7 +43,7 @@ fn run<'m, 'a, L: Ledger>(
     alloc: Global,
     state: State<'m, 'a>,
     line: &[u8],
-    command: Command,
+    command: DebuggerCommand,
     steps: &mut Steps<L>,
 ) -> Result<(State<'m, 'a>, Text), AllocError>
     ensures answer { IfOk result (λ done.
@@ -51,25 +51,25 @@ fn run<'m, 'a, L: Ledger>(
     ensures ticks { IfOk result (λ done. steps.new ≡ steps.old + command_ticks (session_state state.entry) (command_meant command) done.0.group.at) }
 {
     match command {
-        Command::Goto(position) => go_to(alloc, state, position),
-        Command::Step(count) => step(alloc, state, count),
-        Command::Back(count) => back(alloc, state, count),
-        Command::Print(expression) => told(print(alloc, &state, &expression), state),
-        Command::Mem(node, addr, len) => {
+        DebuggerCommand::Goto(position) => go_to(alloc, state, position),
+        DebuggerCommand::Step(count) => step(alloc, state, count),
+        DebuggerCommand::Back(count) => back(alloc, state, count),
+        DebuggerCommand::Print(expression) => told(print(alloc, &state, &expression), state),
+        DebuggerCommand::Mem(node, addr, len) => {
             told(show_memory(alloc, &state.group, node, addr, len), state)
         }
-        Command::Threads(node) => told(show_threads(alloc, &state.group, node), state),
-        Command::Events(count) => show_events(alloc, state, count),
-        Command::Watch(expression) => add(alloc, state, line, Trigger::Watch(expression)),
-        Command::Break(scope, kind) => add_breakpoint(alloc, state, line, scope, kind),
-        Command::Delete(number) => delete(alloc, state, number),
-        Command::Do(number, program) => attach(alloc, state, number, program),
-        Command::List => told(state.kept.points.list(alloc), state),
-        Command::Set(name, expression) => set(alloc, state, &name, &expression),
-        Command::Vars => told(list_variables(alloc, &state.kept.variables), state),
-        Command::Continue => go_on(alloc, state, steps),
-        Command::Rcontinue => go_back(alloc, state, steps),
-        Command::Quit => Ok((state, Text::new(alloc))),
+        DebuggerCommand::Threads(node) => told(show_threads(alloc, &state.group, node), state),
+        DebuggerCommand::Events(count) => show_events(alloc, state, count),
+        DebuggerCommand::Watch(expression) => add(alloc, state, line, Trigger::Watch(expression)),
+        DebuggerCommand::Break(scope, kind) => add_breakpoint(alloc, state, line, scope, kind),
+        DebuggerCommand::Delete(number) => delete(alloc, state, number),
+        DebuggerCommand::Do(number, program) => attach(alloc, state, number, program),
+        DebuggerCommand::List => told(state.kept.points.list(alloc), state),
+        DebuggerCommand::Set(name, expression) => set(alloc, state, &name, &expression),
+        DebuggerCommand::Vars => told(list_variables(alloc, &state.kept.variables), state),
+        DebuggerCommand::Continue => go_on(alloc, state, steps),
+        DebuggerCommand::Rcontinue => go_back(alloc, state, steps),
+        DebuggerCommand::Quit => Ok((state, Text::new(alloc))),
     }
 }
 
@@ -87,7 +87,7 @@ fn go_to<'m, 'a>(
     if there {
         told(show_position(alloc, &state.group), state)
     } else {
-        told(refused(alloc, Refusal::NoPosition), state)
+        told(refused(alloc, LineRefusal::NoPosition), state)
     }
 }
 

@@ -11,7 +11,7 @@ use crate::variables::MOST_VARIABLES;
 use embed_cmds::Program;
 use fri_text::Text;
 use lib_calls::Kind;
-use shell_lines::{Refusal, Scope, refused};
+use shell_lines::{LineRefusal, WhichNodes, refused};
 use shell_points::Trigger;
 use std::alloc::{AllocError, Global};
 
@@ -28,7 +28,7 @@ pub(crate) fn add<'m, 'a>(
     ensures { IfOk result (λ done. Performs (adds (session_state state.entry) line.now (trigger_meant trigger)) (session_state done.0) done.1) }
 {
     if state.kept.points.count() >= MOST_POINTS {
-        return told(refused(alloc, Refusal::TooMany), state);
+        return told(refused(alloc, LineRefusal::TooMany), state);
     }
     let State { group, mut kept } = state;
     kept.made = kept.made.checked_add(1).ok_or(AllocError)?;
@@ -42,15 +42,15 @@ pub(crate) fn add_breakpoint<'m, 'a>(
     alloc: Global,
     state: State<'m, 'a>,
     line: &[u8],
-    scope: Scope,
+    scope: WhichNodes,
     kind: Kind,
 ) -> Result<(State<'m, 'a>, Text), AllocError>
     ensures { IfOk result (λ done. Performs (breaks_at (session_state state.entry) line.now kind (scope_meant scope)) (session_state done.0) done.1) }
 {
     match scope {
-        Scope::Everywhere => add(alloc, state, line, Trigger::Break(None, kind)),
-        Scope::At(Some(node)) => add(alloc, state, line, Trigger::Break(Some(node), kind)),
-        Scope::At(None) => Ok((state, Text::new(alloc))),
+        WhichNodes::Everywhere => add(alloc, state, line, Trigger::Break(None, kind)),
+        WhichNodes::At(Some(node)) => add(alloc, state, line, Trigger::Break(Some(node), kind)),
+        WhichNodes::At(None) => Ok((state, Text::new(alloc))),
     }
 }
 
@@ -63,7 +63,7 @@ pub(crate) fn delete<'m, 'a>(
     ensures { IfOk result (λ done. Performs (deletes (session_state state.entry) number) (session_state done.0) done.1) }
 {
     if !state.kept.points.is_held(number) {
-        return told(refused(alloc, Refusal::NoPoint), state);
+        return told(refused(alloc, LineRefusal::NoPoint), state);
     }
     let State { group, mut kept } = state;
     kept.points.remove(number);
@@ -82,12 +82,12 @@ pub(crate) fn attach<'m, 'a>(
     ensures { IfOk result (λ done. Performs (attaches (session_state state.entry) number (body program)) (session_state done.0) done.1) }
 {
     let Some(place) = state.kept.points.place_of(number) else {
-        let text = refused(alloc, Refusal::NoPoint)?;
+        let text = refused(alloc, LineRefusal::NoPoint)?;
         return Ok((state, text));
     };
     let State { group, mut kept } = state;
     if !kept.variables.mention_all(alloc, &program, MOST_VARIABLES)? {
-        let text = refused(alloc, Refusal::TooMany)?;
+        let text = refused(alloc, LineRefusal::TooMany)?;
         return Ok((State { group, kept }, text));
     }
     kept.points.attach(place, program);

@@ -17,7 +17,7 @@ use embed_cmds::Vars;
 use fri_bytes::Bytes;
 use fri_text::Text;
 use group_state::Group;
-use shell_lines::{Command, Line, read_line, refused, trimmed};
+use shell_lines::{DebuggerCommand, Line, read_line, refused, trimmed};
 use shell_points::Points;
 use std::alloc::{AllocError, Global};
 use std::marker::Model;
@@ -129,11 +129,11 @@ fn understood(alloc: Global, bytes: &[u8], names: &[Bytes]) -> Result<Line, Allo
 }
 
 // Whether a session goes on after a command.
-fn go_after(spelled: &Command) -> Go
+fn go_after(spelled: &DebuggerCommand) -> Go
     ensures { (state : SessionState) (line : List ℕ) → is_quit result ≡ (command_answer state line (command spelled.now)).quits }
 {
     match spelled {
-        Command::Quit => Go::Quit,
+        DebuggerCommand::Quit => Go::Quit,
         _ => Go::On,
     }
 }

@@ -10,7 +10,7 @@ use crate::state::{State, told};
 use embed_cmds::{Vars, push_value};
 use fri_bytes::Bytes;
 use fri_text::Text;
-use shell_lines::{Refusal, refused};
+use shell_lines::{LineRefusal, refused};
 use std::alloc::{AllocError, Global};
 use watch_expr::{Expr, eval};
 
@@ -29,7 +29,7 @@ pub(crate) fn set<'m, 'a>(
 {
     let variables = &state.kept.variables;
     if !variables.is_mentioned(name.as_slice()) && variables.names() >= MOST_VARIABLES {
-        return told(refused(alloc, Refusal::TooMany), state);
+        return told(refused(alloc, LineRefusal::TooMany), state);
     }
     let value = eval(expression, &state.group, variables);
     let State { group, mut kept } = state;

@@ -13,7 +13,7 @@ use Rattle.lib_calls.specs.Entry.{IsShaped}
 use Rattle.call_log.specs.Entry.{clock_after, encodings}
 use Rattle.call_log.specs.Head.{head_bytes}
 use Rattle.call_log.specs.Laws.{ExactLogs}
-use Rattle.call_log.specs.Log.{Holds, behind}
+use Rattle.call_log.specs.Log.{Holds, unread_after_head}
 use Rattle.call_log.specs.Limits.{most_log}
 use Rattle.call_log.specs.declared.version.Version.TheVariants.{Two}
 use Rattle.guest_process.specs.declared.divergence.Divergence.{Divergence}
@@ -30,7 +30,7 @@ use Rattle.guest_process.specs.Replay.{accepted, reach, reach_then, replayed}
 use Rattle.guest_process.specs.State.{State, thread_at}
 use Rattle.group_world.specs.History.{Act, put_last_if, time}
 use Rattle.group_world.specs.History as world
-use Rattle.group_record.specs.Run.{Group, Step, Had, Did, world_around, entries, log_has_room, head_of_log, history, log_of, name_of, size, spelled_next, process_after, process_states}
+use Rattle.group_record.specs.Run.{GroupStart, Step, Had, Did, world_around, entries, log_has_room, head_of_log, history, log_of, name_of_process, size, spelled_next, process_after, process_states}
 use Rattle.group_record.specs.Laws.{Agreement, CutAgreement, IsBegun}
 use Rattle.group_record.specs.Logs.{IsLogOfRun, TellsBefore}
 use Rattle.group_record.specs.Standing.{IsDone, IsHad, IsRun}
@@ -71,7 +71,7 @@ state-at (e ∷ es) S (suc n) s at = state-at es (next S e) n s at
 
 -- ---- a log with room has few entries
 
-room_for : (group : Group) (steps : List Step) (p : ℕ) (e : Event) → log_has_room group steps p e ≡ true → length (entries steps p) + 1 ≤ most_log
+room_for : (group : GroupStart) (steps : List Step) (p : ℕ) (e : Event) → log_has_room group steps p e ≡ true → length (entries steps p) + 1 ≤ most_log
 room_for group steps p e room =
     let head = head_bytes (head_of_log group p) in
     let es = entries steps p in
@@ -110,7 +110,7 @@ is_of_kind S env thread e fits in_it =
 -- ---- what is kept of each process
 
 -- of a process whose events had these entries and states, and which then stands so
-pub record Keeps (group : Group) (p : ℕ) (es : List Entry) (after : List State) (now : Option State) : Type 0 where
+pub record Keeps (group : GroupStart) (p : ℕ) (es : List Entry) (after : List State) (now : Option State) : Type 0 where
   pub first : State
   pub begun : slice_get group.first p ≡ Some first
   pub last : State
@@ -124,7 +124,7 @@ pub record Keeps (group : Group) (p : ℕ) (es : List Entry) (after : List State
   pub reached : replayed first es ≡ last
   pub same : replays first es ≡ after
 
-abbrev pub KeepsAfter : Group → List Step → ℕ → Type 0
+abbrev pub KeepsAfter : GroupStart → List Step → ℕ → Type 0
 KeepsAfter group steps p = Keeps group p (entries steps p) (process_states steps p) (process_after group steps p)
 
 -- what is known of processes
@@ -141,7 +141,7 @@ record IsNext (S : State) (e : Event) (many : ℕ) : Type 0 where
   logged : IsShaped e.entry
   room : many + 1 ≤ most_log
 
-one_more : (laws : Laws) (group : Group) (p : ℕ) (es : List Entry) (after : List State) (now : Option State) (e : Event) (k : Keeps group p es after now)
+one_more : (laws : Laws) (group : GroupStart) (p : ℕ) (es : List Entry) (after : List State) (now : Option State) (e : Event) (k : Keeps group p es after now)
     → IsNext k.last e (length es) → Keeps group p (es ++ e.entry ∷ []) (after ++ e.state ∷ []) (Some e.state)
 one_more laws group p es after now e k h =
     let rise : RisesTo k.last e.entry (next k.last e.entry) = laws.rises k.last e.entry k.fits h.told.legal in
@@ -163,7 +163,7 @@ one_more laws group p es after now e k h =
     }
 
 -- an event of this process or of another
-one_event : (laws : Laws) (group : Group) (p : ℕ) (es : List Entry) (after : List State) (now : Option State) (e : Event) (test : Bool) (k : Keeps group p es after now)
+one_event : (laws : Laws) (group : GroupStart) (p : ℕ) (es : List Entry) (after : List State) (now : Option State) (e : Event) (test : Bool) (k : Keeps group p es after now)
     → (test ≡ true → IsNext k.last e (length es)) → Keeps group p (put_last_if test es e.entry) (put_last_if test after e.state) (cond test (Some e.state) now)
 one_event laws group p es after now e true k h = one_more laws group p es after now e k (h refl)
 one_event laws group p es after now e false k h = k
@@ -174,7 +174,7 @@ time_by : (test : Bool) (value before : ℕ) → value < 2 ^ 64 → before < 2 ^
 time_by true value before fits fit = fits
 time_by false value before fits fit = fit
 
-time_fits : (group : Group) (steps : List Step) → IsRun group steps → (p : ℕ) → time (history steps) p < 2 ^ 64
+time_fits : (group : GroupStart) (steps : List Step) → IsRun group steps → (p : ℕ) → time (history steps) p < 2 ^ 64
 time_fits group [] run p = omega arith
 time_fits group (Had q e ∷ steps) run p = time_fits group steps run.1 p
 time_fits group (Did (world.Event q e) ∷ steps) run p = absurd run.0
@@ -192,7 +192,7 @@ found [] p within = absurd (omega (arith, within))
 found (S ∷ states) zero within = (S, refl)
 found (S ∷ states) (suc p) within = found states p (omega (arith, within))
 
-begin_keeps : (laws : Laws) (group : Group) → IsBegun group → (p : ℕ) → p < size group → KeepsAfter group [] p
+begin_keeps : (laws : Laws) (group : GroupStart) → IsBegun group → (p : ℕ) → p < size group → KeepsAfter group [] p
 begin_keeps laws group begun p within =
     let first = found group.first p (omega (arith, within, begun.first)) in
     let from = begun.starts p first.0 first.1 in
@@ -213,10 +213,10 @@ begin_keeps laws group begun p within =
     }
 
 -- the state in which an event came
-pub came_in : (group : Group) (early : List Step) (p : ℕ) (e : Event) (k : KeepsAfter group early p) (had : IsHad group early p e) → live k.last had.thread (world_around (size group) early p) ≡ Some e
+pub came_in : (group : GroupStart) (early : List Step) (p : ℕ) (e : Event) (k : KeepsAfter group early p) (had : IsHad group early p e) → live k.last had.thread (world_around (size group) early p) ≡ Some e
 came_in group early p e k had = sym (ap (λ (o : Option State). option_and_then (λ S. live S had.thread (world_around (size group) early p)) o) k.stands) ∙ had.comes
 
-is_next : (laws : Laws) (group : Group) (early : List Step) (p : ℕ) (e : Event) → IsRun group early → (k : KeepsAfter group early p) → IsHad group early p e → IsNext k.last e (length (entries early p))
+is_next : (laws : Laws) (group : GroupStart) (early : List Step) (p : ℕ) (e : Event) → IsRun group early → (k : KeepsAfter group early p) → IsHad group early p e → IsNext k.last e (length (entries early p))
 is_next laws group early p e run k had =
     let env = world_around (size group) early p in
     let comes : live k.last had.thread env ≡ Some e = came_in group early p e k had in
@@ -228,7 +228,7 @@ is_next laws group early p e run k had =
       room = room_for group early p e had.room;
     }
 
-act_keeps : (group : Group) (steps : List Step) (act : Act) (p : ℕ) → IsDone group steps act → KeepsAfter group steps p → KeepsAfter group (Did act ∷ steps) p
+act_keeps : (group : GroupStart) (steps : List Step) (act : Act) (p : ℕ) → IsDone group steps act → KeepsAfter group steps p → KeepsAfter group (Did act ∷ steps) p
 act_keeps group steps (world.Event q e) p done k = absurd done
 act_keeps group steps (world.Clock q value) p done k = k
 act_keeps group steps (world.Deliver q n) p done k = k
@@ -237,7 +237,7 @@ act_keeps group steps (world.Random q bytes) p done k = k
 act_keeps group steps (world.Signal q s) p done k = k
 act_keeps group steps (world.Kill q) p done k = k
 
-pub keeps : (laws : Laws) (group : Group) → IsBegun group → (steps : List Step) → IsRun group steps → (p : ℕ) → p < size group → KeepsAfter group steps p
+pub keeps : (laws : Laws) (group : GroupStart) → IsBegun group → (steps : List Step) → IsRun group steps → (p : ℕ) → p < size group → KeepsAfter group steps p
 keeps laws group begun [] run p within = begin_keeps laws group begun p within
 keeps laws group begun (Had q e ∷ early) run p within =
     let k : KeepsAfter group early p = keeps laws group begun early run.1 p within in
@@ -248,20 +248,20 @@ keeps laws group begun (Did act ∷ early) run p within = act_keeps group early 
 -- ---- a log stays within its limit
 
 -- with its head alone
-head_within : (group : Group) → IsBegun group → (p : ℕ) → p < size group → length (log_of group [] p) ≤ most_log
+head_within : (group : GroupStart) → IsBegun group → (p : ℕ) → p < size group → length (log_of group [] p) ≤ most_log
 head_within group begun p within =
-    let short = short_name (name_of group p) (All-get_or (λ name. IsTrue (is_name name)) group.names p [] within begun.names) in
+    let short = short_name (name_of_process group p) (All-get_or (λ name. IsTrue (is_name name)) group.names p [] within begun.names) in
     omega (arith, short, head_size (head_of_log group p), length-append (head_bytes (head_of_log group p)) (encodings Two 0 []))
 
 -- with the entry of one more event, of this process or of another
-entry_within : (group : Group) (early : List Step) (q p : ℕ) (e : Event) (test : Bool) → (q == p) ≡ test → IsTrue (log_has_room group early q e) → length (log_of group early p) ≤ most_log
+entry_within : (group : GroupStart) (early : List Step) (q p : ℕ) (e : Event) (test : Bool) → (q == p) ≡ test → IsTrue (log_has_room group early q e) → length (log_of group early p) ≤ most_log
     → length (log_of group (Had q e ∷ early) p) ≤ most_log
 entry_within group early q p e true is room fits =
     subst (λ (r : ℕ). length (log_of group (Had q e ∷ early) r) ≤ most_log) (eqb-true q p is) (leb-true _ _ room)
 entry_within group early q p e false is room fits =
     subst (λ (test : Bool). length (head_bytes (head_of_log group p) ++ encodings Two 0 (put_last_if test (entries early p) e.entry)) ≤ most_log) (sym is) fits
 
-act_within : (group : Group) (early : List Step) (act : Act) (p : ℕ) → IsDone group early act → length (log_of group early p) ≤ most_log → length (log_of group (Did act ∷ early) p) ≤ most_log
+act_within : (group : GroupStart) (early : List Step) (act : Act) (p : ℕ) → IsDone group early act → length (log_of group early p) ≤ most_log → length (log_of group (Did act ∷ early) p) ≤ most_log
 act_within group early (world.Event q e) p done fits = absurd done
 act_within group early (world.Clock q value) p done fits = fits
 act_within group early (world.Deliver q n) p done fits = fits
@@ -270,7 +270,7 @@ act_within group early (world.Random q bytes) p done fits = fits
 act_within group early (world.Signal q s) p done fits = fits
 act_within group early (world.Kill q) p done fits = fits
 
-log_within : (group : Group) → IsBegun group → (steps : List Step) → IsRun group steps → (p : ℕ) → p < size group → length (log_of group steps p) ≤ most_log
+log_within : (group : GroupStart) → IsBegun group → (steps : List Step) → IsRun group steps → (p : ℕ) → p < size group → length (log_of group steps p) ≤ most_log
 log_within group begun [] run p within = head_within group begun p within
 log_within group begun (Had q e ∷ early) run p within = entry_within group early q p e (q == p) refl run.0.room (log_within group begun early run.1 p within)
 log_within group begun (Did act ∷ early) run p within = act_within group early act p run.0 (log_within group begun early run.1 p within)
@@ -278,18 +278,18 @@ log_within group begun (Did act ∷ early) run p within = act_within group early
 -- ---- the log tells its events
 
 -- whose bytes behind the head hold its entries, and this much of one more
-log_tells : ExactLogs → (group : Group) → IsBegun group → (steps : List Step) (p : ℕ) (bytes left cut : List ℕ) → p < size group → KeepsAfter group steps p → bytes ≡ head_bytes (head_of_log group p) ++ left
-    → Holds (behind (head_of_log group p) left) (entries steps p) cut → length bytes ≤ most_log → IsLogOfRun group p bytes (entries steps p) (process_states steps p) cut
+log_tells : ExactLogs → (group : GroupStart) → IsBegun group → (steps : List Step) (p : ℕ) (bytes left cut : List ℕ) → p < size group → KeepsAfter group steps p → bytes ≡ head_bytes (head_of_log group p) ++ left
+    → Holds (unread_after_head (head_of_log group p) left) (entries steps p) cut → length bytes ≤ most_log → IsLogOfRun group p bytes (entries steps p) (process_states steps p) cut
 log_tells logs group begun steps p bytes left cut inside k is holds fits =
     let es = entries steps p in
-    let held = (logs.all (behind (head_of_log group p) left) es cut).0 holds in
+    let held = (logs.all (unread_after_head (head_of_log group p) left) es cut).0 holds in
     let named : is_name (slice_index_or group.names p []) ≡ true = All-get_or (λ name. IsTrue (is_name name)) group.names p [] inside begun.names in
     record {
       first = k.first;
       begun = k.begun;
-      left = behind (head_of_log group p) left;
+      left = unread_after_head (head_of_log group p) left;
       within = fits;
-      head = (logs.heads bytes (head_of_log group p) (behind (head_of_log group p) left)).1 (record { some = begun.some; few = begun.few; within = inside; named = named }, (is, refl));
+      head = (logs.heads bytes (head_of_log group p) (unread_after_head (head_of_log group p) left)).1 (record { some = begun.some; few = begun.few; within = inside; named = named }, (is, refl));
       entries = held.0;
       rest = held.1;
       accepted = k.all;
@@ -303,7 +303,7 @@ agrees logs laws group items begun fits steps front p within =
     let es = entries steps p in
     log_tells logs group begun steps p (log_of group steps p) (encodings Two 0 es) [] within k refl (logs.holds_written Two 0 es k.logged) (log_within group begun steps run p within)
 
-entry_cut : ExactLogs → Laws → (group : Group) → IsBegun group → (early : List Step) (p : ℕ) (e : Event) → IsRun group (Had p e ∷ early) → (n : ℕ) → n < length (spelled_next early p e.entry) → TellsBefore group early p (take n (spelled_next early p e.entry))
+entry_cut : ExactLogs → Laws → (group : GroupStart) → IsBegun group → (early : List Step) (p : ℕ) (e : Event) → IsRun group (Had p e ∷ early) → (n : ℕ) → n < length (spelled_next early p e.entry) → TellsBefore group early p (take n (spelled_next early p e.entry))
 entry_cut logs laws group begun early p e run n short =
     let k : KeepsAfter group early p = keeps laws group begun early run.1 p run.0.within in
     let es = entries early p in

@@ -19,7 +19,7 @@ use Rattle.group_record.specs.Images.{images_of}
 use Rattle.process_files.specs.Parts.{AreMadeInPart}
 use Rattle.group_record.specs.Logs.{logs}
 use Rattle.group_record.specs.Recorded.{Does, FilesOf, KeepsUp, MakesFiles, MakesImages, Sums, UnderWay}
-use Rattle.group_record.specs.Run.{Group, Progress, after_items, nothing_yet, run}
+use Rattle.group_record.specs.Run.{GroupStart, Progress, after_items, nothing_yet, run}
 use Rattle.group_record.proofs.Going.{stopped_before, stopped_in, stopped_on}
 use Rattle.process_files.specs.PartLaws.{files_after}
 
@@ -78,7 +78,7 @@ pub images_fail : (asked : Bool) (schedule : Schedule) (begun : Result (List Sta
     → Does (λ group. after_items group 1 schedule.items) recorder (Ok tt) last now middle → MakesImages asked schedule.processes last (Err error) middle after → RecordAnswers schedule asked begun (Err error) before after
 images_fail asked schedule begun recorder last error before now middle after b does makes = by_error error (makes group done h.0 refl)
   where
-    group : Group
+    group : GroupStart
     group = group_of schedule b.0
 
     done : Progress
@@ -122,5 +122,5 @@ last_keeps schedule begun recorder last before now after b does = (does (group_o
 pub last_count : (schedule : Schedule) (first : List State) (last : Recorder) → KeepsUp (group_of schedule first) (run (group_of schedule first) schedule.items) last → length last.members.items ≡ length schedule.processes
 last_count schedule first last keeps = keeps.count ∙ length-map schedule.processes (λ (line : ProcessLine). line.name)
 
-pub all_present : (group : Group) (done : Progress) (r : Recorder) → KeepsUp group done r → All (λ m. IsTrue (is_some m.process)) r.members.items
+pub all_present : (group : GroupStart) (done : Progress) (r : Recorder) → KeepsUp group done r → All (λ m. IsTrue (is_some m.process)) r.members.items
 all_present group done r keeps = λ i d within. ap is_some (keeps.members i (slice_index_or r.members.items i d) (slice_get-get_or r.members.items i d within)).process

@@ -23,7 +23,7 @@ use Rattle.group_record.specs.Answer.{group_of, names_of}
 use Rattle.group_record.specs.Begun.{AreStarted, BeginsAll, GroupBegins, HaveHeads, IsNewRecorder, MakeAll, StopsAtHead, heads}
 use Rattle.group_record.specs.Files.{InHeads}
 use Rattle.group_record.specs.Recorded.{FilesOf, IsMember, KeepsUp, kept_for}
-use Rattle.group_record.specs.Run.{head_of_log, name_of, nothing_yet}
+use Rattle.group_record.specs.Run.{head_of_log, name_of_process, nothing_yet}
 use Rattle.group_record.proofs.Heads.{heads_are_logs}
 use Rattle.group_record.proofs.Printing.{none_printed}
 use Rattle.group_record.proofs.Recording.{some_there}
@@ -107,7 +107,7 @@ begun_member schedule first members p m fits started at =
     let e = started.each p m at in
     let group = group_of schedule first in
     let inside : p < length schedule.processes = omega (arith, slice_get_within members p m at, started.count, length-map schedule.processes (λ (line : ProcessLine). line.name)) in
-    let short : length (name_of group p) ≤ 32 = names_short schedule.processes p fits.formed.lines inside in
+    let short : length (name_of_process group p) ≤ 32 = names_short schedule.processes p fits.formed.lines inside in
     let whole : m.size ≡ length (head_bytes (head_of_log group p)) = e.2.size ∙ ap length e.2.head in
     record {
       state = e.0;

@@ -8,23 +8,23 @@ use Rattle.call_table.specs.declared.kind.Kind.{Kind}
 use Rattle.call_table.specs.declared.kind.Kind.TheVariants.{Now, SleepUntil, Random, Recv, TryRecv}
 use Rattle.lamport_tag.specs.Tag.{next_clock_of}
 use Rattle.lib_calls.specs.Answer.{Answer}
-use Rattle.lib_calls.specs.Effects.{minus_two, received}
+use Rattle.lib_calls.specs.Effects.{minus_two, with_received}
 use Rattle.lib_calls.specs.declared.entry.Call.{Call}
 use Rattle.guest_process.specs.declared.waiting.Waiting.{Waiting}
 use Rattle.guest_process.specs.Answers.{Need, Fixed, Blocked, World, after_need, effects, need, with_answer}
 use Rattle.guest_process.specs.GoesOn.{handler}
 use Rattle.guest_process.specs.Kinds.{ends_process}
-use Rattle.guest_process.specs.Live.{Answered, Env, answered_now, as_given, chosen_signal, event, event_by, event_of_waiting, from_world, given, is_ready, live, lowest, world_answer}
+use Rattle.guest_process.specs.Live.{Answered, Env, answered_now, as_given, chosen_signal, event, event_by, event_of_waiting, from_world, with_given, is_ready, live, lowest, world_answer}
 use Rattle.guest_process.specs.Seen.{answered_at}
 use Rattle.guest_process.specs.State.{State, is_running, thread_at, with_memory}
 use Rattle.group_record.specs.Around.{handlers_at, signal_with}
 
 -- ---- the handlers after an answer
 
-given_handlers : (k : Kind) (S : State) (c : Call) (a : Answer) → (given k S c a).handlers ≡ S.handlers
+given_handlers : (k : Kind) (S : State) (c : Call) (a : Answer) → (with_given k S c a).handlers ≡ S.handlers
 given_handlers TryRecv S c a = by_test (a.reply == minus_two)
   where
-    by_test : (none : Bool) → (cond none S (with_memory S (received c a S.store.memory))).handlers ≡ S.handlers
+    by_test : (none : Bool) → (cond none S (with_memory S (with_received c a S.store.memory))).handlers ≡ S.handlers
     by_test true = refl
     by_test false = refl
 given_handlers _ S c a = refl

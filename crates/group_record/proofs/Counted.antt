@@ -11,7 +11,7 @@ use Rattle.group_world.specs.World.{World}
 use Rattle.group_record.specs.declared.error.RecordError.{RecordError}
 use Rattle.group_record.specs.declared.member.Member.{Member}
 use Rattle.group_record.specs.declared.recorder.Recorder.{Recorder}
-use Rattle.group_record.specs.Recorded.{HasCountsFor, Kept, acted_on, total_count, counted_of}
+use Rattle.group_record.specs.Recorded.{HasCountsFor, IsLogged, acted_on, total_count, counted_of}
 
 -- ---- what is counted of items
 
@@ -48,7 +48,7 @@ few_next items i this old new inside at few made = omega (arith, few, made, from
 -- ---- what was counted
 
 -- an event
-pub counted_kept : (result : Result ⊤ RecordError) (old new : Recorder) (p : ℕ) (m : Member) (e : Entry) → OnOk result (Kept old p m e new) → OnOk result (total_count new ≡ total_count old + 1)
+pub counted_kept : (result : Result ⊤ RecordError) (old new : Recorder) (p : ℕ) (m : Member) (e : Entry) → OnOk result (IsLogged old p m e new) → OnOk result (total_count new ≡ total_count old + 1)
 counted_kept (Ok _) old new p m e kept = omega (arith, kept.acted, kept.idle)
 counted_kept (Err error) old new p m e kept = kept
 

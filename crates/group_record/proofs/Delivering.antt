@@ -18,7 +18,7 @@ use Rattle.guest_process.specs.Live.{Answered, Env, Event, answered_now, as_give
 use Rattle.guest_process.specs.State.{State}
 use Rattle.group_world.specs.History.{Deliver, History, mailbox, taken_count}
 use Rattle.group_world.specs.Laws.{Giver, HasOrigin, InTurn, NamesSend}
-use Rattle.group_record.specs.Run.{Group, Step, Had, world_around, history, size}
+use Rattle.group_record.specs.Run.{GroupStart, Step, Had, world_around, history, size}
 use Rattle.group_record.specs.Laws.{Delivery, IsSend, TakesDatagram}
 use Rattle.group_record.specs.Standing.{IsRun}
 use Rattle.group_record.proofs.Running.{is_run}
@@ -85,7 +85,7 @@ turn_of : InTurn → (count : ℕ) (h : History) (p : ℕ) (bytes : List ℕ) (l
 turn_of turn count h p bytes later first =
     turn.giver count h p (taken_count h p) bytes (sym (turn.front count h p) ∙ ap (λ (box : List (List ℕ)). slice_get box 0) first)
 
-event_takes : WorldLaws → (group : Group) (early : List Step) (p : ℕ) (e : Event) → size group ≤ 16 → IsRun group early → (k : KeepsAfter group early p) (thread : ℕ)
+event_takes : WorldLaws → (group : GroupStart) (early : List Step) (p : ℕ) (e : Event) → size group ≤ 16 → IsRun group early → (k : KeepsAfter group early p) (thread : ℕ)
     → live k.last thread (world_around (size group) early p) ≡ Some e → IsTrue (is_taken e.entry) → TakesDatagram (size group) early p e
 event_takes laws group early p e few run k thread comes takes =
     let env = world_around (size group) early p in

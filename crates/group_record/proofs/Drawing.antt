@@ -19,7 +19,7 @@ use Rattle.guest_process.specs.Answers as needs
 use Rattle.guest_process.specs.Live.{Answered, Env, Event, answered_now, as_given, cut_datagram, from_world, random_answer, taken_of}
 use Rattle.guest_process.specs.State.{State}
 use Rattle.group_world.specs.History.{pool}
-use Rattle.group_record.specs.Run.{Group, Step, Had, world_around, size, process_after}
+use Rattle.group_record.specs.Run.{GroupStart, Step, Had, world_around, size, process_after}
 use Rattle.group_record.specs.Laws.{DrawsIf, TakesDrawn, TakesWaiting, takes_datagrams}
 use Rattle.group_record.specs.Standing.{IsHad, IsRun}
 use Rattle.group_record.proofs.Running.{is_run}
@@ -84,7 +84,7 @@ is_taken_by e k of_kind takes = ap (λ (o : Option Kind). takes_as o e) of_kind 
 
 -- ---- an event of a run, with the state in which it came and the call that it answers
 
-pub record Came (group : Group) (early : List Step) (p : ℕ) (e : Event) (S : State) : Type 0 where
+pub record Came (group : GroupStart) (early : List Step) (p : ℕ) (e : Event) (S : State) : Type 0 where
   pub thread : ℕ
   pub in_it : ComesIn S (world_around (size group) early p) thread e
   pub of_kind : kind_numbered e.entry.call.kind ≡ Some in_it.waiting.kind
@@ -92,7 +92,7 @@ pub record Came (group : Group) (early : List Step) (p : ℕ) (e : Event) (S : S
   pub reply : e.entry.reply ≡ in_it.given.answer.reply
   pub incoming : e.entry.incoming ≡ in_it.given.answer.incoming
 
-pub came_by : (group : Group) (early : List Step) (p : ℕ) (e : Event) (k : KeepsAfter group early p) → IsHad group early p e → Came group early p e k.last
+pub came_by : (group : GroupStart) (early : List Step) (p : ℕ) (e : Event) (k : KeepsAfter group early p) → IsHad group early p e → Came group early p e k.last
 came_by group early p e k had =
     let env = world_around (size group) early p in
     let in_it : ComesIn k.last env had.thread e = comes_in k.last env had.thread e (came_in group early p e k had) in
@@ -105,7 +105,7 @@ came_by group early p e k had =
       incoming = ap (λ (e : Event). e.entry.incoming) in_it.is;
     }
 
-came : (laws : Laws) (group : Group) (early : List Step) (p : ℕ) (e : Event) (S : State) → IsRun group (Had p e ∷ early) → KeepsAfter group early p → process_after group early p ≡ Some S → Came group early p e S
+came : (laws : Laws) (group : GroupStart) (early : List Step) (p : ℕ) (e : Event) (S : State) → IsRun group (Had p e ∷ early) → KeepsAfter group early p → process_after group early p ≡ Some S → Came group early p e S
 came laws group early p e S run k stands =
     subst (λ (S : State). Came group early p e S) (same_Some k.last S (sym k.stands ∙ stands)) (came_by group early p e k run.0)
 
@@ -164,7 +164,7 @@ pub record Answers (S : State) (early : List Step) (count p : ℕ) (e : Event) :
   pub reply : e.entry.reply ≡ given.answer.reply
   pub incoming : e.entry.incoming ≡ given.answer.incoming
 
-pub answers_random : (group : Group) (early : List Step) (p : ℕ) (e : Event) (S : State) → Came group early p e S → kind_numbered e.entry.call.kind ≡ Some Random → Answers S early (size group) p e
+pub answers_random : (group : GroupStart) (early : List Step) (p : ℕ) (e : Event) (S : State) → Came group early p e S → kind_numbered e.entry.call.kind ≡ Some Random → Answers S early (size group) p e
 answers_random group early p e S c of_kind =
     let env = world_around (size group) early p in
     let kind : c.in_it.waiting.kind ≡ Random = same_Some c.in_it.waiting.kind Random (sym c.of_kind ∙ of_kind) in

@@ -12,9 +12,9 @@ use Rattle.guest_process.specs.State.{State}
 use Rattle.group_world.specs.History.{Act, mailbox, pool}
 use Rattle.group_world.specs.History as world
 use Rattle.group_world.specs.Laws.{CanBe, CanFollow}
-use Rattle.group_record.specs.Run.{Group, Step, Had, Did, world_around, history, size}
+use Rattle.group_record.specs.Run.{GroupStart, Step, Had, Did, world_around, history, size}
 use Rattle.group_record.specs.Laws.{DrawsIf, IsBegun}
-use Rattle.group_record.specs.Standing.{IsDone, IsRun, Standing, StandsAt}
+use Rattle.group_record.specs.Standing.{IsDone, IsRun, Standing, StandsReplayed}
 use Rattle.group_record.proofs.Running.{is_run}
 use Rattle.group_record.proofs.Agreeing.{KeepsAfter, Laws, keeps}
 use Rattle.group_record.proofs.Delivering.{took, takes_kind}
@@ -22,7 +22,7 @@ use Rattle.group_record.proofs.Drawing.{Came, answers_random, came_by, draws_if}
 
 -- ---- what an event takes is there
 
-takes_there : (group : Group) (early : List Step) (p : ℕ) (e : Event) (S : State) → Came group early p e S → IsTrue (is_taken e.entry) → 1 ≤ length (mailbox (size group) (history early) p)
+takes_there : (group : GroupStart) (early : List Step) (p : ℕ) (e : Event) (S : State) → Came group early p e S → IsTrue (is_taken e.entry) → 1 ≤ length (mailbox (size group) (history early) p)
 takes_there group early p e S c takes =
     let w = c.in_it.waiting in
     let t = took w.kind S c.thread w.call (world_around (size group) early p) c.in_it.given e.entry c.in_it.answer c.reply (takes_kind e.entry w.kind c.of_kind takes) in
@@ -40,7 +40,7 @@ draws_as_within : (k : Kind) (e : Entry) (many : ℕ) → (k ≡ Random → draw
 draws_as_within Random e many within = within refl
 draws_as_within _ e many within = omega arith
 
-draws_there : (group : Group) (early : List Step) (p : ℕ) (e : Event) (S : State) → Came group early p e S → drawn e.entry ≤ length (pool (history early) p)
+draws_there : (group : GroupStart) (early : List Step) (p : ℕ) (e : Event) (S : State) → Came group early p e S → drawn e.entry ≤ length (pool (history early) p)
 draws_there group early p e S c =
     let kind = c.in_it.waiting.kind in
     let by : drawn e.entry ≡ draws_as (Some kind) e.entry = drawn_by e.entry kind c.of_kind in
@@ -53,7 +53,7 @@ draws_there group early p e S c =
 
 -- ---- the acts
 
-act_follows : (group : Group) (early : List Step) (act : Act) → IsDone group early act → CanFollow (size group) (history early) act
+act_follows : (group : GroupStart) (early : List Step) (act : Act) → IsDone group early act → CanFollow (size group) (history early) act
 act_follows group early (world.Event p e) done = absurd done
 act_follows group early (world.Deliver p n) done = done.0
 act_follows group early (world.Inject p bytes) done = done
@@ -62,7 +62,7 @@ act_follows group early (world.Random p bytes) done = done
 act_follows group early (world.Signal p signal) done = done
 act_follows group early (world.Kill p) done = done.0
 
-acts_follow : Laws → (group : Group) → IsBegun group → (steps : List Step) → IsRun group steps → CanBe (size group) (history steps)
+acts_follow : Laws → (group : GroupStart) → IsBegun group → (steps : List Step) → IsRun group steps → CanBe (size group) (history steps)
 acts_follow laws group begun [] run = tt
 acts_follow laws group begun (Had p e ∷ early) run =
     let k : KeepsAfter group early p = keeps laws group begun early run.1 p run.0.within in
@@ -72,7 +72,7 @@ acts_follow laws group begun (Did act ∷ early) run = (act_follows group early 
 
 -- ---- all of it
 
-process_stands : (group : Group) (steps : List Step) (p : ℕ) → KeepsAfter group steps p → StandsAt group steps p
+process_stands : (group : GroupStart) (steps : List Step) (p : ℕ) → KeepsAfter group steps p → StandsReplayed group steps p
 process_stands group steps p k = record {
   first = k.first;
   begun = k.begun;

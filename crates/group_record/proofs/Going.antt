@@ -15,7 +15,7 @@ use Rattle.group_record.specs.Files.{IsStopped, InHeads, Between, InEntry, InIma
 use Rattle.process_files.specs.Parts.{AreMadeInPart, made_in_part}
 use Rattle.group_record.specs.Logs.{logs}
 use Rattle.group_record.specs.Recorded.{Comes, FilesOf}
-use Rattle.group_record.specs.Run.{Group, Progress, Step, Had, Did, IsMoment, after_item, after_items, attempt, attempts, done_by_item, event_of_try, had, log_has_room, unless_full}
+use Rattle.group_record.specs.Run.{GroupStart, Progress, Step, Had, Did, IsMoment, after_item, after_items, attempt, attempts, done_by_item, event_of_try, had, log_has_room, unless_full}
 use Rattle.process_files.specs.PartLaws.{after_none, files_after}
 
 -- the steps of one progress stand in front of the other's; and where a log is full, it is all there is
@@ -45,7 +45,7 @@ unless_leads done next front = by_full done.full refl
     by_full (Some number) is = leads_same done
     by_full None is = record { front = front; full = λ number h. cc }
 
-had_front : (group : Group) (number p : ℕ) (found : Option Event) (done : Progress) → IsMoment done.steps (had group number p found done).steps
+had_front : (group : GroupStart) (number p : ℕ) (found : Option Event) (done : Progress) → IsMoment done.steps (had group number p found done).steps
 had_front group number p None done = ([], refl)
 had_front group number p (Some e) done = by_room (log_has_room group done.steps p e)
   where
@@ -53,11 +53,11 @@ had_front group number p (Some e) done = by_room (log_has_room group done.steps 
     by_room true = (Had p e ∷ [], refl)
     by_room false = ([], refl)
 
-pub attempt_leads : (group : Group) (number p thread : ℕ) (done : Progress) → LeadsTo done (attempt group number p thread done)
+pub attempt_leads : (group : GroupStart) (number p thread : ℕ) (done : Progress) → LeadsTo done (attempt group number p thread done)
 attempt_leads group number p thread done =
     unless_leads done (had group number p (event_of_try group done.steps p thread) done) (had_front group number p (event_of_try group done.steps p thread) done)
 
-pub attempts_lead : (group : Group) (number p thread n : ℕ) (done : Progress) → LeadsTo done (attempts group number p thread n done)
+pub attempts_lead : (group : GroupStart) (number p thread n : ℕ) (done : Progress) → LeadsTo done (attempts group number p thread n done)
 unfolding attempts
 attempts_lead group number p thread zero done = leads_same done
 attempts_lead group number p thread (suc n) done =
@@ -68,7 +68,7 @@ acted_front : (acts : Bool) (step : Step) (done : Progress) → IsMoment done.st
 acted_front true step done = (step ∷ [], refl)
 acted_front false step done = ([], refl)
 
-does_front : (group : Group) (number : ℕ) (i : Item) (done : Progress) → IsMoment done.steps (done_by_item group number i done).steps
+does_front : (group : GroupStart) (number : ℕ) (i : Item) (done : Progress) → IsMoment done.steps (done_by_item group number i done).steps
 does_front group number (item.Run p thread times) done = (attempts_lead group number p thread times done).front
 does_front group number (item.Deliver p n) done = acted_front _ _ done
 does_front group number (item.Inject p bytes) done = (Did (world.Inject p bytes) ∷ [], refl)
@@ -77,10 +77,10 @@ does_front group number (item.Random p bytes) done = (Did (world.Random p bytes)
 does_front group number (item.Signal p s) done = (Did (world.Signal p s) ∷ [], refl)
 does_front group number (item.Kill p) done = acted_front _ _ done
 
-pub item_leads : (group : Group) (number : ℕ) (i : Item) (done : Progress) → LeadsTo done (after_item group number i done)
+pub item_leads : (group : GroupStart) (number : ℕ) (i : Item) (done : Progress) → LeadsTo done (after_item group number i done)
 item_leads group number i done = unless_leads done (done_by_item group number i done) (does_front group number i done)
 
-pub items_lead : (group : Group) (number : ℕ) (items : List Item) (done : Progress) → LeadsTo done (after_items group number items done)
+pub items_lead : (group : GroupStart) (number : ℕ) (items : List Item) (done : Progress) → LeadsTo done (after_items group number items done)
 items_lead group number [] done = leads_same done
 items_lead group number (i ∷ items) done =
     leads_on done (after_item group number i done) (after_items group (suc number) items (after_item group number i done))
@@ -88,7 +88,7 @@ items_lead group number (i ∷ items) done =
 
 -- ---- where it was stopped
 
-pub stopped_on : (group : Group) (early late : List Step) (before after : Option Folder) → IsMoment early late → IsStopped group early [] before after → IsStopped group late [] before after
+pub stopped_on : (group : GroupStart) (early late : List Step) (before after : Option Folder) → IsMoment early late → IsStopped group early [] before after → IsStopped group late [] before after
 stopped_on group early late before after on (InHeads many cut is) = InHeads many cut is
 stopped_on group early late before after on (Between steps front is) = Between steps (front_on steps early late front on) is
 stopped_on group early late before after on (InEntry steps later p n e split short is) =
@@ -96,21 +96,21 @@ stopped_on group early late before after on (InEntry steps later p n e split sho
 stopped_on group early late before after on (InImages n m is) = Between early on (is ∙ ap (λ fs. with_files fs before) (after_none (logs group early) n m))
 
 -- so it is where images are asked for
-pub stopped_before : (group : Group) (steps : List Step) (images : List (List ℕ × List ℕ)) (before after : Option Folder) → IsStopped group steps [] before after → IsStopped group steps images before after
+pub stopped_before : (group : GroupStart) (steps : List Step) (images : List (List ℕ × List ℕ)) (before after : Option Folder) → IsStopped group steps [] before after → IsStopped group steps images before after
 stopped_before group steps images before after (InHeads many cut is) = InHeads many cut is
 stopped_before group steps images before after (Between early front is) = Between early front is
 stopped_before group steps images before after (InEntry early later p n e split short is) = InEntry early later p n e split short is
 stopped_before group steps images before after (InImages n m is) = Between steps ([], refl) (is ∙ ap (λ fs. with_files fs before) (after_none (logs group steps) n m))
 
 -- or where one was not made
-pub stopped_in : (group : Group) (steps : List Step) (images : List (List ℕ × List ℕ)) (before now after : Option Folder) → now ≡ with_files (logs group steps) before → AreMadeInPart images now after
+pub stopped_in : (group : GroupStart) (steps : List Step) (images : List (List ℕ × List ℕ)) (before now after : Option Folder) → now ≡ with_files (logs group steps) before → AreMadeInPart images now after
     → IsStopped group steps images before after
 stopped_in group steps images before now after written (inl same) = Between steps ([], refl) (same ∙ written)
 stopped_in group steps images before now after written (inr (n, m, is)) =
     InImages n m (is ∙ ap (with_files (made_in_part images n m)) written ∙ sym (files_after (logs group steps) (made_in_part images n m) before))
 
 -- what is answered at one moment is answered of the whole
-pub comes_on : (group : Group) (early late : Progress) (error : RecordError) (r : Recorder) (before after : Option Folder) → LeadsTo early late
+pub comes_on : (group : GroupStart) (early late : Progress) (error : RecordError) (r : Recorder) (before after : Option Folder) → LeadsTo early late
     → Comes group early (Err error) r before after → Comes group late (Err error) r before after
 comes_on group early late (errors.BadSegment p) r before after leads h = h
 comes_on group early late (errors.LogFull number) r before after leads h =

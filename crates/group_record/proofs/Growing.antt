@@ -17,7 +17,7 @@ use Rattle.std.specs.Int.{w16, w32}
 use Rattle.call_log.specs.Head.{head_bytes}
 use Rattle.guest_process.specs.Live.{Event}
 use Rattle.group_world.specs.History.{put_last_if}
-use Rattle.group_record.specs.Run.{Group, Step, Had, entries, entry_bytes, head_of_log, log_of, name_of, size, spelled_next}
+use Rattle.group_record.specs.Run.{GroupStart, Step, Had, entries, entry_bytes, head_of_log, log_of, name_of_process, size, spelled_next}
 use Rattle.group_record.specs.Logs.{files_from, files_of, log_name, logs}
 
 -- the bytes at each place, with a piece behind those at this one
@@ -50,7 +50,7 @@ grown_from from (name ∷ names) bytes (suc i) place piece is =
     ∙ ap (λ files. (log_name name, grown_at place piece bytes from) ∷ files) (grown_from (suc from) names bytes i place piece (omega (arith, is)))
 
 -- a piece behind one of a group's files
-pub grown_files : (group : Group) (bytes : ℕ → List ℕ) (place : ℕ) (piece : List ℕ) → grown (files_of group bytes) place piece ≡ files_of group (grown_at place piece bytes)
+pub grown_files : (group : GroupStart) (bytes : ℕ → List ℕ) (place : ℕ) (piece : List ℕ) → grown (files_of group bytes) place piece ≡ files_of group (grown_at place piece bytes)
 grown_files group bytes place piece = grown_from 0 group.names bytes place place piece (omega arith)
 
 file_at : (from : ℕ) (names : List (List ℕ)) (bytes : ℕ → List ℕ) (i : ℕ) (d : List ℕ × List ℕ) → i < length names
@@ -67,37 +67,37 @@ length_files : (from : ℕ) (names : List (List ℕ)) (bytes : ℕ → List ℕ)
 length_files from [] bytes = refl
 length_files from (name ∷ names) bytes = ap suc (length_files (suc from) names bytes)
 
-abbrev AreDistinct : Group → Type 0
+abbrev AreDistinct : GroupStart → Type 0
 AreDistinct group = AllPairs (λ name other. name ≢ other) group.names
 
 -- the files of a group have names apart
-pub files_apart : (group : Group) (bytes : ℕ → List ℕ) → AllPairs (λ name other. name ≢ other) group.names → AreApart (files_of group bytes)
+pub files_apart : (group : GroupStart) (bytes : ℕ → List ℕ) → AllPairs (λ name other. name ≢ other) group.names → AreApart (files_of group bytes)
 files_apart group bytes apart i j d before within same =
     let inside : j < length group.names = omega (arith, within, length_files 0 group.names bytes) in
     let one = ap (λ (f : List ℕ × List ℕ). f.0) (file_at 0 group.names bytes i d (omega arith)) in
     let other = ap (λ (f : List ℕ × List ℕ). f.0) (file_at 0 group.names bytes j d inside) in
     apart i j [] before inside (append_cancel_right _ _ (codes ".log") (sym one ∙ same ∙ other))
 
-pub files_length : (group : Group) (bytes : ℕ → List ℕ) → length (files_of group bytes) ≡ size group
+pub files_length : (group : GroupStart) (bytes : ℕ → List ℕ) → length (files_of group bytes) ≡ size group
 files_length group bytes = length_files 0 group.names bytes
 
-pub file_in : (group : Group) (bytes : ℕ → List ℕ) (p : ℕ) → p < size group → slice_index_or (files_of group bytes) p ([], []) ≡ (log_name (name_of group p), bytes p)
+pub file_in : (group : GroupStart) (bytes : ℕ → List ℕ) (p : ℕ) → p < size group → slice_index_or (files_of group bytes) p ([], []) ≡ (log_name (name_of_process group p), bytes p)
 file_in group bytes p within =
     let here : 0 + p ≡ p = omega arith in
-    file_at 0 group.names bytes p ([], []) within ∙ ap (λ n. (log_name (name_of group p), bytes n)) here
+    file_at 0 group.names bytes p ([], []) within ∙ ap (λ n. (log_name (name_of_process group p), bytes n)) here
 
-pub file_of : (group : Group) (bytes : ℕ → List ℕ) (p : ℕ) → p < size group → slice_get (files_of group bytes) p ≡ Some (log_name (name_of group p), bytes p)
+pub file_of : (group : GroupStart) (bytes : ℕ → List ℕ) (p : ℕ) → p < size group → slice_get (files_of group bytes) p ≡ Some (log_name (name_of_process group p), bytes p)
 file_of group bytes p within =
     slice_get-get_or (files_of group bytes) p ([], []) (omega (arith, within, length_files 0 group.names bytes))
     ∙ ap Some (file_in group bytes p within)
 
 -- a piece that is written behind a log
-pub piece_written : KeepsFiles → (group : Group) (bytes : ℕ → List ℕ) (p : ℕ) (name piece : List ℕ) (before now : Option Folder) → AllPairs (λ name other. name ≢ other) group.names → p < size group
-    → name ≡ log_name (name_of group p) → now ≡ with_files (files_of group bytes) before → with_piece name piece now ≡ with_files (grown (files_of group bytes) p piece) before
+pub piece_written : KeepsFiles → (group : GroupStart) (bytes : ℕ → List ℕ) (p : ℕ) (name piece : List ℕ) (before now : Option Folder) → AllPairs (λ name other. name ≢ other) group.names → p < size group
+    → name ≡ log_name (name_of_process group p) → now ≡ with_files (files_of group bytes) before → with_piece name piece now ≡ with_files (grown (files_of group bytes) p piece) before
 piece_written keeps group bytes p name piece before now apart within named is =
     ap (λ n. with_piece n piece now) named
-    ∙ ap (λ told. with_piece (log_name (name_of group p)) piece told) is
-    ∙ keeps.grows before (files_of group bytes) p (log_name (name_of group p)) (bytes p) piece (files_apart group bytes apart) (file_of group bytes p within)
+    ∙ ap (λ told. with_piece (log_name (name_of_process group p)) piece told) is
+    ∙ keeps.grows before (files_of group bytes) p (log_name (name_of_process group p)) (bytes p) piece (files_apart group bytes apart) (file_of group bytes p within)
 
 -- ---- one entry more
 
@@ -119,7 +119,7 @@ log_last true head es e piece is =
 log_last false head es e piece is = refl
 
 -- the logs with the entry of an event more
-pub logs_grown : (group : Group) (steps : List Step) (p : ℕ) (e : Event) → grown (logs group steps) p (spelled_next steps p e.entry) ≡ logs group (Had p e ∷ steps)
+pub logs_grown : (group : GroupStart) (steps : List Step) (p : ℕ) (e : Event) → grown (logs group steps) p (spelled_next steps p e.entry) ≡ logs group (Had p e ∷ steps)
 logs_grown group steps p e =
     grown_files group (log_of group steps) p (spelled_next steps p e.entry)
     ∙ files_same 0 group.names (grown_at p (spelled_next steps p e.entry) (log_of group steps)) (log_of group (Had p e ∷ steps))
@@ -141,15 +141,15 @@ entries_few v last [] = omega arith
 entries_few v last (e ∷ es) = omega (arith, entries_few v e.clock es, entry_there v last e, length-append (encoding v last e) (encodings v e.clock es))
 
 -- a log with the entry of an event more
-log_with : (group : Group) (steps : List Step) (p : ℕ) (e : Event) → log_of group (Had p e ∷ steps) p ≡ log_of group steps p ++ spelled_next steps p e.entry
+log_with : (group : GroupStart) (steps : List Step) (p : ℕ) (e : Event) → log_of group (Had p e ∷ steps) p ≡ log_of group steps p ++ spelled_next steps p e.entry
 log_with group steps p e =
     sym (log_last (eqb p p) (head_bytes (head_of_log group p)) (entries steps p) e.entry (spelled_next steps p e.entry) (λ is. refl)) ∙ grown_here p p (spelled_next steps p e.entry) (log_of group steps) refl
 
 -- how long it is
-pub log_longer : (group : Group) (steps : List Step) (p : ℕ) (e : Event) → length (log_of group (Had p e ∷ steps) p) ≡ length (log_of group steps p) + length (spelled_next steps p e.entry)
+pub log_longer : (group : GroupStart) (steps : List Step) (p : ℕ) (e : Event) → length (log_of group (Had p e ∷ steps) p) ≡ length (log_of group steps p) + length (spelled_next steps p e.entry)
 log_longer group steps p e = ap length (log_with group steps p e) ∙ length-append (log_of group steps p) (spelled_next steps p e.entry)
 
 -- and what it has more
-pub entry_added : (group : Group) (steps : List Step) (p : ℕ) (e : Event) → entry_bytes group steps p e ≡ spelled_next steps p e.entry
+pub entry_added : (group : GroupStart) (steps : List Step) (p : ℕ) (e : Event) → entry_bytes group steps p e ≡ spelled_next steps p e.entry
 entry_added group steps p e =
     ap (drop (length (log_of group steps p))) (log_with group steps p e) ∙ drop_at (log_of group steps p) (spelled_next steps p e.entry) (length (log_of group steps p)) refl

@@ -18,30 +18,30 @@ use Rattle.process_files.specs.Images.{image_files}
 use Rattle.process_files.specs.PartLaws.{after_part, files_after, front_part}
 use Rattle.process_files.specs.Parts.{AreMadeInPart}
 use Rattle.group_record.specs.Recorded.{KeepsUp, MakesFiles, kept_for}
-use Rattle.group_record.specs.Run.{Group, Progress, Step, entries, process_after, size}
+use Rattle.group_record.specs.Run.{GroupStart, Progress, Step, entries, process_after, size}
 use Rattle.group_record.proofs.Small.{at_place}
 use Rattle.group_record.proofs.Starting.{name_at}
 
 -- ---- the images of a group
 
 -- those of the processes before p were made
-pub record ImagesTo (group : Group) (steps : List Step) (p : ℕ) (before now : Option Folder) : Type 0 where
+pub record ImagesTo (group : GroupStart) (steps : List Step) (p : ℕ) (before now : Option Folder) : Type 0 where
   pub front : List (List ℕ × List ℕ)
   pub rest : images group steps ≡ front ++ images_from group steps p (drop p group.names)
   pub made : now ≡ with_files front before
 
 -- the image of process p
-abbrev pub image_at : Group → List Step → ℕ → List ℕ → List (List ℕ × List ℕ)
+abbrev pub image_at : GroupStart → List Step → ℕ → List ℕ → List (List ℕ × List ℕ)
 image_at group steps p name = image_files name (memory_in (process_after group steps p)) (prints (entries steps p))
 
-images_here : (group : Group) (steps : List Step) (p : ℕ) (name : List ℕ) → p < size group → name ≡ slice_index_or group.names p []
+images_here : (group : GroupStart) (steps : List Step) (p : ℕ) (name : List ℕ) → p < size group → name ≡ slice_index_or group.names p []
     → images_from group steps p (drop p group.names) ≡ image_at group steps p name ++ images_from group steps (p + 1) (drop (p + 1) group.names)
 images_here group steps p name within named =
     ap (images_from group steps p) (drop-cons group.names p [] within)
     ∙ ap (λ n. image_at group steps p n ++ images_from group steps (suc p) (drop (suc p) group.names)) (sym named)
     ∙ ap (λ n. image_at group steps p name ++ images_from group steps n (drop n group.names)) (sym (add-one p))
 
-pub image_made : (group : Group) (steps : List Step) (p : ℕ) (name : List ℕ) (before now after : Option Folder) → p < size group → name ≡ slice_index_or group.names p []
+pub image_made : (group : GroupStart) (steps : List Step) (p : ℕ) (name : List ℕ) (before now after : Option Folder) → p < size group → name ≡ slice_index_or group.names p []
     → ImagesTo group steps p before now → after ≡ with_files (image_at group steps p name) now → ImagesTo group steps (p + 1) before after
 image_made group steps p name before now after within named so_far is = record {
   front = so_far.front ++ image_at group steps p name;
@@ -50,7 +50,7 @@ image_made group steps p name before now after within named so_far is = record {
   made = is ∙ ap (with_files (image_at group steps p name)) so_far.made ∙ sym (files_after so_far.front (image_at group steps p name) before);
 }
 
-pub image_fails : (group : Group) (steps : List Step) (p : ℕ) (name : List ℕ) (before now after : Option Folder) → p < size group → name ≡ slice_index_or group.names p []
+pub image_fails : (group : GroupStart) (steps : List Step) (p : ℕ) (name : List ℕ) (before now after : Option Folder) → p < size group → name ≡ slice_index_or group.names p []
     → ImagesTo group steps p before now → AreMadeInPart (image_at group steps p name) now after → AreMadeInPart (images group steps) before after
 image_fails group steps p name before now after within named so_far part =
     let others = images_from group steps (p + 1) (drop (p + 1) group.names) in
@@ -58,7 +58,7 @@ image_fails group steps p name before now after within named so_far part =
     (after_part so_far.front (image_at group steps p name ++ others) before now after so_far.made (front_part (image_at group steps p name) others now after part))
 
 -- what the recorder has of process p is its image
-pub image_is : (group : Group) (done : Progress) (r : Recorder) (p : ℕ) (m : Member) (S : State) (name memory printed : List ℕ) → KeepsUp group done r → slice_get r.members.items p ≡ Some m → m.process ≡ Some S
+pub image_is : (group : GroupStart) (done : Progress) (r : Recorder) (p : ℕ) (m : Member) (S : State) (name memory printed : List ℕ) → KeepsUp group done r → slice_get r.members.items p ≡ Some m → m.process ≡ Some S
     → memory ≡ S.store.memory.bytes → p < length r.prints → printed ≡ slice_index_or r.prints p [] → image_files name memory printed ≡ image_at group done.steps p name
 image_is group done r p m S name memory printed keeps at process has kept told =
     let k = keeps.members p m at in
@@ -76,11 +76,11 @@ named_all lines names all = ap length all ∙ length-map lines (λ (line : Proce
 
 -- ---- as they are asked for
 
-asked_images : (asked : Bool) (group : Group) (done : Progress) → asked ≡ true → done.full ≡ None → images_of asked group done ≡ images group done.steps
+asked_images : (asked : Bool) (group : GroupStart) (done : Progress) → asked ≡ true → done.full ≡ None → images_of asked group done ≡ images group done.steps
 asked_images asked group done is room =
     ap (λ asked. images_of asked group done) is ∙ ap (λ full. cond (is_none full) (images group done.steps) []) room
 
-pub asked_fails : (asked : Bool) (group : Group) (done : Progress) (error : WriteError) (before after : Option Folder) → asked ≡ true → done.full ≡ None → AreMadeInPart (images group done.steps) before after
+pub asked_fails : (asked : Bool) (group : GroupStart) (done : Progress) (error : WriteError) (before after : Option Folder) → asked ≡ true → done.full ≡ None → AreMadeInPart (images group done.steps) before after
     → MakesFiles (images_of asked group done) (Err (error_of error)) before after
 asked_fails asked group done writing.Failed before after is room part = subst (λ fs. AreMadeInPart fs before after) (sym (asked_images asked group done is room)) part
 asked_fails asked group done writing.NoMemory before after is room part = subst (λ fs. AreMadeInPart fs before after) (sym (asked_images asked group done is room)) part

@@ -13,7 +13,7 @@ use Rattle.lossy_net.specs.Network.{nth_of}
 use Rattle.group_world.specs.History.{Act, History, addressed, datagram, put_last_if, sends}
 use Rattle.group_world.specs.History as world
 use Rattle.group_world.specs.Laws.{Giver, NamesSend, gives}
-use Rattle.group_record.specs.Run.{Group, Step, Had, Did, world_around, history, size, process_after}
+use Rattle.group_record.specs.Run.{GroupStart, Step, Had, Did, world_around, history, size, process_after}
 use Rattle.group_record.specs.Laws.{IsSend}
 use Rattle.group_record.specs.Standing.{IsDone, IsRun}
 use Rattle.group_record.proofs.Agreeing.{ComesIn, comes_in}
@@ -35,11 +35,11 @@ has_clock env thread e (Some S) comes =
     let in_it : ComesIn S env thread e = comes_in S env thread e comes in
     omega (arith, ap (λ (e : Event). e.entry.clock) in_it.is)
 
-no_event : (group : Group) (early : List Step) (act : Act) → IsDone group early act → EventFits (size group) act
+no_event : (group : GroupStart) (early : List Step) (act : Act) → IsDone group early act → EventFits (size group) act
 no_event group early (world.Event p e) done = absurd done
 no_event group early _ done = tt
 
-pub events_fit : (group : Group) (steps : List Step) → IsRun group steps → EventsFit (size group) (history steps)
+pub events_fit : (group : GroupStart) (steps : List Step) → IsRun group steps → EventsFit (size group) (history steps)
 events_fit group [] run = tt
 events_fit group (Had p e ∷ early) run =
     let clock : 1 ≤ e.entry.clock = has_clock (world_around (size group) early p) run.0.thread e (process_after group early p) run.0.comes in

@@ -15,7 +15,7 @@ use Rattle.group_record.specs.declared.summary.Summary.{Summary}
 use Rattle.group_record.specs.declared.summary.SummaryLine.{SummaryLine}
 use Rattle.group_record.specs.declared.error.RecordError.{RecordError}
 use Rattle.group_record.specs.declared.error.RecordError.TheVariants as errors
-use Rattle.group_record.specs.Run.{Group, Progress, Step, entries, history, process_after, run}
+use Rattle.group_record.specs.Run.{GroupStart, Progress, Step, entries, history, process_after, run}
 use Rattle.group_record.specs.Logs.{logs}
 use Rattle.group_record.specs.Images.{images_of}
 use Rattle.group_record.specs.Files.{IsStopped}
@@ -41,7 +41,7 @@ names_of schedule = map (λ line. line.name) schedule.processes
 abbrev pub first_states : Schedule → List Module → Result (List State) ℕ
 first_states schedule modules = first_states_from (length schedule.processes) 0 modules
 
-abbrev pub group_of : Schedule → List State → Group
+abbrev pub group_of : Schedule → List State → GroupStart
 group_of schedule first = record { names = names_of schedule; first = first }
 
 -- ---- what is said of it
@@ -51,7 +51,7 @@ end_after None = Running
 end_after (Some S) = S.end
 
 -- how a process stands after some steps
-abbrev pub summary_line : Group → List Step → ℕ → List ℕ → SummaryLine
+abbrev pub summary_line : GroupStart → List Step → ℕ → List ℕ → SummaryLine
 summary_line group steps p name = record {
   name = name;
   events = length (entries steps p);
@@ -59,12 +59,12 @@ summary_line group steps p name = record {
   killed = is_killed (history steps) p;
 }
 
-abbrev pub summary_lines : Group → List Step → ℕ → List (List ℕ) → List SummaryLine
+abbrev pub summary_lines : GroupStart → List Step → ℕ → List (List ℕ) → List SummaryLine
 summary_lines group steps p [] = []
 summary_lines group steps p (name ∷ names) = summary_line group steps p name ∷ summary_lines group steps (suc p) names
 
 -- a line for each process, and the counts of what acted and of what was idle
-pub record IsSummary (group : Group) (done : Progress) (summary : Summary) : Type 0 where
+pub record IsSummary (group : GroupStart) (done : Progress) (summary : Summary) : Type 0 where
   pub lines : summary.lines.items ≡ summary_lines group done.steps 0 group.names
   pub acted : summary.acted ≡ length done.steps
   pub idle : summary.idle ≡ done.idle
@@ -72,18 +72,18 @@ pub record IsSummary (group : Group) (done : Progress) (summary : Summary) : Typ
 -- ---- the answers
 
 -- the whole run was recorded, and the images that were asked for were written
-pub record IsDone (asked : Bool) (group : Group) (done : Progress) (said : Summary) (before after : Option Folder) : Type 0 where
+pub record IsRecordedWhole (asked : Bool) (group : GroupStart) (done : Progress) (said : Summary) (before after : Option Folder) : Type 0 where
   pub room : done.full ≡ None
   pub summary : IsSummary group done said
   pub files : after ≡ with_files (logs group done.steps ++ images_of asked group done) before
 
 -- the run was recorded up to an event of this item for which a log had no room
-pub record IsFull (group : Group) (done : Progress) (item : ℕ) (before after : Option Folder) : Type 0 where
+pub record IsFull (group : GroupStart) (done : Progress) (item : ℕ) (before after : Option Folder) : Type 0 where
   pub full : done.full ≡ Some item
   pub files : after ≡ with_files (logs group done.steps) before
 
 -- the recording of this run was stopped
-abbrev pub StoppedIn : Bool → Group → Progress → Option Folder → Option Folder → Type 0
+abbrev pub StoppedIn : Bool → GroupStart → Progress → Option Folder → Option Folder → Type 0
 StoppedIn asked group done before after = IsStopped group done.steps (images_of asked group done) before after
 
 -- the recording of a group whose first states are these was stopped
@@ -94,7 +94,7 @@ StoppedWhere schedule asked (Ok first) before after = StoppedIn asked (group_of 
 -- what a recording answers, with images or without, and how it leaves the files
 abbrev pub RecordAnswers : Schedule → Bool → Result (List State) ℕ → Result Summary RecordError → Option Folder → Option Folder → Type 0
 RecordAnswers schedule asked begun (Ok summary) before after =
-    (first : List State) × (begun ≡ Ok first) × IsDone asked (group_of schedule first) (run (group_of schedule first) schedule.items) summary before after
+    (first : List State) × (begun ≡ Ok first) × IsRecordedWhole asked (group_of schedule first) (run (group_of schedule first) schedule.items) summary before after
 RecordAnswers schedule asked begun (Err (errors.BadSegment p)) before after = (begun ≡ Err p) × (after ≡ before)
 RecordAnswers schedule asked begun (Err (errors.LogFull item)) before after =
     (first : List State) × (begun ≡ Ok first) × IsFull (group_of schedule first) (run (group_of schedule first) schedule.items) item before after

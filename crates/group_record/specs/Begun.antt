@@ -11,7 +11,7 @@ use Rattle.group_record.specs.declared.error.RecordError.{RecordError}
 use Rattle.group_record.specs.declared.error.RecordError.TheVariants as errors
 use Rattle.group_record.specs.declared.member.Member.{Member}
 use Rattle.group_record.specs.declared.recorder.Recorder.{Recorder}
-use Rattle.group_record.specs.Run.{Group, head_of_log, name_of, nothing_yet, size}
+use Rattle.group_record.specs.Run.{GroupStart, head_of_log, name_of_process, nothing_yet, size}
 use Rattle.group_record.specs.Logs.{files_of, log_name}
 use Rattle.group_record.specs.Files.{IsStopped}
 use Rattle.group_record.specs.Members.{IsFreshMember}
@@ -46,14 +46,14 @@ pub record IsNewRecorder (asked : Bool) (own : List Member) (recorder : Recorder
 -- ---- the logs
 
 -- the members have the names and the heads of the group's logs
-pub record HaveHeads (group : Group) (members : List Member) : Type 0 where
+pub record HaveHeads (group : GroupStart) (members : List Member) : Type 0 where
   pub count : length members ≡ size group
   pub apart : AllPairs (λ name other. name ≢ other) group.names
-  pub logs : (p : ℕ) (m : Member) → slice_get members p ≡ Some m → string_bytes m.log ≡ log_name (name_of group p)
+  pub logs : (p : ℕ) (m : Member) → slice_get members p ≡ Some m → string_bytes m.log ≡ log_name (name_of_process group p)
   pub heads : (p : ℕ) (m : Member) → slice_get members p ≡ Some m → m.head.items ≡ head_bytes (head_of_log group p)
 
 -- the files were to have these bytes, or why they don't
-abbrev pub MakeAll : Group → (ℕ → List ℕ) → Result ⊤ RecordError → Option Folder → Option Folder → Type 0
+abbrev pub MakeAll : GroupStart → (ℕ → List ℕ) → Result ⊤ RecordError → Option Folder → Option Folder → Type 0
 MakeAll group bytes (Ok _) before after = after ≡ with_files (files_of group bytes) before
 MakeAll group bytes (Err (errors.BadSegment p)) before after = ⊥
 MakeAll group bytes (Err (errors.LogFull item)) before after = ⊥
@@ -63,22 +63,22 @@ MakeAll group bytes (Err errors.NoMemory) before after = IsStopped group [] [] b
 abbrev pub no_bytes : ℕ → List ℕ
 no_bytes p = []
 
-abbrev pub heads : Group → ℕ → List ℕ
+abbrev pub heads : GroupStart → ℕ → List ℕ
 heads group p = head_bytes (head_of_log group p)
 
 -- files with no bytes were to be made
 abbrev pub CreatesLogs : List Member → Result ⊤ RecordError → Option Folder → Option Folder → Type 0
-CreatesLogs members result before after = (group : Group) → HaveHeads group members → MakeAll group no_bytes result before after
+CreatesLogs members result before after = (group : GroupStart) → HaveHeads group members → MakeAll group no_bytes result before after
 
 -- where they are there, the heads were to be written
 abbrev pub WritesHeads : List Member → Result ⊤ RecordError → Option Folder → Option Folder → Type 0
 WritesHeads members result old new =
-    (group : Group) (before : Option Folder) → HaveHeads group members → old ≡ with_files (files_of group no_bytes) before
+    (group : GroupStart) (before : Option Folder) → HaveHeads group members → old ≡ with_files (files_of group no_bytes) before
     → MakeAll group (heads group) result before new
 
 -- both were to be done
 abbrev pub BeginsLogs : List Member → Result ⊤ RecordError → Option Folder → Option Folder → Type 0
-BeginsLogs members result before after = (group : Group) → HaveHeads group members → MakeAll group (heads group) result before after
+BeginsLogs members result before after = (group : GroupStart) → HaveHeads group members → MakeAll group (heads group) result before after
 
 -- ---- the whole beginning
 

@@ -4,19 +4,19 @@ use Rattle.fri_outside.specs.Outside.{Folder}
 use Rattle.fri_outside.specs.Several.{grown, with_files}
 use Rattle.call_log.specs.Head.{head_bytes}
 use Rattle.guest_process.specs.Live.{Event}
-use Rattle.group_record.specs.Run.{Group, Step, Had, IsMoment, entry_bytes, head_of_log}
+use Rattle.group_record.specs.Run.{GroupStart, Step, Had, IsMoment, entry_bytes, head_of_log}
 use Rattle.group_record.specs.Logs.{files_of, logs}
 use Rattle.process_files.specs.Parts.{made_in_part}
 
 -- a first part of each head
-abbrev pub heads_cut : Group → (ℕ → ℕ) → ℕ → List ℕ
+abbrev pub heads_cut : GroupStart → (ℕ → ℕ) → ℕ → List ℕ
 heads_cut group cut p = take (cut p) (head_bytes (head_of_log group p))
 
 -- Of a run with these steps, which leaves these images, the files are made up to a moment: the first of the
 -- logs are there, each with a first part of its head; or all logs are those of the steps up to that moment,
 -- and behind the log of the process of the next event there may be a first part of that event's entry, but not all of
 -- it; or the logs are those of all steps, and the first of the images are there, and of the next one a first part
-pub data IsStopped (group : Group) (steps : List Step) (images : List (List ℕ × List ℕ)) (before after : Option Folder) : Type 0 where
+pub data IsStopped (group : GroupStart) (steps : List Step) (images : List (List ℕ × List ℕ)) (before after : Option Folder) : Type 0 where
   InHeads : (many : ℕ) → (cut : ℕ → ℕ) → after ≡ with_files (take many (files_of group (heads_cut group cut))) before
       → IsStopped group steps images before after
   Between : (early : List Step) → IsMoment early steps → after ≡ with_files (logs group early) before → IsStopped group steps images before after

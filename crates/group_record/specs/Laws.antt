@@ -19,12 +19,12 @@ use Rattle.guest_process.specs.State.{State}
 use Rattle.lossy_net.specs.Network.{nth_of}
 use Rattle.group_world.specs.History.{Deliver, History, mailbox, pool, sends, taken_count}
 use Rattle.group_world.specs.Laws.{Giver, Origin}
-use Rattle.group_record.specs.Run.{Group, Had, IsMoment, Step, entries, entry_bytes, history, process_after, run, size}
+use Rattle.group_record.specs.Run.{GroupStart, Had, IsMoment, Step, entries, entry_bytes, history, process_after, run, size}
 use Rattle.group_record.specs.Logs.{TellsEvents, TellsBefore}
 use Rattle.group_record.specs.Answer.{first_states, group_of}
 
 -- a group of 1 to 16 named processes of valid modules, before its first event
-pub record IsBegun (group : Group) : Type 0 where
+pub record IsBegun (group : GroupStart) : Type 0 where
   pub some : 1 ≤ size group
   pub few : size group ≤ 16
   pub first : length group.first ≡ size group
@@ -40,17 +40,17 @@ Beginning = (schedule : Schedule) (modules : List Module) (first : List State) �
 
 -- at each moment of a run each log tells the events of its process
 abbrev pub Agreement : Type 0
-Agreement = (group : Group) (items : List Item) → IsBegun group → All (IsInRange (size group)) items
+Agreement = (group : GroupStart) (items : List Item) → IsBegun group → All (IsInRange (size group)) items
     → (steps : List Step) → IsMoment steps (run group items).steps → (p : ℕ) → p < size group → TellsEvents group steps p
 
 -- before each event of these steps, a log behind which the event's entry was written in part tells the events before
 -- it, and that part is left over
-abbrev pub TellsCut : Group → List Step → Type 0
+abbrev pub TellsCut : GroupStart → List Step → Type 0
 TellsCut group steps = (later early : List Step) (p : ℕ) (e : Event) → steps ≡ later ++ (Had p e ∷ early)
     → (n : ℕ) → n < length (entry_bytes group early p e) → TellsBefore group early p (take n (entry_bytes group early p e))
 
 abbrev pub CutAgreement : Type 0
-CutAgreement = (group : Group) (items : List Item) → IsBegun group → All (IsInRange (size group)) items → TellsCut group (run group items).steps
+CutAgreement = (group : GroupStart) (items : List Item) → IsBegun group → All (IsInRange (size group)) items → TellsCut group (run group items).steps
 
 -- the entry names this send of process q, and a first part of what the send sent out came in
 pub record TellsSend (e : Entry) (q : ℕ) (sent : Entry) : Type 0 where
@@ -81,7 +81,7 @@ pub record TakesDatagram (count : ℕ) (early : List Step) (p : ℕ) (e : Event)
 
 -- so it is with each event that took one
 abbrev pub Delivery : Type 0
-Delivery = (group : Group) (items : List Item) → IsBegun group → All (IsInRange (size group)) items
+Delivery = (group : GroupStart) (items : List Item) → IsBegun group → All (IsInRange (size group)) items
     → (later early : List Step) (p : ℕ) (e : Event) → (run group items).steps ≡ later ++ (Had p e ∷ early) → IsTrue (is_taken e.entry)
     → TakesDatagram (size group) early p e
 
@@ -94,14 +94,14 @@ takes_datagrams _ = false
 
 -- each event of recv or try_recv takes a datagram where one waits, unless its arguments were bad in the state
 -- in which it came
-abbrev pub WaitingIsTaken : Group → List Step → Type 0
+abbrev pub WaitingIsTaken : GroupStart → List Step → Type 0
 WaitingIsTaken group steps = (later early : List Step) (p : ℕ) (e : Event) → steps ≡ later ++ (Had p e ∷ early)
     → (S : State) → process_after group early p ≡ Some S
     → IsTrue (takes_datagrams (kind_numbered e.entry.call.kind)) → IsTrue (is_good e.entry.call S.store.memory)
     → (bytes : List ℕ) (others : List (List ℕ)) → mailbox (size group) (history early) p ≡ bytes ∷ others → IsTrue (is_taken e.entry)
 
 abbrev pub TakesWaiting : Type 0
-TakesWaiting = (group : Group) (items : List Item) → IsBegun group → All (IsInRange (size group)) items → WaitingIsTaken group (run group items).steps
+TakesWaiting = (group : GroupStart) (items : List Item) → IsBegun group → All (IsInRange (size group)) items → WaitingIsTaken group (run group items).steps
 
 -- an event of random takes as many of the first bytes of the pool as it asks for
 pub record Draws (early : List Step) (p : ℕ) (e : Event) : Type 0 where
@@ -115,10 +115,10 @@ DrawsIf true early p e = Draws early p e
 DrawsIf false early p e = drawn e.entry ≡ 0
 
 -- so it is with each event of random
-abbrev pub RandomIsDrawn : Group → List Step → Type 0
+abbrev pub RandomIsDrawn : GroupStart → List Step → Type 0
 RandomIsDrawn group steps = (later early : List Step) (p : ℕ) (e : Event) → steps ≡ later ++ (Had p e ∷ early)
     → (S : State) → process_after group early p ≡ Some S → kind_numbered e.entry.call.kind ≡ Some Random
     → DrawsIf (is_good e.entry.call S.store.memory) early p e
 
 abbrev pub TakesDrawn : Type 0
-TakesDrawn = (group : Group) (items : List Item) → IsBegun group → All (IsInRange (size group)) items → RandomIsDrawn group (run group items).steps
+TakesDrawn = (group : GroupStart) (items : List Item) → IsBegun group → All (IsInRange (size group)) items → RandomIsDrawn group (run group items).steps

@@ -5,7 +5,7 @@ use Rattle.call_log.specs.Limits.{most_log}
 use Rattle.call_log.specs.Log.{Unread, entries_of, head_at, rest_of}
 use Rattle.guest_process.specs.Replay.{accepted, replayed}
 use Rattle.guest_process.specs.State.{State}
-use Rattle.group_record.specs.Run.{Group, Step, entries, head_of_log, log_of, process_states}
+use Rattle.group_record.specs.Run.{GroupStart, Step, entries, head_of_log, log_of, process_states}
 
 -- the file of a process's log
 abbrev pub log_name : List ℕ → List ℕ
@@ -17,16 +17,16 @@ files_from p [] bytes = []
 files_from p (name ∷ names) bytes = (log_name name, bytes p) ∷ files_from (suc p) names bytes
 
 -- a file for each process of the group
-abbrev pub files_of : Group → (ℕ → List ℕ) → List (List ℕ × List ℕ)
+abbrev pub files_of : GroupStart → (ℕ → List ℕ) → List (List ℕ × List ℕ)
 files_of group bytes = files_from 0 group.names bytes
 
 -- the logs of all processes
-abbrev pub logs : Group → List Step → List (List ℕ × List ℕ)
+abbrev pub logs : GroupStart → List Step → List (List ℕ × List ℕ)
 logs group steps = files_of group (log_of group steps)
 
 -- the bytes are a log of process p whose entries are these events', each is accepted where it comes, and
 -- after each n of them the replay is in the recorded state. Behind the entries stands this much of one more
-pub record IsLogOfRun (group : Group) (p : ℕ) (bytes : List ℕ) (es : List Entry) (after : List State) (cut : List ℕ) : Type 0 where
+pub record IsLogOfRun (group : GroupStart) (p : ℕ) (bytes : List ℕ) (es : List Entry) (after : List State) (cut : List ℕ) : Type 0 where
   pub first : State
   pub begun : slice_get group.first p ≡ Some first
   pub left : Unread
@@ -38,9 +38,9 @@ pub record IsLogOfRun (group : Group) (p : ℕ) (bytes : List ℕ) (es : List En
   pub states : (n : ℕ) (S : State) → slice_get (first ∷ after) n ≡ Some S → replayed first (take n es) ≡ S
 
 -- the log of process p after some steps tells its events
-abbrev pub TellsEvents : Group → List Step → ℕ → Type 0
+abbrev pub TellsEvents : GroupStart → List Step → ℕ → Type 0
 TellsEvents group steps p = IsLogOfRun group p (log_of group steps p) (entries steps p) (process_states steps p) []
 
 -- and so does the log with these bytes behind it, which are left over
-abbrev pub TellsBefore : Group → List Step → ℕ → List ℕ → Type 0
+abbrev pub TellsBefore : GroupStart → List Step → ℕ → List ℕ → Type 0
 TellsBefore group steps p cut = IsLogOfRun group p (log_of group steps p ++ cut) (entries steps p) (process_states steps p) cut

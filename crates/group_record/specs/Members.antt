@@ -45,12 +45,12 @@ abbrev pub spelled : Member → Entry → List ℕ
 spelled m e = encoding Two m.last e
 
 -- the member after the event of an entry
-abbrev pub kept : Member → Entry → Member
-kept m e = record m { size = m.size + length (spelled m e); last = e.clock; process = option_map (λ S. next S e) m.process }
+abbrev pub member_after : Member → Entry → Member
+member_after m e = record m { size = m.size + length (spelled m e); last = e.clock; process = option_map (λ S. next S e) m.process }
 
 -- behind a file there may be a first part of these bytes
-abbrev pub IsCut : List ℕ → List ℕ → Option Folder → Option Folder → Type 0
-IsCut name bytes before after = (after ≡ before) ⊎ ((n : ℕ) × (after ≡ with_piece name (take n bytes) before))
+abbrev pub IsAppendedInPart : List ℕ → List ℕ → Option Folder → Option Folder → Type 0
+IsAppendedInPart name bytes before after = (after ≡ before) ⊎ ((n : ℕ) × (after ≡ with_piece name (take n bytes) before))
 
 -- the log has room for these bytes
 abbrev pub LogHasRoom : Member → List ℕ → Type 0
@@ -61,5 +61,5 @@ abbrev pub Writes : Member → ℕ → List ℕ → Result ⊤ RecordError → O
 Writes m number bytes (Ok _) before after = LogHasRoom m bytes × (after ≡ with_piece (string_bytes m.log) bytes before)
 Writes m number bytes (Err (errors.BadSegment p)) before after = ⊥
 Writes m number bytes (Err (errors.LogFull item)) before after = (item ≡ number) × (most_log < m.size + length bytes) × (after ≡ before)
-Writes m number bytes (Err errors.WriteFault) before after = LogHasRoom m bytes × IsCut (string_bytes m.log) bytes before after
+Writes m number bytes (Err errors.WriteFault) before after = LogHasRoom m bytes × IsAppendedInPart (string_bytes m.log) bytes before after
 Writes m number bytes (Err errors.NoMemory) before after = (after ≡ before) ⊎ (LogHasRoom m bytes × (after ≡ with_piece (string_bytes m.log) bytes before))

@@ -25,12 +25,12 @@ use Rattle.group_record.specs.declared.member.Member.{Member}
 use Rattle.group_record.specs.declared.recorder.Recorder.{Recorder}
 use Rattle.group_record.specs.declared.summary.Summary.{Summary}
 use Rattle.group_record.specs.declared.summary.SummaryLine.{SummaryLine}
-use Rattle.group_record.specs.Run.{Group, Progress, Step, entries, history, is_running_process, log_of, name_of, process_after, size}
+use Rattle.group_record.specs.Run.{GroupStart, Progress, Step, entries, history, is_running_process, log_of, name_of_process, process_after, size}
 use Rattle.group_record.specs.Logs.{log_name, logs}
 use Rattle.group_record.specs.Files.{IsStopped}
 use Rattle.group_record.specs.Images.{images_of}
 use Rattle.process_files.specs.Parts.{AreMadeInPart}
-use Rattle.group_record.specs.Members.{kept}
+use Rattle.group_record.specs.Members.{member_after}
 use Rattle.group_record.specs.Answer.{IsSummary}
 
 -- ---- the counts
@@ -72,8 +72,8 @@ abbrev pub with_print : List (List ℕ) → ℕ → List ℕ → List (List ℕ)
 with_print kept p piece = slice_set kept p (slice_index_or kept p [] ++ piece)
 
 -- process p made the event of an entry
-pub record Kept (old : Recorder) (p : ℕ) (m : Member) (e : Entry) (new : Recorder) : Type 0 where
-  pub members : new.members.items ≡ slice_set old.members.items p (kept m e)
+pub record IsLogged (old : Recorder) (p : ℕ) (m : Member) (e : Entry) (new : Recorder) : Type 0 where
+  pub members : new.members.items ≡ slice_set old.members.items p (member_after m e)
   pub world : new.world ≡ after_event old.world p e
   pub prints : new.prints ≡ with_print old.prints p (printed e)
   pub acted : new.acted ≡ old.acted + 1
@@ -113,20 +113,20 @@ acted_on false w r = record r { world = w; idle = r.idle + 1 }
 -- ---- how far a recorder has come
 
 -- a member is process p of the group after these steps
-pub record IsMember (group : Group) (steps : List Step) (p : ℕ) (m : Member) : Type 0 where
+pub record IsMember (group : GroupStart) (steps : List Step) (p : ℕ) (m : Member) : Type 0 where
   pub state : State
   pub process : m.process ≡ Some state
   pub after : process_after group steps p ≡ Some state
   pub events : state.events ≡ length (entries steps p)
   pub count : state.count ≡ size group
-  pub log : string_bytes m.log ≡ log_name (name_of group p)
+  pub log : string_bytes m.log ≡ log_name (name_of_process group p)
   pub size : m.size ≡ length (log_of group steps p)
   pub room : m.size ≤ most_log
   pub last : m.last ≡ clock_after 0 (entries steps p)
   pub logged : All IsShaped (entries steps p)
 
 -- a recorder has come as far as this. Of each process of which it keeps what is printed, it has all of that
-pub record KeepsUp (group : Group) (done : Progress) (recorder : Recorder) : Type 0 where
+pub record KeepsUp (group : GroupStart) (done : Progress) (recorder : Recorder) : Type 0 where
   pub room : done.full ≡ None
   pub apart : AllPairs (λ name other. name ≢ other) group.names
   pub count : length recorder.members.items ≡ size group
@@ -138,19 +138,19 @@ pub record KeepsUp (group : Group) (done : Progress) (recorder : Recorder) : Typ
   pub idle : recorder.idle ≡ done.idle
 
 -- the files are those of these steps
-abbrev pub FilesOf : Group → Progress → Option Folder → Option Folder → Type 0
+abbrev pub FilesOf : GroupStart → Progress → Option Folder → Option Folder → Type 0
 FilesOf group done before after = after ≡ with_files (logs group done.steps) before
 
 -- a recorder has come as far as some run, and so have the files
 pub record UnderWay (recorder : Recorder) (told : Option Folder) : Type 0 where
-  pub group : Group
+  pub group : GroupStart
   pub done : Progress
   pub before : Option Folder
   pub keeps : KeepsUp group done recorder
   pub files : FilesOf group done before told
 
 -- a recorder that was to come as far as this has done so, or why not
-abbrev pub Comes : Group → Progress → Result ⊤ RecordError → Recorder → Option Folder → Option Folder → Type 0
+abbrev pub Comes : GroupStart → Progress → Result ⊤ RecordError → Recorder → Option Folder → Option Folder → Type 0
 Comes group next (Ok _) recorder before after = KeepsUp group next recorder × FilesOf group next before after
 Comes group next (Err (errors.BadSegment p)) recorder before after = ⊥
 Comes group next (Err (errors.LogFull item)) recorder before after = (next.full ≡ Some item) × FilesOf group next before after
@@ -158,9 +158,9 @@ Comes group next (Err errors.WriteFault) recorder before after = IsStopped group
 Comes group next (Err errors.NoMemory) recorder before after = IsStopped group next.steps [] before after
 
 -- wherever the recorder stood, it is to come as far as what comes next there
-abbrev pub Does : (Group → Progress → Progress) → Recorder → Result ⊤ RecordError → Recorder → Option Folder → Option Folder → Type 0
+abbrev pub Does : (GroupStart → Progress → Progress) → Recorder → Result ⊤ RecordError → Recorder → Option Folder → Option Folder → Type 0
 Does next old result new told now =
-    (group : Group) (done : Progress) (before : Option Folder) → KeepsUp group done old → FilesOf group done before told
+    (group : GroupStart) (done : Progress) (before : Option Folder) → KeepsUp group done old → FilesOf group done before told
     → Comes group (next group done) result new before now
 
 -- for how many of so many processes it keeps what they print: for all where images are asked for, else for none
@@ -180,7 +180,7 @@ MakesFiles files (Err errors.NoMemory) before after = AreMadeInPart files before
 -- the images of the group up to where the recorder stands were to be made, if they were asked for
 abbrev pub MakesImages : Bool → List ProcessLine → Recorder → Result ⊤ RecordError → Option Folder → Option Folder → Type 0
 MakesImages asked lines recorder result before after =
-    (group : Group) (done : Progress) → KeepsUp group done recorder → group.names ≡ map (λ line. line.name) lines
+    (group : GroupStart) (done : Progress) → KeepsUp group done recorder → group.names ≡ map (λ line. line.name) lines
     → MakesFiles (images_of asked group done) result before after
 
 -- ---- what is said of it
@@ -192,4 +192,4 @@ summary_line_of name killed S = record { name = name; events = S.events; end = S
 -- it is what is to be said of the run up to where the recorder stands
 abbrev pub Sums : List ProcessLine → Recorder → Summary → Type 0
 Sums lines recorder summary =
-    (group : Group) (done : Progress) → KeepsUp group done recorder → group.names ≡ map (λ line. line.name) lines → IsSummary group done summary
+    (group : GroupStart) (done : Progress) → KeepsUp group done recorder → group.names ≡ map (λ line. line.name) lines → IsSummary group done summary

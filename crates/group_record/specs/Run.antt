@@ -16,12 +16,12 @@ use Rattle.group_world.specs.History.{Act, History, is_killed, is_pending, mailb
 use Rattle.group_world.specs.History as world
 
 -- the names of a group's processes and their first states, both in the order of their numbers
-pub record Group : Type 0 where
+pub record GroupStart : Type 0 where
   pub names : List (List ℕ)
   pub first : List State
 
 -- how many processes the group has
-abbrev pub size : Group → ℕ
+abbrev pub size : GroupStart → ℕ
 size group = length group.names
 
 -- ---- steps
@@ -51,7 +51,7 @@ process_states (Had q e ∷ steps) p = put_last_if (q == p) (process_states step
 process_states (Did act ∷ steps) p = process_states steps p
 
 -- the state of a process after some steps
-abbrev pub process_after : Group → List Step → ℕ → Option State
+abbrev pub process_after : GroupStart → List Step → ℕ → Option State
 process_after group [] p = slice_get group.first p
 process_after group (Had q e ∷ steps) p = if q == p then Some e.state else process_after group steps p
 process_after group (Did act ∷ steps) p = process_after group steps p
@@ -68,14 +68,14 @@ world_around count steps p = record {
 
 -- ---- logs
 
-abbrev pub name_of : Group → ℕ → List ℕ
-name_of group p = slice_index_or group.names p []
+abbrev pub name_of_process : GroupStart → ℕ → List ℕ
+name_of_process group p = slice_index_or group.names p []
 
-abbrev pub head_of_log : Group → ℕ → Head
-head_of_log group p = record { version = Two; count = size group; process = p; name = name_of group p }
+abbrev pub head_of_log : GroupStart → ℕ → Head
+head_of_log group p = record { version = Two; count = size group; process = p; name = name_of_process group p }
 
 -- the log of a process: its head, and its events' entries
-abbrev pub log_of : Group → List Step → ℕ → List ℕ
+abbrev pub log_of : GroupStart → List Step → ℕ → List ℕ
 log_of group steps p = head_bytes (head_of_log group p) ++ encodings Two 0 (entries steps p)
 
 -- an entry as it is spelled behind those of a process
@@ -83,11 +83,11 @@ abbrev pub spelled_next : List Step → ℕ → Entry → List ℕ
 spelled_next steps p e = encoding Two (clock_after 0 (entries steps p)) e
 
 -- what the log has more with this event
-abbrev pub entry_bytes : Group → List Step → ℕ → Event → List ℕ
+abbrev pub entry_bytes : GroupStart → List Step → ℕ → Event → List ℕ
 entry_bytes group early p e = drop (length (log_of group early p)) (log_of group (Had p e ∷ early) p)
 
 -- the log stays within the limit with this event
-abbrev pub log_has_room : Group → List Step → ℕ → Event → Bool
+abbrev pub log_has_room : GroupStart → List Step → ℕ → Event → Bool
 log_has_room group steps p e = nat_le (length (log_of group (Had p e ∷ steps) p)) most_log
 
 -- ---- the run
@@ -119,19 +119,19 @@ abbrev pub unless_full : Progress → Progress → Progress
 unless_full done next = if is_some done.full then done else next
 
 -- the event that a try of a thread of a process comes to, where it isn't idle
-abbrev pub event_of_try : Group → List Step → ℕ → ℕ → Option Event
+abbrev pub event_of_try : GroupStart → List Step → ℕ → ℕ → Option Event
 event_of_try group steps p thread = option_and_then (λ S. live S thread (world_around (size group) steps p)) (process_after group steps p)
 
-abbrev pub had : Group → ℕ → ℕ → Option Event → Progress → Progress
+abbrev pub had : GroupStart → ℕ → ℕ → Option Event → Progress → Progress
 had group number p None done = idled done
 had group number p (Some e) done = if log_has_room group done.steps p e then with_step (Had p e) done else with_full_log number done
 
 -- one try, in the item with this number
-abbrev pub attempt : Group → ℕ → ℕ → ℕ → Progress → Progress
+abbrev pub attempt : GroupStart → ℕ → ℕ → ℕ → Progress → Progress
 attempt group number p thread done = unless_full done (had group number p (event_of_try group done.steps p thread) done)
 
 -- so many tries, each by itself
-unfoldable pub attempts : Group → ℕ → ℕ → ℕ → ℕ → Progress → Progress
+unfoldable pub attempts : GroupStart → ℕ → ℕ → ℕ → ℕ → Progress → Progress
 attempts group number p thread zero done = done
 attempts group number p thread (suc n) done = attempts group number p thread n (attempt group number p thread done)
 
@@ -144,10 +144,10 @@ is_running_process None = false
 is_running_process (Some S) = is_running S
 
 -- a process runs and was not killed
-abbrev pub can_be_killed : Group → List Step → ℕ → Bool
+abbrev pub can_be_killed : GroupStart → List Step → ℕ → Bool
 can_be_killed group steps p = is_running_process (process_after group steps p) && not (is_killed (history steps) p)
 
-abbrev pub done_by_item : Group → ℕ → Item → Progress → Progress
+abbrev pub done_by_item : GroupStart → ℕ → Item → Progress → Progress
 done_by_item group number (item.Run p thread times) done = attempts group number p thread times done
 done_by_item group number (item.Deliver p n) done = with_step_if (has_sent (size group) done.steps p n) (Did (world.Deliver p n)) done
 done_by_item group number (item.Inject p bytes) done = with_step (Did (world.Inject p bytes)) done
@@ -157,15 +157,15 @@ done_by_item group number (item.Signal p s) done = with_step (Did (world.Signal 
 done_by_item group number (item.Kill p) done = with_step_if (can_be_killed group done.steps p) (Did (world.Kill p)) done
 
 -- an item with its number, from 1
-abbrev pub after_item : Group → ℕ → Item → Progress → Progress
+abbrev pub after_item : GroupStart → ℕ → Item → Progress → Progress
 after_item group number i done = unless_full done (done_by_item group number i done)
 
-abbrev pub after_items : Group → ℕ → List Item → Progress → Progress
+abbrev pub after_items : GroupStart → ℕ → List Item → Progress → Progress
 after_items group number [] done = done
 after_items group number (i ∷ is) done = after_items group (suc number) is (after_item group number i done)
 
 -- the run of a schedule's items
-abbrev pub run : Group → List Item → Progress
+abbrev pub run : GroupStart → List Item → Progress
 run group items = after_items group 1 items nothing_yet
 
 -- some steps that were all at some moment of the run

@@ -11,13 +11,13 @@ use Rattle.guest_process.specs.State.{State}
 use Rattle.group_world.specs.History.{Act}
 use Rattle.group_world.specs.History as world
 use Rattle.group_world.specs.Laws.{CanBe}
-use Rattle.group_record.specs.Run.{Group, Step, Had, Did, IsMoment, can_be_killed, entries, event_of_try, has_sent, history, log_has_room, process_after, run, size}
+use Rattle.group_record.specs.Run.{GroupStart, Step, Had, Did, IsMoment, can_be_killed, entries, event_of_try, has_sent, history, log_has_room, process_after, run, size}
 use Rattle.group_record.specs.Laws.{IsBegun}
 
 -- ---- the steps
 
 -- the event of a try of some thread, for which the log has room
-pub record IsHad (group : Group) (early : List Step) (p : ℕ) (e : Event) : Type 0 where
+pub record IsHad (group : GroupStart) (early : List Step) (p : ℕ) (e : Event) : Type 0 where
   pub within : p < size group
   pub thread : ℕ
   pub comes : event_of_try group early p thread ≡ Some e
@@ -25,7 +25,7 @@ pub record IsHad (group : Group) (early : List Step) (p : ℕ) (e : Event) : Typ
 
 -- what another item does. A datagram that is delivered was sent by then, a process that is killed ran and was not
 -- killed before, and a time has 64 bits
-abbrev pub IsDone : Group → List Step → Act → Type 0
+abbrev pub IsDone : GroupStart → List Step → Act → Type 0
 IsDone group early (world.Event p e) = ⊥
 IsDone group early (world.Deliver p n) = (p < size group) × IsTrue (has_sent (size group) early p n)
 IsDone group early (world.Inject p bytes) = p < size group
@@ -35,7 +35,7 @@ IsDone group early (world.Signal p signal) = (p < size group) × (1 ≤ signal) 
 IsDone group early (world.Kill p) = (p < size group) × IsTrue (can_be_killed group early p)
 
 -- each step is one that could follow those before it
-abbrev pub IsRun : Group → List Step → Type 0
+abbrev pub IsRun : GroupStart → List Step → Type 0
 IsRun group [] = Unit {0}
 IsRun group (Had p e ∷ early) = IsHad group early p e × IsRun group early
 IsRun group (Did act ∷ early) = IsDone group early act × IsRun group early
@@ -43,7 +43,7 @@ IsRun group (Did act ∷ early) = IsDone group early act × IsRun group early
 -- ---- the processes
 
 -- how a process stands: in the state that the replay of its entries makes, which is in its ranges
-pub record StandsAt (group : Group) (early : List Step) (p : ℕ) : Type 0 where
+pub record StandsReplayed (group : GroupStart) (early : List Step) (p : ℕ) : Type 0 where
   pub first : State
   pub begun : slice_get group.first p ≡ Some first
   pub last : State
@@ -56,12 +56,12 @@ pub record StandsAt (group : Group) (early : List Step) (p : ℕ) : Type 0 where
 -- ---- both
 
 -- so a run stands at a moment. The acts are such that the world around the processes is what is counted out of them
-pub record RunIs (group : Group) (early : List Step) : Type 0 where
+pub record RunIs (group : GroupStart) (early : List Step) : Type 0 where
   pub steps : IsRun group early
   pub acts : CanBe (size group) (history early)
-  pub processes : (p : ℕ) → p < size group → StandsAt group early p
+  pub processes : (p : ℕ) → p < size group → StandsReplayed group early p
 
 -- and so it stands at each
 abbrev pub Standing : Type 0
-Standing = (group : Group) (items : List Item) → IsBegun group → All (IsInRange (size group)) items
+Standing = (group : GroupStart) (items : List Item) → IsBegun group → All (IsInRange (size group)) items
     → (early : List Step) → IsMoment early (run group items).steps → RunIs group early

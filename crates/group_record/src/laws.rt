@@ -4,7 +4,7 @@ ghost use Rattle.group_record.specs.Standing.{Standing};
 
 use call_log::exact_logs;
 use group_world::by_counting;
-use guest_process::{counting, kept, one_event, rises};
+use guest_process::{counting, one_event, rises, states_fit};
 
 /// A group of a schedule and valid modules, whose processes have begun, is one of which the two laws speak.
 pub fn beginning()
@@ -18,7 +18,7 @@ pub fn standing()
     ensures { Standing }
 {
     one_event();
-    kept();
+    states_fit();
     rises();
     counting();
 }
@@ -32,7 +32,7 @@ pub fn agreement()
 {
     exact_logs();
     one_event();
-    kept();
+    states_fit();
     rises();
     counting();
 }
@@ -46,7 +46,7 @@ pub fn delivery()
 {
     by_counting();
     one_event();
-    kept();
+    states_fit();
     rises();
     counting();
 }
@@ -58,7 +58,7 @@ pub fn taking()
     ensures bytes { TakesDrawn }
 {
     one_event();
-    kept();
+    states_fit();
     rises();
     counting();
 }

@@ -10,7 +10,7 @@ ghost use Rattle.guest_process.specs.Next.{next};
 ghost use Rattle.guest_process.specs.Start.{start as start_of};
 ghost use Rattle.wasm_types.specs.Modules.{module_of};
 ghost use Rattle.group_record.specs.Answer.{after_writes};
-ghost use Rattle.group_record.specs.Members.{CanKeep, Starts, Writes, kept, spelled};
+ghost use Rattle.group_record.specs.Members.{CanKeep, Starts, Writes, member_after, spelled};
 
 use crate::error::RecordError;
 use call_log::{LogHead, MOST_LOG, Version, put_entry, put_head};
@@ -76,7 +76,7 @@ impl<'m> Member<'m> {
         requires shape { IsShaped (entry_of entry.now) }
         requires event { CanKeep self.old (entry_of entry.now) }
         ensures writes { Writes self.old number (spelled self.old (entry_of entry.now)) result (F.told files.old) (F.told files.new) }
-        ensures ok { OnOk result (self.new ≡ kept self.old (entry_of entry.now)) }
+        ensures ok { OnOk result (self.new ≡ member_after self.old (entry_of entry.now)) }
         ensures counted { F.counts files.new ≡ after_writes (F.counts files.old) result }
     {
         bytes.clear();

@@ -7,7 +7,7 @@ ghost use Rattle.schedule_text.specs.Schedule.{IsInRange};
 ghost use Rattle.group_world.specs.World.{process_count, surroundings_of};
 ghost use Rattle.group_record.specs.declared.member.Member.{Member as MemberOf};
 ghost use Rattle.group_record.specs.Run.{after_item, after_items, attempt, attempts};
-ghost use Rattle.group_record.specs.Recorded.{Does, HasCountsFor, Kept, UnderWay, acted_on, acts, after_act, total_count, counted_of};
+ghost use Rattle.group_record.specs.Recorded.{Does, HasCountsFor, IsLogged, UnderWay, acted_on, acts, after_act, total_count, counted_of};
 ghost use Rattle.group_record.specs.Members.{CanKeep, Writes, spelled};
 ghost use Rattle.group_record.specs.Answer.{after_writes};
 
@@ -153,7 +153,7 @@ impl<'m> Recorder<'m> {
         requires few { HasCountsFor 1 self.old }
         ensures writes { (m : MemberOf) → slice_get self.old.members.items p ≡ Some m →
             Writes m number (spelled m entry.now) result (F.told files.old) (F.told files.new) }
-        ensures ok { OnOk result ((m : MemberOf) → slice_get self.old.members.items p ≡ Some m → Kept self.old p m entry.now self.new) }
+        ensures ok { OnOk result ((m : MemberOf) → slice_get self.old.members.items p ≡ Some m → IsLogged self.old p m entry.now self.new) }
         ensures prints { OnOk result (length self.new.prints ≡ length self.old.prints) }
         ensures counted { F.counts files.new ≡ after_writes (F.counts files.old) result }
     {

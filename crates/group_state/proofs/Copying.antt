@@ -11,7 +11,7 @@ use Rattle.proc_replay.specs.Replaying.{Replaying}
 use Rattle.group_state.specs.declared.stand.Stand.{Stand}
 use Rattle.group_state.specs.Moves.{event_of, last_event_of}
 use Rattle.group_state.specs.Place.{events}
-use Rattle.group_state.specs.Stands.{AreSound, AreStands, IsStand, Keeps, SameStand, StillStand, parts_from}
+use Rattle.group_state.specs.Stands.{AreSound, AreStands, IsStand, KeepsStands, SameStand, StillStand, parts_from}
 use Rattle.group_state.proofs.Standing.{parts_none}
 
 abbrev parts_at : List Replaying → ℕ → List Replaying
@@ -49,11 +49,11 @@ pub few_parts : (start : List Replaying) (stand : Stand) → IsStand start stand
 few_parts start stand is few = omega (arith, ap length is.parts, length_parts 0 start (take stand.at (events start)), few)
 
 -- what a group keeps where it stands
-pub keeps_more : (old room : List Stand) (here copy : Stand) (new : List Stand) → StillStand old room → SameStand here copy → new ≡ room ++ copy ∷ [] → Keeps old here new
+pub keeps_more : (old room : List Stand) (here copy : Stand) (new : List Stand) → StillStand old room → SameStand here copy → new ≡ room ++ copy ∷ [] → KeepsStands old here new
 keeps_more old room here copy new still same is =
     λ start all stands. subst (AreStands start) (sym is) (All-push (IsStand start) room copy (still start all) (same_stand start here copy same stands))
 
-pub keeps_rest : (old room : List Stand) (here : Stand) (new : List Stand) → StillStand old room → new ≡ room → Keeps old here new
+pub keeps_rest : (old room : List Stand) (here : Stand) (new : List Stand) → StillStand old room → new ≡ room → KeepsStands old here new
 keeps_rest old room here new still is = λ start all stands. subst (AreStands start) (sym is) (still start all)
 
 -- those of which a test said `true`

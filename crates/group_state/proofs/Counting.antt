@@ -18,7 +18,7 @@ use Rattle.group_order.specs.Sends.{FindsOneMore, Sends, by_sender}
 use Rattle.group_state.specs.Place.{Ascends}
 use Rattle.group_state.specs.Report.{accepted_in, all_accepted}
 use Rattle.group_state.specs.Tally.{Accepted, is_send, of_process}
-use Rattle.group_state.specs.Tallying.{AreNew, HasTallyRoomFor, IsNew, Tallying, nothing_of, send_by, with_accepted, with_all_accepted}
+use Rattle.group_state.specs.Tallying.{AreNew, HasTallyRoomFor, IsNewSend, Tallying, nothing_of, send_by, with_accepted, with_all_accepted}
 use Rattle.group_state.proofs.Tallied.{adds, few_more}
 
 abbrev event : ℕ → Entry → Accepted
@@ -51,7 +51,7 @@ module _ (finds : FindsOneMore) where
   until_event : (p clock : ℕ) (e : Entry) (t : Tallying) → clock < e.clock → Until p clock t.sent → Until p e.clock (with_accepted t (event p e)).sent
   until_event p clock e t rises until = subst (Until p e.clock) (sym (adds t (event p e)).sent) (until_more p clock e t (is_send t.count (event p e)) rises until)
 
-  is_new : (p clock : ℕ) (e : Entry) (t : Tallying) → clock < e.clock → Until p clock t.sent → IsNew t (event p e)
+  is_new : (p clock : ℕ) (e : Entry) (t : Tallying) → clock < e.clock → Until p clock t.sent → IsNewSend t (event p e)
   is_new p clock e t rises until = by_found (map.get t.sent (p, e.clock)) refl
     where
       by_found : (o : Option ℕ) → map.get t.sent (p, e.clock) ≡ o → o ≡ None

@@ -9,7 +9,7 @@ use Rattle.std.proofs.lemmas.Option.{same_Some, slice_get-map, slice_get_past, s
 use Rattle.guest_memory.specs.Memory.{IsMemory, Memory, size_of}
 use Rattle.lib_calls.specs.declared.entry.Entry.{Entry}
 use Rattle.wasm_types.specs.declared.code.Value.{Value}
-use Rattle.wasm_step.specs.Marks.{MarksTell as StoreTells}
+use Rattle.wasm_step.specs.Marks.{StoreMarksTell as StoreTells}
 use Rattle.guest_process.specs.Fits.{StateFits}
 use Rattle.guest_process.specs.Marks.{UnmarkedStays}
 use Rattle.guest_process.specs.Next.{next}
@@ -25,15 +25,15 @@ use Rattle.page_watch.specs.Touch.{MarksTell, node_of}
 use Rattle.group_state.specs.Laws.{IsStep}
 use Rattle.group_state.specs.Motions.{AreMotions, Motions, nth_position, position_of, positions, positions_from}
 use Rattle.group_state.specs.Moves.{last_event_of}
-use Rattle.group_state.specs.Place.{AreParts, PartsFit, Place, events, states}
+use Rattle.group_state.specs.Place.{AreParts, PartsFit, GroupPlace, events, states}
 use Rattle.group_state.specs.Seen.{nodes_at, seen_node, signed_global}
 use Rattle.group_state.specs.Stands.{AreSound}
-use Rattle.group_state.specs.Touch.{is_touched_by, is_touched_in, mark, mark_in, touches}
+use Rattle.group_state.specs.Touch.{is_touched_by, is_touched_in, mark, mark_in, is_touched_at}
 use Rattle.group_state.proofs.Moved.{motions_at, positions_front}
 use Rattle.group_state.proofs.Seeing.{node_at, node_for_each, states_length}
 use Rattle.group_state.proofs.Touching.{mark_told, mark_within, marked_at, no_later, nth_front, set_here, set_there, there, touched_own}
 
-abbrev at_position : List Replaying → ℕ → Place
+abbrev at_position : List Replaying → ℕ → GroupPlace
 at_position start k = record { start = start; at = k }
 
 -- ---- each memory is one
@@ -67,12 +67,12 @@ touched_moves (Some x) now l is =
     by_state None is = absurd (cc)
     by_state (Some S) is = grind (arith, nat_tests)
 
-is_mark : (start : List Replaying) (k : ℕ) (l : Location) → mark start (suc k) l ≡ suc k → touches start (suc k) l ≡ true
+is_mark : (start : List Replaying) (k : ℕ) (l : Location) → mark start (suc k) l ≡ suc k → is_touched_at start (suc k) l ≡ true
 is_mark start k l is =
     let test : (mark start (suc k) l == suc k) ≡ true = grind (arith, nat_tests) in
     sym (mark_told start k l) ∙ test
 
-not_mark : (start : List Replaying) (k : ℕ) (l : Location) → (mark start (suc k) l ≡ suc k → ⊥) → touches start (suc k) l ≡ false
+not_mark : (start : List Replaying) (k : ℕ) (l : Location) → (mark start (suc k) l ≡ suc k → ⊥) → is_touched_at start (suc k) l ≡ false
 not_mark start k l not =
     let test : (mark start (suc k) l == suc k) ≡ false = grind (arith, nat_tests) in
     sym (mark_told start k l) ∙ test

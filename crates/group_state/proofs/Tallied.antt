@@ -13,7 +13,7 @@ use Rattle.group_order.specs.Sends.{FindsOneMore, Sends, by_sender}
 use Rattle.group_state.specs.declared.tally.GroupCounts.{GroupCounts}
 use Rattle.group_state.specs.declared.tally.Receipt.{Receipt}
 use Rattle.group_state.specs.Tally.{Accepted, accepted_count, is_receipt, is_send, is_send_of, is_unmatched, is_unmatched_by, takes_untagged, tally}
-use Rattle.group_state.specs.Tallying.{AreNew, IsNew, Tallying, counts_of, is_to, nothing_of, receipt_by, send_by, unmatched_in, with_accepted, with_all_accepted, with_send}
+use Rattle.group_state.specs.Tallying.{AreNew, IsNewSend, Tallying, counts_of, is_to, nothing_of, receipt_by, send_by, unmatched_in, with_accepted, with_all_accepted, with_send}
 
 below : (k : Option Kind) (count : ℕ) (e : Entry) → sends_as k count e ≡ true → e.call.a0 < count
 below (Some Send) count e sent = grind (arith, nat_tests)
@@ -161,7 +161,7 @@ and_false false y = refl
 
 module _ (finds : FindsOneMore) where
   -- where the event sends
-  sent_here : (t : Tallying) (a : Accepted) (p : ℕ) (tag : Tag) → IsNew t a
+  sent_here : (t : Tallying) (a : Accepted) (p : ℕ) (tag : Tag) → IsNewSend t a
       → is_to p (map.get (map.insert t.sent (a.process, a.entry.clock) a.entry.call.a0) (tag.sender, tag.clock))
       ≡ (is_to p (map.get t.sent (tag.sender, tag.clock)) || (((a.process == tag.sender) && (a.entry.clock == tag.clock)) && (true && (a.entry.call.a0 == p))))
   sent_here t a p tag new =
@@ -183,7 +183,7 @@ module _ (finds : FindsOneMore) where
       by_key true test = ap (λ (o : Option ℕ). is_to p o || (a.entry.call.a0 == p)) (sym (known (process_of test) (clock_of test)))
       by_key false test = or_false (is_to p (map.get t.sent (tag.sender, tag.clock)))
 
-  matched_by : (t : Tallying) (a : Accepted) (p : ℕ) (tag : Tag) (b : Bool) → IsNew t a
+  matched_by : (t : Tallying) (a : Accepted) (p : ℕ) (tag : Tag) (b : Bool) → IsNewSend t a
       → is_to p (map.get (send_by b t a).sent (tag.sender, tag.clock))
       ≡ (is_to p (map.get t.sent (tag.sender, tag.clock)) || (((a.process == tag.sender) && (a.entry.clock == tag.clock)) && (b && (a.entry.call.a0 == p))))
   matched_by t a p tag true new = sent_here t a p tag new
@@ -191,7 +191,7 @@ module _ (finds : FindsOneMore) where
       or_false (is_to p (map.get t.sent (tag.sender, tag.clock)))
       ∙ ap (λ (b : Bool). is_to p (map.get t.sent (tag.sender, tag.clock)) || b) (sym (and_false ((a.process == tag.sender) && (a.entry.clock == tag.clock)) (a.entry.call.a0 == p)))
 
-  matched_one : (t : Tallying) (a : Accepted) (p : ℕ) (tag : Tag) → IsNew t a
+  matched_one : (t : Tallying) (a : Accepted) (p : ℕ) (tag : Tag) → IsNewSend t a
       → is_to p (map.get (with_accepted t a).sent (tag.sender, tag.clock)) ≡ (is_to p (map.get t.sent (tag.sender, tag.clock)) || is_send_of t.count p tag a)
   matched_one t a p tag new = ap (λ (s : Sends). is_to p (map.get s (tag.sender, tag.clock))) (adds t a).sent ∙ matched_by t a p tag (is_send t.count a) new
 

@@ -10,7 +10,7 @@ use Rattle.std.proofs.lemmas.List.Elements.{recursion_from_All}
 use Rattle.std.proofs.lemmas.Option.{get_or_from_slice_get, same_Some, slice_get-map, slice_get_past, slice_get_within}
 use Rattle.guest_memory.specs.Stamps.{AreWithin}
 use Rattle.lib_calls.specs.declared.entry.Entry.{Entry}
-use Rattle.wasm_step.specs.Marks.{MarksTell}
+use Rattle.wasm_step.specs.Marks.{StoreMarksTell}
 use Rattle.guest_process.specs.Fits.{StateFits}
 use Rattle.guest_process.specs.Marks.{UnmarkedStays}
 use Rattle.guest_process.specs.Next.{next}
@@ -25,7 +25,7 @@ use Rattle.group_state.specs.Laws.{IsStep}
 use Rattle.group_state.specs.Motions.{nth_position, positions, positions_from}
 use Rattle.group_state.specs.Moves.{event_before}
 use Rattle.group_state.specs.Place.{AreParts, PartsFit, events, states}
-use Rattle.group_state.specs.Touch.{is_touched_by, is_touched_in, mark, mark_in, touches}
+use Rattle.group_state.specs.Touch.{is_touched_by, is_touched_in, mark, mark_in, is_touched_at}
 use Rattle.group_state.proofs.Moved.{one_more_other, one_more_own}
 use Rattle.group_state.proofs.Seeing.{states_length}
 use Rattle.group_state.proofs.Stepping.{none_made}
@@ -76,7 +76,7 @@ mark_within S (location.Motion node) fits = omega arith
 mark_within S (location.Size node) fits = fits.size_stamp
 
 -- what an event did not touch keeps its mark
-mark_stays : (S T : State) (l : Location) → MarksTell (S.events + 1) S.store T.store → T.events ≡ S.events + 1 → (mark_in T l ≡ S.events + 1 → ⊥) → mark_in T l ≡ mark_in S l
+mark_stays : (S T : State) (l : Location) → StoreMarksTell (S.events + 1) S.store T.store → T.events ≡ S.events + 1 → (mark_in T l ≡ S.events + 1 → ⊥) → mark_in T l ≡ mark_in S l
 mark_stays S T (location.Page node page) tells counted not = (tells.memory.pages page not).stamp
 mark_stays S T (location.Global node n) tells counted not = (tells.globals n not).stamp
 mark_stays S T (location.Motion node) tells counted not = absurd (not counted)
@@ -144,7 +144,7 @@ module _ (steps : (start : List Replaying) → AreParts start → PartsFit start
       let own : positions x.node (take (suc k) (events start)) ≡ ps ++ suc k ∷ [] =
       ap (positions x.node) more ∙ one_more_own x.node (so_far k) x refl ∙ ap (λ n. ps ++ suc n ∷ []) (sym count) in
       let events_are : S.events ≡ T.events + 1 = subst (λ (S : State). S.events ≡ T.events + 1) next_is (rising T x.entry prior.fits s.legal).events in
-      let tells : MarksTell (T.events + 1) T.store S.store = subst (λ (S : State). MarksTell (T.events + 1) T.store S.store) next_is (unmarked T x.entry prior.fits s.legal) in
+      let tells : StoreMarksTell (T.events + 1) T.store S.store = subst (λ (S : State). StoreMarksTell (T.events + 1) T.store S.store) next_is (unmarked T x.entry prior.fits s.legal) in
       record {
         fits = subst StateFits next_is (kept T x.entry prior.fits s.legal);
         moved = omega (arith, events_are, prior.moved, ap length own, length-append ps (suc k ∷ []));
@@ -221,15 +221,15 @@ unmarked_place start at l none =
 
 pub no_later : (start : List Replaying) (k : ℕ) (l : Location) → mark start k l ≤ k
 no_later start zero l = omega arith
-no_later start (suc k) l = by_test (touches start (suc k) l) (no_later start k l)
+no_later start (suc k) l = by_test (is_touched_at start (suc k) l) (no_later start k l)
   where
     by_test : (b : Bool) → mark start k l ≤ k → cond b (suc k) (mark start k l) ≤ suc k
     by_test true before = omega arith
     by_test false before = omega (arith, before)
 
 -- a place has the mark of a position exactly where its event touched it
-pub mark_told : (start : List Replaying) (k : ℕ) (l : Location) → (mark start (suc k) l == suc k) ≡ touches start (suc k) l
-mark_told start k l = by_test (touches start (suc k) l)
+pub mark_told : (start : List Replaying) (k : ℕ) (l : Location) → (mark start (suc k) l == suc k) ≡ is_touched_at start (suc k) l
+mark_told start k l = by_test (is_touched_at start (suc k) l)
   where
     by_test : (b : Bool) → (cond b (suc k) (mark start k l) == suc k) ≡ b
     by_test true = grind (arith, nat_tests)

@@ -11,7 +11,7 @@ use Rattle.proc_replay.specs.Course.{AreTurns, Tells, ahead, outcome}
 use Rattle.proc_replay.specs.Replaying.{Makes, Replaying, after, after_at, moved, turn}
 use Rattle.group_state.specs.Report.{EndsAt, accepted_in}
 use Rattle.group_state.specs.Tally.{Accepted, of_process}
-use Rattle.group_state.specs.Tallying.{AreNew, HasTallyRoom, HasTallyRoomFor, IsNew, Tallying, with_accepted, with_all_accepted}
+use Rattle.group_state.specs.Tallying.{AreNew, HasTallyRoom, HasTallyRoomFor, IsNewSend, Tallying, with_accepted, with_all_accepted}
 
 -- ---- a turn keeps the head of the log
 
@@ -63,7 +63,7 @@ accepted_more turns p r e process makes =
     ∙ ap (λ (h : Head). event r.head.process e ∷ of_process h.process (ahead (after r))) (sym (after_head r (entry_at r.left)))
     ∙ ap (λ (q : ℕ). event q e ∷ accepted_in (after r)) (sym process)
 
-pub next_new : AreTurns → (p : ℕ) (t0 t : Tallying) (first r : Replaying) (e : Entry) → Tallies p t0 t first r → turn r ≡ Makes e → IsNew t (event p e)
+pub next_new : AreTurns → (p : ℕ) (t0 t : Tallying) (first r : Replaying) (e : Entry) → Tallies p t0 t first r → turn r ≡ Makes e → IsNewSend t (event p e)
 next_new turns p t0 t first r e k makes =
     let were : AreNew t (event p e ∷ accepted_in (after r)) = subst (AreNew t) (accepted_more turns p r e k.process makes) k.new in
     were.0

@@ -2,14 +2,14 @@
 use Rattle.std.specs.Prelude.{◌≡◌, ◌<◌, ◌≤◌, ◌^◌, length, map}
 use Rattle.group_state.specs.declared.group.Course.{Course}
 use Rattle.group_state.specs.declared.group.Group.TheInside.{Inside}
-use Rattle.group_state.specs.Place.{AreParts, PartsFit, Place, events, head}
+use Rattle.group_state.specs.Place.{AreParts, PartsFit, GroupPlace, events, head}
 use Rattle.group_state.specs.Motions.{AreMotions}
 use Rattle.group_state.specs.Stands.{AreStands, IsStand}
 
-abbrev pub place_of_course : Course → Place
+abbrev pub place_of_course : Course → GroupPlace
 place_of_course g = record { start = g.first.items; at = g.here.at }
 
-abbrev pub place_of_group : Inside → Place
+abbrev pub place_of_group : Inside → GroupPlace
 place_of_group g = place_of_course g.course.value
 
 -- the group stands at its position and stood at its checkpoints, the heads are those of the position, and it knows the

@@ -7,23 +7,23 @@ use Rattle.group_order.specs.Order.{NodeEvent}
 use Rattle.proc_replay.specs.Replaying.{Replaying, after, turn}
 use Rattle.proc_replay.specs.Seen.{move_of}
 use Rattle.group_state.specs.declared.event.GroupEvent.{GroupEvent}
-use Rattle.group_state.specs.Place.{Place, events}
+use Rattle.group_state.specs.Place.{GroupPlace, events}
 
 abbrev pub event_of : GroupEvent → NodeEvent Entry
 event_of e = record { node = e.node; entry = entry_of e.entry }
 
 -- the position after an event, where there was one
-abbrev pub place_after : Place → Option GroupEvent → Place
+abbrev pub place_after : GroupPlace → Option GroupEvent → GroupPlace
 place_after place None = place
 place_after place (Some e) = record place { at = place.at + 1 }
 
 -- the event is the next of the order, which is made; none comes exactly at the end
-pub record Moves (old new : Place) (given : Option GroupEvent) : Type 0 where
+pub record Moves (old new : GroupPlace) (given : Option GroupEvent) : Type 0 where
   pub gives : option_map event_of given ≡ slice_get (events old.start) old.at
   pub place : new ≡ place_after old given
 
 -- the group is at position k, where there is one, and else as it was
-pub record IsThere (old : Place) (k : ℕ) (new : Place) (there : Bool) : Type 0 where
+pub record IsAtPosition (old : GroupPlace) (k : ℕ) (new : GroupPlace) (there : Bool) : Type 0 where
   pub exact : IsTrue there ↔ k ≤ length (events old.start)
   pub start : new.start ≡ old.start
   pub at : IsTrue there → new.at ≡ k
@@ -34,7 +34,7 @@ event_before es zero = None
 event_before es (suc n) = slice_get es n
 
 -- the event that was made last
-abbrev pub last_event_of : Place → Option (NodeEvent Entry)
+abbrev pub last_event_of : GroupPlace → Option (NodeEvent Entry)
 last_event_of place = event_before (events place.start) place.at
 
 -- a node had this turn, and the other nodes are as they were

@@ -12,7 +12,7 @@ use Rattle.proc_replay.specs.Course.{ahead}
 use Rattle.proc_replay.specs.Replaying.{Diverges, Ends, Makes, Move, Replaying, turn}
 
 -- the replays at position 0, in order of their processes' numbers, and how many events have been made
-pub record Place : Type 0 where
+pub record GroupPlace : Type 0 where
   pub start : List Replaying
   pub at : ℕ
 

@@ -40,5 +40,5 @@ abbrev pub StillStand : List Stand → List Stand → Type 0
 StillStand old new = (start : List Replaying) → AreStands start old → AreStands start new
 
 -- if the old are and this one is
-abbrev pub Keeps : List Stand → Stand → List Stand → Type 0
-Keeps old here new = (start : List Replaying) → AreStands start old → IsStand start here → AreStands start new
+abbrev pub KeepsStands : List Stand → Stand → List Stand → Type 0
+KeepsStands old here new = (start : List Replaying) → AreStands start old → IsStand start here → AreStands start new

@@ -64,13 +64,13 @@ with_all_accepted t [] = t
 with_all_accepted t (a ∷ events) = with_all_accepted (with_accepted t a) events
 
 -- no send of its process at its clock was counted
-abbrev pub IsNew : Tallying → Accepted → Type 0
-IsNew t a = map.get t.sent (a.process, a.entry.clock) ≡ None
+abbrev pub IsNewSend : Tallying → Accepted → Type 0
+IsNewSend t a = map.get t.sent (a.process, a.entry.clock) ≡ None
 
 -- each of these events is new where it comes
 abbrev pub AreNew : Tallying → List Accepted → Type 0
 AreNew t [] = Unit {0}
-AreNew t (a ∷ events) = IsNew t a × AreNew (with_accepted t a) events
+AreNew t (a ∷ events) = IsNewSend t a × AreNew (with_accepted t a) events
 
 -- one event more can be counted
 pub record HasTallyRoom (t : Tallying) : Type 0 where

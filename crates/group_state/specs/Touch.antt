@@ -34,18 +34,18 @@ is_touched_by None now l = false
 is_touched_by (Some e) now l = e.node == node_of l && is_touched_in (slice_get now (node_of l)) l
 
 -- the event that came to position k touched it
-abbrev pub touches : List Replaying → ℕ → Location → Bool
-touches start k l = is_touched_by (event_before (events start) k) (states start k) l
+abbrev pub is_touched_at : List Replaying → ℕ → Location → Bool
+is_touched_at start k l = is_touched_by (event_before (events start) k) (states start k) l
 
 -- the last position up to this one whose event touched it, and 0 where none did
 abbrev pub mark : List Replaying → ℕ → Location → ℕ
 mark start zero l = 0
-mark start (suc k) l = if touches start (suc k) l then suc k else mark start k l
+mark start (suc k) l = if is_touched_at start (suc k) l then suc k else mark start k l
 
 -- the event that came to position k touched something that the expression read just before
 abbrev pub is_met : List Replaying → ℕ → Expression → Bool
 is_met start zero x = false
-is_met start (suc k) x = list_any (touches start (suc k)) (reads (nodes_at (record { start = start; at = k })) x)
+is_met start (suc k) x = list_any (is_touched_at start (suc k)) (reads (nodes_at (record { start = start; at = k })) x)
 
 -- how often that is so, for each of these expressions, at so many positions after this one
 abbrev pub ticks : List Replaying → List Expression → ℕ → ℕ → ℕ

@@ -1,6 +1,6 @@
 // Where a group stood before, so that it need not begin anew to go back.
 ghost use Rattle.std.specs.Prelude.{◌≡◌, ◌≤◌, ◌∷◌, [], Contains, IfSome};
-ghost use Rattle.group_state.specs.Stands.{Keeps, StillStand};
+ghost use Rattle.group_state.specs.Stands.{KeepsStands, StillStand};
 
 use crate::stand::Stand;
 use std::alloc::{AllocError, Global};
@@ -31,7 +31,7 @@ impl<'m, 'a> Checkpoints<'m, 'a> {
 
     /// Keeps where the group stands, if a multiple of the stride is reached for the first time.
     pub(crate) fn keep(&mut self, alloc: Global, here: &Stand<'m, 'a>) -> Result<(), AllocError>
-        ensures { Keeps self.old.stands.items here.now self.new.stands.items }
+        ensures { KeepsStands self.old.stands.items here.now self.new.stands.items }
     {
         if !self.lacks(here.at) {
             return Ok(());

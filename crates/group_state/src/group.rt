@@ -1,8 +1,8 @@
 // A group at a position.
 ghost use Rattle.std.specs.Prelude.{◌≡◌, ◌≤◌, ◌-◌, ℕ, Some, None, IfOk, IsTrue, IsFalse, OnOk, ◌↔◌, length, map, option_map, slice_get};
-ghost use Rattle.group_state.specs.Place.{AreParts, PartsFit, Place, events, states};
+ghost use Rattle.group_state.specs.Place.{AreParts, PartsFit, GroupPlace, events, states};
 ghost use Rattle.group_state.specs.At.{IsSoundCourse, place_of_course};
-ghost use Rattle.group_state.specs.Moves.{IsThere, Moves, event_of, last_event_of};
+ghost use Rattle.group_state.specs.Moves.{IsAtPosition, Moves, event_of, last_event_of};
 
 use crate::checkpoints::Checkpoints;
 use crate::event::GroupEvent;
@@ -11,7 +11,7 @@ use crate::motions::Motions;
 use crate::stand::{Stand, merge_of};
 use crate::work::Counter;
 use group_order::{Merge, merges};
-use guest_process::{Process, kept, rises};
+use guest_process::{Process, rises, states_fit};
 use lib_calls::Entry;
 use proc_replay::{Replayer, Turn, replays};
 use std::alloc::{AllocError, Global};
@@ -48,7 +48,7 @@ impl<'m, 'a> Course<'m, 'a> {
         merges::<Entry>();
         replays();
         rises();
-        kept();
+        states_fit();
         let Some(node) = self.merge.next_process() else {
             return Ok(None);
         };
@@ -100,7 +100,7 @@ impl<'m, 'a> Course<'m, 'a> {
         merges::<Entry>();
         replays();
         rises();
-        kept();
+        states_fit();
         let part = self.here.parts.get(node as usize)?;
         Some(part)
     }
@@ -110,9 +110,9 @@ impl<'m, 'a> Model for Group<'m, 'a> {
     ghost use Rattle.std.specs.Coded.{codes};
     ghost use Rattle.guest_process.specs.Coding.{crew_code, trees_code};
     ghost use Rattle.group_state.specs.At.{IsSoundGroup, place_of_group};
-    ghost use Rattle.group_state.specs.Place.{Place};
+    ghost use Rattle.group_state.specs.Place.{GroupPlace};
 
-    ghost Value = { Place };
+    ghost Value = { GroupPlace };
 
     ghost coded = { Prim.hlevel (codes, trees_code, crew_code) };
 
@@ -159,7 +159,7 @@ impl<'m, 'a> Group<'m, 'a> {
     /// group is then as it was. It is replayed from where it stands, or from the last checkpoint that is not past
     /// the position.
     pub fn goto(self, alloc: Global, k: u64) -> Result<(Group<'m, 'a>, bool), AllocError>
-        ensures { IfOk result (λ went. IsThere self.entry k went.0 went.1) }
+        ensures { IfOk result (λ went. IsAtPosition self.entry k went.0 went.1) }
     {
         let at = self.course.here.at;
         let (reached, there) = self.near(alloc, k)?.advance_to(k)?;

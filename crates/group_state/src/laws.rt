@@ -3,7 +3,7 @@ ghost use Rattle.group_state.specs.Laws.{Ordered, SendsFirst, Stepwise};
 
 use call_log::exact_logs;
 use group_order::merges;
-use guest_process::{kept, rises};
+use guest_process::{rises, states_fit};
 use lib_calls::Entry;
 use proc_replay::replays;
 
@@ -17,7 +17,7 @@ pub fn ordered()
 {
     merges::<Entry>();
     rises();
-    kept();
+    states_fit();
 }
 
 /// At first each node's process stands as its replay does. The event at each position has the fields of its kind and
@@ -28,7 +28,7 @@ pub fn stepwise()
 {
     merges::<Entry>();
     rises();
-    kept();
+    states_fit();
     replays();
     exact_logs();
 }

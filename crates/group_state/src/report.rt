@@ -8,7 +8,7 @@ use crate::part::{tally_events, verdict};
 use crate::tally::Tally;
 use fri_bytes::Bytes;
 use group_order::finds_one_more;
-use guest_process::{End, Verdict, kept, rises};
+use guest_process::{End, Verdict, rises, states_fit};
 use proc_replay::{Replayer, replays};
 use std::alloc::{AllocError, Global};
 
@@ -85,7 +85,7 @@ pub fn report_of(alloc: Global, parts: Vec<Replayer<'_, '_>>) -> Result<Report, 
     finds_one_more();
     replays();
     rises();
-    kept();
+    states_fit();
     parts_fit(&parts);
     let mut tally = Tally::new(alloc, group_count(&parts));
     let mut lines = Vec::new(alloc);

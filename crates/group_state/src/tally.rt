@@ -1,7 +1,7 @@
 // What the accepted events of a group say of datagrams.
 ghost use Rattle.std.specs.Prelude.{◌≡◌, ◌+◌, ◌<◌, ◌^◌, OnOk};
 ghost use Rattle.lib_calls.specs.Entry.{entry_of};
-ghost use Rattle.group_state.specs.Tallying.{HasTallyRoom, IsNew, counts_of, is_matched_in, nothing_of, unmatched_in, with_accepted, with_receipt, with_send};
+ghost use Rattle.group_state.specs.Tallying.{HasTallyRoom, IsNewSend, counts_of, is_matched_in, nothing_of, unmatched_in, with_accepted, with_receipt, with_send};
 
 use group_order::SendIndex;
 use lamport_tag::Tag;
@@ -68,7 +68,7 @@ impl Tally {
 
     /// Counts an accepted event of a process.
     pub fn add(&mut self, process: u32, entry: &EntryView<'_>) -> Result<(), AllocError>
-        requires new { IsNew self.old (record { process = process; entry = entry_of entry.now }) }
+        requires new { IsNewSend self.old (record { process = process; entry = entry_of entry.now }) }
         requires room { HasTallyRoom self.old }
         ensures { OnOk result (self.new ≡ with_accepted self.old (record { process = process; entry = entry_of entry.now })) }
     {
@@ -78,7 +78,7 @@ impl Tally {
 
     #[tactic(auto, using(crate::proofs::Tallied::below_count))]
     fn add_send(&mut self, process: u32, entry: &EntryView<'_>) -> Result<(), AllocError>
-        requires new { IsNew self.old (record { process = process; entry = entry_of entry.now }) }
+        requires new { IsNewSend self.old (record { process = process; entry = entry_of entry.now }) }
         requires room { HasTallyRoom self.old }
         ensures { OnOk result (self.new ≡ with_send self.old (record { process = process; entry = entry_of entry.now })) }
     {

@@ -7,7 +7,7 @@ ghost use Rattle.group_state.specs.Report.{verdict_on};
 use crate::group::{Course, Group};
 use crate::part::verdict;
 use group_order::merges;
-use guest_process::{Verdict, kept, rises};
+use guest_process::{Verdict, rises, states_fit};
 use lib_calls::Entry;
 use proc_replay::replays;
 
@@ -31,7 +31,7 @@ impl<'m, 'a> Course<'m, 'a> {
         merges::<Entry>();
         replays();
         rises();
-        kept();
+        states_fit();
         let part = self.here.parts.get(node as usize)?;
         Some(verdict(part))
     }

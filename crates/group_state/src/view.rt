@@ -5,7 +5,7 @@ ghost use Rattle.group_state.specs.Seen.{signed_global};
 use crate::group::{Course, Group};
 use crate::laws::stepwise;
 use group_order::merges;
-use guest_process::{Process, kept, rises, unmarked_stays};
+use guest_process::{Process, rises, states_fit, unmarked_stays};
 use lib_calls::Entry;
 use page_watch::TouchView;
 use proc_replay::replays;
@@ -75,7 +75,7 @@ impl<'m, 'a> View for Group<'m, 'a> {
 
 impl<'m, 'a> Group<'m, 'a> {
     ghost use Rattle.std.specs.Prelude.{None, slice_get};
-    ghost use Rattle.group_state.specs.Place.{Place, states};
+    ghost use Rattle.group_state.specs.Place.{GroupPlace, states};
     ghost use Rattle.group_state.specs.Touch.{mark_in, mark};
     ghost use Rattle.guest_process.specs.State.{State};
     ghost use Rattle.watch_expr.specs.declared.reads.Place.{Place as Location};
@@ -106,14 +106,14 @@ impl<'m, 'a> Course<'m, 'a> {
     {
         stepwise();
         rises();
-        kept();
+        states_fit();
         unmarked_stays();
         self.motions.position(node, number)
     }
 }
 
 impl<'m, 'a> TouchView for Group<'m, 'a> {
-    ghost use Rattle.group_state.specs.Place.{Place};
+    ghost use Rattle.group_state.specs.Place.{GroupPlace};
     ghost use Rattle.group_state.specs.Seen.{nodes_at};
     ghost use Rattle.group_state.specs.Touch.{mark};
 
@@ -127,7 +127,7 @@ impl<'m, 'a> TouchView for Group<'m, 'a> {
         merges::<Entry>();
         replays();
         rises();
-        kept();
+        states_fit();
         stepwise();
         unmarked_stays();
         self.course.here.at

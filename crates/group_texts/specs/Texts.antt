@@ -15,7 +15,7 @@ use Rattle.guest_process.specs.State.{State, is_running}
 use Rattle.group_order.specs.Order.{NodeEvent}
 use Rattle.proc_replay.specs.Replaying.{Replaying}
 use Rattle.group_state.specs.Moves.{last_event_of}
-use Rattle.group_state.specs.Place.{Place, events, node_names}
+use Rattle.group_state.specs.Place.{GroupPlace, events, node_names}
 use Rattle.end_text.specs.Ends.{end_text}
 
 -- ---- calls
@@ -76,7 +76,7 @@ event_ending start None = codes "\n"
 event_ending start (Some e) = codes ": " ++ (event_text start e ++ codes "\n")
 
 -- a position, and the event that led there
-abbrev pub position_line : Place → List ℕ
+abbrev pub position_line : GroupPlace → List ℕ
 position_line place = codes "at " ++ (decimal place.at ++ event_ending place.start (last_event_of place))
 
 -- an event with its position
@@ -89,7 +89,7 @@ event_lines start k [] = []
 event_lines start k (e ∷ es) = event_line start k e ++ event_lines start (suc k) es
 
 -- the last n events up to the position
-abbrev pub last_lines : Place → ℕ → List ℕ
+abbrev pub last_lines : GroupPlace → ℕ → List ℕ
 last_lines place n = event_lines place.start (suc (place.at - n)) (drop (place.at - n) (take place.at (events place.start)))
 
 -- ---- threads

@@ -2,7 +2,7 @@
 //! of its threads.
 //!
 //! Contracts see a text as its bytes, and each text is one definition of `specs/Texts` over the place of the group
-//! (`Place` of group_state) or the state of a process. A call says which bytes it appends; where memory runs out, it says
+//! (`GroupPlace` of group_state) or the state of a process. A call says which bytes it appends; where memory runs out, it says
 //! nothing of the text.
 #![tactic(auto)]
 

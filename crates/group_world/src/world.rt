@@ -2,7 +2,7 @@
 ghost use Rattle.std.specs.Prelude.{◌≡◌, ◌↔◌, ℕ, ◌<◌, ◌≤◌, length, false, IsTrue, IfOk, OnOk, OnErr, is_some, option_map};
 ghost use Rattle.lib_calls.specs.Entry.{entry_of};
 ghost use Rattle.lib_calls.specs.Traffic.{drawn as drawn_of, is_sent as is_sent_of, is_taken as is_taken_of};
-ghost use Rattle.lossy_net.specs.Network.{front_of, mailbox_of, nth_of, sent_by};
+ghost use Rattle.lossy_net.specs.Network.{first_waiting, mailbox_of, nth_of, sent_by};
 ghost use Rattle.signal_points.specs.Signals.{most_signal};
 ghost use Rattle.group_world.specs.History.{Event, Deliver, Inject, Clock, Random, Signal, Kill, datagram as datagram_of};
 ghost use Rattle.group_world.specs.World.{has_pending, new_world, sent_if, process_count, surroundings_of, took_if, with_act};
@@ -58,7 +58,7 @@ impl World {
     /// the mailbox is empty.
     pub fn front(&self, p: u32) -> Option<Front<'_>>
         requires { p < process_count self.now }
-        ensures { option_map (λ front. (front.tag, front.payload.now)) result ≡ front_of self.now.net p }
+        ensures { option_map (λ front. (front.tag, front.payload.now)) result ≡ first_waiting self.now.net p }
     {
         self.net.front(p)
     }

@@ -2,7 +2,7 @@
 use Rattle.std.proofs.Common.{◌≡◌, ◌<◌, ◌≤◌, ℕ, ◌+◌, ◌*◌, zero, suc, List, [], ◌∷◌, ◌++◌, length, get_or, take, drop, replicate, append_assoc, length-append, zero-add, refl, ap, sym, ◌∙◌, arith}
 use Rattle.std.proofs.Math.ListN.{set}
 use Rattle.guest_memory.specs.Memory.{put_piece}
-use Rattle.guest_memory.specs.Pages.{AreWhole, flat, put_in, stamps_of}
+use Rattle.guest_memory.specs.Pages.{AreWhole, flat, put_in_page, stamps_of}
 use Rattle.guest_memory.specs.declared.page.Page.{Page}
 use Rattle.guest_memory.proofs.Pieces.{drop-past, part-left, put-left, put-right}
 
@@ -27,7 +27,7 @@ set-same (p ∷ ps) (suc q) d h = ap (λ l. p ∷ l) (set-same ps q d (omega ari
 
 -- a piece that stays in the page q
 pub flat-put : (ps : List Page) (q r a : ℕ) (piece : List ℕ) (number : ℕ) (d : Page) → AreWhole ps → q < length ps → r + length piece ≤ 4096 → a ≡ 4096 * q + r
-    → put_piece (flat ps) a piece ≡ flat (set ps q (put_in (get_or ps q d) r piece number))
+    → put_piece (flat ps) a piece ≡ flat (set ps q (put_in_page (get_or ps q d) r piece number))
 flat-put [] q r a piece number d w h k e = absurd (omega arith)
 flat-put (p ∷ ps) zero r a piece number d w h k e = let s : a ≡ r = omega arith in rw s (put-left p.bytes (flat ps) r piece (omega (arith, w.0)))
 flat-put (p ∷ ps) (suc q) r a piece number d w h k e =

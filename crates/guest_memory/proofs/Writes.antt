@@ -2,7 +2,7 @@
 use Rattle.std.proofs.Common.{◌≡◌, ◌<◌, ◌≤◌, ℕ, ◌+◌, ◌*◌, ◌/◌, ◌%◌, List, [], ◌++◌, length, get_or, take, drop, length-take, length-drop, ap, sym, ◌∙◌, arith, Result, Ok, Err, OnErr}
 use Rattle.std.proofs.Math.ListN.{set}
 use Rattle.guest_memory.specs.Memory.{WritesPrefix, put_piece}
-use Rattle.guest_memory.specs.Pages.{AreWhole, PutsPrefix, flat, put_in, stamps_of}
+use Rattle.guest_memory.specs.Pages.{AreWhole, PutsPrefix, flat, put_in_page, stamps_of}
 use Rattle.guest_memory.specs.Stamps.{stamped}
 use Rattle.guest_memory.specs.declared.page.Page.{Page}
 use Rattle.guest_memory.proofs.Flat.{flat-put, whole-get, whole-set}
@@ -28,7 +28,7 @@ puts-none ps addr number w = record { whole = w; bytes = sym (put-none (flat ps)
 pub puts-more : (old now : List Page) (addr : ℕ) (piece : List ℕ) (done count number q r : ℕ) (d page : Page)
     → Puts old now addr (take done piece) number → length now ≡ length old → addr + length piece ≤ length (flat old) → done + count ≤ length piece → 0 < count
     → addr + done ≡ 4096 * q + r → r + count ≤ 4096 → q < length now
-    → page ≡ put_in (get_or now q d) r (take count (drop done piece)) number → Puts old (set now q page) addr (take (done + count) piece) number
+    → page ≡ put_in_page (get_or now q d) r (take count (drop done piece)) number → Puts old (set now q page) addr (take (done + count) piece) number
 puts-more old now addr piece done count number q r d page p len within most some at fits room is =
     let chunk : length (take count (drop done piece)) ≡ count = simp (length-take, length-drop) (omega arith) in
     let first : length (take done piece) ≡ done = simp length-take (omega arith) in
@@ -49,7 +49,7 @@ puts-more old now addr piece done count number q r d page p len within most some
 -- a write to one page
 pub puts-one : (ps : List Page) (addr : ℕ) (piece : List ℕ) (number : ℕ) (d page : Page)
     → AreWhole ps → 0 < length piece → addr % 4096 + length piece ≤ 4096 → addr / 4096 < length ps
-    → page ≡ put_in (get_or ps (addr / 4096) d) (addr % 4096) piece number → Puts ps (set ps (addr / 4096) page) addr piece number
+    → page ≡ put_in_page (get_or ps (addr / 4096) d) (addr % 4096) piece number → Puts ps (set ps (addr / 4096) page) addr piece number
 puts-one ps addr piece number d page w some one room is =
     let size = whole-get ps (addr / 4096) d w room in
     let none : stamps_of ps ≡ stamped (stamps_of ps) addr 0 number = sym (stamped-none 0 (stamps_of ps) addr number) in

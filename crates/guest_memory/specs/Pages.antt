@@ -5,8 +5,8 @@ use Rattle.guest_memory.specs.Stamps.{stamped}
 use Rattle.guest_memory.specs.declared.page.Page.{Page}
 
 -- the page after the event of this number wrote the piece to it
-abbrev pub put_in : Page → ℕ → List ℕ → ℕ → Page
-put_in p at piece number = record { stamp = number; bytes = put_piece p.bytes at piece }
+abbrev pub put_in_page : Page → ℕ → List ℕ → ℕ → Page
+put_in_page p at piece number = record { stamp = number; bytes = put_piece p.bytes at piece }
 
 -- the bytes of all pages
 abbrev pub flat : List Page → List ℕ

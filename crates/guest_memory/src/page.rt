@@ -1,7 +1,7 @@
 // One watch page of a memory, which copies of the memory may share.
 ghost use Rattle.std.specs.Prelude.{◌≡◌, ◌+◌, ◌≤◌, IfOk, length, if◌then◌else◌, is_ok, replicate};
 ghost use Rattle.guest_memory.specs.LittleEndian.{low_bytes, IsWidth};
-ghost use Rattle.guest_memory.specs.Pages.{put_in};
+ghost use Rattle.guest_memory.specs.Pages.{put_in_page};
 
 use crate::little_endian::{put_number, put_piece};
 use std::alloc::{AllocError, Global};
@@ -24,7 +24,7 @@ impl Page {
     fn put_number(&mut self, at: usize, width: u32, value: u64, number: u64)
         requires width { IsWidth width }
         requires inside { at + width ≤ 4096 }
-        ensures { self.new ≡ put_in self.old at (low_bytes width value) number }
+        ensures { self.new ≡ put_in_page self.old at (low_bytes width value) number }
     {
         put_number(&mut self.bytes, at, width, value);
         self.stamp = number;
@@ -33,7 +33,7 @@ impl Page {
     #[inline]
     fn put(&mut self, at: usize, piece: &[u8], number: u64)
         requires { at + length piece.now ≤ 4096 }
-        ensures { self.new ≡ put_in self.old at piece.now number }
+        ensures { self.new ≡ put_in_page self.old at piece.now number }
     {
         put_piece(&mut self.bytes, at, piece);
         self.stamp = number;
@@ -99,7 +99,7 @@ impl SharedPage {
     ) -> Result<(), AllocError>
         requires width { IsWidth width }
         requires inside { at + width ≤ 4096 }
-        ensures { self.new ≡ (if is_ok result then put_in self.old at (low_bytes width value) number else self.old) }
+        ensures { self.new ≡ (if is_ok result then put_in_page self.old at (low_bytes width value) number else self.old) }
     {
         match Rc::get_mut(&mut self.page) {
             Some(page) => {
@@ -121,7 +121,7 @@ impl SharedPage {
     ) -> Result<(), AllocError>
         requires width { IsWidth width }
         requires inside { at + width ≤ 4096 }
-        ensures { self.new ≡ (if is_ok result then put_in self.old at (low_bytes width value) number else self.old) }
+        ensures { self.new ≡ (if is_ok result then put_in_page self.old at (low_bytes width value) number else self.old) }
     {
         let page = Rc::make_mut(&mut self.page)?;
         page.put_number(at, width, value, number);
@@ -131,7 +131,7 @@ impl SharedPage {
     // Writes the piece, by the event of this number.
     pub fn put(&mut self, at: usize, piece: &[u8], number: u64) -> Result<(), AllocError>
         requires { at + length piece.now ≤ 4096 }
-        ensures { self.new ≡ (if is_ok result then put_in self.old at piece.now number else self.old) }
+        ensures { self.new ≡ (if is_ok result then put_in_page self.old at piece.now number else self.old) }
     {
         match Rc::get_mut(&mut self.page) {
             Some(page) => {
@@ -145,7 +145,7 @@ impl SharedPage {
     #[inline(never)]
     fn put_shared(&mut self, at: usize, piece: &[u8], number: u64) -> Result<(), AllocError>
         requires { at + length piece.now ≤ 4096 }
-        ensures { self.new ≡ (if is_ok result then put_in self.old at piece.now number else self.old) }
+        ensures { self.new ≡ (if is_ok result then put_in_page self.old at piece.now number else self.old) }
     {
         let page = Rc::make_mut(&mut self.page)?;
         page.put(at, piece, number);

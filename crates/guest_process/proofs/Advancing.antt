@@ -29,13 +29,13 @@ use Rattle.lib_calls.specs.Answer.{Answer, answer_of}
 use Rattle.guest_process.specs.Advancing.{acted}
 use Rattle.guest_process.specs.Answers.{effects, exited, narrow}
 use Rattle.guest_process.specs.Fits.{Each, StateFits, live_has}
-use Rattle.guest_process.specs.GoesOn.{after_running, budget, counted, finished_if_over, handler, runs_on, stands, stopped, stopped_at_call, with_handler_frame}
+use Rattle.guest_process.specs.GoesOn.{after_running, budget, with_event_counted, finished_if_over, handler, runs_on, stands, stopped, stopped_at_call, with_handler_frame}
 use Rattle.guest_process.specs.Kinds.{ends_process, reply_value}
 use Rattle.guest_process.specs.Legal.{reason, reason_at}
 use Rattle.guest_process.specs.Next.{next, next_at}
 use Rattle.guest_process.specs.Seen.{IsOfModule, state_of}
 use Rattle.guest_process.specs.Sound.{IsSound, IsStanding}
-use Rattle.guest_process.specs.Start.{beginning}
+use Rattle.guest_process.specs.Start.{waiting_at}
 use Rattle.guest_process.specs.State.{State, awaits_event, is_running, pending_kind as kind_of, thread_at, with_thread}
 use Rattle.guest_process.proofs.Marking.{MarkLaws}
 use Rattle.guest_process.proofs.KeptFits.{state_kept}
@@ -103,22 +103,22 @@ runs_out S t (Some thread) =
     stopped_out (record S { store = run.store }) t run.stop
 
 exits_by : (k : Kind) (S : State) (t : ℕ) (w : Waiting) (a : Answer) (signal clock : ℕ) → kind_numbered w.call.kind ≡ Some k → ends_process k ≡ true
-    → exited (counted (with_thread (acted (Some k) S t w.call a) t Lent) clock) t w.call.a0 ≡ runs_on k (effects k S t w.call a) t w.strand a.reply signal clock
+    → exited (with_event_counted (with_thread (acted (Some k) S t w.call a) t Lent) clock) t w.call.a0 ≡ runs_on k (effects k S t w.call a) t w.strand a.reply signal clock
 exits_by Exit S t w a signal clock e h =
-    ap (λ S'. exited (counted (with_thread S' t Lent) clock) t w.call.a0) (exit_written S w.call a e)
-    ∙ ap (λ S'. record (counted S' clock) { end = Exited (cast_signed w32 (w.call.a0 % 2 ^ 32)) }) (with_again S t Over)
+    ap (λ S'. exited (with_event_counted (with_thread S' t Lent) clock) t w.call.a0) (exit_written S w.call a e)
+    ∙ ap (λ S'. record (with_event_counted S' clock) { end = Exited (cast_signed w32 (w.call.a0 % 2 ^ 32)) }) (with_again S t Over)
 exits_by _ S t w a signal clock e h = cc
 
 -- how a thread goes on that was taken out of the state after its answer
 abbrev pub goes_out : Kind → State → ℕ → Strand → ℕ → ℕ → ℕ → State
 goes_out k S t strand reply signal clock =
-    after_running (counted (with_thread S t Lent) clock) t (with_handler_frame S.store.«module» (answered strand (reply_value k reply)) signal (handler S.handlers signal))
+    after_running (with_event_counted (with_thread S t Lent) clock) t (with_handler_frame S.store.«module» (answered strand (reply_value k reply)) signal (handler S.handlers signal))
 
 runs_by : (k : Kind) (S : State) (t : ℕ) (strand : Strand) (reply signal clock : ℕ) → ends_process k ≡ false → goes_out k S t strand reply signal clock ≡ runs_on k S t strand reply signal clock
 runs_by k S t strand reply signal clock h =
     let thread = with_handler_frame S.store.«module» (answered strand (reply_value k reply)) signal (handler S.handlers signal) in
-    runs_out (counted S clock) t thread
-    ∙ ap (λ ends. cond ends (counted S clock) (after_running (counted S clock) t thread)) (sym h)
+    runs_out (with_event_counted S clock) t thread
+    ∙ ap (λ ends. cond ends (with_event_counted S clock) (after_running (with_event_counted S clock) t thread)) (sym h)
 
 -- ---- what is done before the thread is taken out
 
@@ -131,7 +131,7 @@ kept_before (slot ∷ slots) (suc t) new w at = kept_before slots t new w at
 -- the thread stands as it stood
 same_thread : (o : Option Kind) (S : State) (t : ℕ) (c : Call) (a : Answer) (w : Waiting) → thread_at S t ≡ Some w → thread_at (acted o S t c a) t ≡ Some w
 same_thread o S t c a w at =
-    acted_has (λ S'. thread_at S' t ≡ Some w) o S t c a (λ k. record { locks = λ e free. at; unlocks = λ e held. at; handles = λ e h given. at; spawns = λ e f found thread starts. kept_before S.crew.threads t (beginning S.store.«module» thread) w at }) at at
+    acted_has (λ S'. thread_at S' t ≡ Some w) o S t c a (λ k. record { locks = λ e free. at; unlocks = λ e held. at; handles = λ e h given. at; spawns = λ e f found thread starts. kept_before S.crew.threads t (waiting_at S.store.«module» thread) w at }) at at
 
 pub taken_is : (S : State) (e : Entry) (o : Option Kind) (w : Waiting) → reason S e ≡ None → thread_at (acted o S e.thread e.call (answer_of e)) e.thread ≡ Some w → thread_at S e.thread ≡ Some w
 taken_is S e o w legal after = by_thread (thread_at S e.thread) refl
@@ -167,10 +167,10 @@ acted_handlers S e o sound =
 
 -- the event of a thread that calls `exit`
 pub exits : (S : State) (e : Entry) (w : Waiting) → StateFits S → reason S e ≡ None → thread_at S e.thread ≡ Some w → ends_process w.kind ≡ true
-    → awaits_event (exited (counted (with_thread (acted (kind_of S e.thread) S e.thread e.call (answer_of e)) e.thread Lent) e.clock) e.thread w.call.a0) ≡ next S e
+    → awaits_event (exited (with_event_counted (with_thread (acted (kind_of S e.thread) S e.thread e.call (answer_of e)) e.thread Lent) e.clock) e.thread w.call.a0) ≡ next S e
 exits S e w s legal at h =
-    ap awaits_event (ap (λ o. exited (counted (with_thread (acted (option_map (λ w. w.kind) o) S e.thread e.call (answer_of e)) e.thread Lent) e.clock) e.thread w.call.a0) at
-    ∙ ap (λ call. exited (counted (with_thread (acted (Some w.kind) S e.thread call (answer_of e)) e.thread Lent) e.clock) e.thread w.call.a0) (call_told S e w (legal_at S e w legal at))
+    ap awaits_event (ap (λ o. exited (with_event_counted (with_thread (acted (option_map (λ w. w.kind) o) S e.thread e.call (answer_of e)) e.thread Lent) e.clock) e.thread w.call.a0) at
+    ∙ ap (λ call. exited (with_event_counted (with_thread (acted (Some w.kind) S e.thread call (answer_of e)) e.thread Lent) e.clock) e.thread w.call.a0) (call_told S e w (legal_at S e w legal at))
     ∙ exits_by w.kind S e.thread w (answer_of e) e.signal e.clock (fits_at S e.thread w s at).kind h)
     ∙ ap (next_at S e) (sym at)
 

@@ -21,9 +21,9 @@ use Rattle.guest_process.specs.declared.waiting.Waiting.{Waiting}
 use Rattle.lib_calls.specs.Answer.{Answer}
 use Rattle.guest_process.specs.Answers.{effects, narrow}
 use Rattle.guest_process.specs.Fits.{Each, Slotted}
-use Rattle.guest_process.specs.GoesOn.{after_burst, after_running, all_over, budget, counted, goes_on, handler, runs_on, stands, stopped, stopped_at_call, with_handler_frame}
+use Rattle.guest_process.specs.GoesOn.{process_after_burst, after_running, all_over, budget, with_event_counted, goes_on, handler, runs_on, stands, stopped, stopped_at_call, with_handler_frame}
 use Rattle.guest_process.specs.Kinds.{ends_process, reply_value}
-use Rattle.guest_process.specs.Start.{beginning}
+use Rattle.guest_process.specs.Start.{waiting_at}
 use Rattle.guest_process.specs.State.{State, awaits_event, with_new_thread, with_thread}
 use Rattle.guest_process.proofs.Effects.{effects_has}
 use Rattle.guest_process.proofs.Spawning.{has_room}
@@ -119,9 +119,9 @@ module _ (P : Waiting → Type 0) where
   stopped_kept S t (Traps trap) f g = set_kept S t Over _ f tt
   stopped_kept S t Sticks f g = set_kept S t Over _ f tt
 
-  burst_kept : (S : State) (t : ℕ) (run : BurstResult) → run.store.«module» ≡ S.store.«module» → Each P S.crew.threads → Stand S.store.«module» → Keeps P t S (after_burst S t run)
+  burst_kept : (S : State) (t : ℕ) (run : BurstResult) → run.store.«module» ≡ S.store.«module» → Each P S.crew.threads → Stand S.store.«module» → Keeps P t S (process_after_burst S t run)
   burst_kept S t run e f g =
-      then_kept t S (record S { store = run.store }) (after_burst S t run)
+      then_kept t S (record S { store = run.store }) (process_after_burst S t run)
       (record { who = refl; count = refl; «module» = e; room = refl; threads = f; others = λ u h. refl; holders = refl; handlers = refl; clock = refl; events = refl })
       (stopped_kept (record S { store = run.store }) t run.stop f (subst Stand (sym e) g))
 
@@ -137,10 +137,10 @@ module _ (P : Waiting → Type 0) where
   awaits_kept t S S' k = record { who = k.who; count = k.count; «module» = k.«module»; room = k.room; threads = k.threads; others = k.others; holders = k.holders; handlers = k.handlers; clock = k.clock; events = k.events }
 
   -- as it goes on after the answer
-  pub went_on : KeepsModule → (k : Kind) (S : State) (t : ℕ) (w : Waiting) (reply signal clock : ℕ) → Each P S.crew.threads → Stand S.store.«module» → Keeps P t (counted S clock) (goes_on k S t w.strand reply signal clock)
+  pub went_on : KeepsModule → (k : Kind) (S : State) (t : ℕ) (w : Waiting) (reply signal clock : ℕ) → Each P S.crew.threads → Stand S.store.«module» → Keeps P t (with_event_counted S clock) (goes_on k S t w.strand reply signal clock)
   went_on keeps k S t w reply signal clock f g =
-      awaits_kept t (counted S clock) (runs_on k S t w.strand reply signal clock)
-      (event_kept keeps (ends_process k) (counted S clock) t (with_handler_frame S.store.«module» (answered w.strand (reply_value k reply)) signal (handler S.handlers signal)) f g)
+      awaits_kept t (with_event_counted S clock) (runs_on k S t w.strand reply signal clock)
+      (event_kept keeps (ends_process k) (with_event_counted S clock) t (with_handler_frame S.store.«module» (answered w.strand (reply_value k reply)) signal (handler S.handlers signal)) f g)
 
   -- ---- the answer
 
@@ -149,7 +149,7 @@ module _ (P : Waiting → Type 0) where
 
   -- a thread that begins is such
   abbrev pub Begins : Module → Type 0
-  Begins m = (thread : Thread) → P (beginning m thread)
+  Begins m = (thread : Thread) → P (waiting_at m thread)
 
   each_more : (slots : List (Slot Waiting)) (w : Waiting) → Each P slots → P w → Each P (slots ++ Kept w ∷ [])
   each_more [] w f p = (p, tt)
@@ -173,14 +173,14 @@ module _ (P : Waiting → Type 0) where
         locks = λ e free. record { who = refl; count = refl; «module» = refl; room = λ few. few; threads = f; clock = refl; events = refl };
         unlocks = λ e held. record { who = refl; count = refl; «module» = refl; room = λ few. few; threads = f; clock = refl; events = refl };
         handles = λ e h given. record { who = refl; count = refl; «module» = refl; room = λ few. few; threads = f; clock = refl; events = refl };
-        spawns = λ e func found thread starts. made_affects S (beginning S.store.«module» thread) (has_room S (narrow c.a0) func found) f (b thread);
+        spawns = λ e func found thread starts. made_affects S (waiting_at S.store.«module» thread) (has_room S (narrow c.a0) func found) f (b thread);
       })
       (affects_none S f)
       (record { who = refl; count = refl; «module» = refl; room = λ few. few; threads = f; clock = refl; events = refl })
       (λ e. let over = set_kept S t Over S.end f tt in record { who = refl; count = refl; «module» = refl; room = λ few. omega (arith, over.room, few); threads = over.threads; clock = refl; events = refl })
 
   -- all of an event, from its clock on
-  pub event_affects : KeepsModule → (k : Kind) (S : State) (t : ℕ) (c : Call) (a : Answer) (w : Waiting) (signal clock : ℕ) → Each P S.crew.threads → Begins S.store.«module» → Stand S.store.«module» → Affects P (counted S clock) (goes_on k (effects k S t c a) t w.strand a.reply signal clock)
+  pub event_affects : KeepsModule → (k : Kind) (S : State) (t : ℕ) (c : Call) (a : Answer) (w : Waiting) (signal clock : ℕ) → Each P S.crew.threads → Begins S.store.«module» → Stand S.store.«module» → Affects P (with_event_counted S clock) (goes_on k (effects k S t c a) t w.strand a.reply signal clock)
   event_affects keeps k S t c a w signal clock f b g =
       let n = affected k S t c a f b in
       let l = went_on keeps k (effects k S t c a) t w a.reply signal clock n.threads (subst Stand (sym n.«module») g) in

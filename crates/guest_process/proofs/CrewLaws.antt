@@ -21,10 +21,10 @@ use Rattle.guest_process.specs.declared.waiting.Waiting.{Waiting}
 use Rattle.guest_process.specs.Answers.{effects, narrow, spawnable}
 use Rattle.guest_process.specs.Crews.{AsMany, LockAfter, LockKept, Locked, MadeAfter, OneMore, OnlySpawnAdds, OtherThreadsStay, Same, Unlocked}
 use Rattle.guest_process.specs.Fits.{StateFits, WaitingFits}
-use Rattle.guest_process.specs.GoesOn.{counted}
+use Rattle.guest_process.specs.GoesOn.{with_event_counted}
 use Rattle.guest_process.specs.Legal.{checks, reason_at}
 use Rattle.guest_process.specs.Next.{next_at}
-use Rattle.guest_process.specs.Start.{beginning}
+use Rattle.guest_process.specs.Start.{waiting_at}
 use Rattle.guest_process.specs.State.{State, is_running, thread_at, with_lock, with_new_thread, without_lock}
 use Rattle.guest_process.proofs.Changes.{Keeps, Stand, affected, one_more, set_other, went_on}
 use Rattle.guest_process.proofs.Effects.{effects_has}
@@ -35,7 +35,7 @@ use Rattle.guest_process.proofs.Spawning.{found_at, has_room}
 use Rattle.guest_process.proofs.Legality.{call_told, fits_at}
 
 -- what the thread changes that goes on after the answer
-goes : KeepsModule → (S : State) (e : Entry) → StateFits S → (w : Waiting) → Keeps WaitingFits e.thread (counted (effects w.kind S e.thread w.call (answer_of e)) e.clock) (next_at S e (Some w))
+goes : KeepsModule → (S : State) (e : Entry) → StateFits S → (w : Waiting) → Keeps WaitingFits e.thread (with_event_counted (effects w.kind S e.thread w.call (answer_of e)) e.clock) (next_at S e (Some w))
 goes keeps S e s w =
     let S' = effects w.kind S e.thread w.call (answer_of e) in
     let n = affected WaitingFits w.kind S e.thread w.call (answer_of e) s.threads (begin_fits S.store.«module») in
@@ -55,7 +55,7 @@ last (slot ∷ slots) w = last slots w
 answer_others : (S : State) (e : Entry) (w : Waiting) (u : ℕ) → u ≢ e.thread → u < length S.crew.threads → slice_get (effects w.kind S e.thread w.call (answer_of e)).crew.threads u ≡ slice_get S.crew.threads u
 answer_others S e w u other low =
     effects_has (λ S'. slice_get S'.crew.threads u ≡ slice_get S.crew.threads u) w.kind S e.thread w.call (answer_of e)
-    (record { locks = λ k free. refl; unlocks = λ k held. refl; handles = λ k h given. refl; spawns = λ k f found thread starts. before_last S.crew.threads u (beginning S.store.«module» thread) low })
+    (record { locks = λ k free. refl; unlocks = λ k held. refl; handles = λ k h given. refl; spawns = λ k f found thread starts. before_last S.crew.threads u (waiting_at S.store.«module» thread) low })
     refl refl (λ k. set_other S.crew.threads e.thread u Over other)
 
 others_at : KeepsModule → (S : State) (e : Entry) → StateFits S → (o : Option Waiting) → reason_at S e o ≡ None → (u : ℕ) → u ≢ e.thread → u < length S.crew.threads → slice_get (next_at S e o).crew.threads u ≡ slice_get S.crew.threads u
@@ -72,7 +72,7 @@ others_kept keeps S e s h = others_at keeps S e s (thread_at S e.thread) (unless
 told_kind : (S : State) (e : Entry) → StateFits S → (w : Waiting) → thread_at S e.thread ≡ Some w → Hold (checks S e w) → kind_numbered e.call.kind ≡ Some w.kind
 told_kind S e s w at holds = ap (λ call. kind_numbered call.kind) (call_told S e w holds) ∙ (fits_at S e.thread w s at).kind
 
-thread_made : (S : State) (e : Entry) (w : Waiting) (f : ℕ) (thread : Thread) → kind_numbered e.call.kind ≡ Some Spawn → e.call ≡ w.call → spawnable S (narrow w.call.a0) ≡ Some f → new_thread S.store.«module» f (narrow w.call.a1) ≡ Some thread → MadeAfter S e (with_new_thread S (beginning S.store.«module» thread))
+thread_made : (S : State) (e : Entry) (w : Waiting) (f : ℕ) (thread : Thread) → kind_numbered e.call.kind ≡ Some Spawn → e.call ≡ w.call → spawnable S (narrow w.call.a0) ≡ Some f → new_thread S.store.«module» f (narrow w.call.a1) ≡ Some thread → MadeAfter S e (with_new_thread S (waiting_at S.store.«module» thread))
 thread_made S e w f thread kind call found starts = OneMore (record {
   func = f;
   thread = thread;
@@ -80,8 +80,8 @@ thread_made S e w f thread kind call found starts = OneMore (record {
   room = has_room S (narrow w.call.a0) f found;
   found = ap (λ call. handler_at S.store (narrow call.a0)) call ∙ found_at S (narrow w.call.a0) f found;
   starts = ap (λ call. new_thread S.store.«module» f (narrow call.a1)) call ∙ starts;
-  one_more = one_more S.crew.threads (beginning S.store.«module» thread);
-  made = last S.crew.threads (beginning S.store.«module» thread);
+  one_more = one_more S.crew.threads (waiting_at S.store.«module» thread);
+  made = last S.crew.threads (waiting_at S.store.«module» thread);
 })
 
 -- the thread that goes on is another

@@ -23,7 +23,7 @@ use Rattle.call_table.specs.declared.kind.Kind.TheVariants.{Begin, Exit, Note, P
 use Rattle.lib_calls.specs.Answer.{Answer}
 use Rattle.wasm_step.specs.Strand.{new_thread}
 use Rattle.wasm_step.specs.Thread.{Thread}
-use Rattle.guest_process.specs.Answers.{Need, Fixed, Blocked, World, asked, need, handled, handler_given, handles, is_empty, is_holder, is_payload, is_possible, is_due, brings_nothing, takes_datagram, joined, joins, locked, locks, narrow, replied, replies, spawnable, spawned, spawned_at, spawns, unlocked}
+use Rattle.guest_process.specs.Answers.{Need, Fixed, Blocked, World, need_of_world, need, handled, handler_given, handles, is_empty, is_holder, is_payload, is_possible, is_due, brings_nothing, takes_datagram, joined, joins, locked, locks, narrow, replied, replies, spawnable, spawned, spawned_at, spawns, unlocked}
 use Rattle.guest_process.specs.Fits.{EnvFits, StateFits}
 use Rattle.guest_process.specs.Legal.{gives_answer}
 use Rattle.guest_process.specs.Live.{Env, cut_datagram, random_answer, taken_of, world_answer}
@@ -58,7 +58,7 @@ replied_fits S c reply fits = by_test (is_good c S.store.memory)
     by_test true = fits
     by_test false = omega arith
 
-asked_fits : (S : State) (c : Call) → ReplyFits (asked S c)
+asked_fits : (S : State) (c : Call) → ReplyFits (need_of_world S c)
 asked_fits S c = by_test (is_good c S.store.memory)
   where
     by_test : (b : Bool) → ReplyFits (cond b World (Fixed minus_one S))

@@ -16,12 +16,12 @@ use Rattle.signal_points.specs.Signals.{with_handler}
 use Rattle.wasm_step.specs.Strand.{new_thread}
 use Rattle.wasm_step.specs.Thread.{Thread}
 use Rattle.guest_process.specs.Advancing.{acted}
-use Rattle.guest_process.specs.Answers.{Fixed, World, after_need, asked, effects, exited, handled, handler_given, handles, is_holder, joined, joins, locked, locks, narrow, spawnable, spawned, spawned_at, spawns, unlocked, with_answer}
-use Rattle.guest_process.specs.Start.{beginning}
+use Rattle.guest_process.specs.Answers.{Fixed, World, after_need, need_of_world, effects, exited, handled, handler_given, handles, is_holder, joined, joins, locked, locks, narrow, spawnable, spawned, spawned_at, spawns, unlocked, with_answer}
+use Rattle.guest_process.specs.Start.{waiting_at}
 use Rattle.guest_process.specs.State.{State, with_handlers, with_lock, with_new_thread, without_lock}
 
 -- what holds with bad arguments and what holds where the world answers holds after a call that asks the world
-pub asked_has : (Q : State → Type 0) (S : State) (c : Call) (S' : State) → Q S → Q S' → Q (after_need (asked S c) S')
+pub asked_has : (Q : State → Type 0) (S : State) (c : Call) (S' : State) → Q S → Q S' → Q (after_need (need_of_world S c) S')
 asked_has Q S c S' bad good = by_test (is_good c S.store.memory)
   where
     by_test : (b : Bool) → Q (after_need (cond b World (Fixed minus_one S)) S')
@@ -70,7 +70,7 @@ handled_has Q S signal number S' same set = by_given (handler_given S signal num
     by_given None given = same
     by_given (Some h) given = set h given
 
-spawned_has : (Q : State → Type 0) (S : State) (index arg : ℕ) (S' : State) → Q S → ((f : ℕ) → spawnable S index ≡ Some f → (thread : Thread) → new_thread S.store.«module» f arg ≡ Some thread → Q (with_new_thread S (beginning S.store.«module» thread))) → Q (after_need (spawned S index arg) S')
+spawned_has : (Q : State → Type 0) (S : State) (index arg : ℕ) (S' : State) → Q S → ((f : ℕ) → spawnable S index ≡ Some f → (thread : Thread) → new_thread S.store.«module» f arg ≡ Some thread → Q (with_new_thread S (waiting_at S.store.«module» thread))) → Q (after_need (spawned S index arg) S')
 spawned_has Q S index arg S' same made = by_func (spawnable S index) refl
   where
     by_thread : (f : ℕ) → spawnable S index ≡ Some f → (o : Option Thread) → new_thread S.store.«module» f arg ≡ o → Q (after_need (spawns S o) S')
@@ -86,7 +86,7 @@ pub record Cases (Q : State → Type 0) (k : Kind) (S : State) (t : ℕ) (c : Ca
   pub locks : k ≡ Lock → holder_of S.crew (narrow c.a0) ≡ None → Q (with_lock S (narrow c.a0) t)
   pub unlocks : k ≡ Unlock → holder_of S.crew (narrow c.a0) ≡ Some t → Q (without_lock S (narrow c.a0))
   pub handles : k ≡ OnSignal → (h : Option ℕ) → handler_given S (narrow c.a0) (narrow c.a1) ≡ Some h → Q (with_handlers S (with_handler S.handlers (narrow c.a0) h))
-  pub spawns : k ≡ Spawn → (f : ℕ) → spawnable S (narrow c.a0) ≡ Some f → (thread : Thread) → new_thread S.store.«module» f (narrow c.a1) ≡ Some thread → Q (with_new_thread S (beginning S.store.«module» thread))
+  pub spawns : k ≡ Spawn → (f : ℕ) → spawnable S (narrow c.a0) ≡ Some f → (thread : Thread) → new_thread S.store.«module» f (narrow c.a1) ≡ Some thread → Q (with_new_thread S (waiting_at S.store.«module» thread))
 
 -- holds after each answer
 pub effects_has : (Q : State → Type 0) (k : Kind) (S : State) (t : ℕ) (c : Call) (a : Answer) → Cases Q k S t c → Q S → Q (with_answer S c a) → (k ≡ Exit → Q (exited S t c.a0)) → Q (effects k S t c a)

@@ -17,7 +17,7 @@ use Rattle.guest_process.specs.declared.end.End.TheVariants.{Finished}
 use Rattle.guest_process.specs.declared.waiting.Waiting.{Waiting}
 use Rattle.guest_process.specs.Answers.{effects}
 use Rattle.guest_process.specs.EventCount.{BeginsFresh, CountsEvents, IsFresh}
-use Rattle.guest_process.specs.GoesOn.{after_running, budget, counted, handler, stopped, stopped_at_call, with_handler_frame}
+use Rattle.guest_process.specs.GoesOn.{after_running, budget, with_event_counted, handler, stopped, stopped_at_call, with_handler_frame}
 use Rattle.guest_process.specs.Kinds.{ends_process, reply_value}
 use Rattle.guest_process.specs.Legal.{reason_at}
 use Rattle.guest_process.specs.Next.{next_at}
@@ -73,7 +73,7 @@ counts_at S e None h = cc
 counts_at S e (Some w) h =
     let k = w.kind in
     let S' = effects k S e.thread w.call (answer_of e) in
-    event_events (ends_process k) (counted S' e.clock) e.thread (with_handler_frame S'.store.«module» (answered w.strand (reply_value k e.reply)) e.signal (handler S'.handlers e.signal))
+    event_events (ends_process k) (with_event_counted S' e.clock) e.thread (with_handler_frame S'.store.«module» (answered w.strand (reply_value k e.reply)) e.signal (handler S'.handlers e.signal))
     ∙ ap (λ n. n + 1) (answer_events k S e.thread w.call (answer_of e))
 
 pub counts : CountsEvents

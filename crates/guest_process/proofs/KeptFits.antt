@@ -20,11 +20,11 @@ use Rattle.wasm_step.specs.declared.call.CallSite.{CallSite}
 use Rattle.guest_process.specs.declared.waiting.Waiting.{Waiting}
 use Rattle.guest_process.specs.Answers.{need}
 use Rattle.guest_process.specs.Fits.{StateFits, WaitingFits}
-use Rattle.guest_process.specs.GoesOn.{argument, counted as counted_at, stands}
+use Rattle.guest_process.specs.GoesOn.{argument, with_event_counted as counted_at, stands}
 use Rattle.guest_process.specs.Legal.{checks, reason_at}
 use Rattle.guest_process.specs.Next.{next_at}
 use Rattle.guest_process.specs.OneEvent.{IsKept, Rises, RisesTo}
-use Rattle.guest_process.specs.Start.{beginning}
+use Rattle.guest_process.specs.Start.{waiting_at}
 use Rattle.guest_process.specs.State.{State, is_running, thread_at}
 use Rattle.guest_process.proofs.EachKind.{answer_clock}
 use Rattle.guest_process.proofs.Changes.{Affects, event_affects}
@@ -58,7 +58,7 @@ zero_fits : (b : Bool) → IsNumberIf b 0
 zero_fits true = omega arith
 zero_fits false = refl
 
-pub begin_fits : (m : Module) (thread : Thread) → WaitingFits (beginning m thread)
+pub begin_fits : (m : Module) (thread : Thread) → WaitingFits (waiting_at m thread)
 begin_fits m thread = record { kind = numbered Begin; arguments = record { first = zero_fits _; second = zero_fits _; third = zero_fits _ } }
 
 -- what an event of a thread that stands so changes

@@ -28,7 +28,7 @@ use Rattle.guest_process.specs.Legal.{reason_at}
 use Rattle.guest_process.specs.Next.{next, next_at}
 use Rattle.guest_process.specs.OneEvent.{IsKeptSound}
 use Rattle.guest_process.specs.Sound.{IsSound, IsStanding, StandsAtKind}
-use Rattle.guest_process.specs.Start.{beginning}
+use Rattle.guest_process.specs.Start.{waiting_at}
 use Rattle.guest_process.specs.State.{State, is_running, thread_at}
 use Rattle.guest_process.proofs.Changes.{Stand, affected, event_affects, went_on}
 use Rattle.guest_process.proofs.Effects.{effects_has}
@@ -89,7 +89,7 @@ stand_sound m all S thread site kind e h = record {
   stands = stand_at m (stands S thread site kind) site.func kind all refl (slice_get m.imports site.func) refl h;
 }
 
-begin_stands : (m : Module) (thread : Thread) → IsStanding m (beginning m thread)
+begin_stands : (m : Module) (thread : Thread) → IsStanding m (waiting_at m thread)
 begin_stands m thread = record { same_module = refl; stands = refl }
 
 pub handlers_sound : (k : Kind) (S : State) (t : ℕ) (c : Call) (a : Answer) → AreHandlers S.store.«module» S.handlers → AreHandlers S.store.«module» (effects k S t c a).handlers

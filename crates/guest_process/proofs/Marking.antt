@@ -12,7 +12,7 @@ use Rattle.guest_memory.specs.Laws.{FreshIsUnstamped, NoLaterWhenWritten, Stamps
 use Rattle.guest_memory.specs.Memory.{Memory, is_inside, with_bytes}
 use Rattle.guest_memory.specs.Stamps.{AreWithin}
 use Rattle.lib_calls.specs.Answer.{Answer, answer_of}
-use Rattle.lib_calls.specs.Effects.{is_good, minus_two, put_in, received, taken, written as memory_with, sender_of}
+use Rattle.lib_calls.specs.Effects.{is_good, minus_two, put_in, with_received, taken, memory_after_answer as memory_with, sender_of}
 use Rattle.lib_calls.specs.declared.entry.Call.{Call}
 use Rattle.lib_calls.specs.declared.entry.Entry.{Entry}
 use Rattle.wasm_types.specs.Library.{kind_at}
@@ -20,9 +20,9 @@ use Rattle.wasm_types.specs.Modules.{GlobalDef, Module, Segment}
 use Rattle.wasm_types.specs.declared.code.Value.{Value}
 use Rattle.wasm_step.specs.Burst.{burst}
 use Rattle.wasm_step.specs.Laws.{KeepsStamps, TellsMarks}
-use Rattle.wasm_step.specs.Marks.{Marked, MarksFollow, MarksTell, MarksWithin, NothingMarks, WritesMark}
+use Rattle.wasm_step.specs.Marks.{Marked, MarksFollow, StoreMarksTell, MarksWithin, NothingMarks, WritesMark}
 use Rattle.wasm_step.specs.Reduce.{Halt, Calls, Ends, Traps, Sticks}
-use Rattle.wasm_step.specs.Start.{empty_memory, first_min, first_most, first_store, initial, initial_globals, offset_in, put_segments, segments_fit, unset}
+use Rattle.wasm_step.specs.Start.{memory_before_segments, first_min, first_most, first_store, initial, initial_globals, offset_in, put_segments, segments_fit, unset}
 use Rattle.wasm_step.specs.Store.{Store}
 use Rattle.wasm_step.specs.Strand.{answered}
 use Rattle.wasm_step.specs.Suits.{Suits}
@@ -32,7 +32,7 @@ use Rattle.guest_process.specs.declared.end.End.TheVariants.{Finished}
 use Rattle.guest_process.specs.declared.waiting.Waiting.{Waiting}
 use Rattle.guest_process.specs.Answers.{effects}
 use Rattle.guest_process.specs.Fits.{StateFits}
-use Rattle.guest_process.specs.GoesOn.{after_running, budget, counted, handler, runs_on, stopped, stopped_at_call, with_handler_frame}
+use Rattle.guest_process.specs.GoesOn.{after_running, budget, with_event_counted, handler, runs_on, stopped, stopped_at_call, with_handler_frame}
 use Rattle.guest_process.specs.Kinds.{ends_process, reply_value}
 use Rattle.guest_process.specs.Marks.{UnmarkedStays}
 use Rattle.guest_process.specs.Next.{next_at}
@@ -78,7 +78,7 @@ module _ (writes : NoLaterWhenWritten) where
   first_marks unstamped m g h =
       let is = same_Some _ _ (kept (segments_fit m) _ g h).1 in
       subst (λ (g : Store). MarksWithin 0 g) is (record {
-        stamps = (segments_stamps (initial_globals m) m.segments (empty_memory m)).within (unstamped (first_min m.mems) (first_most m.mems));
+        stamps = (segments_stamps (initial_globals m) m.segments (memory_before_segments m)).within (unstamped (first_min m.mems) (first_most m.mems));
         global_stamps = unset_within m.globals;
         size_stamp = omega arith;
         even = unset_even m.globals;
@@ -107,7 +107,7 @@ module _ (laws : MarkLaws) where
   put_marks : (k : Kind) (c : Call) (a : Answer) (g : Store) → Marked g (record g { memory = put_in k c a g.memory })
   put_marks Random c a g = laws.written g c.a0 a.incoming
   put_marks Recv c a g = taken_marks c a.incoming (to_le_bytes w32 (sender_of a.tag)) g
-  put_marks TryRecv c a g = either_marks (a.reply == minus_two) g (received c a g.memory) (taken_marks c a.incoming (to_le_bytes w32 (sender_of a.tag)) g)
+  put_marks TryRecv c a g = either_marks (a.reply == minus_two) g (with_received c a g.memory) (taken_marks c a.incoming (to_le_bytes w32 (sender_of a.tag)) g)
   put_marks _ c a g = laws.nothing g
 
   written_marks : (c : Call) (a : Answer) (g : Store) → Marked g (record g { memory = memory_with c a g.memory })
@@ -155,7 +155,7 @@ module _ (laws : MarkLaws) where
       let after = effects w.kind S e.thread w.call (answer_of e) in
       let ran = runs_on w.kind after e.thread w.strand e.reply e.signal e.clock in
       let thread = with_handler_frame after.store.«module» (answered w.strand (reply_value w.kind e.reply)) e.signal (handler after.handlers e.signal) in
-      laws.follow S.store after.store ran.store (effects_marks w.kind S e.thread w.call (answer_of e)) (event_marks (ends_process w.kind) (counted after e.clock) e.thread thread)
+      laws.follow S.store after.store ran.store (effects_marks w.kind S e.thread w.call (answer_of e)) (event_marks (ends_process w.kind) (with_event_counted after e.clock) e.thread thread)
 
   more_within : (ss : List ℕ) (n m : ℕ) → n ≤ m → AreWithin n ss → AreWithin m ss
   more_within [] n m le w = tt
@@ -180,7 +180,7 @@ module _ (laws : MarkLaws) where
       record { stamps = after.stamps; global_stamps = after.global_stamps; size_stamp = after.size_stamp; even = after.even }
 
   -- the number of the event that writes next is none of what the marks tell
-  renumbered : (number later : ℕ) (old new : Store) → MarksTell number old new → MarksTell number old (record new { memory = record new.memory { number = later } })
+  renumbered : (number later : ℕ) (old new : Store) → StoreMarksTell number old new → StoreMarksTell number old (record new { memory = record new.memory { number = later } })
   renumbered number later old new t = record {
     memory = record {
       grows = t.memory.grows;
@@ -192,14 +192,14 @@ module _ (laws : MarkLaws) where
     size = t.size;
   }
 
-  told_at : (S : State) (e : Entry) (o : Option Waiting) → MarksTell S.store.memory.number S.store (next_at S e o).store
+  told_at : (S : State) (e : Entry) (o : Option Waiting) → StoreMarksTell S.store.memory.number S.store (next_at S e o).store
   told_at S e None = (laws.nothing S.store).told
   told_at S e (Some w) =
       let ran = runs_on w.kind (effects w.kind S e.thread w.call (answer_of e)) e.thread w.strand e.reply e.signal e.clock in
       renumbered S.store.memory.number (ran.events + 1) S.store ran.store (ran_marks S e w).told
 
   pub unmarked : UnmarkedStays
-  unmarked S e s h = subst (λ n. MarksTell n S.store (next_at S e (thread_at S e.thread)).store) s.number (told_at S e (thread_at S e.thread))
+  unmarked S e s h = subst (λ n. StoreMarksTell n S.store (next_at S e (thread_at S e.thread)).store) s.number (told_at S e (thread_at S e.thread))
 
 -- the number of the event that writes is none of what suits a module
 pub numbered_suits : (g : Store) (number : ℕ) → Suits g → Suits (record g { memory = record g.memory { number = number } })

@@ -18,7 +18,7 @@ use Rattle.lib_calls.specs.Effects.{is_good, minus_one, minus_two, outgoing_of, 
 use Rattle.lib_calls.specs.Traffic.{is_taken, takes_as}
 use Rattle.signal_points.specs.Signals.{most_signal}
 use Rattle.guest_process.specs.declared.waiting.Waiting.{Waiting}
-use Rattle.guest_process.specs.Answers.{Need, Fixed, Blocked, World, asked, brings_nothing, effects, is_drawn, is_due, is_empty, is_payload, is_possible, need, takes_datagram}
+use Rattle.guest_process.specs.Answers.{Need, Fixed, Blocked, World, need_of_world, brings_nothing, effects, is_drawn, is_due, is_empty, is_payload, is_possible, need, takes_datagram}
 use Rattle.guest_process.specs.Fits.{StateFits}
 use Rattle.guest_process.specs.GoesOn.{handler}
 use Rattle.guest_process.specs.Kinds.{ends_process}
@@ -113,7 +113,7 @@ record IsBad (a : Answer) : Type 0 where
   reply : a.reply ≡ minus_one
   plain : brings_nothing a.tag a.incoming ≡ true
 
-asked_cases : (S : State) (c : Call) (a : Answer) (possible : Bool) → gives_answer (asked S c) a possible ≡ true → ((is_good c S.store.memory ≡ true) × (possible ≡ true)) ⊎ IsBad a
+asked_cases : (S : State) (c : Call) (a : Answer) (possible : Bool) → gives_answer (need_of_world S c) a possible ≡ true → ((is_good c S.store.memory ≡ true) × (possible ≡ true)) ⊎ IsBad a
 asked_cases S c a possible h = by_test (is_good c S.store.memory) h
   where
     by_test : (b : Bool) → gives_answer (cond b World (Fixed minus_one S)) a possible ≡ true → ((b ≡ true) × (possible ≡ true)) ⊎ IsBad a
@@ -122,7 +122,7 @@ asked_cases S c a possible h = by_test (is_good c S.store.memory) h
         let parts = and_parts (a.reply == minus_one) (brings_nothing a.tag a.incoming) h in
         inr (record { reply = eqb-true a.reply minus_one parts.0; plain = parts.1 })
 
-random_brought : (S : State) (c : Call) (e : Entry) → kind_numbered c.kind ≡ Some Random → gives_answer (asked S c) (answer_of e) (is_drawn c (answer_of e)) ≡ true → HasBrought S Random e
+random_brought : (S : State) (c : Call) (e : Entry) → kind_numbered c.kind ≡ Some Random → gives_answer (need_of_world S c) (answer_of e) (is_drawn c (answer_of e)) ≡ true → HasBrought S Random e
 random_brought S c e is h = elim (asked_cases S c (answer_of e) (is_drawn c (answer_of e)) h) [
   | inl good ↦
       let parts = and_parts (e.reply == c.a1) (length e.incoming == c.a1 && not (is_some e.tag)) good.1 in
@@ -131,7 +131,7 @@ random_brought S c e is h = elim (asked_cases S c (answer_of e) (is_drawn c (ans
   | inr bad ↦ nothing S Random e bad.plain refl
 ]
 
-recv_brought : (S : State) (c : Call) (e : Entry) → kind_numbered c.kind ≡ Some Recv → gives_answer (asked S c) (answer_of e) (takes_datagram S.count c (answer_of e)) ≡ true → HasBrought S Recv e
+recv_brought : (S : State) (c : Call) (e : Entry) → kind_numbered c.kind ≡ Some Recv → gives_answer (need_of_world S c) (answer_of e) (takes_datagram S.count c (answer_of e)) ≡ true → HasBrought S Recv e
 recv_brought S c e is h = elim (asked_cases S c (answer_of e) (takes_datagram S.count c (answer_of e)) h) [
   | inl good ↦ datagram S Recv c e (recv_short S c is good.0) (not_minus_one e.reply) good.1
   | inr bad ↦ nothing S Recv e bad.plain (ap (λ reply. not (reply == minus_one)) bad.reply)
@@ -140,7 +140,7 @@ recv_brought S c e is h = elim (asked_cases S c (answer_of e) (takes_datagram S.
 try_taken : (e : Entry) → e.reply ≤ 60000 → takes_as (Some TryRecv) e ≡ true
 try_taken e low = rw (not_minus_one e.reply low, not_minus_two e.reply low) refl
 
-try_recv_brought : (S : State) (c : Call) (e : Entry) → kind_numbered c.kind ≡ Some TryRecv → gives_answer (asked S c) (answer_of e) (takes_datagram S.count c (answer_of e) || is_empty (answer_of e)) ≡ true → HasBrought S TryRecv e
+try_recv_brought : (S : State) (c : Call) (e : Entry) → kind_numbered c.kind ≡ Some TryRecv → gives_answer (need_of_world S c) (answer_of e) (takes_datagram S.count c (answer_of e) || is_empty (answer_of e)) ≡ true → HasBrought S TryRecv e
 try_recv_brought S c e is h = elim (asked_cases S c (answer_of e) (takes_datagram S.count c (answer_of e) || is_empty (answer_of e)) h) [
   | inl good ↦ elim (or_cases (takes_datagram S.count c (answer_of e)) (is_empty (answer_of e)) good.1) [
     | inl taken ↦ datagram S TryRecv c e (try_recv_short S c is good.0) (try_taken e) taken

@@ -7,7 +7,7 @@ use Rattle.guest_memory.specs.Laws.{FreshIsUnstamped, NoLaterWhenWritten}
 use Rattle.wasm_types.specs.Modules.{Module, module_of}
 use Rattle.wasm_types.specs.Library.{IsOfLibrary}
 use Rattle.wasm_types.specs.Valid.{IsValid}
-use Rattle.wasm_step.specs.Start.{first_store, empty_memory, empty_table, initial_globals, is_elem_inside, is_segment_inside}
+use Rattle.wasm_step.specs.Start.{first_store, memory_before_segments, empty_table, initial_globals, is_elem_inside, is_segment_inside}
 use Rattle.wasm_step.specs.Store.{Store}
 use Rattle.wasm_step.specs.Strand.{first_thread}
 use Rattle.wasm_step.specs.Suits.{Suits}
@@ -17,7 +17,7 @@ use Rattle.guest_process.specs.GoesOn.{handler}
 use Rattle.guest_process.specs.Fits.{StateFits}
 use Rattle.guest_process.specs.Seen.{IsOfModule, state_of}
 use Rattle.guest_process.specs.Sound.{IsSound, IsStanding}
-use Rattle.guest_process.specs.Start.{beginning, begun, begun_with}
+use Rattle.guest_process.specs.Start.{waiting_at, begun, begun_with}
 use Rattle.guest_process.specs.declared.parts.Parts.{Parts}
 use Rattle.guest_process.specs.OneEvent.{IsStarted}
 use Rattle.guest_process.proofs.Failing.{kept}
@@ -28,7 +28,7 @@ store_module : (m : Module) (g : Store) → first_store m ≡ Some g → g.«mod
 store_module m g h =
     let globals = initial_globals m in
     let table = empty_table m in
-    let memory = empty_memory m in
+    let memory = memory_before_segments m in
     let inside = list_all (is_elem_inside globals (length table)) m.elems && list_all (is_segment_inside globals memory) m.segments in
     ap (λ g. g.«module») (sym (same_Some _ _ (kept inside _ g h).1))
 
@@ -51,7 +51,7 @@ begun_holds : NoLaterWhenWritten → FreshIsUnstamped → (m : Module) (who coun
 begun_holds writes unstamped m who count g thread low few store valid =
     let same : g.«module» ≡ m = store_module m g store in
     let marks = first_marks writes unstamped m g store in
-    let begin_stands : IsStanding g.«module» (beginning m thread) = record { same_module = sym same; stands = refl } in (
+    let begin_stands : IsStanding g.«module» (waiting_at m thread) = record { same_module = sym same; stands = refl } in (
       record { clock = omega arith; room = omega arith; count = few; who = low; threads = (begin_fits m thread, tt); number = refl; stamps = marks.stamps; global_stamps = marks.global_stamps; size_stamp = marks.size_stamp; even = marks.even },
       record {
         imports = subst (λ m. All (IsOfLibrary m.types) m.imports) (sym same) valid.imports;

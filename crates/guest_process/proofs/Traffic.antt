@@ -11,7 +11,7 @@ use Rattle.lib_calls.specs.Answer.{Answer, answer_of}
 use Rattle.lib_calls.specs.Effects.{is_good, minus_one, minus_two, takes_counted}
 use Rattle.lib_calls.specs.Traffic.{drawn, draws_as, is_sent, is_taken, sends_as, takes_as}
 use Rattle.guest_process.specs.declared.waiting.Waiting.{Waiting}
-use Rattle.guest_process.specs.Answers.{Fixed, World, asked, brings_nothing, is_drawn, is_empty, is_payload, is_possible, need, replied, takes_datagram}
+use Rattle.guest_process.specs.Answers.{Fixed, World, need_of_world, brings_nothing, is_drawn, is_empty, is_payload, is_possible, need, replied, takes_datagram}
 use Rattle.guest_process.specs.Fits.{StateFits}
 use Rattle.guest_process.specs.Legal.{checks, gives_answer, reason_at}
 use Rattle.guest_process.specs.Numbers.{CallsWell, HasTraffic, LegalTraffic}
@@ -35,7 +35,7 @@ replied_well S c a possible short h = by_test (is_good c S.store.memory) short h
     by_test false short h =
         ap (λ reply. not (reply == minus_one)) (eqb-true a.reply minus_one (and_parts (a.reply == minus_one) (brings_nothing a.tag a.incoming) h).0)
 
-asked_well : (S : State) (c : Call) (a : Answer) (possible : Bool) → (is_good c S.store.memory ≡ true → possible ≡ true → not (a.reply == minus_one) ≡ true) → gives_answer (asked S c) a possible ≡ true
+asked_well : (S : State) (c : Call) (a : Answer) (possible : Bool) → (is_good c S.store.memory ≡ true → possible ≡ true → not (a.reply == minus_one) ≡ true) → gives_answer (need_of_world S c) a possible ≡ true
     → AnsweredWell S c a
 asked_well S c a possible well h = by_test (is_good c S.store.memory) well h
   where

@@ -9,12 +9,12 @@ use Rattle.guest_memory.specs.Memory.{Memory, is_inside}
 use Rattle.lamport_tag.specs.declared.Tag.{Tag}
 use Rattle.lib_calls.specs.declared.entry.Call.{Call}
 use Rattle.lib_calls.specs.Answer.{Answer}
-use Rattle.lib_calls.specs.Effects.{brings, has_good, is_answer, is_good, is_range, minus_one, minus_two, put_in, received, takes_counted, takes_nothing, written as memory_with}
+use Rattle.lib_calls.specs.Effects.{brings, has_good, is_answer, is_good, is_range, minus_one, minus_two, put_in, with_received, takes_counted, takes_nothing, memory_after_answer as memory_with}
 use Rattle.guest_process.specs.Advancing.{acted}
-use Rattle.guest_process.specs.Answers.{Need, Fixed, World, after_need, asked, effects, handled, is_drawn, is_empty, is_payload, brings_nothing, is_possible, takes_datagram, locked, narrow, need, spawned, unlocked, with_answer}
+use Rattle.guest_process.specs.Answers.{Need, Fixed, World, after_need, need_of_world, effects, handled, is_drawn, is_empty, is_payload, brings_nothing, is_possible, takes_datagram, locked, narrow, need, spawned, unlocked, with_answer}
 use Rattle.guest_process.specs.Kinds.{ends_process}
 use Rattle.guest_process.specs.Legal.{gives_answer}
-use Rattle.guest_process.specs.Live.{given}
+use Rattle.guest_process.specs.Live.{with_given}
 use Rattle.guest_process.specs.State.{State, with_memory}
 use Rattle.guest_process.proofs.Effects.{effects_has}
 
@@ -25,7 +25,7 @@ unfolding is_good
 good_is k c memory e = rw e refl
 
 -- the world answers good arguments alone
-pub asked_good : (S : State) (c : Call) → asked S c ≡ World → is_good c S.store.memory ≡ true
+pub asked_good : (S : State) (c : Call) → need_of_world S c ≡ World → is_good c S.store.memory ≡ true
 asked_good S c h = by_test (is_good c S.store.memory) h
   where
     by_test : (b : Bool) → cond b World (Fixed minus_one S) ≡ World → b ≡ true
@@ -73,7 +73,7 @@ plain_written k S c a e same = by_test (is_good c S.store.memory) refl
 pub exit_written : (S : State) (c : Call) (a : Answer) → kind_numbered c.kind ≡ Some Exit → with_answer S c a ≡ S
 exit_written S c a e = plain_written Exit S c a e refl
 
-asked_written : (S : State) (c : Call) (a : Answer) → after_need (asked S c) (with_answer S c a) ≡ with_answer S c a
+asked_written : (S : State) (c : Call) (a : Answer) → after_need (need_of_world S c) (with_answer S c a) ≡ with_answer S c a
 asked_written S c a = by_test (is_good c S.store.memory) refl
   where
     by_test : (b : Bool) → is_good c S.store.memory ≡ b → after_need (cond b World (Fixed minus_one S)) (with_answer S c a) ≡ with_answer S c a
@@ -113,11 +113,11 @@ where_none S true memory = refl
 where_none S false memory = refl
 
 -- where the world answers, what its answer does is what can be told from the answer alone
-pub given_written : (k : Kind) (S : State) (t : ℕ) (c : Call) (a : Answer) → kind_numbered c.kind ≡ Some k → need k S t c ≡ World → with_answer S c a ≡ given k S c a
+pub given_written : (k : Kind) (S : State) (t : ℕ) (c : Call) (a : Answer) → kind_numbered c.kind ≡ Some k → need k S t c ≡ World → with_answer S c a ≡ with_given k S c a
 given_written Random S t c a e w = good_written Random S c a e (asked_good S c w)
 given_written Recv S t c a e w = good_written Recv S c a e (asked_good S c w)
 given_written TryRecv S t c a e w =
-    good_written TryRecv S c a e (asked_good S c w) ∙ where_none S (a.reply == minus_two) (received c a S.store.memory)
+    good_written TryRecv S c a e (asked_good S c w) ∙ where_none S (a.reply == minus_two) (with_received c a S.store.memory)
 given_written k S t c a e w = plain_written k S c a e refl
 
 -- an answer by the count of bytes is neither -1 nor -2
@@ -156,7 +156,7 @@ tried_counted count c a h = elim (or_cases (takes_datagram count c a) (is_empty 
   | inr empty ↦ or_right (takes_counted c a) (takes_nothing minus_two a) (plain_nothing minus_two a empty)
 ]
 
-asked_brings : (S : State) (c : Call) (a : Answer) (good possible counted : Bool) → is_good c S.store.memory ≡ good → (possible ≡ true → counted ≡ true) → gives_answer (asked S c) a possible ≡ true → cond good counted (takes_nothing minus_one a) ≡ true
+asked_brings : (S : State) (c : Call) (a : Answer) (good possible counted : Bool) → is_good c S.store.memory ≡ good → (possible ≡ true → counted ≡ true) → gives_answer (need_of_world S c) a possible ≡ true → cond good counted (takes_nothing minus_one a) ≡ true
 asked_brings S c a good possible counted e counts h = by_tests (is_good c S.store.memory) good e h
   where
     by_tests : (b good : Bool) → b ≡ good → gives_answer (cond b World (Fixed minus_one S)) a possible ≡ true → cond good counted (takes_nothing minus_one a) ≡ true

@@ -14,13 +14,13 @@ use Rattle.lamport_tag.specs.declared.Tag.{Tag}
 use Rattle.lamport_tag.specs.Tag.{is_sendable, tag_at}
 use Rattle.lib_calls.specs.declared.entry.Call.{Call}
 use Rattle.lib_calls.specs.Answer.{Answer}
-use Rattle.lib_calls.specs.Effects.{is_good, minus_one, minus_two, takes_counted, written as memory_with}
+use Rattle.lib_calls.specs.Effects.{is_good, minus_one, minus_two, takes_counted, memory_after_answer as memory_with}
 use Rattle.signal_points.specs.Signals.{is_signal, with_handler}
 use Rattle.wasm_step.specs.Store.{Store, handler_at}
 use Rattle.wasm_step.specs.Strand.{new_thread}
 use Rattle.wasm_step.specs.Thread as stack
 use Rattle.guest_process.specs.declared.end.End.TheVariants.{Exited}
-use Rattle.guest_process.specs.Start.{beginning}
+use Rattle.guest_process.specs.Start.{waiting_at}
 use Rattle.guest_process.specs.State.{State, with_handlers, with_lock, with_memory, with_new_thread, with_thread, without_lock}
 
 -- a reply alone
@@ -43,8 +43,8 @@ abbrev pub replied : State → Call → ℕ → Need
 replied S c reply = Fixed (if is_good c S.store.memory then reply else minus_one) S
 
 -- the world answers where the call's arguments are good, and else the process does, with -1
-abbrev pub asked : State → Call → Need
-asked S c = if is_good c S.store.memory then World else Fixed minus_one S
+abbrev pub need_of_world : State → Call → Need
+need_of_world S c = if is_good c S.store.memory then World else Fixed minus_one S
 
 -- ---- threads and locks
 
@@ -112,7 +112,7 @@ spawnable S index = if nat_lt (length S.crew.threads) most_threads then handler_
 -- the thread is made, which is the next in number; a function that was found has its code, so that there is one
 abbrev pub spawns : State → Option stack.Thread → Need
 spawns S None = Fixed minus_one S
-spawns S (Some thread) = Fixed (length S.crew.threads) (with_new_thread S (beginning S.store.«module» thread))
+spawns S (Some thread) = Fixed (length S.crew.threads) (with_new_thread S (waiting_at S.store.«module» thread))
 
 abbrev pub spawned_at : State → ℕ → Option ℕ → Need
 spawned_at S arg None = Fixed minus_one S
@@ -130,11 +130,11 @@ need Note S t c = Fixed 0 S
 need Print S t c = replied S c c.a1
 need Now S t c = World
 need SleepUntil S t c = World
-need Random S t c = asked S c
+need Random S t c = need_of_world S c
 need Me S t c = Fixed S.who S
 need Send S t c = replied S c c.a2
-need Recv S t c = asked S c
-need TryRecv S t c = asked S c
+need Recv S t c = need_of_world S c
+need TryRecv S t c = need_of_world S c
 need Spawn S t c = spawned S (narrow c.a0) (narrow c.a1)
 need Yield S t c = Fixed 0 S
 need Join S t c = joined S t (narrow c.a0)

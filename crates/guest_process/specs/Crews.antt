@@ -12,7 +12,7 @@ use Rattle.guest_process.specs.Answers.{narrow}
 use Rattle.guest_process.specs.Fits.{StateFits}
 use Rattle.guest_process.specs.Legal.{reason}
 use Rattle.guest_process.specs.Next.{next}
-use Rattle.guest_process.specs.Start.{beginning}
+use Rattle.guest_process.specs.Start.{waiting_at}
 use Rattle.guest_process.specs.State.{State}
 
 -- an event of one thread leaves each other one that was made where it stands or ended
@@ -29,7 +29,7 @@ pub record Spawns (S : State) (e : Entry) (S' : State) : Type 0 where
   pub found : handler_at S.store (narrow e.call.a0) ≡ Some func
   pub starts : new_thread S.store.«module» func (narrow e.call.a1) ≡ Some thread
   pub one_more : length S'.crew.threads ≡ length S.crew.threads + 1
-  pub made : slice_get S'.crew.threads (length S.crew.threads) ≡ Some (Kept (beginning S.store.«module» thread))
+  pub made : slice_get S'.crew.threads (length S.crew.threads) ≡ Some (Kept (waiting_at S.store.«module» thread))
 
 -- what an event does to the number of threads
 pub data MadeAfter (S : State) (e : Entry) (S' : State) : Type 0 where

@@ -69,8 +69,8 @@ stopped S t Ends = finished_if_over (with_thread S t Over)
 stopped S t (Traps trap) = trapped S t trap
 stopped S t Sticks = trapped S t Unreachable
 
-abbrev pub after_burst : State → ℕ → BurstResult → State
-after_burst S t run = stopped (record S { store = run.store }) t run.stop
+abbrev pub process_after_burst : State → ℕ → BurstResult → State
+process_after_burst S t run = stopped (record S { store = run.store }) t run.stop
 
 -- ---- the whole
 
@@ -90,17 +90,17 @@ with_handler_frame m strand signal (Some func) = if_in (handling m strand.thread
 
 abbrev pub after_running : State → ℕ → Option Thread → State
 after_running S t None = trapped S t Exhausted
-after_running S t (Some thread) = after_burst S t (burst budget thread S.store)
+after_running S t (Some thread) = process_after_burst S t (burst budget thread S.store)
 
-abbrev pub counted : State → ℕ → State
-counted S clock = record S { clock = clock; events = S.events + 1 }
+abbrev pub with_event_counted : State → ℕ → State
+with_event_counted S clock = record S { clock = clock; events = S.events + 1 }
 
 -- the reply's value goes on the operand stack, then a signal's handler is entered, then the thread runs
 abbrev pub runs_on : Kind → State → ℕ → Strand → ℕ → ℕ → ℕ → State
 runs_on kind S t strand reply signal clock =
     if ends_process kind
-    then counted S clock
-    else after_running (counted S clock) t (with_handler_frame S.store.«module» (answered strand (reply_value kind reply)) signal (handler S.handlers signal))
+    then with_event_counted S clock
+    else after_running (with_event_counted S clock) t (with_handler_frame S.store.«module» (answered strand (reply_value kind reply)) signal (handler S.handlers signal))
 
 -- and the event is over
 abbrev pub goes_on : Kind → State → ℕ → Strand → ℕ → ℕ → ℕ → State

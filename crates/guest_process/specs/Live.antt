@@ -7,7 +7,7 @@ use Rattle.lamport_tag.specs.Tag.{next_clock_of, read_datagram}
 use Rattle.lib_calls.specs.declared.entry.Call.{Call}
 use Rattle.lib_calls.specs.declared.entry.Entry.{Entry}
 use Rattle.lib_calls.specs.Answer.{Answer}
-use Rattle.lib_calls.specs.Effects.{with_incoming, minus_two, outgoing_of, received}
+use Rattle.lib_calls.specs.Effects.{with_incoming, minus_two, outgoing_of, with_received}
 use Rattle.signal_points.specs.Signals.{most_signal}
 use Rattle.guest_process.specs.declared.waiting.Waiting.{Waiting}
 use Rattle.guest_process.specs.Answers.{Need, Fixed, Blocked, World, need, replies, is_due}
@@ -62,11 +62,11 @@ world_answer _ c count env = None
 
 -- after the world's answer to a call of this kind what came in, and the sender of a datagram, stand where the call
 -- named them; -2 tells that there was no datagram
-abbrev pub given : Kind → State → Call → Answer → State
-given Random S c a = with_memory S (with_incoming c a S.store.memory)
-given Recv S c a = with_memory S (received c a S.store.memory)
-given TryRecv S c a = if a.reply == minus_two then S else with_memory S (received c a S.store.memory)
-given _ S c a = S
+abbrev pub with_given : Kind → State → Call → Answer → State
+with_given Random S c a = with_memory S (with_incoming c a S.store.memory)
+with_given Recv S c a = with_memory S (with_received c a S.store.memory)
+with_given TryRecv S c a = if a.reply == minus_two then S else with_memory S (with_received c a S.store.memory)
+with_given _ S c a = S
 
 -- an answer, and the state with its effects
 pub record Answered : Type 0 where
@@ -74,7 +74,7 @@ pub record Answered : Type 0 where
   pub after : State
 
 abbrev pub as_given : Kind → State → Call → Answer → Answered
-as_given kind S c a = record { answer = a; after = given kind S c a }
+as_given kind S c a = record { answer = a; after = with_given kind S c a }
 
 -- what the world gives, where it gives it now
 abbrev pub from_world : Kind → State → Call → Env → Option Answered

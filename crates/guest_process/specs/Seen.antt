@@ -48,6 +48,6 @@ answered_at S t a None = S
 answered_at S t a (Some w) = effects w.kind S t w.call a
 
 -- why an entry was refused, or nothing where it was not
-abbrev pub refused : Result ⊤ Divergence → Option Divergence
-refused (Ok _) = None
-refused (Err why) = Some why
+abbrev pub refused_for : Result ⊤ Divergence → Option Divergence
+refused_for (Ok _) = None
+refused_for (Err why) = Some why

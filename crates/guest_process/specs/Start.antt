@@ -23,8 +23,8 @@ abbrev pub waits : Strand → Waiting
 waits strand = record { kind = Begin; call = begin; strand = strand }
 
 -- a thread of the module that stands there
-abbrev pub beginning : Module → Thread → Waiting
-beginning m thread = waits (record { «module» = m; thread = thread; call = None })
+abbrev pub waiting_at : Module → Thread → Waiting
+waiting_at m thread = waits (record { «module» = m; thread = thread; call = None })
 
 -- thread 0 stands at `begin`, and nothing has happened
 abbrev pub begun : Module → ℕ → ℕ → Store → Thread → State
@@ -32,7 +32,7 @@ begun m who count store thread = awaits_event (record {
   who = who;
   count = count;
   store = store;
-  crew = with_live empty (beginning m thread);
+  crew = with_live empty (waiting_at m thread);
   handlers = no_handlers;
   clock = 0;
   events = 0;

@@ -10,7 +10,7 @@ ghost use Rattle.wasm_step.specs.Suits.{Suits};
 ghost use Rattle.wasm_step.specs.Strand.{IsHandler};
 ghost use Rattle.guest_process.specs.Advancing.{acted_by, gone_on};
 ghost use Rattle.guest_process.specs.Answers.{with_answer};
-ghost use Rattle.guest_process.specs.GoesOn.{after_burst, budget, handler as handler_of};
+ghost use Rattle.guest_process.specs.GoesOn.{process_after_burst, budget, handler as handler_of};
 ghost use Rattle.guest_process.specs.Legal.{reason};
 ghost use Rattle.guest_process.specs.Next.{next};
 ghost use Rattle.guest_process.specs.Seen.{IsOfModule, state_of};
@@ -140,7 +140,7 @@ impl<'m> Parts<'m> {
         requires suits { Suits self.old.store }
         requires same { strand.«module» ≡ self.old.store.«module» }
         requires runs { strand.call ≡ None }
-        ensures state { OnOk result (state_of self.new ≡ after_burst (state_of self.old) thread (burst budget strand.entry.thread self.old.store)) }
+        ensures state { OnOk result (state_of self.new ≡ process_after_burst (state_of self.old) thread (burst budget strand.entry.thread self.old.store)) }
         ensures same_module { OnOk result (self.new.«module» ≡ self.old.«module») }
         ensures suits { OnOk result (Suits self.new.store) }
     {

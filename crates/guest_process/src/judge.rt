@@ -2,10 +2,10 @@
 ghost use Rattle.std.specs.Prelude.{◌≡◌, ℕ};
 ghost use Rattle.lib_calls.specs.Answer.{Answer, answer_of};
 ghost use Rattle.lib_calls.specs.Entry.{entry_of};
-ghost use Rattle.guest_process.specs.Answers.{asked, effects, is_possible, need, replied};
+ghost use Rattle.guest_process.specs.Answers.{need_of_world, effects, is_possible, need, replied};
 ghost use Rattle.guest_process.specs.Kinds.{ends_process};
 ghost use Rattle.guest_process.specs.Legal.{checks, first_failing, is_handled, same_arguments};
-ghost use Rattle.guest_process.specs.Seen.{plain, refused, state_of};
+ghost use Rattle.guest_process.specs.Seen.{plain, refused_for, state_of};
 
 use crate::answer::{handler, is_due};
 use crate::divergence::Divergence;
@@ -52,7 +52,7 @@ impl<'m> Parts<'m> {
 
     // What the answer depends on to a call that the world answers where its arguments are good.
     fn asked(&self, call: &Call) -> Need
-        ensures { result ≡ plain (asked (state_of self.now) call.now) }
+        ensures { result ≡ plain (need_of_world (state_of self.now) call.now) }
     {
         if good_arguments(call, self.store.memory()) {
             Need::World
@@ -67,7 +67,7 @@ impl<'m> Parts<'m> {
         entry: &EntryView<'_>,
         waiting: &Waiting<'m>,
     ) -> Result<(), Divergence>
-        ensures { refused result ≡ first_failing (checks (state_of self.now) (entry_of entry.now) waiting.now) }
+        ensures { refused_for result ≡ first_failing (checks (state_of self.now) (entry_of entry.now) waiting.now) }
     {
         if entry.call.kind != waiting.call.kind {
             return Err(Divergence::OtherCall);

@@ -65,7 +65,7 @@ pub fn lock_kept()
 
 /// How a process of a valid module begins is in the ranges on which the law over one event rests, and
 /// its threads and handlers are the module's. A legal event keeps both.
-pub fn kept()
+pub fn states_fit()
     ensures started { IsStarted }
     ensures ranges { IsKept }
     ensures sound { IsKeptSound }

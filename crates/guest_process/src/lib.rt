@@ -5,7 +5,7 @@
 //! on (`specs/Answers`), `legal` whether an entry can be the next event, or the first condition that fails (`specs/Legal`), and
 //! `advance` gives the state after it (`specs/Next`). Which event the world lets a process have is a definition of its own
 //! (`live` of `specs/Live`). The laws `one_event` and `possible` say that these events are the legal ones and that `next` makes
-//! their states. The other laws say what holds of each state (`kept`) and what each event changes, as that the clock rises
+//! their states. The other laws say what holds of each state (`states_fit`) and what each event changes, as that the clock rises
 //! (`rises`) and that a lock has one holder (`lock_kept`).
 #![tactic(auto)]
 
@@ -33,7 +33,7 @@ pub use divergence::Divergence;
 pub use end::End;
 pub use judge::ends_process;
 pub use laws::{
-    kept, legal_numbers, legal_traffic, lock_kept, one_event, others_stay, possible, rises,
+    legal_numbers, legal_traffic, lock_kept, one_event, others_stay, possible, rises, states_fit,
     unmarked_stays,
 };
 pub use need::Need;

@@ -13,7 +13,7 @@ ghost use Rattle.guest_process.specs.Fits.{StateFits};
 ghost use Rattle.guest_process.specs.GoesOn.{handler as handler_of};
 ghost use Rattle.guest_process.specs.Legal.{reason};
 ghost use Rattle.guest_process.specs.Next.{next};
-ghost use Rattle.guest_process.specs.Seen.{able, answered_at, plain, refused};
+ghost use Rattle.guest_process.specs.Seen.{able, answered_at, plain, refused_for};
 ghost use Rattle.guest_process.specs.Start.{start};
 ghost use Rattle.guest_process.specs.State.{thread_at};
 
@@ -133,7 +133,7 @@ impl<'m> Process<'m> {
     /// the order of `Divergence`. It takes no memory.
     #[inline(never)]
     pub fn legal(&self, entry: &EntryView<'_>) -> Result<(), Divergence>
-        ensures { refused result ≡ reason self.now (entry_of entry.now) }
+        ensures { refused_for result ≡ reason self.now (entry_of entry.now) }
     {
         if !self.parts.is_running() {
             return Err(Divergence::AfterEnd);

@@ -10,24 +10,24 @@ use Rattle.wasm_decode.specs.Sections.{module_of_bytes}
 use Rattle.schedule_text.specs.declared.item.Item.{Item}
 use Rattle.schedule_text.specs.declared.process.ProcessLine.{ProcessLine}
 use Rattle.schedule_text.specs.Laws.{GivesSchedules}
-use Rattle.schedule_text.specs.Reading.{Refusal as ScheduleRefusal, BadLineAt, TooManyRuns, schedule_of}
+use Rattle.schedule_text.specs.Reading.{ScheduleRefusal, BadLineAt, TooManyRuns, schedule_of}
 use Rattle.schedule_text.specs.Schedule.{IsInRange, IsWellFormed, Schedule}
 use Rattle.guest_process.specs.Start.{start}
 use Rattle.guest_process.specs.State.{State}
 use Rattle.group_record.specs.Answer.{first_states_from, group_of, with_first_state}
 use Rattle.group_record.specs.Laws.{Beginning, IsBegun}
 use Rattle.group_record.specs.Logs.{TellsBefore, log_name}
-use Rattle.group_record.specs.Run.{Group, Step, head_of_log, log_of, name_of, size}
+use Rattle.group_record.specs.Run.{GroupStart, Step, head_of_log, log_of, name_of_process, size}
 use Rattle.command_run.specs.Inputs.{module_in, spelled_module, valid_module}
 use Rattle.command_run.specs.Laws.{ReadsModules}
 use Rattle.command_run.specs.Limits.{most_module}
-use Rattle.command_run.specs.Outcome.{Stop, and_then, bytes_or_stop, file_of}
+use Rattle.command_run.specs.Outcome.{CommandStop, and_then, bytes_or_stop, file_of}
 use Rattle.command_run.specs.OutcomeLaws.{follows, same_Ok, value_or}
 use Rattle.log_pairs.specs.Valid.{GoTogether}
 use Rattle.record_command.specs.Agreement.{IsRecordable, group_in}
 use Rattle.record_command.specs.Expected.{module_name, modules_of, schedule_in, schedule_or_refusal}
 use Rattle.schedule_text.specs.Limits.{most_schedule}
-use Rattle.headline.specs.Headline.{HoldsProcess, pair_of_process}
+use Rattle.headline.specs.Headline.{HoldsProcess, files_of_process}
 use Rattle.headline.proofs.Loading.{PairStands, log_stands}
 use Rattle.headline.proofs.Showing.{replay_of}
 
@@ -68,7 +68,7 @@ are_modules reads folder (line ∷ lines) ms is =
     })
 
 -- the group has begun, and the items are in range for it
-pub record HasBegun (group : Group) (items : List Item) : Type 0 where
+pub record HasBegun (group : GroupStart) (items : List Item) : Type 0 where
   pub begun : IsBegun group
   pub fits : All (IsInRange (size group)) items
 
@@ -143,21 +143,21 @@ begins_in {folder} r p S at =
 
 -- ---- its pair, in a folder that holds it
 
-abbrev module_by : List ℕ → Option (List ℕ) → Result Module Stop
+abbrev module_by : List ℕ → Option (List ℕ) → Result Module CommandStop
 module_by name held = and_then (bytes_or_stop name (found_within most_module held)) (λ bytes. and_then (spelled_module name (module_of_bytes bytes)) (valid_module name))
 
 same_module : (before folder : Folder) (name : List ℕ) → get folder name ≡ get before name → module_in folder name ≡ module_in before name
 same_module before folder name same = ap (module_by name) same
 
 pub pair_stands : ReadsModules → {before : Folder} {name : List ℕ} (r : IsRecordable before name) (steps : List Step) (cut : ℕ → List ℕ) (folder : Folder) (p : ℕ) → HoldsProcess r steps cut folder p
-    → (t : TellsBefore (group_in r) steps p (cut p)) → PairStands folder (pair_of_process r.schedule p) (replay_of (group_in r) steps cut p t)
+    → (t : TellsBefore (group_in r) steps p (cut p)) → PairStands folder (files_of_process r.schedule p) (replay_of (group_in r) steps cut p t)
 pair_stands reads {before} r steps cut folder p holds t =
     let b = begins_in r p t.first t.begun in
     record {
       «module» = b.«module»;
       reads = same_module before folder (module_name r.schedule p) holds.«module» ∙ b.reads;
       begins = b.begins;
-      log = log_stands reads folder (log_name (name_of (group_in r) p)) (log_of (group_in r) steps p ++ cut p) (head_of_log (group_in r) p) t.left holds.log t.within t.head;
+      log = log_stands reads folder (log_name (name_of_process (group_in r) p)) (log_of (group_in r) steps p ++ cut p) (head_of_log (group_in r) p) t.left holds.log t.within t.head;
     }
 
 -- ---- the heads go together
@@ -193,6 +193,6 @@ together schedule first formed p q below also apart = record {
   count : length schedule.processes ≡ size (group_of schedule first)
   count = group_size schedule first
 
-  by_order : (p < q) ⊎ (q < p) → name_of (group_of schedule first) p ≢ name_of (group_of schedule first) q
+  by_order : (p < q) ⊎ (q < p) → name_of_process (group_of schedule first) p ≢ name_of_process (group_of schedule first) q
   by_order (inl less) same = names_differ schedule.processes formed.names p q less (omega (arith, also, count)) same
   by_order (inr more) same = names_differ schedule.processes formed.names q p more (omega (arith, below, count)) (sym same)

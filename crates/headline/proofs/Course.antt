@@ -5,7 +5,7 @@ use Rattle.std.proofs.lemmas.Option.{same_Some}
 use Rattle.lib_calls.specs.declared.entry.Entry.{Entry}
 use Rattle.group_world.specs.History.{Act, put_last_if}
 use Rattle.group_world.specs.History as world
-use Rattle.group_record.specs.Run.{Group, Had, Did, Step, entries, process_states}
+use Rattle.group_record.specs.Run.{GroupStart, Had, Did, Step, entries, process_states}
 use Rattle.group_record.specs.Standing.{IsRun}
 
 -- ---- lists that grow at their end
@@ -31,7 +31,7 @@ put_both : {A B : Type 0} (b : Bool) (xs : List A) (ys : List B) (x : A) (y : B)
 put_both true xs ys x y same = omega (arith, same, length-append xs (x ∷ []), length-append ys (y ∷ []))
 put_both false xs ys x y same = same
 
-pub states_count : (group : Group) (steps : List Step) (p : ℕ) → IsRun group steps → length (process_states steps p) ≡ length (entries steps p)
+pub states_count : (group : GroupStart) (steps : List Step) (p : ℕ) → IsRun group steps → length (process_states steps p) ≡ length (entries steps p)
 states_count group [] p run = refl
 states_count group (Had q e ∷ steps) p run = put_both (q == p) (process_states steps p) (entries steps p) e.state e.entry (states_count group steps p run.1)
 states_count group (Did (world.Event q e) ∷ steps) p run = absurd run.0

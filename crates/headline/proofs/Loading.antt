@@ -18,7 +18,7 @@ use Rattle.command_run.specs.declared.refusal.Reason.{Reason}
 use Rattle.command_run.specs.declared.refusal.Reason.TheVariants as reason
 use Rattle.command_run.specs.Inputs.{module_in, state_or_bad_segment}
 use Rattle.command_run.specs.Laws.{ReadsModules}
-use Rattle.command_run.specs.Outcome.{Stop, and_then}
+use Rattle.command_run.specs.Outcome.{CommandStop, and_then}
 use Rattle.log_files.specs.Logs.{log_in, log_or_bad_head}
 use Rattle.log_pairs.specs.Pairs.{Loaded, Pair, clash, has_name, has_process, is_other_group, loaded_pair, loaded_pairs, replay_of_log, replays_of, unless_clash}
 use Rattle.log_pairs.specs.Valid.{GoTogether}
@@ -74,9 +74,9 @@ loaded_of {pair = pair} {r = r} s = record { module_name = pair.module_name; «m
 
 loads : (folder : Folder) (earlier : List Loaded) (pair : Pair) (r : Replaying) → (s : PairStands folder pair r) → GoWith earlier r.head → loaded_pair folder earlier pair ≡ Ok (loaded_of s)
 loads folder earlier pair r s goes =
-    ap (λ (m : Result Module Stop). and_then m (λ m. and_then (log_in folder pair.log_name) (λ log.
+    ap (λ (m : Result Module CommandStop). and_then m (λ m. and_then (log_in folder pair.log_name) (λ log.
     unless_clash pair.log_name (record { module_name = pair.module_name; «module» = m; head = log.0; left = log.1 }) (clash earlier log.0)))) s.reads
-    ∙ ap (λ (log : Result (Head × Unread) Stop). and_then log (λ log.
+    ∙ ap (λ (log : Result (Head × Unread) CommandStop). and_then log (λ log.
     unless_clash pair.log_name (record { module_name = pair.module_name; «module» = s.«module»; head = log.0; left = log.1 }) (clash earlier log.0))) s.log
     ∙ ap (unless_clash pair.log_name (loaded_of s)) (clashes_not earlier r.head goes)
 
@@ -121,11 +121,11 @@ opened_from folder earlier (pair ∷ pairs) (r ∷ rs) stand together goes =
     record {
       held = l ∷ rest.held;
       loaded =
-          ap (λ (o : Result Loaded Stop). and_then o (λ l. loaded_pairs folder (earlier ++ l ∷ []) pairs)) (loads folder earlier pair r stand.0 goes.0)
+          ap (λ (o : Result Loaded CommandStop). and_then o (λ l. loaded_pairs folder (earlier ++ l ∷ []) pairs)) (loads folder earlier pair r stand.0 goes.0)
           ∙ rest.loaded ∙ ap (λ (ls : List Loaded). Ok ls) (append_assoc earlier (l ∷ []) rest.held);
       begun =
-          ap (λ (o : Result Replaying Stop). and_then o (λ r. and_then (replays_of rest.held) (λ rs. Ok (r ∷ rs)))) (begins folder pair r stand.0)
-          ∙ ap (λ (o : Result (List Replaying) Stop). and_then o (λ rs. Ok (r ∷ rs))) rest.begun;
+          ap (λ (o : Result Replaying CommandStop). and_then o (λ r. and_then (replays_of rest.held) (λ rs. Ok (r ∷ rs)))) (begins folder pair r stand.0)
+          ∙ ap (λ (o : Result (List Replaying) CommandStop). and_then o (λ rs. Ok (r ∷ rs))) rest.begun;
     }
 opened_from folder earlier [] (r ∷ rs) stand together goes = absurd stand
 opened_from folder earlier (pair ∷ pairs) [] stand together goes = absurd stand
@@ -142,5 +142,5 @@ opened folder pairs rs stand together = opened_from folder [] pairs rs stand tog
 pub log_stands : ReadsModules → (folder : Folder) (name bytes : List ℕ) (head : Head) (left : Unread) → get folder name ≡ Some bytes → length bytes ≤ most_log → head_at bytes ≡ Some (head, left)
     → log_in folder name ≡ Ok (head, left)
 log_stands reads folder name bytes head left held within is =
-    ap (λ (r : Result (List ℕ) Stop). and_then r (λ bytes. log_or_bad_head name (head_at bytes))) (reads.files folder name most_log bytes (record { held = held; within = within }))
+    ap (λ (r : Result (List ℕ) CommandStop). and_then r (λ bytes. log_or_bad_head name (head_at bytes))) (reads.files folder name most_log bytes (record { held = held; within = within }))
     ∙ ap (log_or_bad_head name) is

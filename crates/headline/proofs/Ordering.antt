@@ -8,19 +8,19 @@ use Rattle.lib_calls.specs.declared.entry.Entry.{Entry}
 use Rattle.group_order.specs.Order.{IsOrder, NodeEvent, list_of, node_event, of_node}
 use Rattle.proc_replay.specs.Course.{ahead}
 use Rattle.proc_replay.specs.Replaying.{Replaying}
-use Rattle.group_record.specs.Run.{Group, Step, entries}
+use Rattle.group_record.specs.Run.{GroupStart, Step, entries}
 use Rattle.group_state.specs.Laws.{Ordered}
 use Rattle.group_state.specs.Place.{PartsFit, after_entries, entry_clock, events, node_event_count, states, states_from}
 use Rattle.headline.specs.Shown.{AreShown, IsRecorded, ShowsProcess}
 
 -- ---- the replay of a process
 
-pub record Node (group : Group) (steps : List Step) (cut : ℕ → List ℕ) (start : List Replaying) (node p : ℕ) : Type 0 where
+pub record Node (group : GroupStart) (steps : List Step) (cut : ℕ → List ℕ) (start : List Replaying) (node p : ℕ) : Type 0 where
   pub replay : Replaying
   pub at : slice_get start node ≡ Some replay
   pub shows : ShowsProcess group steps cut p replay
 
-pub node_at : (group : Group) (steps : List Step) (cut : ℕ → List ℕ) (ps : List ℕ) (rs : List Replaying) → AreShown group steps cut ps rs → (node p : ℕ) → slice_get ps node ≡ Some p → Node group steps cut rs node p
+pub node_at : (group : GroupStart) (steps : List Step) (cut : ℕ → List ℕ) (ps : List ℕ) (rs : List Replaying) → AreShown group steps cut ps rs → (node p : ℕ) → slice_get ps node ≡ Some p → Node group steps cut rs node p
 node_at group steps cut [] [] shown node p at = cc
 node_at group steps cut (q ∷ ps) (r ∷ rs) shown zero p at =
     record { replay = r; at = refl; shows = subst (λ (n : ℕ). ShowsProcess group steps cut n r) (same_Some q p at) shown.0 }
@@ -29,7 +29,7 @@ node_at group steps cut (q ∷ ps) (r ∷ rs) shown (suc node) p at =
 node_at group steps cut [] (r ∷ rs) shown node p at = absurd shown
 node_at group steps cut (q ∷ ps) [] shown node p at = absurd shown
 
-pub aheads : (group : Group) (steps : List Step) (cut : ℕ → List ℕ) (ps : List ℕ) (rs : List Replaying) → AreShown group steps cut ps rs → map ahead rs ≡ map (entries steps) ps
+pub aheads : (group : GroupStart) (steps : List Step) (cut : ℕ → List ℕ) (ps : List ℕ) (rs : List Replaying) → AreShown group steps cut ps rs → map ahead rs ≡ map (entries steps) ps
 aheads group steps cut [] [] shown = refl
 aheads group steps cut (p ∷ ps) (r ∷ rs) shown =
     ap (λ (es : List Entry). es ∷ map ahead rs) shown.0.accepted ∙ ap (λ (lists : List (List Entry)). entries steps p ∷ lists) (aheads group steps cut ps rs shown.1)
@@ -72,7 +72,7 @@ state_at a (s ∷ rs) es (suc i) r at =
     let here : suc a + i ≡ a + suc i = omega arith in
     state_at (suc a) rs es i r at ∙ ap (λ (n : ℕ). Some (after_entries r (node_event_count n es))) here
 
-pub is_recorded : (group : Group) (steps : List Step) (cut : ℕ → List ℕ) (ps : List ℕ) (start : List Replaying) → AreShown group steps cut ps start → IsOrder entry_clock (map (entries steps) ps) (events start)
+pub is_recorded : (group : GroupStart) (steps : List Step) (cut : ℕ → List ℕ) (ps : List ℕ) (start : List Replaying) → AreShown group steps cut ps start → IsOrder entry_clock (map (entries steps) ps) (events start)
     → (k node p : ℕ) → slice_get ps node ≡ Some p → IsRecorded group steps p (node_event_count node (take k (events start))) (states start k) node
 is_recorded group steps cut ps start shown order k node p at =
     let n = node_at group steps cut ps start shown node p at in
@@ -137,7 +137,7 @@ own_of (x ∷ es) j node e at = by_test (λ j here. own_of es j node e here) (x.
 
 -- ---- the order is that of the recorded events
 
-pub order_is : Ordered → (group : Group) (steps : List Step) (cut : ℕ → List ℕ) (ps : List ℕ) (start : List Replaying) → PartsFit start → AreShown group steps cut ps start
+pub order_is : Ordered → (group : GroupStart) (steps : List Step) (cut : ℕ → List ℕ) (ps : List ℕ) (start : List Replaying) → PartsFit start → AreShown group steps cut ps start
     → IsOrder entry_clock (map (entries steps) ps) (events start) × ((es : List (NodeEvent Entry)) → IsOrder entry_clock (map (entries steps) ps) es → es ≡ events start)
 order_is ordered group steps cut ps start fits shown =
     let known = ordered start fits in

@@ -15,7 +15,7 @@ use Rattle.group_world.specs.History.{Act, Deliver, History, Inject}
 use Rattle.group_world.specs.History as world
 use Rattle.group_world.specs.Laws.{gives}
 use Rattle.group_record.specs.Laws.{TakesDatagram, TellsSend}
-use Rattle.group_record.specs.Run.{Group, Had, Step, act_of, entries, history, size}
+use Rattle.group_record.specs.Run.{GroupStart, Had, Step, act_of, entries, history, size}
 use Rattle.group_record.specs.Standing.{IsRun}
 use Rattle.group_state.specs.Laws.{SendsFirst}
 use Rattle.group_state.specs.Place.{PartsFit, entry_clock, events}
@@ -54,7 +54,7 @@ injects q p given bytes is = by_test (q == p) refl is where
   by_test true same is = record { to = eqb-true q p same; same = ap first_of is }
   by_test false other is = cc
 
-module _ (group : Group) (steps : List Step) (ps : List ℕ) (start : List Replaying) (run : IsRun group steps) (fits : PartsFit start) (sends : SendsFirst)
+module _ (group : GroupStart) (steps : List Step) (ps : List ℕ) (start : List Replaying) (run : IsRun group steps) (fits : PartsFit start) (sends : SendsFirst)
     (order : IsOrder entry_clock (map (entries steps) ps) (events start)) where
   -- the send of a tag that an event bears stands before it
   before : (j node q k : ℕ) (e sent : Entry) → slice_get (events start) j ≡ Some (node_event node e) → slice_get (entries steps q) k ≡ Some sent → e.tag ≡ Some (record { sender = q; clock = sent.clock })

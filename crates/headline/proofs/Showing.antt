@@ -14,8 +14,8 @@ use Rattle.guest_process.specs.Replay.{accepted, last_state, left_over, reach, r
 use Rattle.guest_process.specs.State.{State}
 use Rattle.proc_replay.specs.Replaying.{Replaying}
 use Rattle.group_record.specs.Logs.{TellsBefore}
-use Rattle.group_record.specs.Run.{Group, Step, entries, head_of_log, process_after, process_states, size}
-use Rattle.group_record.specs.Standing.{RunIs, StandsAt}
+use Rattle.group_record.specs.Run.{GroupStart, Step, entries, head_of_log, process_after, process_states, size}
+use Rattle.group_record.specs.Standing.{RunIs, StandsReplayed}
 use Rattle.group_state.specs.Image.{left_memory, left_print}
 use Rattle.group_record.specs.Images.{memory_in}
 use Rattle.group_record.specs.Answer.{end_after}
@@ -26,7 +26,7 @@ use Rattle.headline.specs.Shown.{ShowsProcess, recorded_line, recorded_states}
 use Rattle.headline.proofs.Course.{states_count}
 
 -- the replay of a log
-abbrev pub replay_of : (group : Group) (steps : List Step) (cut : ℕ → List ℕ) (p : ℕ) → TellsBefore group steps p (cut p) → Replaying
+abbrev pub replay_of : (group : GroupStart) (steps : List Step) (cut : ℕ → List ℕ) (p : ℕ) → TellsBefore group steps p (cut p) → Replaying
 replay_of group steps cut p t = record { head = head_of_log group p; state = t.first; left = t.left }
 
 some_state : (xs : List State) (n : ℕ) → n < length xs → (S : State) × (slice_get xs n ≡ Some S)
@@ -34,7 +34,7 @@ some_state [] n below = absurd (omega (arith, below))
 some_state (S ∷ xs) zero below = (S, refl)
 some_state (S ∷ xs) (suc n) below = some_state xs n (omega (arith, below))
 
-pub shows : (group : Group) (steps : List Step) (cut : ℕ → List ℕ) (p : ℕ) → RunIs group steps → (t : TellsBefore group steps p (cut p)) → ShowsProcess group steps cut p (replay_of group steps cut p t)
+pub shows : (group : GroupStart) (steps : List Step) (cut : ℕ → List ℕ) (p : ℕ) → RunIs group steps → (t : TellsBefore group steps p (cut p)) → ShowsProcess group steps cut p (replay_of group steps cut p t)
 shows group steps cut p run t = record {
   head = refl;
   begun = t.begun;
@@ -77,14 +77,14 @@ record Ends (S last : State) (es : List Entry) : Type 0 where
 last_is : (S last : State) (es : List Entry) → Ends S last es → last_state S es ≡ last
 last_is S last es ends = ap (state_after S es) ends.all ∙ ap (replayed S) (take-length es) ∙ ends.at
 
-ends_at : (group : Group) (steps : List Step) (cut : ℕ → List ℕ) (p : ℕ) (t : TellsBefore group steps p (cut p)) (s : StandsAt group steps p) → Ends t.first s.last (entries steps p)
+ends_at : (group : GroupStart) (steps : List Step) (cut : ℕ → List ℕ) (p : ℕ) (t : TellsBefore group steps p (cut p)) (s : StandsReplayed group steps p) → Ends t.first s.last (entries steps p)
 ends_at group steps cut p t s = record {
   all = t.accepted;
   at = ap (λ (S : State). replayed S (entries steps p)) (same_Some t.first s.first (sym t.begun ∙ s.begun)) ∙ s.replay;
 }
 
 -- so a replay ends as its process did
-pub record ComesTo (group : Group) (steps : List Step) (cut : ℕ → List ℕ) (p : ℕ) (r : Replaying) : Type 0 where
+pub record ComesTo (group : GroupStart) (steps : List Step) (cut : ℕ → List ℕ) (p : ℕ) (r : Replaying) : Type 0 where
   pub line : report_line r ≡ recorded_line group steps cut p
   pub memory : left_memory r ≡ memory_in (process_after group steps p)
   pub printed : left_print r ≡ prints (entries steps p)
@@ -95,7 +95,7 @@ line_of r es rest = record { name = r.head.name; events = accepted r.state es; e
 abbrev ended_line : Replaying → ℕ → State → Verdict → ReportLine
 ended_line r n last v = record { name = r.head.name; events = n; end = last.end; verdict = v }
 
-pub comes_to : (group : Group) (steps : List Step) (cut : ℕ → List ℕ) (p : ℕ) → RunIs group steps → p < size group → (t : TellsBefore group steps p (cut p)) → ComesTo group steps cut p (replay_of group steps cut p t)
+pub comes_to : (group : GroupStart) (steps : List Step) (cut : ℕ → List ℕ) (p : ℕ) → RunIs group steps → p < size group → (t : TellsBefore group steps p (cut p)) → ComesTo group steps cut p (replay_of group steps cut p t)
 comes_to group steps cut p run below t =
     let s = run.processes p below in
     let es = entries steps p in

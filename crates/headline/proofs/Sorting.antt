@@ -4,9 +4,9 @@ use Rattle.std.specs.Prelude.{Contains, if◌then◌else◌, nat_lt, slice_index
 use Rattle.std.specs.List.{AllByRecursion}
 use Rattle.std.proofs.lemmas.Bool.{ltb-false, ltb-true}
 use Rattle.proc_replay.specs.Replaying.{Replaying}
-use Rattle.group_record.specs.Run.{Group, Step}
+use Rattle.group_record.specs.Run.{GroupStart, Step}
 use Rattle.log_pairs.specs.Pairs.{insert_replay, sort_replays}
-use Rattle.headline.specs.Headline.{AreApart, AreInOrder, Ascend}
+use Rattle.headline.specs.Headline.{AreDistinct, AreInOrder, Ascend}
 
 abbrev pub insert_number : ℕ → List ℕ → List ℕ
 insert_number p [] = p ∷ []
@@ -19,7 +19,7 @@ sort_numbers sorted (p ∷ ps) = sort_numbers (insert_number p sorted) ps
 -- ---- replays go where their numbers go
 
 -- so many replays are each of one of these processes, in some way
-module _ (group : Group) (steps : List Step) (P : ℕ → Replaying → Type 0) (numbered : (p : ℕ) (r : Replaying) → P p r → r.head.process ≡ p) where
+module _ (group : GroupStart) (steps : List Step) (P : ℕ → Replaying → Type 0) (numbered : (p : ℕ) (r : Replaying) → P p r → r.head.process ≡ p) where
   abbrev pub Are : List ℕ → List Replaying → Type 0
   Are [] [] = Unit {0}
   Are (p ∷ ps) (r ∷ rs) = P p r × Are ps rs
@@ -79,7 +79,7 @@ new_behind : (p : ℕ) (qs ps : List ℕ) → AreNew qs ps → AllByRecursion (�
 new_behind p qs [] new apart = tt
 new_behind p qs (n ∷ ps) new apart = (insert_keeps (λ q. n ≢ q) p qs (λ same. apart.0 (sym same)) new.0, new_behind p qs ps new.1 apart.1)
 
-sort_ascends : (qs ps : List ℕ) → Ascend qs → AreNew qs ps → AreApart ps → Ascend (sort_numbers qs ps)
+sort_ascends : (qs ps : List ℕ) → Ascend qs → AreNew qs ps → AreDistinct ps → Ascend (sort_numbers qs ps)
 sort_ascends qs [] ascend new apart = ascend
 sort_ascends qs (p ∷ ps) ascend new apart = sort_ascends (insert_number p qs) ps (insert_ascends p qs ascend new.0) (new_behind p qs ps new.1 apart.0) apart.1
 
@@ -161,7 +161,7 @@ only_these : (n : ℕ) (ps : List ℕ) → Among n [] ⊎ Among n ps → Among n
 only_these n ps (inl none) = absurd none
 only_these n ps (inr some) = some
 
-pub in_order : (ps : List ℕ) → AreApart ps → AreInOrder ps (sort_numbers [] ps)
+pub in_order : (ps : List ℕ) → AreDistinct ps → AreInOrder ps (sort_numbers [] ps)
 in_order ps apart = record {
   ascend = sort_ascends [] ps tt (all_new ps) apart;
   count = omega (arith, sort_count [] ps);

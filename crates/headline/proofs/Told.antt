@@ -8,7 +8,7 @@ use Rattle.guest_process.specs.Live.{Event}
 use Rattle.lossy_net.specs.Network.{nth_of}
 use Rattle.group_world.specs.History.{History, put_last_if, sends}
 use Rattle.group_world.specs.History as world
-use Rattle.group_record.specs.Run.{Group, Had, Did, Step, entries}
+use Rattle.group_record.specs.Run.{GroupStart, Had, Did, Step, entries}
 use Rattle.group_record.specs.Standing.{IsRun}
 use Rattle.headline.proofs.Course.{at_end}
 
@@ -23,7 +23,7 @@ pub record WasHad (steps : List Step) (p : ℕ) (e : Entry) : Type 0 where
 further : (s : Step) (steps : List Step) (p : ℕ) (e : Entry) → WasHad steps p e → WasHad (s ∷ steps) p e
 further s steps p e was = record { later = s ∷ was.later; early = was.early; event = was.event; split = ap (λ (rest : List Step). s ∷ rest) was.split; is = was.is }
 
-pub was_had : (group : Group) (steps : List Step) (p k : ℕ) (e : Entry) → IsRun group steps → slice_get (entries steps p) k ≡ Some e → WasHad steps p e
+pub was_had : (group : GroupStart) (steps : List Step) (p k : ℕ) (e : Entry) → IsRun group steps → slice_get (entries steps p) k ≡ Some e → WasHad steps p e
 was_had group [] p k e run at = cc
 was_had group (Had q x ∷ steps) p k e run at = by_process (was_had group steps p k e run.1) (q == p) refl at where
   by_process : (slice_get (entries steps p) k ≡ Some e → WasHad steps p e) → (b : Bool) → (q == p) ≡ b → slice_get (put_last_if b (entries steps p) x.entry) k ≡ Some e → WasHad (Had q x ∷ steps) p e

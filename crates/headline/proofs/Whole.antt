@@ -18,18 +18,18 @@ use Rattle.guest_process.specs.State.{State}
 use Rattle.proc_replay.specs.Replaying.{Replaying}
 use Rattle.group_record.specs.Laws.{Beginning, TakesDatagram, TellsCut}
 use Rattle.group_record.specs.Logs.{IsLogOfRun, TellsBefore, TellsEvents}
-use Rattle.group_record.specs.Run.{Group, Had, IsMoment, Step, entries, entry_bytes, head_of_log, log_of, process_states, size}
+use Rattle.group_record.specs.Run.{GroupStart, Had, IsMoment, Step, entries, entry_bytes, head_of_log, log_of, process_states, size}
 use Rattle.group_record.specs.Standing.{RunIs, Standing}
 use Rattle.group_state.specs.Laws.{Ordered, SendsFirst}
 use Rattle.group_state.specs.Place.{PartsFit}
 use Rattle.command_run.specs.Laws.{ReadsModules}
-use Rattle.command_run.specs.Outcome.{Stop, Work, and_then}
+use Rattle.command_run.specs.Outcome.{CommandStop, CommandWork, and_then}
 use Rattle.log_pairs.specs.Pairs.{Loaded, replays_of, replays_of_pairs, sort_replays}
 use Rattle.log_pairs.specs.Valid.{GoTogether}
 use Rattle.record_command.specs.Agreement.{IsRecordable, LogsAgree, MayFollow, Front, Nothing, RecordingsAgree, group_in, steps_in}
 use Rattle.replay_command.specs.Report.{replay_work}
 use Rattle.debug_command.specs.Debug.{opened_outcome}
-use Rattle.headline.specs.Headline.{AreApart, AreProcesses, Headline, HoldsProcess, IsShown, pairs_of_processes}
+use Rattle.headline.specs.Headline.{AreDistinct, AreProcesses, Headline, HoldsProcess, IsShown, pairs_of_processes}
 use Rattle.headline.specs.Shown.{AreShown, ShowsProcess}
 use Rattle.headline.proofs.Beginning.{HasBegun, has_begun, pair_stands, schedule_formed, together}
 use Rattle.headline.proofs.Loading.{AllStand, AllTogether, opened}
@@ -42,30 +42,30 @@ use Rattle.headline.proofs.Sorting.{Are, all_numbered, all_sorted, in_order, sor
 -- ---- each process and its replay
 
 -- what is known of a process, its pair and its replay
-record Known (group : Group) (steps : List Step) (cut : ℕ → List ℕ) (p : ℕ) (r : Replaying) : Type 0 where
+record Known (group : GroupStart) (steps : List Step) (cut : ℕ → List ℕ) (p : ℕ) (r : Replaying) : Type 0 where
   shows : ShowsProcess group steps cut p r
   comes : ComesTo group steps cut p r
   fits : StateFits r.state
 
-process_is : (group : Group) (steps : List Step) (cut : ℕ → List ℕ) (p : ℕ) (r : Replaying) → Known group steps cut p r → r.head.process ≡ p
+process_is : (group : GroupStart) (steps : List Step) (cut : ℕ → List ℕ) (p : ℕ) (r : Replaying) → Known group steps cut p r → r.head.process ≡ p
 process_is group steps cut p r known = ap (λ h. h.process) known.shows.head
 
-abbrev AreKnown : Group → List Step → (ℕ → List ℕ) → List ℕ → List Replaying → Type 0
+abbrev AreKnown : GroupStart → List Step → (ℕ → List ℕ) → List ℕ → List Replaying → Type 0
 AreKnown group steps cut ps rs = Are group steps (Known group steps cut) (process_is group steps cut) ps rs
 
-are_shown : (group : Group) (steps : List Step) (cut : ℕ → List ℕ) (ps : List ℕ) (rs : List Replaying) → AreKnown group steps cut ps rs → AreShown group steps cut ps rs
+are_shown : (group : GroupStart) (steps : List Step) (cut : ℕ → List ℕ) (ps : List ℕ) (rs : List Replaying) → AreKnown group steps cut ps rs → AreShown group steps cut ps rs
 are_shown group steps cut [] [] all = tt
 are_shown group steps cut (p ∷ ps) (r ∷ rs) all = (all.0.shows, are_shown group steps cut ps rs all.1)
 are_shown group steps cut [] (r ∷ rs) all = absurd all
 are_shown group steps cut (p ∷ ps) [] all = absurd all
 
-all_come : (group : Group) (steps : List Step) (cut : ℕ → List ℕ) (ps : List ℕ) (rs : List Replaying) → AreKnown group steps cut ps rs → AllCome group steps cut ps rs
+all_come : (group : GroupStart) (steps : List Step) (cut : ℕ → List ℕ) (ps : List ℕ) (rs : List Replaying) → AreKnown group steps cut ps rs → AllCome group steps cut ps rs
 all_come group steps cut [] [] all = tt
 all_come group steps cut (p ∷ ps) (r ∷ rs) all = (all.0.comes, all_come group steps cut ps rs all.1)
 all_come group steps cut [] (r ∷ rs) all = absurd all
 all_come group steps cut (p ∷ ps) [] all = absurd all
 
-all_fit : (group : Group) (steps : List Step) (cut : ℕ → List ℕ) (ps : List ℕ) (rs : List Replaying) → AreKnown group steps cut ps rs → PartsFit rs
+all_fit : (group : GroupStart) (steps : List Step) (cut : ℕ → List ℕ) (ps : List ℕ) (rs : List Replaying) → AreKnown group steps cut ps rs → PartsFit rs
 all_fit group steps cut [] [] all k d below = absurd (omega (arith, below))
 all_fit group steps cut (p ∷ ps) (r ∷ rs) all zero d below = all.0.fits
 all_fit group steps cut (p ∷ ps) (r ∷ rs) all (suc k) d below = all_fit group steps cut ps rs all.1 k d (omega (arith, below))
@@ -75,13 +75,13 @@ all_fit group steps cut (p ∷ ps) [] all k d below = absurd all
 -- ---- a log, with or without a part of one more entry
 
 -- a log with nothing after it
-tells_whole : (group : Group) (steps : List Step) (p : ℕ) (cut : List ℕ) → TellsEvents group steps p → cut ≡ [] → TellsBefore group steps p cut
+tells_whole : (group : GroupStart) (steps : List Step) (p : ℕ) (cut : List ℕ) → TellsEvents group steps p → cut ≡ [] → TellsBefore group steps p cut
 tells_whole group steps p cut t none =
     subst (λ (cut : List ℕ). TellsBefore group steps p cut) (sym none)
     (subst (λ (bytes : List ℕ). IsLogOfRun group p bytes (entries steps p) (process_states steps p) []) (sym (append-nil (log_of group steps p))) t)
 
 -- what the log is after other steps, among which the process had no event
-tells_after : (group : Group) (early steps : List Step) (p : ℕ) (cut : List ℕ) → TellsEvents group steps p → TellsBefore group early p cut → entries early p ≡ entries steps p → TellsBefore group steps p cut
+tells_after : (group : GroupStart) (early steps : List Step) (p : ℕ) (cut : List ℕ) → TellsEvents group steps p → TellsBefore group early p cut → entries early p ≡ entries steps p → TellsBefore group steps p cut
 tells_after group early steps p cut whole part same =
     let bytes : log_of group early p ++ cut ≡ log_of group steps p ++ cut = ap (λ (es : List Entry). (head_bytes (head_of_log group p) ++ encodings Two 0 es) ++ cut) same in
     record {
@@ -96,7 +96,7 @@ tells_after group early steps p cut whole part same =
       states = whole.states;
     }
 
-tells_by : (group : Group) (all steps : List Step) (p : ℕ) (cut : List ℕ) → TellsCut group all → TellsEvents group steps p → MayFollow group all steps p cut → TellsBefore group steps p cut
+tells_by : (group : GroupStart) (all steps : List Step) (p : ℕ) (cut : List ℕ) → TellsCut group all → TellsEvents group steps p → MayFollow group all steps p cut → TellsBefore group steps p cut
 tells_by group all steps p cut cuts whole (Nothing none) = tells_whole group steps p cut whole none
 tells_by group all steps p cut cuts whole (Front later early e n split same short is) =
     subst (λ (cut : List ℕ). TellsBefore group steps p cut) (sym is) (tells_after group early steps p (take n (entry_bytes group early p e)) whole (cuts later early p e split n short) same)
@@ -155,7 +155,7 @@ module _ (reads : ReadsModules) (gives : GivesSchedules) (beginning : Beginning)
   one_together p here (q ∷ ps) below holds apart =
       (together r.schedule r.first (schedule_formed gives before name r.schedule r.spelled) p q here below.0 apart.0, one_together p here ps below.1 holds.1 apart.1)
 
-  all_together : (ps : List ℕ) (below : Below ps) (holds : Held ps) → AreApart ps → AllTogether (replays ps below holds)
+  all_together : (ps : List ℕ) (below : Below ps) (holds : Held ps) → AreDistinct ps → AllTogether (replays ps below holds)
   all_together [] below holds apart = tt
   all_together (p ∷ ps) below holds apart = (one_together p below.0 ps below.1 holds.1 apart.0, all_together ps below.1 holds.1 apart.1)
 
@@ -171,8 +171,8 @@ module _ (reads : ReadsModules) (gives : GivesSchedules) (beginning : Beginning)
       let fits = all_fit (group_in r) steps cut sorted start all in
       let read = opened folder pairs unsorted (all_stand ps are.within holds) (all_together ps are.within holds are.apart) in
       let opens : replays_of_pairs folder pairs ≡ Ok start =
-      ap (λ (o : Result (List Loaded) Stop). and_then o (λ ls. and_then (replays_of ls) (λ rs. Ok (sort_replays [] rs)))) read.loaded
-      ∙ ap (λ (o : Result (List Replaying) Stop). and_then o (λ rs. Ok (sort_replays [] rs))) read.begun in
+      ap (λ (o : Result (List Loaded) CommandStop). and_then o (λ ls. and_then (replays_of ls) (λ rs. Ok (sort_replays [] rs)))) read.loaded
+      ∙ ap (λ (o : Result (List Replaying) CommandStop). and_then o (λ rs. Ok (sort_replays [] rs))) read.begun in
       let in_it = in_order ps are.apart in
       let order = order_is ordered (group_in r) steps cut sorted start fits shown in
       record {
@@ -182,13 +182,13 @@ module _ (reads : ReadsModules) (gives : GivesSchedules) (beginning : Beginning)
         opened = opens;
         each = shown;
         replay = λ images.
-            ap (λ (o : Result (List Replaying) Stop). and_then o (λ start. Ok (replay_work images start))) opens
-            ∙ ap (λ (w : Work). Ok w) (report_is images (group_in r) steps cut sorted start shown come);
+            ap (λ (o : Result (List Replaying) CommandStop). and_then o (λ start. Ok (replay_work images start))) opens
+            ∙ ap (λ (w : CommandWork). Ok w) (report_is images (group_in r) steps cut sorted start shown come);
         images = λ all_given.
             all_of_them (group_in r) steps sorted
             (all_numbered (size (group_in r)) sorted in_it.ascend (sort_keeps (λ p. p < size (group_in r)) [] ps tt are.within) (in_it.count ∙ all_given))
             (in_it.count ∙ all_given);
-        debug = λ input. ap (λ (o : Result (List Replaying) Stop). opened_outcome o (Some input)) opens;
+        debug = λ input. ap (λ (o : Result (List Replaying) CommandStop). opened_outcome o (Some input)) opens;
         shows = record {
           order = order.0;
           only = order.1;

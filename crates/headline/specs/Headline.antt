@@ -7,7 +7,7 @@ use Rattle.schedule_text.specs.Schedule.{Schedule}
 use Rattle.group_record.specs.Answer.{names_of}
 use Rattle.group_record.specs.Images.{images as all_images}
 use Rattle.group_record.specs.Logs.{log_name}
-use Rattle.group_record.specs.Run.{Group, IsMoment, Step, log_of, name_of, size}
+use Rattle.group_record.specs.Run.{GroupStart, IsMoment, Step, log_of, name_of_process, size}
 use Rattle.proc_replay.specs.Replaying.{Replaying}
 use Rattle.command_run.specs.declared.status.Status.{Status}
 use Rattle.command_run.specs.Call.{IsAnswerStatus}
@@ -21,21 +21,21 @@ use Rattle.headline.specs.Shown.{AreShown, ShowsGroup, no_cut, recorded_images, 
 -- ---- the words that name some of a recording
 
 -- the numbers differ from each other
-abbrev pub AreApart : List ℕ → Type 0
-AreApart [] = Unit {0}
-AreApart (p ∷ ps) = AllByRecursion (λ q. p ≢ q) ps × AreApart ps
+abbrev pub AreDistinct : List ℕ → Type 0
+AreDistinct [] = Unit {0}
+AreDistinct (p ∷ ps) = AllByRecursion (λ q. p ≢ q) ps × AreDistinct ps
 
 -- some of so many processes, each once, in any order
 pub record AreProcesses (count : ℕ) (ps : List ℕ) : Type 0 where
   pub within : AllByRecursion (λ p. p < count) ps
-  pub apart : AreApart ps
+  pub apart : AreDistinct ps
 
 -- the files of process p: its module's, and its log's
-abbrev pub pair_of_process : Schedule → ℕ → Pair
-pair_of_process schedule p = record { module_name = module_name schedule p; log_name = log_name (slice_index_or (names_of schedule) p []) }
+abbrev pub files_of_process : Schedule → ℕ → Pair
+files_of_process schedule p = record { module_name = module_name schedule p; log_name = log_name (slice_index_or (names_of schedule) p []) }
 
 abbrev pub pairs_of_processes : Schedule → List ℕ → List Pair
-pairs_of_processes schedule ps = map (pair_of_process schedule) ps
+pairs_of_processes schedule ps = map (files_of_process schedule) ps
 
 -- each number is below those behind it
 abbrev pub Ascend : List ℕ → Type 0
@@ -55,13 +55,13 @@ pub record AreInOrder (ps sorted : List ℕ) : Type 0 where
 pub record HoldsProcess {before : Folder} {schedule_name : List ℕ} (r : IsRecordable before schedule_name) (steps : List Step) (cut : ℕ → List ℕ)
     (folder : Folder) (p : ℕ) : Type 0 where
   pub «module» : get folder (module_name r.schedule p) ≡ get before (module_name r.schedule p)
-  pub log : get folder (log_name (name_of (group_in r) p)) ≡ Some (log_of (group_in r) steps p ++ cut p)
+  pub log : get folder (log_name (name_of_process (group_in r) p)) ≡ Some (log_of (group_in r) steps p ++ cut p)
   pub front : MayFollow (group_in r) (steps_in r) steps p (cut p)
 
 -- ---- the whole
 
 -- the pairs of these processes are read to replays, which show what was recorded
-pub record IsShown (group : Group) (steps : List Step) (cut : ℕ → List ℕ) (folder : Folder) (ps : List ℕ) (pairs : List Pair) : Type 0 where
+pub record IsShown (group : GroupStart) (steps : List Step) (cut : ℕ → List ℕ) (folder : Folder) (ps : List ℕ) (pairs : List Pair) : Type 0 where
   -- the processes in the order of their numbers, and their replays
   pub sorted : List ℕ
   pub in_order : AreInOrder ps sorted
@@ -87,7 +87,7 @@ Headline = (before folder : Folder) (schedule_name : List ℕ) (r : IsRecordable
 -- of process p a folder has the module, as the recording found it, and the log, as the recording left it
 pub record HasFiles {before : Folder} {schedule_name : List ℕ} (r : IsRecordable before schedule_name) (after folder : Folder) (p : ℕ) : Type 0 where
   pub «module» : get folder (module_name r.schedule p) ≡ get before (module_name r.schedule p)
-  pub log : get folder (log_name (name_of (group_in r) p)) ≡ get after (log_name (name_of (group_in r) p))
+  pub log : get folder (log_name (name_of_process (group_in r) p)) ≡ get after (log_name (name_of_process (group_in r) p))
 
 -- in every folder that has these files of some processes, and whatever else, these are shown as they were after these steps
 abbrev pub ShowsSteps : {before : Folder} {schedule_name : List ℕ} → IsRecordable before schedule_name → List Step → (ℕ → List ℕ) → Folder → Type 0

@@ -14,13 +14,13 @@ use Rattle.group_record.specs.Answer.{end_after}
 use Rattle.group_record.specs.Images.{memory_in}
 use Rattle.process_files.specs.Images.{image_files}
 use Rattle.group_record.specs.Laws.{TellsSend}
-use Rattle.group_record.specs.Run.{Group, Step, entries, head_of_log, history, name_of, process_after, process_states, size}
+use Rattle.group_record.specs.Run.{GroupStart, Step, entries, head_of_log, history, name_of_process, process_after, process_states, size}
 use Rattle.proc_replay.specs.Course.{ahead}
 use Rattle.proc_replay.specs.Replaying.{Replaying}
 use Rattle.group_state.specs.declared.report.ReportLine.{ReportLine}
 use Rattle.group_state.specs.Place.{after_entries, entry_clock, events, node_event_count, states}
 use Rattle.group_state.specs.Tally.{Accepted, of_process, tally}
-use Rattle.command_run.specs.Outcome.{Work}
+use Rattle.command_run.specs.Outcome.{CommandWork}
 use Rattle.replay_command.specs.Report.{report_text}
 
 -- ---- one process
@@ -30,12 +30,12 @@ abbrev pub no_cut : ℕ → List ℕ
 no_cut p = []
 
 -- the states of a process in the recording: the first one, and that after each of its events
-abbrev pub recorded_states : Group → List Step → ℕ → List State
+abbrev pub recorded_states : GroupStart → List Step → ℕ → List State
 recorded_states group steps p = option_to_list (slice_get group.first p) ++ process_states steps p
 
 -- a replay is that of a process of the recording. It has all events of the process and no other, each is accepted, and
 -- after each n of them it is in the recorded state. What stands after their entries is left over
-pub record ShowsProcess (group : Group) (steps : List Step) (cut : ℕ → List ℕ) (p : ℕ) (r : Replaying) : Type 0 where
+pub record ShowsProcess (group : GroupStart) (steps : List Step) (cut : ℕ → List ℕ) (p : ℕ) (r : Replaying) : Type 0 where
   pub head : r.head ≡ head_of_log group p
   pub begun : slice_get group.first p ≡ Some r.state
   pub told : entries_of r.left ≡ entries steps p
@@ -44,7 +44,7 @@ pub record ShowsProcess (group : Group) (steps : List Step) (cut : ℕ → List 
   pub moments : (n : ℕ) → n ≤ length (entries steps p) → slice_get (recorded_states group steps p) n ≡ Some (after_entries r n)
 
 -- so are these replays those of these processes
-abbrev pub AreShown : Group → List Step → (ℕ → List ℕ) → List ℕ → List Replaying → Type 0
+abbrev pub AreShown : GroupStart → List Step → (ℕ → List ℕ) → List ℕ → List Replaying → Type 0
 AreShown group steps cut [] [] = Unit {0}
 AreShown group steps cut (p ∷ ps) (r ∷ rs) = ShowsProcess group steps cut p r × AreShown group steps cut ps rs
 AreShown group steps cut [] (r ∷ rs) = ⊥
@@ -54,9 +54,9 @@ AreShown group steps cut (p ∷ ps) [] = ⊥
 
 -- the line of a process: how many events were recorded, how it stood after them, and that its log is whole, unless bytes stand
 -- after its entries, which are left over
-abbrev pub recorded_line : Group → List Step → (ℕ → List ℕ) → ℕ → ReportLine
+abbrev pub recorded_line : GroupStart → List Step → (ℕ → List ℕ) → ℕ → ReportLine
 recorded_line group steps cut p = record {
-  name = name_of group p;
+  name = name_of_process group p;
   events = length (entries steps p);
   end = end_after (process_after group steps p);
   verdict = left_over (cut p);
@@ -67,11 +67,11 @@ abbrev pub recorded_events : List Step → List ℕ → List Accepted
 recorded_events steps ps = flat_map (λ p. of_process p (entries steps p)) ps
 
 -- the files of what each of these processes left
-abbrev pub recorded_images : Group → List Step → List ℕ → List (List ℕ × List ℕ)
-recorded_images group steps ps = flat_map (λ p. image_files (name_of group p) (memory_in (process_after group steps p)) (prints (entries steps p))) ps
+abbrev pub recorded_images : GroupStart → List Step → List ℕ → List (List ℕ × List ℕ)
+recorded_images group steps ps = flat_map (λ p. image_files (name_of_process group p) (memory_in (process_after group steps p)) (prints (entries steps p))) ps
 
 -- the lines and the counts of these processes, and no divergence; and their images, where they are asked for
-abbrev pub recorded_report : Bool → Group → List Step → (ℕ → List ℕ) → List ℕ → Work
+abbrev pub recorded_report : Bool → GroupStart → List Step → (ℕ → List ℕ) → List ℕ → CommandWork
 recorded_report images group steps cut ps = record {
   text = report_text (map (recorded_line group steps cut) ps) (tally (size group) (recorded_events steps ps));
   writes = if images then recorded_images group steps ps else [];
@@ -81,7 +81,7 @@ recorded_report images group steps cut ps = record {
 -- ---- what `debug` shows
 
 -- after n events a process stood in the recording as this node does
-pub record IsRecorded (group : Group) (steps : List Step) (p n : ℕ) (now : List State) (node : ℕ) : Type 0 where
+pub record IsRecorded (group : GroupStart) (steps : List Step) (p n : ℕ) (now : List State) (node : ℕ) : Type 0 where
   pub state : State
   pub shown : slice_get now node ≡ Some state
   pub recorded : slice_get (recorded_states group steps p) n ≡ Some state
@@ -94,7 +94,7 @@ StandsBefore ps order j q sent =
 -- the datagram that an event of process p took, at place j of the order, came from outside, or a process had sent it to p.
 -- Then the event names the send and tells a first part of what went out, and the send stands before it, unless the
 -- send's clock is past those that a tag can bear
-pub data Received (group : Group) (steps : List Step) (ps : List ℕ) (order : List (NodeEvent Entry)) (j p : ℕ) (e : Entry) : Type 0 where
+pub data Received (group : GroupStart) (steps : List Step) (ps : List ℕ) (order : List (NodeEvent Entry)) (j p : ℕ) (e : Entry) : Type 0 where
   FromOutside : (bytes : List ℕ) → Contains (history steps) (Inject p bytes) → e.tag ≡ (read_datagram (size group) bytes).0
       → e.incoming ≡ take e.call.a1 (read_datagram (size group) bytes).1 → Received group steps ps order j p e
   FromSend : (q k : ℕ) → (sent : Entry) → slice_get (entries steps q) k ≡ Some sent → IsTrue (is_sent (size group) sent) → sent.call.a0 ≡ p
@@ -102,7 +102,7 @@ pub data Received (group : Group) (steps : List Step) (ps : List ℕ) (order : L
       → Received group steps ps order j p e
 
 -- replays of these processes, as one group
-pub record ShowsGroup (group : Group) (steps : List Step) (ps : List ℕ) (start : List Replaying) : Type 0 where
+pub record ShowsGroup (group : GroupStart) (steps : List Step) (ps : List ℕ) (start : List Replaying) : Type 0 where
   -- the order is the one list of all their recorded events that is sorted by clock and then by process
   pub order : IsOrder entry_clock (map (entries steps) ps) (events start)
   pub only : (es : List (NodeEvent Entry)) → IsOrder entry_clock (map (entries steps) ps) es → es ≡ events start

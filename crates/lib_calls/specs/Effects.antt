@@ -87,19 +87,19 @@ abbrev pub taken : Call → List ℕ → List ℕ → Memory → Memory
 taken call payload sender memory = with_bytes (with_bytes memory call.a0 payload) call.a2 sender
 
 -- the payload, and then the sender in 4 bytes, the lowest first; where they overlap, the sender stands
-abbrev pub received : Call → Answer → Memory → Memory
-received call a memory = taken call a.incoming (to_le_bytes w32 (sender_of a.tag)) memory
+abbrev pub with_received : Call → Answer → Memory → Memory
+with_received call a memory = taken call a.incoming (to_le_bytes w32 (sender_of a.tag)) memory
 
 -- the memory after the answer to a call with good arguments; an empty try_recv writes nothing
 abbrev pub put_in : Kind → Call → Answer → Memory → Memory
 put_in Random call a memory = with_incoming call a memory
-put_in Recv call a memory = received call a memory
-put_in TryRecv call a memory = if a.reply == minus_two then memory else received call a memory
+put_in Recv call a memory = with_received call a memory
+put_in TryRecv call a memory = if a.reply == minus_two then memory else with_received call a memory
 put_in _ call a memory = memory
 
 -- the memory after the answer; bad arguments write nothing
-unfoldable pub written : Call → Answer → Memory → Memory
-written call a memory =
+unfoldable pub memory_after_answer : Call → Answer → Memory → Memory
+memory_after_answer call a memory =
     if is_good call memory then option_map_or (λ kind. put_in kind call a memory) (kind_numbered call.kind) memory else memory
 
 -- of what the answer writes, a first part of the bytes that came in and a first part of the sender's

@@ -3,7 +3,7 @@ ghost use Rattle.std.specs.Prelude.{◌≡◌, ◌+◌, ◌≤◌, length, OnOk,
 ghost use Rattle.guest_memory.specs.Memory.{WritesPrefix, with_bytes};
 ghost use Rattle.lib_calls.specs.Answer.{answer_of};
 ghost use Rattle.lib_calls.specs.Entry.{entry_of};
-ghost use Rattle.lib_calls.specs.Effects.{WritesPart, brings, with_incoming, has_good, is_answer, put_in, received, sender_of as sender_number, written};
+ghost use Rattle.lib_calls.specs.Effects.{WritesPart, brings, with_incoming, has_good, is_answer, put_in, with_received, sender_of as sender_number, memory_after_answer};
 
 use crate::arguments::has_good;
 use crate::entry::EntryView;
@@ -21,10 +21,10 @@ pub const NONE_THERE: u64 = 0xFFFF_FFFE;
 /// Writes to the memory what the entry's answer does: the bytes that random took, or the payload of the
 /// datagram that recv or try_recv took and then its sender. Other answers write nothing. After want of
 /// memory a part of the bytes may stand.
-#[tactic(auto, unfolding(crate::specs::Effects::is_good, crate::specs::Effects::is_answer, crate::specs::Effects::written))]
+#[tactic(auto, unfolding(crate::specs::Effects::is_good, crate::specs::Effects::is_answer, crate::specs::Effects::memory_after_answer))]
 pub fn write_back(entry: &EntryView<'_>, memory: &mut Memory) -> Result<(), AllocError>
     requires { IsTrue (is_answer entry.now.call (answer_of (entry_of entry.now)) memory.old) }
-    ensures ok { OnOk result (memory.new ≡ written entry.now.call (answer_of (entry_of entry.now)) memory.old) }
+    ensures ok { OnOk result (memory.new ≡ memory_after_answer entry.now.call (answer_of (entry_of entry.now)) memory.old) }
     ensures err { OnErr result (WritesPart entry.now.call (answer_of (entry_of entry.now)) memory.old memory.new) }
     ensures max { memory.new.max ≡ memory.old.max }
 {
@@ -68,7 +68,7 @@ fn put_bytes(entry: &EntryView<'_>, memory: &mut Memory) -> Result<(), AllocErro
 fn put_datagram(entry: &EntryView<'_>, memory: &mut Memory) -> Result<(), AllocError>
     requires payload { entry.now.call.a0 + length entry.now.incoming.now ≤ length memory.old.bytes }
     requires sender { entry.now.call.a2 + 4 ≤ length memory.old.bytes }
-    ensures ok { OnOk result (memory.new ≡ received entry.now.call (answer_of (entry_of entry.now)) memory.old) }
+    ensures ok { OnOk result (memory.new ≡ with_received entry.now.call (answer_of (entry_of entry.now)) memory.old) }
     ensures err { OnErr result (WritesPart entry.now.call (answer_of (entry_of entry.now)) memory.old memory.new) }
     ensures max { memory.new.max ≡ memory.old.max }
 {

@@ -9,12 +9,12 @@ ghost use Rattle.command_run.specs.Outcome.{file_of};
 ghost use Rattle.log_files.specs.Logs.{log_or_bad_head};
 
 use call_log::{LogView, MOST_LOG};
-use command_run::{Reason, Refusal, take_file};
+use command_run::{Reason, StopCause, take_file};
 use fri_outside::Files;
 use std::alloc::Global;
 
 /// The bytes of a log file, within the limit of a log.
-pub fn take_log<F: Files>(alloc: Global, name: &str, files: &mut F) -> Result<Vec<u8>, Refusal>
+pub fn take_log<F: Files>(alloc: Global, name: &str, files: &mut F) -> Result<Vec<u8>, StopCause>
     ensures answer { WhenTold (F.told files.old) (λ folder. MatchResult result
         (λ bytes. file_of folder name.now most_log ≡ Ok bytes.items) (StopsAs (file_of folder name.now most_log))) }
     ensures within { IfOk result (λ bytes. vec_len bytes ≤ most_log) }
@@ -26,7 +26,7 @@ pub fn take_log<F: Files>(alloc: Global, name: &str, files: &mut F) -> Result<Ve
 }
 
 /// The log whose head the bytes of a file begin with.
-pub fn begin_log<'b>(alloc: Global, name: &str, bytes: &'b [u8]) -> Result<LogView<'b>, Refusal>
+pub fn begin_log<'b>(alloc: Global, name: &str, bytes: &'b [u8]) -> Result<LogView<'b>, StopCause>
     ensures head { IfOk result (λ log. IsHead log.head) }
     ensures answer { MatchResult result
         (λ log. log_or_bad_head name.now (head_at bytes.now) ≡ Ok (log.head, log.left))
@@ -37,6 +37,6 @@ pub fn begin_log<'b>(alloc: Global, name: &str, bytes: &'b [u8]) -> Result<LogVi
 {
     match LogView::begin(bytes) {
         Ok(log) => Ok(log),
-        Err(_) => Err(Refusal::refuse(alloc, name, Reason::BadHead)),
+        Err(_) => Err(StopCause::refuse(alloc, name, Reason::BadHead)),
     }
 }

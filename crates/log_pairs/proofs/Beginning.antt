@@ -10,10 +10,10 @@ use Rattle.group_state.specs.Place.{AreParts, group_count}
 use Rattle.proc_replay.specs.AtHead.{IsAtHead}
 use Rattle.proc_replay.specs.Replaying.{Replaying}
 use Rattle.log_pairs.specs.declared.pairs.Loaded.{Loaded as LoadedFiles}
-use Rattle.command_run.specs.declared.refusal.Refusal.{Refusal}
+use Rattle.command_run.specs.declared.refusal.StopCause.{StopCause}
 use Rattle.command_run.specs.Call.{StopsAs}
 use Rattle.command_run.specs.Inputs.{first_state_of}
-use Rattle.command_run.specs.Outcome.{Stop, and_then}
+use Rattle.command_run.specs.Outcome.{CommandStop, and_then}
 use Rattle.log_pairs.specs.Pairs.{Loaded, insert_replay, replay_of_log, replays_of, sort_replays}
 use Rattle.log_pairs.specs.Seen.{AreLoaded, AreOneGroup, IsApart, IsLoaded}
 use Rattle.log_pairs.proofs.Clashing.{all_so}
@@ -39,18 +39,18 @@ AreOf (x ∷ xs) (r ∷ rs) = IsOf x r × AreOf xs rs
 AreOf [] (r ∷ rs) = ⊥
 AreOf (x ∷ xs) [] = ⊥
 
-abbrev begun_at : Loaded → State → Result Replaying Stop
+abbrev begun_at : Loaded → State → Result Replaying CommandStop
 begun_at l S = Ok (record { head = l.head; state = S; left = l.left })
 
 is_of : (x : LoadedFiles) (l : Loaded) (r : Replaying) → IsLoaded x l → replay_of_log l ≡ Ok r → IsOf x r
 is_of x l r one begun =
     let f = follows (first_state_of l.module_name l.«module» l.head.process l.head.count) _ r begun in
     of f.given f.comes where
-      head_in : Result Replaying Stop → Head
+      head_in : Result Replaying CommandStop → Head
       head_in (Ok r) = r.head
       head_in (Err stop) = l.head
 
-      left_in : Result Replaying Stop → Unread
+      left_in : Result Replaying CommandStop → Unread
       left_in (Ok r) = r.left
       left_in (Err stop) = l.left
 
@@ -71,7 +71,7 @@ are_of (x ∷ xs) (l ∷ ls) rs all is =
     let first = follows (replay_of_log l) _ rs is in
     let rest = follows (replays_of ls) _ rs first.comes in
     subst (AreOf (x ∷ xs)) (ap (value_in []) rest.comes) (is_of x l first.given all.0 first.is_given, are_of xs ls rest.given all.1 rest.is_given) where
-      value_in : List Replaying → Result (List Replaying) Stop → List Replaying
+      value_in : List Replaying → Result (List Replaying) CommandStop → List Replaying
       value_in default (Ok rs) = rs
       value_in default (Err stop) = default
 are_of [] (l ∷ ls) rs all is = absurd all
@@ -150,14 +150,14 @@ makes_group xs ls rs all apart begun first =
 
 -- ---- the replays so far, and those that are still to begin
 
-abbrev begun_before : List Replaying → Result (List Replaying) Stop → Result (List Replaying) Stop
+abbrev begun_before : List Replaying → Result (List Replaying) CommandStop → Result (List Replaying) CommandStop
 begun_before rs later = and_then later (λ more. Ok (rs ++ more))
 
-none_before : (later : Result (List Replaying) Stop) → later ≡ begun_before [] later
+none_before : (later : Result (List Replaying) CommandStop) → later ≡ begun_before [] later
 none_before (Ok more) = refl
 none_before (Err stop) = refl
 
-with_one : (rs : List Replaying) (r : Replaying) (later : Result (List Replaying) Stop) → begun_before rs (and_then later (λ more. Ok (r ∷ more))) ≡ begun_before (rs ++ r ∷ []) later
+with_one : (rs : List Replaying) (r : Replaying) (later : Result (List Replaying) CommandStop) → begun_before rs (and_then later (λ more. Ok (r ∷ more))) ≡ begun_before (rs ++ r ∷ []) later
 with_one rs r (Ok more) = ap (λ (all : List Replaying). Ok all) (sym (append_assoc rs (r ∷ []) more))
 with_one rs r (Err stop) = refl
 
@@ -183,7 +183,7 @@ begun_more : (ls left : List Loaded) (l : Loaded) (r : Replaying) (sorted after 
 begun_more ls left l r sorted after has is starts put = record {
   begun = has.begun ++ r ∷ [];
   so_far =
-      has.so_far ∙ ap (λ (o : Result Replaying Stop). begun_before has.begun (and_then o (λ r. and_then (replays_of left) (λ more. Ok (r ∷ more))))) is
+      has.so_far ∙ ap (λ (o : Result Replaying CommandStop). begun_before has.begun (and_then o (λ r. and_then (replays_of left) (λ more. Ok (r ∷ more))))) is
       ∙ with_one has.begun r (replays_of left);
   placed = put ∙ ap (insert_replay r) has.placed ∙ sym (placed_last [] has.begun r);
   first = first_push has.begun r has.first starts;
@@ -199,14 +199,14 @@ one_begun all before rest x r sorted after has next begins starts put ls are = s
       (left, (at.1, begun_more ls left l r sorted after h (begins l at.0) starts put))
 
 -- a process did not begin
-pub beginning_stops : (all before rest : List LoadedFiles) (x : LoadedFiles) (sorted : List Replaying) (e : Refusal) → AreBegun all before sorted → before ≡ x ∷ rest
+pub beginning_stops : (all before rest : List LoadedFiles) (x : LoadedFiles) (sorted : List Replaying) (e : StopCause) → AreBegun all before sorted → before ≡ x ∷ rest
     → ((l : Loaded) → IsLoaded x l → StopsAs (replay_of_log l) e) → (ls : List Loaded) → AreLoaded all ls → StopsAs (replays_of ls) e
 beginning_stops all before rest x sorted e has next stops ls are = step (has ls are) where
   step : (left : List Loaded) × (AreLoaded before left × HasBegun ls left sorted) → StopsAs (replays_of ls) e
   step ([], (none, h)) = absurd (subst (λ (xs : List LoadedFiles). AreLoaded xs []) next none)
   step (l ∷ left, (some, h)) =
       let at = subst (λ (xs : List LoadedFiles). AreLoaded xs (l ∷ left)) next some in
-      subst (λ (o : Result (List Replaying) Stop). StopsAs o e) (sym h.so_far)
+      subst (λ (o : Result (List Replaying) CommandStop). StopsAs o e) (sym h.so_far)
       (stops_then (replays_of (l ∷ left)) _ e (stops_then (replay_of_log l) _ e (stops l at.0)))
 
 -- something that was read stands at this place

@@ -8,12 +8,12 @@ use Rattle.call_log.specs.Limits.{most_log}
 use Rattle.call_log.specs.Log.{Unread, head_at}
 use Rattle.log_pairs.specs.declared.pairs.Pair.{Pair as PairOfWords}
 use Rattle.log_pairs.specs.declared.pairs.Loaded.{Loaded as LoadedFiles}
-use Rattle.command_run.specs.declared.refusal.Refusal.{Refusal}
+use Rattle.command_run.specs.declared.refusal.StopCause.{StopCause}
 use Rattle.command_run.specs.Call.{StopsAs}
 use Rattle.log_pairs.specs.Pairs.{Pair}
 use Rattle.log_files.specs.Logs.{log_in, log_or_bad_head}
 use Rattle.command_run.specs.Inputs.{module_in}
-use Rattle.command_run.specs.Outcome.{Stop, and_then, file_of}
+use Rattle.command_run.specs.Outcome.{CommandStop, and_then, file_of}
 use Rattle.log_pairs.specs.Pairs.{Loaded, clash, loaded_pair, loaded_pairs, unless_clash}
 use Rattle.log_pairs.specs.Seen.{AreLoaded, AreOneGroup, IsLoaded, pair_of}
 use Rattle.log_pairs.proofs.Clashing.{apart_more}
@@ -50,17 +50,17 @@ is_loaded x pair bytes log head named held found in_range is count process name 
 module_read : (folder : Folder) (ls : List Loaded) (pair : Pair) (m : Module) → module_in folder pair.module_name ≡ Ok m
     → loaded_pair folder ls pair ≡ and_then (log_in folder pair.log_name) (λ log. unless_clash pair.log_name (read_as pair m log) (clash ls log.0))
 module_read folder ls pair m is =
-    ap (λ (r : Result Module Stop). and_then r (λ m. and_then (log_in folder pair.log_name) (λ log. unless_clash pair.log_name (read_as pair m log) (clash ls log.0)))) is
+    ap (λ (r : Result Module CommandStop). and_then r (λ m. and_then (log_in folder pair.log_name) (λ log. unless_clash pair.log_name (read_as pair m log) (clash ls log.0)))) is
 
 log_is : (folder : Folder) (name bytes : List ℕ) (log : Head × Unread) → file_of folder name most_log ≡ Ok bytes → log_or_bad_head name (head_at bytes) ≡ Ok log → log_in folder name ≡ Ok log
-log_is folder name bytes log read head = ap (λ (r : Result (List ℕ) Stop). and_then r (λ bytes. log_or_bad_head name (head_at bytes))) read ∙ head
+log_is folder name bytes log read head = ap (λ (r : Result (List ℕ) CommandStop). and_then r (λ bytes. log_or_bad_head name (head_at bytes))) read ∙ head
 
 -- a pair whose files stand, and whose log does not clash
 pub pair_stands : (folder : Folder) (ls : List Loaded) (pair : Pair) (m : Module) (log : Head × Unread) → module_in folder pair.module_name ≡ Ok m → log_in folder pair.log_name ≡ Ok log → clash ls log.0 ≡ None
     → loaded_pair folder ls pair ≡ Ok (read_as pair m log)
 pair_stands folder ls pair m log is stands none =
     module_read folder ls pair m is
-    ∙ ap (λ (r : Result (Head × Unread) Stop). and_then r (λ log. unless_clash pair.log_name (read_as pair m log) (clash ls log.0))) stands
+    ∙ ap (λ (r : Result (Head × Unread) CommandStop). and_then r (λ log. unless_clash pair.log_name (read_as pair m log) (clash ls log.0))) stands
     ∙ ap (unless_clash pair.log_name (read_as pair m log)) none
 
 pub pair_read : (folder : Folder) (ls : List Loaded) (pair : Pair) (m : Module) (bytes : List ℕ) (log : Head × Unread) → module_in folder pair.module_name ≡ Ok m → file_of folder pair.log_name most_log ≡ Ok bytes
@@ -109,7 +109,7 @@ so_far_more folder pairs left pair xs x so reads =
     record {
       held = so.held ++ one.0 ∷ [];
       are = loaded_more xs so.held x one.0 so.are one.1.1;
-      wanted = so.wanted ∙ ap (λ (r : Result Loaded Stop). and_then r (λ l. loaded_pairs folder (so.held ++ l ∷ []) (map pair_of left))) one.1.0;
+      wanted = so.wanted ∙ ap (λ (r : Result Loaded CommandStop). and_then r (λ l. loaded_pairs folder (so.held ++ l ∷ []) (map pair_of left))) one.1.0;
     }
 
 pub one_read : (told : Option Folder) (pairs before left : List PairOfWords) (pair : PairOfWords) (xs after : List LoadedFiles) (x : LoadedFiles) → AreRead told pairs before xs → before ≡ pair ∷ left
@@ -124,11 +124,11 @@ one_read told pairs before left pair xs after x read next reads fits pushed =
     })
 
 -- a pair was refused
-pub reading_stops : (told : Option Folder) (pairs before left : List PairOfWords) (pair : PairOfWords) (xs : List LoadedFiles) (e : Refusal) → AreRead told pairs before xs → before ≡ pair ∷ left
+pub reading_stops : (told : Option Folder) (pairs before left : List PairOfWords) (pair : PairOfWords) (xs : List LoadedFiles) (e : StopCause) → AreRead told pairs before xs → before ≡ pair ∷ left
     → WhenTold told (λ folder. (ls : List Loaded) → AreLoaded xs ls → StopsAs (loaded_pair folder ls (pair_of pair)) e) → WhenTold told (λ folder. StopsAs (loaded_pairs folder [] (map pair_of pairs)) e)
 reading_stops told pairs before left pair xs e read next stops folder is =
     let so = read.so_far folder is in
-    subst (λ (r : Result (List Loaded) Stop). StopsAs r e) (sym (so.wanted ∙ ap (λ (ps : List PairOfWords). loaded_pairs folder so.held (map pair_of ps)) next))
+    subst (λ (r : Result (List Loaded) CommandStop). StopsAs r e) (sym (so.wanted ∙ ap (λ (ps : List PairOfWords). loaded_pairs folder so.held (map pair_of ps)) next))
     (stops_then (loaded_pair folder so.held (pair_of pair)) _ e (stops folder is so.held so.are))
 
 pub all_read : (told : Option Folder) (pairs left : List PairOfWords) (xs : List LoadedFiles) → AreRead told pairs left xs → left ≡ []

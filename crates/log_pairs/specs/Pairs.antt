@@ -10,9 +10,9 @@ use Rattle.command_run.specs.declared.refusal.Reason.{Reason}
 use Rattle.command_run.specs.declared.refusal.Reason.TheVariants as reason
 use Rattle.command_run.specs.Inputs.{first_state_of, module_in}
 use Rattle.log_files.specs.Logs.{log_in}
-use Rattle.command_run.specs.declared.refusal.Refusal.{Refusal}
+use Rattle.command_run.specs.declared.refusal.StopCause.{StopCause}
 use Rattle.command_run.specs.Call.{StopsAs}
-use Rattle.command_run.specs.Outcome.{Stop, and_then, refuses_at_once}
+use Rattle.command_run.specs.Outcome.{CommandStop, and_then, refuses_at_once}
 
 -- the files of a module and of a log of its process
 pub record Pair : Type 0 where
@@ -47,31 +47,31 @@ clash earlier head =
     else if has_name earlier head.name then Some reason.SameName
     else None
 
-abbrev pub unless_clash : List ℕ → Loaded → Option Reason → Result Loaded Stop
+abbrev pub unless_clash : List ℕ → Loaded → Option Reason → Result Loaded CommandStop
 unless_clash log_name l None = Ok l
 unless_clash log_name l (Some why) = Err (refuses_at_once log_name why)
 
 -- ---- the files, pair after pair
 
 -- the module's, then the log's, then the log against the pairs before it
-abbrev pub loaded_pair : Folder → List Loaded → Pair → Result Loaded Stop
+abbrev pub loaded_pair : Folder → List Loaded → Pair → Result Loaded CommandStop
 loaded_pair folder earlier pair =
     and_then (module_in folder pair.module_name) (λ m. and_then (log_in folder pair.log_name) (λ log.
     unless_clash pair.log_name (record { module_name = pair.module_name; «module» = m; head = log.0; left = log.1 }) (clash earlier log.0)))
 
-abbrev pub loaded_pairs : Folder → List Loaded → List Pair → Result (List Loaded) Stop
+abbrev pub loaded_pairs : Folder → List Loaded → List Pair → Result (List Loaded) CommandStop
 loaded_pairs folder earlier [] = Ok earlier
 loaded_pairs folder earlier (pair ∷ pairs) = and_then (loaded_pair folder earlier pair) (λ l. loaded_pairs folder (earlier ++ l ∷ []) pairs)
 
 -- ---- the replays
 
 -- the replay of a log from the first state of its process
-abbrev pub replay_of_log : Loaded → Result Replaying Stop
+abbrev pub replay_of_log : Loaded → Result Replaying CommandStop
 replay_of_log l =
     and_then (first_state_of l.module_name l.«module» l.head.process l.head.count) (λ begun. Ok (record { head = l.head; state = begun; left = l.left }))
 
 -- the replays of all logs, unless a process does not begin
-abbrev pub replays_of : List Loaded → Result (List Replaying) Stop
+abbrev pub replays_of : List Loaded → Result (List Replaying) CommandStop
 replays_of [] = Ok []
 replays_of (l ∷ ls) = and_then (replay_of_log l) (λ r. and_then (replays_of ls) (λ rs. Ok (r ∷ rs)))
 
@@ -87,7 +87,7 @@ sort_replays sorted (r ∷ rs) = sort_replays (insert_replay r sorted) rs
 
 -- the replays of the logs of some pairs, in order of their processes' numbers. No process begins before all
 -- files are read
-abbrev pub replays_of_pairs : Folder → List Pair → Result (List Replaying) Stop
+abbrev pub replays_of_pairs : Folder → List Pair → Result (List Replaying) CommandStop
 replays_of_pairs folder pairs = and_then (loaded_pairs folder [] pairs) (λ ls. and_then (replays_of ls) (λ rs. Ok (sort_replays [] rs)))
 
 -- they are these, as far as the folder tells its files
@@ -95,5 +95,5 @@ abbrev pub WasOpened : List Pair → Option Folder → List Replaying → Type 0
 WasOpened pairs told start = WhenTold told (λ folder. replays_of_pairs folder pairs ≡ Ok start)
 
 -- none could be, for this refusal
-abbrev pub NoneOpened : List Pair → Option Folder → Refusal → Type 0
+abbrev pub NoneOpened : List Pair → Option Folder → StopCause → Type 0
 NoneOpened pairs told e = WhenTold told (λ folder. StopsAs (replays_of_pairs folder pairs) e)

@@ -11,7 +11,7 @@ ghost use Rattle.log_pairs.specs.Pairs.{Loaded as LoadedOf, NoneOpened, Pair as 
 ghost use Rattle.log_pairs.specs.Seen.{AreLoaded, AreOneGroup, IsLoaded, WereLoaded, pair_of};
 
 use call_log::{LogHead, LogView, exact_logs};
-use command_run::{ModuleFiles, Reason, Refusal, begin_process};
+use command_run::{ModuleFiles, Reason, StopCause, begin_process};
 use fri_bytes::Bytes;
 use fri_outside::Files;
 use log_files::{begin_log, take_log};
@@ -95,7 +95,7 @@ fn load<'a, F: Files>(
     earlier: &[Loaded<'a>],
     modules: &mut ModuleFiles,
     files: &mut F,
-) -> Result<Loaded<'a>, Refusal>
+) -> Result<Loaded<'a>, StopCause>
     requires { AreOfFiles (F.told files.old) modules.old }
     ensures answer { WhenTold (F.told files.old) (λ folder. (ls : List LoadedOf) → AreLoaded earlier.now ls → MatchResult result
         (λ l. (is : LoadedOf) × ((loaded_pair folder ls (pair_of pair.entry) ≡ Ok is) × IsLoaded l is))
@@ -111,7 +111,7 @@ fn load<'a, F: Files>(
     let log = take_log(alloc, pair.log_file, files)?;
     let head = begin_log(alloc, pair.log_file, &log)?.head();
     if let Some(why) = clash(earlier, &head) {
-        return Err(Refusal::refuse(alloc, pair.log_file, why));
+        return Err(StopCause::refuse(alloc, pair.log_file, why));
     }
     let name = Bytes::from_slice(alloc, head.name)?;
     let LogHead { count, process, .. } = head;
@@ -130,7 +130,7 @@ pub fn load_all<'a, F: Files>(
     alloc: Global,
     pairs: &[Pair<'a>],
     files: &mut F,
-) -> Result<Vec<Loaded<'a>>, Refusal>
+) -> Result<Vec<Loaded<'a>>, StopCause>
     ensures answer { MatchResult result (λ all. WereLoaded (map pair_of pairs.now) (F.told files.old) all.items)
         (NoneOpened (map pair_of pairs.now) (F.told files.old)) }
     ensures loaded { IfOk result (λ all. (ls : List LoadedOf) × AreLoaded all.items ls) }
@@ -149,7 +149,7 @@ pub fn load_all<'a, F: Files>(
 }
 
 // The replay of a log from the first state of its process.
-fn begin_replay<'m>(alloc: Global, loaded: &'m Loaded<'_>) -> Result<Replayer<'m, 'm>, Refusal>
+fn begin_replay<'m>(alloc: Global, loaded: &'m Loaded<'_>) -> Result<Replayer<'m, 'm>, StopCause>
     requires { (is : LoadedOf) × IsLoaded loaded.now is }
     ensures answer { (is : LoadedOf) → IsLoaded loaded.now is → MatchResult result
         (λ replay. replay_of_log is ≡ Ok replay) (StopsAs (replay_of_log is)) }
@@ -192,7 +192,10 @@ fn place<'m>(sorted: &mut Vec<Replayer<'m, 'm>>, replay: Replayer<'m, 'm>) -> Re
 }
 
 /// The replays of the logs of a group, in order of their processes' numbers.
-pub fn begin_all<'m>(alloc: Global, all: &'m [Loaded<'_>]) -> Result<Vec<Replayer<'m, 'm>>, Refusal>
+pub fn begin_all<'m>(
+    alloc: Global,
+    all: &'m [Loaded<'_>],
+) -> Result<Vec<Replayer<'m, 'm>>, StopCause>
     requires loaded { (ls : List LoadedOf) × AreLoaded all.now ls }
     requires apart { AreOneGroup all.now }
     ensures answer { (pairs : List PairOf) (told : Option Folder) → WereLoaded pairs told all.now → MatchResult result

@@ -3,17 +3,17 @@ use Rattle.std.proofs.Common.{◌≡◌, ℕ, ◌+◌, ◌-◌, ◌<◌, true, O
 use Rattle.std.specs.Prelude.{is_some}
 use Rattle.group_state.specs.declared.event.GroupEvent.{GroupEvent}
 use Rattle.group_state.specs.Moves.{Moves}
-use Rattle.group_state.specs.Place.{Place}
+use Rattle.group_state.specs.Place.{GroupPlace}
 use Rattle.group_state.specs.Seen.{nodes_at}
 use Rattle.page_watch.specs.Watched.{Stands, Watched}
 
-pub moved : (old new : Place) (event : Option GroupEvent) → is_some event ≡ true → Moves old new event → 0 < new.at
+pub moved : (old new : GroupPlace) (event : Option GroupEvent) → is_some event ≡ true → Moves old new event → 0 < new.at
 moved old new None some moves = absurd (cc)
-moved old new (Some e) some moves = omega (arith, ap (λ (p : Place). p.at) moves.place)
+moved old new (Some e) some moves = omega (arith, ap (λ (p : GroupPlace). p.at) moves.place)
 
 -- it stands for the state just before
-pub stood : (old new : Place) (event : Option GroupEvent) (w : Watched) → is_some event ≡ true → Moves old new event → Stands w (nodes_at old) → Stands w (nodes_at (record { start = new.start; at = new.at - 1 }))
+pub stood : (old new : GroupPlace) (event : Option GroupEvent) (w : Watched) → is_some event ≡ true → Moves old new event → Stands w (nodes_at old) → Stands w (nodes_at (record { start = new.start; at = new.at - 1 }))
 stood old new None w some moves h = absurd (cc)
 stood old new (Some e) w some moves h =
     let one : old.at ≡ old.at + 1 - 1 = omega arith in
-    subst (λ (p : Place). Stands w (nodes_at (record { start = p.start; at = p.at - 1 }))) (sym moves.place) (subst (λ (k : ℕ). Stands w (nodes_at (record { start = old.start; at = k }))) one h)
+    subst (λ (p : GroupPlace). Stands w (nodes_at (record { start = p.start; at = p.at - 1 }))) (sym moves.place) (subst (λ (k : ℕ). Stands w (nodes_at (record { start = old.start; at = k }))) one h)

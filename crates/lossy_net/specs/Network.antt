@@ -77,9 +77,9 @@ IsReadFirst count [] tag payload = ⊥
 IsReadFirst count (datagram ∷ waiting) tag payload = IsReadAs count datagram tag payload
 
 -- the first datagram of the process's mailbox has this tag, or none, and this payload
-abbrev pub IsFront : List Traffic → ℕ → Option Tag → List ℕ → Type 0
-IsFront net process = IsReadFirst (length net) (mailbox_of net process)
+abbrev pub IsFirstWaiting : List Traffic → ℕ → Option Tag → List ℕ → Type 0
+IsFirstWaiting net process = IsReadFirst (length net) (mailbox_of net process)
 
 -- the tag and the payload of the first datagram of the process's mailbox, if there is one
-abbrev pub front_of : List Traffic → ℕ → Option (Option Tag × List ℕ)
-front_of net process = option_map (read_datagram (length net)) (slice_get (mailbox_of net process) 0)
+abbrev pub first_waiting : List Traffic → ℕ → Option (Option Tag × List ℕ)
+first_waiting net process = option_map (read_datagram (length net)) (slice_get (mailbox_of net process) 0)

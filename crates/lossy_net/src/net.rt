@@ -1,6 +1,6 @@
 // The network of a group.
 ghost use Rattle.std.specs.Prelude.{◌≡◌, ◌≢◌, ◌↔◌, ℕ, ◌<◌, ◌≤◌, [], length, replicate, IsTrue, IsNone, IfSome, IfOk, OnOk, OnErr, is_some, option_map};
-ghost use Rattle.lossy_net.specs.Network.{Traffic, no_traffic, sent_by, mailbox_of, nth_of, with_sent, with_waiting, with_delivered, without_front, front_of, IsFront};
+ghost use Rattle.lossy_net.specs.Network.{Traffic, no_traffic, sent_by, mailbox_of, nth_of, with_sent, with_waiting, with_delivered, without_front, first_waiting, IsFirstWaiting};
 
 use crate::endpoint::Endpoint;
 use crate::shared::Shared;
@@ -104,9 +104,9 @@ impl Net {
     pub fn front(&self, p: u32) -> Option<Front<'_>>
         requires { p < length self.now }
         ensures none { IsNone result ↔ (mailbox_of self.now p ≡ []) }
-        ensures some { IfSome result (λ front. IsFront self.now p front.tag front.payload.now) }
+        ensures some { IfSome result (λ front. IsFirstWaiting self.now p front.tag front.payload.now) }
         ensures value { option_map (λ front. (front.tag, front.payload.now)) result
-            ≡ front_of self.now p }
+            ≡ first_waiting self.now p }
     {
         let datagram = self.endpoints[p as usize].front()?;
         match read_tag(datagram, self.count) {

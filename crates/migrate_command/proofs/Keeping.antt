@@ -11,10 +11,10 @@ use Rattle.call_log.specs.Entry.{encodings}
 use Rattle.call_log.specs.Head.{Head, IsHead}
 use Rattle.call_log.specs.Laws.{ExactLogs, IsNewer, RewrittenIsRead}
 use Rattle.call_log.specs.Limits.{most_log}
-use Rattle.call_log.specs.Log.{Unread, behind, entries_of, head_at, rest_of}
+use Rattle.call_log.specs.Log.{Unread, unread_after_head, entries_of, head_at, rest_of}
 use Rattle.command_run.specs.declared.refusal.Reason.TheVariants as reason
 use Rattle.command_run.specs.Laws.{ReadsModules}
-use Rattle.command_run.specs.Outcome.{Stop, Work, and_then, file_of, refuses_at_once}
+use Rattle.command_run.specs.Outcome.{CommandStop, CommandWork, and_then, file_of, refuses_at_once}
 use Rattle.command_run.specs.OutcomeLaws.{follows, same_Ok}
 use Rattle.log_files.specs.Laws.{FindsLogs}
 use Rattle.log_files.specs.Logs.{log_in, log_or_bad_head}
@@ -25,16 +25,16 @@ use Rattle.migrate_command.specs.Migrate.{migrate_work, new_log, work_unless_gro
 
 pub migration_works : FindsLogs → MigrationsWork
 migration_works finds log_name new_name folder h =
-    let log : Head × Unread = (h.log.head, behind h.log.head h.log.left) in (
+    let log : Head × Unread = (h.log.head, unread_after_head h.log.head h.log.left) in (
       migrate_work new_name log,
-      ap (λ (r : Result (Head × Unread) Stop). and_then r (work_unless_grown log_name new_name)) (finds folder log_name h.log)
+      ap (λ (r : Result (Head × Unread) CommandStop). and_then r (work_unless_grown log_name new_name)) (finds folder log_name h.log)
           ∙ ap (λ b. cond b (Ok (migrate_work new_name log)) (Err (refuses_at_once log_name reason.Grown))) (le-leb (length (new_log log)) most_log h.fits),
     )
 
 -- ---- the file that is made
 
 -- work that is done is that of a log whose newer form is within the limit
-not_grown : (b : Bool) (wanted work : Work) (stop : Stop) → cond b (Ok wanted) (Err stop) ≡ Ok work → (b ≡ true) × (work ≡ wanted)
+not_grown : (b : Bool) (wanted work : CommandWork) (stop : CommandStop) → cond b (Ok wanted) (Err stop) ≡ Ok work → (b ≡ true) × (work ≡ wanted)
 not_grown true wanted work stop is = (refl, same_Ok (Ok wanted) work wanted is refl)
 not_grown false wanted work stop is = cc
 
@@ -59,7 +59,7 @@ module _ (keeps : KeepsFiles) (exact : ExactLogs) (rewritten_read : RewrittenIsR
   newer_read : (folder : Folder) (new_name : List ℕ) (log : Head × Unread) → (is : IsHead log.0) → length (new_log log) ≤ most_log
       → log_in (insert folder new_name (new_log log)) new_name ≡ Ok (newer_head log.0, (newer_found log is).left)
   newer_read folder new_name log is few =
-      ap (λ (r : Result (List ℕ) Stop). and_then r (λ bytes. log_or_bad_head new_name (head_at bytes)))
+      ap (λ (r : Result (List ℕ) CommandStop). and_then r (λ bytes. log_or_bad_head new_name (head_at bytes)))
       (reads.files (insert folder new_name (new_log log)) new_name most_log (new_log log) (record { held = keeps.made folder new_name (new_log log); within = few }))
       ∙ ap (log_or_bad_head new_name) (newer_found log is).found
 

@@ -5,7 +5,7 @@ use Rattle.fri_outside.specs.Several.{with_files}
 use Rattle.call_log.specs.declared.version.Version.TheVariants.{Two}
 use Rattle.call_log.specs.Head.{Head}
 use Rattle.call_log.specs.Log.{Unread, entries_of, head_at, rest_of}
-use Rattle.command_run.specs.Outcome.{Work}
+use Rattle.command_run.specs.Outcome.{CommandWork}
 use Rattle.log_files.specs.Logs.{log_in}
 use Rattle.migrate_command.specs.Migrate.{migrate_outcome}
 use Rattle.migrate_command.specs.Valid.{IsMigration}
@@ -16,7 +16,7 @@ newer_head head = record head { version = Two }
 
 -- The log that is read under a name and the one that is written under another: the new file has the same head in version
 -- 2 and the same entries, and nothing behind them; and so it is read in the folder that has it.
-pub record KeepsLog (folder : Folder) (log_name new_name : List ℕ) (work : Work) : Type 0 where
+pub record KeepsLog (folder : Folder) (log_name new_name : List ℕ) (work : CommandWork) : Type 0 where
   pub head : Head
   pub left : Unread
   pub was : log_in folder log_name ≡ Ok (head, left)
@@ -30,10 +30,10 @@ pub record KeepsLog (folder : Folder) (log_name new_name : List ℕ) (work : Wor
 
 -- whatever the folder, a migration that is done keeps the log
 abbrev pub MigrationsKeep : Type 0
-MigrationsKeep = (log_name new_name : List ℕ) (folder : Folder) (work : Work) → migrate_outcome log_name new_name folder ≡ Ok work
+MigrationsKeep = (log_name new_name : List ℕ) (folder : Folder) (work : CommandWork) → migrate_outcome log_name new_name folder ≡ Ok work
     → KeepsLog folder log_name new_name work
 
 -- a log whose newer form is within the limit has an outcome that is work
 abbrev pub MigrationsWork : Type 0
 MigrationsWork = (log_name new_name : List ℕ) (folder : Folder) → IsMigration folder log_name
-    → (work : Work) × (migrate_outcome log_name new_name folder ≡ Ok work)
+    → (work : CommandWork) × (migrate_outcome log_name new_name folder ≡ Ok work)

@@ -5,7 +5,7 @@ use Rattle.call_log.specs.Head.{Head}
 use Rattle.call_log.specs.Limits.{most_log}
 use Rattle.call_log.specs.Log.{Unread, entries_of, rest_of, rewritten}
 use Rattle.command_run.specs.declared.refusal.Reason.TheVariants as reason
-use Rattle.command_run.specs.Outcome.{CommandOutcome, Work, and_then, refuses_at_once}
+use Rattle.command_run.specs.Outcome.{CommandOutcome, CommandWork, and_then, refuses_at_once}
 use Rattle.log_files.specs.Logs.{log_in}
 
 -- the process's name, how many entries there are, and how many bytes are left behind them
@@ -17,7 +17,7 @@ abbrev pub new_log : Head × Unread → List ℕ
 new_log log = rewritten log.0 (entries_of log.1)
 
 -- the work of a migration: the new file, and what is said of it
-abbrev pub migrate_work : List ℕ → Head × Unread → Work
+abbrev pub migrate_work : List ℕ → Head × Unread → CommandWork
 migrate_work new_name log = record {
   text = migrate_text log.0.name (length (entries_of log.1)) (length (rest_of log.1));
   writes = (new_name, new_log log) ∷ [];

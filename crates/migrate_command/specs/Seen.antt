@@ -1,8 +1,8 @@
 -- What was made ready.
 use Rattle.std.specs.Prelude.{ℕ, List, [], ◌∷◌, false}
-use Rattle.command_run.specs.Outcome.{Work}
+use Rattle.command_run.specs.Outcome.{CommandWork}
 use Rattle.migrate_command.specs.declared.newer.Migration.{Migration}
 
 -- the work of a migration that was made ready, for a file of this name
-abbrev pub work_of : List ℕ → Migration → Work
-work_of new_name m = record { text = m.text; writes = (new_name, m.bytes.items) ∷ []; diverged = false }
+abbrev pub work_of_migration : List ℕ → Migration → CommandWork
+work_of_migration new_name m = record { text = m.text; writes = (new_name, m.bytes.items) ∷ []; diverged = false }

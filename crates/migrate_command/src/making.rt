@@ -1,17 +1,17 @@
 // `migrate LOG NEW`: makes the file that has the newer form of a log.
 ghost use Rattle.std.specs.Prelude.{◌≡◌, [], ◌∷◌, false, option_map, IfErr};
 ghost use Rattle.fri_outside.specs.Outside.{WhenTold};
-ghost use Rattle.command_run.specs.Call.{CountsFaults, DivergesOnlyIf, Keeps, Makes, MakesAll, Raises, TellsOutcome};
+ghost use Rattle.command_run.specs.Call.{CountsFaults, DivergesOnlyIf, KeepsFolder, MakesWorkFiles, MakesAll, Raises, TellsOutcome};
 ghost use Rattle.command_run.specs.Outcome.{writes_of};
 ghost use Rattle.migrate_command.specs.Migrate.{migrate_outcome};
 
 use crate::newer::{Migration, take_migration};
-use command_run::{Answer, Refusal};
+use command_run::{StopCause, WorkText};
 use fri_outside::{Files, keeps_files};
 use std::alloc::Global;
 
 // Makes a file that has these bytes.
-fn make_file<F: Files>(name: &str, bytes: &[u8], files: &mut F) -> Result<(), Refusal>
+fn make_file<F: Files>(name: &str, bytes: &[u8], files: &mut F) -> Result<(), StopCause>
     ensures made { MakesAll result ((name.now, bytes.now) ∷ []) (F.told files.old) (F.told files.new) }
     ensures counts { CountsFaults (F.counts files.old) (F.counts files.new) result }
     ensures cause { IfErr result (Raises (F.counts files.old) (F.counts files.new)) }
@@ -29,16 +29,16 @@ pub fn migrate<F: Files>(
     log_file: &str,
     new_file: &str,
     files: &mut F,
-) -> Result<Answer, Refusal>
+) -> Result<WorkText, StopCause>
     ensures tells { WhenTold (option_map (migrate_outcome log_file.now new_file.now) (F.told files.old)) (λ outcome. TellsOutcome outcome result) }
     ensures makes { WhenTold (option_map (migrate_outcome log_file.now new_file.now) (F.told files.old)) (λ outcome.
-        Makes result (writes_of outcome) (F.told files.old) (F.told files.new)) }
-    ensures keeps { Keeps result (F.told files.old) (F.told files.new) }
+        MakesWorkFiles result (writes_of outcome) (F.told files.old) (F.told files.new)) }
+    ensures keeps { KeepsFolder result (F.told files.old) (F.told files.new) }
     ensures done { DivergesOnlyIf false result }
     ensures counts { CountsFaults (F.counts files.old) (F.counts files.new) result }
     ensures cause { IfErr result (Raises (F.counts files.old) (F.counts files.new)) }
 {
     let Migration { bytes, text } = take_migration(alloc, log_file, files)?;
     make_file(new_file, &bytes, files)?;
-    Ok(Answer::Done(text))
+    Ok(WorkText::Done(text))
 }

@@ -4,10 +4,10 @@ ghost use Rattle.fri_outside.specs.Outside.{Counts, WhenTold};
 ghost use Rattle.call_log.specs.Log.{entries_of, rest_of};
 ghost use Rattle.command_run.specs.Call.{CountsFaults, Raises, StopsAs, reads_after, writes_after};
 ghost use Rattle.migrate_command.specs.Migrate.{migrate_outcome, migrate_text, work_unless_grown};
-ghost use Rattle.migrate_command.specs.Seen.{work_of};
+ghost use Rattle.migrate_command.specs.Seen.{work_of_migration};
 
 use call_log::{LogView, MOST_LOG, rewrite};
-use command_run::{Reason, Refusal};
+use command_run::{Reason, StopCause};
 use fri_outside::Files;
 use fri_text::Text;
 use log_files::{begin_log, take_log};
@@ -56,9 +56,9 @@ fn print(alloc: Global, name: &[u8], extent: Extent) -> Result<Text, AllocError>
 }
 
 // Makes ready the migration of a log, whose file is refused where the newer form would pass the limit.
-fn renew(alloc: Global, log_file: &str, log: &LogView<'_>) -> Result<Migration, Refusal>
+fn renew(alloc: Global, log_file: &str, log: &LogView<'_>) -> Result<Migration, StopCause>
     ensures answer { (new_name : List ℕ) → MatchResult result
-        (λ m. work_unless_grown log_file.now new_name (log.now.head, log.now.left) ≡ Ok (work_of new_name m))
+        (λ m. work_unless_grown log_file.now new_name (log.now.head, log.now.left) ≡ Ok (work_of_migration new_name m))
         (StopsAs (work_unless_grown log_file.now new_name (log.now.head, log.now.left))) }
     ensures cause { (old new : Counts) → IfErr result (Raises old new) }
     ensures still { (n : ℕ) → (reads_after n result ≡ n) × (writes_after n result ≡ n) }
@@ -66,7 +66,7 @@ fn renew(alloc: Global, log_file: &str, log: &LogView<'_>) -> Result<Migration, 
     let extent = extent_of(log);
     let bytes = rewrite(alloc, log, extent.entries)?;
     if bytes.len() > MOST_LOG {
-        return Err(Refusal::refuse(alloc, log_file, Reason::Grown));
+        return Err(StopCause::refuse(alloc, log_file, Reason::Grown));
     }
     let text = print(alloc, log.head().name, extent)?;
     Ok(Migration { bytes, text })
@@ -77,9 +77,9 @@ pub(crate) fn take_migration<F: Files>(
     alloc: Global,
     log_file: &str,
     files: &mut F,
-) -> Result<Migration, Refusal>
+) -> Result<Migration, StopCause>
     ensures answer { (new_name : List ℕ) → WhenTold (F.told files.old) (λ folder. MatchResult result
-        (λ m. migrate_outcome log_file.now new_name folder ≡ Ok (work_of new_name m))
+        (λ m. migrate_outcome log_file.now new_name folder ≡ Ok (work_of_migration new_name m))
         (StopsAs (migrate_outcome log_file.now new_name folder))) }
     ensures same { F.told files.new ≡ F.told files.old }
     ensures counts { CountsFaults (F.counts files.old) (F.counts files.new) result }

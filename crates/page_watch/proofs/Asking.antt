@@ -11,7 +11,7 @@ use Rattle.watch_expr.specs.Reads.{ReadsTell, reads}
 use Rattle.watch_expr.specs.View.{Node}
 use Rattle.page_watch.specs.Places.{AreUnion, Covers, places_of}
 use Rattle.page_watch.specs.Touch.{MarksTell, meets}
-use Rattle.page_watch.specs.Watched.{Stands, Watched, asked, evaluated}
+use Rattle.page_watch.specs.Watched.{Stands, Watched, watch_after_event, evaluated}
 use Rattle.page_watch.proofs.OneNode.{or-false}
 use Rattle.page_watch.proofs.Staying.{keeps}
 
@@ -122,15 +122,15 @@ module _ (law : ReadsTell) (states : ℕ → List Node) (at : ℕ) (marks : Plac
   stands_by w true is stood = record { value = refl; places = refl; sound = tells.sound }
   stands_by w false is stood = keeps law states at marks w tells some stood is
 
-  pub stands_after : (w after : Watched) → after ≡ asked marks at new w → Stands w old → Stands after new
+  pub stands_after : (w after : Watched) → after ≡ watch_after_event marks at new w → Stands w old → Stands after new
   stands_after w after is stood = subst (λ (v : Watched). Stands v new) (sym is) (stands_by w (meets marks at w.places) refl stood)
 
-  all_stand : (ws : List Watched) → AllByRecursion (λ (w : Watched). Stands w old) ws → AllByRecursion (λ (w : Watched). Stands w new) (map (asked marks at new) ws)
+  all_stand : (ws : List Watched) → AllByRecursion (λ (w : Watched). Stands w old) ws → AllByRecursion (λ (w : Watched). Stands w new) (map (watch_after_event marks at new) ws)
   all_stand [] stood = tt
   all_stand (w ∷ ws) stood = (stands_by w (meets marks at w.places) refl stood.0, all_stand ws stood.1)
 
-  pub stand_now : (ws : List Watched) → All (λ w. Stands w old) ws → All (λ w. Stands w new) (map (asked marks at new) ws)
-  stand_now ws stood = All-from_recursion (λ w. Stands w new) (map (asked marks at new) ws) (all_stand ws (recursion_from_All (λ w. Stands w old) ws stood))
+  pub stand_now : (ws : List Watched) → All (λ w. Stands w old) ws → All (λ w. Stands w new) (map (watch_after_event marks at new) ws)
+  stand_now ws stood = All-from_recursion (λ w. Stands w new) (map (watch_after_event marks at new) ws) (all_stand ws (recursion_from_All (λ w. Stands w old) ws stood))
 
   -- the evaluations are those at places that were read
   counts_same : (ws : List Watched) → AllByRecursion (λ (w : Watched). Stands w old) ws
@@ -154,12 +154,12 @@ module _ (law : ReadsTell) (states : ℕ → List Node) (at : ℕ) (marks : Plac
   nothing_more : {n : ℕ} → n ≡ 0 → 0 + n ≡ 0
   nothing_more is = omega (arith, is)
 
-  pub none_asked : (ws : List Watched) → list_any (λ (l : Place). nat_eq (marks l) at) (places_of ws) ≡ false → (map (asked marks at new) ws ≡ ws) × (count_by (λ w. meets marks at w.places) ws ≡ 0)
+  pub none_asked : (ws : List Watched) → list_any (λ (l : Place). nat_eq (marks l) at) (places_of ws) ≡ false → (map (watch_after_event marks at new) ws ≡ ws) × (count_by (λ w. meets marks at w.places) ws ≡ 0)
   none_asked [] none = (refl, refl)
   none_asked (w ∷ ws) none =
       let both = or-false (meets marks at w.places) (meets marks at (places_of ws)) (sym (list_any-append (λ (l : Place). nat_eq (marks l) at) w.places (places_of ws)) ∙ none) in
       let rest = none_asked ws both.1 in (
-        ap (λ (v : Watched). v ∷ map (asked marks at new) ws) (as_it_was w (meets marks at w.places) both.0) ∙ ap (λ (vs : List Watched). w ∷ vs) rest.0,
+        ap (λ (v : Watched). v ∷ map (watch_after_event marks at new) ws) (as_it_was w (meets marks at w.places) both.0) ∙ ap (λ (vs : List Watched). w ∷ vs) rest.0,
         sum_by-cons (λ (w : Watched). cond (meets marks at w.places) 1 0) w ws
             ∙ ap (λ (b : Bool). cond b 1 0 + count_by (λ w. meets marks at w.places) ws) both.0 ∙ nothing_more rest.1,
       )
@@ -175,11 +175,11 @@ expression_by : (w : Watched) (nodes : List Node) (b : Bool) → (cond b (evalua
 expression_by w nodes true = refl
 expression_by w nodes false = refl
 
-pub same_expression : (marks : Place → ℕ) (at : ℕ) (nodes : List Node) (w after : Watched) → after ≡ asked marks at nodes w → after.expression ≡ w.expression
+pub same_expression : (marks : Place → ℕ) (at : ℕ) (nodes : List Node) (w after : Watched) → after ≡ watch_after_event marks at nodes w → after.expression ≡ w.expression
 same_expression marks at nodes w after is = ap (λ (v : Watched). v.expression) is ∙ expression_by w nodes (meets marks at w.places)
 
-pub same_expressions : (marks : Place → ℕ) (at : ℕ) (nodes : List Node) (ws : List Watched) → map (λ (w : Watched). w.expression) (map (asked marks at nodes) ws) ≡ map (λ (w : Watched). w.expression) ws
+pub same_expressions : (marks : Place → ℕ) (at : ℕ) (nodes : List Node) (ws : List Watched) → map (λ (w : Watched). w.expression) (map (watch_after_event marks at nodes) ws) ≡ map (λ (w : Watched). w.expression) ws
 same_expressions marks at nodes [] = refl
 same_expressions marks at nodes (w ∷ ws) =
-    ap (λ (x : Expression). x ∷ map (λ (w : Watched). w.expression) (map (asked marks at nodes) ws)) (expression_by w nodes (meets marks at w.places))
+    ap (λ (x : Expression). x ∷ map (λ (w : Watched). w.expression) (map (watch_after_event marks at nodes) ws)) (expression_by w nodes (meets marks at w.places))
     ∙ ap (λ (xs : List Expression). w.expression ∷ xs) (same_expressions marks at nodes ws)

@@ -24,5 +24,5 @@ abbrev pub evaluated : List Node → Expression → Watched
 evaluated nodes x = record { expression = x; value = value nodes no_variables x; places = reads nodes x }
 
 -- what a watch is after an event: evaluated anew where that touched something that it was read from, and else as it was
-abbrev pub asked : (Place → ℕ) → ℕ → List Node → Watched → Watched
-asked marks at nodes watch = if meets marks at watch.places then evaluated nodes watch.expression else watch
+abbrev pub watch_after_event : (Place → ℕ) → ℕ → List Node → Watched → Watched
+watch_after_event marks at nodes watch = if meets marks at watch.places then evaluated nodes watch.expression else watch

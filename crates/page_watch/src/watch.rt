@@ -2,7 +2,7 @@
 ghost use Rattle.std.specs.Prelude.{◌≡◌, ◌+◌, ◌-◌, ◌<◌, IfOk, OnOk, if◌then◌else◌};
 ghost use Rattle.page_watch.specs.Firing.{change_of, is_same_value};
 ghost use Rattle.page_watch.specs.Touch.{meets};
-ghost use Rattle.page_watch.specs.Watched.{Stands, asked};
+ghost use Rattle.page_watch.specs.Watched.{Stands, watch_after_event};
 ghost use Rattle.watch_expr.specs.Expression.{expression_of};
 ghost use Rattle.watch_expr.specs.Reads.{no_variables, reads};
 ghost use Rattle.watch_expr.specs.Value.{value};
@@ -90,7 +90,7 @@ impl Watch {
     ) -> Result<bool, AllocError>
         requires position { 0 < V.at v.now }
         requires stands { Stands self.old (V.states v.now (V.at v.now - 1)) }
-        ensures watch { OnOk result (self.new ≡ asked (V.marks v.now) (V.at v.now) (V.states v.now (V.at v.now)) self.old) }
+        ensures watch { OnOk result (self.new ≡ watch_after_event (V.marks v.now) (V.at v.now) (V.states v.now (V.at v.now)) self.old) }
         ensures evaluates { IfOk result (λ evaluates. evaluates ≡ meets (V.marks v.now) (V.at v.now) self.old.places) }
         ensures steps { steps.new ≡ steps.old + (if meets (V.marks v.now) (V.at v.now) self.old.places then 1 else 0) }
     {

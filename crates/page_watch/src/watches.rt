@@ -2,7 +2,7 @@
 ghost use Rattle.std.specs.Prelude.{◌≡◌, ◌+◌, ◌-◌, ◌<◌, ◌++◌, ◌∷◌, [], All, IfOk, IsFalse, OnOk, count_by, Some, length, map, slice_get, if◌then◌else◌};
 ghost use Rattle.page_watch.specs.Places.{Covers, places_of};
 ghost use Rattle.page_watch.specs.Touch.{meets};
-ghost use Rattle.page_watch.specs.Watched.{Stands, asked};
+ghost use Rattle.page_watch.specs.Watched.{Stands, watch_after_event};
 ghost use Rattle.watch_expr.specs.Expression.{expression_of};
 ghost use Rattle.watch_expr.specs.Reads.{reads};
 
@@ -126,7 +126,7 @@ fn ask_all<V: TouchView, L: Ledger>(
     requires position { 0 < V.at v.now }
     requires stand { All (λ w. Stands w (V.states v.now (V.at v.now - 1))) watches.items }
     requires covers { Covers places (places_of watches.items) }
-    ensures watches { IfOk result (λ done. done.0.items ≡ map (asked (V.marks v.now) (V.at v.now) (V.states v.now (V.at v.now))) watches.items) }
+    ensures watches { IfOk result (λ done. done.0.items ≡ map (watch_after_event (V.marks v.now) (V.at v.now) (V.states v.now (V.at v.now))) watches.items) }
     ensures covers { IfOk result (λ done. Covers done.1 (places_of done.0.items)) }
     ensures steps { OnOk result (steps.new ≡ steps.old + count_by (λ w. meets (V.marks v.now) (V.at v.now) w.places) watches.items) }
 {
@@ -147,7 +147,7 @@ fn ask_one<V: TouchView, L: Ledger>(
 ) -> Result<AllPlaces, AllocError>
     requires position { 0 < V.at v.now }
     requires stands { Stands watch.old (V.states v.now (V.at v.now - 1)) }
-    ensures watch { OnOk result (watch.new ≡ asked (V.marks v.now) (V.at v.now) (V.states v.now (V.at v.now)) watch.old) }
+    ensures watch { OnOk result (watch.new ≡ watch_after_event (V.marks v.now) (V.at v.now) (V.states v.now (V.at v.now)) watch.old) }
     ensures all { IfOk result (λ all. Covers all places) }
     ensures places { IfOk result (λ all. Covers (all ++ watch.old.places) watch.new.places) }
     ensures steps { OnOk result (steps.new ≡ steps.old + (if meets (V.marks v.now) (V.at v.now) watch.old.places then 1 else 0)) }

@@ -6,7 +6,7 @@ use Rattle.lib_calls.specs.declared.entry.EntryView.{EntryView}
 use Rattle.call_log.specs.Head.{Head}
 use Rattle.call_log.specs.Limits.{least_entry}
 use Rattle.call_log.specs.Log.{Log, Unread, entry_at}
-use Rattle.call_log.specs.Walk.{IsEnd, IsStep}
+use Rattle.call_log.specs.Walk.{IsEnd, EntryLeads}
 use Rattle.guest_process.specs.declared.divergence.Divergence.{Divergence}
 use Rattle.guest_process.specs.Legal.{reason}
 use Rattle.guest_process.specs.Next.{next}
@@ -55,7 +55,7 @@ pub record IsMade (r : Replaying) (e : Entry) : Type 0 where
   pub moves : after r ≡ record { head = r.head; state = next r.state e; left = (after r).left }
   pub shorter : length (after r).left.bytes + least_entry ≤ length r.left.bytes
 
-module _ (step : IsStep) (end : IsEnd) where
+module _ (step : EntryLeads) (end : IsEnd) where
   pub made : (r : Replaying) (e : Entry) → turn r ≡ Makes e → IsMade r e
   made r e is = elim (cases step end r) [
     | inl g ↦

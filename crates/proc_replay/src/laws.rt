@@ -3,7 +3,7 @@ ghost use Rattle.proc_replay.specs.Course.{AreReplays, AreTurns};
 ghost use Rattle.proc_replay.specs.Sizes.{AcceptedNoLonger};
 
 use call_log::{entry_by_entry, no_longer};
-use guest_process::{counting, kept, legal_numbers, rises};
+use guest_process::{counting, legal_numbers, rises, states_fit};
 
 /// Turns taken one after the other, from the first state of a process on, make the event of each entry
 /// that is accepted, in order, and of no other; after so many of them the state is that of the replay of
@@ -23,5 +23,5 @@ pub fn accepted_no_longer()
     no_longer();
     legal_numbers();
     rises();
-    kept();
+    states_fit();
 }

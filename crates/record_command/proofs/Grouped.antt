@@ -16,12 +16,12 @@ use Rattle.group_record.specs.Files.{Between, InImages, IsStopped}
 use Rattle.group_record.specs.Images.{images_of, images as all_images}
 use Rattle.process_files.specs.Parts.{made_in_part}
 use Rattle.group_record.specs.Logs.{logs}
-use Rattle.group_record.specs.Run.{Group, Progress, run}
-use Rattle.command_run.specs.declared.refusal.Answer.TheVariants as answered
+use Rattle.group_record.specs.Run.{GroupStart, Progress, run}
+use Rattle.command_run.specs.declared.refusal.WorkText.TheVariants as answered
 use Rattle.command_run.specs.declared.refusal.Reason.TheVariants as reason
-use Rattle.command_run.specs.declared.refusal.Refusal.{Refusal}
-use Rattle.command_run.specs.declared.refusal.Refusal.TheVariants as refusal
-use Rattle.command_run.specs.Call.{Makes, TellsOutcome}
+use Rattle.command_run.specs.declared.refusal.StopCause.{StopCause}
+use Rattle.command_run.specs.declared.refusal.StopCause.TheVariants as refusal
+use Rattle.command_run.specs.Call.{MakesWorkFiles, TellsOutcome}
 use Rattle.record_command.specs.Expected.{group_outcome}
 use Rattle.command_run.specs.Outcome.{Refuses, nothing_done, writes_of}
 use Rattle.record_command.specs.Record.{outcome_by_room, recorded_work, run_outcome, summary_text, written_before}
@@ -38,16 +38,16 @@ abbrev files_of : Bool → Schedule → List State → List (List ℕ × List �
 files_of images schedule first = logs (group_of schedule first) (run_of schedule first).steps ++ images_of images (group_of schedule first) (run_of schedule first)
 
 -- where a log was full, there are no images
-no_images : (images : Bool) (group : Group) (done : Progress) (item : ℕ) → done.full ≡ Some item → images_of images group done ≡ []
+no_images : (images : Bool) (group : GroupStart) (done : Progress) (item : ℕ) → done.full ≡ Some item → images_of images group done ≡ []
 no_images true group done item full = ap (λ (f : Option ℕ). cond (is_none f) (all_images group done.steps) []) full
 no_images false group done item full = refl
 
-full_writes : (images : Bool) (group : Group) (done : Progress) (item : ℕ) → done.full ≡ Some item → logs group done.steps ≡ logs group done.steps ++ images_of images group done
+full_writes : (images : Bool) (group : GroupStart) (done : Progress) (item : ℕ) → done.full ≡ Some item → logs group done.steps ≡ logs group done.steps ++ images_of images group done
 full_writes images group done item full =
     sym (append-nil (logs group done.steps)) ∙ ap (λ (files : List (List ℕ × List ℕ)). logs group done.steps ++ files) (sym (no_images images group done item full))
 
 -- whether or not a log is full, all logs are written, and behind them the images
-writes_by_room : (images : Bool) (name : List ℕ) (group : Group) (done : Progress) (full : Option ℕ) → done.full ≡ full → writes_of (outcome_by_room images name group done full) ≡ logs group done.steps ++ images_of images group done
+writes_by_room : (images : Bool) (name : List ℕ) (group : GroupStart) (done : Progress) (full : Option ℕ) → done.full ≡ full → writes_of (outcome_by_room images name group done full) ≡ logs group done.steps ++ images_of images group done
 writes_by_room images name group done None room = refl
 writes_by_room images name group done (Some item) full = full_writes images group done item full
 
@@ -63,7 +63,7 @@ writes_at images name schedule states first is = sym (ap writes_of (ap (group_ou
 
 -- ---- the whole run was recorded
 
-same_text : (images : Bool) (group : Group) (done : Progress) (summary : Summary) → IsSummary group done summary
+same_text : (images : Bool) (group : GroupStart) (done : Progress) (summary : Summary) → IsSummary group done summary
     → summary_text summary.lines.items summary.acted summary.idle ≡ (recorded_work images group done).text
 same_text images group done summary told =
     ap (λ (lines : List SummaryLine). summary_text lines summary.acted summary.idle) told.lines
@@ -104,7 +104,7 @@ full_tells images name schedule states item file before after (first, is, full) 
       refl,
     )
 
-pub error_tells : (images : Bool) (name : List ℕ) (schedule : Schedule) (states : Result (List State) ℕ) (error : RecordError) (e : Refusal) (before after : Option Folder) → RecordAnswers schedule images states (Err error) before after → RefusesAs name schedule error e
+pub error_tells : (images : Bool) (name : List ℕ) (schedule : Schedule) (states : Result (List State) ℕ) (error : RecordError) (e : StopCause) (before after : Option Folder) → RecordAnswers schedule images states (Err error) before after → RefusesAs name schedule error e
     → TellsOutcome (group_outcome images name schedule states) (Err e)
 error_tells images name schedule states (errors.BadSegment p) (refusal.Refused file why) before after answers (named, is) =
     (nothing_done, rw (named, is) (ap (group_outcome images name schedule) answers.0), refl)
@@ -114,8 +114,8 @@ error_tells images name schedule states (errors.LogFull item) (refusal.Refused f
     rw is (full_tells images name schedule states item _ before after answers named)
 error_tells images name schedule states (errors.LogFull item) refusal.NoMemory before after answers named = tt
 error_tells images name schedule states (errors.LogFull item) other before after answers named = absurd named
-error_tells images name schedule states errors.WriteFault e before after answers is = subst (λ (r : Refusal). TellsOutcome (group_outcome images name schedule states) (Err r)) (sym is) tt
-error_tells images name schedule states errors.NoMemory e before after answers is = subst (λ (r : Refusal). TellsOutcome (group_outcome images name schedule states) (Err r)) (sym is) tt
+error_tells images name schedule states errors.WriteFault e before after answers is = subst (λ (r : StopCause). TellsOutcome (group_outcome images name schedule states) (Err r)) (sym is) tt
+error_tells images name schedule states errors.NoMemory e before after answers is = subst (λ (r : StopCause). TellsOutcome (group_outcome images name schedule states) (Err r)) (sym is) tt
 
 where_changes : KeepsFiles → (images : Bool) (name : List ℕ) (schedule : Schedule) (states : Result (List State) ℕ) (before after : Option Folder) → StoppedWhere schedule images states before after
     → ChangesOnly before (writes_of (group_outcome images name schedule states)) after
@@ -130,8 +130,8 @@ full_makes images name schedule states item before after (first, is, full) =
     full.files ∙ ap (λ (files : List (List ℕ × List ℕ)). with_files files before)
     (full_writes images (group_of schedule first) (run_of schedule first) item full.full ∙ writes_at images name schedule states first is)
 
-pub error_makes : KeepsFiles → (images : Bool) (name : List ℕ) (schedule : Schedule) (states : Result (List State) ℕ) (error : RecordError) (e : Refusal) (before after : Option Folder) → RecordAnswers schedule images states (Err error) before after → RefusesAs name schedule error e
-    → Makes (Err e) (writes_of (group_outcome images name schedule states)) before after
+pub error_makes : KeepsFiles → (images : Bool) (name : List ℕ) (schedule : Schedule) (states : Result (List State) ℕ) (error : RecordError) (e : StopCause) (before after : Option Folder) → RecordAnswers schedule images states (Err error) before after → RefusesAs name schedule error e
+    → MakesWorkFiles (Err e) (writes_of (group_outcome images name schedule states)) before after
 error_makes keeps images name schedule states (errors.BadSegment p) (refusal.Refused file why) before after answers named =
     answers.1 ∙ ap (λ (files : List (List ℕ × List ℕ)). with_files files before) (sym (ap writes_of (ap (group_outcome images name schedule) answers.0)))
 error_makes keeps images name schedule states (errors.BadSegment p) refusal.NoMemory before after answers named = same_changes before after _ answers.1
@@ -140,9 +140,9 @@ error_makes keeps images name schedule states (errors.LogFull item) (refusal.Ref
 error_makes keeps images name schedule states (errors.LogFull item) refusal.NoMemory before after answers named = all_made keeps _ before after (full_makes images name schedule states item before after answers)
 error_makes keeps images name schedule states (errors.LogFull item) other before after answers named = absurd named
 error_makes keeps images name schedule states errors.WriteFault e before after answers is =
-    subst (λ (r : Refusal). Makes (Err r) (writes_of (group_outcome images name schedule states)) before after) (sym is) (where_changes keeps images name schedule states before after answers)
+    subst (λ (r : StopCause). MakesWorkFiles (Err r) (writes_of (group_outcome images name schedule states)) before after) (sym is) (where_changes keeps images name schedule states before after answers)
 error_makes keeps images name schedule states errors.NoMemory e before after answers is =
-    subst (λ (r : Refusal). Makes (Err r) (writes_of (group_outcome images name schedule states)) before after) (sym is) (where_changes keeps images name schedule states before after answers)
+    subst (λ (r : StopCause). MakesWorkFiles (Err r) (writes_of (group_outcome images name schedule states)) before after) (sym is) (where_changes keeps images name schedule states before after answers)
 
 -- ---- whatever it answers, the files are those of a moment of the run
 

@@ -9,12 +9,12 @@ use Rattle.guest_process.specs.Start.{start}
 use Rattle.guest_process.specs.State.{State}
 use Rattle.schedule_text.specs.declared.process.ProcessLine.{ProcessLine}
 use Rattle.group_record.specs.Answer.{first_states_from, with_first_state}
-use Rattle.command_run.specs.declared.refusal.Refusal.{Refusal}
+use Rattle.command_run.specs.declared.refusal.StopCause.{StopCause}
 use Rattle.command_run.specs.Call.{StopsAs}
 use Rattle.record_command.specs.Expected.{modules_of}
 use Rattle.command_run.specs.Inputs.{module_in}
 use Rattle.command_run.specs.Laws.{ReadsModules}
-use Rattle.command_run.specs.Outcome.{Stop, and_then}
+use Rattle.command_run.specs.Outcome.{CommandStop, and_then}
 use Rattle.command_run.specs.OutcomeLaws.{follows, stops_then, value_or}
 
 -- ---- all modules
@@ -63,14 +63,14 @@ fails_within count q p (m ∷ ms) is = within (fails_within count (suc q) p ms) 
 
 -- ---- the modules so far, and those that are still to come
 
-abbrev pub prefixed : List Module → Result (List Module) Stop → Result (List Module) Stop
+abbrev pub prefixed : List Module → Result (List Module) CommandStop → Result (List Module) CommandStop
 prefixed ms rest = and_then rest (λ later. Ok (ms ++ later))
 
-pub none_before : (rest : Result (List Module) Stop) → rest ≡ prefixed [] rest
+pub none_before : (rest : Result (List Module) CommandStop) → rest ≡ prefixed [] rest
 none_before (Ok later) = refl
 none_before (Err stop) = refl
 
-with_one : (ms : List Module) (m : Module) (rest : Result (List Module) Stop) → prefixed ms (and_then rest (λ later. Ok (m ∷ later))) ≡ prefixed (ms ++ m ∷ []) rest
+with_one : (ms : List Module) (m : Module) (rest : Result (List Module) CommandStop) → prefixed ms (and_then rest (λ later. Ok (m ∷ later))) ≡ prefixed (ms ++ m ∷ []) rest
 with_one ms m (Ok later) = ap (λ (all : List Module). Ok all) (sym (append_assoc ms (m ∷ []) later))
 with_one ms m (Err stop) = refl
 
@@ -78,11 +78,11 @@ with_one ms m (Err stop) = refl
 pub one_further : (folder : Folder) (ms : List Module) (line : ProcessLine) (lines : List ProcessLine) (m : Module) → module_in folder line.«module» ≡ Ok m
     → prefixed ms (modules_of folder (line ∷ lines)) ≡ prefixed (ms ++ m ∷ []) (modules_of folder lines)
 one_further folder ms line lines m is =
-    ap (λ (r : Result Module Stop). prefixed ms (and_then r (λ m. and_then (modules_of folder lines) (λ later. Ok (m ∷ later))))) is
+    ap (λ (r : Result Module CommandStop). prefixed ms (and_then r (λ m. and_then (modules_of folder lines) (λ later. Ok (m ∷ later))))) is
     ∙ with_one ms m (modules_of folder lines)
 
 -- a module at which there is a stop
-pub one_stops : (folder : Folder) (ms : List Module) (line : ProcessLine) (lines : List ProcessLine) (e : Refusal) → StopsAs (module_in folder line.«module») e → StopsAs (prefixed ms (modules_of folder (line ∷ lines))) e
+pub one_stops : (folder : Folder) (ms : List Module) (line : ProcessLine) (lines : List ProcessLine) (e : StopCause) → StopsAs (module_in folder line.«module») e → StopsAs (prefixed ms (modules_of folder (line ∷ lines))) e
 one_stops folder ms line lines e stops = stops_then (modules_of folder (line ∷ lines)) _ e (stops_then (module_in folder line.«module») _ e stops)
 
 -- so many of the modules were taken
@@ -102,10 +102,10 @@ one_taken told lines index ms line m taken next found = record {
       ∙ one_further folder ms line (drop (index + 1) lines) m (found folder is);
 }
 
-pub taking_stops : (told : Option Folder) (lines : List ProcessLine) (index : ℕ) (ms : List Module) (line : ProcessLine) (e : Refusal) → AreTaken told lines index ms → drop index lines ≡ line ∷ drop (index + 1) lines
+pub taking_stops : (told : Option Folder) (lines : List ProcessLine) (index : ℕ) (ms : List Module) (line : ProcessLine) (e : StopCause) → AreTaken told lines index ms → drop index lines ≡ line ∷ drop (index + 1) lines
     → WhenTold told (λ folder. StopsAs (module_in folder line.«module») e) → WhenTold told (λ folder. StopsAs (modules_of folder lines) e)
 taking_stops told lines index ms line e taken next stops folder is =
-    subst (λ (r : Result (List Module) Stop). StopsAs r e) (sym (taken.so_far folder is ∙ ap (λ (rest : List ProcessLine). prefixed ms (modules_of folder rest)) next))
+    subst (λ (r : Result (List Module) CommandStop). StopsAs r e) (sym (taken.so_far folder is ∙ ap (λ (rest : List ProcessLine). prefixed ms (modules_of folder rest)) next))
     (one_stops folder ms line (drop (index + 1) lines) e (stops folder is))
 
 pub all_taken : (told : Option Folder) (lines : List ProcessLine) (index : ℕ) (ms : List Module) → AreTaken told lines index ms → drop index lines ≡ [] → WhenTold told (λ folder. modules_of folder lines ≡ Ok ms)

@@ -6,7 +6,7 @@ use Rattle.fri_outside.specs.Several.{with_files}
 use Rattle.wasm_types.specs.Modules.{Module}
 use Rattle.guest_process.specs.State.{State}
 use Rattle.schedule_text.specs.Laws.{GivesSchedules}
-use Rattle.schedule_text.specs.Reading.{Refusal as ScheduleRefusal, BadLineAt, TooManyRuns, schedule_of}
+use Rattle.schedule_text.specs.Reading.{ScheduleRefusal, BadLineAt, TooManyRuns, schedule_of}
 use Rattle.schedule_text.specs.Schedule.{IsWellFormed, Schedule}
 use Rattle.group_record.specs.Answer.{StoppedWhere, first_states}
 use Rattle.group_record.specs.Files.{InHeads, IsStopped}
@@ -14,11 +14,11 @@ use Rattle.group_record.specs.Images.{images_of}
 use Rattle.group_record.specs.Laws.{Agreement, Beginning, CutAgreement, Delivery, TakesDrawn, TakesWaiting}
 use Rattle.group_record.specs.Logs.{logs}
 use Rattle.group_record.specs.Run.{log_of}
-use Rattle.command_run.specs.declared.refusal.Answer.{Answer}
-use Rattle.command_run.specs.declared.refusal.Refusal.{Refusal}
-use Rattle.command_run.specs.declared.refusal.Refusal.TheVariants as refusal
+use Rattle.command_run.specs.declared.refusal.WorkText.{WorkText}
+use Rattle.command_run.specs.declared.refusal.StopCause.{StopCause}
+use Rattle.command_run.specs.declared.refusal.StopCause.TheVariants as refusal
 use Rattle.record_command.specs.Agreement.{IsRecordable, LeavesMoment, LeavesRecording, RecordingsAgree, group_in, run_in, steps_in}
-use Rattle.command_run.specs.Call.{IsAnswerResult, Makes}
+use Rattle.command_run.specs.Call.{IsAnswerResult, MakesWorkFiles}
 use Rattle.record_command.specs.Expected.{group_outcome, modules_of, record_outcome, schedule_in, schedule_or_refusal}
 use Rattle.schedule_text.specs.Limits.{most_schedule}
 use Rattle.command_run.specs.Outcome.{CommandOutcome, file_of, writes_of}
@@ -101,7 +101,7 @@ moment_then agree told middle after images name schedule modules gathers same st
       (subst (λ (t : Option Folder). StoppedWhere schedule images (first_states schedule modules) t after) (same ∙ is) stopped)))
 
 -- at an answer the files of the outcome are made
-made_at_end : (result : Result Answer Refusal) (files : List (List ℕ × List ℕ)) (before after : Option Folder) → IsAnswerResult result → Makes result files before after → after ≡ with_files files before
+made_at_end : (result : Result WorkText StopCause) (files : List (List ℕ × List ℕ)) (before after : Option Folder) → IsAnswerResult result → MakesWorkFiles result files before after → after ≡ with_files files before
 made_at_end (Ok answer) files before after end makes = makes
 made_at_end (Err (refusal.Refused file why)) files before after end makes = makes
 made_at_end (Err (refusal.Absent file)) files before after end makes = makes
@@ -115,8 +115,8 @@ recording_writes {folder} {name} images r =
     ap writes_of (gathered folder images name r.schedule r.modules (gathers_it r) ∙ ap (group_outcome images name r.schedule) r.begins)
     ∙ group_writes images name r.schedule r.first
 
-pub recording_left : KeepsFiles → GivesSchedules → RecordingsAgree → (told after : Option Folder) (images : Bool) (name : List ℕ) (result : Result Answer Refusal)
-    → ((o : CommandOutcome) → option_map (record_outcome images name) told ≡ Some o → Makes result (writes_of o) told after) → IsAnswerResult result
+pub recording_left : KeepsFiles → GivesSchedules → RecordingsAgree → (told after : Option Folder) (images : Bool) (name : List ℕ) (result : Result WorkText StopCause)
+    → ((o : CommandOutcome) → option_map (record_outcome images name) told ≡ Some o → MakesWorkFiles result (writes_of o) told after) → IsAnswerResult result
     → WhenTold told (λ before. WhenTold after (LeavesRecording name before))
 recording_left keeps gives agree told after images name result makes end before is now here r =
     let made = made_at_end result _ told after end (makes (record_outcome images name before) (ap (option_map (record_outcome images name)) is)) in

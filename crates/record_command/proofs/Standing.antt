@@ -11,7 +11,7 @@ use Rattle.group_record.specs.Files.{IsStopped, InHeads, Between, InEntry, InIma
 use Rattle.group_record.specs.Images.{images_of}
 use Rattle.process_files.specs.Parts.{made_in_part}
 use Rattle.group_record.specs.Logs.{log_name, logs}
-use Rattle.group_record.specs.Run.{Group, Had, IsMoment, Step, entry_bytes, log_of, name_of, size}
+use Rattle.group_record.specs.Run.{GroupStart, Had, IsMoment, Step, entry_bytes, log_of, name_of_process, size}
 use Rattle.record_command.specs.Agreement.{IsAtMoment, IsInHeads, MayFollow, Front, Nothing, group_in, run_in, steps_in}
 use Rattle.record_command.specs.Laws.{RecordingsStand}
 use Rattle.record_command.proofs.Recordings.{schedule_formed}
@@ -60,7 +60,7 @@ nothing_more name bytes (k, inside, at) = omega (arith, inside)
 -- ---- the logs
 
 -- whole logs have nothing more
-uncut : (group : Group) (all steps : List Step) (after : Folder) → IsMoment steps all → ((p : ℕ) → p < size group → get after (log_name (name_of group p)) ≡ Some (log_of group steps p)) → IsAtMoment group all after
+uncut : (group : GroupStart) (all steps : List Step) (after : Folder) → IsMoment steps all → ((p : ℕ) → p < size group → get after (log_name (name_of_process group p)) ≡ Some (log_of group steps p)) → IsAtMoment group all after
 uncut group all steps after moment stand = record {
   steps = steps;
   is_moment = moment;
@@ -69,7 +69,7 @@ uncut group all steps after moment stand = record {
   logs = λ p below. stand p below ∙ ap (λ (bytes : List ℕ). Some bytes) (sym (append-nil (log_of group steps p)));
 }
 
-follows_entry : (group : Group) (all later early : List Step) (p n : ℕ) (e : Event) → all ≡ later ++ (Had p e ∷ early) → n < length (entry_bytes group early p e)
+follows_entry : (group : GroupStart) (all later early : List Step) (p n : ℕ) (e : Event) → all ≡ later ++ (Had p e ∷ early) → n < length (entry_bytes group early p e)
     → (q : ℕ) → MayFollow group all early q (piece_at p (take n (entry_bytes group early p e)) q)
 follows_entry group all later early p n e split short q = by_place (here_or_nothing p piece q) where
   piece : List ℕ
@@ -101,7 +101,7 @@ recordings_stand_so keeps gives images name before after r stopped = by_case sto
         logs = λ q below.
             files_stand keeps (group_in r) (grown (logs (group_in r) early) p piece) (λ q. log_of (group_in r) early q ++ piece_at p piece q) [] before after
             (keeps.apart (logs (group_in r) early) p piece (apart early))
-            (λ q below. grown_at (logs (group_in r) early) p piece q (log_name (name_of (group_in r) q)) (log_of (group_in r) early q) (log_at (group_in r) early q below))
+            (λ q below. grown_at (logs (group_in r) early) p piece q (log_name (name_of_process (group_in r) q)) (log_of (group_in r) early q) (log_at (group_in r) early q below))
             nothing_more (alone (grown (logs (group_in r) early) p piece) is) q below;
       })
   by_case (InImages n m is) =

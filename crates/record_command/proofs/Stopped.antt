@@ -23,7 +23,7 @@ use Rattle.group_record.specs.Images.{images, images_from, images_of}
 use Rattle.process_files.specs.Images.{mem_name, out_name}
 use Rattle.process_files.specs.Parts.{made_in_part}
 use Rattle.group_record.specs.Logs.{files_from, log_name, logs}
-use Rattle.group_record.specs.Run.{Group, Had, IsMoment, Progress, Step, act_of, entries, entry_bytes, head_of_log, history, log_of, name_of, size}
+use Rattle.group_record.specs.Run.{GroupStart, Had, IsMoment, Progress, Step, act_of, entries, entry_bytes, head_of_log, history, log_of, name_of_process, size}
 use Rattle.record_command.specs.Agreement.{LeavesLogs}
 use Rattle.record_command.proofs.Fronts.{all_made}
 
@@ -57,13 +57,13 @@ log_with : (head : List ℕ) (es more : List Entry) → head ++ encodings Two 0 
 log_with head es more =
     ap (λ (bytes : List ℕ). head ++ bytes) (encodings-append Two 0 es more) ∙ sym (append_assoc head (encodings Two 0 es) (encodings Two (clock_after 0 es) more))
 
-step_grows : (group : Group) (step : Step) (steps : List Step) (p : ℕ) → IsGrown (log_of group (step ∷ steps) p) (log_of group steps p)
+step_grows : (group : GroupStart) (step : Step) (steps : List Step) (p : ℕ) → IsGrown (log_of group (step ∷ steps) p) (log_of group steps p)
 unfolding IsGrown
 step_grows group step steps p =
     let m = one_more (act_of step) (history steps) p in
     (encodings Two (clock_after 0 (entries steps p)) m.0, ap (λ (es : List Entry). head_bytes (head_of_log group p) ++ encodings Two 0 es) m.1 ∙ log_with (head_bytes (head_of_log group p)) (entries steps p) m.0)
 
-steps_grow : (group : Group) (later early : List Step) (p : ℕ) → IsGrown (log_of group (later ++ early) p) (log_of group early p)
+steps_grow : (group : GroupStart) (later early : List Step) (p : ℕ) → IsGrown (log_of group (later ++ early) p) (log_of group early p)
 unfolding IsGrown
 steps_grow group [] early p = ([], sym (append-nil (log_of group early p)))
 steps_grow group (step ∷ later) early p =
@@ -71,11 +71,11 @@ steps_grow group (step ∷ later) early p =
     let rest = steps_grow group later early p in
     (rest.0 ++ last.0, last.1 ∙ ap (λ (bytes : List ℕ). bytes ++ last.0) rest.1 ∙ append_assoc (log_of group early p) rest.0 last.0)
 
-log_grows : (group : Group) (early steps : List Step) → IsMoment early steps → (p : ℕ) → IsGrown (log_of group steps p) (log_of group early p)
+log_grows : (group : GroupStart) (early steps : List Step) → IsMoment early steps → (p : ℕ) → IsGrown (log_of group steps p) (log_of group early p)
 log_grows group early steps (later, is) p = subst (λ (s : List Step). IsGrown (log_of group s p) (log_of group early p)) (sym is) (steps_grow group later early p)
 
 -- the entry of an event stands behind the log
-event_log : (group : Group) (early : List Step) (p : ℕ) (e : Event) → log_of group (Had p e ∷ early) p ≡ log_of group early p ++ entry_bytes group early p e
+event_log : (group : GroupStart) (early : List Step) (p : ℕ) (e : Event) → log_of group (Had p e ∷ early) p ≡ log_of group early p ++ entry_bytes group early p e
 unfolding IsGrown
 event_log group early p e =
     let log = log_of group early p in
@@ -83,7 +83,7 @@ event_log group early p e =
     grown.1 ∙ ap (λ (bytes : List ℕ). log ++ bytes) (sym (ap (drop (length log)) grown.1 ∙ drop_at log grown.0 (length log) refl))
 
 -- behind a first part of that entry comes the rest of it, and then what follows
-entry_grows : (group : Group) (steps later early : List Step) (p n : ℕ) (e : Event) → steps ≡ later ++ (Had p e ∷ early) → IsGrown (log_of group steps p) (log_of group early p ++ take n (entry_bytes group early p e))
+entry_grows : (group : GroupStart) (steps later early : List Step) (p n : ℕ) (e : Event) → steps ≡ later ++ (Had p e ∷ early) → IsGrown (log_of group steps p) (log_of group early p ++ take n (entry_bytes group early p e))
 unfolding IsGrown
 entry_grows group steps later early p n e is =
     let rest = steps_grow group later (Had p e ∷ early) p in
@@ -98,7 +98,7 @@ entry_grows group steps later early p n e is =
     )
 
 -- a first part of a head
-head_grows : (group : Group) (steps : List Step) (cut : ℕ → ℕ) (p : ℕ) → IsGrown (log_of group steps p) (heads_cut group cut p)
+head_grows : (group : GroupStart) (steps : List Step) (cut : ℕ → ℕ) (p : ℕ) → IsGrown (log_of group steps p) (heads_cut group cut p)
 unfolding IsGrown
 head_grows group steps cut p =
     let head = head_bytes (head_of_log group p) in (
@@ -172,7 +172,7 @@ part_fronts (file ∷ files) (suc n) m zero name bytes at = ([], at ∙ ap (a_fi
 part_fronts (file ∷ files) (suc n) m (suc place) name bytes at = part_fronts files n m place name bytes at
 
 -- where a recording was stopped, each log and image is as before or has some of its front, and no other file changes
-pub stopped_changes : KeepsFiles → (group : Group) (steps : List Step) (images : List (List ℕ × List ℕ)) (before after : Option Folder) → IsStopped group steps images before after
+pub stopped_changes : KeepsFiles → (group : GroupStart) (steps : List Step) (images : List (List ℕ × List ℕ)) (before after : Option Folder) → IsStopped group steps images before after
     → ChangesOnly before (logs group steps ++ images) after
 stopped_changes keeps group steps images before after (InHeads many cut is) =
     subst (ChangesOnly before (logs group steps ++ images)) (sym is)
@@ -251,7 +251,7 @@ out_is_no_log : (name other : List ℕ) → out_name name ≡ log_name other →
 out_is_no_log name other same =
     let ends : 116 ≡ 103 = sym (ends_in name 46 111 117 116) ∙ ap last_of same ∙ ends_in other 46 108 111 103 in omega (arith, ends)
 
-image_is_no_log : (group : Group) (steps : List Step) (p : ℕ) (names : List (List ℕ)) (name bytes : List ℕ) (k : ℕ) → k < length (images_from group steps p names)
+image_is_no_log : (group : GroupStart) (steps : List Step) (p : ℕ) (names : List (List ℕ)) (name bytes : List ℕ) (k : ℕ) → k < length (images_from group steps p names)
     → slice_index_or (images_from group steps p names) k (log_name name, bytes) ≡ (log_name name, bytes) → ⊥
 image_is_no_log group steps p [] name bytes k inside at = omega (arith, inside)
 image_is_no_log group steps p (other ∷ names) name bytes zero inside at = mem_is_no_log other name (ap (λ (file : List ℕ × List ℕ). file.0) at)
@@ -263,7 +263,7 @@ among_if true files file among = among
 among_if false files file (k, inside, at) = absurd (omega (arith, inside))
 
 -- no image has the name of a log
-pub images_are_no_logs : (asked : Bool) (group : Group) (done : Progress) (name bytes : List ℕ) → Contains (images_of asked group done) (log_name name, bytes) → ⊥
+pub images_are_no_logs : (asked : Bool) (group : GroupStart) (done : Progress) (name bytes : List ℕ) → Contains (images_of asked group done) (log_name name, bytes) → ⊥
 images_are_no_logs asked group done name bytes among = no_log (among_if (asked && is_none done.full) (images group done.steps) (log_name name, bytes) among) where
   no_log : Contains (images group done.steps) (log_name name, bytes) → ⊥
   no_log (k, inside, at) = image_is_no_log group done.steps 0 group.names name bytes k inside at
@@ -273,25 +273,25 @@ kept_behind old new more name others (inl same) = same
 kept_behind old new more name others (inr (bytes, among, part)) = absurd (others bytes among)
 
 -- files that have the names of the logs stand in the folder, whatever was made after them under other names
-pub files_stand : KeepsFiles → (group : Group) (files : List (List ℕ × List ℕ)) (bytes : ℕ → List ℕ) (more : List (List ℕ × List ℕ)) (before after : Folder) → AreApart files
-    → ((p : ℕ) → p < size group → slice_get files p ≡ Some (log_name (name_of group p), bytes p))
+pub files_stand : KeepsFiles → (group : GroupStart) (files : List (List ℕ × List ℕ)) (bytes : ℕ → List ℕ) (more : List (List ℕ × List ℕ)) (before after : Folder) → AreApart files
+    → ((p : ℕ) → p < size group → slice_get files p ≡ Some (log_name (name_of_process group p), bytes p))
     → ((name bytes : List ℕ) → Contains more (log_name name, bytes) → ⊥) → with_files (files ++ more) (Some before) ≡ Some after
-    → (p : ℕ) → p < size group → get after (log_name (name_of group p)) ≡ Some (bytes p)
+    → (p : ℕ) → p < size group → get after (log_name (name_of_process group p)) ≡ Some (bytes p)
 files_stand keeps group files bytes more before after apart have others made p below =
     let stands = keeps.stands before files apart in
-    let name = log_name (name_of group p) in
+    let name = log_name (name_of_process group p) in
     let behind : with_files more (Some stands.0) ≡ Some after = ap (with_files more) (sym stands.1) ∙ sym (with_more files more (Some before)) ∙ made in
     let changes = (all_made keeps more (Some stands.0) (Some after) (sym behind)).each stands.0 refl in
-    ap (λ (s : Folder). get s name) (same_Some _ _ changes.1) ∙ kept_behind stands.0 changes.0 more name (others (name_of group p)) (changes.2 name)
+    ap (λ (s : Folder). get s name) (same_Some _ _ changes.1) ∙ kept_behind stands.0 changes.0 more name (others (name_of_process group p)) (changes.2 name)
     ∙ stands.2.held p _ _ (have p below)
 
-pub log_at : (group : Group) (steps : List Step) (p : ℕ) → p < size group → slice_get (logs group steps) p ≡ Some (log_name (name_of group p), log_of group steps p)
+pub log_at : (group : GroupStart) (steps : List Step) (p : ℕ) → p < size group → slice_get (logs group steps) p ≡ Some (log_name (name_of_process group p), log_of group steps p)
 log_at group steps p below =
     let whole : 0 + p ≡ p = omega arith in
-    file_at 0 group.names (log_of group steps) p below ∙ ap (λ (k : ℕ). a_file (log_name (name_of group p)) (log_of group steps k)) whole
+    file_at 0 group.names (log_of group steps) p below ∙ ap (λ (k : ℕ). a_file (log_name (name_of_process group p)) (log_of group steps k)) whole
 
 -- so the logs that were made stand
-pub logs_stand : KeepsFiles → (group : Group) (steps : List Step) (more : List (List ℕ × List ℕ)) (before after : Folder) → AreApart (logs group steps)
+pub logs_stand : KeepsFiles → (group : GroupStart) (steps : List Step) (more : List (List ℕ × List ℕ)) (before after : Folder) → AreApart (logs group steps)
     → ((name bytes : List ℕ) → Contains more (log_name name, bytes) → ⊥) → with_files (logs group steps ++ more) (Some before) ≡ Some after → LeavesLogs group steps after
 logs_stand keeps group steps more before after apart others made p below =
     files_stand keeps group (logs group steps) (log_of group steps) more before after apart (log_at group steps) others made p below

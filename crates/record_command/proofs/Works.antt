@@ -10,7 +10,7 @@ use Rattle.guest_process.specs.State.{State}
 use Rattle.group_record.specs.Answer.{first_states, first_states_from, group_of, with_first_state}
 use Rattle.group_record.specs.Run.{run}
 use Rattle.command_run.specs.Laws.{ReadsModules}
-use Rattle.command_run.specs.Outcome.{Stop, Work, and_then}
+use Rattle.command_run.specs.Outcome.{CommandStop, CommandWork, and_then}
 use Rattle.record_command.specs.Expected.{group_outcome, modules_of, record_outcome, schedule_in, schedule_or_refusal}
 use Rattle.schedule_text.specs.Limits.{most_schedule}
 use Rattle.record_command.specs.Record.{outcome_by_room, recorded_work}
@@ -19,14 +19,14 @@ use Rattle.record_command.specs.Valid.{AreModuleFiles, IsScheduleFile, RecordsWh
 module _ (modules : ReadsModules) (schedules : GivesSchedules) where
   schedule_stands : (folder : Folder) (name : List ℕ) (schedule : Schedule) (h : IsScheduleFile folder name schedule) → schedule_in folder name ≡ Ok schedule
   schedule_stands folder name schedule h =
-      ap (λ (r : Result (List ℕ) Stop). and_then r (λ bytes. schedule_or_refusal name (schedule_of bytes))) (modules.files folder name most_schedule h.bytes h.stands)
+      ap (λ (r : Result (List ℕ) CommandStop). and_then r (λ bytes. schedule_or_refusal name (schedule_of bytes))) (modules.files folder name most_schedule h.bytes h.stands)
       ∙ ap (schedule_or_refusal name) ((schedules h.bytes schedule).1 (h.spelled, h.few))
 
   modules_stand : (folder : Folder) (count p : ℕ) (lines : List ProcessLine) (files : AreModuleFiles folder count p lines) → modules_of folder lines ≡ Ok (modules_in folder count p lines files)
   modules_stand folder count p [] files = refl
   modules_stand folder count p (line ∷ lines) files =
-      ap (λ (r : Result Module Stop). and_then r (λ m. and_then (modules_of folder lines) (λ ms. Ok (m ∷ ms)))) (modules.modules folder line.«module» files.0.0)
-      ∙ ap (λ (r : Result (List Module) Stop). and_then r (λ ms. Ok (files.0.0.«module» ∷ ms))) (modules_stand folder count (suc p) lines files.1)
+      ap (λ (r : Result Module CommandStop). and_then r (λ m. and_then (modules_of folder lines) (λ ms. Ok (m ∷ ms)))) (modules.modules folder line.«module» files.0.0)
+      ∙ ap (λ (r : Result (List Module) CommandStop). and_then r (λ ms. Ok (files.0.0.«module» ∷ ms))) (modules_stand folder count (suc p) lines files.1)
 
   -- the first states of their processes
   abbrev states_in : (folder : Folder) (count p : ℕ) (lines : List ProcessLine) → AreModuleFiles folder count p lines → List State
@@ -39,7 +39,7 @@ module _ (modules : ReadsModules) (schedules : GivesSchedules) where
       ap (λ (o : Option State). with_first_state o p (first_states_from count (suc p) (modules_in folder count (suc p) lines files.1))) files.0.1.1
       ∙ ap (with_first_state (Some files.0.1.0) p) (states_stand folder count (suc p) lines files.1)
 
-  pub recording_works : (images : Bool) (schedule_name : List ℕ) (folder : Folder) → RecordsWhole folder schedule_name → (work : Work) × (record_outcome images schedule_name folder ≡ Ok work)
+  pub recording_works : (images : Bool) (schedule_name : List ℕ) (folder : Folder) → RecordsWhole folder schedule_name → (work : CommandWork) × (record_outcome images schedule_name folder ≡ Ok work)
   recording_works images schedule_name folder h =
       let schedule = h.schedule in
       let count = length schedule.processes in
@@ -48,8 +48,8 @@ module _ (modules : ReadsModules) (schedules : GivesSchedules) where
       let group = group_of schedule first in
       let begins : first_states schedule ms ≡ Ok first = states_stand folder count 0 schedule.processes h.files in (
         recorded_work images group (run group schedule.items),
-        ap (λ (r : Result Schedule Stop). and_then r (λ schedule. and_then (modules_of folder schedule.processes) (λ modules. group_outcome images schedule_name schedule (first_states schedule modules)))) (schedule_stands folder schedule_name schedule h.file)
-            ∙ ap (λ (r : Result (List Module) Stop). and_then r (λ modules. group_outcome images schedule_name schedule (first_states schedule modules))) (modules_stand folder count 0 schedule.processes h.files)
+        ap (λ (r : Result Schedule CommandStop). and_then r (λ schedule. and_then (modules_of folder schedule.processes) (λ modules. group_outcome images schedule_name schedule (first_states schedule modules)))) (schedule_stands folder schedule_name schedule h.file)
+            ∙ ap (λ (r : Result (List Module) CommandStop). and_then r (λ modules. group_outcome images schedule_name schedule (first_states schedule modules))) (modules_stand folder count 0 schedule.processes h.files)
             ∙ ap (group_outcome images schedule_name schedule) begins
             ∙ ap (outcome_by_room images schedule_name group (run group schedule.items)) (h.room first begins),
       )

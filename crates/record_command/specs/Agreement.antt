@@ -13,7 +13,7 @@ use Rattle.group_record.specs.Files.{IsStopped, heads_cut}
 use Rattle.group_record.specs.Images.{images_of}
 use Rattle.group_record.specs.Laws.{RandomIsDrawn, TakesDatagram, TellsCut, WaitingIsTaken}
 use Rattle.group_record.specs.Logs.{TellsEvents, files_of, log_name}
-use Rattle.group_record.specs.Run.{Group, Had, IsMoment, Progress, Step, entries, entry_bytes, log_of, name_of, run, size}
+use Rattle.group_record.specs.Run.{GroupStart, Had, IsMoment, Progress, Step, entries, entry_bytes, log_of, name_of_process, run, size}
 use Rattle.record_command.specs.Expected.{modules_of, schedule_in}
 
 -- the files spell a schedule and modules with which its processes begin
@@ -26,7 +26,7 @@ pub record IsRecordable (folder : Folder) (schedule_name : List ℕ) : Type 0 wh
   pub begins : first_states schedule modules ≡ Ok first
 
 -- its group, and its run
-abbrev pub group_in : {folder : Folder} {schedule_name : List ℕ} → IsRecordable folder schedule_name → Group
+abbrev pub group_in : {folder : Folder} {schedule_name : List ℕ} → IsRecordable folder schedule_name → GroupStart
 group_in r = group_of r.schedule r.first
 
 abbrev pub run_in : {folder : Folder} {schedule_name : List ℕ} → IsRecordable folder schedule_name → Progress
@@ -36,26 +36,26 @@ abbrev pub steps_in : {folder : Folder} {schedule_name : List ℕ} → IsRecorda
 steps_in r = (run_in r).steps
 
 -- each process has its log afterwards
-abbrev pub LeavesLogs : Group → List Step → Folder → Type 0
-LeavesLogs group steps after = (p : ℕ) → p < size group → get after (log_name (name_of group p)) ≡ Some (log_of group steps p)
+abbrev pub LeavesLogs : GroupStart → List Step → Folder → Type 0
+LeavesLogs group steps after = (p : ℕ) → p < size group → get after (log_name (name_of_process group p)) ≡ Some (log_of group steps p)
 
 -- what may stand after the log of process p at a moment of a run with all these steps: nothing, or a first part of the
 -- entry of the process's next event, and not all of it
-pub data MayFollow (group : Group) (all steps : List Step) (p : ℕ) (cut : List ℕ) : Type 0 where
+pub data MayFollow (group : GroupStart) (all steps : List Step) (p : ℕ) (cut : List ℕ) : Type 0 where
   Nothing : cut ≡ [] → MayFollow group all steps p cut
   Front : (later early : List Step) → (e : Event) → (n : ℕ) → all ≡ later ++ (Had p e ∷ early) → entries early p ≡ entries steps p
       → n < length (entry_bytes group early p e) → cut ≡ take n (entry_bytes group early p e) → MayFollow group all steps p cut
 
 -- each process has its log afterwards, with this much of one more entry after it
-abbrev pub LeavesCut : Group → List Step → (ℕ → List ℕ) → Folder → Type 0
-LeavesCut group steps cut after = (p : ℕ) → p < size group → get after (log_name (name_of group p)) ≡ Some (log_of group steps p ++ cut p)
+abbrev pub LeavesCut : GroupStart → List Step → (ℕ → List ℕ) → Folder → Type 0
+LeavesCut group steps cut after = (p : ℕ) → p < size group → get after (log_name (name_of_process group p)) ≡ Some (log_of group steps p ++ cut p)
 
 -- not all logs are there, or not with their whole heads
-abbrev pub IsInHeads : Group → Folder → Folder → Type 0
+abbrev pub IsInHeads : GroupStart → Folder → Folder → Type 0
 IsInHeads group before after = (many : ℕ) × (cut : ℕ → ℕ) × (Some after ≡ with_files (take many (files_of group (heads_cut group cut))) (Some before))
 
 -- the logs are those of a moment of a run with all these steps, with at most a first part of one more entry after each
-pub record IsAtMoment (group : Group) (all : List Step) (after : Folder) : Type 0 where
+pub record IsAtMoment (group : GroupStart) (all : List Step) (after : Folder) : Type 0 where
   pub steps : List Step
   pub is_moment : IsMoment steps all
   pub cut : ℕ → List ℕ
@@ -65,7 +65,7 @@ pub record IsAtMoment (group : Group) (all : List Step) (after : Folder) : Type 
 -- at each moment of the run the logs tell its events, also the log behind which the next entry stands in part. Each
 -- datagram that was taken came first in the mailbox, and from outside or by a send that an item delivered; what waits
 -- is taken, and so are the first of the random bytes
-pub record LogsAgree (group : Group) (steps : List Step) : Type 0 where
+pub record LogsAgree (group : GroupStart) (steps : List Step) : Type 0 where
   pub logs : (early : List Step) → IsMoment early steps → (p : ℕ) → p < size group → TellsEvents group early p
   pub cut : TellsCut group steps
   pub datagrams : (later early : List Step) (p : ℕ) (e : Event) → steps ≡ later ++ (Had p e ∷ early) → IsTrue (is_taken e.entry)

@@ -4,28 +4,28 @@ use Rattle.std.specs.Prelude.{ℕ, List, [], ◌∷◌, Bool, map, Result, Ok, E
 use Rattle.fri_outside.specs.Outside.{Folder}
 use Rattle.wasm_types.specs.Modules.{Module}
 use Rattle.schedule_text.specs.declared.process.ProcessLine.{ProcessLine}
-use Rattle.schedule_text.specs.Reading.{Refusal, BadLineAt, TooManyRuns, schedule_of}
+use Rattle.schedule_text.specs.Reading.{ScheduleRefusal, BadLineAt, TooManyRuns, schedule_of}
 use Rattle.schedule_text.specs.Schedule.{Schedule}
 use Rattle.guest_process.specs.State.{State}
 use Rattle.group_record.specs.Answer.{first_states, group_of}
 use Rattle.group_record.specs.Run.{run}
 use Rattle.command_run.specs.declared.refusal.Reason.TheVariants as reason
 use Rattle.command_run.specs.Inputs.{module_in}
-use Rattle.command_run.specs.Outcome.{Stop, CommandOutcome, refuses_at_once, and_then, file_of}
+use Rattle.command_run.specs.Outcome.{CommandStop, CommandOutcome, refuses_at_once, and_then, file_of}
 use Rattle.schedule_text.specs.Limits.{most_schedule}
 use Rattle.record_command.specs.Record.{run_outcome}
 
 -- the schedule of a schedule file
-abbrev pub schedule_or_refusal : List ℕ → Result Schedule Refusal → Result Schedule Stop
+abbrev pub schedule_or_refusal : List ℕ → Result Schedule ScheduleRefusal → Result Schedule CommandStop
 schedule_or_refusal name (Ok schedule) = Ok schedule
 schedule_or_refusal name (Err (BadLineAt line)) = Err (refuses_at_once name (reason.BadLine line))
 schedule_or_refusal name (Err TooManyRuns) = Err (refuses_at_once name reason.TooMany)
 
-abbrev pub schedule_in : Folder → List ℕ → Result Schedule Stop
+abbrev pub schedule_in : Folder → List ℕ → Result Schedule CommandStop
 schedule_in folder name = and_then (file_of folder name most_schedule) (λ bytes. schedule_or_refusal name (schedule_of bytes))
 
 -- the modules of these processes, in their order
-abbrev pub modules_of : Folder → List ProcessLine → Result (List Module) Stop
+abbrev pub modules_of : Folder → List ProcessLine → Result (List Module) CommandStop
 modules_of folder [] = Ok []
 modules_of folder (line ∷ lines) = and_then (module_in folder line.«module») (λ m. and_then (modules_of folder lines) (λ ms. Ok (m ∷ ms)))
 
@@ -34,7 +34,7 @@ abbrev pub module_name : Schedule → ℕ → List ℕ
 module_name schedule p = slice_index_or (map (λ line. line.«module») schedule.processes) p []
 
 -- the first states of all processes, or the refusal of the first module with which none begins
-abbrev pub states_or_bad_segment : Schedule → Result (List State) ℕ → Result (List State) Stop
+abbrev pub states_or_bad_segment : Schedule → Result (List State) ℕ → Result (List State) CommandStop
 states_or_bad_segment schedule (Ok first) = Ok first
 states_or_bad_segment schedule (Err p) = Err (refuses_at_once (module_name schedule p) reason.BadSegment)
 

@@ -3,7 +3,7 @@ use Rattle.std.specs.Prelude.{◌≡◌, ◌⊎◌, ℕ, Bool, List, Some, Ok}
 use Rattle.fri_outside.specs.Outside.{Folder}
 use Rattle.group_record.specs.Files.{IsStopped}
 use Rattle.group_record.specs.Images.{images_of}
-use Rattle.command_run.specs.Outcome.{Work}
+use Rattle.command_run.specs.Outcome.{CommandWork}
 use Rattle.record_command.specs.Agreement.{IsAtMoment, IsInHeads, IsRecordable, LeavesMoment, group_in, run_in, steps_in}
 use Rattle.record_command.specs.Expected.{record_outcome}
 use Rattle.record_command.specs.Valid.{RecordsWhole}
@@ -11,7 +11,7 @@ use Rattle.record_command.specs.Valid.{RecordsWhole}
 -- what can be recorded whole has an outcome that is work
 abbrev pub RecordingsWork : Type 0
 RecordingsWork = (images : Bool) (schedule_name : List ℕ) (folder : Folder) → RecordsWhole folder schedule_name
-    → (work : Work) × (record_outcome images schedule_name folder ≡ Ok work)
+    → (work : CommandWork) × (record_outcome images schedule_name folder ≡ Ok work)
 
 -- before anything is made a folder stands as at a moment of the run
 abbrev pub RecordingsRest : Type 0

@@ -6,10 +6,10 @@ use Rattle.group_record.specs.declared.summary.SummaryLine.{SummaryLine}
 use Rattle.group_record.specs.Answer.{summary_lines}
 use Rattle.group_record.specs.Images.{images_of}
 use Rattle.group_record.specs.Logs.{logs}
-use Rattle.group_record.specs.Run.{Group, Progress}
+use Rattle.group_record.specs.Run.{GroupStart, Progress}
 use Rattle.command_run.specs.declared.refusal.Reason.TheVariants as reason
 use Rattle.end_text.specs.Ends.{end_text}
-use Rattle.command_run.specs.Outcome.{CommandOutcome, Refuses, Work}
+use Rattle.command_run.specs.Outcome.{CommandOutcome, Refuses, CommandWork}
 
 -- how a process stands, and `killed` where it was killed
 abbrev pub state_text : Bool → End → List ℕ
@@ -27,7 +27,7 @@ abbrev pub summary_text : List SummaryLine → ℕ → ℕ → List ℕ
 summary_text lines acted idle = flat_map process_line lines ++ items_line acted idle
 
 -- the work of a run that was recorded whole: the logs, and behind them the images that were asked for
-abbrev pub recorded_work : Bool → Group → Progress → Work
+abbrev pub recorded_work : Bool → GroupStart → Progress → CommandWork
 recorded_work images group done = record {
   text = summary_text (summary_lines group done.steps 0 group.names) (length done.steps) done.idle;
   writes = logs group done.steps ++ images_of images group done;
@@ -35,13 +35,13 @@ recorded_work images group done = record {
 }
 
 -- what was written up to an item for which a log had no room: no image; and nothing was printed
-abbrev pub written_before : Group → Progress → Work
+abbrev pub written_before : GroupStart → Progress → CommandWork
 written_before group done = record { text = []; writes = logs group done.steps; diverged = false }
 
-abbrev pub outcome_by_room : Bool → List ℕ → Group → Progress → Option ℕ → CommandOutcome
+abbrev pub outcome_by_room : Bool → List ℕ → GroupStart → Progress → Option ℕ → CommandOutcome
 outcome_by_room images schedule_name group done None = Ok (recorded_work images group done)
 outcome_by_room images schedule_name group done (Some item) = Err (Refuses schedule_name (reason.LogFull item) (written_before group done))
 
 -- what the run of a schedule comes to, whose file has this name
-abbrev pub run_outcome : Bool → List ℕ → Group → Progress → CommandOutcome
+abbrev pub run_outcome : Bool → List ℕ → GroupStart → Progress → CommandOutcome
 run_outcome images schedule_name group done = outcome_by_room images schedule_name group done done.full

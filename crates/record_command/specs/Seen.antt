@@ -6,8 +6,8 @@ use Rattle.schedule_text.specs.Schedule.{Schedule}
 use Rattle.group_record.specs.declared.error.RecordError.{RecordError}
 use Rattle.group_record.specs.declared.error.RecordError.TheVariants as errors
 use Rattle.command_run.specs.declared.refusal.Reason.TheVariants as reason
-use Rattle.command_run.specs.declared.refusal.Refusal.{Refusal}
-use Rattle.command_run.specs.declared.refusal.Refusal.TheVariants as refusal
+use Rattle.command_run.specs.declared.refusal.StopCause.{StopCause}
+use Rattle.command_run.specs.declared.refusal.StopCause.TheVariants as refusal
 use Rattle.command_run.specs.Call.{RefusesFile}
 use Rattle.record_command.specs.Expected.{module_name, modules_of, schedule_in}
 
@@ -18,7 +18,7 @@ pub record Gathers (folder : Folder) (schedule_name : List ℕ) (schedule : Sche
 
 -- what a recording that was not done comes to: the refusal of a module or of the schedule, a fault, or want of
 -- memory, which may also come in the place of a refusal
-abbrev pub RefusesAs : List ℕ → Schedule → RecordError → Refusal → Type 0
+abbrev pub RefusesAs : List ℕ → Schedule → RecordError → StopCause → Type 0
 RefusesAs schedule_name schedule (errors.BadSegment p) e = RefusesFile (module_name schedule p) reason.BadSegment e
 RefusesAs schedule_name schedule (errors.LogFull item) e = RefusesFile schedule_name (reason.LogFull item) e
 RefusesAs schedule_name schedule errors.WriteFault e = e ≡ refusal.WriteFault

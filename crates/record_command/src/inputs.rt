@@ -8,7 +8,7 @@ ghost use Rattle.command_run.specs.Inputs.{module_in};
 ghost use Rattle.command_run.specs.Kept.{AreOfFiles};
 ghost use Rattle.record_command.specs.Expected.{modules_of, schedule_in};
 
-use command_run::{ModuleFiles, Reason, Refusal, take_file};
+use command_run::{ModuleFiles, Reason, StopCause, take_file};
 use fri_outside::Files;
 use schedule_text::{MOST_SCHEDULE, ProcessLine, Schedule, ScheduleError, read_schedule};
 use shared_module::SharedModule;
@@ -20,7 +20,7 @@ fn take_module_of<F: Files>(
     line: &ProcessLine,
     modules: &mut ModuleFiles,
     files: &mut F,
-) -> Result<SharedModule, Refusal>
+) -> Result<SharedModule, StopCause>
     requires line { IsProcess line.now }
     requires kept { AreOfFiles (F.told files.old) modules.old }
     ensures answer { WhenTold (F.told files.old) (λ folder. MatchResult result
@@ -39,7 +39,7 @@ pub fn take_modules<F: Files>(
     alloc: Global,
     lines: &[ProcessLine],
     files: &mut F,
-) -> Result<Vec<SharedModule>, Refusal>
+) -> Result<Vec<SharedModule>, StopCause>
     requires { All IsProcess lines.now }
     ensures answer { WhenTold (F.told files.old) (λ folder. MatchResult result
         (λ modules. modules_of folder lines.now ≡ Ok (map shown modules.items)) (StopsAs (modules_of folder lines.now))) }
@@ -61,7 +61,7 @@ pub fn take_schedule<F: Files>(
     alloc: Global,
     name: &str,
     files: &mut F,
-) -> Result<Schedule, Refusal>
+) -> Result<Schedule, StopCause>
     ensures in_range { IfOk result IsSchedule }
     ensures answer { WhenTold (F.told files.old) (λ folder. MatchResult result
         (λ schedule. schedule_in folder name.now ≡ Ok schedule) (StopsAs (schedule_in folder name.now))) }
@@ -73,9 +73,9 @@ pub fn take_schedule<F: Files>(
     match read_schedule(alloc, &bytes) {
         Ok(schedule) => Ok(schedule),
         Err(ScheduleError::BadLine(line)) => {
-            Err(Refusal::refuse(alloc, name, Reason::BadLine(line)))
+            Err(StopCause::refuse(alloc, name, Reason::BadLine(line)))
         }
-        Err(ScheduleError::TooMany) => Err(Refusal::refuse(alloc, name, Reason::TooMany)),
-        Err(ScheduleError::NoMemory) => Err(Refusal::NoMemory),
+        Err(ScheduleError::TooMany) => Err(StopCause::refuse(alloc, name, Reason::TooMany)),
+        Err(ScheduleError::NoMemory) => Err(StopCause::NoMemory),
     }
 }

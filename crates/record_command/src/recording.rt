@@ -7,13 +7,13 @@ ghost use Rattle.group_record.specs.Answer.{StoppedWhere, first_states};
 ghost use Rattle.command_run.specs.Outcome.{writes_of};
 ghost use Rattle.record_command.specs.Expected.{group_outcome, module_name, record_outcome};
 ghost use Rattle.record_command.specs.Agreement.{LeavesMoment, LeavesRecording};
-ghost use Rattle.command_run.specs.Call.{CountsFaults, StopsAs, TellsOutcome, Makes, Keeps, DivergesOnlyIf, IsAnswerResult, RefusesFile, Raises};
+ghost use Rattle.command_run.specs.Call.{CountsFaults, StopsAs, TellsOutcome, MakesWorkFiles, KeepsFolder, DivergesOnlyIf, IsAnswerResult, RefusesFile, Raises};
 ghost use Rattle.record_command.specs.Seen.{Gathers, RefusesAs};
 
 use crate::inputs::{take_modules, take_schedule};
 use crate::laws::recordings_agree;
 use crate::summary::print_summary;
-use command_run::{Answer, Reason, Refusal};
+use command_run::{Reason, StopCause, WorkText};
 use fri_outside::{Files, keeps_files};
 use group_record::{RecordError, run_record};
 use schedule_text::{Schedule, exact_outcome};
@@ -21,14 +21,14 @@ use shared_module::SharedModule;
 use std::alloc::Global;
 
 // Refuses the module of process p, with which it does not begin.
-fn refuse_module(alloc: Global, schedule: &Schedule, p: u32) -> Refusal
+fn refuse_module(alloc: Global, schedule: &Schedule, p: u32) -> StopCause
     requires { p < length schedule.now.processes }
     ensures { RefusesFile (module_name schedule.now p) Reason.BadSegment result }
 {
     let module = &schedule.processes()[p as usize].module;
     match String::from_utf8_lossy(alloc, module.as_slice()) {
-        Ok(file) => Refusal::Refused(file, Reason::BadSegment),
-        Err(_) => Refusal::NoMemory,
+        Ok(file) => StopCause::Refused(file, Reason::BadSegment),
+        Err(_) => StopCause::NoMemory,
     }
 }
 
@@ -38,15 +38,19 @@ fn refusal_of(
     schedule_file: &str,
     schedule: &Schedule,
     error: RecordError,
-) -> Refusal
+) -> StopCause
     requires { (p : ℕ) → error ≡ RecordError.BadSegment p → p < length schedule.now.processes }
     ensures { RefusesAs schedule_file.now schedule.now error result }
 {
     match error {
         RecordError::BadSegment(p) => refuse_module(alloc, schedule, p),
-        RecordError::LogFull(item) => Refusal::refuse(alloc, schedule_file, Reason::LogFull(item)),
-        RecordError::WriteFault => Refusal::WriteFault,
-        RecordError::NoMemory => Refusal::NoMemory,
+        RecordError::LogFull(item) => StopCause::refuse(
+            alloc,
+            schedule_file,
+            Reason::LogFull(item),
+        ),
+        RecordError::WriteFault => StopCause::WriteFault,
+        RecordError::NoMemory => StopCause::NoMemory,
     }
 }
 
@@ -58,7 +62,7 @@ struct Inputs {
 }
 
 // Reads what a recording needs. No file has changed.
-fn gather<F: Files>(alloc: Global, schedule_file: &str, files: &mut F) -> Result<Inputs, Refusal>
+fn gather<F: Files>(alloc: Global, schedule_file: &str, files: &mut F) -> Result<Inputs, StopCause>
     ensures answer { WhenTold (F.told files.old) (λ folder. MatchResult result
         (λ inputs. Gathers folder schedule_file.now inputs.schedule (map shown inputs.modules.items))
         (λ e. (images : Bool) → StopsAs (record_outcome images schedule_file.now folder) e)) }
@@ -80,13 +84,13 @@ fn record_group<F: Files>(
     schedule: &Schedule,
     modules: &[SharedModule],
     files: &mut F,
-) -> Result<Answer, Refusal>
+) -> Result<WorkText, StopCause>
     requires { length modules.now ≡ length schedule.now.processes }
     ensures tells { TellsOutcome (group_outcome images schedule_file.now schedule.now (first_states schedule.now (map shown modules.now))) result }
-    ensures makes { Makes result (writes_of (group_outcome images schedule_file.now schedule.now (first_states schedule.now (map shown modules.now))))
+    ensures makes { MakesWorkFiles result (writes_of (group_outcome images schedule_file.now schedule.now (first_states schedule.now (map shown modules.now))))
         (F.told files.old) (F.told files.new) }
     ensures stopped { StoppedWhere schedule.now images (first_states schedule.now (map shown modules.now)) (F.told files.old) (F.told files.new) }
-    ensures keeps { Keeps result (F.told files.old) (F.told files.new) }
+    ensures keeps { KeepsFolder result (F.told files.old) (F.told files.new) }
     ensures done { DivergesOnlyIf false result }
     ensures counts { CountsFaults (F.counts files.old) (F.counts files.new) result }
     ensures cause { IfErr result (Raises (F.counts files.old) (F.counts files.new)) }
@@ -95,7 +99,7 @@ fn record_group<F: Files>(
     match run_record(alloc, schedule, modules, files, images) {
         Ok(summary) => {
             let text = print_summary(alloc, &summary)?;
-            Ok(Answer::Done(text))
+            Ok(WorkText::Done(text))
         }
         Err(error) => Err(refusal_of(alloc, schedule_file, schedule, error)),
     }
@@ -108,11 +112,11 @@ pub fn record<F: Files>(
     images: bool,
     schedule_file: &str,
     files: &mut F,
-) -> Result<Answer, Refusal>
+) -> Result<WorkText, StopCause>
     ensures tells { WhenTold (option_map (record_outcome images schedule_file.now) (F.told files.old)) (λ outcome. TellsOutcome outcome result) }
     ensures makes { WhenTold (option_map (record_outcome images schedule_file.now) (F.told files.old)) (λ outcome.
-        Makes result (writes_of outcome) (F.told files.old) (F.told files.new)) }
-    ensures keeps { Keeps result (F.told files.old) (F.told files.new) }
+        MakesWorkFiles result (writes_of outcome) (F.told files.old) (F.told files.new)) }
+    ensures keeps { KeepsFolder result (F.told files.old) (F.told files.new) }
     ensures done { DivergesOnlyIf false result }
     ensures recorded { IsAnswerResult result → WhenTold (F.told files.old) (λ before. WhenTold (F.told files.new) (LeavesRecording schedule_file.now before)) }
     ensures moment { WhenTold (F.told files.old) (λ before. LeavesMoment images schedule_file.now before (F.told files.new)) }

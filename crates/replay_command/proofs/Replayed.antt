@@ -9,20 +9,20 @@ use Rattle.group_state.specs.declared.tally.GroupCounts.{GroupCounts}
 use Rattle.group_state.specs.Place.{group_count}
 use Rattle.group_state.specs.Report.{IsReport, all_accepted, counts_in}
 use Rattle.group_state.specs.Tally.{tally}
-use Rattle.command_run.specs.declared.refusal.Answer.{Answer}
-use Rattle.command_run.specs.declared.refusal.Answer.TheVariants as answered
-use Rattle.command_run.specs.declared.refusal.Refusal.{Refusal}
-use Rattle.command_run.specs.Call.{Makes, MakesAll, StopsAs, TellsOutcome}
+use Rattle.command_run.specs.declared.refusal.WorkText.{WorkText}
+use Rattle.command_run.specs.declared.refusal.WorkText.TheVariants as answered
+use Rattle.command_run.specs.declared.refusal.StopCause.{StopCause}
+use Rattle.command_run.specs.Call.{MakesWorkFiles, MakesAll, StopsAs, TellsOutcome}
 use Rattle.replay_command.specs.Report.{replay_outcome}
-use Rattle.command_run.specs.Outcome.{CommandOutcome, Stop, and_then, writes_of}
+use Rattle.command_run.specs.Outcome.{CommandOutcome, CommandStop, and_then, writes_of}
 use Rattle.log_pairs.specs.Pairs.{NoneOpened, Pair, WasOpened, replays_of_pairs}
 use Rattle.replay_command.specs.Report.{diverges, images_if, replay_work, report_text}
-use Rattle.replay_command.specs.Seen.{Says}
-use Rattle.command_run.specs.OutcomeLaws.{outcome_at, stops_then}
+use Rattle.replay_command.specs.Seen.{PrintsAtEnd}
+use Rattle.command_run.specs.OutcomeLaws.{outcome_when_told, stops_then}
 
 -- ---- the files were refused
 
-pub opening_stops : (images : Bool) (pairs : List Pair) (told : Option Folder) (e : Refusal) → NoneOpened pairs told e → WhenTold told (λ folder. StopsAs (replay_outcome images pairs folder) e)
+pub opening_stops : (images : Bool) (pairs : List Pair) (told : Option Folder) (e : StopCause) → NoneOpened pairs told e → WhenTold told (λ folder. StopsAs (replay_outcome images pairs folder) e)
 opening_stops images pairs told e stops folder is = stops_then (replays_of_pairs folder pairs) _ e (stops folder is)
 
 -- ---- the replays began
@@ -30,8 +30,8 @@ opening_stops images pairs told e stops folder is = stops_then (replays_of_pairs
 pub opened_works : (images : Bool) (pairs : List Pair) (told : Option Folder) (start : List Replaying) → WasOpened pairs told start
     → (o : CommandOutcome) → option_map (replay_outcome images pairs) told ≡ Some o → o ≡ Ok (replay_work images start)
 opened_works images pairs told start opens o is =
-    let h = outcome_at (replay_outcome images pairs) told o is in
-    h.2 ∙ ap (λ (r : Result (List Replaying) Stop). and_then r (λ start. Ok (replay_work images start))) (opens h.0 h.1)
+    let h = outcome_when_told (replay_outcome images pairs) told o is in
+    h.2 ∙ ap (λ (r : Result (List Replaying) CommandStop). and_then r (λ start. Ok (replay_work images start))) (opens h.0 h.1)
 
 -- ---- what is made
 
@@ -40,30 +40,30 @@ pub images_made : (images : Bool) (slice start : List Replaying) (told mid after
 images_made images slice start told mid after same kept made =
     made ∙ ap (with_files (images_if images slice)) kept ∙ ap (λ (rs : List Replaying). with_files (images_if images rs) told) same
 
-pub images_begun : (images : Bool) (slice start : List Replaying) (told mid after : Option Folder) (e : Refusal) → slice ≡ start → mid ≡ told → MakesAll (Err e) (images_if images slice) mid after
+pub images_begun : (images : Bool) (slice start : List Replaying) (told mid after : Option Folder) (e : StopCause) → slice ≡ start → mid ≡ told → MakesAll (Err e) (images_if images slice) mid after
     → MakesAll (Err e) (images_if images start) told after
 images_begun images slice start told mid after e same kept made =
     subst (λ (rs : List Replaying). MakesAll (Err e) (images_if images rs) told after) same
     (subst (λ (t : Option Folder). MakesAll (Err e) (images_if images slice) t after) kept made)
 
 -- the images were made, and whatever comes then
-pub replay_makes : (images : Bool) (pairs : List Pair) (told after : Option Folder) (start : List Replaying) (result : Result Answer Refusal) → WasOpened pairs told start
-    → Makes result (images_if images start) told after → (o : CommandOutcome) → option_map (replay_outcome images pairs) told ≡ Some o → Makes result (writes_of o) told after
+pub replay_makes : (images : Bool) (pairs : List Pair) (told after : Option Folder) (start : List Replaying) (result : Result WorkText StopCause) → WasOpened pairs told start
+    → MakesWorkFiles result (images_if images start) told after → (o : CommandOutcome) → option_map (replay_outcome images pairs) told ≡ Some o → MakesWorkFiles result (writes_of o) told after
 replay_makes images pairs told after start result opens makes o here =
-    subst (λ (o : CommandOutcome). Makes result (writes_of o) told after) (sym (opened_works images pairs told start opens o here)) makes
+    subst (λ (o : CommandOutcome). MakesWorkFiles result (writes_of o) told after) (sym (opened_works images pairs told start opens o here)) makes
 
 -- ---- what is said
 
-says_of : (images : Bool) (start : List Replaying) (o : CommandOutcome) (answer : Answer) → o ≡ Ok (replay_work images start)
-    → Says (replay_work images start).text (replay_work images start).diverged answer → TellsOutcome o (Ok answer)
+says_of : (images : Bool) (start : List Replaying) (o : CommandOutcome) (answer : WorkText) → o ≡ Ok (replay_work images start)
+    → PrintsAtEnd (replay_work images start).text (replay_work images start).diverged answer → TellsOutcome o (Ok answer)
 says_of images start o (answered.Done text) is says = (replay_work images start, is, says.0, says.1)
 says_of images start o (answered.Diverged text) is says = (replay_work images start, is, says.0, says.1)
 
 -- the report was printed
-pub report_tells : (images : Bool) (pairs : List Pair) (told : Option Folder) (start : List Replaying) (report : Report) (answer : Answer) → WasOpened pairs told start → IsReport start report
-    → Says (report_text report.lines.items (counts_in report)) (diverges report.lines.items) answer
+pub report_tells : (images : Bool) (pairs : List Pair) (told : Option Folder) (start : List Replaying) (report : Report) (answer : WorkText) → WasOpened pairs told start → IsReport start report
+    → PrintsAtEnd (report_text report.lines.items (counts_in report)) (diverges report.lines.items) answer
     → (o : CommandOutcome) → option_map (replay_outcome images pairs) told ≡ Some o → TellsOutcome o (Ok answer)
 report_tells images pairs told start report answer opens is says o here =
     says_of images start o answer (opened_works images pairs told start opens o here)
-    (subst (λ (lines : List ReportLine). Says (report_text lines (tally (group_count start) (all_accepted start))) (diverges lines) answer) is.lines
-    (subst (λ (counts : GroupCounts). Says (report_text report.lines.items counts) (diverges report.lines.items) answer) is.counts says))
+    (subst (λ (lines : List ReportLine). PrintsAtEnd (report_text lines (tally (group_count start) (all_accepted start))) (diverges lines) answer) is.lines
+    (subst (λ (counts : GroupCounts). PrintsAtEnd (report_text report.lines.items counts) (diverges report.lines.items) answer) is.counts says))

@@ -1,7 +1,7 @@
 -- What is so of all replays.
 use Rattle.std.specs.Prelude.{◌≡◌, Bool, List, Ok}
 use Rattle.fri_outside.specs.Outside.{Folder}
-use Rattle.command_run.specs.Outcome.{Work}
+use Rattle.command_run.specs.Outcome.{CommandWork}
 use Rattle.log_pairs.specs.Pairs.{Pair}
 use Rattle.log_pairs.specs.Valid.{IsGroup}
 use Rattle.replay_command.specs.Report.{replay_outcome}
@@ -9,4 +9,4 @@ use Rattle.replay_command.specs.Report.{replay_outcome}
 -- the modules and logs of a group have an outcome that is work
 abbrev pub ReplaysWork : Type 0
 ReplaysWork = (images : Bool) (pairs : List Pair) (folder : Folder) → IsGroup folder pairs
-    → (work : Work) × (replay_outcome images pairs folder ≡ Ok work)
+    → (work : CommandWork) × (replay_outcome images pairs folder ≡ Ok work)

@@ -15,7 +15,7 @@ use Rattle.group_state.specs.Place.{group_count}
 use Rattle.group_state.specs.Report.{all_accepted, report_line}
 use Rattle.group_state.specs.Tally.{tally}
 use Rattle.end_text.specs.Ends.{end_text}
-use Rattle.command_run.specs.Outcome.{CommandOutcome, Work, and_then}
+use Rattle.command_run.specs.Outcome.{CommandOutcome, CommandWork, and_then}
 use Rattle.log_pairs.specs.Pairs.{Pair, replays_of_pairs}
 
 -- a divergence by its number and name
@@ -70,7 +70,7 @@ abbrev pub images_if : Bool → List Replaying → List (List ℕ × List ℕ)
 images_if images start = if images then images_in start else []
 
 -- the work of a replay of these logs: what is said of them all, behind the images that were asked for
-abbrev pub replay_work : Bool → List Replaying → Work
+abbrev pub replay_work : Bool → List Replaying → CommandWork
 replay_work images start = record {
   text = report_text (map report_line start) (tally (group_count start) (all_accepted start));
   writes = images_if images start;

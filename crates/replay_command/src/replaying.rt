@@ -2,13 +2,13 @@
 ghost use Rattle.std.specs.Prelude.{◌≡◌, All, List, map, option_map, IfErr};
 ghost use Rattle.fri_outside.specs.Outside.{WhenTold};
 ghost use Rattle.call_log.specs.Head.{IsHead};
-ghost use Rattle.command_run.specs.Call.{CountsFaults, Keeps, Makes, MakesAll, Raises, TellsOutcome};
+ghost use Rattle.command_run.specs.Call.{CountsFaults, KeepsFolder, MakesWorkFiles, MakesAll, Raises, TellsOutcome};
 ghost use Rattle.command_run.specs.Outcome.{writes_of};
 ghost use Rattle.replay_command.specs.Report.{images_if, images_in, replay_outcome};
 ghost use Rattle.log_pairs.specs.Seen.{pair_of};
 
 use crate::report::print_report;
-use command_run::{Answer, Refusal};
+use command_run::{StopCause, WorkText};
 use fri_outside::{Files, keeps_files};
 use group_state::{image_of, report_of};
 use log_pairs::{Pair, begin_all, load_all};
@@ -21,7 +21,7 @@ fn write_images<F: Files>(
     alloc: Global,
     parts: &[Replayer<'_, '_>],
     files: &mut F,
-) -> Result<(), Refusal>
+) -> Result<(), StopCause>
     requires heads { All (λ r. IsHead r.head) parts.now }
     requires fresh { All (λ r. r.state.events ≡ 0) parts.now }
     ensures made { MakesAll result (images_in parts.now) (F.told files.old) (F.told files.new) }
@@ -48,7 +48,7 @@ fn write_asked<F: Files>(
     images: bool,
     parts: &[Replayer<'_, '_>],
     files: &mut F,
-) -> Result<(), Refusal>
+) -> Result<(), StopCause>
     requires heads { All (λ r. IsHead r.head) parts.now }
     requires fresh { All (λ r. r.state.events ≡ 0) parts.now }
     ensures made { MakesAll result (images_if images parts.now) (F.told files.old) (F.told files.new) }
@@ -69,11 +69,11 @@ pub fn replay<F: Files>(
     images: bool,
     pairs: &[Pair<'_>],
     files: &mut F,
-) -> Result<Answer, Refusal>
+) -> Result<WorkText, StopCause>
     ensures tells { WhenTold (option_map (replay_outcome images (map pair_of pairs.now)) (F.told files.old)) (λ outcome. TellsOutcome outcome result) }
     ensures makes { WhenTold (option_map (replay_outcome images (map pair_of pairs.now)) (F.told files.old)) (λ outcome.
-        Makes result (writes_of outcome) (F.told files.old) (F.told files.new)) }
-    ensures keeps { Keeps result (F.told files.old) (F.told files.new) }
+        MakesWorkFiles result (writes_of outcome) (F.told files.old) (F.told files.new)) }
+    ensures keeps { KeepsFolder result (F.told files.old) (F.told files.new) }
     ensures counts { CountsFaults (F.counts files.old) (F.counts files.new) result }
     ensures cause { IfErr result (Raises (F.counts files.old) (F.counts files.new)) }
 {

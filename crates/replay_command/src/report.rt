@@ -2,9 +2,9 @@
 ghost use Rattle.std.specs.Prelude.{◌≡◌, ◌++◌, IfOk, OnOk};
 ghost use Rattle.group_state.specs.Report.{counts_in};
 ghost use Rattle.replay_command.specs.Report.{count_text, divergence_text, diverges, group_text, is_divergence, report_line_text, report_text, verdict_text};
-ghost use Rattle.replay_command.specs.Seen.{Says};
+ghost use Rattle.replay_command.specs.Seen.{PrintsAtEnd};
 
-use command_run::Answer;
+use command_run::WorkText;
 use end_text::push_end;
 use fri_text::Text;
 use group_state::{Report, ReportLine};
@@ -98,8 +98,8 @@ fn diverges(lines: &[ReportLine]) -> bool
 }
 
 /// A line for each log, and the counts of the group; and whether a log diverged.
-pub fn print_report(alloc: Global, report: &Report) -> Result<Answer, AllocError>
-    ensures { IfOk result (Says (report_text report.now.lines.items (counts_in report.now)) (diverges report.now.lines.items)) }
+pub fn print_report(alloc: Global, report: &Report) -> Result<WorkText, AllocError>
+    ensures { IfOk result (PrintsAtEnd (report_text report.now.lines.items (counts_in report.now)) (diverges report.now.lines.items)) }
 {
     let mut text = Text::new(alloc);
     for line in &report.lines {
@@ -107,8 +107,8 @@ pub fn print_report(alloc: Global, report: &Report) -> Result<Answer, AllocError
     }
     push_counts(&mut text, report)?;
     if diverges(&report.lines) {
-        Ok(Answer::Diverged(text))
+        Ok(WorkText::Diverged(text))
     } else {
-        Ok(Answer::Done(text))
+        Ok(WorkText::Done(text))
     }
 }

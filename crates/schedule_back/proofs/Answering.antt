@@ -11,7 +11,7 @@ use Rattle.group_state.specs.Place.{events}
 use Rattle.schedule_back.specs.declared.refusal.BackError.TheVariants as error
 use Rattle.schedule_back.specs.Back.{back}
 use Rattle.schedule_back.specs.Outcome.{BadModuleName, NotWhole, TooLong, TooManyEvents, first_bad_name, first_not_whole, refuse_where, text_or_refusal, text_within}
-use Rattle.schedule_back.specs.Seen.{FailsAs, IsDraft}
+use Rattle.schedule_back.specs.Seen.{IsBackError, IsDraft}
 
 -- where nothing else is refused, the text decides
 text_decides : (lines : List ProcessLine) (start : List Replaying) → first_not_whole start ≡ None → first_bad_name lines ≡ None → length (events start) ≤ most_runs
@@ -24,7 +24,7 @@ text_decides lines start whole named few =
     ∙ ap (λ b. cond b text (Err TooManyEvents)) (le-leb (length (events start)) most_runs few)
 
 pub answers : (lines : List ProcessLine) (start : List Replaying) (draft : Option (List ℕ)) → first_not_whole start ≡ None → first_bad_name lines ≡ None → length (events start) ≤ most_runs
-    → IsDraft lines (events start) draft → MatchResult (ok_or draft error.TooLong) (λ text. text_or_refusal lines start ≡ Ok text) (FailsAs (text_or_refusal lines start))
+    → IsDraft lines (events start) draft → MatchResult (ok_or draft error.TooLong) (λ text. text_or_refusal lines start ≡ Ok text) (IsBackError (text_or_refusal lines start))
 answers lines start (Some text) whole named few is =
     let all = text_of (back lines start) in
     let short = subst (λ (t : List ℕ). length t ≤ most_schedule) is.0 is.1 in

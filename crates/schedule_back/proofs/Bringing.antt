@@ -15,7 +15,7 @@ use Rattle.guest_process.specs.OneEvent.{Brings, IsThere, StandsFirst, Unless, d
 use Rattle.schedule_text.specs.declared.item.Item.{Item}
 use Rattle.schedule_text.specs.declared.item.Item.TheVariants as item
 use Rattle.group_world.specs.History.{Clock, Inject, Random, Signal}
-use Rattle.group_record.specs.Run.{Did, Group, Progress, Step, after_items, entries, history, process_after}
+use Rattle.group_record.specs.Run.{Did, GroupStart, Progress, Step, after_items, entries, history, process_after}
 use Rattle.schedule_back.specs.Back.{datagram_items, random_items, signal_items, world_items}
 use Rattle.schedule_back.proofs.Worlds.{AreQuiet, IsGiven, IsReady, given_bytes, given_datagram, given_nothing, given_time, ready_with, ready_without}
 
@@ -24,18 +24,18 @@ abbrev pub at_rest : List Step → Progress
 at_rest steps = record { steps = steps; idle = 0; full = None }
 
 -- these items, whatever follows them, come to these steps, and change no process and no log
-pub record Comes (group : Group) (steps : List Step) (items : List Item) (after : List Step) : Type 0 where
+pub record Comes (group : GroupStart) (steps : List Step) (items : List Item) (after : List Step) : Type 0 where
   pub moves : (rest : List Item) (n : ℕ) → (m : ℕ) × (after_items group n (items ++ rest) (at_rest steps) ≡ after_items group m rest (at_rest after))
   pub states : (q : ℕ) → process_after group after q ≡ process_after group steps q
   pub logs : (q : ℕ) → entries after q ≡ entries steps q
 
-stays : (group : Group) (steps : List Step) → Comes group steps [] steps
+stays : (group : GroupStart) (steps : List Step) → Comes group steps [] steps
 stays group steps = record { moves = λ rest n. (n, refl); states = λ q. refl; logs = λ q. refl }
 
 -- ---- what the answer takes
 
 -- the items of the world come to steps after which the answer has what it takes
-pub record IsPrepared (group : Group) (count : ℕ) (steps : List Step) (p : ℕ) (e : Entry) (items : List Item) : Type 0 where
+pub record IsPrepared (group : GroupStart) (count : ℕ) (steps : List Step) (p : ℕ) (e : Entry) (items : List Item) : Type 0 where
   pub after : List Step
   pub comes : Comes group steps items after
   pub given : IsGiven count (history after) p e
@@ -48,7 +48,7 @@ drawn_by : (e : Entry) (k : Option Kind) → kind_numbered e.call.kind ≡ k →
 unfolding drawn
 drawn_by e k is = ap (λ k. draws_as k e) is
 
-module _ (group : Group) (count : ℕ) (steps : List Step) (p : ℕ) (e : Entry) (quiet : AreQuiet count (history steps)) (small : e.reply < 2 ^ 64) where
+module _ (group : GroupStart) (count : ℕ) (steps : List Step) (p : ℕ) (e : Entry) (quiet : AreQuiet count (history steps)) (small : e.reply < 2 ^ 64) where
   Prepared : List Item → Type 0
   Prepared items = IsPrepared group count steps p e items
 
@@ -149,12 +149,12 @@ module _ (group : Group) (count : ℕ) (steps : List Step) (p : ℕ) (e : Entry)
 -- ---- the signal
 
 -- the items in front of the try come to steps after which all is there that the event takes
-pub record AreReady (group : Group) (count : ℕ) (steps : List Step) (p : ℕ) (e : Entry) : Type 0 where
+pub record AreReady (group : GroupStart) (count : ℕ) (steps : List Step) (p : ℕ) (e : Entry) : Type 0 where
   pub after : List Step
   pub comes : Comes group steps (world_items (kind_numbered e.call.kind) p e ++ signal_items p e) after
   pub ready : IsReady count (history after) p e
 
-signalled : (group : Group) (count : ℕ) (steps : List Step) (p : ℕ) (e : Entry) → IsGiven count (history steps) p e
+signalled : (group : GroupStart) (count : ℕ) (steps : List Step) (p : ℕ) (e : Entry) → IsGiven count (history steps) p e
     → (after : List Step) × Comes group steps (signal_items p e) after × IsReady count (history after) p e
 signalled group count steps p e given = by_test (e.signal == 0) refl where
   by_test : (none : Bool) → (e.signal == 0) ≡ none
@@ -170,7 +170,7 @@ pub regroup : {A : Type 0} (xs ys zs : List A) → (xs ++ ys) ++ zs ≡ xs ++ (y
 regroup [] ys zs = refl
 regroup (x ∷ xs) ys zs = ap (λ l. x ∷ l) (regroup xs ys zs)
 
-then_comes : (group : Group) (steps between after : List Step) (first second : List Item) → Comes group steps first between → Comes group between second after → Comes group steps (first ++ second) after
+then_comes : (group : GroupStart) (steps between after : List Step) (first second : List Item) → Comes group steps first between → Comes group between second after → Comes group steps (first ++ second) after
 then_comes group steps between after first second one other = record {
   moves = λ rest n.
       let a = one.moves (second ++ rest) n in
@@ -180,7 +180,7 @@ then_comes group steps between after first second one other = record {
   logs = λ q. other.logs q ∙ one.logs q;
 }
 
-pub are_ready : (group : Group) (count : ℕ) (steps : List Step) (p : ℕ) (e : Entry) → AreQuiet count (history steps) → e.reply < 2 ^ 64 → AreReady group count steps p e
+pub are_ready : (group : GroupStart) (count : ℕ) (steps : List Step) (p : ℕ) (e : Entry) → AreQuiet count (history steps) → e.reply < 2 ^ 64 → AreReady group count steps p e
 are_ready group count steps p e quiet small =
     let world = prepared group count steps p e quiet small (kind_numbered e.call.kind) refl in
     let signal = signalled group count world.after p e world.given in

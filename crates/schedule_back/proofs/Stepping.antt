@@ -17,7 +17,7 @@ use Rattle.group_order.specs.Order.{NodeEvent, of_node}
 use Rattle.group_world.specs.History.{put_last_if}
 use Rattle.schedule_text.specs.declared.item.Item.{Item}
 use Rattle.schedule_text.specs.declared.item.Item.TheVariants as item
-use Rattle.group_record.specs.Run.{Group, Had, Step, after_items, attempts, entries, event_of_try, had, head_of_log, history, log_has_room, process_after, size, unless_full}
+use Rattle.group_record.specs.Run.{GroupStart, Had, Step, after_items, attempts, entries, event_of_try, had, head_of_log, history, log_has_room, process_after, size, unless_full}
 use Rattle.proc_replay.specs.Replaying.{Replaying}
 use Rattle.group_state.specs.Laws.{IsStep}
 use Rattle.group_state.specs.Place.{events, states}
@@ -28,23 +28,23 @@ use Rattle.schedule_back.proofs.Bringing.{AreReady, are_ready, at_rest, regroup}
 use Rattle.schedule_back.proofs.Worlds.{AreQuiet, env_around, quiet_after}
 
 -- the run stands where the group of the logs stands after its first k events, and nothing waits anywhere
-pub record IsAt (start : List Replaying) (group : Group) (k : ℕ) (steps : List Step) : Type 0 where
+pub record IsAt (start : List Replaying) (group : GroupStart) (k : ℕ) (steps : List Step) : Type 0 where
   pub states : (p : ℕ) → process_after group steps p ≡ slice_get (states start k) p
   pub logs : (p : ℕ) → entries steps p ≡ of_node p (take k (events start))
   pub quiet : AreQuiet (size group) (history steps)
 
 -- each log has room for the first events, however many
-abbrev pub HaveRoom : List Replaying → Group → Type 0
+abbrev pub HaveRoom : List Replaying → GroupStart → Type 0
 HaveRoom start group = (p : ℕ) → p < length start → (k : ℕ) → length (head_bytes (head_of_log group p) ++ encodings Two 0 (of_node p (take k (events start)))) ≤ most_log
 
 -- these items, whatever follows them, come to these steps
-abbrev pub Moves : Group → List Step → List Item → List Step → Type 0
+abbrev pub Moves : GroupStart → List Step → List Item → List Step → Type 0
 Moves group steps items after = (rest : List Item) (n : ℕ) → (m : ℕ) × (after_items group n (items ++ rest) (at_rest steps) ≡ after_items group m rest (at_rest after))
 
 -- ---- the try
 
 -- a try of a thread that comes to this event, for which the log has room
-pub tried : (group : Group) (steps : List Step) (p thread : ℕ) (e : Event) → event_of_try group steps p thread ≡ Some e → log_has_room group steps p e ≡ true
+pub tried : (group : GroupStart) (steps : List Step) (p thread : ℕ) (e : Event) → event_of_try group steps p thread ≡ Some e → log_has_room group steps p e ≡ true
     → (rest : List Item) (n : ℕ) → after_items group n (item.Run p thread 1 ∷ rest) (at_rest steps) ≡ after_items group (suc n) rest (at_rest (Had p e ∷ steps))
 unfolding attempts
 tried group steps p thread e is room rest n =
@@ -53,7 +53,7 @@ tried group steps p thread e is room rest n =
 
 -- ---- an event
 
-module _ (possible : Possible) (start : List Replaying) (group : Group) (k : ℕ) (e : NodeEvent Entry) (steps : List Step)
+module _ (possible : Possible) (start : List Replaying) (group : GroupStart) (k : ℕ) (e : NodeEvent Entry) (steps : List Step)
     (here : slice_get (events start) k ≡ Some e) (s : IsStep start k e) (fit : AllFit (states start k)) (count : length (states start k) ≡ length start)
     (room : HaveRoom start group) (at : IsAt start group k steps) where
   abbrev p : ℕ

@@ -20,7 +20,7 @@ use Rattle.guest_process.specs.declared.verdict.Verdict.TheVariants as said
 use Rattle.group_state.specs.Place.{events}
 use Rattle.group_state.specs.Report.{verdict_on}
 use Rattle.schedule_back.specs.Back.{back}
-use Rattle.schedule_back.specs.Outcome.{BadModuleName, NotWhole, Refusal, first_bad_name, first_not_whole, is_whole, refuse_where, text_or_refusal}
+use Rattle.schedule_back.specs.Outcome.{BadModuleName, NotWhole, BackRefusal, first_bad_name, first_not_whole, is_whole, refuse_where, text_or_refusal}
 use Rattle.schedule_back.proofs.Lists.{none_passes}
 
 -- ---- a log
@@ -73,19 +73,19 @@ pub record Says (lines : List ProcessLine) (start : List Replaying) (text : List
   pub spelled : text ≡ text_of (back lines start)
   pub short : length text ≤ most_schedule
 
-not_refused : (why : ℕ → Refusal) (o : Option ℕ) (rest : Result (List ℕ) Refusal) (text : List ℕ) → refuse_where why o rest ≡ Ok text → (o ≡ None) × (rest ≡ Ok text)
+not_refused : (why : ℕ → BackRefusal) (o : Option ℕ) (rest : Result (List ℕ) BackRefusal) (text : List ℕ) → refuse_where why o rest ≡ Ok text → (o ≡ None) × (rest ≡ Ok text)
 not_refused why None rest text is = (refl, is)
 not_refused why (Some p) rest text is = absurd (cc)
 
-within : (b : Bool) (rest : Result (List ℕ) Refusal) (e : Refusal) (text : List ℕ) → cond b rest (Err e) ≡ Ok text → (b ≡ true) × (rest ≡ Ok text)
+within : (b : Bool) (rest : Result (List ℕ) BackRefusal) (e : BackRefusal) (text : List ℕ) → cond b rest (Err e) ≡ Ok text → (b ≡ true) × (rest ≡ Ok text)
 within true rest e text is = (refl, is)
 within false rest e text is = absurd (cc)
 
-text_or : Result (List ℕ) Refusal → List ℕ
+text_or : Result (List ℕ) BackRefusal → List ℕ
 text_or (Ok text) = text
 text_or (Err e) = []
 
-is_text : (given text : List ℕ) → (let answer : Result (List ℕ) Refusal = Ok given in answer ≡ Ok text) → text ≡ given
+is_text : (given text : List ℕ) → (let answer : Result (List ℕ) BackRefusal = Ok given in answer ≡ Ok text) → text ≡ given
 unfolding text_or
 is_text given text is = sym (ap text_or is)
 

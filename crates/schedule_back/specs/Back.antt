@@ -44,9 +44,9 @@ abbrev pub items_of : ℕ → Entry → List Item
 items_of p e = world_items (kind_numbered e.call.kind) p e ++ (signal_items p e ++ (Run p e.thread 1 ∷ []))
 
 -- the schedule of these events, whose nodes are the processes of these lines
-abbrev pub schedule_of : List ProcessLine → List (NodeEvent Entry) → Schedule
-schedule_of lines es = record { processes = lines; items = flat_map (λ e. items_of e.node e.entry) es }
+abbrev pub schedule_of_events : List ProcessLine → List (NodeEvent Entry) → Schedule
+schedule_of_events lines es = record { processes = lines; items = flat_map (λ e. items_of e.node e.entry) es }
 
 -- the schedule of all accepted events of a whole group
 abbrev pub back : List ProcessLine → List Replaying → Schedule
-back lines start = schedule_of lines (events start)
+back lines start = schedule_of_events lines (events start)

@@ -3,7 +3,7 @@ use Rattle.std.specs.Prelude.{◌≡◌, ◌≢◌, ◌≤◌, ℕ, false, List,
 use Rattle.call_log.specs.declared.version.Version.TheVariants.{Two}
 use Rattle.call_log.specs.Log.{entries_of, rest_of, rewritten}
 use Rattle.group_record.specs.Answer.{group_of}
-use Rattle.group_record.specs.Run.{Group, Progress, entries, head_of_log, log_of, run, size, world_around}
+use Rattle.group_record.specs.Run.{GroupStart, Progress, entries, head_of_log, log_of, run, size, world_around}
 use Rattle.guest_process.specs.Live.{Env}
 use Rattle.proc_replay.specs.AtHead.{IsAtHead}
 use Rattle.proc_replay.specs.Replaying.{Replaying}
@@ -12,7 +12,7 @@ use Rattle.schedule_text.specs.Schedule.{IsSchedule}
 use Rattle.schedule_text.specs.Text.{text_of}
 use Rattle.schedule_text.specs.declared.process.ProcessLine.{ProcessLine}
 use Rattle.group_state.specs.Place.{AreParts, PartsFit, events, group_count, node_names}
-use Rattle.schedule_back.specs.Back.{back, schedule_of}
+use Rattle.schedule_back.specs.Back.{back, schedule_of_events}
 use Rattle.schedule_back.specs.Outcome.{text_or_refusal}
 use Rattle.schedule_back.specs.Seen.{BringBytes}
 
@@ -28,7 +28,7 @@ pub record IsWholeGroup (lines : List ProcessLine) (start : List Replaying) : Ty
   pub apart : AllPairs (λ a b. a.name ≢ b.name) lines
 
 -- the group of the schedule, with these first states, and the run of its items
-abbrev pub back_group : List ProcessLine → List Replaying → Group
+abbrev pub back_group : List ProcessLine → List Replaying → GroupStart
 back_group lines start = group_of (back lines start) (map (λ r. r.state) start)
 
 abbrev pub back_run : List ProcessLine → List Replaying → Progress
@@ -36,7 +36,7 @@ back_run lines start = run (back_group lines start) (back lines start).items
 
 -- the run of the items of the first k events
 abbrev pub front_run : List ProcessLine → List Replaying → ℕ → Progress
-front_run lines start k = run (back_group lines start) (schedule_of lines (take k (events start))).items
+front_run lines start k = run (back_group lines start) (schedule_of_events lines (take k (events start))).items
 
 -- nothing waits around a process, no datagram, no random bytes and no signal, and it was not killed
 pub record NothingWaits (env : Env) : Type 0 where

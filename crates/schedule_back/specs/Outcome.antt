@@ -13,11 +13,11 @@ use Rattle.schedule_back.specs.Back.{back}
 
 -- the log of this process is not whole; this process's module has a name that no schedule may have; there are more events
 -- than a schedule may try; or its text is too long
-pub data Refusal : Type 0 where
-  NotWhole : (process : ℕ) → Refusal
-  BadModuleName : (process : ℕ) → Refusal
-  TooManyEvents : Refusal
-  TooLong : Refusal
+pub data BackRefusal : Type 0 where
+  NotWhole : (process : ℕ) → BackRefusal
+  BadModuleName : (process : ℕ) → BackRefusal
+  TooManyEvents : BackRefusal
+  TooLong : BackRefusal
 
 abbrev pub is_whole : Verdict → Bool
 is_whole said.Whole = true
@@ -33,15 +33,15 @@ abbrev pub first_bad_name : List ProcessLine → Option ℕ
 first_bad_name lines = position (λ line. not (is_module_name line.«module»)) lines
 
 -- this process is refused so, where there is one
-abbrev pub refuse_where : (ℕ → Refusal) → Option ℕ → Result (List ℕ) Refusal → Result (List ℕ) Refusal
+abbrev pub refuse_where : (ℕ → BackRefusal) → Option ℕ → Result (List ℕ) BackRefusal → Result (List ℕ) BackRefusal
 refuse_where why None rest = rest
 refuse_where why (Some p) rest = Err (why p)
 
 -- the text, where it is within the limit of a schedule
-abbrev pub text_within : List ℕ → Result (List ℕ) Refusal
+abbrev pub text_within : List ℕ → Result (List ℕ) BackRefusal
 text_within text = if nat_le (length text) most_schedule then Ok text else Err TooLong
 
-abbrev pub text_or_refusal : List ProcessLine → List Replaying → Result (List ℕ) Refusal
+abbrev pub text_or_refusal : List ProcessLine → List Replaying → Result (List ℕ) BackRefusal
 text_or_refusal lines start =
     refuse_where NotWhole (first_not_whole start) (refuse_where BadModuleName (first_bad_name lines)
     (if nat_le (length (events start)) most_runs then text_within (text_of (back lines start)) else Err TooManyEvents))

@@ -8,21 +8,21 @@ use Rattle.schedule_text.specs.Text.{text_of}
 use Rattle.schedule_text.specs.declared.process.ProcessLine.{ProcessLine}
 use Rattle.schedule_back.specs.declared.refusal.BackError.{BackError}
 use Rattle.schedule_back.specs.declared.refusal.BackError.TheVariants as error
-use Rattle.schedule_back.specs.Back.{schedule_of}
-use Rattle.schedule_back.specs.Outcome.{Refusal, NotWhole, BadModuleName, TooManyEvents, TooLong}
+use Rattle.schedule_back.specs.Back.{schedule_of_events}
+use Rattle.schedule_back.specs.Outcome.{BackRefusal, NotWhole, BadModuleName, TooManyEvents, TooLong}
 
 -- the error is this refusal, or want of memory, which may come at any time
-abbrev pub FailsAs : Result (List ℕ) Refusal → BackError → Type 0
-FailsAs outcome (error.NotWhole p) = outcome ≡ Err (NotWhole p)
-FailsAs outcome (error.BadModuleName p) = outcome ≡ Err (BadModuleName p)
-FailsAs outcome error.TooManyEvents = outcome ≡ Err TooManyEvents
-FailsAs outcome error.TooLong = outcome ≡ Err TooLong
-FailsAs outcome error.NoMemory = Unit {0}
+abbrev pub IsBackError : Result (List ℕ) BackRefusal → BackError → Type 0
+IsBackError outcome (error.NotWhole p) = outcome ≡ Err (NotWhole p)
+IsBackError outcome (error.BadModuleName p) = outcome ≡ Err (BadModuleName p)
+IsBackError outcome error.TooManyEvents = outcome ≡ Err TooManyEvents
+IsBackError outcome error.TooLong = outcome ≡ Err TooLong
+IsBackError outcome error.NoMemory = Unit {0}
 
 -- the text of the schedule of these events, or none where it is longer than a schedule may be
 abbrev pub IsDraft : List ProcessLine → List (NodeEvent Entry) → Option (List ℕ) → Type 0
-IsDraft lines es (Some text) = (text ≡ text_of (schedule_of lines es)) × (length text ≤ most_schedule)
-IsDraft lines es None = most_schedule < length (text_of (schedule_of lines es))
+IsDraft lines es (Some text) = (text ≡ text_of (schedule_of_events lines es)) × (length text ≤ most_schedule)
+IsDraft lines es None = most_schedule < length (text_of (schedule_of_events lines es))
 
 -- what came in with these events are bytes
 abbrev pub BringBytes : List (NodeEvent Entry) → Type 0

@@ -2,7 +2,7 @@
 ghost use Rattle.std.specs.Prelude.{◌≡◌, IfOk, MatchResult, Ok, length};
 ghost use Rattle.group_state.specs.Place.{AreParts, events};
 ghost use Rattle.schedule_back.specs.Outcome.{first_bad_name, first_not_whole, is_whole, text_or_refusal};
-ghost use Rattle.schedule_back.specs.Seen.{BringBytes, FailsAs};
+ghost use Rattle.schedule_back.specs.Seen.{BringBytes, IsBackError};
 
 use crate::draft::{begin, walk};
 use crate::refusal::BackError;
@@ -58,7 +58,7 @@ pub fn schedule_back(
     requires parts { AreParts parts.items }
     requires lines { length lines.now ≡ length parts.items }
     ensures answer { MatchResult result (λ text. text_or_refusal lines.now parts.entry.items ≡ Ok text)
-        (FailsAs (text_or_refusal lines.now parts.entry.items)) }
+        (IsBackError (text_or_refusal lines.now parts.entry.items)) }
     ensures bytes { IfOk result (λ _. BringBytes (events parts.entry.items)) }
 {
     let draft = begin(alloc, lines)?;

@@ -3,7 +3,7 @@ ghost use Rattle.schedule_back.specs.Laws.{Converse};
 
 use call_log::exact_logs;
 use group_state::{ordered, stepwise};
-use guest_process::{kept, legal_numbers, possible};
+use guest_process::{legal_numbers, possible, states_fit};
 use proc_replay::accepted_no_longer;
 
 /// The schedule of the logs of a whole group records to them: none of its items is idle, no log is full, and each process
@@ -16,6 +16,6 @@ pub fn records_back()
     stepwise();
     possible();
     legal_numbers();
-    kept();
+    states_fit();
     accepted_no_longer();
 }

@@ -29,8 +29,8 @@ use Rattle.command_run.specs.Inputs.{module_in}
 use Rattle.command_run.specs.Laws.{ReadsModules}
 use Rattle.log_files.specs.Logs.{log_in}
 use Rattle.log_pairs.specs.Pairs.{Loaded, Pair, loaded_pairs, replays_of, sort_replays}
-use Rattle.schedule_command.specs.Laws.{IsRecordedAgain, IsRecording, RecordsBack}
-use Rattle.schedule_command.specs.Schedule.{is_complete, line_of, lines_of}
+use Rattle.schedule_command.specs.Laws.{IsRecordedAgain, IsRecording, RecordsToLogs}
+use Rattle.schedule_command.specs.Schedule.{is_complete, line_of_replay, lines_of_replays}
 use Rattle.schedule_command.proofs.Grouped.{HasPair, LogFile, log_file_of, module_file_is, whole_group}
 use Rattle.schedule_command.proofs.Reading.{AllApart, AllBegin, AreRead, all_begin, all_read, pair_of_replay, replay_of_pair}
 use Rattle.schedule_command.proofs.Recorded.{AllBeginAs, BeginsAs, Recorded, file_at, file_count, module_again, recorded}
@@ -71,11 +71,11 @@ length_map_names : (lines : List ProcessLine) → length (map (λ (line : Proces
 length_map_names [] = refl
 length_map_names (line ∷ lines) = ap suc (length_map_names lines)
 
-length_lines_of : (pairs : List Pair) (ls : List Loaded) (rs : List Replaying) → length (lines_of pairs ls rs) ≡ length rs
+length_lines_of : (pairs : List Pair) (ls : List Loaded) (rs : List Replaying) → length (lines_of_replays pairs ls rs) ≡ length rs
 length_lines_of pairs ls [] = refl
 length_lines_of pairs ls (r ∷ rs) = ap suc (length_lines_of pairs ls rs)
 
-name_at : (pairs : List Pair) (ls : List Loaded) (rs : List Replaying) (p : ℕ) (r : Replaying) → slice_get rs p ≡ Some r → slice_get (map (λ (line : ProcessLine). line.name) (lines_of pairs ls rs)) p ≡ Some r.head.name
+name_at : (pairs : List Pair) (ls : List Loaded) (rs : List Replaying) (p : ℕ) (r : Replaying) → slice_get rs p ≡ Some r → slice_get (map (λ (line : ProcessLine). line.name) (lines_of_replays pairs ls rs)) p ≡ Some r.head.name
 name_at pairs ls [] p r at = cc
 name_at pairs ls (s ∷ rs) zero r at = ap (λ (r : Replaying). Some r.head.name) (same_Some s r at)
 name_at pairs ls (s ∷ rs) (suc p) r at = name_at pairs ls rs p r at
@@ -94,12 +94,12 @@ begins_with l p count = start_of l.«module» p count
 
 -- ---- the lines, place by place
 
-all_begin_as : (pairs : List Pair) (ls : List Loaded) (later : Folder) (count p : ℕ) (rs : List Replaying) → ((i : ℕ) (r : Replaying) → slice_get rs i ≡ Some r → BeginsAs later count (p + i) (line_of pairs ls r) r)
-    → AllBeginAs later count p (lines_of pairs ls rs) rs
+all_begin_as : (pairs : List Pair) (ls : List Loaded) (later : Folder) (count p : ℕ) (rs : List Replaying) → ((i : ℕ) (r : Replaying) → slice_get rs i ≡ Some r → BeginsAs later count (p + i) (line_of_replay pairs ls r) r)
+    → AllBeginAs later count p (lines_of_replays pairs ls rs) rs
 all_begin_as pairs ls later count p [] one = tt
 all_begin_as pairs ls later count p (r ∷ rs) one =
     let here : p + 0 ≡ p = omega arith in
-    (subst (λ n. BeginsAs later count n (line_of pairs ls r) r) here (one 0 r refl), all_begin_as pairs ls later count (suc p) rs (λ i s at. subst (λ n. BeginsAs later count n (line_of pairs ls s) s) (next i) (one (suc i) s at))) where
+    (subst (λ n. BeginsAs later count n (line_of_replay pairs ls r) r) here (one 0 r refl), all_begin_as pairs ls later count (suc p) rs (λ i s at. subst (λ n. BeginsAs later count n (line_of_replay pairs ls s) s) (next i) (one (suc i) s at))) where
       next : (i : ℕ) → p + suc i ≡ suc p + i
       next i = omega arith
 
@@ -111,7 +111,7 @@ module _ (exact : ExactLogs) (rewritten_read : RewrittenIsRead) (reads : ReadsMo
   start = sort_replays [] rs
 
   abbrev lines : List ProcessLine
-  lines = lines_of pairs ls (sort_replays [] rs)
+  lines = lines_of_replays pairs ls (sort_replays [] rs)
 
   record Found : Type 0 where
     read : AreRead folder pairs ls
@@ -133,14 +133,14 @@ module _ (exact : ExactLogs) (rewritten_read : RewrittenIsRead) (reads : ReadsMo
 
   -- where the schedule has this text
   module _ (parts : AreParts (sort_replays [] rs)) (at_heads : All IsAtHead (sort_replays [] rs)) (complete : IsTrue (is_complete (sort_replays [] rs))) (text : List ℕ)
-      (text_is : text_or_refusal (lines_of pairs ls (sort_replays [] rs)) (sort_replays [] rs) ≡ Ok text) (bytes : BringBytes (events (sort_replays [] rs))) where
+      (text_is : text_or_refusal (lines_of_replays pairs ls (sort_replays [] rs)) (sort_replays [] rs) ≡ Ok text) (bytes : BringBytes (events (sort_replays [] rs))) where
     back_is : BackRecords lines start text
     back_is = converse lines start text (whole_group exact reads started folder pairs ls start found.apart found.ofs parts at_heads complete) bytes text_is
 
     -- each process begins there as it began here
     begin_as : (later : Folder) → AllByRecursion (λ (pair : Pair). get later pair.module_name ≡ get folder pair.module_name) pairs → AllBeginAs later (length lines) 0 lines start
     begin_as later same = all_begin_as pairs ls later (length lines) 0 start one where
-      one : (p : ℕ) (r : Replaying) → slice_get start p ≡ Some r → BeginsAs later (length lines) (0 + p) (line_of pairs ls r) r
+      one : (p : ℕ) (r : Replaying) → slice_get start p ≡ Some r → BeginsAs later (length lines) (0 + p) (line_of_replay pairs ls r) r
       one p r at =
           let of = at_place (HasPair folder pairs ls) start found.ofs p r at in
           let pair_at = of.1 in
@@ -202,6 +202,6 @@ module _ (exact : ExactLogs) (rewritten_read : RewrittenIsRead) (reads : ReadsMo
         logs = All-from_recursion (IsRecordedAgain folder done.work.writes) pairs (all_by_place (IsRecordedAgain folder done.work.writes) pairs again);
       }
 
-    pub records_back : RecordsBack pairs folder text
+    pub records_back : RecordsToLogs pairs folder text
     records_back later schedule_name held same =
         recording later schedule_name held (recursion_from_All (λ (pair : Pair). get later pair.module_name ≡ get folder pair.module_name) pairs same)

@@ -13,7 +13,7 @@ use Rattle.std.specs.FinMap.{get}
 use Rattle.call_log.specs.Head.{Head, IsHead, head_bytes}
 use Rattle.call_log.specs.Laws.{ExactLogs}
 use Rattle.call_log.specs.Limits.{most_log}
-use Rattle.call_log.specs.Log.{Unread, behind, head_at}
+use Rattle.call_log.specs.Log.{Unread, unread_after_head, head_at}
 use Rattle.guest_process.specs.Fits.{StateFits}
 use Rattle.guest_process.specs.OneEvent.{IsStarted}
 use Rattle.guest_process.specs.Start.{start}
@@ -28,7 +28,7 @@ use Rattle.command_run.specs.OutcomeLaws.{follows, same_Ok}
 use Rattle.log_files.specs.Logs.{log_in, log_or_bad_head}
 use Rattle.log_pairs.specs.Pairs.{Loaded, Pair}
 use Rattle.log_pairs.specs.Finding.{module_file}
-use Rattle.schedule_command.specs.Schedule.{is_complete, line_of, lines_of}
+use Rattle.schedule_command.specs.Schedule.{is_complete, line_of_replay, lines_of_replays}
 use Rattle.schedule_command.proofs.Reading.{AllApart, PairAt, one_name, one_process}
 
 -- ---- a log that was read
@@ -40,7 +40,7 @@ pub record LogFile (folder : Folder) (name : List ℕ) (head : Head) (left : Unr
   pub within : length bytes ≤ most_log
   pub in_range : IsHead head
   pub spelled : bytes ≡ head_bytes head ++ left.bytes
-  pub behind : left ≡ behind head left.bytes
+  pub behind : left ≡ unread_after_head head left.bytes
 
 held_bytes : (name : List ℕ) (limit : ℕ) (o : Option (List ℕ)) (bytes : List ℕ) → bytes_or_stop name (found_within limit o) ≡ Ok bytes → (o ≡ Some bytes) × (length bytes ≤ limit)
 held_bytes name limit None bytes is = absurd (cc)
@@ -113,11 +113,11 @@ complete_some : (start : List Replaying) → IsTrue (is_complete start) → 1 �
 complete_some [] is = absurd (cc)
 complete_some (r ∷ rs) is = omega arith
 
-names_are : (pairs : List Pair) (ls : List Loaded) (start : List Replaying) → map (λ (line : ProcessLine). line.name) (lines_of pairs ls start) ≡ map (λ (r : Replaying). r.head.name) start
+names_are : (pairs : List Pair) (ls : List Loaded) (start : List Replaying) → map (λ (line : ProcessLine). line.name) (lines_of_replays pairs ls start) ≡ map (λ (r : Replaying). r.head.name) start
 names_are pairs ls [] = refl
 names_are pairs ls (r ∷ rs) = ap (λ names. r.head.name ∷ names) (names_are pairs ls rs)
 
-length_lines : (pairs : List Pair) (ls : List Loaded) (start : List Replaying) → length (lines_of pairs ls start) ≡ length start
+length_lines : (pairs : List Pair) (ls : List Loaded) (start : List Replaying) → length (lines_of_replays pairs ls start) ≡ length start
 length_lines pairs ls [] = refl
 length_lines pairs ls (r ∷ rs) = ap suc (length_lines pairs ls rs)
 
@@ -135,21 +135,21 @@ abbrev Apart : ProcessLine → ProcessLine → Type 0
 Apart a b = a.name ≢ b.name
 
 lines_behind : (folder : Folder) (pairs : List Pair) (ls : List Loaded) → AllApart ls → (r : Replaying) → HasPair folder pairs ls r → (rs : List Replaying) → AllByRecursion (HasPair folder pairs ls) rs
-    → AllByRecursion (λ (s : Replaying). r.head.process < s.head.process) rs → AllByRecursion (Apart (line_of pairs ls r)) (lines_of pairs ls rs)
+    → AllByRecursion (λ (s : Replaying). r.head.process < s.head.process) rs → AllByRecursion (Apart (line_of_replay pairs ls r)) (lines_of_replays pairs ls rs)
 lines_behind folder pairs ls apart r of [] ofs above = tt
 lines_behind folder pairs ls apart r of (s ∷ rs) ofs above =
     ((λ same. absurd (below (same_process folder pairs ls apart r s of ofs.0 same))), lines_behind folder pairs ls apart r of rs ofs.1 above.1) where
       below : r.head.process ≡ s.head.process → ⊥
       below same = omega (arith, same, above.0)
 
-lines_apart : (folder : Folder) (pairs : List Pair) (ls : List Loaded) → AllApart ls → (rs : List Replaying) → AllByRecursion (HasPair folder pairs ls) rs → Ascends rs → AllPairs Apart (lines_of pairs ls rs)
+lines_apart : (folder : Folder) (pairs : List Pair) (ls : List Loaded) → AllApart ls → (rs : List Replaying) → AllByRecursion (HasPair folder pairs ls) rs → Ascends rs → AllPairs Apart (lines_of_replays pairs ls rs)
 lines_apart folder pairs ls apart [] ofs up = λ i j d below within. absurd (omega (arith, below, within))
 lines_apart folder pairs ls apart (r ∷ rs) ofs up =
-    AllPairs-cons Apart (line_of pairs ls r) (lines_of pairs ls rs)
-    (All-from_recursion (Apart (line_of pairs ls r)) (lines_of pairs ls rs) (lines_behind folder pairs ls apart r ofs.0 rs ofs.1 up.0)) (lines_apart folder pairs ls apart rs ofs.1 up.1)
+    AllPairs-cons Apart (line_of_replay pairs ls r) (lines_of_replays pairs ls rs)
+    (All-from_recursion (Apart (line_of_replay pairs ls r)) (lines_of_replays pairs ls rs) (lines_behind folder pairs ls apart r ofs.0 rs ofs.1 up.0)) (lines_apart folder pairs ls apart rs ofs.1 up.1)
 
 pub whole_group : ExactLogs → ReadsModules → IsStarted → (folder : Folder) (pairs : List Pair) (ls : List Loaded) (start : List Replaying) → AllApart ls
-    → AllByRecursion (HasPair folder pairs ls) start → AreParts start → All IsAtHead start → IsTrue (is_complete start) → IsWholeGroup (lines_of pairs ls start) start
+    → AllByRecursion (HasPair folder pairs ls) start → AreParts start → All IsAtHead start → IsTrue (is_complete start) → IsWholeGroup (lines_of_replays pairs ls start) start
 whole_group exact reads started folder pairs ls start apart ofs parts at_heads complete = record {
   some = complete_some start complete;
   parts = parts;

@@ -21,7 +21,7 @@ use Rattle.schedule_back.specs.Laws.{RecordsBack, back_group, back_run}
 use Rattle.command_run.specs.Inputs.{module_in, spelled_module, valid_module}
 use Rattle.command_run.specs.Laws.{ReadsModules}
 use Rattle.command_run.specs.Limits.{most_module}
-use Rattle.command_run.specs.Outcome.{Stop, Work, and_then, bytes_or_stop}
+use Rattle.command_run.specs.Outcome.{CommandStop, CommandWork, and_then, bytes_or_stop}
 use Rattle.record_command.specs.Expected.{group_outcome, modules_of, record_outcome, schedule_in, schedule_or_refusal}
 use Rattle.record_command.specs.Record.{outcome_by_room, recorded_work}
 
@@ -56,8 +56,8 @@ gathered later count p (line ∷ lines) (r ∷ rs) all =
     let rest = gathered later count (suc p) lines rs all.1 in
     record {
       modules = one.«module» ∷ rest.modules;
-      found = ap (λ (m : Result Module Stop). and_then m (λ m. and_then (modules_of later lines) (λ ms. Ok (m ∷ ms)))) one.found
-          ∙ ap (λ (ms : Result (List Module) Stop). and_then ms (λ ms. Ok (one.«module» ∷ ms))) rest.found;
+      found = ap (λ (m : Result Module CommandStop). and_then m (λ m. and_then (modules_of later lines) (λ ms. Ok (m ∷ ms)))) one.found
+          ∙ ap (λ (ms : Result (List Module) CommandStop). and_then ms (λ ms. Ok (one.«module» ∷ ms))) rest.found;
       states = ap (λ (o : Option State). with_first_state o p (first_states_from count (suc p) rest.modules)) one.begins
           ∙ ap (with_first_state (Some r.state) p) rest.states;
     }
@@ -67,7 +67,7 @@ gathered later count p (line ∷ lines) [] all = absurd all
 -- ---- the outcome
 
 pub record Recorded (lines : List ProcessLine) (start : List Replaying) (later : Folder) (schedule_name : List ℕ) : Type 0 where
-  pub work : Work
+  pub work : CommandWork
   pub is : record_outcome false schedule_name later ≡ Ok work
   pub writes : work.writes ≡ logs (back_group lines start) (back_run lines start).steps
 
@@ -79,12 +79,12 @@ recorded reads read_back lines start text later name back_is held begin =
     let states = map (λ (r : Replaying). r.state) start in
     let spelled : schedule_of text ≡ Ok s = ap schedule_of back_is.spelled ∙ read_back s back_is.formed in
     let in_file : schedule_in later name ≡ Ok s =
-    ap (λ (r : Result (List ℕ) Stop). and_then r (λ bytes. schedule_or_refusal name (schedule_of bytes))) (reads.files later name most_schedule text (record { held = held; within = back_is.short }))
+    ap (λ (r : Result (List ℕ) CommandStop). and_then r (λ bytes. schedule_or_refusal name (schedule_of bytes))) (reads.files later name most_schedule text (record { held = held; within = back_is.short }))
     ∙ ap (schedule_or_refusal name) spelled in
     record {
       work = recorded_work false (back_group lines start) (back_run lines start);
-      is = ap (λ (r : Result Schedule Stop). and_then r (λ schedule. and_then (modules_of later schedule.processes) (λ modules. group_outcome false name schedule (first_states schedule modules)))) in_file
-          ∙ ap (λ (r : Result (List Module) Stop). and_then r (λ modules. group_outcome false name s (first_states s modules))) g.found
+      is = ap (λ (r : Result Schedule CommandStop). and_then r (λ schedule. and_then (modules_of later schedule.processes) (λ modules. group_outcome false name schedule (first_states schedule modules)))) in_file
+          ∙ ap (λ (r : Result (List Module) CommandStop). and_then r (λ modules. group_outcome false name s (first_states s modules))) g.found
           ∙ ap (group_outcome false name s) g.states
           ∙ ap (outcome_by_room false name (back_group lines start) (back_run lines start)) back_is.room;
       writes = append-nil (logs (back_group lines start) (back_run lines start).steps);

@@ -24,7 +24,7 @@ use Rattle.log_pairs.specs.Laws.{OpensGroups}
 use Rattle.log_pairs.specs.Pairs.{Loaded, Pair, loaded_pairs, replays_of, sort_replays}
 use Rattle.schedule_command.specs.Laws.{SchedulesWork}
 use Rattle.log_pairs.specs.Finding.{first_log}
-use Rattle.schedule_command.specs.Schedule.{lines_of, outcome_of, prints_text}
+use Rattle.schedule_command.specs.Schedule.{lines_of_replays, outcome_of_text, prints_text}
 use Rattle.schedule_command.proofs.Grouped.{HasPair, module_file_is}
 use Rattle.schedule_command.proofs.Performing.{opened}
 use Rattle.schedule_command.proofs.Reading.{AllApart, AreRead, all_begin, all_read, pair_of_replay}
@@ -47,7 +47,7 @@ whole_verdicts (r ∷ rs) all = (ap (λ (v : Verdict). not (is_whole v)) all.0, 
 -- ---- the names
 
 named : (folder : Folder) (pairs : List Pair) (ls : List Loaded) → AllApart ls → AllByRecursion (λ (pair : Pair). IsTrue (is_module_name pair.module_name)) pairs
-    → (rs : List Replaying) → AllByRecursion (HasPair folder pairs ls) rs → AllByRecursion (λ (line : ProcessLine). not (is_module_name line.«module») ≡ false) (lines_of pairs ls rs)
+    → (rs : List Replaying) → AllByRecursion (HasPair folder pairs ls) rs → AllByRecursion (λ (line : ProcessLine). not (is_module_name line.«module») ≡ false) (lines_of_replays pairs ls rs)
 named folder pairs ls apart names [] ofs = tt
 named folder pairs ls apart names (r ∷ rs) ofs =
     let at = ofs.0.1 in
@@ -80,12 +80,12 @@ schedules_work opens pairs folder h =
     let begin = all_begin ls o.rs o.begun in
     let ofs : AllByRecursion (HasPair folder pairs ls) start = subst (AllByRecursion (HasPair folder pairs ls)) o.sorted
     (sort_keeps (HasPair folder pairs ls) [] o.rs tt (all_by_place (HasPair folder pairs ls) o.rs (λ i r at. (i, pair_of_replay folder pairs ls o.rs are_read begin i r at)))) in
-    let lines = lines_of pairs ls start in
+    let lines = lines_of_replays pairs ls start in
     let text = text_of (back lines start) in
     let whole = none_found (λ v. not (is_whole v)) (map verdict_on start) (whole_verdicts start (recursion_from_All (λ (r : Replaying). verdict_on r ≡ Whole) start are.whole)) in
     let names = none_found (λ line. not (is_module_name line.«module»)) lines (named folder pairs ls apart (recursion_from_All (λ (pair : Pair). IsTrue (is_module_name pair.module_name)) pairs h.names) start ofs) in (
       prints_text text,
       o.outcome
-          ∙ ap (λ b. cond b (outcome_of pairs ls (text_or_refusal lines start)) (Err (refuses_at_once (first_log pairs) reason.Incomplete))) are.complete
-          ∙ ap (outcome_of pairs ls) (text_is lines start whole names are.few are.short),
+          ∙ ap (λ b. cond b (outcome_of_text pairs ls (text_or_refusal lines start)) (Err (refuses_at_once (first_log pairs) reason.Incomplete))) are.complete
+          ∙ ap (outcome_of_text pairs ls) (text_is lines start whole names are.few are.short),
     )

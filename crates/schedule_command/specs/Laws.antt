@@ -6,7 +6,7 @@ use Rattle.call_log.specs.declared.version.Version.TheVariants.{Two}
 use Rattle.call_log.specs.Head.{Head}
 use Rattle.call_log.specs.Log.{Unread, entries_of, head_at, rest_of}
 use Rattle.group_record.specs.Logs.{log_name}
-use Rattle.command_run.specs.Outcome.{Work}
+use Rattle.command_run.specs.Outcome.{CommandWork}
 use Rattle.log_files.specs.Logs.{log_in}
 use Rattle.log_pairs.specs.Pairs.{Pair}
 use Rattle.record_command.specs.Expected.{record_outcome}
@@ -29,16 +29,16 @@ pub record IsRecordedAgain (folder : Folder) (writes : List (List ℕ × List �
 
 -- recording comes to work, which makes a log for each of the pairs and nothing else
 pub record IsRecording (pairs : List Pair) (folder later : Folder) (schedule_name : List ℕ) : Type 0 where
-  pub work : Work
+  pub work : CommandWork
   pub is : record_outcome false schedule_name later ≡ Ok work
   pub count : length work.writes ≡ length pairs
   pub logs : All (IsRecordedAgain folder work.writes) pairs
 
 -- wherever a file holds this text and the modules stand as they stood, recording it comes to the logs again
-abbrev pub RecordsBack : List Pair → Folder → List ℕ → Type 0
-RecordsBack pairs folder text = (later : Folder) (schedule_name : List ℕ) → get later schedule_name ≡ Some text
+abbrev pub RecordsToLogs : List Pair → Folder → List ℕ → Type 0
+RecordsToLogs pairs folder text = (later : Folder) (schedule_name : List ℕ) → get later schedule_name ≡ Some text
     → All (λ pair. get later pair.module_name ≡ get folder pair.module_name) pairs → IsRecording pairs folder later schedule_name
 
 -- the files of a whole group have an outcome that is work
 abbrev pub SchedulesWork : Type 0
-SchedulesWork = (pairs : List Pair) (folder : Folder) → CanBeScheduled folder pairs → (work : Work) × (schedule_outcome pairs folder ≡ Ok work)
+SchedulesWork = (pairs : List Pair) (folder : Folder) → CanBeScheduled folder pairs → (work : CommandWork) × (schedule_outcome pairs folder ≡ Ok work)

@@ -11,14 +11,14 @@ use Rattle.guest_process.specs.declared.verdict.Verdict.TheVariants.{Whole}
 use Rattle.group_state.specs.Place.{events}
 use Rattle.group_state.specs.Report.{verdict_on}
 use Rattle.schedule_back.specs.Back.{back}
-use Rattle.schedule_command.specs.Schedule.{is_complete, lines_of}
+use Rattle.schedule_command.specs.Schedule.{is_complete, lines_of_replays}
 
 -- all logs of a group, each of which is whole, and no more events and no longer a text than a schedule may have
-pub record AreWhole (pairs : List Pair) (ls : List Loaded) (start : List Replaying) : Type 0 where
+pub record AreWholeLogs (pairs : List Pair) (ls : List Loaded) (start : List Replaying) : Type 0 where
   pub complete : IsTrue (is_complete start)
   pub whole : All (λ r. verdict_on r ≡ Whole) start
   pub few : length (events start) ≤ most_runs
-  pub short : length (text_of (back (lines_of pairs ls start) start)) ≤ most_schedule
+  pub short : length (text_of (back (lines_of_replays pairs ls start) start)) ≤ most_schedule
 
 -- the pairs are modules and logs of a group; each module has a name that a schedule may have; and the logs are all of the
 -- group's
@@ -26,4 +26,4 @@ pub record CanBeScheduled (folder : Folder) (pairs : List Pair) : Type 0 where
   pub group : IsGroup folder pairs
   pub names : All (λ pair. IsTrue (is_module_name pair.module_name)) pairs
   pub whole : (ls : List Loaded) (start : List Replaying) → loaded_pairs folder [] pairs ≡ Ok ls → replays_of_pairs folder pairs ≡ Ok start
-      → AreWhole pairs ls start
+      → AreWholeLogs pairs ls start

@@ -7,14 +7,14 @@ ghost use Rattle.group_state.specs.Place.{AreParts, events};
 ghost use Rattle.log_pairs.specs.Pairs.{Loaded as LoadedOf};
 ghost use Rattle.log_pairs.specs.Seen.{AreLoaded, pair_of};
 ghost use Rattle.schedule_back.specs.Seen.{BringBytes};
-ghost use Rattle.schedule_command.specs.Schedule.{is_complete, lines_of, schedule_outcome, unless_incomplete};
+ghost use Rattle.schedule_command.specs.Schedule.{is_complete, lines_of_replays, schedule_outcome, unless_incomplete};
 ghost use Rattle.schedule_command.specs.Seen.{AnswerRecordsBack, IsMade};
 
 use call_log::{exact_logs, rewritten_is_read};
-use command_run::{Answer, Reason, Refusal, reads_modules};
+use command_run::{Reason, StopCause, WorkText, reads_modules};
 use fri_bytes::Bytes;
 use fri_outside::Files;
-use guest_process::kept;
+use guest_process::states_fit;
 use log_pairs::{Loaded, Pair, begin_all, first_log, load_all, log_file, module_file};
 use proc_replay::Replayer;
 use schedule_back::{BackError, records_back, schedule_back};
@@ -28,7 +28,7 @@ fn lines_of<'a>(
     all: &[Loaded<'a>],
     parts: &[Replayer<'_, '_>],
 ) -> Result<Vec<ProcessLine>, AllocError>
-    ensures { IfOk result (λ lines. (ls : List LoadedOf) → AreLoaded all.now ls → lines.items ≡ lines_of (map pair_of pairs.now) ls parts.now) }
+    ensures { IfOk result (λ lines. (ls : List LoadedOf) → AreLoaded all.now ls → lines.items ≡ lines_of_replays (map pair_of pairs.now) ls parts.now) }
 {
     let mut lines = Vec::new(alloc);
     for part in parts {
@@ -57,7 +57,7 @@ fn make<'a>(
     pairs: &[Pair<'a>],
     all: &[Loaded<'a>],
     parts: Vec<Replayer<'_, '_>>,
-) -> Result<Answer, Refusal>
+) -> Result<WorkText, StopCause>
     requires loaded { (ls : List LoadedOf) × AreLoaded all.now ls }
     requires parts { AreParts parts.items }
     ensures answer { (ls : List LoadedOf) → AreLoaded all.now ls → MatchResult result (IsMade (map pair_of pairs.now) ls parts.entry.items)
@@ -67,28 +67,28 @@ fn make<'a>(
     ensures still { (n : ℕ) → (reads_after n result ≡ n) × (writes_after n result ≡ n) }
 {
     if !is_complete(&parts) {
-        return Err(Refusal::refuse(alloc, first_log(pairs), Reason::Incomplete));
+        return Err(StopCause::refuse(alloc, first_log(pairs), Reason::Incomplete));
     }
     let lines = lines_of(alloc, pairs, all, &parts)?;
     match schedule_back(alloc, &lines, parts) {
-        Ok(text) => Ok(Answer::Done(text)),
+        Ok(text) => Ok(WorkText::Done(text)),
         Err(BackError::NotWhole(p)) => {
             let file = log_file(pairs, all, p);
-            Err(Refusal::refuse(alloc, file, Reason::NotWhole))
+            Err(StopCause::refuse(alloc, file, Reason::NotWhole))
         }
         Err(BackError::BadModuleName(p)) => {
             let file = module_file(pairs, all, p);
-            Err(Refusal::refuse(alloc, file, Reason::BadModuleName))
+            Err(StopCause::refuse(alloc, file, Reason::BadModuleName))
         }
         Err(BackError::TooManyEvents) => {
             let file = first_log(pairs);
-            Err(Refusal::refuse(alloc, file, Reason::TooManyEvents))
+            Err(StopCause::refuse(alloc, file, Reason::TooManyEvents))
         }
         Err(BackError::TooLong) => {
             let file = first_log(pairs);
-            Err(Refusal::refuse(alloc, file, Reason::TooLong))
+            Err(StopCause::refuse(alloc, file, Reason::TooLong))
         }
-        Err(BackError::NoMemory) => Err(Refusal::NoMemory),
+        Err(BackError::NoMemory) => Err(StopCause::NoMemory),
     }
 }
 
@@ -97,7 +97,7 @@ pub fn schedule<'a, F: Files>(
     alloc: Global,
     pairs: &[Pair<'a>],
     files: &mut F,
-) -> Result<Answer, Refusal>
+) -> Result<WorkText, StopCause>
     ensures performed { Performed (option_map (schedule_outcome (map pair_of pairs.now)) (F.told files.old)) (λ folder. []) false
         (F.told files.old) (F.told files.new) (F.counts files.old) (F.counts files.new) result }
     ensures same { F.told files.new ≡ F.told files.old }
@@ -107,7 +107,7 @@ pub fn schedule<'a, F: Files>(
     rewritten_is_read();
     reads_modules();
     written_is_read();
-    kept();
+    states_fit();
     records_back();
     let all = load_all(alloc, pairs, files)?;
     let parts = begin_all(alloc, &all)?;

@@ -15,7 +15,7 @@ use Rattle.schedule_text.specs.declared.item.Item.TheVariants.{Run, Deliver, Inj
 use Rattle.schedule_text.specs.Limits.{most_thread, most_datagram}
 use Rattle.schedule_text.specs.declared.process.ProcessLine.{ProcessLine}
 use Rattle.schedule_text.specs.Fields.{field_at, last_of, is_comment}
-use Rattle.schedule_text.specs.Grammar.{IsNumber, IsSignedNumber, IsHeader, IsHex, IsProcessLine, IsRun, IsPair, IsItemLine}
+use Rattle.schedule_text.specs.Grammar.{IsNumber, IsSignedNumber, IsHeader, IsHex, IsProcessLine, IsRunItem, IsPair, IsItemLine}
 use Rattle.schedule_text.specs.Reading.{number_up_to, positive_of, process_number_of, times_of, is_header, process_line_of, run_item, pair_in, deliver_item, bytes_in, inject_item, clock_item, random_item, signal_item, kill_item, item_by}
 use Rattle.schedule_text.specs.Schedule.{IsInRange, IsProcess, is_module_name}
 use Rattle.schedule_text.proofs.WordLaws.{bind_some, map_some, kept, field_takes, last_takes, number_takes, number_again, positive_takes, positive_again, hex_takes, process_takes, process_again, value_takes, value_again, times_takes, times_again}
@@ -72,11 +72,11 @@ run_written : (processes : ℕ) (p t : List ℕ) (rest : List (List ℕ)) (proce
 run_written processes p t rest process thread times is_process is_thread e =
     elim (times_takes rest times e) [
       | inl none ↦ (
-        subst (λ (fs : List (List ℕ)). IsRun (codes "run" ∷ p ∷ t ∷ fs) process thread times) (sym none.0) (refl, is_process.0, is_thread.0, none.1),
+        subst (λ (fs : List (List ℕ)). IsRunItem (codes "run" ∷ p ∷ t ∷ fs) process thread times) (sym none.0) (refl, is_process.0, is_thread.0, none.1),
         (is_process.1, is_thread.1, omega (arith, none.1), omega (arith, none.1)),
       )
       | inr some ↦ (
-        subst (λ (fs : List (List ℕ)). IsRun (codes "run" ∷ p ∷ t ∷ fs) process thread times) (sym some.1) (refl, is_process.0, is_thread.0, some.2),
+        subst (λ (fs : List (List ℕ)). IsRunItem (codes "run" ∷ p ∷ t ∷ fs) process thread times) (sym some.1) (refl, is_process.0, is_thread.0, some.2),
         (is_process.1, is_thread.1, some.3, some.4),
       )
     ]

@@ -10,7 +10,7 @@ use Rattle.schedule_text.specs.declared.item.Item.TheVariants.{Run, Deliver, Inj
 use Rattle.schedule_text.specs.declared.process.ProcessLine.{ProcessLine}
 use Rattle.schedule_text.specs.Limits.{most_runs}
 use Rattle.schedule_text.specs.Grammar.{AreLinesOf, Spells, BeginSchedule, IsFirstBad, BadAt}
-use Rattle.schedule_text.specs.Reading.{◌>>=◌, Refusal, BadLineAt, TooManyRuns, Part, nothing, with_line, with_fields, with_process, process_line_of, schedule_part, whole_of, outcome_of, schedule_of}
+use Rattle.schedule_text.specs.Reading.{◌>>=◌, ScheduleRefusal, BadLineAt, TooManyRuns, Part, nothing, with_line, with_fields, with_process, process_line_of, schedule_part, whole_of, outcome_of, schedule_of}
 use Rattle.schedule_text.specs.Schedule.{Schedule, IsSchedule, IsInRange, run_count}
 use Rattle.schedule_text.proofs.LineLaws.{lines_give, having, all_keep, lines_take, lines_again, one_of_lines, some_is}
 use Rattle.schedule_text.proofs.StepLaws.{IsPart, nothing_is}
@@ -25,7 +25,7 @@ pub record Stops (part : Part) (lines : List (List ℕ)) (good : ℕ) : Type 0 w
   pub unfinished : good ≡ length lines → length mid.processes ≡ 0
 
 -- what an outcome says of the lines
-pub data Came (part : Part) (lines : List (List ℕ)) (number : ℕ) : Result Schedule Refusal → Type 0 where
+pub data Came (part : Part) (lines : List (List ℕ)) (number : ℕ) : Result Schedule ScheduleRefusal → Type 0 where
   whole : (end : Part) → lines_give part lines ≡ Some end → 0 < length end.processes → run_count end.items ≤ most_runs → Came part lines number (Ok (schedule_part end))
   over : (end : Part) → lines_give part lines ≡ Some end → 0 < length end.processes → most_runs < run_count end.items → Came part lines number (Err TooManyRuns)
   stops : (good : ℕ) → Stops part lines good → Came part lines number (Err (BadLineAt (number + good)))
@@ -50,7 +50,7 @@ after_line : (part next : Part) (line : List ℕ) (lines : List (List ℕ)) → 
 after_line part next line lines e = ap (λ (o : Option Part). o >>= λ p. lines_give p lines) e
 
 -- what is said of the lines behind an allowed one is said of all
-came_on : (number : ℕ) (part next : Part) (line : List ℕ) (lines : List (List ℕ)) (outcome : Result Schedule Refusal) → with_line part line ≡ Some next → Came next lines (number + 1) outcome → Came part (line ∷ lines) number outcome
+came_on : (number : ℕ) (part next : Part) (line : List ℕ) (lines : List (List ℕ)) (outcome : Result Schedule ScheduleRefusal) → with_line part line ≡ Some next → Came next lines (number + 1) outcome → Came part (line ∷ lines) number outcome
 came_on number part next line lines _ e (whole end gives some few) = whole end (after_line part next line lines e ∙ gives) some few
 came_on number part next line lines _ e (over end gives some many) = over end (after_line part next line lines e ∙ gives) some many
 came_on number part next line lines _ e (stops good h) =
@@ -229,7 +229,7 @@ unfolding schedule_of
 came_of bytes = came (lines_of bytes) 1 nothing
 
 -- the same three of lines: a schedule
-came_ok : (lines : List (List ℕ)) (outcome : Result Schedule Refusal) (s : Schedule) → Came nothing lines 1 outcome → outcome ≡ Ok s → AreLinesOf lines s × IsSchedule s
+came_ok : (lines : List (List ℕ)) (outcome : Result Schedule ScheduleRefusal) (s : Schedule) → Came nothing lines 1 outcome → outcome ≡ Ok s → AreLinesOf lines s × IsSchedule s
 came_ok lines _ s (whole end gives some few) e =
     let same : schedule_part end ≡ s = cc in
     let spelled = lines_take lines end some gives in
@@ -238,13 +238,13 @@ came_ok lines _ s (over end gives some many) e = absurd cc
 came_ok lines _ s (stops good h) e = absurd cc
 
 -- too many run items
-came_over : (lines : List (List ℕ)) (outcome : Result Schedule Refusal) → Came nothing lines 1 outcome → outcome ≡ Err TooManyRuns → (s : Schedule) × AreLinesOf lines s × (most_runs < run_count s.items)
+came_over : (lines : List (List ℕ)) (outcome : Result Schedule ScheduleRefusal) → Came nothing lines 1 outcome → outcome ≡ Err TooManyRuns → (s : Schedule) × AreLinesOf lines s × (most_runs < run_count s.items)
 came_over lines _ (whole end gives some few) e = absurd cc
 came_over lines _ (over end gives some many) e = (schedule_part end, lines_take lines end some gives, many)
 came_over lines _ (stops good h) e = absurd cc
 
 -- a bad line
-came_stops : (lines : List (List ℕ)) (outcome : Result Schedule Refusal) (n : ℕ) → Came nothing lines 1 outcome → outcome ≡ Err (BadLineAt n) → IsFirstBad lines n
+came_stops : (lines : List (List ℕ)) (outcome : Result Schedule ScheduleRefusal) (n : ℕ) → Came nothing lines 1 outcome → outcome ≡ Err (BadLineAt n) → IsFirstBad lines n
 came_stops lines _ n (whole end gives some few) e = absurd cc
 came_stops lines _ n (over end gives some many) e = absurd cc
 came_stops lines _ n (stops good h) e = subst (IsFirstBad lines) (let same : 1 + good ≡ n = cc in same) (first_bad lines good h)
@@ -266,7 +266,7 @@ spelled_came : (lines : List (List ℕ)) (s : Schedule) (end : Part) → AreLine
 spelled_came lines s end spelled gives = some_is end (having s.processes s.items) (sym gives ∙ lines_again lines s spelled)
 
 -- of lines that spell a schedule
-came_spelled : (lines : List (List ℕ)) (outcome : Result Schedule Refusal) (s : Schedule) → Came nothing lines 1 outcome → AreLinesOf lines s → (run_count s.items ≤ most_runs → outcome ≡ Ok s) × (most_runs < run_count s.items → outcome ≡ Err TooManyRuns)
+came_spelled : (lines : List (List ℕ)) (outcome : Result Schedule ScheduleRefusal) (s : Schedule) → Came nothing lines 1 outcome → AreLinesOf lines s → (run_count s.items ≤ most_runs → outcome ≡ Ok s) × (most_runs < run_count s.items → outcome ≡ Err TooManyRuns)
 came_spelled lines _ s (whole end gives some few) spelled =
     let same = spelled_came lines s end spelled gives in
     (λ _. ap (λ (p : Part). Ok (schedule_part p)) same, λ many. absurd (omega (arith, ap (λ (p : Part). run_count p.items) same)))
@@ -284,7 +284,7 @@ pub over_again : (bytes : List ℕ) (s : Schedule) → Spells bytes s → most_r
 over_again bytes s spelled many = (came_spelled (lines_of bytes) (schedule_of bytes) s (came_of bytes) spelled).1 many
 
 -- of lines that have a bad one
-came_bad_line : (lines : List (List ℕ)) (outcome : Result Schedule Refusal) (n : ℕ) → Came nothing lines 1 outcome → IsFirstBad lines n → outcome ≡ Err (BadLineAt n)
+came_bad_line : (lines : List (List ℕ)) (outcome : Result Schedule ScheduleRefusal) (n : ℕ) → Came nothing lines 1 outcome → IsFirstBad lines n → outcome ≡ Err (BadLineAt n)
 came_bad_line lines _ n (whole end gives some few) bad = absurd (bad.unspelled (schedule_part end) (lines_take lines end some gives))
 came_bad_line lines _ n (over end gives some many) bad = absurd (bad.unspelled (schedule_part end) (lines_take lines end some gives))
 came_bad_line lines _ n (stops good h) bad = ap (λ (k : ℕ). Err (BadLineAt k)) (one_first_bad lines (1 + good) n (first_bad lines good h) bad)
@@ -302,7 +302,7 @@ pub one_bad_line : (bytes : List ℕ) (m n : ℕ) → BadAt bytes m → BadAt by
 one_bad_line bytes m n a b = one_first_bad (lines_of bytes) m n a b
 
 -- of any lines
-came_either : (lines : List (List ℕ)) (outcome : Result Schedule Refusal) → Came nothing lines 1 outcome → ((s : Schedule) × AreLinesOf lines s) ⊎ ((n : ℕ) × IsFirstBad lines n)
+came_either : (lines : List (List ℕ)) (outcome : Result Schedule ScheduleRefusal) → Came nothing lines 1 outcome → ((s : Schedule) × AreLinesOf lines s) ⊎ ((n : ℕ) × IsFirstBad lines n)
 came_either lines _ (whole end gives some few) = inl (schedule_part end, lines_take lines end some gives)
 came_either lines _ (over end gives some many) = inl (schedule_part end, lines_take lines end some gives)
 came_either lines _ (stops good h) = inr (1 + good, first_bad lines good h)
@@ -334,16 +334,16 @@ unfolding schedule_of
 read_begins bytes left part same none = rw (same, none) refl
 
 -- it goes on behind a line that is allowed
-pub read_on : (outcome : Result Schedule Refusal) (left line after : List ℕ) (number : ℕ) (part next : Part) → outcome_of number part (lines_of left) ≡ outcome → lines_of left ≡ line ∷ lines_of after → with_line part line ≡ Some next → outcome_of (number + 1) next (lines_of after) ≡ outcome
+pub read_on : (outcome : Result Schedule ScheduleRefusal) (left line after : List ℕ) (number : ℕ) (part next : Part) → outcome_of number part (lines_of left) ≡ outcome → lines_of left ≡ line ∷ lines_of after → with_line part line ≡ Some next → outcome_of (number + 1) next (lines_of after) ≡ outcome
 read_on outcome left line after number part next so_far taken allowed =
     sym (outcome_on number part next line (lines_of after) allowed) ∙ ap (outcome_of number part) (sym taken) ∙ so_far
 
 -- it ends at one that isn't
-pub read_bad : (outcome : Result Schedule Refusal) (left line after : List ℕ) (number : ℕ) (part : Part) → outcome_of number part (lines_of left) ≡ outcome → lines_of left ≡ line ∷ lines_of after → with_line part line ≡ None → outcome ≡ Err (BadLineAt number)
+pub read_bad : (outcome : Result Schedule ScheduleRefusal) (left line after : List ℕ) (number : ℕ) (part : Part) → outcome_of number part (lines_of left) ≡ outcome → lines_of left ≡ line ∷ lines_of after → with_line part line ≡ None → outcome ≡ Err (BadLineAt number)
 read_bad outcome left line after number part so_far taken refused =
     sym so_far ∙ ap (outcome_of number part) taken ∙ outcome_bad number part line (lines_of after) refused
 
 -- it ends behind the last
-pub read_ends : (outcome : Result Schedule Refusal) (left : List ℕ) (number : ℕ) (part : Part) → outcome_of number part (lines_of left) ≡ outcome → lines_of left ≡ [] → outcome ≡ whole_of number part
+pub read_ends : (outcome : Result Schedule ScheduleRefusal) (left : List ℕ) (number : ℕ) (part : Part) → outcome_of number part (lines_of left) ≡ outcome → lines_of left ≡ [] → outcome ≡ whole_of number part
 read_ends outcome left number part so_far none =
     sym so_far ∙ ap (outcome_of number part) none ∙ outcome_end number part

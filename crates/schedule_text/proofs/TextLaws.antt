@@ -20,7 +20,7 @@ use Rattle.schedule_text.specs.declared.item.Item.{Item}
 use Rattle.schedule_text.specs.declared.item.Item.TheVariants.{Run, Deliver, Inject, Clock, Random, Signal, Kill}
 use Rattle.schedule_text.specs.declared.process.ProcessLine.{ProcessLine}
 use Rattle.schedule_text.specs.Fields.{is_separator, fields_of, is_comment}
-use Rattle.schedule_text.specs.Grammar.{IsNumber, IsSignedNumber, IsHex, IsProcessLine, IsRun, IsItemLine, lines_kept, Spells}
+use Rattle.schedule_text.specs.Grammar.{IsNumber, IsSignedNumber, IsHex, IsProcessLine, IsRunItem, IsItemLine, lines_kept, Spells}
 use Rattle.schedule_text.specs.Limits.{most_processes}
 use Rattle.schedule_text.specs.Reading.{schedule_of}
 use Rattle.schedule_text.specs.Schedule.{Schedule, IsInRange, IsProcess, IsWellFormed, IsSchedule, is_visible, is_module_name}
@@ -277,10 +277,10 @@ module _ (words : WordsReadBack) (hex : ExactHex) where
   run_written process thread times p t n =
       elim (cases_Bool (eqb times 1)) [
         | inl one ↦
-            subst (λ (last : List (List ℕ)). IsRun (codes "run" ∷ decimal process ∷ decimal thread ∷ last) process thread times × IsLine (codes "run" ∷ decimal process ∷ decimal thread ∷ last)) (sym (times_one times one))
+            subst (λ (last : List (List ℕ)). IsRunItem (codes "run" ∷ decimal process ∷ decimal thread ∷ last) process thread times × IsLine (codes "run" ∷ decimal process ∷ decimal thread ∷ last)) (sym (times_one times one))
             ((refl, words.number process p, words.number thread t, eqb-true times 1 one), run_fields process thread times [] p t (All-nil IsField))
         | inr other ↦
-            subst (λ (last : List (List ℕ)). IsRun (codes "run" ∷ decimal process ∷ decimal thread ∷ last) process thread times × IsLine (codes "run" ∷ decimal process ∷ decimal thread ∷ last)) (sym (times_other times other))
+            subst (λ (last : List (List ℕ)). IsRunItem (codes "run" ∷ decimal process ∷ decimal thread ∷ last) process thread times × IsLine (codes "run" ∷ decimal process ∷ decimal thread ∷ last)) (sym (times_other times other))
             ((refl, words.number process p, words.number thread t, words.number times n), run_fields process thread times (decimal times ∷ []) p t (All-cons IsField (decimal times) [] (decimal_is times n) (All-nil IsField)))
       ]
 

@@ -33,10 +33,10 @@ abbrev pub IsProcessLine : List (List ℕ) → ProcessLine → Type 0
 IsProcessLine fields line = fields ≡ codes "process" ∷ line.name ∷ line.module ∷ []
 
 -- `run P T`, which is one try, or `run P T N`
-abbrev pub IsRun : List (List ℕ) → ℕ → ℕ → ℕ → Type 0
-IsRun (word ∷ p ∷ t ∷ []) process thread times = (word ≡ codes "run") × IsNumber p process × IsNumber t thread × (times ≡ 1)
-IsRun (word ∷ p ∷ t ∷ n ∷ []) process thread times = (word ≡ codes "run") × IsNumber p process × IsNumber t thread × IsNumber n times
-IsRun _ process thread times = ⊥
+abbrev pub IsRunItem : List (List ℕ) → ℕ → ℕ → ℕ → Type 0
+IsRunItem (word ∷ p ∷ t ∷ []) process thread times = (word ≡ codes "run") × IsNumber p process × IsNumber t thread × (times ≡ 1)
+IsRunItem (word ∷ p ∷ t ∷ n ∷ []) process thread times = (word ≡ codes "run") × IsNumber p process × IsNumber t thread × IsNumber n times
+IsRunItem _ process thread times = ⊥
 
 -- the word of an item, P, and one more field, of which this holds
 abbrev pub IsPair : List ℕ → List (List ℕ) → ℕ → (List ℕ → Type 0) → Type 0
@@ -51,7 +51,7 @@ IsKill _ process = ⊥
 -- The fields write the item, whatever the ranges are: `deliver P N`, `inject P HEX`, `clock P V`,
 -- `random P HEX`, `signal P S` and those above.
 abbrev pub IsItemLine : List (List ℕ) → Item → Type 0
-IsItemLine fields (Run process thread times) = IsRun fields process thread times
+IsItemLine fields (Run process thread times) = IsRunItem fields process thread times
 IsItemLine fields (Deliver process number) = IsPair (codes "deliver") fields process (λ n. IsNumber n number)
 IsItemLine fields (Inject process bytes) = IsPair (codes "inject") fields process (λ h. IsHex h bytes)
 IsItemLine fields (Clock process value) = IsPair (codes "clock") fields process (λ v. IsSignedNumber v value)

@@ -24,9 +24,9 @@ None >>= f = None
 (Some x) >>= f = f x
 
 -- why bytes are refused: a bad line, or too many run items
-pub data Refusal : Type 0 where
-  BadLineAt : ℕ → Refusal
-  TooManyRuns : Refusal
+pub data ScheduleRefusal : Type 0 where
+  BadLineAt : ℕ → ScheduleRefusal
+  TooManyRuns : ScheduleRefusal
 
 -- ---- numbers
 
@@ -185,17 +185,17 @@ abbrev pub schedule_part : Part → Schedule
 schedule_part part = record { processes = part.processes; items = part.items }
 
 -- all lines have come, and the next would have this number
-unfoldable pub whole_of : ℕ → Part → Result Schedule Refusal
+unfoldable pub whole_of : ℕ → Part → Result Schedule ScheduleRefusal
 whole_of number part =
     if nat_lt 0 (length part.processes) then
     (if nat_le (run_count part.items) most_runs then Ok (schedule_part part) else Err TooManyRuns) else
     Err (BadLineAt number)
 
 -- what follows of the lines still to come, the first of which has this number
-unfoldable pub outcome_of : ℕ → Part → List (List ℕ) → Result Schedule Refusal
+unfoldable pub outcome_of : ℕ → Part → List (List ℕ) → Result Schedule ScheduleRefusal
 outcome_of number part [] = whole_of number part
 outcome_of number part (line ∷ lines) = option_map_or (λ next. outcome_of (number + 1) next lines) (with_line part line) (Err (BadLineAt number))
 
 -- the schedule of the bytes, or why there is none
-unfoldable pub schedule_of : List ℕ → Result Schedule Refusal
+unfoldable pub schedule_of : List ℕ → Result Schedule ScheduleRefusal
 schedule_of bytes = outcome_of 1 nothing (lines_of bytes)

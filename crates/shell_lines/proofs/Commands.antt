@@ -19,7 +19,7 @@ use Rattle.shell_lines.specs.declared.command.Verb.{Verb}
 use Rattle.shell_lines.specs.declared.command.Verb.TheVariants as verb
 use Rattle.shell_lines.specs.Grammar.{IsCommand, BeginsCommand, StopsAtToken, goto, step_once, step, back_once, back, print, mem, threads, last_events, events, watch, break, break_everywhere, delete, attach, list, set, vars, continue, rcontinue, quit}
 use Rattle.shell_lines.specs.Laws.{ExactCommands}
-use Rattle.shell_lines.specs.Lines.{At, Back, Break, LineCommand, Continue, Delete, Do, Events, Everywhere, Goto, ListPoints, ListVariables, Mem, Print, Quit, Rcontinue, Scope, SetTo, Step, Threads, Watch, command_of_verb, command_spelled, ends_at, expression_from, node_called, node_named, number_from, number_in_range, program_from, scope_named, sign_of, then_takes, token_at, verb_of, verb_word, verbs}
+use Rattle.shell_lines.specs.Lines.{At, Back, Break, LineCommand, Continue, Delete, Do, Events, Everywhere, Goto, ListPoints, ListVariables, Mem, Print, Quit, Rcontinue, WhichNodes, SetTo, Step, Threads, Watch, command_of_verb, command_spelled, ends_at, expression_from, node_called, node_named, number_from, number_in_range, program_from, scope_named, sign_of, then_takes, token_at, verb_of, verb_word, verbs}
 use Rattle.shell_lines.proofs.Forms.{Ends, Form, Stop, Then, Tokens, as_form, ends_form, then_form}
 use Rattle.shell_lines.proofs.Parts.{Body, Count, Value, body_form, count_form, value_form}
 
@@ -146,11 +146,11 @@ module _ (names : Tokens) where
   node_again : (text : List ℕ) → is_word text ≡ true → node_named names text ≡ Some (node_called names text)
   node_again text e = ap (λ (b : Bool). cond b (Some (node_called names text)) None) e
 
-  mapped : (o : Option (Option ℕ)) (s : Scope) → option_map At o ≡ Some s → (node : Option ℕ) × (o ≡ Some node) × (At node ≡ s)
+  mapped : (o : Option (Option ℕ)) (s : WhichNodes) → option_map At o ≡ Some s → (node : Option ℕ) × (o ≡ Some node) × (At node ≡ s)
   mapped None s e = absurd cc
   mapped (Some node) s e = (node, refl, cc)
 
-  scope_is : (text : List ℕ) (s : Scope) → scope_named names text ≡ Some s → ((text ≡ codes "*") × (Everywhere ≡ s)) ⊎ ((is_word text ≡ true) × (At (node_called names text) ≡ s))
+  scope_is : (text : List ℕ) (s : WhichNodes) → scope_named names text ≡ Some s → ((text ≡ codes "*") × (Everywhere ≡ s)) ⊎ ((is_word text ≡ true) × (At (node_called names text) ≡ s))
   scope_is text s e = by (bytes_eq text (codes "*")) refl e
     where
       by : (b : Bool) → bytes_eq text (codes "*") ≡ b → cond b (Some Everywhere) (option_map At (node_named names text)) ≡ Some s
@@ -216,7 +216,7 @@ module _ (reading : ExactReading) (programs : ExactPrograms) (kinds : (kind : Ki
 
   break_form : Form 1 (λ ts. command_of_verb names ts verb.Break) (Behind names verb.Break)
   break_form =
-      then_form Scope (scope_named names) (λ scope ts. then_takes (token_at kind_named ts 2) (λ kind. ends_at ts 3 (Break scope kind)))
+      then_form WhichNodes (scope_named names) (λ scope ts. then_takes (token_at kind_named ts 2) (λ kind. ends_at ts 3 (Break scope kind)))
       1 (λ scope. Then kind_named (λ kind. Ends (Break scope kind)))
       (λ scope. then_form Kind kind_named (λ kind ts. ends_at ts 3 (Break scope kind)) 2 (λ kind. Ends (Break scope kind)) (λ kind. ends_form 3 (Break scope kind))
       (row kinds_of.Begin).name kinds_of.Begin ((kinds kinds_of.Begin (row kinds_of.Begin).name).1 refl))
@@ -267,12 +267,12 @@ module _ (reading : ExactReading) (programs : ExactPrograms) (kinds : (kind : Ki
   any : (word : List ℕ) (n : ℕ) → number_from 0 most_number word ≡ Some n → number_of word ≡ Some n
   any word n e = (in_range 0 most_number (number_of word) n e).0
 
-  breaks : (text name : List ℕ) (s : Scope) (kind : Kind) (c : LineCommand) → scope_named names text ≡ Some s → kind_named name ≡ Some kind → Break s kind ≡ c → IsCommand names (codes "break" ∷ text ∷ name ∷ []) c
+  breaks : (text name : List ℕ) (s : WhichNodes) (kind : Kind) (c : LineCommand) → scope_named names text ≡ Some s → kind_named name ≡ Some kind → Break s kind ≡ c → IsCommand names (codes "break" ∷ text ∷ name ∷ []) c
   breaks text name s kind c is named e =
       let called : (row kind).name ≡ name = (kinds kind name).0 named in
       subst (λ (w : List ℕ). IsCommand names (codes "break" ∷ text ∷ w ∷ []) c) called (elim (scope_is names text s is) [
-        | inl star ↦ subst (λ (t : List ℕ). IsCommand names (codes "break" ∷ t ∷ (row kind).name ∷ []) c) (sym star.0) (read_as (break_everywhere kind) (ap (λ (s : Scope). Break s kind) star.1 ∙ e))
-        | inr node ↦ read_as (break text kind node.0) (ap (λ (s : Scope). Break s kind) node.1 ∙ e)
+        | inl star ↦ subst (λ (t : List ℕ). IsCommand names (codes "break" ∷ t ∷ (row kind).name ∷ []) c) (sym star.0) (read_as (break_everywhere kind) (ap (λ (s : WhichNodes). Break s kind) star.1 ∙ e))
+        | inr node ↦ read_as (break text kind node.0) (ap (λ (s : WhichNodes). Break s kind) node.1 ∙ e)
       ])
 
   spelled_by : (v : Verb) (rest : Tokens) (c : LineCommand) → Behind names v rest c → IsCommand names (verb_word v ∷ rest) c

@@ -7,7 +7,7 @@ use Rattle.watch_expr.specs.Computed.{begins_some, expression_spelled, viable}
 use Rattle.watch_expr.specs.Expression.{Expression, Var}
 use Rattle.watch_expr.specs.Grammar.{BeginsExpr, IsExpr, higher, variable}
 use Rattle.watch_expr.specs.Laws.{ExactReading}
-use Rattle.embed_cmds.specs.Grammar.{BeginsProgram, GoesOnWithNone, IsProgram, last, stop}
+use Rattle.embed_cmds.specs.Grammar.{BeginsProgram, NoProgramGoesOn, IsProgram, last, stop}
 use Rattle.embed_cmds.specs.Laws.{ExactPrograms}
 use Rattle.embed_cmds.specs.Reading.{program_of}
 use Rattle.embed_cmds.specs.Tree.{End, Statements, Stop as StopStatement, Then as ThenStatement}
@@ -137,12 +137,12 @@ module _ (law : ExactPrograms) (names : Tokens) (k : ℕ) (command : Statements 
   body_reads front rest c here r = body_is front rest (Ok r.0) here ((law.programs names rest r.0).1 r.1) ∙ ap (λ (d : LineCommand). Ok d) r.2
 
   -- a program that begins with these and one token more of those that are left
-  body_longest : (front left : Tokens) → GoesOnWithNone names front left → length front < length (front ++ left) → (more : Tokens) (c : LineCommand) → Body names command (take (suc (length front)) (front ++ left) ++ more) c → ⊥
+  body_longest : (front left : Tokens) → NoProgramGoesOn names front left → length front < length (front ++ left) → (more : Tokens) (c : LineCommand) → Body names command (take (suc (length front)) (front ++ left) ++ more) c → ⊥
   body_longest front [] stops lt more c r = absurd (omega (arith, lt, length-append front []))
   body_longest front (t ∷ left) stops lt more c r =
       stops (record { rest = more; whole = r.0; spelled = subst (λ (us : Tokens). IsProgram names (us ++ more) r.0) (one_more front left t) r.1 })
 
-  body_stop : (front left : Tokens) → BeginsProgram names front → GoesOnWithNone names front left → Stop (Body names command) (front ++ left) (length front)
+  body_stop : (front left : Tokens) → BeginsProgram names front → NoProgramGoesOn names front left → Stop (Body names command) (front ++ left) (length front)
   body_stop front left b stops = record {
     within = omega (arith, length-append front left);
     more = b.rest;

@@ -14,9 +14,9 @@ use Rattle.shell_lines.specs.declared.command.Verb.{Verb}
 use Rattle.shell_lines.specs.declared.command.Verb.TheVariants as verb
 
 -- which nodes a breakpoint is for: all, or the one with a name, as which it is given by its number
-pub data Scope : Type 0 where
-  Everywhere : Scope
-  At : (node : Option ℕ) → Scope
+pub data WhichNodes : Type 0 where
+  Everywhere : WhichNodes
+  At : (node : Option ℕ) → WhichNodes
 
 -- a command. A node is given by its number, or none where no process has the name
 pub data LineCommand : Type 0 where
@@ -28,7 +28,7 @@ pub data LineCommand : Type 0 where
   Threads : (node : Option ℕ) → LineCommand
   Events : (count : ℕ) → LineCommand
   Watch : (x : Expression) → LineCommand
-  Break : (scope : Scope) → (kind : Kind) → LineCommand
+  Break : (scope : WhichNodes) → (kind : Kind) → LineCommand
   Delete : (number : ℕ) → LineCommand
   Do : (number : ℕ) → (program : Statements) → LineCommand
   ListPoints : LineCommand
@@ -84,7 +84,7 @@ abbrev pub node_named : List (List ℕ) → List ℕ → Option (Option ℕ)
 node_named names text = if is_word text then Some (node_called names text) else None
 
 -- a star, or a word that names a node
-abbrev pub scope_named : List (List ℕ) → List ℕ → Option Scope
+abbrev pub scope_named : List (List ℕ) → List ℕ → Option WhichNodes
 scope_named names text = if bytes_eq text (codes "*") then Some Everywhere else option_map At (node_named names text)
 
 -- this sign
@@ -185,7 +185,7 @@ has_nested (Threads place) = false
 has_nested (Events n) = false
 has_nested Quit = false
 
-abbrev pub scopes_none : Scope → Bool
+abbrev pub scopes_none : WhichNodes → Bool
 scopes_none Everywhere = false
 scopes_none (At node) = is_none node
 

@@ -1,15 +1,15 @@
 -- What a line is: nothing, a line that is refused, or a command.
 use Rattle.std.specs.Prelude.{ℕ, ◌+◌, Bool, true, nat_lt, ◌==◌, List, [], ◌∷◌, length, Result, Ok, Err, if◌then◌else◌}
 use Rattle.std.specs.List.{list_all}
-use Rattle.watch_expr.specs.Computed.{cut}
+use Rattle.watch_expr.specs.Computed.{cut_tokens}
 use Rattle.watch_expr.specs.Lexing.{Lexed, Placed, column_at, is_blank, is_too_deep, texts}
 use Rattle.shell_lines.specs.Lines.{LineCommand, command_spelled, has_nested, names_none, watches_variable}
-use Rattle.shell_lines.specs.declared.refusal.Refusal.{Refusal}
-use Rattle.shell_lines.specs.declared.refusal.Refusal.TheVariants as refusal
+use Rattle.shell_lines.specs.declared.refusal.LineRefusal.{LineRefusal}
+use Rattle.shell_lines.specs.declared.refusal.LineRefusal.TheVariants as refusal
 
 pub data LineMeaning : Type 0 where
   Silent : LineMeaning
-  Refuses : (why : Refusal) → LineMeaning
+  Refuses : (why : LineRefusal) → LineMeaning
   Does : (command : LineCommand) → LineMeaning
 
 -- bytes without the blanks in front
@@ -39,14 +39,14 @@ judged command =
     else if watches_variable command then Refuses refusal.NamesVariable
     else Does command
 
-abbrev pub by_command : Lexed → Result LineCommand ℕ → LineMeaning
-by_command tokens (Err n) = Refuses (refusal.Syntax (column_at tokens n))
-by_command tokens (Ok command) = judged command
+abbrev pub line_by_command : Lexed → Result LineCommand ℕ → LineMeaning
+line_by_command tokens (Err n) = Refuses (refusal.Syntax (column_at tokens n))
+line_by_command tokens (Ok command) = judged command
 
 abbrev pub by_tokens : List (List ℕ) → Lexed → LineMeaning
 by_tokens names tokens =
     if is_too_deep (texts tokens) then Refuses refusal.TooDeep
-    else by_command tokens (command_spelled names (texts tokens))
+    else line_by_command tokens (command_spelled names (texts tokens))
 
 abbrev pub by_cut : List (List ℕ) → List ℕ → Result (List Placed) ℕ → LineMeaning
 by_cut names line (Err column) = Refuses (refusal.Syntax column)
@@ -57,4 +57,4 @@ abbrev pub line_meaning : List (List ℕ) → List ℕ → LineMeaning
 line_meaning names line =
     if nat_lt 4096 (length line) then Refuses refusal.TooLong
     else if is_silent line then Silent
-    else by_cut names line (cut line)
+    else by_cut names line (cut_tokens line)

@@ -1,9 +1,9 @@
 -- The lines that refuse a line.
 use Rattle.std.specs.Prelude.{ℕ, List, ◌++◌, codes, decimal}
-use Rattle.shell_lines.specs.declared.refusal.Refusal.{Refusal}
-use Rattle.shell_lines.specs.declared.refusal.Refusal.TheVariants as refusal
+use Rattle.shell_lines.specs.declared.refusal.LineRefusal.{LineRefusal}
+use Rattle.shell_lines.specs.declared.refusal.LineRefusal.TheVariants as refusal
 
-abbrev pub refusal_line : Refusal → List ℕ
+abbrev pub refusal_line : LineRefusal → List ℕ
 refusal_line (refusal.Syntax column) = codes "? 1 syntax at column " ++ (decimal column ++ codes "\n")
 refusal_line refusal.NoNode = codes "? 2 no node\n"
 refusal_line refusal.TooDeep = codes "? 3 too deep\n"

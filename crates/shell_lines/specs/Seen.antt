@@ -2,21 +2,21 @@
 use Rattle.std.specs.Prelude.{◌≡◌, ℕ, true, false, List, Result, Ok, Err}
 use Rattle.watch_expr.specs.declared.error.ExprError.{ExprError}
 use Rattle.watch_expr.specs.declared.error.ExprError.TheVariants.{Syntax, NoNode, TooDeep, Nested, NoMemory}
-use Rattle.watch_expr.specs.Computed.{cut}
+use Rattle.watch_expr.specs.Computed.{cut_tokens}
 use Rattle.watch_expr.specs.Expression.{expression_of}
 use Rattle.watch_expr.specs.Lexing.{Lexed, column_at}
 use Rattle.embed_cmds.specs.Tree.{body}
-use Rattle.shell_lines.specs.declared.command.Command.{Command as Spelled}
-use Rattle.shell_lines.specs.declared.command.Command.TheVariants as spelled
-use Rattle.shell_lines.specs.declared.command.Scope.{Scope as ScopeSpelled}
-use Rattle.shell_lines.specs.declared.command.Scope.TheVariants as scopes
+use Rattle.shell_lines.specs.declared.command.DebuggerCommand.{DebuggerCommand as Spelled}
+use Rattle.shell_lines.specs.declared.command.DebuggerCommand.TheVariants as spelled
+use Rattle.shell_lines.specs.declared.command.WhichNodes.{WhichNodes as ScopeSpelled}
+use Rattle.shell_lines.specs.declared.command.WhichNodes.TheVariants as scopes
 use Rattle.shell_lines.specs.declared.line.Line.{Line}
 use Rattle.shell_lines.specs.declared.line.Line.TheVariants as line
-use Rattle.shell_lines.specs.declared.refusal.Refusal.TheVariants as refusal
-use Rattle.shell_lines.specs.Lines.{At, Back, Break, LineCommand, Continue, Delete, Do, Events, Everywhere, Goto, ListPoints, ListVariables, Mem, Print, Quit, Rcontinue, Scope, SetTo, Step, Threads, Watch, has_nested, names_none}
+use Rattle.shell_lines.specs.declared.refusal.LineRefusal.TheVariants as refusal
+use Rattle.shell_lines.specs.Lines.{At, Back, Break, LineCommand, Continue, Delete, Do, Events, Everywhere, Goto, ListPoints, ListVariables, Mem, Print, Quit, Rcontinue, WhichNodes, SetTo, Step, Threads, Watch, has_nested, names_none}
 use Rattle.shell_lines.specs.Meaning.{Does, LineMeaning, Refuses, Silent, by_cut, judged}
 
-abbrev pub scope : ScopeSpelled → Scope
+abbrev pub scope : ScopeSpelled → WhichNodes
 scope scopes.Everywhere = Everywhere
 scope (scopes.At n) = At n
 
@@ -66,9 +66,9 @@ ReadsCommand line wanted (Err NoMemory) = Unit {0}
 -- what a line is that is neither too long nor silent, by the command that it spells, or by why it spells none; or want of
 -- memory
 abbrev pub SpellsCommand : List (List ℕ) → List ℕ → Result Spelled ExprError → Type 0
-SpellsCommand names bytes (Ok c) = by_cut names bytes (cut bytes) ≡ judged (command c)
-SpellsCommand names bytes (Err (Syntax column)) = by_cut names bytes (cut bytes) ≡ Refuses (refusal.Syntax column)
-SpellsCommand names bytes (Err TooDeep) = by_cut names bytes (cut bytes) ≡ Refuses refusal.TooDeep
+SpellsCommand names bytes (Ok c) = by_cut names bytes (cut_tokens bytes) ≡ judged (command c)
+SpellsCommand names bytes (Err (Syntax column)) = by_cut names bytes (cut_tokens bytes) ≡ Refuses (refusal.Syntax column)
+SpellsCommand names bytes (Err TooDeep) = by_cut names bytes (cut_tokens bytes) ≡ Refuses refusal.TooDeep
 SpellsCommand names bytes (Err NoMemory) = Unit {0}
-SpellsCommand names bytes (Err Nested) = by_cut names bytes (cut bytes) ≡ Refuses refusal.Nested
-SpellsCommand names bytes (Err NoNode) = by_cut names bytes (cut bytes) ≡ Refuses refusal.NoNode
+SpellsCommand names bytes (Err Nested) = by_cut names bytes (cut_tokens bytes) ≡ Refuses refusal.Nested
+SpellsCommand names bytes (Err NoNode) = by_cut names bytes (cut_tokens bytes) ≡ Refuses refusal.NoNode

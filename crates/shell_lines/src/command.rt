@@ -29,14 +29,14 @@ pub(crate) enum Verb {
 
 /// Which nodes a breakpoint is for: all, or the one with a name, as which it is given by its number.
 #[derive(Clone, Copy, Debug, PartialEq, Eq)]
-pub enum Scope {
+pub enum WhichNodes {
     Everywhere,
     At(Option<u32>),
 }
 
 /// A command. A node is given by its number, or none where no process has the name.
 #[derive(Drop)]
-pub enum Command {
+pub enum DebuggerCommand {
     Goto(u64),
     Step(u64),
     Back(u64),
@@ -45,7 +45,7 @@ pub enum Command {
     Threads(Option<u32>),
     Events(u64),
     Watch(Expr),
-    Break(Scope, Kind),
+    Break(WhichNodes, Kind),
     Delete(u64),
     Do(u64, Program),
     List,

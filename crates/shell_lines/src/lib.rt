@@ -14,7 +14,7 @@ mod read;
 mod refusal;
 mod verbs;
 
-pub use command::{Command, Scope};
+pub use command::{DebuggerCommand, WhichNodes};
 pub use laws::exact_commands;
 pub use line::{Line, read_line, trimmed};
-pub use refusal::{Refusal, refused};
+pub use refusal::{LineRefusal, refused};

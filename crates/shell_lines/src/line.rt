@@ -7,8 +7,8 @@ ghost use Rattle.shell_lines.specs.declared.line.Line.TheVariants.{Silent};
 ghost use Rattle.shell_lines.specs.Seen.{SpellsCommand, command, meaning, scope};
 ghost use Rattle.watch_expr.specs.Lexing.{is_blank};
 
-use crate::command::{Command, Scope};
-use crate::refusal::Refusal;
+use crate::command::{DebuggerCommand, WhichNodes};
+use crate::refusal::LineRefusal;
 use crate::verbs::read_command;
 use embed_cmds::program_faults;
 use fri_bytes::Bytes;
@@ -22,8 +22,8 @@ const MOST_BYTES: usize = 4096;
 #[derive(Drop)]
 pub enum Line {
     Silent,
-    Refused(Refusal),
-    Does(Command),
+    Refused(LineRefusal),
+    Does(DebuggerCommand),
 }
 
 /// What a line is, over a group whose processes have these names.
@@ -33,23 +33,23 @@ pub fn read_line(alloc: Global, bytes: &[u8], names: &[Bytes]) -> Result<Line, A
     ensures silent { length bytes.now ≤ 4096 → is_silent bytes.now ≡ true → result ≡ Ok Silent }
 {
     if bytes.len() > MOST_BYTES {
-        return Ok(Line::Refused(Refusal::TooLong));
+        return Ok(Line::Refused(LineRefusal::TooLong));
     }
     if is_silent(bytes) {
         return Ok(Line::Silent);
     }
     match spelled(alloc, bytes, names) {
         Ok(command) => Ok(judge(command)),
-        Err(ExprError::Syntax(column)) => Ok(Line::Refused(Refusal::Syntax(column))),
-        Err(ExprError::TooDeep) => Ok(Line::Refused(Refusal::TooDeep)),
+        Err(ExprError::Syntax(column)) => Ok(Line::Refused(LineRefusal::Syntax(column))),
+        Err(ExprError::TooDeep) => Ok(Line::Refused(LineRefusal::TooDeep)),
         Err(ExprError::NoMemory) => Err(AllocError),
-        Err(ExprError::Nested) => Ok(Line::Refused(Refusal::Nested)),
-        Err(ExprError::NoNode) => Ok(Line::Refused(Refusal::NoNode)),
+        Err(ExprError::Nested) => Ok(Line::Refused(LineRefusal::Nested)),
+        Err(ExprError::NoNode) => Ok(Line::Refused(LineRefusal::NoNode)),
     }
 }
 
 // The command that a line spells.
-fn spelled(alloc: Global, bytes: &[u8], names: &[Bytes]) -> Result<Command, ExprError>
+fn spelled(alloc: Global, bytes: &[u8], names: &[Bytes]) -> Result<DebuggerCommand, ExprError>
     requires few { length names.now < 2 ^ 32 }
     requires short { length bytes.now ≤ 4096 }
     ensures { SpellsCommand names.now bytes.now result }
@@ -77,63 +77,63 @@ fn front(bytes: &[u8]) -> Option<u8>
 }
 
 // Whether an aggregate stands in an aggregate.
-fn has_nested(spelled: &Command) -> bool
+fn has_nested(spelled: &DebuggerCommand) -> bool
     ensures { result ≡ has_nested (command spelled.now) }
 {
     match spelled {
-        Command::Print(expression) => find_faults(expression).nested,
-        Command::Watch(expression) => find_faults(expression).nested,
-        Command::Set(_, expression) => find_faults(expression).nested,
-        Command::Do(_, program) => program_faults(program).nested,
+        DebuggerCommand::Print(expression) => find_faults(expression).nested,
+        DebuggerCommand::Watch(expression) => find_faults(expression).nested,
+        DebuggerCommand::Set(_, expression) => find_faults(expression).nested,
+        DebuggerCommand::Do(_, program) => program_faults(program).nested,
         _ => false,
     }
 }
 
 // Whether the command names no node where it is to name one.
-fn names_none(spelled: &Command) -> bool
+fn names_none(spelled: &DebuggerCommand) -> bool
     ensures { result ≡ names_none (command spelled.now) }
 {
     match spelled {
-        Command::Print(expression) => find_faults(expression).no_node,
-        Command::Watch(expression) => find_faults(expression).no_node,
-        Command::Set(_, expression) => find_faults(expression).no_node,
-        Command::Do(_, program) => program_faults(program).no_node,
-        Command::Mem(node, ..) => node.is_none(),
-        Command::Threads(node) => node.is_none(),
-        Command::Break(scope, _) => scopes_none(*scope),
+        DebuggerCommand::Print(expression) => find_faults(expression).no_node,
+        DebuggerCommand::Watch(expression) => find_faults(expression).no_node,
+        DebuggerCommand::Set(_, expression) => find_faults(expression).no_node,
+        DebuggerCommand::Do(_, program) => program_faults(program).no_node,
+        DebuggerCommand::Mem(node, ..) => node.is_none(),
+        DebuggerCommand::Threads(node) => node.is_none(),
+        DebuggerCommand::Break(scope, _) => scopes_none(*scope),
         _ => false,
     }
 }
 
-fn scopes_none(spelled: Scope) -> bool
+fn scopes_none(spelled: WhichNodes) -> bool
     ensures { result ≡ scopes_none (scope spelled) }
 {
     match spelled {
-        Scope::Everywhere => false,
-        Scope::At(node) => node.is_none(),
+        WhichNodes::Everywhere => false,
+        WhichNodes::At(node) => node.is_none(),
     }
 }
 
 // Whether the command is a watchpoint whose expression names a variable.
-fn watches_variable(spelled: &Command) -> bool
+fn watches_variable(spelled: &DebuggerCommand) -> bool
     ensures { result ≡ watches_variable (command spelled.now) }
 {
     match spelled {
-        Command::Watch(expression) => find_faults(expression).variable,
+        DebuggerCommand::Watch(expression) => find_faults(expression).variable,
         _ => false,
     }
 }
 
 // A command of the grammar, unless something is wrong with it.
-fn judge(spelled: Command) -> Line
+fn judge(spelled: DebuggerCommand) -> Line
     ensures { meaning result ≡ judged (command spelled) }
 {
     if has_nested(&spelled) {
-        Line::Refused(Refusal::Nested)
+        Line::Refused(LineRefusal::Nested)
     } else if names_none(&spelled) {
-        Line::Refused(Refusal::NoNode)
+        Line::Refused(LineRefusal::NoNode)
     } else if watches_variable(&spelled) {
-        Line::Refused(Refusal::NamesVariable)
+        Line::Refused(LineRefusal::NamesVariable)
     } else {
         Line::Does(spelled)
     }

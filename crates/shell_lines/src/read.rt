@@ -6,7 +6,7 @@ ghost use Rattle.shell_lines.specs.Seen.{ReadsAs, ReadsCommand, command, scope};
 ghost use Rattle.watch_expr.specs.Lexing.{texts};
 ghost use Rattle.watch_expr.specs.Expression.{expression_of};
 
-use crate::command::{Command, Scope};
+use crate::command::{DebuggerCommand, WhichNodes};
 use fri_bytes::Bytes;
 use lib_calls::Kind;
 use std::alloc::Global;
@@ -59,7 +59,11 @@ pub(crate) fn read_node(
 }
 
 /// Which nodes token n is for: a star is for all, and a word for the one that it names.
-pub(crate) fn read_scope(tokens: &Tokens<'_>, n: usize, names: &[Bytes]) -> Result<Scope, ExprError>
+pub(crate) fn read_scope(
+    tokens: &Tokens<'_>,
+    n: usize,
+    names: &[Bytes],
+) -> Result<WhichNodes, ExprError>
     requires { length names.now < 2 ^ 32 }
     ensures { ReadsAs scope tokens.now (token_at (scope_named names.now) (texts tokens.now) n) result }
 {
@@ -67,15 +71,15 @@ pub(crate) fn read_scope(tokens: &Tokens<'_>, n: usize, names: &[Bytes]) -> Resu
     place.ok_or(ExprError::Syntax(tokens.column(n)))
 }
 
-fn scope_named(text: &[u8], names: &[Bytes]) -> Option<Scope>
+fn scope_named(text: &[u8], names: &[Bytes]) -> Option<WhichNodes>
     requires { length names.now < 2 ^ 32 }
     ensures { option_map scope result ≡ scope_named names.now text.now }
 {
     if text == b"*".as_slice() {
-        return Some(Scope::Everywhere);
+        return Some(WhichNodes::Everywhere);
     }
     if is_word(text) {
-        return Some(Scope::At(place_of(text, names)));
+        return Some(WhichNodes::At(place_of(text, names)));
     }
     None
 }
@@ -133,7 +137,11 @@ pub(crate) fn read_expression(
 }
 
 /// The command, where there are no more than so many tokens.
-pub(crate) fn ending(tokens: &Tokens<'_>, n: usize, spelled: Command) -> Result<Command, ExprError>
+pub(crate) fn ending(
+    tokens: &Tokens<'_>,
+    n: usize,
+    spelled: DebuggerCommand,
+) -> Result<DebuggerCommand, ExprError>
     ensures { ReadsCommand tokens.now (ends_at (texts tokens.now) n (command spelled)) result }
 {
     if tokens.count() <= n {

@@ -7,7 +7,7 @@ use std::alloc::{AllocError, Global};
 
 /// Why a line is refused. A syntax error names a column, from 1.
 #[derive(Clone, Copy, Debug, PartialEq, Eq)]
-pub enum Refusal {
+pub enum LineRefusal {
     Syntax(u32),
     NoNode,
     TooDeep,
@@ -20,23 +20,23 @@ pub enum Refusal {
 }
 
 /// The line that says so.
-pub fn refused(alloc: Global, refusal: Refusal) -> Result<Text, AllocError>
+pub fn refused(alloc: Global, refusal: LineRefusal) -> Result<Text, AllocError>
     ensures { IfOk result (λ text. text ≡ refusal_line refusal) }
 {
     let mut text = Text::new(alloc);
     match refusal {
-        Refusal::Syntax(column) => {
+        LineRefusal::Syntax(column) => {
             text.push_str("? 1 syntax at column ")?;
             text.push_u64(u64::from(column))?;
         }
-        Refusal::NoNode => text.push_str("? 2 no node")?,
-        Refusal::TooDeep => text.push_str("? 3 too deep")?,
-        Refusal::Nested => text.push_str("? 4 nested")?,
-        Refusal::NamesVariable => text.push_str("? 5 variable in a watch")?,
-        Refusal::NoPoint => text.push_str("? 6 no such point")?,
-        Refusal::NoPosition => text.push_str("? 7 no such position")?,
-        Refusal::TooLong => text.push_str("? 8 line too long")?,
-        Refusal::TooMany => text.push_str("? 9 too many")?,
+        LineRefusal::NoNode => text.push_str("? 2 no node")?,
+        LineRefusal::TooDeep => text.push_str("? 3 too deep")?,
+        LineRefusal::Nested => text.push_str("? 4 nested")?,
+        LineRefusal::NamesVariable => text.push_str("? 5 variable in a watch")?,
+        LineRefusal::NoPoint => text.push_str("? 6 no such point")?,
+        LineRefusal::NoPosition => text.push_str("? 7 no such position")?,
+        LineRefusal::TooLong => text.push_str("? 8 line too long")?,
+        LineRefusal::TooMany => text.push_str("? 9 too many")?,
     }
     text.push_str("\n")?;
     Ok(text)

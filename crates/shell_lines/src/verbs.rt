@@ -5,7 +5,7 @@ ghost use Rattle.shell_lines.specs.declared.command.Verb.TheVariants as verb;
 ghost use Rattle.shell_lines.specs.Seen.{ReadsAs, ReadsCommand};
 ghost use Rattle.watch_expr.specs.Lexing.{texts};
 
-use crate::command::{Command, Verb};
+use crate::command::{DebuggerCommand, Verb};
 use crate::read::{
     ending, read_count, read_expression, read_kind, read_node, read_number, read_scope,
     read_variable,
@@ -69,7 +69,7 @@ pub(crate) fn read_command(
     alloc: Global,
     tokens: &Tokens<'_>,
     names: &[Bytes],
-) -> Result<Command, ExprError>
+) -> Result<DebuggerCommand, ExprError>
     requires { length names.now < 2 ^ 32 }
     ensures { ReadsCommand tokens.now (command_spelled names.now (texts tokens.now)) result }
 {
@@ -83,88 +83,96 @@ fn read_behind(
     verb: Verb,
     tokens: &Tokens<'_>,
     names: &[Bytes],
-) -> Result<Command, ExprError>
+) -> Result<DebuggerCommand, ExprError>
     requires { length names.now < 2 ^ 32 }
     ensures { ReadsCommand tokens.now (command_of_verb names.now (texts tokens.now) verb) result }
 {
     match verb {
         Verb::Goto => {
             let position = read_number(tokens, 1, 0, MOST_NUMBER)?;
-            ending(tokens, 2, Command::Goto(position))
+            ending(tokens, 2, DebuggerCommand::Goto(position))
         }
         Verb::Step => {
             let count = read_count(tokens, 0, MOST_NUMBER, 1)?;
-            ending(tokens, 2, Command::Step(count))
+            ending(tokens, 2, DebuggerCommand::Step(count))
         }
         Verb::Back => {
             let count = read_count(tokens, 0, MOST_NUMBER, 1)?;
-            ending(tokens, 2, Command::Back(count))
+            ending(tokens, 2, DebuggerCommand::Back(count))
         }
-        Verb::Print => Ok(Command::Print(read_expression(alloc, tokens, 1, names)?)),
+        Verb::Print => Ok(DebuggerCommand::Print(read_expression(alloc, tokens, 1, names)?)),
         Verb::Mem => read_mem(tokens, names),
         Verb::Threads => {
             let node = read_node(tokens, 1, names)?;
-            ending(tokens, 2, Command::Threads(node))
+            ending(tokens, 2, DebuggerCommand::Threads(node))
         }
         Verb::Events => {
             let count = read_count(tokens, 1, 1000, 10)?;
-            ending(tokens, 2, Command::Events(count))
+            ending(tokens, 2, DebuggerCommand::Events(count))
         }
-        Verb::Watch => Ok(Command::Watch(read_expression(alloc, tokens, 1, names)?)),
+        Verb::Watch => Ok(DebuggerCommand::Watch(read_expression(alloc, tokens, 1, names)?)),
         Verb::Break => read_break(tokens, names),
         Verb::Delete => {
             let number = read_number(tokens, 1, 0, MOST_NUMBER)?;
-            ending(tokens, 2, Command::Delete(number))
+            ending(tokens, 2, DebuggerCommand::Delete(number))
         }
         Verb::Do => read_do(alloc, tokens, names),
-        Verb::List => ending(tokens, 1, Command::List),
+        Verb::List => ending(tokens, 1, DebuggerCommand::List),
         Verb::Set => read_set(alloc, tokens, names),
-        Verb::Vars => ending(tokens, 1, Command::Vars),
-        Verb::Continue => ending(tokens, 1, Command::Continue),
-        Verb::Rcontinue => ending(tokens, 1, Command::Rcontinue),
-        Verb::Quit => ending(tokens, 1, Command::Quit),
+        Verb::Vars => ending(tokens, 1, DebuggerCommand::Vars),
+        Verb::Continue => ending(tokens, 1, DebuggerCommand::Continue),
+        Verb::Rcontinue => ending(tokens, 1, DebuggerCommand::Rcontinue),
+        Verb::Quit => ending(tokens, 1, DebuggerCommand::Quit),
     }
 }
 
 // A node, an address and a length.
-fn read_mem(tokens: &Tokens<'_>, names: &[Bytes]) -> Result<Command, ExprError>
+fn read_mem(tokens: &Tokens<'_>, names: &[Bytes]) -> Result<DebuggerCommand, ExprError>
     requires { length names.now < 2 ^ 32 }
     ensures { ReadsCommand tokens.now (command_of_verb names.now (texts tokens.now) verb.Mem) result }
 {
     let node = read_node(tokens, 1, names)?;
     let addr = read_number(tokens, 2, 0, MOST_NUMBER)?;
     let len = read_number(tokens, 3, 1, 256)?;
-    ending(tokens, 4, Command::Mem(node, addr, len))
+    ending(tokens, 4, DebuggerCommand::Mem(node, addr, len))
 }
 
 // Which nodes, and the kind of call.
-fn read_break(tokens: &Tokens<'_>, names: &[Bytes]) -> Result<Command, ExprError>
+fn read_break(tokens: &Tokens<'_>, names: &[Bytes]) -> Result<DebuggerCommand, ExprError>
     requires { length names.now < 2 ^ 32 }
     ensures { ReadsCommand tokens.now (command_of_verb names.now (texts tokens.now) verb.Break) result }
 {
     let place = read_scope(tokens, 1, names)?;
     let kind = read_kind(tokens, 2)?;
-    ending(tokens, 3, Command::Break(place, kind))
+    ending(tokens, 3, DebuggerCommand::Break(place, kind))
 }
 
 // The number of a point, and a program.
-fn read_do(alloc: Global, tokens: &Tokens<'_>, names: &[Bytes]) -> Result<Command, ExprError>
+fn read_do(
+    alloc: Global,
+    tokens: &Tokens<'_>,
+    names: &[Bytes],
+) -> Result<DebuggerCommand, ExprError>
     requires { length names.now < 2 ^ 32 }
     ensures { ReadsCommand tokens.now (command_of_verb names.now (texts tokens.now) verb.Do) result }
 {
     let number = read_number(tokens, 1, 0, MOST_NUMBER)?;
     let program = parse_program(alloc, tokens, 2, names)?;
-    Ok(Command::Do(number, program))
+    Ok(DebuggerCommand::Do(number, program))
 }
 
 // A variable, and an expression.
-fn read_set(alloc: Global, tokens: &Tokens<'_>, names: &[Bytes]) -> Result<Command, ExprError>
+fn read_set(
+    alloc: Global,
+    tokens: &Tokens<'_>,
+    names: &[Bytes],
+) -> Result<DebuggerCommand, ExprError>
     requires { length names.now < 2 ^ 32 }
     ensures { ReadsCommand tokens.now (command_of_verb names.now (texts tokens.now) verb.Set) result }
 {
     let name = read_variable(alloc, tokens, 1)?;
     let value = read_expression(alloc, tokens, 3, names)?;
-    Ok(Command::Set(name, value))
+    Ok(DebuggerCommand::Set(name, value))
 }
 
 // The verb in front.

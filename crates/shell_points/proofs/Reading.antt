@@ -7,9 +7,9 @@ use Rattle.std.proofs.lemmas.List.Sums.{sum_by-cons}
 use Rattle.std.specs.Prelude.{All, MatchOption, count_by, slice_get}
 use Rattle.std.specs.List.{AllByRecursion, list_any}
 use Rattle.proc_replay.specs.Replaying.{Replaying}
-use Rattle.group_state.specs.Place.{Place}
+use Rattle.group_state.specs.Place.{GroupPlace}
 use Rattle.group_state.specs.Seen.{nodes_at}
-use Rattle.group_state.specs.Touch.{is_met, mark, ticks, touches}
+use Rattle.group_state.specs.Touch.{is_met, mark, ticks, is_touched_at}
 use Rattle.watch_expr.specs.declared.reads.Place.{Place as Location}
 use Rattle.watch_expr.specs.declared.expr.Expr.{Expr}
 use Rattle.watch_expr.specs.Expression.{Expression, expression_of}
@@ -22,7 +22,7 @@ use Rattle.shell_points.specs.declared.point.Point.{Point as Held}
 use Rattle.shell_points.specs.declared.point.Trigger.{Trigger as HeldTrigger}
 use Rattle.shell_points.specs.declared.point.Trigger.TheVariants as held
 use Rattle.shell_points.specs.declared.watching.Watching.{Watching}
-use Rattle.shell_points.specs.Firing.{firing_line, firing_lines, has_due, is_due_at, is_same_value, place_at, reading, value_at_position}
+use Rattle.shell_points.specs.Firing.{firing_line, firing_lines, has_due, is_due_at, is_unchanged, place_at, reading, value_at_position}
 use Rattle.shell_points.specs.Points.{Break, Point, Trigger, Watch}
 use Rattle.shell_points.specs.Reading.{readings}
 use Rattle.shell_points.specs.Seen.{point, trigger}
@@ -142,8 +142,8 @@ breaks_same (p ∷ ps) = ap (λ (b : Bool). is_break (point p) || b) (breaks_sam
 
 -- ---- where no point can fire
 
-same_silent : (before now : Option ℤ) → now ≡ before → not (is_same_value before now) ≡ false
-same_silent before now same = ap (λ (v : Option ℤ). not (is_same_value before v)) same ∙ ap not (same_again before)
+same_silent : (before now : Option ℤ) → now ≡ before → not (is_unchanged before now) ≡ false
+same_silent before now same = ap (λ (v : Option ℤ). not (is_unchanged before v)) same ∙ ap not (same_again before)
 
 none_by : (start : List Replaying) (k : ℕ) (t : Trigger) → is_break_by t ≡ false → reading start (suc k) t ≡ reading start k t → is_due_at start (suc k) t ≡ false
 none_by start k (Watch x) bare same = same_silent (reading start k (Watch x)) (reading start (suc k) (Watch x)) same
@@ -192,23 +192,23 @@ where_none (Some a) P Q is holds = absurd cc
 
 mark_within : (start : List Replaying) (k : ℕ) (l : Location) → mark start k l ≤ k
 mark_within start zero l = omega arith
-mark_within start (suc k) l = by (touches start (suc k) l) (mark_within start k l)
+mark_within start (suc k) l = by (is_touched_at start (suc k) l) (mark_within start k l)
   where
     by : (b : Bool) → mark start k l ≤ k → cond b (suc k) (mark start k l) ≤ suc k
     by true before = omega arith
     by false before = omega (arith, before)
 
-mark_told : (start : List Replaying) (k : ℕ) (l : Location) → (mark start (suc k) l == suc k) ≡ touches start (suc k) l
-mark_told start k l = by (touches start (suc k) l)
+mark_told : (start : List Replaying) (k : ℕ) (l : Location) → (mark start (suc k) l == suc k) ≡ is_touched_at start (suc k) l
+mark_told start k l = by (is_touched_at start (suc k) l)
   where
     by : (b : Bool) → (cond b (suc k) (mark start k l) == suc k) ≡ b
     by true = grind (arith, nat_tests)
     by false = let less = mark_within start k l in grind (arith, nat_tests)
 
-meets_told : (start : List Replaying) (k : ℕ) (places : List Location) → meets (mark start (suc k)) (suc k) places ≡ list_any (touches start (suc k)) places
+meets_told : (start : List Replaying) (k : ℕ) (places : List Location) → meets (mark start (suc k)) (suc k) places ≡ list_any (is_touched_at start (suc k)) places
 meets_told start k [] = refl
 meets_told start k (l ∷ places) =
-    ap (λ (b : Bool). b || meets (mark start (suc k)) (suc k) places) (mark_told start k l) ∙ ap (λ (b : Bool). touches start (suc k) l || b) (meets_told start k places)
+    ap (λ (b : Bool). b || meets (mark start (suc k)) (suc k) places) (mark_told start k l) ∙ ap (λ (b : Bool). is_touched_at start (suc k) l || b) (meets_told start k places)
 
 counts_met : (start : List Replaying) (k : ℕ) (ws : List Watched)
     → count_by (λ (w : Watched). meets (mark start (suc k)) (suc k) (reads (nodes_at (place_at start k)) w.expression)) ws ≡ count_by (is_met start (suc k)) (expressions ws)
@@ -239,33 +239,33 @@ ticks_none start xs at =
     let none : at - at ≡ 0 = omega arith in
     ap (ticks start xs at) none
 
-pub ticked : (start : List Replaying) (xs : List Expression) (from at : ℕ) (new : Place) (before old now : ℕ) → from ≤ at → new ≡ place_at start (suc at)
+pub ticked : (start : List Replaying) (xs : List Expression) (from at : ℕ) (new : GroupPlace) (before old now : ℕ) → from ≤ at → new ≡ place_at start (suc at)
     → old ≡ before + ticks start xs from (at - from) → now ≡ old + count_by (is_met new.start new.at) xs → now ≡ before + ticks start xs from (new.at - from)
 ticked start xs from at new before old now after here so_far counts =
-    let met : count_by (is_met new.start new.at) xs ≡ count_by (is_met start (suc at)) xs = ap (λ (p : Place). count_by (is_met p.start p.at) xs) here in
-    let all : ticks start xs from (new.at - from) ≡ ticks start xs from (suc at - from) = ap (λ (p : Place). ticks start xs from (p.at - from)) here in
+    let met : count_by (is_met new.start new.at) xs ≡ count_by (is_met start (suc at)) xs = ap (λ (p : GroupPlace). count_by (is_met p.start p.at) xs) here in
+    let all : ticks start xs from (new.at - from) ≡ ticks start xs from (suc at - from) = ap (λ (p : GroupPlace). ticks start xs from (p.at - from)) here in
     omega (arith, so_far, counts, met, all, ticks_more start xs from at after)
 
 -- the same from position 0 on
-pub ticked_from_start : (start : List Replaying) (xs : List Expression) (at : ℕ) (new : Place) (before old now : ℕ) → new ≡ place_at start (suc at)
+pub ticked_from_start : (start : List Replaying) (xs : List Expression) (at : ℕ) (new : GroupPlace) (before old now : ℕ) → new ≡ place_at start (suc at)
     → old ≡ before + ticks start xs 0 at → now ≡ old + count_by (is_met new.start new.at) xs → now ≡ before + ticks start xs 0 new.at
 ticked_from_start start xs at new before old now here so_far counts =
-    let met : count_by (is_met new.start new.at) xs ≡ count_by (is_met start (suc at)) xs = ap (λ (p : Place). count_by (is_met p.start p.at) xs) here in
-    let all : ticks start xs 0 new.at ≡ ticks start xs 0 (suc at) = ap (λ (p : Place). ticks start xs 0 p.at) here in
+    let met : count_by (is_met new.start new.at) xs ≡ count_by (is_met start (suc at)) xs = ap (λ (p : GroupPlace). count_by (is_met p.start p.at) xs) here in
+    let all : ticks start xs 0 new.at ≡ ticks start xs 0 (suc at) = ap (λ (p : GroupPlace). ticks start xs 0 p.at) here in
     let there : 0 + suc at ≡ suc at = omega arith in
     let more : ticks start xs 0 (suc at) ≡ ticks start xs 0 at + count_by (is_met start (suc at)) xs = ap (λ (k : ℕ). ticks start xs 0 at + count_by (is_met start k) xs) there in
     omega (arith, so_far, counts, met, all, more)
 
 -- what was read is what was read just before where the group now stands
-pub read_before : (start : List Replaying) (at : ℕ) (ps : List Point) (w : Watching) (new : Place) → new ≡ place_at start (suc at) → IsWatching start at ps w → IsWatching new.start (new.at - 1) ps w
+pub read_before : (start : List Replaying) (at : ℕ) (ps : List Point) (w : Watching) (new : GroupPlace) → new ≡ place_at start (suc at) → IsWatching start at ps w → IsWatching new.start (new.at - 1) ps w
 read_before start at ps w new here read =
     let one : at ≡ suc at - 1 = omega arith in
-    subst (λ (p : Place). IsWatching p.start (p.at - 1) ps w) (sym here) (subst (λ (k : ℕ). IsWatching start k ps w) one read)
+    subst (λ (p : GroupPlace). IsWatching p.start (p.at - 1) ps w) (sym here) (subst (λ (k : ℕ). IsWatching start k ps w) one read)
 
-pub read_now : (start : List Replaying) (at : ℕ) (ps : List Point) (w : Watching) (new : Place) → new ≡ place_at start (suc at) → IsWatching new.start new.at ps w → IsWatching start new.at ps w
-read_now start at ps w new here read = subst (λ (s : List Replaying). IsWatching s new.at ps w) (ap (λ (p : Place). p.start) here) read
+pub read_now : (start : List Replaying) (at : ℕ) (ps : List Point) (w : Watching) (new : GroupPlace) → new ≡ place_at start (suc at) → IsWatching new.start new.at ps w → IsWatching start new.at ps w
+read_now start at ps w new here read = subst (λ (s : List Replaying). IsWatching s new.at ps w) (ap (λ (p : GroupPlace). p.start) here) read
 
-pub moved_on : (start : List Replaying) (at : ℕ) (new : Place) → new ≡ place_at start (suc at) → 0 < new.at
+pub moved_on : (start : List Replaying) (at : ℕ) (new : GroupPlace) → new ≡ place_at start (suc at) → 0 < new.at
 moved_on start at new here =
-    let one : new.at ≡ suc at = ap (λ (p : Place). p.at) here in
+    let one : new.at ≡ suc at = ap (λ (p : GroupPlace). p.at) here in
     omega (arith, one)

@@ -4,8 +4,8 @@ use Rattle.std.specs.Prelude.{codes}
 use Rattle.std.proofs.lemmas.Bool.{cases_Bool, eqb-true}
 use Rattle.std.proofs.lemmas.List.{drop_more}
 use Rattle.group_state.specs.declared.event.GroupEvent.{GroupEvent}
-use Rattle.group_state.specs.Moves.{IsThere, Moves}
-use Rattle.group_state.specs.Place.{Place, events}
+use Rattle.group_state.specs.Moves.{IsAtPosition, Moves}
+use Rattle.group_state.specs.Place.{GroupPlace, events}
 use Rattle.proc_replay.specs.Replaying.{Replaying}
 use Rattle.group_texts.specs.Texts.{position_line}
 use Rattle.shell_points.specs.declared.point.Point.{Point as Held}
@@ -88,7 +88,7 @@ pub begins : (start : List Replaying) (ps : List Point) → record { at = 0; tex
 begins start ps = ap (here_or start ps 0) (sym (none_at_start start ps))
 
 -- the position that comes next
-pub goes_on : (old new : Place) (event : Option GroupEvent) → old.at < length (events old.start) → Moves old new event → new ≡ place_at old.start (suc old.at)
+pub goes_on : (old new : GroupPlace) (event : Option GroupEvent) → old.at < length (events old.start) → Moves old new event → new ≡ place_at old.start (suc old.at)
 goes_on old new None before moves = absurd (omega (arith, before, past (events old.start) old.at moves.gives))
 goes_on old new (Some e) before moves =
     let one : old.at + 1 ≡ suc old.at = omega arith in
@@ -98,12 +98,12 @@ pub begins_so : (start : List Replaying) (ps : List Point) (at : ℕ) (text : Li
 begins_so start ps at text here is = (λ i. record { at = 0; text = is i }) ∙ begins start ps ∙ ap (λ (n : ℕ). return_from (place_at start (suc n)) ps) (sym here)
 
 -- the same, of a group that began there
-pub goes_to : (first old new : Place) (event : Option GroupEvent) (count : ℕ) → old.start ≡ first.start → old.at < count → count ≤ length (events first.start) → Moves old new event
+pub goes_to : (first old new : GroupPlace) (event : Option GroupEvent) (count : ℕ) → old.start ≡ first.start → old.at < count → count ≤ length (events first.start) → Moves old new event
     → new ≡ place_at first.start (suc old.at)
 goes_to first old new event count same lt le moves =
     goes_on old new event (omega (arith, lt, le, ap (λ (s : List Replaying). length (events s)) same)) moves ∙ ap (λ (s : List Replaying). place_at s (suc old.at)) same
 
-pub gone_to : (old new : Place) (k : ℕ) (went : Bool) → k ≤ length (events old.start) → IsThere old k new went → new ≡ place_at old.start k
+pub gone_to : (old new : GroupPlace) (k : ℕ) (went : Bool) → k ≤ length (events old.start) → IsAtPosition old k new went → new ≡ place_at old.start k
 gone_to old new k went within is = place_is new old.start k is.start (is.at (is.exact.1 within))
 
 -- ---- as a whole
@@ -130,7 +130,7 @@ front_is start ps (suc k) count is =
     let same : count ≡ k = omega (arith, is) in
     ap (λ (n : ℕ). return_from (place_at start (suc n)) ps) same
 
-pub returns_there : (first new : Place) (ps : List Point) (count : ℕ) (r : Return) (text : List ℕ) → count ≡ first.at - 1 → r ≡ return_from (place_at first.start (suc count)) ps
+pub returns_there : (first new : GroupPlace) (ps : List Point) (count : ℕ) (r : Return) (text : List ℕ) → count ≡ first.at - 1 → r ≡ return_from (place_at first.start (suc count)) ps
     → new ≡ place_at first.start r.at → text ≡ r.text ++ position_line new → Returns first ps new text
 returns_there first new ps count r text front is came says =
     let whole : r ≡ return_from first ps = is ∙ front_is first.start ps first.at count front in

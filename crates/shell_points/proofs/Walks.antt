@@ -9,7 +9,7 @@ use Rattle.std.proofs.lemmas.Option.{slice_get_within}
 use Rattle.fri_text.specs.Line.{is_line_feed}
 use Rattle.group_state.specs.declared.event.GroupEvent.{GroupEvent}
 use Rattle.group_state.specs.Moves.{Moves, event_of, last_event_of}
-use Rattle.group_state.specs.Place.{Place, events}
+use Rattle.group_state.specs.Place.{GroupPlace, events}
 use Rattle.group_state.specs.Seen.{nodes_at}
 use Rattle.proc_replay.specs.Replaying.{Replaying}
 use Rattle.embed_cmds.specs.Running.{ProgramState}
@@ -73,7 +73,7 @@ treated_more start at n points p r new whole within here did so_far =
 
 -- ---- from one position to the next
 
-pub place_is : (here : Place) (start : List Replaying) (k : ℕ) → here.start ≡ start → here.at ≡ k → here ≡ place_at start k
+pub place_is : (here : GroupPlace) (start : List Replaying) (k : ℕ) → here.start ≡ start → here.at ≡ k → here ≡ place_at start k
 place_is here start k same at = λ i. record { start = same i; at = at i }
 
 pub past : {A : Type 0} (xs : List A) (n : ℕ) → None ≡ slice_get xs n → length xs ≤ n
@@ -82,7 +82,7 @@ past (x ∷ xs) zero e = absurd cc
 past (x ∷ xs) (suc n) e = omega (arith, past xs n e)
 
 -- an event is made
-pub moves_on : (old new : Place) (event : Option GroupEvent) → is_some event ≡ true → Moves old new event
+pub moves_on : (old new : GroupPlace) (event : Option GroupEvent) → is_some event ≡ true → Moves old new event
     → (new ≡ place_at old.start (suc old.at)) × (old.at < length (events old.start))
 moves_on old new None some moves = absurd cc
 moves_on old new (Some e) some moves =
@@ -90,7 +90,7 @@ moves_on old new (Some e) some moves =
     (moves.place ∙ ap (place_at old.start) one, slice_get_within (events old.start) old.at (event_of e) (sym moves.gives))
 
 -- there is no event more
-pub stays : (old new : Place) (event : Option GroupEvent) → is_some event ≡ false → Moves old new event → (new ≡ old) × (length (events old.start) ≤ old.at)
+pub stays : (old new : GroupPlace) (event : Option GroupEvent) → is_some event ≡ false → Moves old new event → (new ≡ old) × (length (events old.start) ≤ old.at)
 stays old new None none moves = (moves.place, past (events old.start) old.at moves.gives)
 stays old new (Some e) none moves = absurd cc
 
@@ -131,11 +131,11 @@ pub lines_append : (a b : List ℕ) → lines_in (a ++ b) ≡ lines_in a + lines
 lines_append a b = sum_by-append (λ (x : ℕ). cond (is_line_feed x) 1 0) a b
 
 -- a walk that ended came there
-pub arrives : (first : Place) (ps : List Point) (before after : List Variable) (at : ℕ) (said : List ℕ) → walk_from first ps before ≡ walk_ended at after said
-    → (new there : Place) (variables : List Variable) (text : List ℕ) → new ≡ place_at first.start at → there ≡ new → variables ≡ after → text ≡ said ++ position_line new
+pub arrives : (first : GroupPlace) (ps : List Point) (before after : List Variable) (at : ℕ) (said : List ℕ) → walk_from first ps before ≡ walk_ended at after said
+    → (new there : GroupPlace) (variables : List Variable) (text : List ℕ) → new ≡ place_at first.start at → there ≡ new → variables ≡ after → text ≡ said ++ position_line new
     → Walks first ps before there variables text
 arrives first ps before after at said is new there variables text here same kept says = record {
   place = same ∙ here ∙ ap (λ (w : Walk). place_at first.start w.at) (sym is);
   variables = kept ∙ ap (λ (w : Walk). w.variables) (sym is);
-  text_is = says ∙ ap (λ (p : Place). said ++ position_line p) (sym same) ∙ ap (λ (w : Walk). w.text ++ position_line there) (sym is);
+  text_is = says ∙ ap (λ (p : GroupPlace). said ++ position_line p) (sym same) ∙ ap (λ (w : Walk). w.text ++ position_line there) (sym is);
 }

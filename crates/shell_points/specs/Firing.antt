@@ -7,7 +7,7 @@ use Rattle.group_order.specs.Order.{NodeEvent}
 use Rattle.lib_calls.specs.declared.entry.Entry.{Entry}
 use Rattle.proc_replay.specs.Replaying.{Replaying}
 use Rattle.group_state.specs.Moves.{last_event_of}
-use Rattle.group_state.specs.Place.{Place}
+use Rattle.group_state.specs.Place.{GroupPlace}
 use Rattle.group_state.specs.Seen.{nodes_at}
 use Rattle.watch_expr.specs.Expression.{Expression}
 use Rattle.watch_expr.specs.Value.{equal, value}
@@ -18,7 +18,7 @@ abbrev pub no_variable : List ℕ → Option ℤ
 no_variable name = None
 
 -- the group at position k
-abbrev pub place_at : List Replaying → ℕ → Place
+abbrev pub place_at : List Replaying → ℕ → GroupPlace
 place_at start k = record { start = start; at = k }
 
 -- ---- what a point reads
@@ -35,24 +35,24 @@ reading start k (Break of_node kind) = None
 -- ---- where it fires, by what it read before and reads now
 
 -- `undef` is equal to itself alone
-abbrev pub is_same_value : Option ℤ → Option ℤ → Bool
-is_same_value None None = true
-is_same_value None (Some b) = false
-is_same_value (Some a) None = false
-is_same_value (Some a) (Some b) = equal a b
+abbrev pub is_unchanged : Option ℤ → Option ℤ → Bool
+is_unchanged None None = true
+is_unchanged None (Some b) = false
+is_unchanged (Some a) None = false
+is_unchanged (Some a) (Some b) = equal a b
 
 abbrev pub is_of_node : Option ℕ → ℕ → Bool
 is_of_node None n = true
 is_of_node (Some wanted) n = wanted == n
 
-abbrev pub is_of : Option ℕ → Kind → Option (NodeEvent Entry) → Bool
-is_of of_node kind None = false
-is_of of_node kind (Some e) = is_of_node of_node e.node && e.entry.call.kind == (row kind).number
+abbrev pub is_event_of_kind : Option ℕ → Kind → Option (NodeEvent Entry) → Bool
+is_event_of_kind of_node kind None = false
+is_event_of_kind of_node kind (Some e) = is_of_node of_node e.node && e.entry.call.kind == (row kind).number
 
 -- A watchpoint fires where it reads another value than before, a breakpoint where the event between is of its kind and node.
 abbrev pub is_due_by : Option ℤ → Option ℤ → Option (NodeEvent Entry) → Trigger → Bool
-is_due_by before now event (Watch x) = not (is_same_value before now)
-is_due_by before now event (Break of_node kind) = is_of of_node kind event
+is_due_by before now event (Watch x) = not (is_unchanged before now)
+is_due_by before now event (Break of_node kind) = is_event_of_kind of_node kind event
 
 -- from one value to another
 abbrev pub change_by : Option ℤ → Option ℤ → List ℕ

@@ -1,7 +1,7 @@
 -- What holds of where points fire, and of where walks end, whatever the logs are.
 use Rattle.std.specs.Prelude.{◌≡◌, ◌↔◌, ℕ, suc, ◌<◌, ◌≤◌, true, false, List, All, length, codes, Some, None}
 use Rattle.proc_replay.specs.Replaying.{Replaying}
-use Rattle.group_state.specs.Place.{Place, events}
+use Rattle.group_state.specs.Place.{GroupPlace, events}
 use Rattle.watch_expr.specs.Expression.{Expression}
 use Rattle.embed_cmds.specs.Variables.{Variable}
 use Rattle.shell_points.specs.Firing.{fires, firing_lines, has_due, value_at_position}
@@ -45,5 +45,5 @@ pub record ExactFiring : Type 0 where
   pub last : (start : List Replaying) (points : List Point) (at k : ℕ) → (last_due start points at ≡ Some k) ↔ IsLastDue start points at k
   pub none_below : (start : List Replaying) (points : List Point) (at : ℕ) → (last_due start points at ≡ None) ↔ NoneBelow start points at
   -- where `continue` comes to, over points without programs
-  pub next : (place : Place) (points : List Point) (variables : List Variable) (k : ℕ) (text : List ℕ) → place.at ≤ length (events place.start)
+  pub next : (place : GroupPlace) (points : List Point) (variables : List Variable) (k : ℕ) (text : List ℕ) → place.at ≤ length (events place.start)
       → All (λ p. p.program ≡ None) points → (walk_from place points variables ≡ walk_ended k variables text) ↔ IsContinued place.start points place.at k text

@@ -1,7 +1,7 @@
 -- Where `rcontinue` comes to, and what it says.
 use Rattle.std.specs.Prelude.{ℕ, zero, suc, List, codes, Option, Some, None, if◌then◌else◌}
 use Rattle.proc_replay.specs.Replaying.{Replaying}
-use Rattle.group_state.specs.Place.{Place}
+use Rattle.group_state.specs.Place.{GroupPlace}
 use Rattle.shell_points.specs.Firing.{firing_lines, has_due}
 use Rattle.shell_points.specs.Points.{Point}
 
@@ -20,5 +20,5 @@ abbrev pub return_to : List Replaying → List Point → Option ℕ → Return
 return_to start points None = record { at = 0; text = codes "start\n" }
 return_to start points (Some k) = record { at = k; text = firing_lines start points k }
 
-abbrev pub return_from : Place → List Point → Return
+abbrev pub return_from : GroupPlace → List Point → Return
 return_from place points = return_to place.start points (last_due place.start points place.at)

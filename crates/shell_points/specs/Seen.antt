@@ -1,7 +1,7 @@
 -- What the values of the code stand for.
 use Rattle.std.specs.Prelude.{◌≡◌, ℕ, List, ◌++◌, option_map}
 use Rattle.watch_expr.specs.Expression.{expression_of}
-use Rattle.group_state.specs.Place.{Place}
+use Rattle.group_state.specs.Place.{GroupPlace}
 use Rattle.group_texts.specs.Texts.{position_line}
 use Rattle.embed_cmds.specs.Running.{ProgramState}
 use Rattle.embed_cmds.specs.Tree.{body}
@@ -32,12 +32,12 @@ abbrev pub return_of : Ended → Return
 return_of r = record { at = r.at; text = r.text }
 
 -- a walk from a place came to where it comes
-pub record Walks (old : Place) (points : List Point) (before : List Variable) (new : Place) (after : List Variable) (text : List ℕ) : Type 0 where
+pub record Walks (old : GroupPlace) (points : List Point) (before : List Variable) (new : GroupPlace) (after : List Variable) (text : List ℕ) : Type 0 where
   pub place : new ≡ place_at old.start (walk_from old points before).at
   pub variables : after ≡ (walk_from old points before).variables
   pub text_is : text ≡ (walk_from old points before).text ++ position_line new
 
 -- a walk back from a place came to where it comes
-pub record Returns (old : Place) (points : List Point) (new : Place) (text : List ℕ) : Type 0 where
+pub record Returns (old : GroupPlace) (points : List Point) (new : GroupPlace) (text : List ℕ) : Type 0 where
   pub place : new ≡ place_at old.start (return_from old points).at
   pub text_is : text ≡ (return_from old points).text ++ position_line new

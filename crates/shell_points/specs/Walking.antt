@@ -2,7 +2,7 @@
 use Rattle.std.specs.Prelude.{ℕ, zero, suc, ◌-◌, nat_le, Bool, true, false, ◌||◌, List, [], ◌∷◌, ◌++◌, length, codes, count_by, Option, Some, None, if◌then◌else◌}
 use Rattle.fri_text.specs.Line.{is_line_feed}
 use Rattle.proc_replay.specs.Replaying.{Replaying}
-use Rattle.group_state.specs.Place.{Place, events}
+use Rattle.group_state.specs.Place.{GroupPlace, events}
 use Rattle.group_state.specs.Seen.{nodes_at}
 use Rattle.watch_expr.specs.View.{Node}
 use Rattle.embed_cmds.specs.Running.{ProgramState, after_statements}
@@ -72,5 +72,5 @@ walk_over start points at (suc left) variables said =
     walk_on (walk_over start points (suc at) left) (suc at) said (treat_all start (suc at) (quiet variables) points)
 
 -- the walk from a position, which may go on to the last
-abbrev pub walk_from : Place → List Point → List Variable → Walk
+abbrev pub walk_from : GroupPlace → List Point → List Variable → Walk
 walk_from place points variables = walk_over place.start points place.at (length (events place.start) - place.at) variables []

@@ -1,7 +1,7 @@
 // Where points fire, and what they say there.
 ghost use Rattle.std.specs.Prelude.{◌≡◌, ◌++◌, Some, OnOk};
 ghost use Rattle.group_state.specs.Moves.{event_of, last_event_of};
-ghost use Rattle.shell_points.specs.Firing.{is_due_by, is_of, is_same_value, line_by};
+ghost use Rattle.shell_points.specs.Firing.{is_due_by, is_event_of_kind, is_unchanged, line_by};
 ghost use Rattle.shell_points.specs.Seen.{trigger as seen_trigger};
 
 use crate::point::{Point, Trigger};
@@ -13,7 +13,7 @@ use std::alloc::AllocError;
 
 // Whether two values are the same, where `undef` is so to itself alone.
 fn is_same_value(before: Option<i64>, now: Option<i64>) -> bool
-    ensures { result ≡ is_same_value before now }
+    ensures { result ≡ is_unchanged before now }
 {
     match (before, now) {
         (None, None) => true,
@@ -25,7 +25,7 @@ fn is_same_value(before: Option<i64>, now: Option<i64>) -> bool
 
 // Whether an event is of this kind, and of the node where one is given.
 fn is_of(node: Option<u32>, kind: Kind, event: &GroupEvent<'_>) -> bool
-    ensures { result ≡ is_of node kind (Some (event_of event.now)) }
+    ensures { result ≡ is_event_of_kind node kind (Some (event_of event.now)) }
 {
     let of_node = match node {
         Some(wanted) => wanted == event.node,

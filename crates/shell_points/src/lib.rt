@@ -21,4 +21,4 @@ mod watching;
 pub use laws::exact_firing;
 pub use point::Trigger;
 pub use points::Points;
-pub use walk::Walked;
+pub use walk::WalkEnd;

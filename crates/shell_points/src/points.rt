@@ -9,7 +9,7 @@ ghost use Rattle.shell_points.specs.Watching.{watched};
 
 use crate::back::walk_back;
 use crate::point::{Point, Trigger};
-use crate::walk::{Walked, walk};
+use crate::walk::{WalkEnd, walk};
 use embed_cmds::{Program, Vars};
 use fri_bytes::Bytes;
 use fri_text::Text;
@@ -128,7 +128,7 @@ impl Points {
         group: Group<'m, 'a>,
         variables: Vars,
         steps: &mut Steps<L>,
-    ) -> Result<Walked<'m, 'a>, AllocError>
+    ) -> Result<WalkEnd<'m, 'a>, AllocError>
         ensures walks { IfOk result (λ done. Walks group.entry self.now variables done.group done.variables done.text) }
         ensures ticks { IfOk result (λ done. steps.new ≡ steps.old + ticks group.entry.start (watched self.now) group.entry.at (done.group.at - group.entry.at)) }
     {

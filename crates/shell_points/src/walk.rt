@@ -23,7 +23,7 @@ const MOST_LINES: usize = 10_000;
 
 /// Where a walk came to, what it made of the variables, and what it said.
 #[derive(Drop)]
-pub struct Walked<'m, 'a> {
+pub struct WalkEnd<'m, 'a> {
     pub group: Group<'m, 'a>,
     pub variables: Vars,
     pub text: Text,
@@ -36,12 +36,12 @@ pub(crate) fn walk<'m, 'a, L: Ledger>(
     points: &[Point],
     variables: Vars,
     steps: &mut Steps<L>,
-) -> Result<Walked<'m, 'a>, AllocError>
+) -> Result<WalkEnd<'m, 'a>, AllocError>
     ensures walks { IfOk result (λ done. Walks group.entry (map {A = Held} seen points.now) variables done.group done.variables done.text) }
     ensures ticks { IfOk result (λ done. steps.new ≡ steps.old + ticks group.entry.start (watched (map {A = Held} seen points.now)) group.entry.at (done.group.at - group.entry.at)) }
 {
     let _ = group.position();
-    let mut walked = Walked {
+    let mut walked = WalkEnd {
         group,
         variables,
         text: Text::new(alloc),
@@ -49,7 +49,7 @@ pub(crate) fn walk<'m, 'a, L: Ledger>(
     let mut watching = Watching::begin(alloc, points, &walked.group)?;
     let mut said = 0;
     'positions: loop {
-        let Walked {
+        let WalkEnd {
             group,
             variables,
             mut text,
@@ -69,7 +69,7 @@ pub(crate) fn walk<'m, 'a, L: Ledger>(
             return arrive(group, turn.variables, text, "paused\n");
         }
         watching = now;
-        walked = Walked {
+        walked = WalkEnd {
             group,
             variables: turn.variables,
             text,
@@ -90,7 +90,7 @@ fn arrive<'m, 'a>(
     variables: Vars,
     text: Text,
     word: &str,
-) -> Result<Walked<'m, 'a>, AllocError>
+) -> Result<WalkEnd<'m, 'a>, AllocError>
     ensures group { IfOk result (λ done. done.group ≡ group.entry) }
     ensures variables { IfOk result (λ done. done.variables ≡ variables) }
     ensures text { IfOk result (λ done. done.text ≡ (text ++ word.now) ++ position_line group.entry) }
@@ -98,7 +98,7 @@ fn arrive<'m, 'a>(
     let mut text = text;
     text.push_str(word)?;
     push_position(&mut text, &group)?;
-    Ok(Walked {
+    Ok(WalkEnd {
         group,
         variables,
         text,

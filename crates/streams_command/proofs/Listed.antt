@@ -10,8 +10,8 @@ use Rattle.std.proofs.lemmas.Bool.Decides.{nat_tests}
 use Rattle.std.proofs.lemmas.Map.Lookups.{exact_pairs}
 use Rattle.byte_streams.specs.Chunk.{Piece, chunk_at}
 use Rattle.byte_streams.specs.Keys.{Contents, StreamKey, by_stream, key_of}
-use Rattle.byte_streams.specs.Stands.{Kept, StandsFor, contents}
-use Rattle.byte_streams.specs.Traffic.{Received, Sending, Sent, StreamName, Traffic, counted, goes_on, is_listed, is_of, is_stream, stream_of, written}
+use Rattle.byte_streams.specs.Stands.{KeptTraffic, StandsFor, contents}
+use Rattle.byte_streams.specs.Traffic.{Received, Sending, Sent, StreamName, SendOrReceive, send_that_counts, continues_or_repeats, is_listed, is_to_stream, is_stream, stream_of, written}
 use Rattle.streams_command.specs.Streams.{listed, listed_by, streams_in}
 
 -- ---- the order of streams
@@ -41,13 +41,13 @@ same_key name from to number =
 
 -- ---- the streams with a send that counts
 
-abbrev entry_of : List Traffic → StreamName → StreamKey × Contents
+abbrev entry_of : List SendOrReceive → StreamName → StreamKey × Contents
 entry_of all name = (key_of name, contents name all)
 
-abbrev if_listed : List Traffic → StreamName → Bool → Option Contents
+abbrev if_listed : List SendOrReceive → StreamName → Bool → Option Contents
 if_listed all name is = cond is (Some (contents name all)) None
 
-same_contents : (all : List Traffic) (name : StreamName) (from to number : ℕ) → is_stream name from to number ≡ true
+same_contents : (all : List SendOrReceive) (name : StreamName) (from to number : ℕ) → is_stream name from to number ≡ true
     → contents (record { from = from; to = to; number = number }) all ≡ contents name all
 same_contents all name from to number is =
     let a : from ≡ name.from = grind (arith, nat_tests) in
@@ -55,34 +55,34 @@ same_contents all name from to number is =
     let c : number ≡ name.number = grind (arith, nat_tests) in
     λ i. contents (record { from = a i; to = b i; number = c i }) all
 
-found_first : (all : List Traffic) (name : StreamName) (from to number : ℕ) (rest : Option Contents) (later b : Bool)
+found_first : (all : List SendOrReceive) (name : StreamName) (from to number : ℕ) (rest : Option Contents) (later b : Bool)
     → rest ≡ if_listed all name later → is_stream name from to number ≡ b
     → cond b (Some (contents (record { from = from; to = to; number = number }) all)) rest ≡ if_listed all name (b || later)
 found_first all name from to number rest later true is same = ap Some (same_contents all name from to number same)
 found_first all name from to number rest later false is same = is
 
 -- the stream of this piece in front of those of earlier sends
-module _ (all early : List Traffic) (name : StreamName) (rest : find by_stream (key_of name) (map (entry_of all) (listed early)) ≡ if_listed all name (is_listed name early)) where
+module _ (all early : List SendOrReceive) (name : StreamName) (rest : find by_stream (key_of name) (map (entry_of all) (listed early)) ≡ if_listed all name (is_listed name early)) where
   found_by_count : (s : Sending) (piece : Piece) (b : Bool)
       → find by_stream (key_of name) (map (entry_of all) (listed_by s (cond b (Some (record { to = s.to; piece = piece })) None) ++ listed early))
-      ≡ if_listed all name (is_of name s (cond b (Some (record { to = s.to; piece = piece })) None) || is_listed name early)
+      ≡ if_listed all name (is_to_stream name s (cond b (Some (record { to = s.to; piece = piece })) None) || is_listed name early)
   found_by_count s piece true =
       ap (λ b. cond b (Some (contents (stream_of s piece) all)) (find by_stream (key_of name) (map (entry_of all) (listed early)))) (same_key name s.from s.to piece.stream)
       ∙ found_first all name s.from s.to piece.stream _ (is_listed name early) (is_stream name s.from s.to piece.stream) rest refl
   found_by_count s piece false = rest
 
   found_sent : (s : Sending) (c : Option Piece)
-      → find by_stream (key_of name) (map (entry_of all) (listed_by s (counted s c early) ++ listed early)) ≡ if_listed all name (is_of name s (counted s c early) || is_listed name early)
+      → find by_stream (key_of name) (map (entry_of all) (listed_by s (send_that_counts s c early) ++ listed early)) ≡ if_listed all name (is_to_stream name s (send_that_counts s c early) || is_listed name early)
   found_sent s None = rest
-  found_sent s (Some piece) = found_by_count s piece (goes_on piece (written (stream_of s piece) early))
+  found_sent s (Some piece) = found_by_count s piece (continues_or_repeats piece (written (stream_of s piece) early))
 
-found : (all part : List Traffic) (name : StreamName) → find by_stream (key_of name) (map (entry_of all) (listed part)) ≡ if_listed all name (is_listed name part)
+found : (all part : List SendOrReceive) (name : StreamName) → find by_stream (key_of name) (map (entry_of all) (listed part)) ≡ if_listed all name (is_listed name part)
 found all [] name = refl
 found all (Received r ∷ early) name = found all early name
 found all (Sent s ∷ early) name = found_sent all early name (found all early name) s (chunk_at s.payload)
 
 -- what is kept of these sends and receives
-pub streams_are : (kept : Kept) (traffic : List Traffic) → StandsFor kept traffic → kept.streams ≡ streams_in traffic
+pub streams_are : (kept : KeptTraffic) (traffic : List SendOrReceive) → StandsFor kept traffic → kept.streams ≡ streams_in traffic
 streams_are kept traffic stands = map.same_map by_stream_total by_stream_exact kept.streams (streams_in traffic) (λ q.
     let name : StreamName = record { from = q.0; to = q.1.0; number = q.1.1 } in
     stands.streams name ∙ sym (found traffic traffic name) ∙ sym (map.get-from_entries by_stream_total (map (entry_of traffic) (listed traffic)) q))

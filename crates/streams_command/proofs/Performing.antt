@@ -2,20 +2,20 @@
 use Rattle.std.proofs.Common.{◌≡◌, ◌∙◌, ℕ, false, List, [], Option, Some, option_map, Result, Ok, Err, ap, inl, refl, subst, sym}
 use Rattle.fri_outside.specs.Outside.{Counts, Folder, WhenTold}
 use Rattle.proc_replay.specs.Replaying.{Replaying}
-use Rattle.command_run.specs.declared.refusal.Answer.{Answer}
-use Rattle.command_run.specs.declared.refusal.Answer.TheVariants as answered
-use Rattle.command_run.specs.declared.refusal.Refusal.{Refusal}
-use Rattle.command_run.specs.declared.refusal.Refusal.TheVariants as refusal
-use Rattle.command_run.specs.Call.{CountsFaults, Keeps, Makes, Raises, StopsAs}
-use Rattle.command_run.specs.Outcome.{CommandOutcome, Stop, and_then, writes_of}
-use Rattle.command_run.specs.OutcomeLaws.{outcome_at, refused_makes, refused_tells, stops_then}
+use Rattle.command_run.specs.declared.refusal.WorkText.{WorkText}
+use Rattle.command_run.specs.declared.refusal.WorkText.TheVariants as answered
+use Rattle.command_run.specs.declared.refusal.StopCause.{StopCause}
+use Rattle.command_run.specs.declared.refusal.StopCause.TheVariants as refusal
+use Rattle.command_run.specs.Call.{CountsFaults, KeepsFolder, MakesWorkFiles, Raises, StopsAs}
+use Rattle.command_run.specs.Outcome.{CommandOutcome, CommandStop, and_then, writes_of}
+use Rattle.command_run.specs.OutcomeLaws.{outcome_when_told, refused_makes, refused_tells, stops_then}
 use Rattle.command_run.specs.Run.{Performed}
 use Rattle.log_pairs.specs.Pairs.{NoneOpened, Pair, WasOpened, replays_of_pairs}
-use Rattle.streams_command.specs.Streams.{streams_outcome, streams_work}
+use Rattle.streams_command.specs.Streams.{streams_outcome, work_of_streams}
 
 -- ---- no text
 
-keeps : (before after : Option Folder) (e : Refusal) → after ≡ before → Keeps (Err e) before after
+keeps : (before after : Option Folder) (e : StopCause) → after ≡ before → KeepsFolder (Err e) before after
 keeps before after (refusal.Absent file) same = same
 keeps before after refusal.ReadFault same = same
 keeps before after (refusal.Refused file why) same = tt
@@ -23,11 +23,11 @@ keeps before after refusal.WriteFault same = tt
 keeps before after refusal.NoMemory same = tt
 
 -- no replays, no streams
-pub stops_too : (pairs : List Pair) (told : Option Folder) (e : Refusal) → NoneOpened pairs told e → WhenTold told (λ folder. StopsAs (streams_outcome pairs folder) e)
+pub stops_too : (pairs : List Pair) (told : Option Folder) (e : StopCause) → NoneOpened pairs told e → WhenTold told (λ folder. StopsAs (streams_outcome pairs folder) e)
 stops_too pairs told e none folder is = stops_then (replays_of_pairs folder pairs) _ e (none folder is)
 
-pub stopped : (pairs : List Pair) (told after : Option Folder) (counts counts_after : Counts) (e : Refusal) → WhenTold told (λ folder. StopsAs (streams_outcome pairs folder) e) → after ≡ told
-    → CountsFaults {T = Answer} counts counts_after (Err e) → Raises counts counts_after e
+pub stopped : (pairs : List Pair) (told after : Option Folder) (counts counts_after : Counts) (e : StopCause) → WhenTold told (λ folder. StopsAs (streams_outcome pairs folder) e) → after ≡ told
+    → CountsFaults {T = WorkText} counts counts_after (Err e) → Raises counts counts_after e
     → Performed (option_map (streams_outcome pairs) told) (λ folder. []) false told after counts counts_after (Err e)
 stopped pairs told after counts counts_after e stops same counted cause = record {
   tells = refused_tells (streams_outcome pairs) told e stops;
@@ -41,17 +41,17 @@ stopped pairs told after counts counts_after e stops same counted cause = record
 
 -- ---- the text
 
-works : (pairs : List Pair) (told : Option Folder) (start : List Replaying) → WasOpened pairs told start → (o : CommandOutcome) → option_map (streams_outcome pairs) told ≡ Some o → o ≡ Ok (streams_work start)
+works : (pairs : List Pair) (told : Option Folder) (start : List Replaying) → WasOpened pairs told start → (o : CommandOutcome) → option_map (streams_outcome pairs) told ≡ Some o → o ≡ Ok (work_of_streams start)
 works pairs told start opened o is =
-    let h = outcome_at (streams_outcome pairs) told o is in
-    h.2 ∙ ap (λ (r : Result (List Replaying) Stop). and_then r (λ start. Ok (streams_work start))) (opened h.0 h.1)
+    let h = outcome_when_told (streams_outcome pairs) told o is in
+    h.2 ∙ ap (λ (r : Result (List Replaying) CommandStop). and_then r (λ start. Ok (work_of_streams start))) (opened h.0 h.1)
 
-pub finished : (pairs : List Pair) (told after : Option Folder) (counts counts_after : Counts) (start : List Replaying) (text : List ℕ) → WasOpened pairs told start → text ≡ (streams_work start).text → after ≡ told
-    → CountsFaults {T = Answer} counts counts_after (Ok (answered.Done text))
+pub finished : (pairs : List Pair) (told after : Option Folder) (counts counts_after : Counts) (start : List Replaying) (text : List ℕ) → WasOpened pairs told start → text ≡ (work_of_streams start).text → after ≡ told
+    → CountsFaults {T = WorkText} counts counts_after (Ok (answered.Done text))
     → Performed (option_map (streams_outcome pairs) told) (λ folder. []) false told after counts counts_after (Ok (answered.Done text))
 finished pairs told after counts counts_after start text opened is same counted = record {
-  tells = λ o at. (streams_work start, works pairs told start opened o at, is, refl);
-  makes = λ o at. subst (λ (o : CommandOutcome). Makes (Ok (answered.Done text)) (writes_of o) told after) (sym (works pairs told start opened o at)) same;
+  tells = λ o at. (work_of_streams start, works pairs told start opened o at, is, refl);
+  makes = λ o at. subst (λ (o : CommandOutcome). MakesWorkFiles (Ok (answered.Done text)) (writes_of o) told after) (sym (works pairs told start opened o at)) same;
   names = λ folder at. inl same;
   keeps = tt;
   diverges = tt;

@@ -11,13 +11,13 @@ use Rattle.group_state.specs.Place.{group_count}
 use Rattle.proc_replay.specs.Replaying.{Replaying}
 use Rattle.byte_streams.specs.declared.mark.Mark.{Mark}
 use Rattle.byte_streams.specs.declared.mark.Mark.TheVariants.{Plain, Counted, Strange}
-use Rattle.byte_streams.specs.Traffic.{Received, Sent, Traffic, mark_of_receive, mark_of_send}
-use Rattle.streams_command.specs.Streams.{foreign_receives, odd_sends, one_if_strange, process_at, received, traffic_by, traffic_of, traffic_of_event}
+use Rattle.byte_streams.specs.Traffic.{Received, Sent, SendOrReceive, mark_of_receive, mark_of_send}
+use Rattle.streams_command.specs.Streams.{foreign_receives, odd_sends, one_if_strange, process_at, received, traffic_by, traffic_of_events, traffic_of_event}
 
 -- ---- one event
 
 -- what an event of these logs sent or took
-abbrev pub traffic_at : List Replaying → NodeEvent Entry → List Traffic
+abbrev pub traffic_at : List Replaying → NodeEvent Entry → List SendOrReceive
 traffic_at start e = traffic_of_event (group_count start) (process_at start e.node) e.entry
 
 turned_receive : (p : ℕ) (e : Entry) (tag : Option Tag) → reverse (received p e tag) ≡ received p e tag
@@ -44,26 +44,26 @@ module _ (start : List Replaying) where
 
   -- ---- one event more
 
-  pub one_behind : (es : List (NodeEvent Entry)) (e : NodeEvent Entry) → traffic_at start e ++ traffic_of start es ≡ traffic_of start (es ++ e ∷ [])
+  pub one_behind : (es : List (NodeEvent Entry)) (e : NodeEvent Entry) → traffic_at start e ++ traffic_of_events start es ≡ traffic_of_events start (es ++ e ∷ [])
   one_behind es e =
-      ap (λ l. l ++ traffic_of start es) (sym (turned_event e) ∙ ap reverse (sym (append-nil (traffic_at start e))))
+      ap (λ l. l ++ traffic_of_events start es) (sym (turned_event e) ∙ ap reverse (sym (append-nil (traffic_at start e))))
       ∙ sym (reverse-append (flat_map (traffic_at start) es) (flat_map (traffic_at start) (e ∷ [])))
       ∙ ap reverse (sym (flat_map-append (traffic_at start) es (e ∷ [])))
 
-  pub one_before : (es : List (NodeEvent Entry)) (e : NodeEvent Entry) → traffic_of start es ++ traffic_at start e ≡ traffic_of start (e ∷ es)
+  pub one_before : (es : List (NodeEvent Entry)) (e : NodeEvent Entry) → traffic_of_events start es ++ traffic_at start e ≡ traffic_of_events start (e ∷ es)
   one_before es e =
-      ap (λ l. traffic_of start es ++ l) (sym (turned_event e))
+      ap (λ l. traffic_of_events start es ++ l) (sym (turned_event e))
       ∙ sym (reverse-append (traffic_at start e) (flat_map (traffic_at start) es))
 
   -- ---- how many there are
 
-  pub few : (es : List (NodeEvent Entry)) → length (traffic_of start es) ≤ length es
+  pub few : (es : List (NodeEvent Entry)) → length (traffic_of_events start es) ≤ length es
   few [] = omega arith
   few (e ∷ es) =
       omega (
         arith,
         ap length (one_before es e),
-        length-append (traffic_of start es) (traffic_at start e),
+        length-append (traffic_of_events start es) (traffic_at start e),
         few es,
         few_by (is_sent (group_count start) e.entry) (is_taken e.entry) (process_at start e.node) e.entry,
       )
@@ -73,12 +73,12 @@ at_most_one Plain = omega arith
 at_most_one Counted = omega arith
 at_most_one Strange = omega arith
 
-pub odd_within : (traffic : List Traffic) → odd_sends traffic ≤ length traffic
+pub odd_within : (traffic : List SendOrReceive) → odd_sends traffic ≤ length traffic
 odd_within [] = omega arith
 odd_within (Sent s ∷ early) = omega (arith, odd_within early, at_most_one (mark_of_send s early))
 odd_within (Received r ∷ early) = omega (arith, odd_within early)
 
-pub foreign_within : (traffic : List Traffic) → foreign_receives traffic ≤ length traffic
+pub foreign_within : (traffic : List SendOrReceive) → foreign_receives traffic ≤ length traffic
 foreign_within [] = omega arith
 foreign_within (Sent s ∷ early) = omega (arith, foreign_within early)
 foreign_within (Received r ∷ early) = omega (arith, foreign_within early, at_most_one (mark_of_receive r early))

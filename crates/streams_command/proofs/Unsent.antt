@@ -12,7 +12,7 @@ use Rattle.group_order.specs.Order.{IsSorted, NodeEvent, precedes}
 use Rattle.group_state.specs.Place.{Ascends, entry_clock, group_count}
 use Rattle.proc_replay.specs.Replaying.{Replaying}
 use Rattle.byte_streams.specs.Laws.{IsUnsent, is_send_at}
-use Rattle.streams_command.specs.Streams.{process_at, received, traffic_by, traffic_of}
+use Rattle.streams_command.specs.Streams.{process_at, received, traffic_by, traffic_of_events}
 use Rattle.streams_command.proofs.Told.{one_before, traffic_at}
 
 -- ---- the processes of nodes
@@ -66,14 +66,14 @@ unsent_by start e f true taken apart = (grind (arith, nat_tests, apart), tt)
 unsent_by start e f false true apart = not_received (process_at start e.node) e.entry.clock (process_at start f.node) f.entry f.entry.tag
 unsent_by start e f false false apart = tt
 
-unsent_in : (start : List Replaying) (e : NodeEvent Entry) (es : List (NodeEvent Entry)) → AllByRecursion (IsApart start e) es → IsUnsent (process_at start e.node) e.entry.clock (traffic_of start es)
+unsent_in : (start : List Replaying) (e : NodeEvent Entry) (es : List (NodeEvent Entry)) → AllByRecursion (IsApart start e) es → IsUnsent (process_at start e.node) e.entry.clock (traffic_of_events start es)
 unsent_in start e [] apart = tt
 unsent_in start e (f ∷ es) apart =
     subst (IsUnsent (process_at start e.node) e.entry.clock) (one_before start es f)
-    (all_append (λ t. is_send_at (process_at start e.node) e.entry.clock t ≡ false) (traffic_of start es) (traffic_at start f) (unsent_in start e es apart.1)
+    (all_append (λ t. is_send_at (process_at start e.node) e.entry.clock t ≡ false) (traffic_of_events start es) (traffic_at start f) (unsent_in start e es apart.1)
     (unsent_by start e f (is_sent (group_count start) f.entry) (is_taken f.entry) apart.0))
 
 -- the event behind the first k of them
 pub unsent : (start : List Replaying) (es : List (NodeEvent Entry)) (k : ℕ) (e : NodeEvent Entry) → Ascends start → e.node < length start → IsSorted entry_clock es → slice_get es k ≡ Some e
-    → IsUnsent (process_at start e.node) e.entry.clock (traffic_of start (take k es))
+    → IsUnsent (process_at start e.node) e.entry.clock (traffic_of_events start (take k es))
 unsent start es k e up within sorted at = unsent_in start e (take k es) (all_apart start es k e up within sorted at)

@@ -11,12 +11,12 @@ use Rattle.proc_replay.specs.Replaying.{Replaying}
 use Rattle.group_state.specs.declared.event.GroupEvent.{GroupEvent}
 use Rattle.group_state.specs.Laws.{Ordered, Stepwise}
 use Rattle.group_state.specs.Moves.{Moves, event_of}
-use Rattle.group_state.specs.Place.{AreParts, PartsFit, Place, events, states, states_from}
+use Rattle.group_state.specs.Place.{AreParts, PartsFit, GroupPlace, events, states, states_from}
 use Rattle.byte_streams.specs.Laws.{UnsentIsFree}
-use Rattle.byte_streams.specs.Traffic.{Traffic}
+use Rattle.byte_streams.specs.Traffic.{SendOrReceive}
 use Rattle.streams_command.specs.declared.telling.Told.{Told}
 use Rattle.streams_command.specs.Seen.{IsToldOf}
-use Rattle.streams_command.specs.Streams.{process_at, traffic_of}
+use Rattle.streams_command.specs.Streams.{process_at, traffic_of_events}
 use Rattle.streams_command.proofs.Told.{few, foreign_within, odd_within, one_behind, traffic_at}
 use Rattle.streams_command.proofs.Unsent.{unsent}
 
@@ -34,24 +34,24 @@ count_states node (r ∷ rs) es = ap suc (count_states (suc node) rs es)
 -- ---- the walk
 
 -- the walk of these logs has come to a position, and what was sent and taken up to there was told
-pub record WalkedTo (start : List Replaying) (here : Place) (t : Told) : Type 0 where
+pub record WalkedTo (start : List Replaying) (here : GroupPlace) (t : Told) : Type 0 where
   pub same : here.start ≡ start
-  pub told : IsToldOf t (traffic_of start (take here.at (events start)))
+  pub told : IsToldOf t (traffic_of_events start (take here.at (events start)))
 
-pub none_walked : (start : List Replaying) (here : Place) (told : Told) → here ≡ record { start = start; at = 0 } → IsToldOf told [] → WalkedTo start here told
+pub none_walked : (start : List Replaying) (here : GroupPlace) (told : Told) → here ≡ record { start = start; at = 0 } → IsToldOf told [] → WalkedTo start here told
 none_walked start here told is none = record {
-  same = ap (λ (p : Place). p.start) is;
-  told = subst (λ (n : ℕ). IsToldOf told (traffic_of start (take n (events start)))) (sym (ap (λ (p : Place). p.at) is)) none;
+  same = ap (λ (p : GroupPlace). p.start) is;
+  told = subst (λ (n : ℕ). IsToldOf told (traffic_of_events start (take n (events start)))) (sym (ap (λ (p : GroupPlace). p.at) is)) none;
 }
 
 -- there is no event more
-pub all_walked : (start : List Replaying) (old new : Place) (told : Told) → WalkedTo start old told → Moves old new None → IsToldOf told (traffic_of start (events start))
+pub all_walked : (start : List Replaying) (old new : GroupPlace) (told : Told) → WalkedTo start old told → Moves old new None → IsToldOf told (traffic_of_events start (events start))
 all_walked start old new told so_far moves =
     let none : None ≡ slice_get (events start) old.at = moves.gives ∙ ap (λ (s : List Replaying). slice_get (events s) old.at) so_far.same in
-    subst (λ (es : List (NodeEvent Entry)). IsToldOf told (traffic_of start es)) (take_all old.at (events start) (past (events start) old.at none)) so_far.told
+    subst (λ (es : List (NodeEvent Entry)). IsToldOf told (traffic_of_events start es)) (take_all old.at (events start) (past (events start) old.at none)) so_far.told
 
 -- the event behind the position: its node is there, its send was not told, and it can be counted
-pub record IsNext (start : List Replaying) (old new : Place) (event : GroupEvent) (t : Told) : Type 0 where
+pub record IsNext (start : List Replaying) (old new : GroupPlace) (event : GroupEvent) (t : Told) : Type 0 where
   pub at : slice_get (events start) old.at ≡ Some (event_of event)
   pub new_at : new.at ≡ old.at + 1
   pub same : new.start ≡ start
@@ -60,15 +60,15 @@ pub record IsNext (start : List Replaying) (old new : Place) (event : GroupEvent
   pub odd : t.odd + 1 < 2 ^ 64
   pub foreign : t.foreign + 1 < 2 ^ 64
 
-pub is_next : Ordered → Stepwise → UnsentIsFree → (start : List Replaying) (old new : Place) (event : GroupEvent) (told : Told) → AreParts start → PartsFit new.start → new.at < 2 ^ 64
+pub is_next : Ordered → Stepwise → UnsentIsFree → (start : List Replaying) (old new : GroupPlace) (event : GroupEvent) (told : Told) → AreParts start → PartsFit new.start → new.at < 2 ^ 64
     → WalkedTo start old told → Moves old new (Some event) → IsNext start old new event told
 is_next ordered stepwise free start old new event told parts fits bound so_far moves =
     let es = events start in
     let e = event_of event in
-    let traffic = traffic_of start (take old.at es) in
+    let traffic = traffic_of_events start (take old.at es) in
     let at : slice_get es old.at ≡ Some e = ap (λ (s : List Replaying). slice_get (events s) old.at) (sym so_far.same) ∙ sym moves.gives in
-    let more : new.at ≡ old.at + 1 = ap (λ (p : Place). p.at) moves.place in
-    let same : new.start ≡ start = ap (λ (p : Place). p.start) moves.place ∙ so_far.same in
+    let more : new.at ≡ old.at + 1 = ap (λ (p : GroupPlace). p.at) moves.place in
+    let same : new.start ≡ start = ap (λ (p : GroupPlace). p.start) moves.place ∙ so_far.same in
     let first_fits = subst PartsFit same fits in
     let step = stepwise.steps start parts first_fits old.at e at in
     let among = slice_get_within (states start old.at) event.node step.state step.stands in
@@ -86,18 +86,18 @@ is_next ordered stepwise free start old new event told parts fits bound so_far m
       foreign = omega (arith, so_far.told.foreign, foreign_within traffic, some, front, more, bound);
     }
 
-pub one_walked : (start : List Replaying) (old new : Place) (event : GroupEvent) (told later : Told) → WalkedTo start old told → IsNext start old new event told
-    → ((early : List Traffic) → IsToldOf told early → IsToldOf later (traffic_at start (event_of event) ++ early)) → WalkedTo start new later
+pub one_walked : (start : List Replaying) (old new : GroupPlace) (event : GroupEvent) (told later : Told) → WalkedTo start old told → IsNext start old new event told
+    → ((early : List SendOrReceive) → IsToldOf told early → IsToldOf later (traffic_at start (event_of event) ++ early)) → WalkedTo start new later
 one_walked start old new event told later so_far next tells =
     let e = event_of event in
     let es = events start in
-    let more : traffic_at start e ++ traffic_of start (take old.at es) ≡ traffic_of start (take new.at es) =
+    let more : traffic_at start e ++ traffic_of_events start (take old.at es) ≡ traffic_of_events start (take new.at es) =
     one_behind start (take old.at es) e
-    ∙ ap (λ f. traffic_of start (take old.at es ++ f ∷ [])) (sym (get_or_from_slice_get es old.at e e next.at))
-    ∙ ap (traffic_of start) (sym (take_more es old.at e (slice_get_within es old.at e next.at)) ∙ ap (λ (n : ℕ). take n es) (sym next.new_at)) in
+    ∙ ap (λ f. traffic_of_events start (take old.at es ++ f ∷ [])) (sym (get_or_from_slice_get es old.at e e next.at))
+    ∙ ap (traffic_of_events start) (sym (take_more es old.at e (slice_get_within es old.at e next.at)) ∙ ap (λ (n : ℕ). take n es) (sym next.new_at)) in
     record {
       same = next.same;
-      told = subst (IsToldOf later) more (tells (traffic_of start (take old.at es)) so_far.told);
+      told = subst (IsToldOf later) more (tells (traffic_of_events start (take old.at es)) so_far.told);
     }
 
 -- ---- the numbers of the processes

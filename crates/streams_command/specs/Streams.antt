@@ -13,27 +13,27 @@ use Rattle.byte_streams.specs.declared.line.StreamLine.{StreamLine}
 use Rattle.byte_streams.specs.declared.mark.Mark.{Mark}
 use Rattle.byte_streams.specs.declared.mark.Mark.TheVariants.{Plain, Counted, Strange}
 use Rattle.byte_streams.specs.Chunk.{chunk_at}
-use Rattle.byte_streams.specs.Keys.{Streams, key_of}
-use Rattle.byte_streams.specs.Lines.{lines_of}
+use Rattle.byte_streams.specs.Keys.{ContentsByStream, key_of}
+use Rattle.byte_streams.specs.Lines.{stream_lines}
 use Rattle.byte_streams.specs.Stands.{contents}
-use Rattle.byte_streams.specs.Traffic.{Received, Sending, Sent, StreamName, Traffic, Written, counted, mark_of_receive, mark_of_send, stream_of}
-use Rattle.command_run.specs.Outcome.{CommandOutcome, Work, and_then}
+use Rattle.byte_streams.specs.Traffic.{Received, Sending, Sent, StreamName, SendOrReceive, Written, send_that_counts, mark_of_receive, mark_of_send, stream_of}
+use Rattle.command_run.specs.Outcome.{CommandOutcome, CommandWork, and_then}
 use Rattle.log_pairs.specs.Pairs.{Pair, replays_of_pairs}
 
 -- ---- the sends and receives of events
 
 -- process p took a datagram, which counts where it had a tag
-abbrev pub received : ℕ → Entry → Option Tag → List Traffic
+abbrev pub received : ℕ → Entry → Option Tag → List SendOrReceive
 received p e None = []
 received p e (Some tag) = Received (record { by = p; tag = tag; payload = e.incoming }) ∷ []
 
 -- what an event of process p, in a group of `count`, sent into the group or took from it
-abbrev pub traffic_by : Bool → Bool → ℕ → Entry → List Traffic
+abbrev pub traffic_by : Bool → Bool → ℕ → Entry → List SendOrReceive
 traffic_by true taken p e = Sent (record { from = p; clock = e.clock; to = e.call.a0; payload = e.outgoing }) ∷ []
 traffic_by false true p e = received p e e.tag
 traffic_by false false p e = []
 
-abbrev pub traffic_of_event : ℕ → ℕ → Entry → List Traffic
+abbrev pub traffic_of_event : ℕ → ℕ → Entry → List SendOrReceive
 traffic_of_event count p e = traffic_by (is_sent count e) (is_taken e) p e
 
 -- the process of a node
@@ -41,8 +41,8 @@ abbrev pub process_at : List Replaying → ℕ → ℕ
 process_at start node = slice_index_or (map (λ r. r.head.process) start) node 0
 
 -- of these events, the latest first
-abbrev pub traffic_of : List Replaying → List (NodeEvent Entry) → List Traffic
-traffic_of start es = reverse (flat_map (λ e. traffic_of_event (group_count start) (process_at start e.node) e.entry) es)
+abbrev pub traffic_of_events : List Replaying → List (NodeEvent Entry) → List SendOrReceive
+traffic_of_events start es = reverse (flat_map (λ e. traffic_of_event (group_count start) (process_at start e.node) e.entry) es)
 
 -- ---- what is said of them
 
@@ -52,13 +52,13 @@ one_if_strange Counted = 0
 one_if_strange Strange = 1
 
 -- how many sends neither go on with their stream nor repeat a part of it
-abbrev pub odd_sends : List Traffic → ℕ
+abbrev pub odd_sends : List SendOrReceive → ℕ
 odd_sends [] = 0
 odd_sends (Sent s ∷ early) = odd_sends early + one_if_strange (mark_of_send s early)
 odd_sends (Received r ∷ early) = odd_sends early
 
 -- how many receives bring what no send that counts has
-abbrev pub foreign_receives : List Traffic → ℕ
+abbrev pub foreign_receives : List SendOrReceive → ℕ
 foreign_receives [] = 0
 foreign_receives (Sent s ∷ early) = foreign_receives early
 foreign_receives (Received r ∷ early) = foreign_receives early + one_if_strange (mark_of_receive r early)
@@ -68,36 +68,36 @@ abbrev pub listed_by : Sending → Option Written → List StreamName
 listed_by s None = []
 listed_by s (Some w) = stream_of s w.piece ∷ []
 
-abbrev pub listed : List Traffic → List StreamName
+abbrev pub listed : List SendOrReceive → List StreamName
 listed [] = []
 listed (Received r ∷ early) = listed early
-listed (Sent s ∷ early) = listed_by s (counted s (chunk_at s.payload) early) ++ listed early
+listed (Sent s ∷ early) = listed_by s (send_that_counts s (chunk_at s.payload) early) ++ listed early
 
 -- each stream with a send that counts, with what was written and which positions are covered
-abbrev pub streams_in : List Traffic → Streams
+abbrev pub streams_in : List SendOrReceive → ContentsByStream
 streams_in traffic = map.from_entries (map (λ name. (key_of name, contents name traffic)) (listed traffic))
 
 -- ---- the text
 
-abbrev pub line_text : StreamLine → List ℕ
-line_text line =
+abbrev pub stream_line_text : StreamLine → List ℕ
+stream_line_text line =
     decimal line.from ++ (codes " -> " ++ (decimal line.to ++ (codes " stream " ++ (decimal line.stream ++ (codes ": "
     ++ (decimal line.written ++ (codes " written, " ++ (decimal line.read ++ codes " read\n"))))))))
 
-abbrev pub count_text : ℕ → ℕ → ℕ → List ℕ
-count_text streams odd foreign =
+abbrev pub stream_counts_text : ℕ → ℕ → ℕ → List ℕ
+stream_counts_text streams odd foreign =
     codes "streams: " ++ (decimal streams ++ (codes ", " ++ (decimal odd ++ (codes " odd, " ++ (decimal foreign ++ codes " foreign\n")))))
 
-abbrev pub text_of_lines : List StreamLine → List Traffic → List ℕ
-text_of_lines lines traffic = flat_map line_text lines ++ count_text (length lines) (odd_sends traffic) (foreign_receives traffic)
+abbrev pub text_of_lines : List StreamLine → List SendOrReceive → List ℕ
+text_of_lines lines traffic = flat_map stream_line_text lines ++ stream_counts_text (length lines) (odd_sends traffic) (foreign_receives traffic)
 
-abbrev pub streams_text : List Traffic → List ℕ
-streams_text traffic = text_of_lines (lines_of (streams_in traffic)) traffic
+abbrev pub streams_text : List SendOrReceive → List ℕ
+streams_text traffic = text_of_lines (stream_lines (streams_in traffic)) traffic
 
 -- ---- the outcome
 
-abbrev pub streams_work : List Replaying → Work
-streams_work start = record { text = streams_text (traffic_of start (events start)); writes = []; diverged = false }
+abbrev pub work_of_streams : List Replaying → CommandWork
+work_of_streams start = record { text = streams_text (traffic_of_events start (events start)); writes = []; diverged = false }
 
 abbrev pub streams_outcome : List Pair → Folder → CommandOutcome
-streams_outcome pairs folder = and_then (replays_of_pairs folder pairs) (λ start. Ok (streams_work start))
+streams_outcome pairs folder = and_then (replays_of_pairs folder pairs) (λ start. Ok (work_of_streams start))

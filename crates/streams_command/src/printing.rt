@@ -1,8 +1,8 @@
 // Prints what is said of streams.
 ghost use Rattle.std.specs.Prelude.{◌≡◌, ◌++◌, decimal, IfOk, List, OnOk};
-ghost use Rattle.byte_streams.specs.Traffic.{Traffic};
+ghost use Rattle.byte_streams.specs.Traffic.{SendOrReceive};
 ghost use Rattle.streams_command.specs.Seen.{IsToldOf};
-ghost use Rattle.streams_command.specs.Streams.{count_text, line_text, streams_text};
+ghost use Rattle.streams_command.specs.Streams.{stream_counts_text, stream_line_text, streams_text};
 
 use crate::telling::Told;
 use byte_streams::StreamLine;
@@ -18,7 +18,7 @@ fn push_number(text: &mut Text, number: u64, behind: &str) -> Result<(), AllocEr
 }
 
 fn push_line(text: &mut Text, line: StreamLine) -> Result<(), AllocError>
-    ensures { OnOk result (text.new ≡ text.old ++ line_text line) }
+    ensures { OnOk result (text.new ≡ text.old ++ stream_line_text line) }
 {
     push_number(text, u64::from(line.from), " -> ")?;
     push_number(text, u64::from(line.to), " stream ")?;
@@ -28,7 +28,7 @@ fn push_line(text: &mut Text, line: StreamLine) -> Result<(), AllocError>
 }
 
 fn push_counts(text: &mut Text, streams: u64, odd: u64, foreign: u64) -> Result<(), AllocError>
-    ensures { OnOk result (text.new ≡ text.old ++ count_text streams odd foreign) }
+    ensures { OnOk result (text.new ≡ text.old ++ stream_counts_text streams odd foreign) }
 {
     text.push_str("streams: ")?;
     push_number(text, streams, ", ")?;
@@ -38,7 +38,7 @@ fn push_counts(text: &mut Text, streams: u64, odd: u64, foreign: u64) -> Result<
 
 /// A line for each stream, and one for all.
 pub(crate) fn print(alloc: Global, told: &Told) -> Result<Text, AllocError>
-    ensures { IfOk result (λ text. (traffic : List Traffic) → IsToldOf told.now traffic → text ≡ streams_text traffic) }
+    ensures { IfOk result (λ text. (traffic : List SendOrReceive) → IsToldOf told.now traffic → text ≡ streams_text traffic) }
 {
     let mut text = Text::new(alloc);
     let lines = told.streams.lines(alloc)?;

@@ -2,7 +2,7 @@
 ghost use Rattle.std.specs.Prelude.{◌≡◌, ◌+◌, ◌<◌, ◌≤◌, ◌^◌, ◌++◌, [], List, None, OnOk};
 ghost use Rattle.std.specs.FinMap as map;
 ghost use Rattle.lib_calls.specs.Entry.{entry_of};
-ghost use Rattle.byte_streams.specs.Traffic.{Traffic};
+ghost use Rattle.byte_streams.specs.Traffic.{SendOrReceive};
 ghost use Rattle.streams_command.specs.Seen.{IsToldOf};
 ghost use Rattle.streams_command.specs.Streams.{one_if_strange, received, traffic_of_event};
 
@@ -45,7 +45,7 @@ impl Told {
     // A process took what it took.
     fn tell_receive(&mut self, process: u32, event: &GroupEvent<'_>) -> Result<(), AllocError>
         requires { self.old.foreign + 1 < 2 ^ 64 }
-        ensures { OnOk result ((early : List Traffic) → IsToldOf self.old early
+        ensures { OnOk result ((early : List SendOrReceive) → IsToldOf self.old early
             → IsToldOf self.new (received process (entry_of event.now.entry) event.now.entry.tag ++ early)) }
     {
         let entry = &event.entry;
@@ -67,7 +67,7 @@ impl Told {
         requires new { map.get self.old.streams.sends (process, event.now.entry.clock) ≡ None }
         requires odd { self.old.odd + 1 < 2 ^ 64 }
         requires foreign { self.old.foreign + 1 < 2 ^ 64 }
-        ensures { OnOk result ((early : List Traffic) → IsToldOf self.old early
+        ensures { OnOk result ((early : List SendOrReceive) → IsToldOf self.old early
             → IsToldOf self.new (traffic_of_event count process (entry_of event.now.entry) ++ early)) }
     {
         let entry = &event.entry;

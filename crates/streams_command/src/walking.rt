@@ -4,12 +4,12 @@ ghost use Rattle.command_run.specs.Run.{Performed};
 ghost use Rattle.group_state.specs.Place.{AreParts, events, group_count};
 ghost use Rattle.log_pairs.specs.Seen.{pair_of};
 ghost use Rattle.streams_command.specs.Seen.{IsToldOf};
-ghost use Rattle.streams_command.specs.Streams.{streams_outcome, streams_text, traffic_of};
+ghost use Rattle.streams_command.specs.Streams.{streams_outcome, streams_text, traffic_of_events};
 
 use crate::printing::print;
 use crate::telling::Told;
 use byte_streams::unsent_is_free;
-use command_run::{Answer, Refusal};
+use command_run::{StopCause, WorkText};
 use fri_outside::Files;
 use fri_text::Text;
 use group_state::{Group, ordered, stepwise};
@@ -43,7 +43,7 @@ fn group_count(parts: &[Replayer<'_, '_>]) -> u32
 // What the events of these logs sent and took, all told in their order.
 fn walk(alloc: Global, parts: Vec<Replayer<'_, '_>>) -> Result<Told, AllocError>
     requires { AreParts parts.items }
-    ensures { IfOk result (λ told. IsToldOf told (traffic_of parts.entry.items (events parts.entry.items))) }
+    ensures { IfOk result (λ told. IsToldOf told (traffic_of_events parts.entry.items (events parts.entry.items))) }
 {
     ordered();
     stepwise();
@@ -67,7 +67,7 @@ fn walk(alloc: Global, parts: Vec<Replayer<'_, '_>>) -> Result<Told, AllocError>
 // What is said of the streams of these logs.
 fn text_of(alloc: Global, parts: Vec<Replayer<'_, '_>>) -> Result<Text, AllocError>
     requires { AreParts parts.items }
-    ensures { IfOk result (λ text. text ≡ streams_text (traffic_of parts.entry.items (events parts.entry.items))) }
+    ensures { IfOk result (λ text. text ≡ streams_text (traffic_of_events parts.entry.items (events parts.entry.items))) }
 {
     let told = walk(alloc, parts)?;
     print(alloc, &told)
@@ -78,7 +78,7 @@ pub fn streams<F: Files>(
     alloc: Global,
     pairs: &[Pair<'_>],
     files: &mut F,
-) -> Result<Answer, Refusal>
+) -> Result<WorkText, StopCause>
     ensures performed { Performed (option_map (streams_outcome (map pair_of pairs.now)) (F.told files.old)) (λ folder. []) false
         (F.told files.old) (F.told files.new) (F.counts files.old) (F.counts files.new) result }
     ensures same { F.told files.new ≡ F.told files.old }
@@ -86,5 +86,5 @@ pub fn streams<F: Files>(
     let all = load_all(alloc, pairs, files)?;
     let parts = begin_all(alloc, &all)?;
     let text = text_of(alloc, parts)?;
-    Ok(Answer::Done(text))
+    Ok(WorkText::Done(text))
 }

@@ -10,16 +10,16 @@ use Rattle.std.proofs.lemmas.List.{length-append}
 use Rattle.fri_outside.specs.Outside.{Folder}
 use Rattle.wasm_types.specs.Modules.{Module}
 use Rattle.schedule_text.specs.Laws.{GivesSchedules}
-use Rattle.schedule_text.specs.Reading.{Refusal as ScheduleRefusal, BadLineAt, TooManyRuns, schedule_of}
+use Rattle.schedule_text.specs.Reading.{ScheduleRefusal, BadLineAt, TooManyRuns, schedule_of}
 use Rattle.schedule_text.specs.Schedule.{IsWellFormed, Schedule, is_module_name, is_visible}
 use Rattle.schedule_text.specs.declared.process.ProcessLine.{ProcessLine}
 use Rattle.group_record.specs.Answer.{first_states}
 use Rattle.group_record.specs.Images.{images_from, images_of, images as all_images}
 use Rattle.process_files.specs.Images.{mem_name, out_name}
 use Rattle.group_record.specs.Logs.{files_from, log_name, logs}
-use Rattle.group_record.specs.Run.{Group, Progress, Step, log_of}
+use Rattle.group_record.specs.Run.{GroupStart, Progress, Step, log_of}
 use Rattle.command_run.specs.declared.status.Status.TheVariants as ends
-use Rattle.command_run.specs.Outcome.{CommandOutcome, Stop, and_then, file_of, outcome_status, written_names}
+use Rattle.command_run.specs.Outcome.{CommandOutcome, CommandStop, and_then, file_of, outcome_status, written_names}
 use Rattle.command_run.specs.OutcomeLaws.{follows, same_Ok}
 use Rattle.record_command.specs.Agreement.{IsRecordable, group_in, run_in, steps_in}
 use Rattle.record_command.specs.Expected.{group_outcome, module_name, modules_of, record_outcome, schedule_in, schedule_or_refusal}
@@ -42,8 +42,8 @@ schedule_formed gives folder name schedule is =
 
 outcome_is : (images : Bool) {folder : Folder} {name : List ℕ} (r : IsRecordable folder name) → record_outcome images name folder ≡ outcome_by_room images name (group_in r) (run_in r) (run_in r).full
 outcome_is images {folder} {name} r =
-    ap (λ (s : Result Schedule Stop). and_then s (λ schedule. and_then (modules_of folder schedule.processes) (λ modules. group_outcome images name schedule (first_states schedule modules)))) r.spelled
-    ∙ ap (λ (m : Result (List Module) Stop). and_then m (λ modules. group_outcome images name r.schedule (first_states r.schedule modules))) r.found
+    ap (λ (s : Result Schedule CommandStop). and_then s (λ schedule. and_then (modules_of folder schedule.processes) (λ modules. group_outcome images name schedule (first_states schedule modules)))) r.spelled
+    ∙ ap (λ (m : Result (List Module) CommandStop). and_then m (λ modules. group_outcome images name r.schedule (first_states r.schedule modules))) r.found
     ∙ ap (group_outcome images name r.schedule) r.begins
 
 -- it is whole, and its work is that of the run
@@ -76,7 +76,7 @@ logs_made : (p : ℕ) (names : List (List ℕ)) (bytes : ℕ → List ℕ) → A
 logs_made p [] bytes = tt
 logs_made p (name ∷ names) bytes = ((name, inl refl), logs_made (suc p) names bytes)
 
-images_made : (group : Group) (steps : List Step) (p : ℕ) (names : List (List ℕ)) → AreMade (images_from group steps p names)
+images_made : (group : GroupStart) (steps : List Step) (p : ℕ) (names : List (List ℕ)) → AreMade (images_from group steps p names)
 images_made group steps p [] = tt
 images_made group steps p (name ∷ names) = ((name, inr (inl refl)), ((name, inr (inr refl)), images_made group steps (suc p) names))
 
@@ -84,7 +84,7 @@ made_if : (b : Bool) (files : List (List ℕ × List ℕ)) → AreMade files →
 made_if true files made = made
 made_if false files made = tt
 
-pub recording_made : (images : Bool) (group : Group) (done : Progress) → AreMade (logs group done.steps ++ images_of images group done)
+pub recording_made : (images : Bool) (group : GroupStart) (done : Progress) → AreMade (logs group done.steps ++ images_of images group done)
 recording_made images group done =
     both (logs group done.steps) (images_of images group done) (logs_made 0 group.names (log_of group done.steps))
     (made_if (images && is_none done.full) (all_images group done.steps) (images_made group done.steps 0 group.names))

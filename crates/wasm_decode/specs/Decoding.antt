@@ -1,6 +1,6 @@
 -- What the readers of the program give, in the words of the readers of the definitions.
 use Rattle.std.specs.Prelude.{◌≡◌, ℕ, List, Option, Some, None, Result, Ok, Err}
-use Rattle.fri_bytes.specs.Reading.{Reading}
+use Rattle.fri_bytes.specs.Reading.{CursorState}
 use Rattle.wasm_decode.specs.declared.error.DecodeError.{DecodeError}
 use Rattle.wasm_decode.specs.declared.error.DecodeError.TheVariants as errors
 
@@ -10,7 +10,7 @@ IsErrorOf errors.Malformed read = read ≡ None
 IsErrorOf errors.NoMemory read = Unit {0}
 
 -- What a function returned, seen by `view`, and the bytes that it left are what reading gives.
-abbrev pub Decodes : {X Y : Type 0} → (X → Y) → Result X DecodeError → Reading → Option (Y × List ℕ) → Type 0
+abbrev pub Decodes : {X Y : Type 0} → (X → Y) → Result X DecodeError → CursorState → Option (Y × List ℕ) → Type 0
 Decodes view (Ok x) new read = read ≡ Some (view x, new.left)
 Decodes view (Err e) new read = IsErrorOf e read
 
@@ -20,6 +20,6 @@ DecodesAll view (Ok x) read = read ≡ Some (view x)
 DecodesAll view (Err e) read = IsErrorOf e read
 
 -- the same for a function that passes over bytes
-abbrev pub Passes : Result (Unit {0}) DecodeError → Reading → Option (List ℕ) → Type 0
+abbrev pub Passes : Result (Unit {0}) DecodeError → CursorState → Option (List ℕ) → Type 0
 Passes (Ok x) new read = read ≡ Some new.left
 Passes (Err e) new read = IsErrorOf e read

@@ -10,7 +10,7 @@ use Rattle.wasm_types.specs.Context.{Context}
 use Rattle.wasm_types.specs.Labels.{Labels, table_label, has_label, is_same_label, around, block_of}
 use Rattle.wasm_types.specs.Maybe.{◌>>=◌}
 use Rattle.wasm_types.specs.Modules.{Module}
-use Rattle.wasm_types.specs.Stack.{Stack, empty_stack, jumped, is_exactly, pop_type, pop_result, push_result, jump_with}
+use Rattle.wasm_types.specs.Stack.{BlockStack, empty_stack, jumped, is_exactly, pop_type, pop_result, push_result, jump_with}
 use Rattle.wasm_types.specs.Typing.{typed_instrs}
 use Rattle.wasm_values.specs.Values.{types_of_values}
 use Rattle.wasm_step.specs.Fits.{TargetFits, known, put_type, label_of, Leaves, Fits, AfterFits}
@@ -21,26 +21,26 @@ use Rattle.wasm_step.proofs.Fits.{never_none, is_same_equal, pops_type, pops_res
 use Rattle.wasm_step.proofs.Plain.{neither, step, After', End', Before, on_top_fits, on_test_fits, on_i32_fits}
 
 -- a block's inside leaves exactly its result, and the typing goes on with that
-record Inside (result : Option ValType) (inside : Option Stack) (s : Stack) (F G : Stack → Option Stack) : Type 0 where
+record Inside (result : Option ValType) (inside : Option BlockStack) (s : BlockStack) (F G : BlockStack → Option BlockStack) : Type 0 where
   within : IsSome (inside >>= is_exactly result)
   rest : IsSome (F (push_result result s) >>= G)
 
-inside_of : (result : Option ValType) (inside : Option Stack) (s : Stack) (F G : Stack → Option Stack) → IsSome ((block_of result inside s >>= F) >>= G) → Inside result inside s F G
+inside_of : (result : Option ValType) (inside : Option BlockStack) (s : BlockStack) (F G : BlockStack → Option BlockStack) → IsSome ((block_of result inside s >>= F) >>= G) → Inside result inside s F G
 inside_of result None s F G h = never_none h
 inside_of result (Some end) s F G h = by_exact (is_exactly result end) refl h
   where
-    by_exact : (o : Option Stack) → is_exactly result end ≡ o → IsSome ((((o >>= (λ exact. Some s)) >>= (λ before. Some (push_result result before))) >>= F) >>= G) → Inside result (Some end) s F G
+    by_exact : (o : Option BlockStack) → is_exactly result end ≡ o → IsSome ((((o >>= (λ exact. Some s)) >>= (λ before. Some (push_result result before))) >>= F) >>= G) → Inside result (Some end) s F G
     by_exact None e h' = never_none h'
-    by_exact (Some x) e h' = record { within = subst (λ (o : Option Stack). IsSome o) (sym e) refl; rest = h' }
+    by_exact (Some x) e h' = record { within = subst (λ (o : Option BlockStack). IsSome o) (sym e) refl; rest = h' }
 
 -- the same of a choice's other branch, whose result nothing goes on with yet
-around_of : (result : Option ValType) (inside : Option Stack) (s : Stack) (f F G : Stack → Option Stack) → IsSome (((around result inside s >>= f) >>= F) >>= G) → IsSome (inside >>= is_exactly result) × IsSome ((f s >>= F) >>= G)
+around_of : (result : Option ValType) (inside : Option BlockStack) (s : BlockStack) (f F G : BlockStack → Option BlockStack) → IsSome (((around result inside s >>= f) >>= F) >>= G) → IsSome (inside >>= is_exactly result) × IsSome ((f s >>= F) >>= G)
 around_of result None s f F G h = never_none h
 around_of result (Some end) s f F G h = by_exact (is_exactly result end) refl h
   where
-    by_exact : (o : Option Stack) → is_exactly result end ≡ o → IsSome ((((o >>= (λ exact. Some s)) >>= f) >>= F) >>= G) → IsSome (Some end >>= is_exactly result) × IsSome ((f s >>= F) >>= G)
+    by_exact : (o : Option BlockStack) → is_exactly result end ≡ o → IsSome ((((o >>= (λ exact. Some s)) >>= f) >>= F) >>= G) → IsSome (Some end >>= is_exactly result) × IsSome ((f s >>= F) >>= G)
     by_exact None e h' = never_none h'
-    by_exact (Some x) e h' = (subst (λ (o : Option Stack). IsSome o) (sym e) refl, h')
+    by_exact (Some x) e h' = (subst (λ (o : Option BlockStack). IsSome o) (sym e) refl, h')
 
 same_label : (a b : Option ValType) → is_same_label a b ≡ true → a ≡ b
 same_label None None e = refl
@@ -191,7 +191,7 @@ module _ (m : Module) (c : Context) where
       on_i32_fits m c v _ kv (λ i.
       branch_fits m c (label_at (slice_get ns i) default) t.outer (record t { stack = rest }) a.value q.more r (table_at (labels_at m t) ns default i a.value a.is) (kr ∙ q.there)))
 
-  pub return_row_fits : (t : Thread) → RestOf m c t → Before m c Return t (types_of_values t.stack) → AfterFits m (Reduce.return_from t)
+  pub return_row_fits : (t : Thread) → RestOf m c t → Before m c Return t (types_of_values t.stack) → AfterFits m (Reduce.leave_frame t)
   return_row_fits t r h =
       let ks = types_of_values t.stack in
       let b = step (pop_result c.gives (known ks)) (λ rest. Some jumped) (After' m c t) (End' m c t) h.typed in

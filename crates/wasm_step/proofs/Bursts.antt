@@ -17,7 +17,7 @@ use Rattle.wasm_store.specs.Suits.{Suits}
 use Rattle.wasm_step.specs.Fits.{Leaves, Fits, HaltFits, AfterFits, BurstFits, StandsFit}
 use Rattle.wasm_step.specs.Reduce.{Both, Halt, Traps, After, Goes, Stops, instr_row, reduce, limited, ended, at_trap}
 use Rattle.wasm_store.specs.Store.{Store}
-use Rattle.wasm_step.specs.Thread.{Thread, with_operand, is_within, depth}
+use Rattle.wasm_step.specs.Thread.{Thread, with_operand, fits_limits, depth}
 use Rattle.wasm_step.proofs.Branches.{block_fits, loop_fits, choose_fits, br_fits, br_if_fits, br_table_fits, return_row_fits}
 use Rattle.wasm_step.proofs.Callees.{call_row_fits, call_indirect_fits}
 use Rattle.wasm_step.proofs.Fits.{never_none, RestOf, labels_at, goes, rest_of, ended_fits}
@@ -74,7 +74,7 @@ module _ (agree : TypesAgree) (m : Module) where
   limited_fits : (a : After) → AfterFits m a → AfterFits m (limited a)
   limited_fits (Stops s) h = h
   limited_fits (Goes t) h =
-      elim (is_within t) as (λ b. AfterFits m (if b then Goes t else at_trap Exhausted)) [ true ↦ h | false ↦ tt ]
+      elim (fits_limits t) as (λ b. AfterFits m (if b then Goes t else at_trap Exhausted)) [ true ↦ h | false ↦ tt ]
 
   -- ---- the ends, and bursts
 

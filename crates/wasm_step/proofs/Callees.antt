@@ -14,7 +14,7 @@ use Rattle.wasm_types.specs.Floats.{have_float, is_float, has_float_func}
 use Rattle.wasm_types.specs.Maybe.{◌>>=◌}
 use Rattle.wasm_types.specs.Modules.{Module, Func, FuncType}
 use Rattle.wasm_types.specs.Rules.{IsTypedFunc}
-use Rattle.wasm_types.specs.Stack.{Stack, is_same, pop_type, pop_each, pop_types, push_result, operate}
+use Rattle.wasm_types.specs.Stack.{BlockStack, is_same, pop_type, pop_each, pop_types, push_result, operate}
 use Rattle.wasm_types.specs.Typing.{IsWellTyped}
 use Rattle.wasm_types.specs.Valid.{IsValid}
 use Rattle.wasm_types.specs.declared.traps.Trap.TheVariants as traps
@@ -81,16 +81,16 @@ body_fits m f func type v own at =
 
 -- ---- arguments
 
-record PopsEach (ts ks : List ValType) (below : Stack) : Type 0 where
+record PopsEach (ts ks : List ValType) (below : BlockStack) : Type 0 where
   more : List ValType
   there : ks ≡ ts ++ more
   left : below ≡ known more
 
-pops_each : (ts ks : List ValType) (s : Stack) → pop_each ts (known ks) ≡ Some s → PopsEach ts ks s
+pops_each : (ts ks : List ValType) (s : BlockStack) → pop_each ts (known ks) ≡ Some s → PopsEach ts ks s
 pops_each [] ks s e = record { more = ks; there = refl; left = let h : known ks ≡ s = cc in sym h }
 pops_each (t ∷ ts) ks s e = by_case (pop_type t (known ks)) refl e (λ ks' e'. pops_each ts ks' s e')
   where
-    by_case : (o : Option Stack) → pop_type t (known ks) ≡ o → (o >>= pop_each ts) ≡ Some s → ((ks' : List ValType) → pop_each ts (known ks') ≡ Some s → PopsEach ts ks' s) → PopsEach (t ∷ ts) ks s
+    by_case : (o : Option BlockStack) → pop_type t (known ks) ≡ o → (o >>= pop_each ts) ≡ Some s → ((ks' : List ValType) → pop_each ts (known ks') ≡ Some s → PopsEach ts ks' s) → PopsEach (t ∷ ts) ks s
     by_case None q e' next = cc
     by_case (Some below) q e' next =
         let p = pops_type t ks below q in
@@ -195,7 +195,7 @@ module _ (m : Module) (c : Context) where
       by_place false i (Some func) ei eo e = own_fits t f func type more v r eo e h l
 
   -- what the typing of a call says
-  record Typed (types : List FuncType) (k : ℕ) (ks : List ValType) (F G : Stack → Option Stack) : Type 0 where
+  record Typed (types : List FuncType) (k : ℕ) (ks : List ValType) (F G : BlockStack → Option BlockStack) : Type 0 where
     callee : FuncType
     at : slice_get types k ≡ Some callee
     more : List ValType
@@ -206,7 +206,7 @@ module _ (m : Module) (c : Context) where
   put_push None ks = refl
   put_push (Some k) ks = refl
 
-  typed_call : (types : List FuncType) (k : ℕ) (ks : List ValType) (F G : Stack → Option Stack) → IsSome ((call_type types k (known ks) >>= F) >>= G) → Typed types k ks F G
+  typed_call : (types : List FuncType) (k : ℕ) (ks : List ValType) (F G : BlockStack → Option BlockStack) → IsSome ((call_type types k (known ks) >>= F) >>= G) → Typed types k ks F G
   typed_call types k ks F G h =
       let a = step (slice_get types k) (λ (callee : FuncType). operate callee.params (result_of callee) (known ks)) F G h in
       let b = step (pop_types a.value.params (known ks)) (λ rest. Some (push_result (result_of a.value) rest)) F G a.rest in

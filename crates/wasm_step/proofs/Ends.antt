@@ -5,7 +5,7 @@ use Rattle.wasm_types.specs.declared.code.Value.{Value}
 use Rattle.wasm_types.specs.declared.code.Value.TheVariants.{I32, I64}
 use Rattle.wasm_types.specs.Code.{Trees}
 use Rattle.wasm_step.specs.Limits.{Within}
-use Rattle.wasm_step.specs.Reduce.{After, Goes, Stops, at_end, branch, branch_if, branch_table, carried, ended, jump_by, label_at, landed, past, resumed, return_from, with_carried}
+use Rattle.wasm_step.specs.Reduce.{After, Goes, Stops, at_end, branch, branch_if, branch_table, carried, ended, jump_by, label_at, landed, past, resumed, leave_frame, with_carried}
 use Rattle.wasm_step.specs.Thread.{Level, Frame, Thread, closed, closed_to, left, left_to, size_of_frames, size_of_levels}
 use Rattle.wasm_step.proofs.LevelEnds.{within_closed}
 
@@ -30,7 +30,7 @@ frame_end_within false stack t q h u e = resumed_within t.callers None h.frames 
 frame_end_within true [] t q h u e = cc
 frame_end_within true (v ∷ rest) t q h u e = resumed_within t.callers (Some v) h.frames (omega (arith, h.size, ap length q)) u e
 
-pub return_within : (t : Thread) → Within t → StaysWithin (return_from t)
+pub return_within : (t : Thread) → Within t → StaysWithin (leave_frame t)
 return_within t h = frame_end_within t.returns t.stack t refl h
 
 landed_within : (outer : List Level) (o : Option Value) (t : Thread) (target : Trees) → t.outer ≡ outer → length t.callers < 512 → count_of o + (size_of_levels t.outer + length t.locals + size_of_frames t.callers) ≤ 16384 → StaysWithin (landed (closed_to outer (record t { stack = [] })) (record t { stack = [] }) target o)

@@ -11,10 +11,10 @@ use Rattle.wasm_types.specs.Context.{Context}
 use Rattle.wasm_types.specs.Labels.{Labels}
 use Rattle.wasm_types.specs.Maybe.{◌>>=◌}
 use Rattle.wasm_types.specs.Modules.{Module}
-use Rattle.wasm_types.specs.Stack.{Stack, is_same, is_exactly, pop_type, pop_result}
+use Rattle.wasm_types.specs.Stack.{BlockStack, is_same, is_exactly, pop_type, pop_result}
 use Rattle.wasm_values.specs.Values.{type_of_value, types_of_values}
 use Rattle.wasm_step.specs.Fits.{TargetFits, known, put_type, label_of, labels_of, Leaves, LevelsFit, IsContext, FramesFit, Fits, AfterFits}
-use Rattle.wasm_step.specs.Reduce.{jump_by, After, carried, carry_top, with_carried, with_result, resumed, return_from, landed, jump, branch, at_end, ended}
+use Rattle.wasm_step.specs.Reduce.{jump_by, After, carried, carry_top, with_carried, with_result, resumed, leave_frame, landed, jump, branch, at_end, ended}
 use Rattle.wasm_step.specs.Strand.{IsResult}
 use Rattle.wasm_step.specs.Thread.{Level, Frame, Thread, with_operand, closed, closed_to, left, left_to}
 
@@ -44,13 +44,13 @@ is_same_equal types.F64 types.I64 e = cc
 is_same_equal types.F64 types.F32 e = cc
 
 -- what is below an operand that is popped: the operand has the type
-pub record PopsType (k : ValType) (ks : List ValType) (below : Stack) : Type 0 where
+pub record PopsType (k : ValType) (ks : List ValType) (below : BlockStack) : Type 0 where
   pub more : List ValType
   pub there : ks ≡ k ∷ more
   pub left : below ≡ known more
 
 -- popping a type from operands that are known
-pub pops_type : (k : ValType) (ks : List ValType) (s : Stack) → pop_type k (known ks) ≡ Some s → PopsType k ks s
+pub pops_type : (k : ValType) (ks : List ValType) (s : BlockStack) → pop_type k (known ks) ≡ Some s → PopsType k ks s
 pops_type k [] s e = cc
 pops_type k (j ∷ ks) s e = by_case (is_same j k) refl e
   where
@@ -59,23 +59,23 @@ pops_type k (j ∷ ks) s e = by_case (is_same j k) refl e
     by_case false q e' = cc
 
 -- the same of a result, if there is one
-pub record PopsResult (o : Option ValType) (ks : List ValType) (below : Stack) : Type 0 where
+pub record PopsResult (o : Option ValType) (ks : List ValType) (below : BlockStack) : Type 0 where
   pub more : List ValType
   pub there : ks ≡ put_type o more
   pub left : below ≡ known more
 
-pub pops_result : (o : Option ValType) (ks : List ValType) (s : Stack) → pop_result o (known ks) ≡ Some s → PopsResult o ks s
+pub pops_result : (o : Option ValType) (ks : List ValType) (s : BlockStack) → pop_result o (known ks) ≡ Some s → PopsResult o ks s
 pops_result None ks s e = record { more = ks; there = refl; left = let h : known ks ≡ s = cc in sym h }
 pops_result (Some k) ks s e =
     let p = pops_type k ks s e in record { more = p.more; there = p.there; left = p.left }
 
 -- the result of a step that has one, and the rest
-pub record Taken {A : Type 0} (o : Option A) (f : A → Option Stack) (g : Stack → Option Stack) : Type 0 where
+pub record Taken {A : Type 0} (o : Option A) (f : A → Option BlockStack) (g : BlockStack → Option BlockStack) : Type 0 where
   pub value : A
   pub is : o ≡ Some value
   pub rest : IsSome (f value >>= g)
 
-pub taken : {A : Type 0} (o : Option A) (f : A → Option Stack) (g : Stack → Option Stack) → IsSome ((o >>= f) >>= g) → Taken o f g
+pub taken : {A : Type 0} (o : Option A) (f : A → Option BlockStack) (g : BlockStack → Option BlockStack) → IsSome ((o >>= f) >>= g) → Taken o f g
 taken None f g h = never_none h
 taken (Some a) f g h = record { value = a; is = refl; rest = h }
 
@@ -175,7 +175,7 @@ module _ (m : Module) where
       let t : Thread = record { gives = f.here.gives; todo = f.here.todo; stack = f.here.stack; target = f.here.target; carries = f.here.carries; loops = f.here.loops; outer = f.outer; func = f.func; locals = f.locals; returns = f.returns; callers = fs } in
       with_result_fits h.0.context k o t (h.0.function, h.0.locals, h.0.returns, h.0.around, h.1) h.0.todo is
 
-  pub return_fits : (t : Thread) (k : Option ValType) (more : List ValType) → t.returns ≡ is_some k → FramesFit m k t.callers → types_of_values t.stack ≡ put_type k more → AfterFits m (return_from t)
+  pub return_fits : (t : Thread) (k : Option ValType) (more : List ValType) → t.returns ≡ is_some k → FramesFit m k t.callers → types_of_values t.stack ≡ put_type k more → AfterFits m (leave_frame t)
   return_fits t k more b frames e =
       carried_fits t.returns k t (λ o u. resumed (left u) o) more b e (λ o rest is _. resumed_fits t.callers k o frames is)
 

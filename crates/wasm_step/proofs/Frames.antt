@@ -6,7 +6,7 @@ use Rattle.wasm_types.specs.declared.code.Value.{Value}
 use Rattle.wasm_types.specs.Code.{trees}
 use Rattle.wasm_types.specs.Locals.{zeros}
 use Rattle.wasm_types.specs.Modules.{Func}
-use Rattle.wasm_step.specs.declared.stack.Held.{Held}
+use Rattle.wasm_step.specs.declared.stack.StackFrame.{StackFrame}
 use Rattle.wasm_step.specs.declared.stack.Stack.TheInside.{Inside}
 use Rattle.wasm_step.specs.Limits.{Within}
 use Rattle.wasm_step.specs.Thread.{Thread, arguments, called_with, entered, size_of_thread, without}
@@ -46,7 +46,7 @@ module _ (t : Thread) (above n : ℕ) (kept args gone : List Value) (stack : t.s
 
 -- the frame of a function is entered below so many operands that go: its arguments, the last n below those, are the first
 -- of its locals, and the operands up to `first` stay
-pub record IsEntered (s : Inside) (func : Func) (above n first : ℕ) (here : Held) (operands locals : Vec Value Global) (callers : Vec Held Global) : Type 0 where
+pub record IsEntered (s : Inside) (func : Func) (above n first : ℕ) (here : StackFrame) (operands locals : Vec Value Global) (callers : Vec StackFrame Global) : Type 0 where
   pub split : first + n + above ≡ length s.operands.items
   pub enough : s.here.floor ≤ first
   pub operands_are : operands.items ≡ take first s.operands.items
@@ -59,7 +59,7 @@ pub record IsEntered (s : Inside) (func : Func) (above n first : ℕ) (here : He
   pub locals_are : locals.items ≡ (s.locals.items ++ take n (drop first s.operands.items)) ++ zeros func.locals
   pub callers_are : callers.items ≡ s.callers.items ++ s.here ∷ []
 
-module _ (s : Inside) (func : Func) (above n first : ℕ) (here : Held) (operands locals : Vec Value Global) (callers : Vec Held Global) (room : ℕ) (h : IsStack s) (e : IsEntered s func above n first here operands locals callers) where
+module _ (s : Inside) (func : Func) (above n first : ℕ) (here : StackFrame) (operands locals : Vec Value Global) (callers : Vec StackFrame Global) (room : ℕ) (h : IsStack s) (e : IsEntered s func above n first here operands locals callers) where
   abbrev args : List Value
   args = take n (drop first s.operands.items)
 

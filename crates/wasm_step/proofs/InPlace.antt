@@ -16,7 +16,7 @@ use Rattle.wasm_step.specs.declared.stack.Stack.TheInside.{Inside}
 use Rattle.wasm_step.specs.Burst.{At, settle, burst}
 use Rattle.wasm_step.specs.Limits.{Within}
 use Rattle.wasm_step.specs.Reduce.{Both, After, Goes, Stops, limited, numeric, put_computed, instr_row, at_trap, with_top}
-use Rattle.wasm_step.specs.Thread.{Thread, is_within, size_of_thread, with_operand}
+use Rattle.wasm_step.specs.Thread.{Thread, fits_limits, size_of_thread, with_operand}
 use Rattle.wasm_step.specs.View.{IsStack, thread_of}
 use Rattle.wasm_step.proofs.Runs.{settle_here, burst_on}
 use Rattle.wasm_step.proofs.Views.{IsSound-operands, keeps_popped, keeps_pushed, popped_view, pushed_view}
@@ -35,13 +35,13 @@ same_types_itself (v ∷ vs) = ap (λ b. b && same_types vs vs) (same_type_itsel
 pub same_as_itself : (type : FuncType) → same_type type type ≡ true
 same_as_itself type = ap (λ b. b && same_types type.results type.results) (same_types_itself type.params) ∙ same_types_itself type.results
 
-pub within_is : (t : Thread) → Within t → is_within t ≡ true
+pub within_is : (t : Thread) → Within t → fits_limits t ≡ true
 within_is t h =
     let size : size_of_thread t + 0 ≤ 16384 = omega (arith, h.size) in
     let frames = h.frames in
     search (rules, tests)
 
-pub is_within_of : (t : Thread) → is_within t ≡ true → Within t
+pub is_within_of : (t : Thread) → fits_limits t ≡ true → Within t
 is_within_of t e =
     let p = and_parts (nat_lt (length t.callers) 512) (nat_le (size_of_thread t + 0) 16384) e in
     record { frames = ltb-true (length t.callers) 512 p.0; size = omega (arith, leb-true (size_of_thread t + 0) 16384 p.1) }
@@ -49,9 +49,9 @@ is_within_of t e =
 -- what goes on after the test of the limits is within them
 pub limited_within : (a : After) (u : Thread) → limited a ≡ Goes u → Within u
 limited_within (Stops s) u e = cc
-limited_within (Goes t) u e = by_test (is_within t) refl e
+limited_within (Goes t) u e = by_test (fits_limits t) refl e
   where
-    by_test : (b : Bool) → is_within t ≡ b → (if b then Goes t else at_trap Exhausted) ≡ Goes u → Within u
+    by_test : (b : Bool) → fits_limits t ≡ b → (if b then Goes t else at_trap Exhausted) ≡ Goes u → Within u
     by_test true q e' = let same : t ≡ u = cc in subst (λ (t : Thread). Within t) same (is_within_of t q)
     by_test false q e' = cc
 

@@ -10,7 +10,7 @@ use Rattle.wasm_types.specs.declared.code.Instr.TheVariants as instr
 use Rattle.wasm_types.specs.Code.{Tree, Trees, Block, Loop, If, tree, trees}
 use Rattle.wasm_types.specs.CodeLaws.{tree-block, tree-if, tree-loop}
 use Rattle.wasm_store.specs.Store.{Store}
-use Rattle.wasm_step.specs.declared.stack.Label.{Label}
+use Rattle.wasm_step.specs.declared.stack.StackLevel.{StackLevel}
 use Rattle.wasm_step.specs.Burst.{after_both, one_step_at, settle, spent, burst}
 use Rattle.wasm_step.specs.Limits.{Within}
 use Rattle.wasm_step.specs.View.{and_close, closed_by, entered_by, levels_of}
@@ -18,7 +18,7 @@ use Rattle.wasm_step.specs.Reduce.{Goes, ended, branch, jump, keep, on_test, pas
 use Rattle.wasm_step.specs.Thread.{Level, Frame, Thread, is_end, closed, closed_to, depth, opened, size_of_thread, size_of_frames, size_of_levels, waiting}
 use Rattle.wasm_step.proofs.Runs.{none_left, settle_end}
 
-pub outer_is : (gives : Option ValType) (ls : List Label) (ops : List Value) (t : Thread) → is_some (closed_to (levels_of gives ls ops) t) ≡ nat_lt 0 (length ls)
+pub outer_is : (gives : Option ValType) (ls : List StackLevel) (ops : List Value) (t : Thread) → is_some (closed_to (levels_of gives ls ops) t) ≡ nat_lt 0 (length ls)
 outer_is gives [] ops t = refl
 outer_is gives (l ∷ ls) ops t = sym (lt-ltb 0 (suc (length ls)) (omega arith))
 

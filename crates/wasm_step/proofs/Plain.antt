@@ -14,7 +14,7 @@ use Rattle.wasm_types.specs.Floats.{have_float, is_float_operator}
 use Rattle.wasm_types.specs.Maybe.{◌>>=◌}
 use Rattle.wasm_types.specs.Modules.{Module}
 use Rattle.wasm_types.specs.Numeric.{Operator, operator_of}
-use Rattle.wasm_types.specs.Stack.{Stack, is_exactly, pop_type, push_result, operate, push}
+use Rattle.wasm_types.specs.Stack.{BlockStack, is_exactly, pop_type, push_result, operate, push}
 use Rattle.wasm_types.specs.Typing.{typed_instrs}
 use Rattle.wasm_values.specs.Values.{type_of_value, types_of_values}
 use Rattle.wasm_step.specs.Fits.{known, Leaves, AfterFits}
@@ -33,21 +33,21 @@ neither false true e = cc
 neither true b e = cc
 
 -- a step of three has a result, from which the other two go on
-pub record Step {A : Type 0} (o : Option A) (f : A → Option Stack) (F G : Stack → Option Stack) : Type 0 where
+pub record Step {A : Type 0} (o : Option A) (f : A → Option BlockStack) (F G : BlockStack → Option BlockStack) : Type 0 where
   pub value : A
   pub is : o ≡ Some value
   pub rest : IsSome ((f value >>= F) >>= G)
 
-pub step : {A : Type 0} (o : Option A) (f : A → Option Stack) (F G : Stack → Option Stack) → IsSome (((o >>= f) >>= F) >>= G) → Step o f F G
+pub step : {A : Type 0} (o : Option A) (f : A → Option BlockStack) (F G : BlockStack → Option BlockStack) → IsSome (((o >>= f) >>= F) >>= G) → Step o f F G
 step None f F G h = never_none h
 step (Some a) f F G h = record { value = a; is = refl; rest = h }
 
-pub record Last (o : Option Stack) (F G : Stack → Option Stack) : Type 0 where
-  pub value : Stack
+pub record Last (o : Option BlockStack) (F G : BlockStack → Option BlockStack) : Type 0 where
+  pub value : BlockStack
   pub is : o ≡ Some value
   pub rest : IsSome (F value >>= G)
 
-pub last : (o : Option Stack) (F G : Stack → Option Stack) → IsSome ((o >>= F) >>= G) → Last o F G
+pub last : (o : Option BlockStack) (F G : BlockStack → Option BlockStack) → IsSome ((o >>= F) >>= G) → Last o F G
 last None F G h = never_none h
 last (Some s) F G h = record { value = s; is = refl; rest = h }
 
@@ -71,10 +71,10 @@ written_within vs ks x k a b =
 
 module _ (m : Module) (c : Context) where
   -- what is typed after an instruction, from a stack
-  abbrev pub After' : Thread → Stack → Option Stack
+  abbrev pub After' : Thread → BlockStack → Option BlockStack
   After' t = typed_instrs c t.todo (labels_at m t)
 
-  abbrev pub End' : Thread → Stack → Option Stack
+  abbrev pub End' : Thread → BlockStack → Option BlockStack
   End' t = is_exactly t.gives
 
   abbrev pub Before : Tree → Thread → List ValType → Type 0
@@ -170,7 +170,7 @@ module _ (m : Module) (c : Context) where
       (on_top_fits t _ t.stack k p.more p.there (λ v rest kv kr.
       put_computed_fits (unary op v) j (record t { stack = rest }) r (f v kv) (subst (λ ks. LeavesAt m c t (j ∷ ks)) (sym kr) left)))
     where
-      regroup : (o : Option Stack) → IsSome ((((o >>= (λ s. Some s)) >>= (λ rest. Some (push_result (Some j) rest))) >>= After' t) >>= End' t) → IsSome (((o >>= (λ rest. Some (push (Some j) rest))) >>= After' t) >>= End' t)
+      regroup : (o : Option BlockStack) → IsSome ((((o >>= (λ s. Some s)) >>= (λ rest. Some (push_result (Some j) rest))) >>= After' t) >>= End' t) → IsSome (((o >>= (λ rest. Some (push (Some j) rest))) >>= After' t) >>= End' t)
       regroup None h = h
       regroup (Some s) h = h
 
@@ -188,11 +188,11 @@ module _ (m : Module) (c : Context) where
       on_top_fits (record t { stack = rest }) _ rest k q.more (kr ∙ q.there) (λ x rest' kx kr'.
       put_computed_fits (binary op x y) j (record t { stack = rest' }) r (f x y kx ky) (subst (λ ks. LeavesAt m c t (j ∷ ks)) (sym kr') left))))
     where
-      inner : (o : Option Stack) → IsSome ((((o >>= (λ s. Some s)) >>= (λ rest. Some (push_result (Some j) rest))) >>= After' t) >>= End' t) → IsSome (((o >>= (λ rest. Some (push (Some j) rest))) >>= After' t) >>= End' t)
+      inner : (o : Option BlockStack) → IsSome ((((o >>= (λ s. Some s)) >>= (λ rest. Some (push_result (Some j) rest))) >>= After' t) >>= End' t) → IsSome (((o >>= (λ rest. Some (push (Some j) rest))) >>= After' t) >>= End' t)
       inner None h = h
       inner (Some s) h = h
 
-      regroup : (o : Option Stack) → IsSome ((((o >>= (λ s. pop_type k s >>= (λ s. Some s))) >>= (λ rest. Some (push_result (Some j) rest))) >>= After' t) >>= End' t) → IsSome (((o >>= (λ s. pop_type k s >>= (λ rest. Some (push (Some j) rest)))) >>= After' t) >>= End' t)
+      regroup : (o : Option BlockStack) → IsSome ((((o >>= (λ s. pop_type k s >>= (λ s. Some s))) >>= (λ rest. Some (push_result (Some j) rest))) >>= After' t) >>= End' t) → IsSome (((o >>= (λ s. pop_type k s >>= (λ rest. Some (push (Some j) rest)))) >>= After' t) >>= End' t)
       regroup None h = h
       regroup (Some s) h = inner (pop_type k s) h
 

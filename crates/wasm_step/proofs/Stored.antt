@@ -15,7 +15,7 @@ use Rattle.wasm_types.specs.Context.{Context}
 use Rattle.wasm_types.specs.Floats.{have_float, is_float_access}
 use Rattle.wasm_types.specs.Maybe.{◌>>=◌}
 use Rattle.wasm_types.specs.Modules.{Module, GlobalDef, GlobalType, global_type}
-use Rattle.wasm_types.specs.Stack.{Stack, push, push_result, pop_type, operate}
+use Rattle.wasm_types.specs.Stack.{BlockStack, push, push_result, pop_type, operate}
 use Rattle.wasm_values.specs.Access.{load_value}
 use Rattle.wasm_values.specs.Values.{bits_of, type_of_value, types_of_values}
 use Rattle.wasm_store.specs.Suits.{Suits}
@@ -96,7 +96,7 @@ module _ (m : Module) (c : Context) (g : Store) (same : g.«module» ≡ m) (sui
           set_fits x k.value_type p.more t.stack t r at p.there (record { typed = subst (λ s. IsSome (After' m c t s >>= End' m c t)) p.left b.rest; no_float = h.no_float })
 
   -- one operand of 32 bits, and a result
-  regroup_1 : (o : Option Stack) (k : Option ValType) (t : Thread) → IsSome ((((o >>= (λ s. Some s)) >>= (λ rest. Some (push_result k rest))) >>= After' m c t) >>= End' m c t) → IsSome (((o >>= (λ rest. Some (push_result k rest))) >>= After' m c t) >>= End' m c t)
+  regroup_1 : (o : Option BlockStack) (k : Option ValType) (t : Thread) → IsSome ((((o >>= (λ s. Some s)) >>= (λ rest. Some (push_result k rest))) >>= After' m c t) >>= End' m c t) → IsSome (((o >>= (λ rest. Some (push_result k rest))) >>= After' m c t) >>= End' m c t)
   regroup_1 None k t h = h
   regroup_1 (Some s) k t h = h
 
@@ -160,11 +160,11 @@ module _ (m : Module) (c : Context) (g : Store) (same : g.«module» ≡ m) (sui
       let left : LeavesAt m c t q.more = record { typed = subst (λ s. IsSome (F s >>= G)) q.left d.rest; no_float = nf } in
       write_fits op offset a.moved q.more t.stack t r f (p.there ∙ ap (λ ks. a.moved ∷ ks) q.there) left
     where
-      inner : (o : Option Stack) → IsSome ((((o >>= (λ s. Some s)) >>= (λ rest. Some (push_result None rest))) >>= After' m c t) >>= End' m c t) → IsSome (((o >>= (λ rest. Some rest)) >>= After' m c t) >>= End' m c t)
+      inner : (o : Option BlockStack) → IsSome ((((o >>= (λ s. Some s)) >>= (λ rest. Some (push_result None rest))) >>= After' m c t) >>= End' m c t) → IsSome (((o >>= (λ rest. Some rest)) >>= After' m c t) >>= End' m c t)
       inner None h = h
       inner (Some s) h = h
 
-      outer : (o : Option Stack) → IsSome ((((o >>= (λ s. pop_type types.I32 s >>= (λ s. Some s))) >>= (λ rest. Some (push_result None rest))) >>= After' m c t) >>= End' m c t) → IsSome (((o >>= (λ s. pop_type types.I32 s >>= (λ rest. Some rest))) >>= After' m c t) >>= End' m c t)
+      outer : (o : Option BlockStack) → IsSome ((((o >>= (λ s. pop_type types.I32 s >>= (λ s. Some s))) >>= (λ rest. Some (push_result None rest))) >>= After' m c t) >>= End' m c t) → IsSome (((o >>= (λ s. pop_type types.I32 s >>= (λ rest. Some rest))) >>= After' m c t) >>= End' m c t)
       outer None h = h
       outer (Some s) h = inner (pop_type types.I32 s) h
 

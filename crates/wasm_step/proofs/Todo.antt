@@ -12,7 +12,7 @@ use Rattle.wasm_step.specs.declared.halt.Next.TheVariants.{Going}
 use Rattle.wasm_step.specs.Answer.{after_of, halt_of, way_of}
 use Rattle.wasm_step.specs.Burst.{At, burst, settle}
 use Rattle.wasm_step.specs.Limits.{Within}
-use Rattle.wasm_step.specs.Reduce.{Both, Halt, After, Goes, Stops, at_end, carried, ended, instr_row, keep, limited, reduce, resumed, return_from, with_carried}
+use Rattle.wasm_step.specs.Reduce.{Both, Halt, After, Goes, Stops, at_end, carried, ended, instr_row, keep, limited, reduce, resumed, leave_frame, with_carried}
 use Rattle.wasm_step.specs.Thread.{Level, Thread, closed, closed_to, is_end, left}
 use Rattle.wasm_step.proofs.LevelEnds.{end_same, within_elsewhere}
 use Rattle.wasm_step.proofs.InPlace.{step_by}
@@ -53,7 +53,7 @@ ended_same T t = ap (λ (o : Option Thread). at_end o (record t { todo = T })) (
 pub closing : (t u : Thread) → closed t ≡ Some u → Goes u ≡ ended t
 closing t u e = sym (ap (λ (o : Option Thread). at_end o t) e)
 
-pub returning : (t : Thread) (a : After) → closed t ≡ None → a ≡ return_from t → a ≡ ended t
+pub returning : (t : Thread) (a : After) → closed t ≡ None → a ≡ leave_frame t → a ≡ ended t
 returning t a e goes = goes ∙ sym (ap (λ (o : Option Thread). at_end o t) e)
 
 module _ (xs : List Instr) (t : Thread) (none : length xs < 1) where

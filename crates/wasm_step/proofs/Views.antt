@@ -10,15 +10,15 @@ use Rattle.wasm_types.specs.declared.code.Instr.{Instr}
 use Rattle.wasm_types.specs.declared.code.Instr.TheOpen.{Instr-F}
 use Rattle.wasm_types.specs.declared.code.Instr.TheVariants as instr
 use Rattle.wasm_types.specs.declared.code.Instr.TheViews.{roll-Instr, roll-out-Instr, out-Instr}
-use Rattle.wasm_step.specs.declared.stack.Label.{Label}
-use Rattle.wasm_step.specs.declared.stack.Held.{Held}
+use Rattle.wasm_step.specs.declared.stack.StackLevel.{StackLevel}
+use Rattle.wasm_step.specs.declared.stack.StackFrame.{StackFrame}
 use Rattle.wasm_step.specs.declared.stack.Stack.TheInside.{Inside}
 use Rattle.wasm_types.specs.Code.{Trees, tree, trees}
 use Rattle.wasm_step.specs.Thread.{Thread, with_operand, closed, closed_to, left, left_to, without, arguments, size_of_levels, size_of_frames, size_of_thread, has_frame_room, has_room}
 use Rattle.wasm_step.specs.View.{and_close, closed_by, entered_by, Opened, opened_as, opened_by, given_by, repeated_by, innermost, levels_of, frame_labels, frames_of, thread_in, thread_of, AreCut, IsPart, AreFrameParts, IsStack}
 
 -- a frame's operands begin below those of each of its levels
-pub AreCut-low : (bottom : ℕ) (ls : List Label) (top : ℕ) → AreCut bottom ls top → bottom ≤ top
+pub AreCut-low : (bottom : ℕ) (ls : List StackLevel) (top : ℕ) → AreCut bottom ls top → bottom ≤ top
 AreCut-low bottom [] top h = omega arith
 AreCut-low bottom (l ∷ ls) top h = omega (arith, AreCut-low bottom ls l.floor h.1, h.0)
 
@@ -106,7 +106,7 @@ drop_parts m n xs le in_xs =
     ap (λ o. drop m o) (sym (take-append-drop n xs)) ∙ drop-append-le m (take n xs) (drop n xs) low
 
 -- a level's end: the label that lies on top of the others is the innermost
-pub closed_in : (f : Held) (labels w : List Label) (locals ops : List Value) (callers : List Held) (l : Label) → IsPart f labels locals ops → f.labels_from < length labels → labels ≡ w ++ l ∷ [] → closed (thread_in f labels locals ops callers) ≡ Some (thread_in (record f { todo = l.todo; floor = l.floor }) w locals ops callers)
+pub closed_in : (f : StackFrame) (labels w : List StackLevel) (locals ops : List Value) (callers : List StackFrame) (l : StackLevel) → IsPart f labels locals ops → f.labels_from < length labels → labels ≡ w ++ l ∷ [] → closed (thread_in f labels locals ops callers) ≡ Some (thread_in (record f { todo = l.todo; floor = l.floor }) w locals ops callers)
 closed_in f labels w locals ops callers l h lt e =
     let from = f.labels_from in
     let within : from ≤ length w = omega (arith, ap length e, length-append w (l ∷ []), lt) in
@@ -117,7 +117,7 @@ closed_in f labels w locals ops callers l h lt e =
     let lower = ap (λ o. take from o) e ∙ take-append-le from w (l ∷ []) within in
     ap (λ ls. closed_to (levels_of f.gives ls (take f.floor ops)) (thread_in f labels locals ops callers)) ls ∙ (cc)
 
-pub closed_view : (s : Inside) (w : Vec Label Global) (l : Label) → IsStack s → s.here.labels_from < length s.labels.items → s.labels.items ≡ w.items ++ l ∷ [] → closed (thread_of s) ≡ Some (thread_of (record s { labels = w; here = record s.here { todo = l.todo; floor = l.floor } }))
+pub closed_view : (s : Inside) (w : Vec StackLevel Global) (l : StackLevel) → IsStack s → s.here.labels_from < length s.labels.items → s.labels.items ≡ w.items ++ l ∷ [] → closed (thread_of s) ≡ Some (thread_of (record s { labels = w; here = record s.here { todo = l.todo; floor = l.floor } }))
 closed_view s w l h lt e = closed_in s.here s.labels.items w.items s.locals.items s.operands.items s.callers.items l h.part lt e
 
 -- a local of the innermost frame
@@ -169,22 +169,22 @@ module _ (s : Inside) (n : ℕ) (h : IsStack s) (le : n ≤ length s.operands.it
       ∙ ap (λ o. record (thread_of s) { stack = o }) (ap reverse part ∙ sym (split_reverse xs m n kept_arguments).1)
 
 -- the sizes
-size_of_cut : (gives : Option ValType) (bottom : ℕ) (ls : List Label) (ops : List Value) (top : ℕ) → top ≡ length ops → AreCut bottom ls top → size_of_levels (levels_of gives ls ops) + bottom ≡ length ls + length ops
+size_of_cut : (gives : Option ValType) (bottom : ℕ) (ls : List StackLevel) (ops : List Value) (top : ℕ) → top ≡ length ops → AreCut bottom ls top → size_of_levels (levels_of gives ls ops) + bottom ≡ length ls + length ops
 size_of_cut gives bottom [] ops top e h = omega arith
 size_of_cut gives bottom (l ∷ ls) ops top e h =
     omega (arith, size_of_cut gives bottom ls (take l.floor ops) l.floor (sym (length-take-le l.floor ops (omega arith))) h.1, length-take-le l.floor ops (omega arith), length-reverse (drop l.floor ops), length-drop l.floor ops)
 
-size_of_part : (f : Held) (labels : List Label) (locals ops : List Value) → IsPart f labels locals ops → size_of_levels (levels_of f.gives (frame_labels f labels) (take f.floor ops)) + f.bottom + f.labels_from ≡ length labels + f.floor
+size_of_part : (f : StackFrame) (labels : List StackLevel) (locals ops : List Value) → IsPart f labels locals ops → size_of_levels (levels_of f.gives (frame_labels f labels) (take f.floor ops)) + f.bottom + f.labels_from ≡ length labels + f.floor
 size_of_part f labels locals ops h =
     omega (arith, size_of_cut f.gives f.bottom (reverse (drop f.labels_from labels)) (take f.floor ops) f.floor (sym (length-take-le f.floor ops h.top)) h.cut, length-reverse (drop f.labels_from labels), length-drop f.labels_from labels, length-take-le f.floor ops h.top, h.labels_in)
 
-size_of_parts : (fs : List Held) (labels : List Label) (locals ops : List Value) → AreFrameParts fs labels locals ops → size_of_frames (frames_of fs labels locals ops) ≡ length labels + length locals + length ops
+size_of_parts : (fs : List StackFrame) (labels : List StackLevel) (locals ops : List Value) → AreFrameParts fs labels locals ops → size_of_frames (frames_of fs labels locals ops) ≡ length labels + length locals + length ops
 size_of_parts [] labels locals ops h = omega (arith, ap length h.0, ap length h.1, ap length h.2)
 size_of_parts (f ∷ fs) labels locals ops h =
     let low = AreCut-low f.bottom (reverse (drop f.labels_from labels)) f.floor h.0.cut in
     omega (arith, size_of_part f labels locals ops h.0, size_of_parts fs (take f.labels_from labels) (take f.locals_from locals) (take f.bottom ops) h.1, h.0.top, h.0.labels_in, h.0.locals_in, length-reverse (drop f.floor ops), length-drop f.floor ops, length-drop f.locals_from locals, length-take-le f.labels_from labels h.0.labels_in, length-take-le f.locals_from locals h.0.locals_in, length-take-le f.bottom ops (omega arith))
 
-pub length_of_frames : (fs : List Held) (labels : List Label) (locals ops : List Value) → length (frames_of fs labels locals ops) ≡ length fs
+pub length_of_frames : (fs : List StackFrame) (labels : List StackLevel) (locals ops : List Value) → length (frames_of fs labels locals ops) ≡ length fs
 length_of_frames [] labels locals ops = refl
 length_of_frames (f ∷ fs) labels locals ops = ap suc (length_of_frames fs (take f.labels_from labels) (take f.locals_from locals) (take f.bottom ops))
 
@@ -227,7 +227,7 @@ pub top_label : {A : Type 0} (xs : List A) (k : ℕ) (x : A) → k + 1 ≡ lengt
 top_label xs k x e is = last_of xs k x e ∙ ap (λ y. take k xs ++ y ∷ []) (sym is)
 
 -- the innermost level is what the instruction of that label opened
-pub innermost_top : (gives : Option ValType) (from k : ℕ) (labels : List Label) (l : Label) → from ≤ k → k + 1 ≡ length labels → l ≡ get_or labels k l → innermost gives (reverse (drop from labels)) ≡ opened_by (tree l.opener.now) (trees l.todo.now)
+pub innermost_top : (gives : Option ValType) (from k : ℕ) (labels : List StackLevel) (l : StackLevel) → from ≤ k → k + 1 ≡ length labels → l ≡ get_or labels k l → innermost gives (reverse (drop from labels)) ≡ opened_by (tree l.opener.now) (trees l.todo.now)
 innermost_top gives from k labels l le e is =
     let w = take k labels in
     let in_w : from ≤ length w = omega (arith, length-take-le k labels (omega arith)) in
@@ -254,7 +254,7 @@ opens_none i rest h =
     (ap (λ (o : Opened). o.loops) o, ap (λ (o : Opened). o.carries) o ∙ ap is_some none.1)
 
 -- the part of a frame in its levels when the innermost has ended
-closed_part : (f : Held) (labels w : List Label) (locals ops : List Value) (l : Label) → IsPart f labels locals ops → f.labels_from < length labels → labels ≡ w ++ l ∷ [] → IsPart (record f { todo = l.todo; floor = l.floor }) w locals ops
+closed_part : (f : StackFrame) (labels w : List StackLevel) (locals ops : List Value) (l : StackLevel) → IsPart f labels locals ops → f.labels_from < length labels → labels ≡ w ++ l ∷ [] → IsPart (record f { todo = l.todo; floor = l.floor }) w locals ops
 closed_part f labels w locals ops l h lt e =
     let from = f.labels_from in
     let within : from ≤ length w = omega (arith, ap length e, length-append w (l ∷ []), lt) in
@@ -263,11 +263,11 @@ closed_part f labels w locals ops l h lt e =
     record { top = omega (arith, h.top, cut.0); cut = cut.1; labels_in = within; locals_in = h.locals_in }
 
 -- the levels that end, of which the last is below this label
-pub record IsPast (n : ℕ) (f : Held) (labels : List Label) (locals ops : List Value) (callers : List Held) (l : Label) : Type 0 where
+pub record IsPast (n : ℕ) (f : StackFrame) (labels : List StackLevel) (locals ops : List Value) (callers : List StackFrame) (l : StackLevel) : Type 0 where
   pub part : IsPart (record f { todo = l.todo; floor = l.floor }) (take (length labels - n) labels) locals ops
   pub thread : closed_by n (thread_in f labels locals ops callers) ≡ Some (thread_in (record f { todo = l.todo; floor = l.floor }) (take (length labels - n) labels) locals ops callers)
 
-module _ (f : Held) (labels : List Label) (locals ops : List Value) (callers : List Held) (d : Label) (h : IsPart f labels locals ops) where
+module _ (f : StackFrame) (labels : List StackLevel) (locals ops : List Value) (callers : List StackFrame) (d : StackLevel) (h : IsPart f labels locals ops) where
   pub past_in : (n : ℕ) → suc n ≤ length labels - f.labels_from → IsPast (suc n) f labels locals ops callers (get_or labels (length labels - suc n) d)
   past_in zero le =
       let k = length labels - 1 in
@@ -300,7 +300,7 @@ stack_top s k v le e is =
     ap (λ o. reverse (drop s.here.floor o)) (top_label s.operands.items k v e is) ∙ reverse_drop_push s.here.floor (take k s.operands.items) v low
 
 -- there are no more levels than that
-none_around : (f : Held) (labels : List Label) (locals ops : List Value) (callers : List Held) → length labels ≤ f.labels_from → closed (thread_in f labels locals ops callers) ≡ None
+none_around : (f : StackFrame) (labels : List StackLevel) (locals ops : List Value) (callers : List StackFrame) → length labels ≤ f.labels_from → closed (thread_in f labels locals ops callers) ≡ None
 none_around f labels locals ops callers le =
     ap (λ ls. closed_to (levels_of f.gives (reverse ls) (take f.floor ops)) (thread_in f labels locals ops callers)) (drop_all f.labels_from labels le)
 
@@ -310,7 +310,7 @@ none_further (suc more) n k t e h =
     let next : suc (more + n) ≡ k = omega (arith, e) in
     subst (λ k. closed_by k t ≡ None) next (ap and_close (none_further more n (more + n) t refl h))
 
-none_first : (m : ℕ) (f : Held) (labels : List Label) (locals ops : List Value) (callers : List Held) → IsPart f labels locals ops → Label → m ≡ length labels - f.labels_from → closed_by (suc m) (thread_in f labels locals ops callers) ≡ None
+none_first : (m : ℕ) (f : StackFrame) (labels : List StackLevel) (locals ops : List Value) (callers : List StackFrame) → IsPart f labels locals ops → StackLevel → m ≡ length labels - f.labels_from → closed_by (suc m) (thread_in f labels locals ops callers) ≡ None
 none_first zero f labels locals ops callers h d e = none_around f labels locals ops callers (omega arith)
 none_first (suc m) f labels locals ops callers h d e =
     let past = past_in f labels locals ops callers d h m (omega arith) in
@@ -318,18 +318,18 @@ none_first (suc m) f labels locals ops callers h d e =
     ap and_close past.thread
     ∙ none_around (record f { todo = l.todo; floor = l.floor }) (take (length labels - suc m) labels) locals ops callers (omega (arith, length-take-le (length labels - suc m) labels (omega arith)))
 
-none_by : (labels : List Label) (f : Held) (locals ops : List Value) (callers : List Held) → IsPart f labels locals ops → closed_by (suc (length labels - f.labels_from)) (thread_in f labels locals ops callers) ≡ None
+none_by : (labels : List StackLevel) (f : StackFrame) (locals ops : List Value) (callers : List StackFrame) → IsPart f labels locals ops → closed_by (suc (length labels - f.labels_from)) (thread_in f labels locals ops callers) ≡ None
 none_by [] f locals ops callers h =
     let none : 0 ≡ 0 - f.labels_from = omega arith in
     subst (λ m. closed_by (suc m) (thread_in f [] locals ops callers) ≡ None) none (none_around f [] locals ops callers (omega arith))
 none_by (l ∷ ls) f locals ops callers h = none_first _ f (l ∷ ls) locals ops callers h l refl
 
-pub past_none : (n : ℕ) (f : Held) (labels : List Label) (locals ops : List Value) (callers : List Held) → IsPart f labels locals ops → length labels - f.labels_from < n → closed_by n (thread_in f labels locals ops callers) ≡ None
+pub past_none : (n : ℕ) (f : StackFrame) (labels : List StackLevel) (locals ops : List Value) (callers : List StackFrame) → IsPart f labels locals ops → length labels - f.labels_from < n → closed_by n (thread_in f labels locals ops callers) ≡ None
 past_none n f labels locals ops callers h lt =
     let m = length labels - f.labels_from in
     none_further (n - suc m) (suc m) n (thread_in f labels locals ops callers) (omega arith) (none_by labels f locals ops callers h)
 
-module _ (s : Inside) (n : ℕ) (w : Vec Label Global) (l : Label) (h : IsStack s) (le : n ≤ length s.labels.items - s.here.labels_from) (past : IsPast n s.here s.labels.items s.locals.items s.operands.items s.callers.items l) (e : w.items ≡ take (length s.labels.items - n) s.labels.items) where
+module _ (s : Inside) (n : ℕ) (w : Vec StackLevel Global) (l : StackLevel) (h : IsStack s) (le : n ≤ length s.labels.items - s.here.labels_from) (past : IsPast n s.here s.labels.items s.locals.items s.operands.items s.callers.items l) (e : w.items ≡ take (length s.labels.items - n) s.labels.items) where
   pub past_view : closed_by n (thread_of s) ≡ Some (thread_of (record s { labels = w; here = record s.here { todo = l.todo; floor = l.floor } }))
   past_view =
       past.thread ∙ ap (λ o. Some (thread_in (record s.here { todo = l.todo; floor = l.floor }) o s.locals.items s.operands.items s.callers.items)) (sym e)
@@ -347,13 +347,13 @@ module _ (s : Inside) (n : ℕ) (w : Vec Label Global) (l : Label) (h : IsStack 
       }
 
 -- the innermost frame is left
-pub record IsLeft (s : Inside) (ops : List Value) (labels : List Label) (locals : List Value) (callers : List Held) (f : Held) : Type 0 where
+pub record IsLeft (s : Inside) (ops : List Value) (labels : List StackLevel) (locals : List Value) (callers : List StackFrame) (f : StackFrame) : Type 0 where
   pub caller : s.callers.items ≡ callers ++ f ∷ []
   pub ops_is : ops ≡ take s.here.bottom s.operands.items
   pub labels_is : labels ≡ take s.here.labels_from s.labels.items
   pub locals_is : locals ≡ take s.here.locals_from s.locals.items
 
-module _ (s : Inside) (v : Vec Value Global) (w : Vec Label Global) (x : Vec Value Global) (y : Vec Held Global) (f : Held) (h : IsStack s) (e : IsLeft s v.items w.items x.items y.items f) where
+module _ (s : Inside) (v : Vec Value Global) (w : Vec StackLevel Global) (x : Vec Value Global) (y : Vec StackFrame Global) (f : StackFrame) (h : IsStack s) (e : IsLeft s v.items w.items x.items y.items f) where
   callers_left : reverse s.callers.items ≡ f ∷ reverse y.items
   callers_left = ap reverse e.caller ∙ reverse-append y.items (f ∷ [])
 
@@ -386,7 +386,7 @@ module _ (s : Inside) (v : Vec Value Global) (w : Vec Label Global) (x : Vec Val
       }
 
 -- a level that opens
-module _ (s : Inside) (here : Held) (w : Vec Label Global) (l : Label) (h : IsStack s) (top : here.floor ≡ length s.operands.items) (floor : l.floor ≡ s.here.floor) (e : w.items ≡ s.labels.items ++ l ∷ []) where
+module _ (s : Inside) (here : StackFrame) (w : Vec StackLevel Global) (l : StackLevel) (h : IsStack s) (top : here.floor ≡ length s.operands.items) (floor : l.floor ≡ s.here.floor) (e : w.items ≡ s.labels.items ++ l ∷ []) where
   around_now : reverse (drop s.here.labels_from w.items) ≡ l ∷ reverse (drop s.here.labels_from s.labels.items)
   around_now = ap (λ o. reverse (drop s.here.labels_from o)) e ∙ reverse_drop_push s.here.labels_from s.labels.items l h.part.labels_in
 

@@ -10,7 +10,7 @@ use Rattle.wasm_types.specs.Functions.{imported_type, own_func}
 use Rattle.wasm_types.specs.Labels.{Labels}
 use Rattle.wasm_types.specs.Maybe.{◌>>=◌}
 use Rattle.wasm_types.specs.Modules.{Module, Func, FuncType}
-use Rattle.wasm_types.specs.Stack.{Stack, is_exactly}
+use Rattle.wasm_types.specs.Stack.{BlockStack, is_exactly}
 use Rattle.wasm_types.specs.Typing.{typed_instrs}
 use Rattle.wasm_store.specs.Suits.{Suits}
 use Rattle.wasm_values.specs.Values.{types_of_values}
@@ -20,7 +20,7 @@ use Rattle.wasm_step.specs.Strand.{IsResult, library_result}
 use Rattle.wasm_step.specs.Thread.{Level, Frame, Thread, here}
 
 -- operands of these types and no others, in code that is reached
-abbrev pub known : List ValType → Stack
+abbrev pub known : List ValType → BlockStack
 known ks = record { types = map Some ks; after_jump = false }
 
 -- the type before the others, if there is one

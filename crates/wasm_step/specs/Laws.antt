@@ -2,7 +2,7 @@
 use Rattle.std.specs.Prelude.{◌≡◌, ℕ}
 use Rattle.wasm_types.specs.Modules.{Module}
 use Rattle.wasm_types.specs.Valid.{IsValid}
-use Rattle.wasm_store.specs.Marks.{MarksNoLater, MarksTell}
+use Rattle.wasm_store.specs.Marks.{MarksNoLater, StoreMarksTell}
 use Rattle.wasm_store.specs.Store.{Store}
 use Rattle.wasm_store.specs.Suits.{Suits}
 use Rattle.wasm_step.specs.Burst.{burst}
@@ -25,4 +25,4 @@ KeepsStamps = (n : ℕ) (t : Thread) (g : Store) → MarksNoLater g (burst n t g
 
 -- what does not bear the number of the event that writes is as it was before the burst
 abbrev pub TellsMarks : Type 0
-TellsMarks = (n : ℕ) (t : Thread) (g : Store) → MarksTell g.memory.number g (burst n t g).store
+TellsMarks = (n : ℕ) (t : Thread) (g : Store) → StoreMarksTell g.memory.number g (burst n t g).store

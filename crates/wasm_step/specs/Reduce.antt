@@ -16,7 +16,7 @@ use Rattle.wasm_step.specs.Call.{site_of}
 use Rattle.wasm_values.specs.Numeric.{Computed, Gives, Fails, IsNone, is_unary, unary, binary}
 use Rattle.wasm_values.specs.Access.{load_width, load_value, store_width}
 use Rattle.wasm_store.specs.Store.{Store, with_global, with_growth}
-use Rattle.wasm_step.specs.Thread.{Thread, with_operand, opened, closed, left, called, arguments, without, is_within, has_room}
+use Rattle.wasm_step.specs.Thread.{Thread, with_operand, opened, closed, left, called, arguments, without, fits_limits, has_room}
 
 -- how a thread stops: at a call of the library, at its end, by a trap, or where no row is for it
 pub data Halt : Type 0 where
@@ -199,8 +199,8 @@ resumed None o = Stops Ends
 resumed (Some t) o = Goes (with_result o t)
 
 -- the end of the innermost frame, from any of its levels
-abbrev pub return_from : Thread → After
-return_from t = with_carried (carried t.returns t) (λ o t'. resumed (left t') o)
+abbrev pub leave_frame : Thread → After
+leave_frame t = with_carried (carried t.returns t) (λ o t'. resumed (left t') o)
 
 -- a branch out of the innermost level goes on in the level around it, and the frame's outermost level returns
 abbrev pub landed : Option Thread → Thread → Trees → Option Value → After
@@ -306,7 +306,7 @@ instr_row (If gives on_true on_false) t g = keep g (choose gives on_true on_fals
 instr_row (Br n) t g = keep g (branch n t)
 instr_row (BrIf n) t g = keep g (branch_if n t)
 instr_row (BrTable labels default) t g = keep g (branch_table labels default t)
-instr_row Return t g = keep g (return_from t)
+instr_row Return t g = keep g (leave_frame t)
 instr_row (CallFunc f) t g = keep g (call g.«module» f t)
 instr_row (CallIndirect type) t g = keep g (call_indirect type g t)
 instr_row DropTop t g = keep g (drop_top t)
@@ -329,7 +329,7 @@ instr_row (Op op) t g = keep g (numeric op t)
 -- a thread past its limits traps
 abbrev pub limited : After → After
 limited (Stops s) = Stops s
-limited (Goes t) = if is_within t then Goes t else at_trap traps.Exhausted
+limited (Goes t) = if fits_limits t then Goes t else at_trap traps.Exhausted
 
 -- one instruction; its own trap comes before the limits
 abbrev pub reduce : Tree → Thread → Store → Both
@@ -337,7 +337,7 @@ reduce i t g = let r = instr_row i t g in record { after = limited r.after; stor
 
 -- the end of a level, or of a frame with its outermost level
 abbrev pub at_end : Option Thread → Thread → After
-at_end None t = return_from t
+at_end None t = leave_frame t
 at_end (Some t') t = Goes t'
 
 abbrev pub ended : Thread → After

@@ -7,7 +7,7 @@ use Rattle.wasm_types.specs.declared.code.ValType.TheVariants as types
 use Rattle.wasm_types.specs.Modules.{Module, Func, FuncType}
 use Rattle.wasm_types.specs.Start.{entry_from}
 use Rattle.wasm_types.specs.Locals.{zeros}
-use Rattle.wasm_step.specs.Thread.{Thread, Frame, at_start, waiting_frame, is_within}
+use Rattle.wasm_step.specs.Thread.{Thread, Frame, at_start, waiting_frame, fits_limits}
 use Rattle.wasm_types.specs.Functions.{own_func, type_of, imported_type}
 use Rattle.wasm_step.specs.Reduce.{with_result}
 
@@ -37,7 +37,7 @@ handling m t f signal = started_above (own_func m f) (waiting_frame t ∷ t.call
 
 abbrev pub is_in : Option Thread → Bool
 is_in None = false
-is_in (Some t) = is_within t
+is_in (Some t) = fits_limits t
 
 -- a value of this type, or none where there is no type
 abbrev pub IsResult : Option ValType → Option Value → Type 0

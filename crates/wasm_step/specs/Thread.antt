@@ -136,8 +136,8 @@ size_of_thread t = length t.stack + size_of_levels t.outer + length t.locals + s
 abbrev pub has_room : ℕ → Thread → Bool
 has_room more t = nat_lt (length t.callers) 512 && nat_le (size_of_thread t + more) 16384
 
-abbrev pub is_within : Thread → Bool
-is_within t = has_room 0 t
+abbrev pub fits_limits : Thread → Bool
+fits_limits t = has_room 0 t
 
 -- the same with one more frame
 abbrev pub has_frame_room : ℕ → Thread → Bool

@@ -3,8 +3,8 @@ use Rattle.std.specs.Prelude.{◌≡◌, ℕ, zero, suc, ◌+◌, ◌-◌, ◌�
 use Rattle.wasm_types.specs.declared.code.Value.{Value}
 use Rattle.wasm_types.specs.declared.code.ValType.{ValType}
 use Rattle.wasm_types.specs.Code.{Tree, Block, Loop, If, Trees, End, tree, trees}
-use Rattle.wasm_step.specs.declared.stack.Label.{Label}
-use Rattle.wasm_step.specs.declared.stack.Held.{Held}
+use Rattle.wasm_step.specs.declared.stack.StackLevel.{StackLevel}
+use Rattle.wasm_step.specs.declared.stack.StackFrame.{StackFrame}
 use Rattle.wasm_step.specs.declared.stack.Stack.TheInside.{Inside}
 use Rattle.wasm_step.specs.Reduce.{After, Goes, on_test, with_top}
 use Rattle.wasm_step.specs.Thread.{Level, Frame, Thread, closed, opened}
@@ -38,7 +38,7 @@ abbrev pub opened_by : Tree → Trees → Opened
 opened_by i rest = opened_as (repeated_by i) (given_by i) rest
 
 -- the innermost of a function's levels, with these around it: what the last of them opened, or the function's own
-abbrev pub innermost : Option ValType → List Label → Opened
+abbrev pub innermost : Option ValType → List StackLevel → Opened
 innermost gives [] = record { gives = gives; target = End; carries = is_some gives; loops = false }
 innermost gives (l ∷ ls) = opened_by (tree l.opener.now) (trees l.todo.now)
 
@@ -48,16 +48,16 @@ level o todo floor ops =
     record { gives = o.gives; todo = todo; stack = reverse (drop floor ops); target = o.target; carries = o.carries; loops = o.loops }
 
 -- the levels of these labels, the innermost first, over these operands
-abbrev pub levels_of : Option ValType → List Label → List Value → List Level
+abbrev pub levels_of : Option ValType → List StackLevel → List Value → List Level
 levels_of gives [] ops = []
 levels_of gives (l ∷ ls) ops = level (innermost gives ls) (trees l.todo.now) l.floor ops ∷ levels_of gives ls (take l.floor ops)
 
 -- the labels of a frame, the innermost first
-abbrev pub frame_labels : Held → List Label → List Label
+abbrev pub frame_labels : StackFrame → List StackLevel → List StackLevel
 frame_labels f labels = reverse (drop f.labels_from labels)
 
 -- the frames that wait, the innermost first
-abbrev pub frames_of : List Held → List Label → List Value → List Value → List Frame
+abbrev pub frames_of : List StackFrame → List StackLevel → List Value → List Value → List Frame
 frames_of [] labels locals ops = []
 frames_of (f ∷ fs) labels locals ops =
     record {
@@ -70,7 +70,7 @@ frames_of (f ∷ fs) labels locals ops =
     ∷ frames_of fs (take f.labels_from labels) (take f.locals_from locals) (take f.bottom ops)
 
 -- the thread whose innermost frame is this
-abbrev pub thread_in : Held → List Label → List Value → List Value → List Held → Thread
+abbrev pub thread_in : StackFrame → List StackLevel → List Value → List Value → List StackFrame → Thread
 thread_in f labels locals ops callers =
     let o = innermost f.gives (frame_labels f labels) in record {
       gives = o.gives;
@@ -108,18 +108,18 @@ closed_by zero t = Some t
 closed_by (suc n) t = and_close (closed_by n t)
 
 -- each label's operands begin at or below those of the next, and at or above the frame's
-abbrev pub AreCut : ℕ → List Label → ℕ → Type 0
+abbrev pub AreCut : ℕ → List StackLevel → ℕ → Type 0
 AreCut bottom [] top = bottom ≡ top
 AreCut bottom (l ∷ ls) top = (l.floor ≤ top) × AreCut bottom ls l.floor
 
 -- each frame has its part of the labels, the locals and the operands
-pub record IsPart (f : Held) (labels : List Label) (locals ops : List Value) : Type 0 where
+pub record IsPart (f : StackFrame) (labels : List StackLevel) (locals ops : List Value) : Type 0 where
   pub top : f.floor ≤ length ops
   pub cut : AreCut f.bottom (reverse (drop f.labels_from labels)) f.floor
   pub labels_in : f.labels_from ≤ length labels
   pub locals_in : f.locals_from ≤ length locals
 
-abbrev pub AreFrameParts : List Held → List Label → List Value → List Value → Type 0
+abbrev pub AreFrameParts : List StackFrame → List StackLevel → List Value → List Value → Type 0
 AreFrameParts [] labels locals ops = (labels ≡ []) × (locals ≡ []) × (ops ≡ [])
 AreFrameParts (f ∷ fs) labels locals ops =
     IsPart f labels locals ops

@@ -3,7 +3,7 @@ ghost use Rattle.std.specs.Prelude.{◌≡◌, IfOk, false, slice_get};
 ghost use Rattle.wasm_types.specs.Code.{tree, trees};
 ghost use Rattle.wasm_step.specs.Answer.{after_of, way_of};
 ghost use Rattle.wasm_step.specs.View.{chosen_by};
-ghost use Rattle.wasm_step.specs.Reduce.{branch, branch_if, branch_table, carried, ended, jump, jump_out, label_at, resumed, return_from, with_carried};
+ghost use Rattle.wasm_step.specs.Reduce.{branch, branch_if, branch_table, carried, ended, jump, jump_out, label_at, resumed, leave_frame, with_carried};
 ghost use Rattle.wasm_step.specs.Thread.{left};
 
 use crate::halt::{Next, Way};
@@ -32,7 +32,7 @@ impl<'m> Stack<'m> {
 
     #[inline(always)]
     pub fn return_from(&mut self) -> Way
-        ensures { way_of result self.new ≡ return_from self.old }
+        ensures { way_of result self.new ≡ leave_frame self.old }
     {
         let carries = self.returns();
         self.end_frame(carries)
@@ -41,7 +41,7 @@ impl<'m> Stack<'m> {
     /// The same by a call of its own.
     #[inline(never)]
     pub fn return_out(&mut self) -> Way
-        ensures { way_of result self.new ≡ return_from self.old }
+        ensures { way_of result self.new ≡ leave_frame self.old }
     {
         self.return_from()
     }

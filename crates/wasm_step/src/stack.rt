@@ -2,7 +2,7 @@
 ghost use Rattle.std.specs.Prelude.{◌∷◌, OnErr, ◌≡◌, ◌+◌, ◌-◌, ◌<◌, ◌≤◌, [], ◌++◌, drop, length, IfOk, OnOk, Some, None, if◌then◌else◌, IfSome, IfNone, IsTrue, nat_lt, nat_le, ◌&&◌, false, is_some, slice_get, slice_set, take, true};
 ghost use Rattle.wasm_types.specs.Code.{End, Then, tree, trees};
 ghost use Rattle.wasm_step.specs.Thread.{arguments, closed, with_operand, without};
-ghost use Rattle.wasm_step.specs.Thread.{has_frame_room, has_room, is_end, is_within};
+ghost use Rattle.wasm_step.specs.Thread.{has_frame_room, has_room, is_end, fits_limits};
 ghost use Rattle.std.specs.Vec.{vec_capacity};
 ghost use Rattle.wasm_step.specs.Call.{sited};
 ghost use Rattle.wasm_step.specs.Limits.{Within};
@@ -19,7 +19,7 @@ use wasm_types::{Instr, Slot, ValType, Value};
 /// A level around another: the instruction that opened the other, those behind it, and how many operands lie below
 /// the level.
 #[derive(Clone, Copy)]
-pub struct Label<'m> {
+pub struct StackLevel<'m> {
     opener: &'m Instr,
     todo: &'m [Instr],
     floor: usize,
@@ -28,7 +28,7 @@ pub struct Label<'m> {
 /// A frame: the instructions that are left in its innermost level and how many operands lie below that, where its
 /// levels, locals and operands begin, its function, and the type of what it leaves.
 #[derive(Clone, Copy)]
-pub struct Held<'m> {
+pub struct StackFrame<'m> {
     todo: &'m [Instr],
     floor: usize,
     labels_from: usize,
@@ -49,11 +49,11 @@ pub enum Target<'m> {
 /// A thread.
 #[derive(Drop)]
 pub struct Stack<'m> {
-    here: Held<'m>,
+    here: StackFrame<'m>,
     operands: Vec<Slot>,
-    labels: Vec<Label<'m>>,
+    labels: Vec<StackLevel<'m>>,
     locals: Vec<Slot>,
-    callers: Vec<Held<'m>>,
+    callers: Vec<StackFrame<'m>>,
     /// With fewer operands than this, one more wants no memory and leaves the size within its limit.
     room: usize,
 }
@@ -372,7 +372,7 @@ impl<'m> Stack<'m> {
         ensures { OnOk result (self.new ≡ entered_by (tree opener.now) (trees body.now) self.old) }
     {
         self.room = one_less(self.room);
-        let label = Label {
+        let label = StackLevel {
             opener,
             todo: self.here.todo,
             floor: self.here.floor,
@@ -395,7 +395,7 @@ impl<'m> Stack<'m> {
             return false;
         }
         self.room -= 1;
-        self.labels.push_reserved(Label {
+        self.labels.push_reserved(StackLevel {
             opener,
             todo,
             floor: self.here.floor,
@@ -425,7 +425,7 @@ impl<'m> Stack<'m> {
         }
         self.room -= 1;
         let _top = self.operands.take_last();
-        self.labels.push_reserved(Label {
+        self.labels.push_reserved(StackLevel {
             opener,
             todo,
             floor: self.here.floor,
@@ -535,7 +535,7 @@ impl<'m> Stack<'m> {
     /// Whether the thread keeps to the limits. Where there is room, that tells it.
     #[inline(always)]
     pub fn is_within(&self) -> bool
-        ensures { result ≡ is_within self.now }
+        ensures { result ≡ fits_limits self.now }
     {
         if self.operands.len() < self.room && self.callers.len() < FRAME_LIMIT {
             return true;

@@ -9,10 +9,10 @@ use Rattle.wasm_types.specs.declared.code.Value.{Value}
 use Rattle.wasm_types.specs.declared.modules.GlobalDef.{GlobalDef}
 use Rattle.wasm_types.specs.Modules.{Module, global_def}
 use Rattle.wasm_store.specs.Parts.{first_values}
-use Rattle.wasm_store.specs.Start.{empty_memory, empty_table, first_min, initial, initial_globals, is_elem_inside, is_segment_within, segments_fit}
+use Rattle.wasm_store.specs.Start.{memory_before_segments, empty_table, first_min, initial, initial_globals, is_elem_inside, is_segment_within, segments_fit}
 
 -- an empty memory has the bytes of its pages
-empty_bytes : (m : Module) → length (empty_memory m).bytes ≡ first_min m.mems * 65536
+empty_bytes : (m : Module) → length (memory_before_segments m).bytes ≡ first_min m.mems * 65536
 unfolding zero_bytes
 empty_bytes m = length-replicate (65536 * first_min m.mems) 0 ∙ omega arith
 

@@ -7,7 +7,7 @@ use Rattle.guest_memory.specs.Laws.{KeepsPages, NoLaterWhenGrown, NoLaterWhenWri
 use Rattle.guest_memory.specs.Memory.{Memory, can_grow, no_stamps, zero_bytes}
 use Rattle.guest_memory.specs.Stamps.{AreWithin}
 use Rattle.wasm_types.specs.declared.code.Value.{Value}
-use Rattle.wasm_store.specs.Marks.{GrowthMarks, MarksFollow, MarksTell, MarksWithin, NothingMarks, SetMarks, WritesMark}
+use Rattle.wasm_store.specs.Marks.{GrowthMarks, MarksFollow, StoreMarksTell, MarksWithin, NothingMarks, SetMarks, WritesMark}
 use Rattle.wasm_store.specs.Store.{Store}
 
 -- ---- nothing, and one thing after the other
@@ -34,7 +34,7 @@ then_told number a b c first later = record {
       };
 }
 
-then_tell : (number : ℕ) (a b c : Store) → MarksTell number a b → MarksTell number b c → MarksTell number a c
+then_tell : (number : ℕ) (a b c : Store) → StoreMarksTell number a b → StoreMarksTell number b c → StoreMarksTell number a c
 then_tell number a b c first later = record {
   memory = then_told number a.memory b.memory c.memory first.memory later.memory;
   places = later.places ∙ first.places;
@@ -56,7 +56,7 @@ follow a b c first later = record {
         let before = subst (λ n. MarksWithin n b) (sym first.later.number) (first.later.within w) in
         subst (λ n. MarksWithin n c) first.later.number (later.later.within before);
   };
-  told = then_tell a.memory.number a b c first.told (subst (λ n. MarksTell n b c) first.later.number later.told);
+  told = then_tell a.memory.number a b c first.told (subst (λ n. StoreMarksTell n b c) first.later.number later.told);
 }
 
 -- ---- a new value of a global

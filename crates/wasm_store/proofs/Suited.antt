@@ -25,7 +25,7 @@ use Rattle.wasm_types.specs.Valid.{IsValid}
 use Rattle.wasm_store.specs.Suits.{Suits}
 use Rattle.wasm_values.specs.Values.{type_of_value, types_of_values}
 use Rattle.wasm_types.specs.Functions.{described, imported_type, own_func, own_type, type_of}
-use Rattle.wasm_store.specs.Start.{initial_store, constant, initial, initial_in, initial_globals, offset_in, first_min, empty_table, empty_memory, is_elem_inside, put_funcs, put_elems, put_segments, segments_fit}
+use Rattle.wasm_store.specs.Start.{initial_store, constant, initial, initial_in, initial_globals, offset_in, first_min, empty_table, memory_before_segments, is_elem_inside, put_funcs, put_elems, put_segments, segments_fit}
 use Rattle.wasm_store.specs.Store.{Store}
 
 both : (a b : Bool) → a && b ≡ true → (a ≡ true) × (b ≡ true)
@@ -227,7 +227,7 @@ module _ (m : Module) (v : IsValid m) where
       let empty : length (empty_table m) ≡ first_min m.tables = length-replicate (first_min m.tables) None in
       let known = elems_known m (initial_globals m) n m.elems (empty_table m) refl v.typed.shaped.elems (all_empty n (first_min m.tables)) in
       record {
-        most = segments_most (initial_globals m) m.segments (empty_memory m);
+        most = segments_most (initial_globals m) m.segments (memory_before_segments m);
         places = elems_length (initial_globals m) m.elems (empty_table m) (length (empty_table m)) refl inside ∙ empty;
         globals = initial_value_types m.globals v.typed.shaped.globals plain;
         elements = λ k f e. type_there m f v (ltb-true f n (known_at n (put_elems (initial_globals m) m.elems (empty_table m)) k f known e));

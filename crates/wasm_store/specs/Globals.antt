@@ -8,5 +8,5 @@ abbrev pub values_of : List Global → List Value
 values_of globals = map (λ (global : Global). global.value) globals
 
 -- and the numbers of the events that set them last
-abbrev pub stamps_of : List Global → List ℕ
-stamps_of globals = map (λ (global : Global). global.stamp) globals
+abbrev pub stamps_of_globals : List Global → List ℕ
+stamps_of_globals globals = map (λ (global : Global). global.stamp) globals

@@ -13,7 +13,7 @@ pub record SameGlobal (old new : Store) (n : ℕ) : Type 0 where
 
 -- Each page of the memory and each global bears this number or is as it was, and so does the memory's size. None
 -- is gone.
-pub record MarksTell (number : ℕ) (old new : Store) : Type 0 where
+pub record StoreMarksTell (number : ℕ) (old new : Store) : Type 0 where
   pub memory : StampsTell number old.memory new.memory
   pub places : length new.global_stamps ≡ length old.global_stamps
   pub globals : (n : ℕ) → (global_stamp_of new n ≡ number → ⊥) → SameGlobal old new n
@@ -34,7 +34,7 @@ pub record MarksNoLater (old new : Store) : Type 0 where
 -- what an event left of the marks: none is later than it, and what it has not marked is as it was
 pub record Marked (old new : Store) : Type 0 where
   pub later : MarksNoLater old new
-  pub told : MarksTell old.memory.number old new
+  pub told : StoreMarksTell old.memory.number old new
 
 -- ---- laws
 

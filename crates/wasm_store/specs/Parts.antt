@@ -5,7 +5,7 @@ use Rattle.wasm_types.specs.declared.modules.GlobalDef.{GlobalDef}
 use Rattle.wasm_types.specs.Modules.{Module, global_def}
 use Rattle.wasm_store.specs.declared.global.Global.{Global}
 use Rattle.wasm_store.specs.declared.start.Parts.{Parts}
-use Rattle.wasm_store.specs.Globals.{stamps_of, values_of}
+use Rattle.wasm_store.specs.Globals.{stamps_of_globals, values_of}
 use Rattle.wasm_store.specs.Start.{initial}
 use Rattle.wasm_store.specs.Store.{Store}
 
@@ -14,7 +14,7 @@ store_of_parts m p = record {
   «module» = m;
   memory = p.memory;
   globals = values_of p.globals.items;
-  global_stamps = stamps_of p.globals.items;
+  global_stamps = stamps_of_globals p.globals.items;
   table = p.table.items;
   size_stamp = 0;
 }

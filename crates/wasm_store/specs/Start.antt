@@ -82,8 +82,8 @@ first_most [] = 0
 first_most (l ∷ ls) = most_pages l.max
 
 -- the memory without its segments
-abbrev pub empty_memory : Module → Memory
-empty_memory m = fresh (first_min m.mems) (first_most m.mems)
+abbrev pub memory_before_segments : Module → Memory
+memory_before_segments m = fresh (first_min m.mems) (first_most m.mems)
 
 -- the segment lies in a memory of so many bytes
 abbrev pub is_segment_within : List Value → ℕ → Segment → Bool
@@ -104,13 +104,13 @@ put_segments globals (s ∷ ss) memory =
 abbrev pub segments_fit : Module → Bool
 segments_fit m =
     list_all (is_elem_inside (initial_globals m) (length (empty_table m))) m.elems
-    && list_all (is_segment_inside (initial_globals m) (empty_memory m)) m.segments
+    && list_all (is_segment_inside (initial_globals m) (memory_before_segments m)) m.segments
 
 -- the globals with their first values, and the table and the memory with their segments; they are no event's work
 abbrev pub initial_store : Module → Store
 initial_store m = record {
   «module» = m;
-  memory = put_segments (initial_globals m) m.segments (empty_memory m);
+  memory = put_segments (initial_globals m) m.segments (memory_before_segments m);
   globals = initial_globals m;
   global_stamps = unset m.globals;
   table = put_elems (initial_globals m) m.elems (empty_table m);

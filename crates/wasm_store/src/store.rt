@@ -31,7 +31,7 @@ pub struct Store<'m> {
 impl<'m> Model for Store<'m> {
     ghost use Rattle.std.specs.Coded.{codes};
     ghost use Rattle.wasm_types.specs.Coding.{trees_code};
-    ghost use Rattle.wasm_store.specs.Globals.{stamps_of, values_of};
+    ghost use Rattle.wasm_store.specs.Globals.{stamps_of_globals, values_of};
     ghost use Rattle.wasm_store.specs.Store.{Store};
 
     ghost Value = { Store };
@@ -40,7 +40,7 @@ impl<'m> Model for Store<'m> {
 
     ghost use Rattle.wasm_types.specs.Modules.{module_of};
 
-    ghost view = { λ s. record { «module» = module_of s.«module».now; memory = s.memory; globals = values_of s.globals.items; global_stamps = stamps_of s.globals.items; table = s.table.items; size_stamp = s.size_stamp } };
+    ghost view = { λ s. record { «module» = module_of s.«module».now; memory = s.memory; globals = values_of s.globals.items; global_stamps = stamps_of_globals s.globals.items; table = s.table.items; size_stamp = s.size_stamp } };
 }
 
 /// Why a module does not begin.

@@ -4,31 +4,31 @@ use Rattle.wasm_types.specs.declared.code.ValType.{ValType}
 use Rattle.wasm_types.specs.declared.code.ValType.TheVariants.{I32, I64, F32, F64}
 use Rattle.wasm_types.specs.Modules.{GlobalType}
 use Rattle.wasm_types.specs.Maybe.{◌>>=◌}
-use Rattle.wasm_types.specs.Stack.{Stack, push, pop_type, operate}
+use Rattle.wasm_types.specs.Stack.{BlockStack, push, pop_type, operate}
 
-abbrev pub typed_local_get : List ValType → ℕ → Stack → Option Stack
+abbrev pub typed_local_get : List ValType → ℕ → BlockStack → Option BlockStack
 typed_local_get locals x s = do
   type ← slice_get locals x
   Some (push (Some type) s)
 
-abbrev pub typed_local_set : List ValType → ℕ → Stack → Option Stack
+abbrev pub typed_local_set : List ValType → ℕ → BlockStack → Option BlockStack
 typed_local_set locals x s = do
   type ← slice_get locals x
   pop_type type s
 
-abbrev pub typed_local_tee : List ValType → ℕ → Stack → Option Stack
+abbrev pub typed_local_tee : List ValType → ℕ → BlockStack → Option BlockStack
 typed_local_tee locals x s = do
   type ← slice_get locals x
   rest ← pop_type type s
   Some (push (Some type) rest)
 
-abbrev pub typed_global_get : List GlobalType → ℕ → Stack → Option Stack
+abbrev pub typed_global_get : List GlobalType → ℕ → BlockStack → Option BlockStack
 typed_global_get globals x s = do
   global ← slice_get globals x
   Some (push (Some global.value_type) s)
 
 -- only a global that may change is set
-abbrev pub typed_global_set : List GlobalType → ℕ → Stack → Option Stack
+abbrev pub typed_global_set : List GlobalType → ℕ → BlockStack → Option BlockStack
 typed_global_set globals x s = do
   global ← slice_get globals x
   if global.mutable then pop_type global.value_type s else None
@@ -76,18 +76,18 @@ store_access n =
 abbrev pub may_access : Bool → Access → ℕ → Bool
 may_access has_memory a align = has_memory && nat_le align a.exponent
 
-abbrev pub typed_load : Bool → ℕ → ℕ → Stack → Option Stack
+abbrev pub typed_load : Bool → ℕ → ℕ → BlockStack → Option BlockStack
 typed_load has_memory opcode align s = do
   a ← load_access opcode
   if may_access has_memory a align then operate (I32 ∷ []) (Some a.moved) s else None
 
-abbrev pub typed_store : Bool → ℕ → ℕ → Stack → Option Stack
+abbrev pub typed_store : Bool → ℕ → ℕ → BlockStack → Option BlockStack
 typed_store has_memory opcode align s = do
   a ← store_access opcode
   if may_access has_memory a align then operate (I32 ∷ a.moved ∷ []) None s else None
 
-abbrev pub typed_memory_size : Bool → Stack → Option Stack
+abbrev pub typed_memory_size : Bool → BlockStack → Option BlockStack
 typed_memory_size has_memory s = if has_memory then operate [] (Some I32) s else None
 
-abbrev pub typed_memory_grow : Bool → Stack → Option Stack
+abbrev pub typed_memory_grow : Bool → BlockStack → Option BlockStack
 typed_memory_grow has_memory s = if has_memory then operate (I32 ∷ []) (Some I32) s else None

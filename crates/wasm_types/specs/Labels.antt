@@ -5,7 +5,7 @@ use Rattle.std.specs.Option.{option_map_or}
 use Rattle.wasm_types.specs.declared.code.ValType.{ValType}
 use Rattle.wasm_types.specs.declared.code.ValType.TheVariants.{I32}
 use Rattle.wasm_types.specs.Maybe.{◌>>=◌}
-use Rattle.wasm_types.specs.Stack.{Stack, pop_type, pop_result, push_result, jump_with, is_same, is_exactly}
+use Rattle.wasm_types.specs.Stack.{BlockStack, pop_type, pop_result, push_result, jump_with, is_same, is_exactly}
 
 -- what a branch to each open block carries, from the inside out
 abbrev pub Labels : Type 0
@@ -25,39 +25,39 @@ table_label labels ns default = do
   label ← slice_get labels default
   if list_all (has_label labels label) ns then Some label else None
 
-abbrev pub typed_branch : Labels → ℕ → Stack → Option Stack
+abbrev pub typed_branch : Labels → ℕ → BlockStack → Option BlockStack
 typed_branch labels n s = do
   label ← slice_get labels n
   jump_with label s
 
-abbrev pub typed_branch_if : Labels → ℕ → Stack → Option Stack
+abbrev pub typed_branch_if : Labels → ℕ → BlockStack → Option BlockStack
 typed_branch_if labels n s = do
   label ← slice_get labels n
   tested ← pop_type I32 s
   rest ← pop_result label tested
   Some (push_result label rest)
 
-abbrev pub typed_branch_table : Labels → List ℕ → ℕ → Stack → Option Stack
+abbrev pub typed_branch_table : Labels → List ℕ → ℕ → BlockStack → Option BlockStack
 typed_branch_table labels ns default s = do
   label ← table_label labels ns default
   tested ← pop_type I32 s
   jump_with label tested
 
 -- the stack around a block, if what the code inside leaves is exactly the block's result
-abbrev pub around : Option ValType → Option Stack → Stack → Option Stack
+abbrev pub around : Option ValType → Option BlockStack → BlockStack → Option BlockStack
 around result inside s = do
   end ← inside
   exact ← is_exactly result end
   Some s
 
 -- the same, and the result on it
-abbrev pub block_of : Option ValType → Option Stack → Stack → Option Stack
+abbrev pub block_of : Option ValType → Option BlockStack → BlockStack → Option BlockStack
 block_of result inside s = do
   before ← around result inside s
   Some (push_result result before)
 
 -- a test, and either of two blocks
-abbrev pub choice_of : Option ValType → Option Stack → Option Stack → Stack → Option Stack
+abbrev pub choice_of : Option ValType → Option BlockStack → Option BlockStack → BlockStack → Option BlockStack
 choice_of result on_true on_false s = do
   tested ← pop_type I32 s
   before ← around result on_true tested

@@ -9,8 +9,8 @@ abbrev pub value_by : ℕ → ℕ → Value
 value_by zero bits = I32 bits
 value_by (suc n) bits = I64 bits
 
-abbrev pub value_in : Inside → Value
-value_in s = value_by s.wide s.bits
+abbrev pub value_of_inside : Inside → Value
+value_of_inside s = value_by s.wide s.bits
 
 -- the first word is 0 beside 32 bits, and 1 beside 64
 abbrev pub IsBeside : ℕ → ℕ → Type 0
@@ -29,5 +29,5 @@ words_of zero bits h = refl
 words_of (suc n) bits h = ap (λ (k : ℕ). record { wide = suc k; bits = bits }) (sym h)
 
 -- two words are those of the value that they stand for
-pub slot_of_value : (s : Inside) → IsSlot s → slot_of (value_in s) ≡ s
+pub slot_of_value : (s : Inside) → IsSlot s → slot_of (value_of_inside s) ≡ s
 slot_of_value s h = words_of s.wide s.bits h

@@ -10,30 +10,30 @@ Operand = Option ValType
 
 -- The operands of a block, the top first. After a jump the block's code is not reached: then what lies
 -- below these is not known.
-pub record Stack : Type 0 where
+pub record BlockStack : Type 0 where
   pub types : List Operand
   pub after_jump : Bool
 
-abbrev pub empty_stack : Stack
+abbrev pub empty_stack : BlockStack
 empty_stack = record { types = []; after_jump = false }
 
-abbrev pub jumped : Stack
+abbrev pub jumped : BlockStack
 jumped = record { types = []; after_jump = true }
 
-abbrev pub push : Operand → Stack → Stack
+abbrev pub push : Operand → BlockStack → BlockStack
 push x s = record s { types = x ∷ s.types }
 
 -- an operand, and the stack below it
 pub record Popped : Type 0 where
   pub operand : Operand
-  pub below : Stack
+  pub below : BlockStack
 
 abbrev pub pop_from : List Operand → Bool → Option Popped
 pop_from [] false = None
 pop_from [] true = Some (record { operand = None; below = jumped })
 pop_from (x ∷ xs) after_jump = Some (record { operand = x; below = record { types = xs; after_jump = after_jump } })
 
-abbrev pub pop : Stack → Option Popped
+abbrev pub pop : BlockStack → Option Popped
 pop s = pop_from s.types s.after_jump
 
 abbrev pub is_same : ValType → ValType → Bool
@@ -48,26 +48,26 @@ fits None t = true
 fits (Some u) t = is_same u t
 
 -- what is left below an operand of this type
-abbrev pub pop_type : ValType → Stack → Option Stack
+abbrev pub pop_type : ValType → BlockStack → Option BlockStack
 pop_type t s = do
   top ← pop s
   if fits top.operand t then Some top.below else None
 
 -- the same of several types, one after another
-abbrev pub pop_each : List ValType → Stack → Option Stack
+abbrev pub pop_each : List ValType → BlockStack → Option BlockStack
 pop_each [] s = Some s
 pop_each (t ∷ ts) s = pop_type t s >>= pop_each ts
 
 -- the same of several types, of which the last is on top
-abbrev pub pop_types : List ValType → Stack → Option Stack
+abbrev pub pop_types : List ValType → BlockStack → Option BlockStack
 pop_types ts = pop_each (reverse ts)
 
 -- the same of a result, if there is one
-abbrev pub pop_result : Option ValType → Stack → Option Stack
+abbrev pub pop_result : Option ValType → BlockStack → Option BlockStack
 pop_result None s = Some s
 pop_result (Some t) s = pop_type t s
 
-abbrev pub push_result : Option ValType → Stack → Stack
+abbrev pub push_result : Option ValType → BlockStack → BlockStack
 push_result None s = s
 push_result (Some t) s = push (Some t) s
 
@@ -78,7 +78,7 @@ common_type (Some t) None = Some (Some t)
 common_type (Some t) (Some u) = if is_same t u then Some (Some t) else None
 
 -- one of two operands below a test
-abbrev pub typed_select : Stack → Option Stack
+abbrev pub typed_select : BlockStack → Option BlockStack
 typed_select s = do
   tested ← pop_type I32 s
   second ← pop tested
@@ -91,24 +91,24 @@ has_none [] = true
 has_none (x ∷ xs) = false
 
 -- the result is there, and nothing else
-abbrev pub is_exactly : Option ValType → Stack → Option Stack
+abbrev pub is_exactly : Option ValType → BlockStack → Option BlockStack
 is_exactly result s = do
   rest ← pop_result result s
   if has_none rest.types then Some rest else None
 
 -- a jump that takes the label's operand
-abbrev pub jump_with : Option ValType → Stack → Option Stack
+abbrev pub jump_with : Option ValType → BlockStack → Option BlockStack
 jump_with label s = do
   rest ← pop_result label s
   Some jumped
 
 -- an operator's operands in, and its result out
-abbrev pub operate : List ValType → Option ValType → Stack → Option Stack
+abbrev pub operate : List ValType → Option ValType → BlockStack → Option BlockStack
 operate params result s = do
   rest ← pop_types params s
   Some (push_result result rest)
 
-abbrev pub typed_drop_top : Stack → Option Stack
+abbrev pub typed_drop_top : BlockStack → Option BlockStack
 typed_drop_top s = do
   top ← pop s
   Some top.below

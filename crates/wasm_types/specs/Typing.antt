@@ -5,7 +5,7 @@ use Rattle.wasm_types.specs.declared.code.ValType.TheVariants.{I32, I64, F32, F6
 use Rattle.wasm_types.specs.Code.{Tree, Trees, Unreachable, Nop, Block, Loop, If, Br, BrIf, BrTable, Return, CallFunc, CallIndirect, DropTop, Select, LocalGet, LocalSet, LocalTee, GlobalGet, GlobalSet, Load, Store, MemorySize, MemoryGrow, ConstI32, ConstI64, ConstF32, ConstF64, Op, End, Then}
 use Rattle.wasm_types.specs.Context.{Context}
 use Rattle.wasm_types.specs.Maybe.{◌>>=◌}
-use Rattle.wasm_types.specs.Stack.{Stack, empty_stack, jumped, push, typed_select, typed_drop_top, jump_with, is_exactly}
+use Rattle.wasm_types.specs.Stack.{BlockStack, empty_stack, jumped, push, typed_select, typed_drop_top, jump_with, is_exactly}
 use Rattle.wasm_types.specs.Labels.{Labels, typed_branch, typed_branch_if, typed_branch_table, block_of, choice_of}
 use Rattle.wasm_types.specs.Accesses.{typed_local_get, typed_local_set, typed_local_tee, typed_global_get, typed_global_set, typed_load, typed_store, typed_memory_size, typed_memory_grow}
 use Rattle.wasm_types.specs.Calls.{typed_call, typed_call_indirect, typed_operator}
@@ -13,7 +13,7 @@ use Rattle.wasm_types.specs.Calls.{typed_call, typed_call_indirect, typed_operat
 module _ (context : Context) where
   abbrev mutual
     -- the stack after an instruction, if it is well typed from this stack
-    pub typed_instr : Tree → Labels → Stack → Option Stack
+    pub typed_instr : Tree → Labels → BlockStack → Option BlockStack
     typed_instr Unreachable labels s = Some jumped
     typed_instr Nop labels s = Some s
     typed_instr (Block result body) labels s = block_of result (typed_instrs body (result ∷ labels) empty_stack) s
@@ -44,7 +44,7 @@ module _ (context : Context) where
     typed_instr (Op opcode) labels s = typed_operator opcode s
 
     -- the stack after these instructions, if they are well typed from this stack
-    pub typed_instrs : Trees → Labels → Stack → Option Stack
+    pub typed_instrs : Trees → Labels → BlockStack → Option BlockStack
     typed_instrs End labels s = Some s
     typed_instrs (Then first rest) labels s = typed_instr first labels s >>= typed_instrs rest labels
 

@@ -21,9 +21,9 @@ impl Model for Slot {
 
     ghost coded = { Prim.hlevel codes };
 
-    ghost use Rattle.wasm_types.specs.Slots.{IsSlot, slot_of, slot_of_value, value_in};
+    ghost use Rattle.wasm_types.specs.Slots.{IsSlot, slot_of, slot_of_value, value_of_inside};
 
-    ghost view = { value_in };
+    ghost view = { value_of_inside };
 
     ghost invariant = { IsSlot };
 

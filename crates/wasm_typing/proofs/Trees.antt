@@ -6,11 +6,11 @@ use Rattle.wasm_types.specs.declared.code.ValType.{ValType}
 use Rattle.wasm_types.specs.declared.code.Instr.{Instr, Block, Loop, If}
 use Rattle.wasm_types.specs.Context.{Context}
 use Rattle.wasm_types.specs.Labels.{Labels, block_of, choice_of}
-use Rattle.wasm_types.specs.Stack.{Stack, empty_stack}
+use Rattle.wasm_types.specs.Stack.{BlockStack, empty_stack}
 use Rattle.wasm_types.specs.Typing.{typed_instr, typed_instrs}
 
-module _ (context : Context) (labels : Labels) (s : Stack) where
-  abbrev from_here : Tree → Option Stack
+module _ (context : Context) (labels : Labels) (s : BlockStack) where
+  abbrev from_here : Tree → Option BlockStack
   from_here t = typed_instr context t labels s
 
   pub after-block : (result : Option ValType) (body : Vec Instr Global) →

@@ -1,18 +1,18 @@
 -- The stacks of the open blocks, which lie in one list of operands, cut at the frames' heights.
 use Rattle.std.specs.Prelude.{◌≤◌, List, [], ◌∷◌, length, reverse, take, drop}
-use Rattle.wasm_types.specs.Stack.{Operand, Stack}
+use Rattle.wasm_types.specs.Stack.{Operand, BlockStack}
 use Rattle.wasm_typing.specs.declared.operands.Frame.{Frame}
 
 -- the stacks of the blocks that are open: the innermost, and those around it, from the inside out
 pub record Blocks : Type 0 where
-  pub current : Stack
-  pub outer : List Stack
+  pub current : BlockStack
+  pub outer : List BlockStack
 
 -- the stack above a frame's height
-abbrev pub stack_above : Frame → List Operand → Stack
+abbrev pub stack_above : Frame → List Operand → BlockStack
 stack_above f types = record { types = reverse (drop f.height types); after_jump = f.after_jump }
 
-abbrev pub stacks_of : List Frame → List Operand → List Stack
+abbrev pub stacks_of : List Frame → List Operand → List BlockStack
 stacks_of [] types = []
 stacks_of (f ∷ fs) types = stack_above f types ∷ stacks_of fs (take f.height types)
 

@@ -1,25 +1,25 @@
 -- What a check says of the rule that it tests.
 use Rattle.std.specs.Prelude.{◌≡◌, Option, Some, None, Result, Ok, Err}
-use Rattle.wasm_types.specs.Stack.{Stack}
+use Rattle.wasm_types.specs.Stack.{BlockStack}
 use Rattle.wasm_typing.specs.Operands.{Blocks}
-use Rattle.wasm_typing.specs.declared.refusal.Refusal.{Refusal}
-use Rattle.wasm_typing.specs.declared.refusal.Refusal.TheVariants.{Invalid, OutOfMemory}
+use Rattle.wasm_typing.specs.declared.refusal.TypingError.{TypingError}
+use Rattle.wasm_typing.specs.declared.refusal.TypingError.TheVariants.{Invalid, OutOfMemory}
 
 -- it accepts only where the rule holds, and refuses only where it does not
-abbrev pub Judges : Type 0 → Result (Unit {0}) Refusal → Type 0
+abbrev pub Judges : Type 0 → Result (Unit {0}) TypingError → Type 0
 Judges Rule (Ok _) = Rule
 Judges Rule (Err Invalid) = ¬ Rule
 Judges Rule (Err OutOfMemory) = Unit {0}
 
 -- The step ends where the rule's does, and leaves the blocks around alone; it refuses where the rule has
 -- no end.
-abbrev pub Follows : Option Stack → Blocks → Blocks → Result (Unit {0}) Refusal → Type 0
+abbrev pub Follows : Option BlockStack → Blocks → Blocks → Result (Unit {0}) TypingError → Type 0
 Follows after old new (Ok _) = (after ≡ Some new.current) × (new.outer ≡ old.outer)
 Follows after old new (Err Invalid) = after ≡ None
 Follows after old new (Err OutOfMemory) = Unit {0}
 
 -- the value that the rule has, or a refusal where it has none
-abbrev pub Finds : {A : Type 0} → Option A → Result A Refusal → Type 0
+abbrev pub Finds : {A : Type 0} → Option A → Result A TypingError → Type 0
 Finds found (Ok x) = found ≡ Some x
 Finds found (Err Invalid) = found ≡ None
 Finds found (Err OutOfMemory) = Unit {0}

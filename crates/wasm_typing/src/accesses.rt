@@ -8,7 +8,7 @@ ghost use Rattle.wasm_typing.specs.Views.{global_of};
 
 use crate::locals::Locals;
 use crate::operands::Operands;
-use crate::refusal::Refusal;
+use crate::refusal::TypingError;
 use crate::steps::{operate, pop_type, push_type};
 use wasm_types::ValType::I32;
 use wasm_types::{Access, GlobalDef, load_access, store_access};
@@ -17,14 +17,14 @@ pub(crate) fn typed_local_get(
     locals: &Locals<'_>,
     index: u32,
     operands: &mut Operands,
-) -> Result<(), Refusal>
+) -> Result<(), TypingError>
     ensures { Follows
         (typed_local_get locals.now index operands.old.current)
         operands.old operands.new result }
 {
     match locals.get(index) {
         Some(local) => push_type(operands, local),
-        None => Err(Refusal::Invalid),
+        None => Err(TypingError::Invalid),
     }
 }
 
@@ -32,14 +32,14 @@ pub(crate) fn typed_local_set(
     locals: &Locals<'_>,
     index: u32,
     operands: &mut Operands,
-) -> Result<(), Refusal>
+) -> Result<(), TypingError>
     ensures { Follows
         (typed_local_set locals.now index operands.old.current)
         operands.old operands.new result }
 {
     match locals.get(index) {
         Some(local) => pop_type(operands, local),
-        None => Err(Refusal::Invalid),
+        None => Err(TypingError::Invalid),
     }
 }
 
@@ -47,7 +47,7 @@ pub(crate) fn typed_local_tee(
     locals: &Locals<'_>,
     index: u32,
     operands: &mut Operands,
-) -> Result<(), Refusal>
+) -> Result<(), TypingError>
     ensures { Follows
         (typed_local_tee locals.now index operands.old.current)
         operands.old operands.new result }
@@ -57,7 +57,7 @@ pub(crate) fn typed_local_tee(
             pop_type(operands, local)?;
             push_type(operands, local)
         }
-        None => Err(Refusal::Invalid),
+        None => Err(TypingError::Invalid),
     }
 }
 
@@ -65,14 +65,14 @@ pub(crate) fn typed_global_get(
     globals: &[GlobalDef],
     index: u32,
     operands: &mut Operands,
-) -> Result<(), Refusal>
+) -> Result<(), TypingError>
     ensures { Follows
         (typed_global_get (map global_of globals.now) index operands.old.current)
         operands.old operands.new result }
 {
     match globals.get(index as usize) {
         Some(global) => push_type(operands, global.kind),
-        None => Err(Refusal::Invalid),
+        None => Err(TypingError::Invalid),
     }
 }
 
@@ -80,14 +80,14 @@ pub(crate) fn typed_global_set(
     globals: &[GlobalDef],
     index: u32,
     operands: &mut Operands,
-) -> Result<(), Refusal>
+) -> Result<(), TypingError>
     ensures { Follows
         (typed_global_set (map global_of globals.now) index operands.old.current)
         operands.old operands.new result }
 {
     match globals.get(index as usize) {
         Some(global) if global.mutable => pop_type(operands, global.kind),
-        _ => Err(Refusal::Invalid),
+        _ => Err(TypingError::Invalid),
     }
 }
 
@@ -96,7 +96,7 @@ pub(crate) fn typed_load(
     opcode: u8,
     align: u32,
     operands: &mut Operands,
-) -> Result<(), Refusal>
+) -> Result<(), TypingError>
     ensures { Follows
         (typed_load has_memory opcode align operands.old.current)
         operands.old operands.new result }
@@ -106,10 +106,10 @@ pub(crate) fn typed_load(
             if may_access(has_memory, found, align) {
                 operate(operands, &[I32], Some(found.moved))
             } else {
-                Err(Refusal::Invalid)
+                Err(TypingError::Invalid)
             }
         }
-        None => Err(Refusal::Invalid),
+        None => Err(TypingError::Invalid),
     }
 }
 
@@ -118,7 +118,7 @@ pub(crate) fn typed_store(
     opcode: u8,
     align: u32,
     operands: &mut Operands,
-) -> Result<(), Refusal>
+) -> Result<(), TypingError>
     ensures { Follows
         (typed_store has_memory opcode align operands.old.current)
         operands.old operands.new result }
@@ -128,30 +128,36 @@ pub(crate) fn typed_store(
             if may_access(has_memory, found, align) {
                 operate(operands, &[I32, found.moved], None)
             } else {
-                Err(Refusal::Invalid)
+                Err(TypingError::Invalid)
             }
         }
-        None => Err(Refusal::Invalid),
+        None => Err(TypingError::Invalid),
     }
 }
 
-pub(crate) fn typed_memory_size(has_memory: bool, operands: &mut Operands) -> Result<(), Refusal>
+pub(crate) fn typed_memory_size(
+    has_memory: bool,
+    operands: &mut Operands,
+) -> Result<(), TypingError>
     ensures { Follows (typed_memory_size has_memory operands.old.current) operands.old operands.new result }
 {
     if has_memory {
         push_type(operands, I32)
     } else {
-        Err(Refusal::Invalid)
+        Err(TypingError::Invalid)
     }
 }
 
-pub(crate) fn typed_memory_grow(has_memory: bool, operands: &mut Operands) -> Result<(), Refusal>
+pub(crate) fn typed_memory_grow(
+    has_memory: bool,
+    operands: &mut Operands,
+) -> Result<(), TypingError>
     ensures { Follows (typed_memory_grow has_memory operands.old.current) operands.old operands.new result }
 {
     if has_memory {
         operate(operands, &[I32], Some(I32))
     } else {
-        Err(Refusal::Invalid)
+        Err(TypingError::Invalid)
     }
 }
 

@@ -15,7 +15,7 @@ use crate::calls::{typed_call, typed_call_indirect, typed_operator};
 use crate::context::Context;
 use crate::labels::{Label, typed_branch, typed_branch_if, typed_branch_table};
 use crate::operands::Operands;
-use crate::refusal::Refusal;
+use crate::refusal::TypingError;
 use crate::steps::{
     jump_with, pop_result, pop_type, push_result, push_type, typed_drop_top, typed_select,
 };
@@ -23,7 +23,7 @@ use std::alloc::Global;
 use wasm_types::{Instr, ValType};
 
 /// Whether the body of a function is well typed.
-pub fn check_body(alloc: Global, context: &Context<'_>, body: &[Instr]) -> Result<(), Refusal>
+pub fn check_body(alloc: Global, context: &Context<'_>, body: &[Instr]) -> Result<(), TypingError>
     ensures { Judges (IsWellTyped context.now (trees body.now)) result }
 {
     let mut operands = Operands::new(alloc);
@@ -47,7 +47,7 @@ fn check_block(
     body: &[Instr],
     labels: &mut Vec<Label>,
     operands: &mut Operands,
-) -> Result<(), Refusal>
+) -> Result<(), TypingError>
     ensures typed { Follows
         (block_of result_type
         (typed_instrs context.now (trees body.now) (label ∷ reverse labels.old.items) empty_stack)
@@ -68,7 +68,7 @@ fn check_inside(
     body: &[Instr],
     labels: &mut Vec<Label>,
     operands: &mut Operands,
-) -> Result<(), Refusal>
+) -> Result<(), TypingError>
     ensures typed { Follows
         (around result_type
         (typed_instrs context.now (trees body.now) (label ∷ reverse labels.old.items) empty_stack)
@@ -84,7 +84,7 @@ fn check_inside(
     if operands.leave() {
         Ok(())
     } else {
-        Err(Refusal::Invalid)
+        Err(TypingError::Invalid)
     }
 }
 
@@ -94,7 +94,7 @@ fn check_all(
     body: &[Instr],
     labels: &mut Vec<Label>,
     operands: &mut Operands,
-) -> Result<(), Refusal>
+) -> Result<(), TypingError>
     ensures typed { Follows
         (typed_instrs context.now (trees body.now) (reverse labels.old.items) operands.old.current)
         operands.old operands.new result }
@@ -112,7 +112,7 @@ fn check(
     instr: &Instr,
     labels: &mut Vec<Label>,
     operands: &mut Operands,
-) -> Result<(), Refusal>
+) -> Result<(), TypingError>
     ensures typed { Follows
         (typed_instr context.now (tree instr.now) (reverse labels.old.items) operands.old.current)
         operands.old operands.new result }

@@ -5,7 +5,7 @@ ghost use Rattle.wasm_types.specs.Modules.{func_type};
 ghost use Rattle.wasm_typing.specs.Steps.{Follows};
 
 use crate::operands::Operands;
-use crate::refusal::Refusal;
+use crate::refusal::TypingError;
 use crate::steps::{operate, pop_type};
 use wasm_types::{FuncType, ValType, operator_of, result_of};
 
@@ -15,14 +15,14 @@ pub(crate) fn typed_call(
     funcs: &[u32],
     func: u32,
     operands: &mut Operands,
-) -> Result<(), Refusal>
+) -> Result<(), TypingError>
     ensures { Follows
         (typed_call (map func_type types.now) funcs.now func operands.old.current)
         operands.old operands.new result }
 {
     match funcs.get(func as usize) {
         Some(t) => call_type(types, *t, operands),
-        None => Err(Refusal::Invalid),
+        None => Err(TypingError::Invalid),
     }
 }
 
@@ -32,7 +32,7 @@ pub(crate) fn typed_call_indirect(
     types: &[FuncType],
     type_index: u32,
     operands: &mut Operands,
-) -> Result<(), Refusal>
+) -> Result<(), TypingError>
     ensures { Follows
         (typed_call_indirect has_table (map func_type types.now) type_index operands.old.current)
         operands.old operands.new result }
@@ -41,28 +41,32 @@ pub(crate) fn typed_call_indirect(
     if has_table {
         call_type(types, type_index, operands)
     } else {
-        Err(Refusal::Invalid)
+        Err(TypingError::Invalid)
     }
 }
 
 // A call of a function of this type.
-fn call_type(types: &[FuncType], type_index: u32, operands: &mut Operands) -> Result<(), Refusal>
+fn call_type(
+    types: &[FuncType],
+    type_index: u32,
+    operands: &mut Operands,
+) -> Result<(), TypingError>
     ensures { Follows
         (call_type (map func_type types.now) type_index operands.old.current)
         operands.old operands.new result }
 {
     match types.get(type_index as usize) {
         Some(callee) => operate(operands, &callee.params, result_of(callee)),
-        None => Err(Refusal::Invalid),
+        None => Err(TypingError::Invalid),
     }
 }
 
 /// An operator by its opcode.
-pub(crate) fn typed_operator(opcode: u8, operands: &mut Operands) -> Result<(), Refusal>
+pub(crate) fn typed_operator(opcode: u8, operands: &mut Operands) -> Result<(), TypingError>
     ensures { Follows (typed_operator opcode operands.old.current) operands.old operands.new result }
 {
     match operator_of(opcode) {
-        None => Err(Refusal::Invalid),
+        None => Err(TypingError::Invalid),
         Some(op) => {
             if op.is_binary {
                 operate(operands, &[op.operand, op.operand], Some(op.gives))

@@ -4,7 +4,7 @@ ghost use Rattle.wasm_types.specs.Labels.{is_same_label, table_label, typed_bran
 ghost use Rattle.wasm_typing.specs.Steps.{Follows, Finds};
 
 use crate::operands::Operands;
-use crate::refusal::Refusal;
+use crate::refusal::TypingError;
 use crate::steps::{jump_with, pop_result, pop_type, push_result};
 use wasm_types::ValType;
 
@@ -12,25 +12,25 @@ use wasm_types::ValType;
 pub(crate) type Label = Option<ValType>;
 
 /// The label of the block that many blocks out.
-pub(crate) fn label_at(labels: &[Label], depth: u32) -> Result<Label, Refusal>
+pub(crate) fn label_at(labels: &[Label], depth: u32) -> Result<Label, TypingError>
     ensures { Finds (slice_get (reverse labels.now) depth) result }
 {
     let depth = depth as usize;
     if depth < labels.len() {
         Ok(labels[labels.len() - 1 - depth])
     } else {
-        Err(Refusal::Invalid)
+        Err(TypingError::Invalid)
     }
 }
 
 /// The label of a table of branches, which are all of one type.
-pub(crate) fn table_label(labels: &[Label], depths: &[u32], last: u32) -> Result<Label, Refusal>
+pub(crate) fn table_label(labels: &[Label], depths: &[u32], last: u32) -> Result<Label, TypingError>
     ensures { Finds (table_label (reverse labels.now) depths.now last) result }
 {
     let label = label_at(labels, last)?;
     for depth in depths {
         if !is_same(label, label_at(labels, *depth)?) {
-            return Err(Refusal::Invalid);
+            return Err(TypingError::Invalid);
         }
     }
     Ok(label)
@@ -40,7 +40,7 @@ pub(crate) fn typed_branch(
     labels: &[Label],
     depth: u32,
     operands: &mut Operands,
-) -> Result<(), Refusal>
+) -> Result<(), TypingError>
     ensures { Follows
         (typed_branch (reverse labels.now) depth operands.old.current)
         operands.old operands.new result }
@@ -52,7 +52,7 @@ pub(crate) fn typed_branch_if(
     labels: &[Label],
     depth: u32,
     operands: &mut Operands,
-) -> Result<(), Refusal>
+) -> Result<(), TypingError>
     ensures { Follows
         (typed_branch_if (reverse labels.now) depth operands.old.current)
         operands.old operands.new result }
@@ -68,7 +68,7 @@ pub(crate) fn typed_branch_table(
     depths: &[u32],
     last: u32,
     operands: &mut Operands,
-) -> Result<(), Refusal>
+) -> Result<(), TypingError>
     ensures { Follows
         (typed_branch_table (reverse labels.now) depths.now last operands.old.current)
         operands.old operands.new result }

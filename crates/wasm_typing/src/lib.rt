@@ -20,4 +20,4 @@ mod steps;
 pub use bodies::check_body;
 pub use context::Context;
 pub use locals::Locals;
-pub use refusal::Refusal;
+pub use refusal::TypingError;

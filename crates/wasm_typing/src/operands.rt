@@ -1,6 +1,6 @@
 // The operands' types, as one stack for all open blocks.
 ghost use Rattle.std.specs.Prelude.{◌≡◌, [], ◌∷◌, List, OnOk, MatchOption, ◌&&◌};
-ghost use Rattle.wasm_types.specs.Stack.{empty_stack, jumped, push, pop, has_none, Stack};
+ghost use Rattle.wasm_types.specs.Stack.{empty_stack, jumped, push, pop, has_none, BlockStack};
 
 use std::alloc::{AllocError, Global};
 use std::marker::Model;
@@ -104,7 +104,7 @@ impl Operands {
     /// Ends a block, and says whether it had no operands left.
     pub(crate) fn leave(&mut self) -> bool
         ensures exact { result ≡ has_none self.old.current.types }
-        ensures outer { (s : Stack) (rest : List Stack) → self.old.outer ≡ s ∷ rest →
+        ensures outer { (s : BlockStack) (rest : List BlockStack) → self.old.outer ≡ s ∷ rest →
             self.new ≡ record { current = s; outer = rest } }
     {
         let exact = self.types.len() == self.current.height;

@@ -1,29 +1,29 @@
 // Why a check ends early.
 ghost use Rattle.std.specs.Prelude.{◌≡◌};
-ghost use Rattle.wasm_typing.specs.declared.refusal.Refusal.TheVariants.{OutOfMemory};
+ghost use Rattle.wasm_typing.specs.declared.refusal.TypingError.TheVariants.{OutOfMemory};
 
 use std::alloc::{AllocError, AllocFailed};
 
 /// Why a check ends early.
 #[derive(Clone, Copy, Debug, PartialEq, Eq, Drop)]
-pub enum Refusal {
+pub enum TypingError {
     /// What is checked breaks the rule.
     Invalid,
     OutOfMemory,
 }
 
-impl From<AllocError> for Refusal {
+impl From<AllocError> for TypingError {
     ghost from_gives = { λ _ e. e ≡ OutOfMemory };
 
-    fn from(_failed: AllocError) -> Refusal {
-        Refusal::OutOfMemory
+    fn from(_failed: AllocError) -> TypingError {
+        TypingError::OutOfMemory
     }
 }
 
-impl<T: Drop> From<AllocFailed<T>> for Refusal {
+impl<T: Drop> From<AllocFailed<T>> for TypingError {
     ghost from_gives = { λ _ e. e ≡ OutOfMemory };
 
-    fn from(_failed: AllocFailed<T>) -> Refusal {
-        Refusal::OutOfMemory
+    fn from(_failed: AllocFailed<T>) -> TypingError {
+        TypingError::OutOfMemory
     }
 }

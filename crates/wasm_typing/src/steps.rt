@@ -4,21 +4,21 @@ ghost use Rattle.wasm_types.specs.Stack.{pop_type, pop_types, pop_result, push_r
 ghost use Rattle.wasm_typing.specs.Steps.{Follows, Finds};
 
 use crate::operands::{Operand, Operands};
-use crate::refusal::Refusal;
+use crate::refusal::TypingError;
 use wasm_types::ValType;
 
 /// An operand of this type.
-pub(crate) fn pop_type(operands: &mut Operands, expected: ValType) -> Result<(), Refusal>
+pub(crate) fn pop_type(operands: &mut Operands, expected: ValType) -> Result<(), TypingError>
     ensures { Follows (pop_type expected operands.old.current) operands.old operands.new result }
 {
     match operands.pop() {
-        None => Err(Refusal::Invalid),
+        None => Err(TypingError::Invalid),
         Some(None) => Ok(()),
         Some(Some(found)) => {
             if found == expected {
                 Ok(())
             } else {
-                Err(Refusal::Invalid)
+                Err(TypingError::Invalid)
             }
         }
     }
@@ -27,7 +27,7 @@ pub(crate) fn pop_type(operands: &mut Operands, expected: ValType) -> Result<(),
 /// Operands of these types, the last on top.
 // Where nothing is known of what lies below, the rest is not read: a call in unreachable code costs no
 // more than its operands that are there.
-pub(crate) fn pop_types(operands: &mut Operands, expected: &[ValType]) -> Result<(), Refusal>
+pub(crate) fn pop_types(operands: &mut Operands, expected: &[ValType]) -> Result<(), TypingError>
     ensures { Follows (pop_types expected.now operands.old.current) operands.old operands.new result }
 {
     for t in expected.iter().rev() {
@@ -42,7 +42,7 @@ pub(crate) fn pop_types(operands: &mut Operands, expected: &[ValType]) -> Result
 pub(crate) fn pop_result(
     operands: &mut Operands,
     result_type: Option<ValType>,
-) -> Result<(), Refusal>
+) -> Result<(), TypingError>
     ensures { Follows (pop_result result_type operands.old.current) operands.old operands.new result }
 {
     match result_type {
@@ -54,7 +54,7 @@ pub(crate) fn pop_result(
 pub(crate) fn push_result(
     operands: &mut Operands,
     result_type: Option<ValType>,
-) -> Result<(), Refusal>
+) -> Result<(), TypingError>
     ensures { Follows
         (Some (push_result result_type operands.old.current))
         operands.old operands.new result }
@@ -65,7 +65,7 @@ pub(crate) fn push_result(
     }
 }
 
-pub(crate) fn push_type(operands: &mut Operands, pushed: ValType) -> Result<(), Refusal>
+pub(crate) fn push_type(operands: &mut Operands, pushed: ValType) -> Result<(), TypingError>
     ensures { Follows
         (Some (push (Some pushed) operands.old.current))
         operands.old operands.new result }
@@ -79,7 +79,7 @@ pub(crate) fn operate(
     operands: &mut Operands,
     params: &[ValType],
     result_type: Option<ValType>,
-) -> Result<(), Refusal>
+) -> Result<(), TypingError>
     ensures { Follows
         (operate params.now result_type operands.old.current)
         operands.old operands.new result }
@@ -89,7 +89,7 @@ pub(crate) fn operate(
 }
 
 /// A jump that takes the label's operand.
-pub(crate) fn jump_with(operands: &mut Operands, label: Option<ValType>) -> Result<(), Refusal>
+pub(crate) fn jump_with(operands: &mut Operands, label: Option<ValType>) -> Result<(), TypingError>
     ensures { Follows (jump_with label operands.old.current) operands.old operands.new result }
 {
     pop_result(operands, label)?;
@@ -98,32 +98,32 @@ pub(crate) fn jump_with(operands: &mut Operands, label: Option<ValType>) -> Resu
 }
 
 /// An operand of any type.
-pub(crate) fn typed_drop_top(operands: &mut Operands) -> Result<(), Refusal>
+pub(crate) fn typed_drop_top(operands: &mut Operands) -> Result<(), TypingError>
     ensures { Follows (typed_drop_top operands.old.current) operands.old operands.new result }
 {
     match operands.pop() {
-        None => Err(Refusal::Invalid),
+        None => Err(TypingError::Invalid),
         Some(_) => Ok(()),
     }
 }
 
 /// One of two operands of one type, by a test.
-pub(crate) fn typed_select(operands: &mut Operands) -> Result<(), Refusal>
+pub(crate) fn typed_select(operands: &mut Operands) -> Result<(), TypingError>
     ensures { Follows (typed_select operands.old.current) operands.old operands.new result }
 {
     pop_type(operands, ValType::I32)?;
     let Some(second) = operands.pop() else {
-        return Err(Refusal::Invalid);
+        return Err(TypingError::Invalid);
     };
     let Some(first) = operands.pop() else {
-        return Err(Refusal::Invalid);
+        return Err(TypingError::Invalid);
     };
     let both = common_type(first, second)?;
     operands.push(both)?;
     Ok(())
 }
 
-fn common_type(first: Operand, second: Operand) -> Result<Operand, Refusal>
+fn common_type(first: Operand, second: Operand) -> Result<Operand, TypingError>
     ensures { Finds (common_type first second) result }
 {
     match (first, second) {
@@ -133,7 +133,7 @@ fn common_type(first: Operand, second: Operand) -> Result<Operand, Refusal>
             if t == u {
                 Ok(first)
             } else {
-                Err(Refusal::Invalid)
+                Err(TypingError::Invalid)
             }
         }
     }

@@ -17,7 +17,7 @@ use crate::sizes::is_over_limit;
 use crate::start::has_no_start;
 use std::alloc::Global;
 use wasm_types::Module;
-use wasm_typing::Refusal;
+use wasm_typing::TypingError;
 
 /// Whether the module is valid, or else the first refusal that holds.
 pub(crate) fn check(alloc: Global, module: &Module) -> Result<(), Invalid>
@@ -34,8 +34,8 @@ pub(crate) fn check(alloc: Global, module: &Module) -> Result<(), Invalid>
     let type_indices = type_indices(alloc, module)?;
     match check_typed(alloc, module, &type_indices) {
         Ok(()) => {}
-        Err(Refusal::Invalid) => return Err(Invalid::Untyped),
-        Err(Refusal::OutOfMemory) => return Err(Invalid::NoMemory),
+        Err(TypingError::Invalid) => return Err(Invalid::Untyped),
+        Err(TypingError::OutOfMemory) => return Err(Invalid::NoMemory),
     }
     if is_over_limit(module) {
         return Err(Invalid::OverLimit);
@@ -47,7 +47,7 @@ pub(crate) fn check(alloc: Global, module: &Module) -> Result<(), Invalid>
 }
 
 // Whether the module is well typed.
-fn check_typed(alloc: Global, module: &Module, type_indices: &[u32]) -> Result<(), Refusal>
+fn check_typed(alloc: Global, module: &Module, type_indices: &[u32]) -> Result<(), TypingError>
     requires indices { type_indices.now ≡ funcs_of (module_of «module».now) }
     requires imports { All (IsOfLibrary (module_of «module».now).types) (module_of «module».now).imports }
     ensures { Judges (IsTyped (module_of «module».now)) result }

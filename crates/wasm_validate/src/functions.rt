@@ -7,14 +7,14 @@ ghost use Rattle.wasm_typing.specs.Steps.{Judges};
 
 use std::alloc::{AllocError, Global};
 use wasm_types::{Func, ImportDesc, Module, result_of, type_at};
-use wasm_typing::{Context, Locals, Refusal, check_body};
+use wasm_typing::{Context, Locals, TypingError, check_body};
 
 /// Whether each function has a type of the module, and code that is well typed.
 pub(crate) fn check_functions(
     alloc: Global,
     module: &Module,
     type_indices: &[u32],
-) -> Result<(), Refusal>
+) -> Result<(), TypingError>
     requires { type_indices.now ≡ funcs_of (module_of «module».now) }
     ensures { Judges (AreTypedFuncs (module_of «module».now)) result }
 {
@@ -45,12 +45,12 @@ fn check_function(
     module: &Module,
     type_indices: &[u32],
     function: &Func,
-) -> Result<(), Refusal>
+) -> Result<(), TypingError>
     requires { type_indices.now ≡ funcs_of (module_of «module».now) }
     ensures { Judges (IsTypedFunc (module_of «module».now) (func function.now)) result }
 {
     let Some(func_type) = type_at(module, function.type_index) else {
-        return Err(Refusal::Invalid);
+        return Err(TypingError::Invalid);
     };
     let locals = Locals::new(alloc, &func_type.params, &function.locals)?;
     let context = Context::new(module, type_indices, locals, result_of(func_type));

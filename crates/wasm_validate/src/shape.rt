@@ -15,28 +15,28 @@ use crate::segments::{are_elems, are_segments};
 use crate::start::is_start;
 use std::alloc::Global;
 use wasm_types::Module;
-use wasm_typing::Refusal;
+use wasm_typing::TypingError;
 
 /// Whether the module keeps all rules but those of its functions' code.
 pub(crate) fn check_shape(
     alloc: Global,
     module: &Module,
     type_indices: &[u32],
-) -> Result<(), Refusal>
+) -> Result<(), TypingError>
     requires indices { type_indices.now ≡ funcs_of (module_of «module».now) }
     requires imports { All (IsOfLibrary (module_of «module».now).types) (module_of «module».now).imports }
     ensures { Judges (HasShape (module_of «module».now)) result }
 {
     if !is_within_limits(module) {
-        return Err(Refusal::Invalid);
+        return Err(TypingError::Invalid);
     }
     if !is_linked(module, type_indices) {
-        return Err(Refusal::Invalid);
+        return Err(TypingError::Invalid);
     }
     if have_own_names(alloc, &module.exports)? {
         Ok(())
     } else {
-        Err(Refusal::Invalid)
+        Err(TypingError::Invalid)
     }
 }
 

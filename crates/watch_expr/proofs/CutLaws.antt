@@ -2,7 +2,7 @@
 use Rattle.std.proofs.Common.{◌≡◌, ◌↔◌, ℕ, zero, suc, ◌+◌, ◌≤◌, Bool, true, false, cond, List, [], ◌∷◌, length, take, drop, Option, Some, None, Result, Ok, Err, refl, ap, ◌∙◌, subst, arith, length-drop}
 use Rattle.watch_expr.specs.Lexing.{Placed, is_blank, IsLongest, BeginsNone, Lexes, end, blank, token, IsBadAt, here, past_blank, past_token}
 use Rattle.watch_expr.specs.Front.{front}
-use Rattle.watch_expr.specs.Computed.{onto, from_front, cut_from, cut}
+use Rattle.watch_expr.specs.Computed.{onto, from_front, cut_from, cut_tokens}
 use Rattle.watch_expr.proofs.Longest.{front_longest, front_none, longest_some, blank_none}
 
 -- ---- the longest token is computed
@@ -102,12 +102,12 @@ says (suc most) column (b ∷ bytes) le = says_first most (λ c bs short. says m
 
 -- ---- a whole line
 
-pub tokens : (line : List ℕ) (ts : List Placed) → (cut line ≡ Ok ts) ↔ Lexes 1 line ts
-unfolding cut
+pub tokens : (line : List ℕ) (ts : List Placed) → (cut_tokens line ≡ Ok ts) ↔ Lexes 1 line ts
+unfolding cut_tokens
 tokens line ts =
     (λ e. subst (Says 1 line) e (says (length line) 1 line (omega arith)), λ h. cut_again h (length line) (omega arith))
 
-pub bad : (line : List ℕ) (column : ℕ) → (cut line ≡ Err column) ↔ IsBadAt 1 line column
-unfolding cut
+pub bad : (line : List ℕ) (column : ℕ) → (cut_tokens line ≡ Err column) ↔ IsBadAt 1 line column
+unfolding cut_tokens
 bad line column =
     (λ e. subst (Says 1 line) e (says (length line) 1 line (omega arith)), λ h. bad_again h (length line) (omega arith))

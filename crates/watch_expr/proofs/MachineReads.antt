@@ -15,9 +15,9 @@ use Rattle.watch_expr.specs.declared.stack.Half.TheVariants as half
 use Rattle.watch_expr.specs.declared.word.PlaceWord.{PlaceWord}
 use Rattle.watch_expr.specs.declared.word.PlaceWord.TheVariants as place
 use Rattle.watch_expr.specs.Expression.{Expression, Number, One, Two, Over, Var, Load, Global, Clock, Events, Size}
-use Rattle.watch_expr.specs.Spelling.{is_word, number_of, node_of, binary_sign, binary_of, unary_sign, unary_of, agg_word, agg_of, place_word, place_of}
+use Rattle.watch_expr.specs.Spelling.{is_word, number_of, node_of_word, binary_sign, binary_of, unary_sign, unary_of, agg_word, agg_of, place_word, place_of}
 use Rattle.watch_expr.specs.Grammar.{UNARY, FIRST, operator_level, left_level, IsAt, higher, two, one, number, variable, brackets, over, load, global, clock, events, size, IsExpr, BeginsExpr}
-use Rattle.watch_expr.specs.Machine.{Pending, Left, Front, Inside, MachineState, Want, Have, Part, settle_operators, after_operator, closing, is_closed_with, enclose, close, Went, More, Whole, Opens, when, only_if, at_place, begin_as, begun_by, onward, lead, want_sign, want_number, have_as, step, steps, alone, whole}
+use Rattle.watch_expr.specs.Machine.{PendingOperator, Left, Front, Inside, MachineState, Want, Have, Part, settle_operators, after_operator, closing, is_closed_with, enclose, close, Went, More, Whole, Opens, when, only_if, at_place, begin_as, begun_by, onward, lead, want_sign, want_number, have_as, step, steps, whole_expression, whole}
 use Rattle.watch_expr.proofs.Settling.{tested, left_high, left_low, Fits, fits_more, fits_unary, settle_stops, operator_goes, operator_gave}
 use Rattle.watch_expr.proofs.Words.{same_bytes, binary_is, binary_again, unary_is, agg_is, place_is, place_again, sign_read, agg_read, bracket_read, dollar_read, at_read, closing_again, zero_is}
 
@@ -49,14 +49,14 @@ module _ (names : List (List ℕ)) where
   reached (Some st) ks last e = (st, refl)
 
   -- the tokens lead from an operand that is wanted to one that is had, and it settles as x does
-  pub record Reads (k : ℕ) (s : List Pending) (ts : List (List ℕ)) (x : Expression) : Type 0 where
-    pub after : List Pending
+  pub record Reads (k : ℕ) (s : List PendingOperator) (ts : List (List ℕ)) (x : Expression) : Type 0 where
+    pub after : List PendingOperator
     pub last : Expression
     pub reads : steps names (Some (Want s)) ts ≡ Some (Have after last)
     pub settles : (m : ℕ) → m ≤ k → settle_operators m after last ≡ settle_operators m s x
 
   -- what is enclosed, with the token that closes it
-  closed : (o : Opening) (s : List Pending) (a : List (List ℕ)) (x : Expression) → Reads 0 (Inside o ∷ s) a x → steps names (Some (Want (Inside o ∷ s))) (a ++ closing o ∷ []) ≡ Some (Have s (enclose o x))
+  closed : (o : Opening) (s : List PendingOperator) (a : List (List ℕ)) (x : Expression) → Reads 0 (Inside o ∷ s) a x → steps names (Some (Want (Inside o ∷ s))) (a ++ closing o ∷ []) ≡ Some (Have s (enclose o x))
   closed o s a x r =
       let k = closing o in
       let p : settle_operators 0 r.after r.last ≡ (Inside o ∷ s, x) = r.settles 0 (omega arith) in
@@ -66,26 +66,26 @@ module _ (names : List (List ℕ)) where
       steps_append (Some (Want (Inside o ∷ s))) a (k ∷ []) ∙ ap (λ (o : Option MachineState). steps names o (k ∷ [])) r.reads ∙ ap (λ (o : Option MachineState). steps names o []) q
 
   -- a fixed sequence in front of the rest
-  variable_steps : (s : List Pending) (word : List ℕ) → is_word word ≡ true → steps names (Some (Want s)) (codes "$" ∷ word ∷ []) ≡ Some (Have s (Var word))
+  variable_steps : (s : List PendingOperator) (word : List ℕ) → is_word word ≡ true → steps names (Some (Want s)) (codes "$" ∷ word ∷ []) ≡ Some (Have s (Var word))
   variable_steps s word e =
       ap (λ (o : Option MachineState). steps names o (word ∷ [])) (dollar_read names s) ∙ ap (λ (b : Bool). steps names (lead s (only_if b (Whole (Var word)))) []) e
 
-  agg_steps : (s : List Pending) (a : Agg) (rest : List (List ℕ)) → steps names (Some (Want s)) (agg_word a ∷ codes "(" ∷ rest) ≡ steps names (Some (Want (Inside (opening.Call a) ∷ s))) rest
+  agg_steps : (s : List PendingOperator) (a : Agg) (rest : List (List ℕ)) → steps names (Some (Want s)) (agg_word a ∷ codes "(" ∷ rest) ≡ steps names (Some (Want (Inside (opening.Call a) ∷ s))) rest
   agg_steps s a rest = ap (λ (o : Option MachineState). steps names o (codes "(" ∷ rest)) (agg_read names s a)
 
-  place_steps : (s : List Pending) (name : List ℕ) (p : PlaceWord) (rest : List (List ℕ)) → is_word name ≡ true → steps names (Some (Want s)) (codes "@" ∷ name ∷ codes "." ∷ place_word p ∷ rest) ≡ steps names (lead s (Some (at_place (node_of names name) p))) rest
+  place_steps : (s : List PendingOperator) (name : List ℕ) (p : PlaceWord) (rest : List (List ℕ)) → is_word name ≡ true → steps names (Some (Want s)) (codes "@" ∷ name ∷ codes "." ∷ place_word p ∷ rest) ≡ steps names (lead s (Some (at_place (node_of_word names name) p))) rest
   place_steps s name p rest e =
-      let node = node_of names name in
+      let node = node_of_word names name in
       ap (λ (o : Option MachineState). steps names o (name ∷ codes "." ∷ place_word p ∷ rest)) (at_read names s)
       ∙ ap (λ (b : Bool). steps names (lead s (only_if b (More (half.Node node)))) (codes "." ∷ place_word p ∷ rest)) e
       ∙ ap (λ (o : Option PlaceWord). steps names (lead s (when o (at_place node))) rest) (place_again p)
 
-  global_steps : (s : List Pending) (name word : List ℕ) (n : ℕ) → is_word name ≡ true → number_of word ≡ Some n → steps names (Some (Want s)) (codes "@" ∷ name ∷ codes "." ∷ codes "global" ∷ codes "[" ∷ word ∷ codes "]" ∷ []) ≡ Some (Have s (Global (node_of names name) n))
+  global_steps : (s : List PendingOperator) (name word : List ℕ) (n : ℕ) → is_word name ≡ true → number_of word ≡ Some n → steps names (Some (Want s)) (codes "@" ∷ name ∷ codes "." ∷ codes "global" ∷ codes "[" ∷ word ∷ codes "]" ∷ []) ≡ Some (Have s (Global (node_of_word names name) n))
   global_steps s name word n e f =
       place_steps s name place.Global (codes "[" ∷ word ∷ codes "]" ∷ []) e
-      ∙ ap (λ (o : Option ℕ). steps names (lead s (when o (λ k. More (half.Indexed (node_of names name) k)))) (codes "]" ∷ [])) f
+      ∙ ap (λ (o : Option ℕ). steps names (lead s (when o (λ k. More (half.Indexed (node_of_word names name) k)))) (codes "]" ∷ [])) f
 
-  pub read_again : {k : ℕ} {ts : List (List ℕ)} {x : Expression} → IsAt names k ts x → (s : List Pending) → Fits k s → Reads k s ts x
+  pub read_again : {k : ℕ} {ts : List (List ℕ)} {x : Expression} → IsAt names k ts x → (s : List PendingOperator) → Fits k s → Reads k s ts x
   read_again {k} {ts} {x} (higher h) s fits =
       let r = read_again h s (fits_more k (suc k) s (omega arith) fits) in
       record { after = r.after; last = r.last; reads = r.reads; settles = λ m le. r.settles m (omega arith) }
@@ -114,19 +114,19 @@ module _ (names : List (List ℕ)) where
       let inner = closed (opening.Call agg) s a x (read_again p (Inside (opening.Call agg) ∷ s) tt) in
       record { after = s; last = Over agg x; reads = agg_steps s agg (a ++ codes ")" ∷ []) ∙ inner; settles = λ m le. refl }
   read_again (load {a} {x} name width e p) s fits =
-      let o = opening.Load (node_of names name) width in
+      let o = opening.Load (node_of_word names name) width in
       let inner = closed o s a x (read_again p (Inside o ∷ s) tt) in
-      record { after = s; last = Load (node_of names name) width x; reads = place_steps s name (place.Load width) (codes "[" ∷ (a ++ codes "]" ∷ [])) e ∙ inner; settles = λ m le. refl }
-  read_again (global name word n e f) s fits = record { after = s; last = Global (node_of names name) n; reads = global_steps s name word n e f; settles = λ m le. refl }
-  read_again (clock name e) s fits = record { after = s; last = Clock (node_of names name); reads = place_steps s name place.Clock [] e; settles = λ m le. refl }
-  read_again (events name e) s fits = record { after = s; last = Events (node_of names name); reads = place_steps s name place.Events [] e; settles = λ m le. refl }
-  read_again (size name e) s fits = record { after = s; last = Size (node_of names name); reads = place_steps s name place.Size [] e; settles = λ m le. refl }
+      record { after = s; last = Load (node_of_word names name) width x; reads = place_steps s name (place.Load width) (codes "[" ∷ (a ++ codes "]" ∷ [])) e ∙ inner; settles = λ m le. refl }
+  read_again (global name word n e f) s fits = record { after = s; last = Global (node_of_word names name) n; reads = global_steps s name word n e f; settles = λ m le. refl }
+  read_again (clock name e) s fits = record { after = s; last = Clock (node_of_word names name); reads = place_steps s name place.Clock [] e; settles = λ m le. refl }
+  read_again (events name e) s fits = record { after = s; last = Events (node_of_word names name); reads = place_steps s name place.Events [] e; settles = λ m le. refl }
+  read_again (size name e) s fits = record { after = s; last = Size (node_of_word names name); reads = place_steps s name place.Size [] e; settles = λ m le. refl }
 
   -- what is spelled is a whole expression
   pub whole_again : (ts : List (List ℕ)) (x : Expression) → IsExpr names ts x → (st : MachineState) × (steps names (Some (Want [])) ts ≡ Some st) × (whole st ≡ Some x)
   whole_again ts x h =
       let r = read_again h [] tt in
-      (Have r.after r.last, r.reads, ap alone (r.settles 0 (omega arith)))
+      (Have r.after r.last, r.reads, ap whole_expression (r.settles 0 (omega arith)))
 
   -- what begins an expression is read
   pub begins_reads : (ts : List (List ℕ)) → BeginsExpr names ts → (st : MachineState) × (steps names (Some (Want [])) ts ≡ Some st)
@@ -140,18 +140,18 @@ module _ (names : List (List ℕ)) where
   abbrev pub IsOpening : Opening → List (List ℕ) → Type 0
   IsOpening opening.Bracket ts = ts ≡ codes "(" ∷ []
   IsOpening (opening.Call agg) ts = ts ≡ agg_word agg ∷ codes "(" ∷ []
-  IsOpening (opening.Load node width) ts = (name : List ℕ) × (is_word name ≡ true) × (node_of names name ≡ node) × (ts ≡ codes "@" ∷ name ∷ codes "." ∷ place_word (place.Load width) ∷ codes "[" ∷ [])
+  IsOpening (opening.Load node width) ts = (name : List ℕ) × (is_word name ≡ true) × (node_of_word names name ≡ node) × (ts ≡ codes "@" ∷ name ∷ codes "." ∷ place_word (place.Load width) ∷ codes "[" ∷ [])
 
   -- the tokens that begin an operand
   abbrev pub IsHalf : Half → List (List ℕ) → Type 0
   IsHalf half.Dollar ts = ts ≡ codes "$" ∷ []
   IsHalf half.At ts = ts ≡ codes "@" ∷ []
-  IsHalf (half.Node n) ts = (name : List ℕ) × (is_word name ≡ true) × (node_of names name ≡ n) × (ts ≡ codes "@" ∷ name ∷ [])
-  IsHalf (half.Dotted n) ts = (name : List ℕ) × (is_word name ≡ true) × (node_of names name ≡ n) × (ts ≡ codes "@" ∷ name ∷ codes "." ∷ [])
-  IsHalf (half.Sized n width) ts = (name : List ℕ) × (is_word name ≡ true) × (node_of names name ≡ n) × (ts ≡ codes "@" ∷ name ∷ codes "." ∷ place_word (place.Load width) ∷ [])
-  IsHalf (half.GlobalOf n) ts = (name : List ℕ) × (is_word name ≡ true) × (node_of names name ≡ n) × (ts ≡ codes "@" ∷ name ∷ codes "." ∷ codes "global" ∷ [])
-  IsHalf (half.Indexing n) ts = (name : List ℕ) × (is_word name ≡ true) × (node_of names name ≡ n) × (ts ≡ codes "@" ∷ name ∷ codes "." ∷ codes "global" ∷ codes "[" ∷ [])
-  IsHalf (half.Indexed n k) ts = (name word : List ℕ) × (is_word name ≡ true) × (node_of names name ≡ n) × (number_of word ≡ Some k) × (ts ≡ codes "@" ∷ name ∷ codes "." ∷ codes "global" ∷ codes "[" ∷ word ∷ [])
+  IsHalf (half.Node n) ts = (name : List ℕ) × (is_word name ≡ true) × (node_of_word names name ≡ n) × (ts ≡ codes "@" ∷ name ∷ [])
+  IsHalf (half.Dotted n) ts = (name : List ℕ) × (is_word name ≡ true) × (node_of_word names name ≡ n) × (ts ≡ codes "@" ∷ name ∷ codes "." ∷ [])
+  IsHalf (half.Sized n width) ts = (name : List ℕ) × (is_word name ≡ true) × (node_of_word names name ≡ n) × (ts ≡ codes "@" ∷ name ∷ codes "." ∷ place_word (place.Load width) ∷ [])
+  IsHalf (half.GlobalOf n) ts = (name : List ℕ) × (is_word name ≡ true) × (node_of_word names name ≡ n) × (ts ≡ codes "@" ∷ name ∷ codes "." ∷ codes "global" ∷ [])
+  IsHalf (half.Indexing n) ts = (name : List ℕ) × (is_word name ≡ true) × (node_of_word names name ≡ n) × (ts ≡ codes "@" ∷ name ∷ codes "." ∷ codes "global" ∷ codes "[" ∷ [])
+  IsHalf (half.Indexed n k) ts = (name word : List ℕ) × (is_word name ≡ true) × (node_of_word names name ≡ n) × (number_of word ≡ Some k) × (ts ≡ codes "@" ∷ name ∷ codes "." ∷ codes "global" ∷ codes "[" ∷ word ∷ [])
   IsHalf (half.Named agg) ts = ts ≡ agg_word agg ∷ []
 
   -- what an operand that has begun came to
@@ -161,7 +161,7 @@ module _ (names : List (List ℕ)) where
   Came (Opens o) ts = IsOpening o ts
 
   -- the tokens that lead to what waits
-  abbrev pub Leads : List Pending → List (List ℕ) → Type 0
+  abbrev pub Leads : List PendingOperator → List (List ℕ) → Type 0
   Leads [] w = w ≡ []
   Leads (Left op x ∷ s) w = (b a : List (List ℕ)) × (w ≡ b ++ (a ++ binary_sign op ∷ [])) × Leads s b × IsAt names (left_level op) a x × Fits (operator_level op) s
   Leads (Front op ∷ s) w = (b : List (List ℕ)) × (w ≡ b ++ unary_sign op ∷ []) × Leads s b
@@ -174,7 +174,7 @@ module _ (names : List (List ℕ)) where
   Stands (Part s h) w = (b ts : List (List ℕ)) × (w ≡ b ++ ts) × Leads s b × IsHalf h ts
 
   -- what waits and an operand of this level
-  pub record Settled (m : ℕ) (w : List (List ℕ)) (p : List Pending × Expression) : Type 0 where
+  pub record Settled (m : ℕ) (w : List (List ℕ)) (p : List PendingOperator × Expression) : Type 0 where
     pub before : List (List ℕ)
     pub after : List (List ℕ)
     pub parts : w ≡ before ++ after
@@ -182,10 +182,10 @@ module _ (names : List (List ℕ)) where
     pub spelled : IsAt names m after p.1
     pub fits : Fits m p.0
 
-  moved : (m : ℕ) (v w : List (List ℕ)) (p q : List Pending × Expression) → v ≡ w → p ≡ q → Settled m v p → Settled m w q
-  moved m v w p q e f h = subst (λ (r : List Pending × Expression). Settled m w r) f (subst (λ (u : List (List ℕ)). Settled m u p) e h)
+  moved : (m : ℕ) (v w : List (List ℕ)) (p q : List PendingOperator × Expression) → v ≡ w → p ≡ q → Settled m v p → Settled m w q
+  moved m v w p q e f h = subst (λ (r : List PendingOperator × Expression). Settled m w r) f (subst (λ (u : List (List ℕ)). Settled m u p) e h)
 
-  settle_keeps : (m k : ℕ) (s : List Pending) (x : Expression) (b a : List (List ℕ)) → m ≤ 4 → m ≤ k → Fits k s → Leads s b → IsAt names k a x → Settled m (b ++ a) (settle_operators m s x)
+  settle_keeps : (m k : ℕ) (s : List PendingOperator) (x : Expression) (b a : List (List ℕ)) → m ≤ 4 → m ≤ k → Fits k s → Leads s b → IsAt names k a x → Settled m (b ++ a) (settle_operators m s x)
   settle_keeps m k [] x b a small le fits leads h = record { before = b; after = a; parts = refl; leads = leads; spelled = weaken k m a x le h; fits = tt }
   settle_keeps m k (Left op y ∷ s) x b a small le fits leads h =
       elim (tested (nat_le m (operator_level op))) [
@@ -204,7 +204,7 @@ module _ (names : List (List ℕ)) where
       moved m _ _ (settle_operators m s (One op x)) (settle_operators m (Front op ∷ s) x) parts refl rest
   settle_keeps m k (Inside o ∷ s) x b a small le fits leads h = record { before = b; after = a; parts = refl; leads = leads; spelled = weaken k m a x le h; fits = tt }
 
-  operator_keeps : (op : Binary) (p : List Pending × Expression) (w : List (List ℕ)) (st : MachineState) → Settled (left_level op) w p → after_operator op p ≡ Some st → Stands st (w ++ binary_sign op ∷ [])
+  operator_keeps : (op : Binary) (p : List PendingOperator × Expression) (w : List (List ℕ)) (st : MachineState) → Settled (left_level op) w p → after_operator op p ≡ Some st → Stands st (w ++ binary_sign op ∷ [])
   operator_keeps op p w st h e =
       let gave = operator_gave op p.0 p.1 st h.fits e in
       let is : Want (Left op p.1 ∷ p.0) ≡ st = let g = gave.0 in cc in
@@ -219,7 +219,7 @@ module _ (names : List (List ℕ)) where
   stood a b w e h = subst (λ (t : MachineState). Stands t w) (let i : a ≡ b = cc in i) h
 
   -- the places of a node that a name names
-  module _ (name : List ℕ) (n : NodeName) (is : is_word name ≡ true) (names_it : node_of names name ≡ n) where
+  module _ (name : List ℕ) (n : NodeName) (is : is_word name ≡ true) (names_it : node_of_word names name ≡ n) where
     load_of : {a : List (List ℕ)} {x : Expression} (width : Width) → IsAt names 0 a x → IsAt names FIRST (codes "@" ∷ name ∷ codes "." ∷ place_word (place.Load width) ∷ codes "[" ∷ (a ++ codes "]" ∷ [])) (Load n width x)
     load_of {a} {x} width h = subst (λ (m : NodeName). IsAt names FIRST (codes "@" ∷ name ∷ codes "." ∷ place_word (place.Load width) ∷ codes "[" ∷ (a ++ codes "]" ∷ [])) (Load m width x)) names_it (load name width is h)
 
@@ -244,7 +244,7 @@ module _ (names : List (List ℕ)) where
   enclosed_first : (o : Opening) (k : List ℕ) (ts a : List (List ℕ)) (x : Expression) → IsOpening o ts → IsAt names 0 a x → is_closed_with o k ≡ true → IsAt names FIRST (ts ++ (a ++ k ∷ [])) (enclose o x)
   enclosed_first o k ts a x i h e = subst (λ (t : List ℕ). IsAt names FIRST (ts ++ (a ++ t ∷ [])) (enclose o x)) (sym (same_bytes k (closing o) e)) (enclosed_closed o ts a x i h)
 
-  close_keeps : (k : List ℕ) (s : List Pending) (x : Expression) (w : List (List ℕ)) (st : MachineState) → Settled 0 w (s, x) → close k (s, x) ≡ Some st → Stands st (w ++ k ∷ [])
+  close_keeps : (k : List ℕ) (s : List PendingOperator) (x : Expression) (w : List (List ℕ)) (st : MachineState) → Settled 0 w (s, x) → close k (s, x) ≡ Some st → Stands st (w ++ k ∷ [])
   close_keeps k [] x w st h e = absurd cc
   close_keeps k (Left op y ∷ s) x w st h e = absurd cc
   close_keeps k (Front op ∷ s) x w st h e = absurd cc
@@ -254,7 +254,7 @@ module _ (names : List (List ℕ)) where
       let parts : w ++ k ∷ [] ≡ l.0 ++ (l.1 ++ (h.after ++ k ∷ [])) = rw (h.parts, l.2) (simp append_assoc) in
       subst (λ (t : MachineState). Stands t (w ++ k ∷ [])) c.1 (l.0, l.1 ++ (h.after ++ k ∷ []), parts, l.3, enclosed_first o k l.1 h.after x l.4 h.spelled c.0)
 
-  have_keeps : (s : List Pending) (x : Expression) (w b a : List (List ℕ)) (k : List ℕ) (st : MachineState) (o : Option Binary) → binary_of k ≡ o → w ≡ b ++ a → Leads s b → IsAt names FIRST a x → have_as o s x k ≡ Some st → Stands st (w ++ k ∷ [])
+  have_keeps : (s : List PendingOperator) (x : Expression) (w b a : List (List ℕ)) (k : List ℕ) (st : MachineState) (o : Option Binary) → binary_of k ≡ o → w ≡ b ++ a → Leads s b → IsAt names FIRST a x → have_as o s x k ≡ Some st → Stands st (w ++ k ∷ [])
   have_keeps s x w b a k st (Some op) is parts leads h e =
       let settled = settle_keeps (left_level op) FIRST s x b a (left_low op) (omega (arith, left_low op)) (fits_unary FIRST s (omega arith)) leads h in
       subst (λ (t : List ℕ). Stands st (w ++ t ∷ [])) (sym (binary_is k op is)) (operator_keeps op (settle_operators (left_level op) s x) w st (moved (left_level op) _ w _ _ (sym parts) refl settled) e)
@@ -295,7 +295,7 @@ module _ (names : List (List ℕ)) where
   begin_keeps : (k : List ℕ) (g : Went) → begun_by k ≡ Some g → Came g (k ∷ [])
   begin_keeps k g e = begin_as_keeps (agg_of k) k g refl e
 
-  place_keeps : (name : List ℕ) (n : NodeName) (p : PlaceWord) → is_word name ≡ true → node_of names name ≡ n → Came (at_place n p) (codes "@" ∷ name ∷ codes "." ∷ place_word p ∷ [])
+  place_keeps : (name : List ℕ) (n : NodeName) (p : PlaceWord) → is_word name ≡ true → node_of_word names name ≡ n → Came (at_place n p) (codes "@" ∷ name ∷ codes "." ∷ place_word p ∷ [])
   place_keeps name n (place.Load width) e f = (name, e, f, refl)
   place_keeps name n place.Global e f = (name, e, f, refl)
   place_keeps name n place.Clock e f = clock_of name n e f
@@ -304,7 +304,7 @@ module _ (names : List (List ℕ)) where
 
   onward_keeps : (h : Half) (k : List ℕ) (ts : List (List ℕ)) (g : Went) → IsHalf h ts → onward names h k ≡ Some g → Came g (ts ++ k ∷ [])
   onward_keeps half.Dollar k ts g h e = let p = given_some (is_word k) _ g e in came (Whole (Var k)) g _ p.1 (rw h (variable k p.0))
-  onward_keeps half.At k ts g h e = let p = given_some (is_word k) _ g e in came (More (half.Node (node_of names k))) g _ p.1 (k, p.0, refl, rw h refl)
+  onward_keeps half.At k ts g h e = let p = given_some (is_word k) _ g e in came (More (half.Node (node_of_word names k))) g _ p.1 (k, p.0, refl, rw h refl)
   onward_keeps (half.Node n) k ts g h e = let p = single k (codes ".") _ g e in came (More (half.Dotted n)) g _ p.1 (h.0, h.1, h.2, rw (h.3, p.0) refl)
   onward_keeps (half.Dotted n) k ts g h e =
       let p = when_some (place_of k) _ g e in
@@ -317,17 +317,17 @@ module _ (names : List (List ℕ)) where
   onward_keeps (half.Indexed n m) k ts g h e = let p = single k (codes "]") _ g e in came (Whole (Global n m)) g _ p.1 (rw (h.5, p.0) (global_of h.0 n h.2 h.3 h.1 m h.4))
   onward_keeps (half.Named agg) k ts g h e = let p = single k (codes "(") _ g e in came (Opens (opening.Call agg)) g _ p.1 (rw (h, p.0) refl)
 
-  lead_keeps : (s : List Pending) (o : Option Went) (b ts : List (List ℕ)) (st : MachineState) → Leads s b → ((g : Went) → o ≡ Some g → Came g ts) → lead s o ≡ Some st → Stands st (b ++ ts)
+  lead_keeps : (s : List PendingOperator) (o : Option Went) (b ts : List (List ℕ)) (st : MachineState) → Leads s b → ((g : Went) → o ≡ Some g → Came g ts) → lead s o ≡ Some st → Stands st (b ++ ts)
   lead_keeps s None b ts st leads h e = absurd cc
   lead_keeps s (Some (More half)) b ts st leads h e = stood (Part s half) st _ e (b, ts, refl, leads, h (More half) refl)
   lead_keeps s (Some (Whole x)) b ts st leads h e = stood (Have s x) st _ e (b, ts, refl, leads, h (Whole x) refl)
   lead_keeps s (Some (Opens o)) b ts st leads h e = stood (Want (Inside o ∷ s)) st _ e (b, ts, refl, leads, h (Opens o) refl)
 
-  want_sign_keeps : (s : List Pending) (w : List (List ℕ)) (k : List ℕ) (o : Option Unary) (st : MachineState) → unary_of k ≡ o → Leads s w → want_sign o s k ≡ Some st → Stands st (w ++ k ∷ [])
+  want_sign_keeps : (s : List PendingOperator) (w : List (List ℕ)) (k : List ℕ) (o : Option Unary) (st : MachineState) → unary_of k ≡ o → Leads s w → want_sign o s k ≡ Some st → Stands st (w ++ k ∷ [])
   want_sign_keeps s w k None st i h e = lead_keeps s (begun_by k) w (k ∷ []) st h (begin_keeps k) e
   want_sign_keeps s w k (Some op) st i h e = stood (Want (Front op ∷ s)) st _ e (w, ap (λ (t : List ℕ). w ++ t ∷ []) (unary_is k op i), h)
 
-  want_keeps : (s : List Pending) (w : List (List ℕ)) (k : List ℕ) (o : Option ℕ) (st : MachineState) → number_of k ≡ o → Leads s w → want_number o s k ≡ Some st → Stands st (w ++ k ∷ [])
+  want_keeps : (s : List PendingOperator) (w : List (List ℕ)) (k : List ℕ) (o : Option ℕ) (st : MachineState) → number_of k ≡ o → Leads s w → want_number o s k ≡ Some st → Stands st (w ++ k ∷ [])
   want_keeps s w k (Some n) st i h e = stood (Have s (Number n)) st _ e (w, k ∷ [], refl, h, number k n i)
   want_keeps s w k None st i h e = want_sign_keeps s w k (unary_of k) st refl h e
 
@@ -353,7 +353,7 @@ module _ (names : List (List ℕ)) where
   begins_is : (a b : List (List ℕ)) → a ≡ b → BeginsExpr names a → BeginsExpr names b
   begins_is a b e h = subst (BeginsExpr names) e h
 
-  completes : (k : ℕ) (s : List Pending) (x : Expression) (b a : List (List ℕ)) → Leads s b → Fits k s → IsAt names k a x → BeginsExpr names (b ++ a)
+  completes : (k : ℕ) (s : List PendingOperator) (x : Expression) (b a : List (List ℕ)) → Leads s b → Fits k s → IsAt names k a x → BeginsExpr names (b ++ a)
   completes k [] x b a leads fits h =
       begins_is a (b ++ a) (rw leads refl) (record { rest = []; whole = x; spelled = subst (λ (u : List (List ℕ)). IsExpr names u x) (sym (append-nil a)) (weaken k 0 a x (omega arith) h) })
   completes k (Left op y ∷ s) x b a leads fits h =
@@ -377,7 +377,7 @@ module _ (names : List (List ℕ)) where
 
   half_finishes : (h : Half) (ts : List (List ℕ)) → IsHalf h ts → Completes ts
   half_finishes half.Dollar ts h = (codes "a" ∷ [], Var (codes "a"), rw h (variable (codes "a") refl))
-  half_finishes half.At ts h = (codes "a" ∷ codes "." ∷ codes "clock" ∷ [], Clock (node_of names (codes "a")), rw h (clock (codes "a") refl))
+  half_finishes half.At ts h = (codes "a" ∷ codes "." ∷ codes "clock" ∷ [], Clock (node_of_word names (codes "a")), rw h (clock (codes "a") refl))
   half_finishes (half.Node n) ts h = (codes "." ∷ codes "clock" ∷ [], Clock n, rw h.3 (clock_of h.0 n h.1 h.2))
   half_finishes (half.Dotted n) ts h = (codes "clock" ∷ [], Clock n, rw h.3 (clock_of h.0 n h.1 h.2))
   half_finishes (half.Sized n width) ts h = (codes "[" ∷ codes "0" ∷ codes "]" ∷ [], Load n width (Number 0), rw h.3 (load_of h.0 n h.1 h.2 width zero_in))
@@ -386,7 +386,7 @@ module _ (names : List (List ℕ)) where
   half_finishes (half.Indexed n k) ts h = (codes "]" ∷ [], Global n k, rw h.5 (global_of h.0 n h.2 h.3 h.1 k h.4))
   half_finishes (half.Named agg) ts h = (codes "(" ∷ codes "0" ∷ codes ")" ∷ [], Over agg (Number 0), rw h (over agg zero_in))
 
-  want_begins : (s : List Pending) (w : List (List ℕ)) → Leads s w → BeginsExpr names w
+  want_begins : (s : List PendingOperator) (w : List (List ℕ)) → Leads s w → BeginsExpr names w
   want_begins s w h = begins_less w (codes "0" ∷ []) (completes FIRST s (Number 0) w (codes "0" ∷ []) h (fits_unary FIRST s (omega arith)) (number (codes "0") 0 zero_is))
 
   pub stands_begins : (st : MachineState) (w : List (List ℕ)) → Stands st w → BeginsExpr names w
@@ -399,13 +399,13 @@ module _ (names : List (List ℕ)) where
 
   -- ---- what the machine gives
 
-  alone_cases : (s : List Pending) (y : Expression) (w : List (List ℕ)) (x : Expression) → Settled 0 w (s, y) → alone (s, y) ≡ Some x → IsExpr names w x
+  alone_cases : (s : List PendingOperator) (y : Expression) (w : List (List ℕ)) (x : Expression) → Settled 0 w (s, y) → whole_expression (s, y) ≡ Some x → IsExpr names w x
   alone_cases [] y w x h e =
       let parts : h.after ≡ w = sym (h.parts ∙ ap (λ (b : List (List ℕ)). b ++ h.after) h.leads) in
       subst (λ (z : Expression). IsExpr names w z) (let i : y ≡ x = cc in i) (subst (λ (u : List (List ℕ)). IsExpr names u y) parts h.spelled)
   alone_cases (f ∷ s) y w x h e = absurd cc
 
-  alone_says : (p : List Pending × Expression) (w : List (List ℕ)) (x : Expression) → Settled 0 w p → alone p ≡ Some x → IsExpr names w x
+  alone_says : (p : List PendingOperator × Expression) (w : List (List ℕ)) (x : Expression) → Settled 0 w p → whole_expression p ≡ Some x → IsExpr names w x
   alone_says p w x h e = alone_cases p.0 p.1 w x h e
 
   pub whole_says : (st : MachineState) (w : List (List ℕ)) (x : Expression) → Stands st w → whole st ≡ Some x → IsExpr names w x

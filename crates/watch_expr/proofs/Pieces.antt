@@ -6,13 +6,13 @@ use Rattle.std.proofs.lemmas.Grind.{common_steps}
 use Rattle.std.proofs.lemmas.List.{drop-drop, length-take-le}
 use Rattle.std.specs.Prelude.{slice_get}
 use Rattle.guest_memory.specs.Memory.{Memory, bytes_from, stretch}
-use Rattle.watch_expr.specs.View.{Node, ◌>>=◌, part_at, part_of, bytes_of_node, piece_of}
+use Rattle.watch_expr.specs.View.{Node, ◌>>=◌, part_at, part_of, bytes_of_node, piece_in_memory}
 
 part_inside : (memory : Memory) (addr len : ℕ) (part : List ℕ) → Some part ≡ part_of memory addr len
     → (addr + len ≤ length memory.bytes) × (part ≡ bytes_from memory addr (stretch addr len))
 part_inside memory addr len part e = grind (arith, common_steps, nat_tests)
 
-piece_inside : (memory : Memory) (addr len : ℕ) → addr + len ≤ length memory.bytes → Some (bytes_from memory addr len) ≡ piece_of memory addr len
+piece_inside : (memory : Memory) (addr len : ℕ) → addr + len ≤ length memory.bytes → Some (bytes_from memory addr len) ≡ piece_in_memory memory addr len
 piece_inside memory addr len inside = grind (arith, common_steps, nat_tests)
 
 -- a part that is shorter than the range ends with its page, and the rest of 8 bytes at most lies in the next one
@@ -33,7 +33,7 @@ front first rest zeros tail =
 in_memory : (memory : Memory) (addr count : ℕ) (first rest zeros tail : List ℕ)
     → Some first ≡ part_of memory addr count → Some rest ≡ part_of memory (addr + length first) (count - length first)
     → length first < count → count ≤ 8
-    → Some (take count (take (length first) (first ++ zeros) ++ (rest ++ tail))) ≡ piece_of memory addr count
+    → Some (take count (take (length first) (first ++ zeros) ++ (rest ++ tail))) ≡ piece_in_memory memory addr count
 in_memory memory addr count first rest zeros tail is_first is_rest short few =
     let a = part_inside memory addr count first is_first in
     let b = part_inside memory (addr + length first) (count - length first) rest is_rest in
@@ -55,7 +55,7 @@ in_memory memory addr count first rest zeros tail is_first is_rest short few =
 at_node : (o : Option Node) (addr count : ℕ) (first rest zeros tail : List ℕ)
     → Some first ≡ (o >>= λ s. part_of s.memory addr count) → Some rest ≡ (o >>= λ s. part_of s.memory (addr + length first) (count - length first))
     → length first < count → count ≤ 8
-    → Some (take count (take (length first) (first ++ zeros) ++ (rest ++ tail))) ≡ (o >>= λ s. piece_of s.memory addr count)
+    → Some (take count (take (length first) (first ++ zeros) ++ (rest ++ tail))) ≡ (o >>= λ s. piece_in_memory s.memory addr count)
 at_node None addr count first rest zeros tail is_first is_rest short few = absurd cc
 at_node (Some s) addr count first rest zeros tail is_first is_rest short few = in_memory s.memory addr count first rest zeros tail is_first is_rest short few
 

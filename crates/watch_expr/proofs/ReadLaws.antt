@@ -15,7 +15,7 @@ use Rattle.watch_expr.specs.declared.reads.Place.{Place}
 use Rattle.watch_expr.specs.declared.reads.Place.TheVariants as place
 use Rattle.watch_expr.specs.Reads.{AreMemories, ReadsTell, SameAt, SamePage, at_node, evaluates_right, load_places, no_variables, pages_of, reads_at, two_pages}
 use Rattle.watch_expr.specs.Value.{Setting, all_numbers, byte_count, decided, global_value, loaded_at, one, over, resolved_node, setting, two, value_at, value_of_bytes, with_right}
-use Rattle.watch_expr.specs.View.{Node, ◌>>=◌, clock_at, events_at, global_at, piece_of, size_at}
+use Rattle.watch_expr.specs.View.{Node, ◌>>=◌, node_clock, events_at, global_at, piece_in_memory, size_at}
 
 -- ---- bytes that lie in one page or two
 
@@ -113,7 +113,7 @@ some_bytes width.I64 = (omega arith, omega arith)
 
 -- what a load gives at a node
 abbrev loaded_from : Option Node → Width → ℤ → Option ℤ
-loaded_from o w (pos addr) = option_map (value_of_bytes w) (o >>= λ s. piece_of s.memory addr (byte_count w))
+loaded_from o w (pos addr) = option_map (value_of_bytes w) (o >>= λ s. piece_in_memory s.memory addr (byte_count w))
 loaded_from o w (negsuc _) = None
 
 loaded_is : (nodes : List Node) (node : ℕ) (w : Width) (addr : ℤ) → loaded_at nodes node w addr ≡ loaded_from (slice_get nodes node) w addr
@@ -141,7 +141,7 @@ module _ (old new : List Node) (node : ℕ) (a b : Node) (is_a : slice_get old n
   pieces_same : (addr count : ℕ) → 0 < count → count ≤ 8 → IsMemory a.memory → IsMemory b.memory
       → (i : Bool) → nat_le (addr + count) (length a.memory.bytes) ≡ i
       → AllByRecursion (SameAt old new) (cond i (two_pages node (addr / 4096) ((addr + count - 1) / 4096)) (place.Size node ∷ []))
-      → (piece_of b.memory addr count ≡ cond i (Some (bytes_from a.memory addr count)) None)
+      → (piece_in_memory b.memory addr count ≡ cond i (Some (bytes_from a.memory addr count)) None)
       × (pages_of node b.memory addr count ≡ cond i (two_pages node (addr / 4096) ((addr + count - 1) / 4096)) (place.Size node ∷ []))
   pieces_same addr count some few in_a in_b true inside h =
       let within : addr + count ≤ length a.memory.bytes = leb-true (addr + count) (length a.memory.bytes) inside in
@@ -241,7 +241,7 @@ module _ (old new : List Node) (even : length new ≡ length old)
       by_low true same = same.0
       by_low false same = refl
 
-  clock_case : (r : Option ℕ) → AllByRecursion (SameAt old new) (at_node r (λ node. place.Motion node ∷ [])) → ◌≡◌ {A = Option ℤ} (r >>= clock_at new) (r >>= clock_at old)
+  clock_case : (r : Option ℕ) → AllByRecursion (SameAt old new) (at_node r (λ node. place.Motion node ∷ [])) → ◌≡◌ {A = Option ℤ} (r >>= node_clock new) (r >>= node_clock old)
   clock_case None h = refl
   clock_case (Some node) h = h.0.0
 

@@ -5,7 +5,7 @@ use Rattle.watch_expr.specs.declared.expr.Binary.{Binary}
 use Rattle.watch_expr.specs.declared.expr.Binary.TheVariants as binary
 use Rattle.watch_expr.specs.Expression.{Expression, One, Two}
 use Rattle.watch_expr.specs.Grammar.{UNARY, operator_level, left_level}
-use Rattle.watch_expr.specs.Machine.{Pending, Left, Front, Inside, MachineState, Want, Have, settle_operators, compares, after_operator, alone, whole}
+use Rattle.watch_expr.specs.Machine.{PendingOperator, Left, Front, Inside, MachineState, Want, Have, settle_operators, compares, after_operator, whole_expression, whole}
 
 -- ---- levels
 
@@ -53,50 +53,50 @@ left_low op = elim (sides op) [ inl p ↦ omega (arith, p.0, low op) | inr p ↦
 -- ---- the stack
 
 -- an operand of this level may stand on the stack
-abbrev pub Fits : ℕ → List Pending → Type 0
+abbrev pub Fits : ℕ → List PendingOperator → Type 0
 Fits k [] = Unit {0}
 Fits k (Left op y ∷ s) = operator_level op < k
 Fits k (Front op ∷ s) = UNARY ≤ k
 Fits k (Inside o ∷ s) = Unit {0}
 
-pub fits_more : (j k : ℕ) (s : List Pending) → j ≤ k → Fits j s → Fits k s
+pub fits_more : (j k : ℕ) (s : List PendingOperator) → j ≤ k → Fits j s → Fits k s
 fits_more j k [] le h = tt
 fits_more j k (Left op y ∷ s) le h = omega arith
 fits_more j k (Front op ∷ s) le h = omega arith
 fits_more j k (Inside o ∷ s) le h = tt
 
-pub fits_unary : (k : ℕ) (s : List Pending) → UNARY ≤ k → Fits k s
+pub fits_unary : (k : ℕ) (s : List PendingOperator) → UNARY ≤ k → Fits k s
 fits_unary k [] le = tt
 fits_unary k (Left op y ∷ s) le = omega (arith, low op)
 fits_unary k (Front op ∷ s) le = le
 fits_unary k (Inside o ∷ s) le = tt
 
-pub settle_stops : (k : ℕ) (s : List Pending) (x : Expression) → k ≤ 4 → Fits k s → settle_operators k s x ≡ (s, x)
+pub settle_stops : (k : ℕ) (s : List PendingOperator) (x : Expression) → k ≤ 4 → Fits k s → settle_operators k s x ≡ (s, x)
 settle_stops k [] x le h = refl
 settle_stops k (Left op y ∷ s) x le h = rw (lt-leb k (operator_level op) h) refl
 settle_stops k (Front op ∷ s) x le h = absurd (omega arith)
 settle_stops k (Inside o ∷ s) x le h = refl
 
 -- no comparison stands below one
-fits_compare : (s : List Pending) → Fits 3 s → compares s ≡ false → Fits 2 s
+fits_compare : (s : List PendingOperator) → Fits 3 s → compares s ≡ false → Fits 2 s
 fits_compare [] h c = tt
 fits_compare (Left op y ∷ s) h c = omega (arith, eqb-false (operator_level op) 2 c)
 fits_compare (Front op ∷ s) h c = absurd (omega arith)
 fits_compare (Inside o ∷ s) h c = tt
 
-compares_not : (s : List Pending) → Fits 2 s → compares s ≡ false
+compares_not : (s : List PendingOperator) → Fits 2 s → compares s ≡ false
 compares_not [] h = refl
 compares_not (Left op y ∷ s) h = ne_eqb (operator_level op) 2 (λ e. omega arith)
 compares_not (Front op ∷ s) h = refl
 compares_not (Inside o ∷ s) h = refl
 
-pub operator_goes : (op : Binary) (s : List Pending) (x : Expression) → Fits (operator_level op) s → after_operator op (s, x) ≡ Some (Want (Left op x ∷ s))
+pub operator_goes : (op : Binary) (s : List PendingOperator) (x : Expression) → Fits (operator_level op) s → after_operator op (s, x) ≡ Some (Want (Left op x ∷ s))
 operator_goes op s x h = elim (sides op) [
   | inl p ↦ rw p.1 refl
   | inr p ↦ let c : compares s ≡ false = compares_not s (subst (λ (k : ℕ). Fits k s) p.0 h) in rw (p.0, c) refl
 ]
 
-pub operator_gave : (op : Binary) (s : List Pending) (x : Expression) (st : MachineState) → Fits (left_level op) s → after_operator op (s, x) ≡ Some st → (Some (Want (Left op x ∷ s)) ≡ Some st) × Fits (operator_level op) s
+pub operator_gave : (op : Binary) (s : List PendingOperator) (x : Expression) (st : MachineState) → Fits (left_level op) s → after_operator op (s, x) ≡ Some st → (Some (Want (Left op x ∷ s)) ≡ Some st) × Fits (operator_level op) s
 operator_gave op s x st h e = elim (sides op) [
   | inl p ↦ (rw p.1 at e, subst (λ (k : ℕ). Fits k s) p.0 h)
   | inr p ↦ elim (tested (compares s)) [
@@ -106,7 +106,7 @@ operator_gave op s x st h e = elim (sides op) [
 ]
 
 -- settling twice
-settle_again : (m : ℕ) (s : List Pending) (x : Expression) → settle_operators 0 (settle_operators m s x).0 (settle_operators m s x).1 ≡ settle_operators 0 s x
+settle_again : (m : ℕ) (s : List PendingOperator) (x : Expression) → settle_operators 0 (settle_operators m s x).0 (settle_operators m s x).1 ≡ settle_operators 0 s x
 settle_again m [] x = refl
 settle_again m (Left op y ∷ s) x = elim (tested (nat_le m (operator_level op))) [
   | inl t ↦ rw (t, le-leb 0 (operator_level op) (omega arith)) (settle_again m s (Two op y x))
@@ -115,6 +115,6 @@ settle_again m (Left op y ∷ s) x = elim (tested (nat_le m (operator_level op))
 settle_again m (Front op ∷ s) x = settle_again m s (One op x)
 settle_again m (Inside o ∷ s) x = refl
 
-pub whole_settled : (m : ℕ) (s : List Pending) (x : Expression) (t : List Pending) (y : Expression) → settle_operators m s x ≡ (t, y) → whole (Have t y) ≡ whole (Have s x)
+pub whole_settled : (m : ℕ) (s : List PendingOperator) (x : Expression) (t : List PendingOperator) (y : Expression) → settle_operators m s x ≡ (t, y) → whole (Have t y) ≡ whole (Have s x)
 whole_settled m s x t y e =
-    ap (λ (p : List Pending × Expression). alone (settle_operators 0 p.0 p.1)) (sym e) ∙ ap alone (settle_again m s x)
+    ap (λ (p : List PendingOperator × Expression). whole_expression (settle_operators 0 p.0 p.1)) (sym e) ∙ ap whole_expression (settle_again m s x)

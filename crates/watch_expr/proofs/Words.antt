@@ -15,7 +15,7 @@ use Rattle.watch_expr.specs.declared.word.PlaceWord.TheVariants as place
 use Rattle.watch_expr.specs.declared.stack.Half.TheVariants as half
 use Rattle.watch_expr.specs.declared.stack.Opening.{Opening}
 use Rattle.watch_expr.specs.declared.stack.Opening.TheVariants as opening
-use Rattle.watch_expr.specs.Machine.{Pending, Front, Inside, Want, Part, step, closing, is_closed_with}
+use Rattle.watch_expr.specs.Machine.{PendingOperator, Front, Inside, Want, Part, step, closing, is_closed_with}
 use Rattle.watch_expr.specs.Spelling.{number_of, binary_sign, binaries, binary_of, unary_sign, unaries, unary_of, agg_word, aggs, agg_of, place_word, places, place_of}
 
 -- ---- what is found passes the test
@@ -83,7 +83,7 @@ place_again place.Size = refl
 
 -- ---- what a token that stands where an operand is wanted leads to
 
-module _ (names : List (List ℕ)) (s : List Pending) where
+module _ (names : List (List ℕ)) (s : List PendingOperator) where
   pub sign_read : (op : Unary) → step names (Want s) (unary_sign op) ≡ Some (Want (Front op ∷ s))
   unfolding number_of unary_of
   sign_read unary.Minus = refl

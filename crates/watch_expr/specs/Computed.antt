@@ -25,8 +25,8 @@ cut_from (suc most) column (b ∷ bytes) =
     if is_blank b then cut_from most (column + 1) bytes else from_front (cut_from most) (front (b ∷ bytes)) column (b ∷ bytes)
 
 -- the tokens of a line, or the column of the first byte that begins none
-unfoldable pub cut : List ℕ → Result (List Placed) ℕ
-cut line = cut_from (length line) 1 line
+unfoldable pub cut_tokens : List ℕ → Result (List Placed) ℕ
+cut_tokens line = cut_from (length line) 1 line
 
 abbrev pub whole_if : Option MachineState → Option Expression
 whole_if None = None

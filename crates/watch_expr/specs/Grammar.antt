@@ -10,7 +10,7 @@ use Rattle.watch_expr.specs.declared.expr.Width.{Width}
 use Rattle.watch_expr.specs.declared.expr.Expr.{Expr}
 use Rattle.watch_expr.specs.declared.word.PlaceWord.TheVariants as place
 use Rattle.watch_expr.specs.Lexing.{Lexed, texts, column_at}
-use Rattle.watch_expr.specs.Spelling.{is_word, number_of, node_of, binary_sign, unary_sign, agg_word, place_word}
+use Rattle.watch_expr.specs.Spelling.{is_word, number_of, node_of_word, binary_sign, unary_sign, agg_word, place_word}
 use Rattle.watch_expr.specs.Expression.{Expression, Number, Var, One, Two, Over, Load, Global, Clock, Events, Size, expression_of}
 
 -- The levels of expressions: or, and, comparison, sum, product, sign in front, and operand. What is spelled at a
@@ -64,12 +64,12 @@ pub data IsAt (names : List (List ℕ)) : ℕ → List (List ℕ) → Expression
   brackets : {a : List (List ℕ)} {x : Expression} → IsAt names 0 a x → IsAt names FIRST (codes "(" ∷ (a ++ codes ")" ∷ [])) x
   over : {a : List (List ℕ)} {x : Expression} (agg : Agg) → IsAt names 0 a x → IsAt names FIRST (agg_word agg ∷ codes "(" ∷ (a ++ codes ")" ∷ [])) (Over agg x)
   load : {a : List (List ℕ)} {x : Expression} (name : List ℕ) (width : Width) → is_word name ≡ true → IsAt names 0 a x
-      → IsAt names FIRST (codes "@" ∷ name ∷ codes "." ∷ place_word (place.Load width) ∷ codes "[" ∷ (a ++ codes "]" ∷ [])) (Load (node_of names name) width x)
+      → IsAt names FIRST (codes "@" ∷ name ∷ codes "." ∷ place_word (place.Load width) ∷ codes "[" ∷ (a ++ codes "]" ∷ [])) (Load (node_of_word names name) width x)
   global : (name word : List ℕ) (n : ℕ) → is_word name ≡ true → number_of word ≡ Some n
-      → IsAt names FIRST (codes "@" ∷ name ∷ codes "." ∷ codes "global" ∷ codes "[" ∷ word ∷ codes "]" ∷ []) (Global (node_of names name) n)
-  clock : (name : List ℕ) → is_word name ≡ true → IsAt names FIRST (codes "@" ∷ name ∷ codes "." ∷ codes "clock" ∷ []) (Clock (node_of names name))
-  events : (name : List ℕ) → is_word name ≡ true → IsAt names FIRST (codes "@" ∷ name ∷ codes "." ∷ codes "events" ∷ []) (Events (node_of names name))
-  size : (name : List ℕ) → is_word name ≡ true → IsAt names FIRST (codes "@" ∷ name ∷ codes "." ∷ codes "size" ∷ []) (Size (node_of names name))
+      → IsAt names FIRST (codes "@" ∷ name ∷ codes "." ∷ codes "global" ∷ codes "[" ∷ word ∷ codes "]" ∷ []) (Global (node_of_word names name) n)
+  clock : (name : List ℕ) → is_word name ≡ true → IsAt names FIRST (codes "@" ∷ name ∷ codes "." ∷ codes "clock" ∷ []) (Clock (node_of_word names name))
+  events : (name : List ℕ) → is_word name ≡ true → IsAt names FIRST (codes "@" ∷ name ∷ codes "." ∷ codes "events" ∷ []) (Events (node_of_word names name))
+  size : (name : List ℕ) → is_word name ≡ true → IsAt names FIRST (codes "@" ∷ name ∷ codes "." ∷ codes "size" ∷ []) (Size (node_of_word names name))
 
 -- the tokens spell the expression
 abbrev pub IsExpr : List (List ℕ) → List (List ℕ) → Expression → Type 0

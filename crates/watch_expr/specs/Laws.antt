@@ -2,15 +2,15 @@
 use Rattle.std.specs.Prelude.{◌≡◌, ◌↔◌, ℕ, Bool, true, not, ◌||◌, ◌==◌, codes, bytes_eq, slice_index, List, [], Some, Ok, Err}
 use Rattle.std.specs.List.{list_all}
 use Rattle.watch_expr.specs.Lexing.{Placed, Lexes, IsBadAt}
-use Rattle.watch_expr.specs.Computed.{cut, expression_spelled, begins_some, viable}
+use Rattle.watch_expr.specs.Computed.{cut_tokens, expression_spelled, begins_some, viable}
 use Rattle.watch_expr.specs.Grammar.{IsExpr, BeginsExpr, TakesExpr}
 use Rattle.watch_expr.specs.Expression.{Expression}
 
 -- What is computed of a line is its tokens, or the column of the first byte that begins none. So a line has one of
 -- both, and in one way.
 pub record ExactCut : Type 0 where
-  pub tokens : (line : List ℕ) (ts : List Placed) → (cut line ≡ Ok ts) ↔ Lexes 1 line ts
-  pub bad : (line : List ℕ) (column : ℕ) → (cut line ≡ Err column) ↔ IsBadAt 1 line column
+  pub tokens : (line : List ℕ) (ts : List Placed) → (cut_tokens line ≡ Ok ts) ↔ Lexes 1 line ts
+  pub bad : (line : List ℕ) (column : ℕ) → (cut_tokens line ≡ Err column) ↔ IsBadAt 1 line column
 
 -- What is computed of tokens is the expression that they spell, whether they begin one, and how many of them do. So
 -- tokens spell one expression at most.

@@ -29,8 +29,8 @@ number_of_token None = None
 number_of_token (Some text) = number_of text
 
 -- the number that a token is, if there is such a token and it is one
-abbrev pub number_at : Lexed → ℕ → Option ℕ
-number_at line n = number_of_token (slice_get (texts line) n)
+abbrev pub number_of_token_at : Lexed → ℕ → Option ℕ
+number_of_token_at line n = number_of_token (slice_get (texts line) n)
 
 -- ---- tokens
 

@@ -22,35 +22,35 @@ use Rattle.watch_expr.specs.declared.stack.Mode.TheVariants as mode
 use Rattle.watch_expr.specs.declared.stack.Step.{Step}
 use Rattle.watch_expr.specs.declared.stack.Step.TheVariants as stepped
 use Rattle.watch_expr.specs.Expression.{Expression, Number, Var, One, Two, Over, Load, Global, Clock, Events, Size, expression_of}
-use Rattle.watch_expr.specs.Spelling.{is_word, number_of, node_of, binary_of, unary_of, agg_of, place_of}
+use Rattle.watch_expr.specs.Spelling.{is_word, number_of, node_of_word, binary_of, unary_of, agg_of, place_of}
 use Rattle.watch_expr.specs.Grammar.{operator_level, left_level}
 use Rattle.watch_expr.specs.Lexing.{Lexed, column_at}
 
 -- what waits for an operand
-pub data Pending : Type 0 where
-  Left : (op : Binary) → (x : Expression) → Pending
-  Front : (op : Unary) → Pending
-  Inside : (o : Opening) → Pending
+pub data PendingOperator : Type 0 where
+  Left : (op : Binary) → (x : Expression) → PendingOperator
+  Front : (op : Unary) → PendingOperator
+  Inside : (o : Opening) → PendingOperator
 
 -- what may come next: an operand, the rest of one, or what follows one
 pub data MachineState : Type 0 where
-  Want : (s : List Pending) → MachineState
-  Have : (s : List Pending) → (x : Expression) → MachineState
-  Part : (s : List Pending) → (h : Half) → MachineState
+  Want : (s : List PendingOperator) → MachineState
+  Have : (s : List PendingOperator) → (x : Expression) → MachineState
+  Part : (s : List PendingOperator) → (h : Half) → MachineState
 
 -- the operators of this level and higher take their operands
-abbrev pub settle_operators : ℕ → List Pending → Expression → List Pending × Expression
+abbrev pub settle_operators : ℕ → List PendingOperator → Expression → List PendingOperator × Expression
 settle_operators k [] x = ([], x)
 settle_operators k (Left op y ∷ s) x = if nat_le k (operator_level op) then settle_operators k s (Two op y x) else (Left op y ∷ s, x)
 settle_operators k (Front op ∷ s) x = settle_operators k s (One op x)
 settle_operators k (Inside o ∷ s) x = (Inside o ∷ s, x)
 
 -- a comparison stands to the left
-abbrev pub compares : List Pending → Bool
+abbrev pub compares : List PendingOperator → Bool
 compares (Left op y ∷ s) = operator_level op == 2
 compares _ = false
 
-abbrev pub after_operator : Binary → List Pending × Expression → Option MachineState
+abbrev pub after_operator : Binary → List PendingOperator × Expression → Option MachineState
 after_operator op p = if operator_level op == 2 && compares p.0 then None else Some (Want (Left op p.1 ∷ p.0))
 
 -- the sign that closes what the opening begins
@@ -67,7 +67,7 @@ enclose opening.Bracket x = x
 enclose (opening.Call agg) x = Over agg x
 enclose (opening.Load node width) x = Load node width x
 
-abbrev pub close : List ℕ → List Pending × Expression → Option MachineState
+abbrev pub close : List ℕ → List PendingOperator × Expression → Option MachineState
 close t p = elim p.0 [ Inside o ∷ s ↦ if is_closed_with o t then Some (Have s (enclose o p.1)) else None | _ ↦ None ]
 
 -- what a token gives where an operand has begun: more of it is to come, or it is whole, or what follows is enclosed
@@ -103,7 +103,7 @@ begun_by t = begin_as (agg_of t) t
 
 abbrev pub onward : List (List ℕ) → Half → List ℕ → Option Went
 onward names half.Dollar t = only_if (is_word t) (Whole (Var t))
-onward names half.At t = only_if (is_word t) (More (half.Node (node_of names t)))
+onward names half.At t = only_if (is_word t) (More (half.Node (node_of_word names t)))
 onward names (half.Node n) t = only_if (bytes_eq t (codes ".")) (More (half.Dotted n))
 onward names (half.Dotted n) t = when (place_of t) (at_place n)
 onward names (half.Sized n width) t = only_if (bytes_eq t (codes "[")) (Opens (opening.Load n width))
@@ -112,21 +112,21 @@ onward names (half.Indexing n) t = when (number_of t) (λ k. More (half.Indexed 
 onward names (half.Indexed n k) t = only_if (bytes_eq t (codes "]")) (Whole (Global n k))
 onward names (half.Named agg) t = only_if (bytes_eq t (codes "(")) (Opens (opening.Call agg))
 
-abbrev pub lead : List Pending → Option Went → Option MachineState
+abbrev pub lead : List PendingOperator → Option Went → Option MachineState
 lead s None = None
 lead s (Some (More h)) = Some (Part s h)
 lead s (Some (Whole x)) = Some (Have s x)
 lead s (Some (Opens o)) = Some (Want (Inside o ∷ s))
 
-abbrev pub want_sign : Option Unary → List Pending → List ℕ → Option MachineState
+abbrev pub want_sign : Option Unary → List PendingOperator → List ℕ → Option MachineState
 want_sign (Some op) s t = Some (Want (Front op ∷ s))
 want_sign None s t = lead s (begun_by t)
 
-abbrev pub want_number : Option ℕ → List Pending → List ℕ → Option MachineState
+abbrev pub want_number : Option ℕ → List PendingOperator → List ℕ → Option MachineState
 want_number (Some n) s t = Some (Have s (Number n))
 want_number None s t = want_sign (unary_of t) s t
 
-abbrev pub have_as : Option Binary → List Pending → Expression → List ℕ → Option MachineState
+abbrev pub have_as : Option Binary → List PendingOperator → Expression → List ℕ → Option MachineState
 have_as (Some op) s x t = after_operator op (settle_operators (left_level op) s x)
 have_as None s x t = close t (settle_operators 0 s x)
 
@@ -141,16 +141,16 @@ steps names (Some st) [] = Some st
 steps names (Some st) (t ∷ ts) = steps names (step names st t) ts
 
 -- the tokens so far are a whole expression
-abbrev pub alone : List Pending × Expression → Option Expression
-alone p = elim p.0 [ [] ↦ Some p.1 | _ ↦ None ]
+abbrev pub whole_expression : List PendingOperator × Expression → Option Expression
+whole_expression p = elim p.0 [ [] ↦ Some p.1 | _ ↦ None ]
 
 abbrev pub whole : MachineState → Option Expression
-whole (Have s x) = alone (settle_operators 0 s x)
+whole (Have s x) = whole_expression (settle_operators 0 s x)
 whole _ = None
 
 -- ---- what the program has
 
-abbrev pub pending : Frame → Pending
+abbrev pub pending : Frame → PendingOperator
 pending (frame.Left op x) = Left op (expression_of x)
 pending (frame.Front op) = Front op
 pending (frame.Inside o) = Inside o
@@ -165,7 +165,7 @@ went_if None = None
 went_if (Some w) = Some (went_of w)
 
 -- the last frame stands first
-abbrev pub pile : List Pending → List Frame → List Pending
+abbrev pub pile : List PendingOperator → List Frame → List PendingOperator
 pile under [] = under
 pile under (f ∷ fs) = pile (pending f ∷ under) fs
 
@@ -197,6 +197,6 @@ Led next old frames (stepped.Next m) = next ≡ Some (state frames m)
 Led next old frames (stepped.Refused m) = (next ≡ None) × (state frames m ≡ old)
 
 -- what was opened is closed, or stays
-abbrev pub Closes : Opening → Expression → List ℕ → List Pending → List Frame → Step → Type 0
+abbrev pub Closes : Opening → Expression → List ℕ → List PendingOperator → List Frame → Step → Type 0
 Closes o x t s frames (stepped.Next m) = (is_closed_with o t ≡ true) × (state frames m ≡ Have s (enclose o x))
 Closes o x t s frames (stepped.Refused m) = (is_closed_with o t ≡ false) × (state frames m ≡ Have (Inside o ∷ s) x)

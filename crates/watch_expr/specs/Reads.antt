@@ -8,7 +8,7 @@ use Rattle.watch_expr.specs.declared.reads.Place.{Place}
 use Rattle.watch_expr.specs.declared.reads.Place.TheVariants as place
 use Rattle.watch_expr.specs.Expression.{Expression, Number, Var, One, Two, Over, Load, Global, Clock, Events, Size}
 use Rattle.watch_expr.specs.Value.{Setting, byte_count, decided, resolved_node, setting, value, value_at}
-use Rattle.watch_expr.specs.View.{Node, clock_at, events_at, global_at, size_at}
+use Rattle.watch_expr.specs.View.{Node, node_clock, events_at, global_at, size_at}
 
 -- the operators that may leave their right side out
 abbrev pub is_lazy : Binary → Bool
@@ -89,7 +89,7 @@ SameAt old new (place.Page node page) =
     (a b : Node) → slice_get old node ≡ Some a → slice_get new node ≡ Some b
     → 4096 * page + 4096 ≤ length a.memory.bytes → SamePage a.memory b.memory page
 SameAt old new (place.Global node n) = global_at new node n ≡ global_at old node n
-SameAt old new (place.Motion node) = (clock_at new node ≡ clock_at old node) × (events_at new node ≡ events_at old node)
+SameAt old new (place.Motion node) = (node_clock new node ≡ node_clock old node) × (events_at new node ≡ events_at old node)
 SameAt old new (place.Size node) = size_at new node ≡ size_at old node
 
 -- each node's memory is one

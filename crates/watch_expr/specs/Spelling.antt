@@ -125,5 +125,5 @@ place_of word = find (λ p. bytes_eq (place_word p) word) places
 
 -- The node that a word names: an underscore is the node of the aggregate around it, and another word the first
 -- node with that name.
-unfoldable pub node_of : List (List ℕ) → List ℕ → NodeName
-node_of names word = if bytes_eq word (codes "_") then node.Each else node.Named (position (λ name. bytes_eq name word) names)
+unfoldable pub node_of_word : List (List ℕ) → List ℕ → NodeName
+node_of_word names word = if bytes_eq word (codes "_") then node.Each else node.Named (position (λ name. bytes_eq name word) names)

@@ -14,7 +14,7 @@ use Rattle.watch_expr.specs.declared.expr.Unary.TheVariants as unary
 use Rattle.watch_expr.specs.declared.expr.Width.{Width}
 use Rattle.watch_expr.specs.declared.expr.Width.TheVariants as width
 use Rattle.watch_expr.specs.Expression.{Expression, Number, Var, One, Two, Over, Load, Global, Clock, Events, Size}
-use Rattle.watch_expr.specs.View.{Node, ◌>>=◌, clock_at, events_at, global_at, bytes_of_node, size_at}
+use Rattle.watch_expr.specs.View.{Node, ◌>>=◌, node_clock, events_at, global_at, bytes_of_node, size_at}
 
 -- what an expression is about: the states of the nodes, and the variables by their names, None for undef
 pub record Setting : Type 0 where
@@ -147,7 +147,7 @@ value_at s each (Two op x y) = value_at s each x >>= λ a. with_right op a (deci
 value_at s each (Over agg x) = all_numbers (map (λ node. value_at s (Some node) x) (range_with_len 0 (length s.nodes))) >>= over agg
 value_at s each (Load name width x) = value_at s each x >>= λ addr. resolved_node each name >>= λ node. loaded_at s.nodes node width addr
 value_at s each (Global name n) = resolved_node each name >>= λ node. global_value s.nodes node n
-value_at s each (Clock name) = resolved_node each name >>= clock_at s.nodes
+value_at s each (Clock name) = resolved_node each name >>= node_clock s.nodes
 value_at s each (Events name) = resolved_node each name >>= events_at s.nodes
 value_at s each (Size name) = resolved_node each name >>= λ node. option_map pos (size_at s.nodes node)
 

@@ -24,18 +24,18 @@ abbrev pub part_at : List Node → ℕ → ℕ → ℕ → Option (List ℕ)
 part_at nodes node addr len = slice_get nodes node >>= λ s. part_of s.memory addr len
 
 -- so many bytes, and None where one of them doesn't lie in memory
-abbrev pub piece_of : Memory → ℕ → ℕ → Option (List ℕ)
-piece_of memory addr len = if is_inside memory addr len then Some (bytes_from memory addr len) else None
+abbrev pub piece_in_memory : Memory → ℕ → ℕ → Option (List ℕ)
+piece_in_memory memory addr len = if is_inside memory addr len then Some (bytes_from memory addr len) else None
 
 abbrev pub bytes_of_node : List Node → ℕ → ℕ → ℕ → Option (List ℕ)
-bytes_of_node nodes node addr len = slice_get nodes node >>= λ s. piece_of s.memory addr len
+bytes_of_node nodes node addr len = slice_get nodes node >>= λ s. piece_in_memory s.memory addr len
 
 -- the nth global, and None where there is none
 abbrev pub global_at : List Node → ℕ → ℕ → Option ℤ
 global_at nodes node n = slice_get nodes node >>= λ s. slice_get s.globals n
 
-abbrev pub clock_at : List Node → ℕ → Option ℤ
-clock_at nodes node = option_map (λ s. s.clock) (slice_get nodes node)
+abbrev pub node_clock : List Node → ℕ → Option ℤ
+node_clock nodes node = option_map (λ s. s.clock) (slice_get nodes node)
 
 abbrev pub events_at : List Node → ℕ → Option ℤ
 events_at nodes node = option_map (λ s. s.events) (slice_get nodes node)

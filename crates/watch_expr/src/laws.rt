@@ -2,7 +2,7 @@
 ghost use Rattle.watch_expr.specs.Laws.{ExactCut, ExactReading, NoneApart};
 ghost use Rattle.watch_expr.specs.Reads.{ReadsLow, ReadsTell};
 
-/// A line has its tokens or a first byte that begins none, and `cut` computes which.
+/// A line has its tokens or a first byte that begins none, and `cut_tokens` computes which.
 pub fn exact_cut()
     ensures { ExactCut }
 {}

@@ -1,6 +1,6 @@
 // The tokens of a line.
 ghost use Rattle.std.specs.Prelude.{◌≡◌, ◌<◌, ◌^◌, IfSome, length, slice_get, option_map};
-ghost use Rattle.watch_expr.specs.Lexing.{texts, column_at, number_at};
+ghost use Rattle.watch_expr.specs.Lexing.{texts, column_at, number_of_token_at};
 
 use crate::number::read_number;
 use std::marker::Model;
@@ -53,7 +53,7 @@ impl<'a> Tokens<'a> {
 
     /// The number that the token is, and None exactly where there is no such token or it is no number.
     pub fn number(&self, n: usize) -> Option<u64>
-        ensures { result ≡ number_at self.now n }
+        ensures { result ≡ number_of_token_at self.now n }
     {
         read_number(self.text(n)?)
     }

@@ -1,7 +1,7 @@
 // What an expression reads of a group, and the variables that it names.
 ghost use Rattle.std.specs.Prelude.{◌≡◌, ◌<◌, ℕ, ℤ, List, Option, Some, length, option_map, slice_get, IfSome};
 ghost use Rattle.guest_memory.specs.Memory.{IsMemory};
-ghost use Rattle.watch_expr.specs.View.{Node, clock_at, events_at, global_at, part_at, size_at};
+ghost use Rattle.watch_expr.specs.View.{Node, node_clock, events_at, global_at, part_at, size_at};
 
 /// A group of which an expression is evaluated. It tells a state for each node.
 pub trait View {
@@ -26,7 +26,7 @@ pub trait View {
     /// The Lamport clock of the node's last event, or 0.
     fn clock(&self, node: u32) -> i64
         requires { node < length (nodes self.now) }
-        ensures { clock_at (nodes self.now) node ≡ Some result };
+        ensures { node_clock (nodes self.now) node ≡ Some result };
 
     /// How many events the node has had.
     fn events(&self, node: u32) -> i64

@@ -1,7 +1,7 @@
 // The words and signs with a meaning of their own.
 ghost use Rattle.std.specs.Prelude.{◌≡◌, ◌<◌, ◌^◌, IfSome, bytes_eq, length, position};
 ghost use Rattle.std.specs.List.{list_all};
-ghost use Rattle.watch_expr.specs.Spelling.{is_word as is_word_text, is_word_byte as is_byte_of_word, binary_sign, binary_of, unary_sign, unary_of, agg_word, agg_of, place_word, place_of, node_of};
+ghost use Rattle.watch_expr.specs.Spelling.{is_word as is_word_text, is_word_byte as is_byte_of_word, binary_sign, binary_of, unary_sign, unary_of, agg_word, agg_of, place_word, place_of, node_of_word};
 
 use crate::expr::{Agg, Binary, NodeName, Unary, Width};
 use fri_bytes::Bytes;
@@ -152,10 +152,10 @@ pub(crate) fn read_place(word: &[u8]) -> Option<PlaceWord>
 }
 
 /// The node that the word names.
-#[tactic(auto, unfolding(crate::specs::Spelling::node_of))]
+#[tactic(auto, unfolding(crate::specs::Spelling::node_of_word))]
 pub(crate) fn read_node(names: &[Bytes], word: &[u8]) -> NodeName
     requires { length names.now < 2 ^ 32 }
-    ensures { result ≡ node_of names.now word.now }
+    ensures { result ≡ node_of_word names.now word.now }
 {
     if word == b"_".as_slice() {
         return NodeName::Each;

@@ -7,7 +7,7 @@ ghost use Rattle.std.specs.Vec.{vec_capacity};
 ghost use Rattle.wasm_step.specs.Limits.{Within};
 ghost use Rattle.wasm_step.specs.Reduce.{Ends, Goes, Stops, on_top, resumed};
 
-use super::{FRAME_LIMIT, Held, SIZE_LIMIT, Stack, push_to};
+use super::{FRAME_LIMIT, SIZE_LIMIT, Stack, StackFrame, push_to};
 use std::alloc::AllocError;
 use wasm_types::{Callee, FuncType, Slot, ValType, result_of};
 
@@ -25,7 +25,7 @@ impl<'m> Stack<'m> {
         let mut locals = arguments;
         callee.declared().append(&mut locals)?;
         Ok(Stack {
-            here: Held {
+            here: StackFrame {
                 todo: callee.body(),
                 floor: 0,
                 labels_from: 0,

@@ -1,7 +1,7 @@
 // What the places of a node hold.
 ghost use Rattle.std.specs.Prelude.{◌≡◌, ◌<◌, None, Some, pos, length, option_and_then, option_map, slice_get, IfNone, IfSome};
 ghost use Rattle.watch_expr.specs.Value.{global_value, resolved_node};
-ghost use Rattle.watch_expr.specs.View.{clock_at, events_at, size_at};
+ghost use Rattle.watch_expr.specs.View.{node_clock, events_at, size_at};
 
 use crate::expr::NodeName;
 use crate::view::View;
@@ -28,7 +28,7 @@ pub(crate) fn within<V: View>(v: &V, node: Option<u32>) -> Option<u32>
 }
 
 pub(crate) fn clock<V: View>(v: &V, node: Option<u32>) -> Option<i64>
-    ensures { result ≡ option_and_then (clock_at (V.nodes v.now)) node }
+    ensures { result ≡ option_and_then (node_clock (V.nodes v.now)) node }
 {
     let node = within(v, node)?;
     Some(v.clock(node))

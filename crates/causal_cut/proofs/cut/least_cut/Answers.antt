@@ -3,7 +3,7 @@ use Rattle.std.proofs.lemmas.List.{length-map}
 use Rattle.std.proofs.lemmas.Option.{get_or_from_slice_get, slice_get-get_or}
 use Rattle.proc_replay.specs.Course.{ahead}
 use Rattle.proc_replay.specs.Replaying.{Replaying}
-use Rattle.group_state.specs.Place.{Place}
+use Rattle.group_state.specs.Place.{GroupPlace}
 use Rattle.causal_cut.specs.declared.asks.Ask.{Ask}
 use Rattle.causal_cut.specs.Asks.{AreAsks, alone, settled}
 use Rattle.causal_cut.specs.Past.{accepted_counts}
@@ -16,7 +16,7 @@ returns-clause-answer c =
     let start = c.args.parts.items in
     let asks = c.in_ok-walked.walked.asks.items in
     let counts = c.in_ok-walked.walked.counts.items in
-    let begun : c.in_ok-group.group.start ≡ start = ap (λ (p : Place). p.start) c.in_ok-group.ensures in
+    let begun : c.in_ok-group.group.start ≡ start = ap (λ (p : GroupPlace). p.start) c.in_ok-group.ensures in
     let are : AreAsks start asks = subst (λ (rs : List Replaying). AreAsks rs asks) begun c.in_ok-walked.ensures.asks in
     let counted : counts ≡ accepted_counts start = c.in_ok-walked.ensures.counts ∙ ap accepted_counts begun in
     let within : c.args.node < length counts = omega (arith, c.requires.node, ap length counted, length-map start (λ (r : Replaying). length (ahead r))) in
@@ -34,7 +34,7 @@ returns-clause-least c =
     let start = c.args.parts.items in
     let asks = c.in_ok-walked.walked.asks.items in
     let counts = c.in_ok-walked.walked.counts.items in
-    let begun : c.in_ok-group.group.start ≡ start = ap (λ (p : Place). p.start) c.in_ok-group.ensures in
+    let begun : c.in_ok-group.group.start ≡ start = ap (λ (p : GroupPlace). p.start) c.in_ok-group.ensures in
     let are : AreAsks start asks = subst (λ (rs : List Replaying). AreAsks rs asks) begun c.in_ok-walked.ensures.asks in
     let counted : counts ≡ accepted_counts start = c.in_ok-walked.ensures.counts ∙ ap accepted_counts begun in
     let within : c.args.node < length counts = omega (arith, c.requires.node, ap length counted, length-map start (λ (r : Replaying). length (ahead r))) in

@@ -1,6 +1,6 @@
 use Rattle.std.proofs.Common.{Ok, Err, map, subst, sym}
 use Rattle.std.proofs.lemmas.Result.{err_from_is_err_and}
-use Rattle.command_run.specs.declared.refusal.Answer.TheVariants as answered
+use Rattle.command_run.specs.declared.refusal.WorkText.TheVariants as answered
 use Rattle.command_run.specs.CountLaws.{counts_still}
 use Rattle.command_run.specs.FileLaws.{some_made}
 use Rattle.command_run.specs.OutcomeLaws.{refused_makes, refused_tells}

@@ -3,14 +3,14 @@ use Rattle.std.proofs.lemmas.Result.{err_from_is_err_and}
 use Rattle.call_log.specs.Head.{Head}
 use Rattle.command_run.specs.CountLaws.{counts_same}
 use Rattle.command_run.specs.FileLaws.{failed_makes}
-use Rattle.cut_command.specs.Seen.{file_of}
+use Rattle.cut_command.specs.Seen.{front_file}
 use Rattle.cut_command.proofs.Making.{file_here, first_made, head_here, one_made, part_made}
 use Rattle.cut_command.proofs.cutting.write_cuts.Goals as goal
 
 pub returns-in_err-bytes-clause-made : goal.returns-in_err-bytes-clause-made
 returns-in_err-bytes-clause-made g c =
     let p = err_from_is_err_and c.from_residual.result c.from_residual.ensures.1 in
-    rw (p.1, p.2) (first_made c.keeps_files.ensures (map file_of c.args.fronts.now) c.loop-front.front-index _ _ c.loop-front.invariant.0)
+    rw (p.1, p.2) (first_made c.keeps_files.ensures (map front_file c.args.fronts.now) c.loop-front.front-index _ _ c.loop-front.invariant.0)
 
 pub write_file-requires : goal.write_file-requires
 write_file-requires g c =
@@ -23,12 +23,12 @@ returns-in_err-write_file-clause-made g c =
     (ap (λ (h : Head). h.name) c.head.ensures) (c.deref.ensures.value ∙ c.in_ok-bytes.ensures) in
     rw (p.1, p.2)
     (failed_makes c.in_err-write_file.field-0.0 _ _ _
-    (part_made c.keeps_files.ensures (map file_of c.args.fronts.now) c.loop-front.front-index _ _ _ _ here c.loop-front.invariant.0 c.in_err-write_file.ensures.err))
+    (part_made c.keeps_files.ensures (map front_file c.args.fronts.now) c.loop-front.front-index _ _ _ _ here c.loop-front.invariant.0 c.in_err-write_file.ensures.err))
 
 pub loop-front-preserved : goal.loop-front-preserved
 loop-front-preserved g c =
     let here = file_here c.args.fronts.now c.loop-front.front-index c.front-item.result _ c.head.result.name.now c.deref.result.now c.loop-front-test.true c.front-item.is
     (ap (λ (h : Head). h.name) c.head.ensures) (c.deref.ensures.value ∙ c.in_ok-bytes.ensures) in (
-      one_made (map file_of c.args.fronts.now) c.loop-front.front-index _ _ _ _ here c.loop-front.invariant.0 c.in_ok-write_file.ensures.ok,
+      one_made (map front_file c.args.fronts.now) c.loop-front.front-index _ _ _ _ here c.loop-front.invariant.0 c.in_ok-write_file.ensures.ok,
       counts_same _ _ _ _ c.loop-front.invariant.1 c.in_ok-write_file.ensures.counted,
     )

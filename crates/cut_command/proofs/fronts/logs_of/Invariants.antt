@@ -1,6 +1,6 @@
 use Rattle.std.proofs.Common.{◌≡◌, map, take}
-use Rattle.cut_command.specs.Seen.{log_of}
+use Rattle.cut_command.specs.Seen.{log_of_replay}
 use Rattle.cut_command.proofs.fronts.logs_of.Given as goal
 
 abbrev pub invariant-loop-part : goal.invariant-loop-part
-invariant-loop-part l = l.logs.items ≡ map log_of (take l.part-index l.parts)
+invariant-loop-part l = l.logs.items ≡ map log_of_replay (take l.part-index l.parts)

@@ -1,5 +1,5 @@
 use Rattle.std.proofs.Common.{List, map, subst, sym}
-use Rattle.command_run.specs.CountLaws.{counts_none, counts_of, counts_still}
+use Rattle.command_run.specs.CountLaws.{counts_none, counts_of_part, counts_still}
 use Rattle.command_run.specs.Run.{Outside, outside}
 use Rattle.log_pairs.specs.declared.pairs.Loaded.{Loaded}
 use Rattle.log_pairs.specs.Seen.{WereLoaded, pair_of}
@@ -13,7 +13,7 @@ returns-in-Err g c =
     let new : Outside = outside (g.F.Files.told c.load_all.new.files) (g.F.Files.counts c.load_all.new.files) (g.T.Sink.hearing c.finish.new.out) (g.T.Sink.taken c.finish.new.out) (g.T.Sink.faults c.finish.new.out) in
     run_refused pairs c.in-Err.refusal c.finish.result old new
     (c.finish.ensures _ _ _ _ _ _ _
-    (performed pairs c.in-Err.refusal old new c.in-Err.ensures.answer c.in-Err.ensures.cause (counts_of _ _ _ c.in-Err.ensures.counts) c.load_all.ensures.same))
+    (performed pairs c.in-Err.refusal old new c.in-Err.ensures.answer c.in-Err.ensures.cause (counts_of_part _ _ _ c.in-Err.ensures.counts) c.load_all.ensures.same))
 
 pub returns-in-Ok-begin_all : goal.returns-in-Ok-begin_all
 returns-in-Ok-begin_all g c =

@@ -7,7 +7,7 @@ use Rattle.replay_command.specs.Report.{replay_outcome}
 use Rattle.cut_command.specs.Cut.{cut_outcome}
 use Rattle.migrate_command.specs.Migrate.{migrate_outcome}
 use Rattle.friday_app.specs.Command.{Cut, Debug, Replay, Schedule, Streams}
-use Rattle.friday_app.specs.Seen.{meaning}
+use Rattle.friday_app.specs.Seen.{command_meaning}
 use Rattle.friday_app.proofs.Runs.{may_diverge, performed, run_cut, run_debugged, run_drilled, run_migrated, run_none, run_recorded, run_replayed, run_same, run_scheduled, run_stopped, run_streamed}
 use Rattle.friday_app.proofs.top.run.Goals as goal
 
@@ -18,7 +18,7 @@ returns-in-Ok-None g c =
     let counts = g.F.Files.counts c.args.files.now in
     let old : Outside = outside told counts (g.T.Sink.hearing c.args.io.now) (g.T.Sink.taken c.args.io.now) (g.T.Sink.faults c.args.io.now) in
     let new : Outside = outside told counts (g.T.Sink.hearing c.refuse_words.new.out) (g.T.Sink.taken c.refuse_words.new.out) (g.T.Sink.faults c.refuse_words.new.out) in
-    run_same (sym (ap (option_map meaning) c.in-Ok-None.field-0-is) ∙ c.in-Ok-None.ensures.names)
+    run_same (sym (ap (option_map command_meaning) c.in-Ok-None.field-0-is) ∙ c.in-Ok-None.ensures.names)
     (run_none c.refuse_words.result old new (e.ends told counts) e.status e.read_fault e.heard)
 
 pub returns-in-Ok-Some-Record : goal.returns-in-Ok-Some-Record
@@ -27,7 +27,7 @@ returns-in-Ok-Some-Record g c =
     let arm = c.in-Ok-Some-Record in
     let old : Outside = outside (g.F.Files.told c.args.files.now) (g.F.Files.counts c.args.files.now) (g.T.Sink.hearing c.args.io.now) (g.T.Sink.taken c.args.io.now) (g.T.Sink.faults c.args.io.now) in
     let new : Outside = outside (g.F.Files.told c.record-ended.new.files) (g.F.Files.counts c.record-ended.new.files) (g.T.Sink.hearing c.finish.new.out) (g.T.Sink.taken c.finish.new.out) (g.T.Sink.faults c.finish.new.out) in
-    run_same (sym (ap (option_map meaning) (arm.field-0-is ∙ ap Some arm.field-0-0-is)) ∙ arm.ensures.names)
+    run_same (sym (ap (option_map command_meaning) (arm.field-0-is ∙ ap Some arm.field-0-0-is)) ∙ arm.ensures.names)
     (run_recorded c.left_is_shown.ensures arm.images arm.schedule_file.now c.record-ended.result c.finish.result old new
     (c.finish.ensures _ _ _ _ _ _ _ (performed (record_outcome arm.images arm.schedule_file.now) false old.told new.told old.counts new.counts c.record-ended.result e.tells e.makes e.keeps e.done e.counts e.cause))
     e.recorded e.moment)
@@ -39,7 +39,7 @@ returns-in-Ok-Some-Replay g c =
     let pairs = map pair_of c.deref.result.now in
     let old : Outside = outside (g.F.Files.told c.args.files.now) (g.F.Files.counts c.args.files.now) (g.T.Sink.hearing c.args.io.now) (g.T.Sink.taken c.args.io.now) (g.T.Sink.faults c.args.io.now) in
     let new : Outside = outside (g.F.Files.told c.replay-ended.new.files) (g.F.Files.counts c.replay-ended.new.files) (g.T.Sink.hearing c.finish-in-Ok-Some-Replay.new.out) (g.T.Sink.taken c.finish-in-Ok-Some-Replay.new.out) (g.T.Sink.faults c.finish-in-Ok-Some-Replay.new.out) in
-    run_same (ap (λ (ps : List Pair). Some (Replay arm.images (map pair_of ps))) c.deref.ensures.value ∙ sym (ap (option_map meaning) (arm.field-0-is ∙ ap Some arm.field-0-0-is)) ∙ arm.ensures.names)
+    run_same (ap (λ (ps : List Pair). Some (Replay arm.images (map pair_of ps))) c.deref.ensures.value ∙ sym (ap (option_map command_meaning) (arm.field-0-is ∙ ap Some arm.field-0-0-is)) ∙ arm.ensures.names)
     (run_replayed arm.images pairs c.replay-ended.result c.finish-in-Ok-Some-Replay.result old new
     (c.finish-in-Ok-Some-Replay.ensures _ _ _ _ _ _ _ (performed (replay_outcome arm.images pairs) true old.told new.told old.counts new.counts c.replay-ended.result e.tells e.makes e.keeps (may_diverge c.replay-ended.result) e.counts e.cause)))
 
@@ -47,7 +47,7 @@ pub returns-in-Ok-Some-Debug : goal.returns-in-Ok-Some-Debug
 returns-in-Ok-Some-Debug g c =
     let arm = c.in-Ok-Some-Debug in
     let deref = c.deref-in-Ok-Some-Debug in
-    run_same (ap (λ (ps : List Pair). Some (Debug (map pair_of ps))) deref.ensures.value ∙ sym (ap (option_map meaning) (arm.field-0-is ∙ ap Some arm.field-0-0-is)) ∙ arm.ensures.names)
+    run_same (ap (λ (ps : List Pair). Some (Debug (map pair_of ps))) deref.ensures.value ∙ sym (ap (option_map command_meaning) (arm.field-0-is ∙ ap Some arm.field-0-0-is)) ∙ arm.ensures.names)
     (run_debugged (map pair_of deref.result.now) c.debug.result _ _ c.debug.ensures)
 
 pub returns-in-Ok-Some-Drill : goal.returns-in-Ok-Some-Drill
@@ -56,8 +56,8 @@ returns-in-Ok-Some-Drill g c =
     let finish = c.finish-in-Ok-Some-Drill in
     let told = g.F.Files.told c.args.files.now in
     let counts = g.F.Files.counts c.args.files.now in
-    run_same (sym (ap (option_map meaning) (arm.field-0-is ∙ ap Some arm.field-0-0-is)) ∙ arm.ensures.names)
-    (run_drilled arm.rounds c.drill-ended.result finish.result _ _ (finish.ensures _ _ _ _ _ _ _ (c.drill-ended.ensures told counts)))
+    run_same (sym (ap (option_map command_meaning) (arm.field-0-is ∙ ap Some arm.field-0-0-is)) ∙ arm.ensures.names)
+    (run_drilled arm.rounds c.drill_rounds-ended.result finish.result _ _ (finish.ensures _ _ _ _ _ _ _ (c.drill_rounds-ended.ensures told counts)))
 
 pub returns-in-Ok-Some-Migrate : goal.returns-in-Ok-Some-Migrate
 returns-in-Ok-Some-Migrate g c =
@@ -66,7 +66,7 @@ returns-in-Ok-Some-Migrate g c =
     let finish = c.finish-in-Ok-Some-Migrate in
     let old : Outside = outside (g.F.Files.told c.args.files.now) (g.F.Files.counts c.args.files.now) (g.T.Sink.hearing c.args.io.now) (g.T.Sink.taken c.args.io.now) (g.T.Sink.faults c.args.io.now) in
     let new : Outside = outside (g.F.Files.told c.migrate-ended.new.files) (g.F.Files.counts c.migrate-ended.new.files) (g.T.Sink.hearing finish.new.out) (g.T.Sink.taken finish.new.out) (g.T.Sink.faults finish.new.out) in
-    run_same (sym (ap (option_map meaning) (arm.field-0-is ∙ ap Some arm.field-0-0-is)) ∙ arm.ensures.names)
+    run_same (sym (ap (option_map command_meaning) (arm.field-0-is ∙ ap Some arm.field-0-0-is)) ∙ arm.ensures.names)
     (run_migrated arm.log_file.now arm.new_file.now c.migrate-ended.result finish.result old new
     (finish.ensures _ _ _ _ _ _ _ (performed (migrate_outcome arm.log_file.now arm.new_file.now) false old.told new.told old.counts new.counts c.migrate-ended.result e.tells e.makes e.keeps e.done e.counts e.cause)))
 
@@ -79,7 +79,7 @@ returns-in-Ok-Some-Schedule g c =
     let finish = c.finish-in-Ok-Some-Schedule in
     let old : Outside = outside (g.F.Files.told c.args.files.now) (g.F.Files.counts c.args.files.now) (g.T.Sink.hearing c.args.io.now) (g.T.Sink.taken c.args.io.now) (g.T.Sink.faults c.args.io.now) in
     let new : Outside = outside (g.F.Files.told c.schedule-ended.new.files) (g.F.Files.counts c.schedule-ended.new.files) (g.T.Sink.hearing finish.new.out) (g.T.Sink.taken finish.new.out) (g.T.Sink.faults finish.new.out) in
-    run_same (ap (λ (ps : List Pair). Some (Schedule (map pair_of ps))) deref.ensures.value ∙ sym (ap (option_map meaning) (arm.field-0-is ∙ ap Some arm.field-0-0-is)) ∙ arm.ensures.names)
+    run_same (ap (λ (ps : List Pair). Some (Schedule (map pair_of ps))) deref.ensures.value ∙ sym (ap (option_map command_meaning) (arm.field-0-is ∙ ap Some arm.field-0-0-is)) ∙ arm.ensures.names)
     (run_scheduled pairs c.schedule-ended.result finish.result old new (finish.ensures _ _ _ _ _ _ _ e.performed) e.performed.tells e.converse)
 
 pub returns-in-Ok-Some-Cut : goal.returns-in-Ok-Some-Cut
@@ -91,7 +91,7 @@ returns-in-Ok-Some-Cut g c =
     let finish = c.finish-in-Ok-Some-Cut in
     let old : Outside = outside (g.F.Files.told c.args.files.now) (g.F.Files.counts c.args.files.now) (g.T.Sink.hearing c.args.io.now) (g.T.Sink.taken c.args.io.now) (g.T.Sink.faults c.args.io.now) in
     let new : Outside = outside (g.F.Files.told c.cut-ended.new.files) (g.F.Files.counts c.cut-ended.new.files) (g.T.Sink.hearing finish.new.out) (g.T.Sink.taken finish.new.out) (g.T.Sink.faults finish.new.out) in
-    run_same (ap (λ (ps : List Pair). Some (Cut arm.process arm.event (map pair_of ps))) deref.ensures.value ∙ sym (ap (option_map meaning) (arm.field-0-is ∙ ap Some arm.field-0-0-is)) ∙ arm.ensures.names)
+    run_same (ap (λ (ps : List Pair). Some (Cut arm.process arm.event (map pair_of ps))) deref.ensures.value ∙ sym (ap (option_map command_meaning) (arm.field-0-is ∙ ap Some arm.field-0-0-is)) ∙ arm.ensures.names)
     (run_cut arm.process arm.event pairs c.cut-ended.result finish.result old new
     (finish.ensures _ _ _ _ _ _ _ (performed (cut_outcome arm.process arm.event pairs) false old.told new.told old.counts new.counts c.cut-ended.result e.tells e.makes e.keeps e.done e.counts e.cause))
     e.least)
@@ -105,7 +105,7 @@ returns-in-Ok-Some-Streams g c =
     let finish = c.finish-in-Ok-Some-Streams in
     let old : Outside = outside (g.F.Files.told c.args.files.now) (g.F.Files.counts c.args.files.now) (g.T.Sink.hearing c.args.io.now) (g.T.Sink.taken c.args.io.now) (g.T.Sink.faults c.args.io.now) in
     let new : Outside = outside (g.F.Files.told c.streams-ended.new.files) (g.F.Files.counts c.streams-ended.new.files) (g.T.Sink.hearing finish.new.out) (g.T.Sink.taken finish.new.out) (g.T.Sink.faults finish.new.out) in
-    run_same (ap (λ (ps : List Pair). Some (Streams (map pair_of ps))) deref.ensures.value ∙ sym (ap (option_map meaning) (arm.field-0-is ∙ ap Some arm.field-0-0-is)) ∙ arm.ensures.names)
+    run_same (ap (λ (ps : List Pair). Some (Streams (map pair_of ps))) deref.ensures.value ∙ sym (ap (option_map command_meaning) (arm.field-0-is ∙ ap Some arm.field-0-0-is)) ∙ arm.ensures.names)
     (run_streamed pairs c.streams-ended.result finish.result old new (finish.ensures _ _ _ _ _ _ _ e.performed))
 
 pub returns-in-Err : goal.returns-in-Err

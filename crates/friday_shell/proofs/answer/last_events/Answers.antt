@@ -2,7 +2,7 @@ use Rattle.std.proofs.Common.{◌≡◌, ◌∙◌, ◌+◌, ◌<◌, ◌++◌, 
 use Rattle.std.specs.Prelude.{slice_get}
 use Rattle.proc_replay.specs.Replaying.{Replaying}
 use Rattle.group_state.specs.Moves.{event_of}
-use Rattle.group_state.specs.Place.{Place, events}
+use Rattle.group_state.specs.Place.{GroupPlace, events}
 use Rattle.group_texts.specs.Texts.{event_line, last_lines}
 use Rattle.friday_shell.proofs.Events.{events_more}
 use Rattle.friday_shell.proofs.answer.last_events.Goals as goal
@@ -15,8 +15,8 @@ events-preserved c =
     let next = c.in_ok-next.next in
     let event = event_of c.in-Some.event in
     let moves = rw c.in-Some.is at c.in_ok-next.ensures in
-    let one : next.at ≡ here.at + 1 = ap (λ (p : Place). p.at) moves.place in
-    let same : next.start ≡ start = ap (λ (p : Place). p.start) moves.place ∙ i.start in
+    let one : next.at ≡ here.at + 1 = ap (λ (p : GroupPlace). p.at) moves.place in
+    let same : next.start ≡ start = ap (λ (p : GroupPlace). p.start) moves.place ∙ i.start in
     let found : slice_get (events start) here.at ≡ Some event = ap (λ (s : List Replaying). slice_get (events s) here.at) (sym i.start) ∙ sym moves.gives in
     let before : here.at < c.position-at.result = omega (arith, c.events-test.true, c.position.ensures.position) in
     let at = c.position-position.ensures.position in

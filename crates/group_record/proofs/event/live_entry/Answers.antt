@@ -23,7 +23,7 @@ next_clock-requires-clause-tag_fits c =
     let call = rw c.in-Some.is at c.pending.ensures in
     let need = rw c.in-Some-need.is at c.need.ensures in
     let a : Answer = record { reply = c.answer.inside.reply; incoming = c.answer.inside.incoming; tag = c.answer.inside.tag } in
-    tag_fits c.one_event.ensures c.rises.ensures c.kept.ensures.ranges S c.args.thread env c.in-Some.call.now c.in-Some-need.need a
+    tag_fits c.one_event.ensures c.rises.ensures c.states_fit.ensures.ranges S c.args.thread env c.in-Some.call.now c.in-Some-need.need a
     (record { state = c.events.ensures.fits; few = c.requires.few; around = record { time = subst (λ n. n < 2 ^ 64) c.time.ensures (omega arith) } })
     (record { stands = record { fits = c.events.ensures.fits; call = call; need = need }; spared = sym c.is_killed.ensures ∙ c.if-is_killed.false })
     (ap (λ n. answer_by c.in-Some-need.need c.in-Some.call.now n env) c.requires.group ∙ sym c.in_ok-answer.ensures ∙ c.in-Some-2.is ∙ ap Some (sym c.answer.view_is))

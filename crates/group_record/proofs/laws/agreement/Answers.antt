@@ -4,8 +4,8 @@ use Rattle.group_record.proofs.laws.agreement.Goals as goal
 pub returns-clause-whole : goal.returns-clause-whole
 returns-clause-whole c = agrees c.exact_logs.ensures (record {
   one = c.one_event.ensures;
-  started = c.kept.ensures.started;
-  kept = c.kept.ensures.ranges;
+  started = c.states_fit.ensures.started;
+  kept = c.states_fit.ensures.ranges;
   rises = c.rises.ensures;
   fresh = c.counting.ensures.begun;
 })
@@ -13,8 +13,8 @@ returns-clause-whole c = agrees c.exact_logs.ensures (record {
 pub returns-clause-cut : goal.returns-clause-cut
 returns-clause-cut c = agrees_cut c.exact_logs.ensures (record {
   one = c.one_event.ensures;
-  started = c.kept.ensures.started;
-  kept = c.kept.ensures.ranges;
+  started = c.states_fit.ensures.started;
+  kept = c.states_fit.ensures.ranges;
   rises = c.rises.ensures;
   fresh = c.counting.ensures.begun;
 })

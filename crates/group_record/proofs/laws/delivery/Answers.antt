@@ -8,8 +8,8 @@ returns c = delivers (record {
   named = c.by_counting.ensures.named;
 }) (record {
   one = c.one_event.ensures;
-  started = c.kept.ensures.started;
-  kept = c.kept.ensures.ranges;
+  started = c.states_fit.ensures.started;
+  kept = c.states_fit.ensures.ranges;
   rises = c.rises.ensures;
   fresh = c.counting.ensures.begun;
 })

@@ -1,7 +1,7 @@
 use Rattle.std.proofs.Common.{◌≡◌, ◌∙◌, ◌<◌, arith}
 use Rattle.std.proofs.lemmas.Result.{err_from_is_err_and}
 use Rattle.group_record.specs.Logs.{log_name}
-use Rattle.group_record.specs.Run.{name_of, size}
+use Rattle.group_record.specs.Run.{name_of_process, size}
 use Rattle.group_record.proofs.Heads.{all_made, create_goes_on, create_stops}
 use Rattle.group_record.proofs.Small.{at_place, failed_write}
 use Rattle.group_record.proofs.logs.create_logs.Goals as goal
@@ -12,7 +12,7 @@ returns-in_err-create-clause-files g c = λ group have.
     let k = c.loop-member.member-index in
     let within : k < size group = omega (arith, c.loop-member-test.true, have.count) in
     let at = at_place c.args.members.now k c.member-item.result c.loop-member-test.true c.member-item.is in
-    let named : c.deref.result.now ≡ log_name (name_of group k) = c.deref.ensures ∙ have.logs k c.member-item.result at in
+    let named : c.deref.result.now ≡ log_name (name_of_process group k) = c.deref.ensures ∙ have.logs k c.member-item.result at in
     rw (p.1, p.2) (create_stops c.keeps_files.ensures group k c.deref.result.now (g.F.Files.told c.args.files.now) (g.F.Files.told c.loop-member.files) (g.F.Files.told c.create.new.self) c.in_err-create.field-0.0 within named (c.loop-member.invariant.made group have) c.in_err-create.ensures.err)
 
 pub loop-member-preserved : goal.loop-member-preserved
@@ -21,7 +21,7 @@ loop-member-preserved g c = record {
       let k = c.loop-member.member-index in
       let within : k < size group = omega (arith, c.loop-member-test.true, have.count) in
       let at = at_place c.args.members.now k c.member-item.result c.loop-member-test.true c.member-item.is in
-      let named : c.deref.result.now ≡ log_name (name_of group k) = c.deref.ensures ∙ have.logs k c.member-item.result at in
+      let named : c.deref.result.now ≡ log_name (name_of_process group k) = c.deref.ensures ∙ have.logs k c.member-item.result at in
       create_goes_on c.keeps_files.ensures group k c.deref.result.now (g.F.Files.told c.args.files.now) (g.F.Files.told c.loop-member.files) (g.F.Files.told c.create.new.self) within named (c.loop-member.invariant.made group have) c.in_ok-create.ensures.ok;
   quiet = c.in_ok-create.ensures.counted ∙ c.loop-member.invariant.quiet;
 }

@@ -13,7 +13,7 @@ loop-part-init c =
     let gives = c.into_iter-part-iterator.ensures.into_iter_gives in
     let parts = c.args.parts.items in (
       gives.1 ∙ c.args.parts.ok.0 ∙ ap length (sym gives.0),
-      reports_begin c.finds_one_more.ensures c.rises.ensures c.kept.ensures.ranges parts parts _ _ _ _ refl gives.0
+      reports_begin c.finds_one_more.ensures c.rises.ensures c.states_fit.ensures.ranges parts parts _ _ _ _ refl gives.0
           (c.group_count.ensures ∙ ap group_count c.deref-2.ensures.value) c.new-tally.ensures c.new-lines.ensures.items c.requires
           (subst PartsFit c.deref.ensures.value c.parts_fit.ensures) (few_events c.replays.ensures.turn parts c.requires.within c.requires.few),
     )
@@ -48,5 +48,5 @@ returns c =
     let none : into_iter_items at.part-iterator ≡ [] = nil_from_length _ (sym at.invariant.0 ∙ c.in-None.ensures.steps.0) in
     record {
       lines = all_lines _ _ _ _ none at.invariant.1;
-      counts = c.counts-counts.ensures ∙ all_counted c.finds_one_more.ensures c.rises.ensures c.kept.ensures.ranges _ parts _ _ _ refl none c.requires (subst PartsFit c.deref.ensures.value c.parts_fit.ensures) at.invariant.1;
+      counts = c.counts-counts.ensures ∙ all_counted c.finds_one_more.ensures c.rises.ensures c.states_fit.ensures.ranges _ parts _ _ _ refl none c.requires (subst PartsFit c.deref.ensures.value c.parts_fit.ensures) at.invariant.1;
     }

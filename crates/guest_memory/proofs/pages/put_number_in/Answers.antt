@@ -1,7 +1,7 @@
 use Rattle.std.proofs.Common.{◌≡◌, ◌<◌, ◌≤◌, ◌+◌, ◌/◌, ◌%◌, ◌∙◌, ap, arith, length, get_or, List, ℕ}
 use Rattle.std.proofs.Math.ListN.{set}
 use Rattle.guest_memory.specs.LittleEndian.{low_bytes, IsWidth}
-use Rattle.guest_memory.specs.Pages.{AreWhole, put_in}
+use Rattle.guest_memory.specs.Pages.{AreWhole, put_in_page}
 use Rattle.guest_memory.specs.declared.page.Page.{Page}
 use Rattle.guest_memory.proofs.Numbers.{length-low_bytes}
 use Rattle.guest_memory.proofs.Flat.{set-same}
@@ -9,7 +9,7 @@ use Rattle.guest_memory.proofs.Writes.{Puts, puts-one, puts-nothing, on_err}
 use Rattle.guest_memory.proofs.pages.put_number_in.Goals as goal
 
 stored : (ps : List Page) (addr width value number : ℕ) (d page : Page) → IsWidth width → AreWhole ps → addr % 4096 + width ≤ 4096 → addr / 4096 < length ps
-    → page ≡ put_in (get_or ps (addr / 4096) d) (addr % 4096) (low_bytes width value) number → Puts ps (set ps (addr / 4096) page) addr (low_bytes width value) number
+    → page ≡ put_in_page (get_or ps (addr / 4096) d) (addr % 4096) (low_bytes width value) number → Puts ps (set ps (addr / 4096) page) addr (low_bytes width value) number
 stored ps addr width value number d page is w one room so =
     let n : length (low_bytes width value) ≡ width = length-low_bytes width value in
     puts-one ps addr (low_bytes width value) number d page w (omega (arith, n)) (omega (arith, n)) room so

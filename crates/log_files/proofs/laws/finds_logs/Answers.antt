@@ -1,13 +1,13 @@
 use Rattle.std.proofs.Common.{◌++◌, ℕ, List, Result, refl, ap, ◌∙◌}
 use Rattle.call_log.specs.Head.{head_bytes}
 use Rattle.call_log.specs.Limits.{most_log}
-use Rattle.call_log.specs.Log.{behind, head_at}
-use Rattle.command_run.specs.Outcome.{Stop, and_then}
+use Rattle.call_log.specs.Log.{unread_after_head, head_at}
+use Rattle.command_run.specs.Outcome.{CommandStop, and_then}
 use Rattle.log_files.specs.Logs.{log_or_bad_head}
 use Rattle.log_files.proofs.laws.finds_logs.Goals as goal
 
 pub returns : goal.returns
 returns c = λ folder name h.
-    ap (λ (r : Result (List ℕ) Stop). and_then r (λ bytes. log_or_bad_head name (head_at bytes)))
+    ap (λ (r : Result (List ℕ) CommandStop). and_then r (λ bytes. log_or_bad_head name (head_at bytes)))
     (c.reads_modules.ensures.files folder name most_log (head_bytes h.head ++ h.left) h.stands)
-    ∙ ap (log_or_bad_head name) ((c.exact_logs.ensures.heads (head_bytes h.head ++ h.left) h.head (behind h.head h.left)).1 (h.in_range, (refl, refl)))
+    ∙ ap (log_or_bad_head name) ((c.exact_logs.ensures.heads (head_bytes h.head ++ h.left) h.head (unread_after_head h.head h.left)).1 (h.in_range, (refl, refl)))

@@ -1,5 +1,5 @@
 use Rattle.page_watch.specs.Touch.{meets}
-use Rattle.page_watch.specs.Watched.{asked}
+use Rattle.page_watch.specs.Watched.{watch_after_event}
 use Rattle.page_watch.proofs.Asking.{AreAsked}
 use Rattle.page_watch.proofs.watches.ask_all.Given as goal
 
@@ -7,4 +7,4 @@ abbrev pub invariant-loop-n : goal.invariant-loop-n
 invariant-loop-n g l =
     let marks = g.V.TouchView.marks l.v in
     let at = g.V.TouchView.at l.v in
-    AreAsked (asked marks at (g.V.TouchView.states l.v at)) (λ w. meets marks at w.places) l.fn.watches.items l.fn.steps l.n l.watches.items l.places l.steps
+    AreAsked (watch_after_event marks at (g.V.TouchView.states l.v at)) (λ w. meets marks at w.places) l.fn.watches.items l.fn.steps l.n l.watches.items l.places l.steps

@@ -1,6 +1,6 @@
 use Rattle.std.proofs.Common.{◌≡◌, ◌∙◌, List, Err, map, subst, sym}
 use Rattle.std.proofs.lemmas.Result.{err_from_is_err_and}
-use Rattle.command_run.specs.CountLaws.{counts_of, counts_still}
+use Rattle.command_run.specs.CountLaws.{counts_of_part, counts_still}
 use Rattle.log_pairs.specs.declared.pairs.Loaded.{Loaded}
 use Rattle.log_pairs.specs.Seen.{AreLoaded, WereLoaded, pair_of}
 use Rattle.schedule_command.proofs.Made.{made_back}
@@ -14,7 +14,7 @@ returns-in_err-all-clause-performed g c =
     let told = g.F.Files.told c.args.files.now in
     rw (p.1, p.2)
     (performed pairs told (g.F.Files.told c.load_all.new.files) (g.F.Files.counts c.args.files.now) (g.F.Files.counts c.load_all.new.files) (Err c.in_err-all.field-0.0)
-    (not_read pairs told c.in_err-all.field-0.0 c.in_err-all.ensures.answer) c.load_all.ensures.same tt (counts_of _ _ c.in_err-all.field-0.0 c.in_err-all.ensures.counts) c.in_err-all.ensures.cause)
+    (not_read pairs told c.in_err-all.field-0.0 c.in_err-all.ensures.answer) c.load_all.ensures.same tt (counts_of_part _ _ c.in_err-all.field-0.0 c.in_err-all.ensures.counts) c.in_err-all.ensures.cause)
 
 pub returns-in_err-parts-clause-performed : goal.returns-in_err-parts-clause-performed
 returns-in_err-parts-clause-performed g c =
@@ -50,6 +50,6 @@ returns-clause-converse g c = λ folder is.
     let loaded = subst (λ (all : List Loaded). WereLoaded pairs told all) (sym c.deref.ensures.value) c.in_ok-all.ensures.answer in
     let same : c.deref-2.result.now ≡ c.deref.result.now = c.deref-2.ensures.value ∙ sym c.deref.ensures.value in
     let read = loaded folder is in
-    made_back c.exact_logs.ensures c.rewritten_is_read.ensures c.reads_modules.ensures c.written_is_read.ensures.read c.kept.ensures.started c.records_back.ensures folder pairs read.0 c.in_ok-parts.parts.items c.make.result
+    made_back c.exact_logs.ensures c.rewritten_is_read.ensures c.reads_modules.ensures c.written_is_read.ensures.read c.states_fit.ensures.started c.records_back.ensures folder pairs read.0 c.in_ok-parts.parts.items c.make.result
     read.1.0 (c.in_ok-parts.ensures.answer pairs told loaded folder is) c.in_ok-parts.ensures.parts c.in_ok-parts.ensures.at_heads c.make.ensures.bytes
     (c.make.ensures.answer read.0 (subst (λ (all : List Loaded). AreLoaded all read.0) (sym same) read.1.1))

@@ -1,6 +1,6 @@
 use Rattle.std.proofs.Common.{◌≡◌, Bool, length, None, Some, Ok, sym, ap, subst, ◌∙◌, arith}
 use Rattle.std.proofs.lemmas.Result.{err_from_is_err_and}
-use Rattle.schedule_text.specs.Outcome.{FailsAs}
+use Rattle.schedule_text.specs.Outcome.{IsScheduleError}
 use Rattle.schedule_text.specs.Reading.{TakesLine, with_line, schedule_of}
 use Rattle.schedule_text.proofs.OutcomeLaws.{read_begins, read_on, read_bad, read_ends}
 use Rattle.schedule_text.proofs.read.read_lines.Goals as goal
@@ -30,7 +30,7 @@ pub returns-in_err-check_end : goal.returns-in_err-check_end
 returns-in_err-check_end c =
     let p = err_from_is_err_and c.from_residual-in_err-check_end.result c.from_residual-in_err-check_end.ensures.1 in
     let whole = read_ends (schedule_of c.args.bytes.now) c.loop-line.lines.left c.loop-line.number c.loop-line.draft c.loop-line.invariant.so_far c.in_default.ensures.lines in
-    rw (p.1, p.2) (subst (FailsAs c.in_err-check_end.field-0.0) (sym whole) c.in_err-check_end.ensures)
+    rw (p.1, p.2) (subst (IsScheduleError c.in_err-check_end.field-0.0) (sym whole) c.in_err-check_end.ensures)
 
 pub returns : goal.returns
 returns c =

@@ -1,6 +1,6 @@
 use Rattle.std.proofs.Common.{◌≡◌, ◌∙◌, ◌-◌, ◌++◌, List, ℕ, codes, map, suc, ap, sym, refl, arith}
 use Rattle.proc_replay.specs.Replaying.{Replaying}
-use Rattle.group_state.specs.Place.{Place}
+use Rattle.group_state.specs.Place.{GroupPlace}
 use Rattle.group_state.specs.Touch.{ticks}
 use Rattle.shell_points.specs.declared.point.Point.{Point as Held}
 use Rattle.shell_points.specs.Firing.{firing_lines, place_at}
@@ -46,7 +46,7 @@ pub positions-smaller : goal.positions-smaller
 positions-smaller g c =
     let old = c.positions.group in
     let went = goes_to c.args.group old c.in_ok-next.next c.in_ok-next.field-0-1 c.args.count c.positions.invariant.start (omega arith) c.requires.within c.in_ok-next.ensures in
-    let at : c.in_ok-next.next.at ≡ suc old.at = ap (λ (p : Place). p.at) went in
+    let at : c.in_ok-next.next.at ≡ suc old.at = ap (λ (p : GroupPlace). p.at) went in
     omega (arith, at)
 
 pub positions-preserved : goal.positions-preserved
@@ -57,8 +57,8 @@ positions-preserved g c =
     let next = c.in_ok-next.next in
     let ps = map {A = Held} point c.args.points.now in
     let went = goes_to c.args.group old next c.in_ok-next.field-0-1 c.args.count i.start (omega arith) c.requires.within c.in_ok-next.ensures in
-    let at : next.at ≡ suc old.at = ap (λ (p : Place). p.at) went in
-    let same : next.start ≡ start = ap (λ (p : Place). p.start) went in
+    let at : next.at ≡ suc old.at = ap (λ (p : GroupPlace). p.at) went in
+    let same : next.start ≡ start = ap (λ (p : GroupPlace). p.start) went in
     record {
       start = same;
       within = omega (arith, at);

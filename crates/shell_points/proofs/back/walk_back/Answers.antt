@@ -1,6 +1,6 @@
 use Rattle.std.proofs.Common.{◌≡◌, ◌∙◌, ◌-◌, ◌≤◌, ℕ, List, length, map, suc, ap, arith}
 use Rattle.proc_replay.specs.Replaying.{Replaying}
-use Rattle.group_state.specs.Place.{Place, events}
+use Rattle.group_state.specs.Place.{GroupPlace, events}
 use Rattle.shell_points.specs.declared.point.Point.{Point as Held}
 use Rattle.shell_points.specs.Firing.{place_at}
 use Rattle.shell_points.specs.Returning.{return_from}
@@ -15,7 +15,7 @@ returns-clause-returns g c =
     let count = c.saturating_sub-count.result in
     let r = return_of c.in_ok-group-2.last in
     let begun = gone_to first c.in_ok-group.group 0 c.in_ok-group.field-0-1 (omega arith) c.in_ok-group.ensures in
-    let same : c.in_ok-group.group.start ≡ first.start = ap (λ (p : Place). p.start) begun in
+    let same : c.in_ok-group.group.start ≡ first.start = ap (λ (p : GroupPlace). p.start) begun in
     let walked : c.in_ok-group-2.group.start ≡ first.start = c.in_ok-group-2.ensures.start ∙ same in
     let front : count ≡ first.at - 1 = c.saturating_sub-count.ensures ∙ ap (λ (n : ℕ). n - 1) c.position.ensures.position in
     let within : count ≤ length (events first.start) = omega (arith, front, c.position.ensures.within) in

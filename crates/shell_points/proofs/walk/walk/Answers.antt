@@ -2,7 +2,7 @@ use Rattle.std.proofs.Common.{rules, ◌≡◌, ◌+◌, ◌-◌, ◌<◌, ◌�
 use Rattle.std.specs.Prelude.{IfOk, is_some}
 use Rattle.std.proofs.lemmas.List.{append-nil}
 use Rattle.proc_replay.specs.Replaying.{Replaying}
-use Rattle.group_state.specs.Place.{Place, events}
+use Rattle.group_state.specs.Place.{GroupPlace, events}
 use Rattle.group_state.specs.Touch.{ticks}
 use Rattle.shell_points.specs.declared.point.Point.{Point as Held}
 use Rattle.shell_points.specs.Firing.{place_at}
@@ -77,7 +77,7 @@ returns-then-is_none-clause-ticks g c =
     let none : is_some c.in_ok-group.event ≡ false = c.is_none.ensures ∙ ap not c.if-is_none.true in
     let stay = stays old new c.in_ok-group.event none c.in_ok-group.ensures in
     one_of c.arrive.result (λ done. done.group ≡ new) (λ done. c.positions.steps ≡ c.args.steps.now + ticks first.start (watched ps) first.at (done.group.at - first.at))
-    (λ done same. i.ticks ∙ ap (λ (p : Place). c.args.steps.now + ticks first.start (watched ps) first.at (p.at - first.at)) (sym (same ∙ stay.0)))
+    (λ done same. i.ticks ∙ ap (λ (p : GroupPlace). c.args.steps.now + ticks first.start (watched ps) first.at (p.at - first.at)) (sym (same ∙ stay.0)))
     c.arrive.ensures.group
 
 pub returns-then-turn-clause-ticks : goal.returns-then-turn-clause-ticks
@@ -93,7 +93,7 @@ returns-then-turn-clause-ticks g c =
     let is : c.after_event.new.steps ≡ c.args.steps.now + ticks first.start (watched ps) first.at (new.at - first.at) =
     ticked first.start (watched ps) first.at old.at new c.args.steps.now c.positions.steps c.after_event.new.steps i.after here i.ticks c.in_ok-now.ensures.ticks in
     one_of c.arrive-then-turn.result (λ done. done.group ≡ new) (λ done. c.after_event.new.steps ≡ c.args.steps.now + ticks first.start (watched ps) first.at (done.group.at - first.at))
-    (λ done same. is ∙ ap (λ (p : Place). c.args.steps.now + ticks first.start (watched ps) first.at (p.at - first.at)) (sym same))
+    (λ done same. is ∙ ap (λ (p : GroupPlace). c.args.steps.now + ticks first.start (watched ps) first.at (p.at - first.at)) (sym same))
     c.arrive-then-turn.ensures.group
 
 pub returns-then-said-ge-MOST_LINES-clause-ticks : goal.returns-then-said-ge-MOST_LINES-clause-ticks
@@ -109,7 +109,7 @@ returns-then-said-ge-MOST_LINES-clause-ticks g c =
     let is : c.after_event.new.steps ≡ c.args.steps.now + ticks first.start (watched ps) first.at (new.at - first.at) =
     ticked first.start (watched ps) first.at old.at new c.args.steps.now c.positions.steps c.after_event.new.steps i.after here i.ticks c.in_ok-now.ensures.ticks in
     one_of c.arrive-then-said-ge-MOST_LINES.result (λ done. done.group ≡ new) (λ done. c.after_event.new.steps ≡ c.args.steps.now + ticks first.start (watched ps) first.at (done.group.at - first.at))
-    (λ done same. is ∙ ap (λ (p : Place). c.args.steps.now + ticks first.start (watched ps) first.at (p.at - first.at)) (sym same))
+    (λ done same. is ∙ ap (λ (p : GroupPlace). c.args.steps.now + ticks first.start (watched ps) first.at (p.at - first.at)) (sym same))
     c.arrive-then-said-ge-MOST_LINES.ensures.group
 
 -- where a walk ended, what was said and the position came to be its text
@@ -148,7 +148,7 @@ returns-then-turn-clause-walks g c =
     let here : new ≡ place_at first.start (suc old.at) = went.0 ∙ ap (λ (s : List Replaying). place_at s (suc old.at)) i.start in
     let before : old.at < length (events first.start) = omega (arith, went.1, ap (λ (s : List Replaying). length (events s)) i.start) in
     let did : treat_all first.start (suc old.at) (quiet c.positions.walked.variables) ps ≡ run_so_far turn =
-    sym (c.in_ok-turn.ensures ∙ ap (λ (p : Place). treat_all p.start p.at (quiet c.positions.walked.variables) ps) here) in
+    sym (c.in_ok-turn.ensures ∙ ap (λ (p : GroupPlace). treat_all p.start p.at (quiet c.positions.walked.variables) ps) here) in
     let rest = walk_over first.start ps (suc old.at) (length (events first.start) - suc old.at) in
     let is : walk_from first ps c.args.variables ≡ walk_ended (suc old.at) turn.variables (text ++ turn.text) =
     sym i.ahead ∙ step first.start ps old.at (length (events first.start)) c.positions.walked.variables text before ∙ ap (walk_on rest (suc old.at) text) did
@@ -174,7 +174,7 @@ returns-then-said-ge-MOST_LINES-clause-walks g c =
     let here : new ≡ place_at first.start (suc old.at) = went.0 ∙ ap (λ (s : List Replaying). place_at s (suc old.at)) i.start in
     let before : old.at < length (events first.start) = omega (arith, went.1, ap (λ (s : List Replaying). length (events s)) i.start) in
     let did : treat_all first.start (suc old.at) (quiet c.positions.walked.variables) ps ≡ run_so_far turn =
-    sym (c.in_ok-turn.ensures ∙ ap (λ (p : Place). treat_all p.start p.at (quiet c.positions.walked.variables) ps) here) in
+    sym (c.in_ok-turn.ensures ∙ ap (λ (p : GroupPlace). treat_all p.start p.at (quiet c.positions.walked.variables) ps) here) in
     let many : most_lines ≤ lines_in (text ++ turn.text) = omega (arith, lines_append text turn.text, i.said, c.lines_in-said.ensures, c.if-said-ge-MOST_LINES.true) in
     let rest = walk_over first.start ps (suc old.at) (length (events first.start) - suc old.at) in
     let is : walk_from first ps c.args.variables ≡ walk_ended (suc old.at) turn.variables ((text ++ turn.text) ++ codes "paused\n") =
@@ -197,7 +197,7 @@ positions-smaller g c =
     let some : is_some c.in_ok-group.event ≡ true = c.is_none.ensures ∙ ap not c.if-is_none.false in
     let went = moves_on old new c.in_ok-group.event some c.in_ok-group.ensures in
     let here : new ≡ place_at first.start (suc old.at) = went.0 ∙ ap (λ (s : List Replaying). place_at s (suc old.at)) i.start in
-    let at : new.at ≡ suc old.at = ap (λ (p : Place). p.at) here in
+    let at : new.at ≡ suc old.at = ap (λ (p : GroupPlace). p.at) here in
     let before : old.at < length (events first.start) = omega (arith, went.1, ap (λ (s : List Replaying). length (events s)) i.start) in
     omega (arith, at, before)
 
@@ -213,11 +213,11 @@ positions-preserved g c =
     let some : is_some c.in_ok-group.event ≡ true = c.is_none.ensures ∙ ap not c.if-is_none.false in
     let went = moves_on old new c.in_ok-group.event some c.in_ok-group.ensures in
     let here : new ≡ place_at first.start (suc old.at) = went.0 ∙ ap (λ (s : List Replaying). place_at s (suc old.at)) i.start in
-    let same : new.start ≡ first.start = ap (λ (p : Place). p.start) here in
-    let at : new.at ≡ suc old.at = ap (λ (p : Place). p.at) here in
+    let same : new.start ≡ first.start = ap (λ (p : GroupPlace). p.start) here in
+    let at : new.at ≡ suc old.at = ap (λ (p : GroupPlace). p.at) here in
     let before : old.at < length (events first.start) = omega (arith, went.1, ap (λ (s : List Replaying). length (events s)) i.start) in
     let did : treat_all first.start (suc old.at) (quiet c.positions.walked.variables) ps ≡ run_so_far turn =
-    sym (c.in_ok-turn.ensures ∙ ap (λ (p : Place). treat_all p.start p.at (quiet c.positions.walked.variables) ps) here) in
+    sym (c.in_ok-turn.ensures ∙ ap (λ (p : GroupPlace). treat_all p.start p.at (quiet c.positions.walked.variables) ps) here) in
     let said : c.push_bytes.new.self ≡ text ++ turn.text = c.in_ok-push_bytes.ensures.ok ∙ ap (λ (b : List ℕ). text ++ b) c.bytes.ensures in
     let few : lines_in (text ++ turn.text) < most_lines = omega (arith, lines_append text turn.text, i.said, c.lines_in-said.ensures, c.if-said-ge-MOST_LINES.false) in
     let rest = walk_over first.start ps (suc old.at) (length (events first.start) - suc old.at) in

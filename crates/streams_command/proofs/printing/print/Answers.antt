@@ -1,6 +1,6 @@
 use Rattle.std.proofs.Common.{◌≡◌, ◌∙◌, ◌++◌, ℕ, ap, arith, flat_map, length, take}
 use Rattle.std.proofs.lemmas.List.{take_all}
-use Rattle.streams_command.specs.Streams.{count_text, line_text}
+use Rattle.streams_command.specs.Streams.{stream_counts_text, stream_line_text}
 use Rattle.streams_command.proofs.Printed.{printed}
 use Rattle.streams_command.proofs.printing.print.Goals as goal
 
@@ -11,5 +11,5 @@ returns c = λ traffic told.
     let t = c.args.told.now in
     let count : c.len.result ≡ length items = omega (arith, c.len.ensures, c.deref-line-items.ensures.len) in
     printed t traffic items c.push_counts.new.text told (c.deref-line-items.ensures.value ∙ c.in_ok-lines.ensures)
-    (c.in_ok-push_counts.ensures ∙ ap (λ text. text ++ count_text c.len.result t.odd t.foreign) (c.loop-line.invariant ∙ ap (flat_map line_text) whole)
-    ∙ ap (λ (n : ℕ). flat_map line_text items ++ count_text n t.odd t.foreign) count)
+    (c.in_ok-push_counts.ensures ∙ ap (λ text. text ++ stream_counts_text c.len.result t.odd t.foreign) (c.loop-line.invariant ∙ ap (flat_map stream_line_text) whole)
+    ∙ ap (λ (n : ℕ). flat_map stream_line_text items ++ stream_counts_text n t.odd t.foreign) count)

@@ -1,8 +1,8 @@
 use Rattle.std.proofs.Common.{List, Err, Ok, map, refl, subst, sym}
 use Rattle.std.proofs.lemmas.Result.{err_from_is_err_and}
-use Rattle.command_run.specs.declared.refusal.Answer.TheVariants as answered
-use Rattle.command_run.specs.declared.refusal.Refusal.TheVariants as refusal
-use Rattle.command_run.specs.CountLaws.{counts_of, counts_still}
+use Rattle.command_run.specs.declared.refusal.WorkText.TheVariants as answered
+use Rattle.command_run.specs.declared.refusal.StopCause.TheVariants as refusal
+use Rattle.command_run.specs.CountLaws.{counts_of_part, counts_still}
 use Rattle.log_pairs.specs.declared.pairs.Loaded.{Loaded}
 use Rattle.log_pairs.specs.Seen.{WereLoaded, pair_of}
 use Rattle.streams_command.proofs.Performing.{finished, stopped, stops_too}
@@ -15,7 +15,7 @@ returns-in_err-all-clause-performed g c =
     let told = g.F.Files.told c.args.files.now in
     rw (p.1, p.2)
     (stopped pairs told (g.F.Files.told c.load_all.new.files) (g.F.Files.counts c.args.files.now) (g.F.Files.counts c.load_all.new.files) c.in_err-all.field-0.0
-    (stops_too pairs told c.in_err-all.field-0.0 c.in_err-all.ensures.answer) c.load_all.ensures.same (counts_of _ _ c.in_err-all.field-0.0 c.in_err-all.ensures.counts) c.in_err-all.ensures.cause)
+    (stops_too pairs told c.in_err-all.field-0.0 c.in_err-all.ensures.answer) c.load_all.ensures.same (counts_of_part _ _ c.in_err-all.field-0.0 c.in_err-all.ensures.counts) c.in_err-all.ensures.cause)
 
 pub returns-in_err-parts-clause-performed : goal.returns-in_err-parts-clause-performed
 returns-in_err-parts-clause-performed g c =

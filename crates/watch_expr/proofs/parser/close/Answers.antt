@@ -1,6 +1,6 @@
 use Rattle.std.proofs.Common.{List, [], ◌∷◌, ap, ◌∙◌, refl}
 use Rattle.watch_expr.specs.Expression.{expression_of}
-use Rattle.watch_expr.specs.Machine.{Pending, Left, Front, pile}
+use Rattle.watch_expr.specs.Machine.{PendingOperator, Left, Front, pile}
 use Rattle.watch_expr.specs.declared.stack.Frame.TheVariants as frame
 use Rattle.watch_expr.proofs.Piles.{close_refused, closed_step, popped}
 use Rattle.watch_expr.proofs.parser.close.Goals as goal
@@ -16,7 +16,7 @@ returns-in_ok-push-in-Some-Left c =
     let top = popped c.settled.new.frames.items c.pop.new.self.items c.in-Some-Left.field-0 f c.in-Some-Left.ensures.items c.in-Some-Left.field-0-is in
     let back = popped c.push.new.self.items c.pop.new.self.items f f c.in_ok-push-in-Some-Left.ensures.items refl in
     close_refused c.args.text.now (pile [] c.args.frames.now.items) (Left c.in-Some-Left.op (expression_of c.in-Some-Left.y) ∷ pile [] c.pop.new.self.items) (pile [] c.push.new.self.items) (expression_of c.args.x) (expression_of c.in_ok-inner.inner)
-    (c.in_ok-inner.ensures ∙ ap (λ (s : List Pending). (s, expression_of c.in_ok-inner.inner)) top) refl back
+    (c.in_ok-inner.ensures ∙ ap (λ (s : List PendingOperator). (s, expression_of c.in_ok-inner.inner)) top) refl back
 
 pub returns-in_ok-push-in-Some-Front : goal.returns-in_ok-push-in-Some-Front
 returns-in_ok-push-in-Some-Front c =
@@ -24,4 +24,4 @@ returns-in_ok-push-in-Some-Front c =
     let top = popped c.settled.new.frames.items c.pop.new.self.items c.in-Some-Front.field-0 f c.in-Some-Front.ensures.items c.in-Some-Front.field-0-is in
     let back = popped c.push-in-Some-Front.new.self.items c.pop.new.self.items f f c.in_ok-push-in-Some-Front.ensures.items refl in
     close_refused c.args.text.now (pile [] c.args.frames.now.items) (Front c.in-Some-Front.op ∷ pile [] c.pop.new.self.items) (pile [] c.push-in-Some-Front.new.self.items) (expression_of c.args.x) (expression_of c.in_ok-inner.inner)
-    (c.in_ok-inner.ensures ∙ ap (λ (s : List Pending). (s, expression_of c.in_ok-inner.inner)) top) refl back
+    (c.in_ok-inner.ensures ∙ ap (λ (s : List PendingOperator). (s, expression_of c.in_ok-inner.inner)) top) refl back

@@ -1,11 +1,11 @@
 use Rattle.std.proofs.Common.{sym, ap, ◌∙◌}
 use Rattle.watch_expr.specs.Expression.{expression_of}
 use Rattle.watch_expr.specs.declared.stack.Mode.{Mode}
-use Rattle.watch_expr.specs.Machine.{alone, whole, state}
+use Rattle.watch_expr.specs.Machine.{whole_expression, whole, state}
 use Rattle.watch_expr.proofs.Piles.{alone_none, not_empty}
 use Rattle.watch_expr.proofs.parser.finish.Goals as goal
 
 pub returns : goal.returns
 returns c =
     let none = alone_none c.settled.new.frames.items (expression_of c.in_ok-all-in-Have.all) (not_empty c.settled.new.frames (sym c.is_empty.ensures ∙ c.if-is_empty.false)) in
-    (ap (λ (m : Mode). whole (state c.args.frames.items m)) c.in-Have.is ∙ ap alone c.in_ok-all-in-Have.ensures ∙ none, c.column-in-Have.ensures)
+    (ap (λ (m : Mode). whole (state c.args.frames.items m)) c.in-Have.is ∙ ap whole_expression c.in_ok-all-in-Have.ensures ∙ none, c.column-in-Have.ensures)

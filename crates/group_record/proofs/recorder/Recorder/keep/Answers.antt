@@ -2,7 +2,7 @@ use Rattle.std.proofs.Common.{◌≡◌, ◌∙◌, inr, ap, refl, sym, subst}
 use Rattle.std.specs.Prelude.{slice_set}
 use Rattle.std.proofs.lemmas.Result.{err_from_is_err_and}
 use Rattle.lib_calls.specs.declared.entry.Entry.{Entry}
-use Rattle.group_record.specs.Members.{CanKeep, kept}
+use Rattle.group_record.specs.Members.{CanKeep, member_after}
 use Rattle.group_record.specs.declared.member.Member.{Member}
 use Rattle.group_world.specs.World.{after_event}
 use Rattle.lib_calls.specs.Entry.{entry_of}
@@ -37,7 +37,7 @@ returns-clause-writes g c = λ m at.
 pub returns-clause-ok : goal.returns-clause-ok
 returns-clause-ok g c = λ m at.
     let same = only_one c.args.self.now.members.items c.args.p c.index_mut.result.now m c.requires.process c.index_mut.ensures.value at in
-    let made : c.keep.new.self ≡ kept m c.args.entry.now = c.in_ok-keep.ensures.ok ∙ ap (λ (m : Member). kept m (entry_of c.view-entry.result)) same ∙ ap (kept m) c.view-entry.ensures in
+    let made : c.keep.new.self ≡ member_after m c.args.entry.now = c.in_ok-keep.ensures.ok ∙ ap (λ (m : Member). member_after m (entry_of c.view-entry.result)) same ∙ ap (member_after m) c.view-entry.ensures in
     record {
       members = ap (λ (x : Member). slice_set c.args.self.now.members.items c.args.p x) made;
       world = c.in_ok-event.ensures.ok ∙ ap (after_event c.args.self.now.world c.args.p) c.view-entry.ensures;

@@ -1,7 +1,7 @@
 use Rattle.std.proofs.Common.{◌≡◌, ◌+◌, length, drop, Option}
 use Rattle.std.specs.Prelude.{sum_by}
 use Rattle.fri_outside.specs.Outside.{Folder}
-use Rattle.group_record.specs.Run.{Group, Progress, after_items}
+use Rattle.group_record.specs.Run.{GroupStart, Progress, after_items}
 use Rattle.group_record.specs.Recorded.{FilesOf, HasCountsFor, KeepsUp, UnderWay, counted_of}
 use Rattle.group_record.proofs.Loops.{ComesTo}
 use Rattle.group_record.proofs.recorder.Recorder.perform_all.Given as goal
@@ -13,7 +13,7 @@ invariant-loop-item g l = record {
   count : length l.self.members.items ≡ length l.initial.self.members.items;
   few : HasCountsFor (sum_by counted_of (drop l.item-index l.items)) l.self;
   prints : length l.self.prints ≡ length l.initial.self.prints;
-  comes : (group : Group) (done : Progress) (before : Option Folder) → KeepsUp group done l.initial.self → FilesOf group done before (g.F.Files.told l.initial.files)
+  comes : (group : GroupStart) (done : Progress) (before : Option Folder) → KeepsUp group done l.initial.self → FilesOf group done before (g.F.Files.told l.initial.files)
       → ComesTo group l.self before (g.F.Files.told l.files) (after_items group (l.number + 1) (drop l.item-index l.items)) (after_items group 1 l.items done);
   quiet : g.F.Files.counts l.files ≡ g.F.Files.counts l.initial.files;
 }

@@ -1,6 +1,6 @@
 use Rattle.std.proofs.Common.{◌≡◌, ◌∙◌, ◌-◌, ◌+◌, suc, arith}
 use Rattle.std.proofs.lemmas.Result.{err_from_is_err_and}
-use Rattle.group_record.specs.Run.{Group, Progress, attempt, attempts}
+use Rattle.group_record.specs.Run.{GroupStart, Progress, attempt, attempts}
 use Rattle.group_record.proofs.Loops.{attempts-none, count_next, has_come, try_next, try_stops, under_next}
 use Rattle.group_record.proofs.Small.{failed_writes}
 use Rattle.group_record.proofs.recorder.Recorder.run.Goals as goal
@@ -15,7 +15,7 @@ returns-in_err-attempt-clause-comes g c = λ group done before keeps files.
 
 pub loop-preserved : goal.loop-preserved
 loop-preserved g c =
-    let next : Group → Progress → Progress = λ group. attempt group c.args.number c.args.p c.args.thread in
+    let next : GroupStart → Progress → Progress = λ group. attempt group c.args.number c.args.p c.args.thread in
     let one : c.args.times - c.loop.counter ≡ suc (c.args.times - (c.loop.counter + 1)) = omega arith in
     record {
       under = under_next next c.loop.self c.attempt.new.self (g.F.Files.told c.loop.files) (g.F.Files.told c.attempt.new.files) c.loop.invariant.under c.in_ok-attempt.ensures.comes;

@@ -18,7 +18,7 @@ returns-in_default-clause-moves c =
     let g = c.args.self.now in
     let i = c.requires in
     record {
-      gives = sym (ends c.merges.ensures c.rises.ensures c.kept.ensures.ranges c.replays.ensures.turn g.first.items i.fits g.here.at
+      gives = sym (ends c.merges.ensures c.rises.ensures c.states_fit.ensures.ranges c.replays.ensures.turn g.first.items i.fits g.here.at
           (subst AreNone (i.heads ∙ ap (map head) i.here.parts) c.in_default.ensures.next));
       place = refl;
     }
@@ -27,7 +27,7 @@ pub index-part-requires : goal.index-part-requires
 index-part-requires c =
     let g = c.args.self.now in
     let i = c.requires in
-    let f = forwarded c.merges.ensures c.rises.ensures c.kept.ensures.ranges c.replays.ensures.turn g.first.items _ _ _ g.here.at _ _
+    let f = forwarded c.merges.ensures c.rises.ensures c.states_fit.ensures.ranges c.replays.ensures.turn g.first.items _ _ _ g.here.at _ _
     i.fits i.here.parts i.heads c.in-Some.ensures.next c.in_ok-turn.ensures in
     omega (arith, f.fits)
 
@@ -35,7 +35,7 @@ pub unreachable-requires : goal.unreachable-requires
 unreachable-requires c =
     let g = c.args.self.now in
     let i = c.requires in
-    let f = forwarded c.merges.ensures c.rises.ensures c.kept.ensures.ranges c.replays.ensures.turn g.first.items _ _ _ g.here.at _ _
+    let f = forwarded c.merges.ensures c.rises.ensures c.states_fit.ensures.ranges c.replays.ensures.turn g.first.items _ _ _ g.here.at _ _
     i.fits i.here.parts i.heads c.in-Some.ensures.next c.in_ok-turn.ensures in
     is_event c.in_ok-turn.turn f.entry f.told c.in_default-turn.not-Event
 
@@ -43,7 +43,7 @@ pub overflow_add-self : goal.overflow_add-self
 overflow_add-self c =
     let g = c.args.self.now in
     let i = c.requires in
-    let f = forwarded c.merges.ensures c.rises.ensures c.kept.ensures.ranges c.replays.ensures.turn g.first.items _ _ _ g.here.at _ _
+    let f = forwarded c.merges.ensures c.rises.ensures c.states_fit.ensures.ranges c.replays.ensures.turn g.first.items _ _ _ g.here.at _ _
     i.fits i.here.parts i.heads c.in-Some.ensures.next c.in_ok-turn.ensures in
     omega (arith, f.within, i.few)
 
@@ -51,7 +51,7 @@ pub add-requires : goal.add-requires
 add-requires c =
     let g = c.args.self.now in
     let i = c.requires in
-    let f = forwarded c.merges.ensures c.rises.ensures c.kept.ensures.ranges c.replays.ensures.turn g.first.items _ _ _ g.here.at _ _
+    let f = forwarded c.merges.ensures c.rises.ensures c.states_fit.ensures.ranges c.replays.ensures.turn g.first.items _ _ _ g.here.at _ _
     i.fits i.here.parts i.heads c.in-Some.ensures.next c.in_ok-turn.ensures in
     omega (
       arith,
@@ -66,7 +66,7 @@ pub returns-clause-sound : goal.returns-clause-sound
 returns-clause-sound c =
     let g = c.args.self.now in
     let i = c.requires in
-    let f = forwarded c.merges.ensures c.rises.ensures c.kept.ensures.ranges c.replays.ensures.turn g.first.items _ _ _ g.here.at _ _
+    let f = forwarded c.merges.ensures c.rises.ensures c.states_fit.ensures.ranges c.replays.ensures.turn g.first.items _ _ _ g.here.at _ _
     i.fits i.here.parts i.heads c.in-Some.ensures.next c.in_ok-turn.ensures in
     let sound = f.sound i.here.sound c.index-part.result.now c.index-part.ensures (subst IsMemory (c.memory.ensures ∙ ap (λ (S : State). S.store.memory) c.process.ensures) c.size.ensures.sound) in
     let moved = moved_on g.first.items g.motions c.add.new.self g.here.at (node_event c.in-Some.node f.entry) i.moved i.been f.next f.within
@@ -86,6 +86,6 @@ pub returns-clause-moves : goal.returns-clause-moves
 returns-clause-moves c =
     let g = c.args.self.now in
     let i = c.requires in
-    let f = forwarded c.merges.ensures c.rises.ensures c.kept.ensures.ranges c.replays.ensures.turn g.first.items _ _ _ g.here.at _ _
+    let f = forwarded c.merges.ensures c.rises.ensures c.states_fit.ensures.ranges c.replays.ensures.turn g.first.items _ _ _ g.here.at _ _
     i.fits i.here.parts i.heads c.in-Some.ensures.next c.in_ok-turn.ensures in
     (record { gives = given _ _ _ _ _ _ _ c.in-Event.entry f c.in-Event.is; place = refl })

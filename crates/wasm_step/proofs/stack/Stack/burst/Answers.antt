@@ -3,7 +3,7 @@ use Rattle.wasm_types.specs.Code.{tree, trees}
 use Rattle.wasm_step.specs.Answer.{after_of, halt_of, way_of}
 use Rattle.wasm_step.specs.Burst.{burst, settle, spent}
 use Rattle.wasm_step.specs.Limits.{Within}
-use Rattle.wasm_step.specs.Reduce.{Goes, instr_row, reduce, return_from}
+use Rattle.wasm_step.specs.Reduce.{Goes, instr_row, reduce, leave_frame}
 use Rattle.wasm_step.specs.Thread.{Thread, depth}
 use Rattle.wasm_step.proofs.Ends.{ended_within}
 use Rattle.wasm_step.proofs.LevelEnds.{depth_within, fewer_left}
@@ -27,7 +27,7 @@ pub steps-preserved-in-Goes : goal.steps-preserved-in-Goes
 steps-preserved-in-Goes c =
     let t = c.steps.self in
     let u = c.return_from.new.self in
-    let goes = returning t (Goes u) c.if-close.ensures.closed (c.in-Goes.ensures ∙ ap return_from (c.if-close.ensures.same refl)) in record {
+    let goes = returning t (Goes u) c.if-close.ensures.closed (c.in-Goes.ensures ∙ ap leave_frame (c.if-close.ensures.same refl)) in record {
       same = sym (ends c.steps.todo.now t c.in_default-todo.len_below c.todo-todo-in-Goes.result.now u goes c.todo-todo-in-Goes.ensures c.steps.left c.steps.store) ∙ c.steps.invariant.same;
       within = ended_within t c.steps.invariant.within u (sym goes);
       same_module = c.steps.invariant.same_module;
@@ -37,7 +37,7 @@ pub returns-in_default-return_from : goal.returns-in_default-return_from
 returns-in_default-return_from c =
     let t = c.steps.self in
     let u = c.return_from.new.self in
-    let goes = returning t (way_of c.return_from.result u) c.if-close.ensures.closed (c.return_from.ensures ∙ ap return_from (c.if-close.ensures.same refl)) in
+    let goes = returning t (way_of c.return_from.result u) c.if-close.ensures.closed (c.return_from.ensures ∙ ap leave_frame (c.if-close.ensures.same refl)) in
     let stops = sym goes ∙ way_halts c.return_from.result c.next.result u u (c.next.ensures u) c.in_default-return_from.not-Goes in
     sym (ends_here c.steps.todo.now t c.in_default-todo.len_below c.steps.left c.steps.store _ stops) ∙ c.steps.invariant.same
 

@@ -7,7 +7,7 @@ use Rattle.wasm_types.specs.Locals.{zeros}
 use Rattle.wasm_types.specs.Modules.{func_type}
 use Rattle.wasm_step.specs.View.{thread_of}
 use Rattle.wasm_step.specs.Thread.{Thread, arguments, called, called_with, without}
-use Rattle.wasm_step.specs.declared.stack.Held.{Held}
+use Rattle.wasm_step.specs.declared.stack.StackFrame.{StackFrame}
 use Rattle.wasm_step.proofs.Frames.{IsEntered, grown, height as height_of, entered_sound, entered_view, size_within, within_of}
 use Rattle.wasm_step.proofs.stack.Stack.enter_within.Goals as goal
 use Rattle.wasm_step.proofs.stack.Stack.enter_within.Goals.{After-len-2, After-truncate}
@@ -32,7 +32,7 @@ module _ (c : After-truncate) where
   abbrev first : ℕ
   first = c.len.result - c.args.above - c.len-n.result
 
-  abbrev here : Held
+  abbrev here : StackFrame
   here = record {
     todo = c.body-self-inside.result;
     floor = first;

@@ -1,7 +1,7 @@
 use Rattle.std.proofs.Common.{◌≡◌, ◌<◌, ◌≤◌, ◌-◌, ◌∙◌, length, take, drop, refl, sym, ap, subst, arith, length-drop}
 use Rattle.std.proofs.lemmas.List.{length-reverse, length-take-le}
 use Rattle.wasm_types.specs.Code.{tree, trees}
-use Rattle.wasm_step.specs.declared.stack.Held.{Held}
+use Rattle.wasm_step.specs.declared.stack.StackFrame.{StackFrame}
 use Rattle.wasm_step.specs.declared.stack.Stack.TheInside.{Inside}
 use Rattle.wasm_step.specs.Limits.{Within}
 use Rattle.wasm_step.specs.View.{entered_by, IsStack, opened_by, thread_of}
@@ -38,7 +38,7 @@ module _ (c : goal.After-self-2-1) where
   unfolding less
   less_view = without_view c.self.inside 1 c.self.invariant enough c.take_last-top.new.self kept ∙ ap (without 1) c.self.view_is
 
-  now : Held
+  now : StackFrame
   now = record c.self.inside.here { todo = c.args.body; floor = c.len-height.result - 1 }
 
   top : now.floor ≡ length less.operands.items

@@ -1,5 +1,5 @@
 use Rattle.std.proofs.Common.{◌≡◌, suc, ◌-◌, ap, sym, ◌∙◌, subst, length, get_or, take, arith}
-use Rattle.wasm_step.specs.declared.stack.Label.{Label}
+use Rattle.wasm_step.specs.declared.stack.StackLevel.{StackLevel}
 use Rattle.wasm_step.specs.View.{closed_by}
 use Rattle.wasm_step.proofs.Views.{IsPast, past_in, past_none, past_sound, past_view}
 use Rattle.wasm_step.proofs.stack.Stack.past.Goals as goal
@@ -25,7 +25,7 @@ module _ (c : goal.After-self-3-1) where
       let is : get_or s.labels.items (length s.labels.items - c.args.n) d ≡ d = ap (λ k. get_or s.labels.items (k - c.args.n) d) (sym height) ∙ sym c.index-label.ensures in
       let past = past_in s.here s.labels.items s.locals.items s.operands.items s.callers.items d c.self.invariant.part (c.args.n - 1) (omega (arith, height)) in
       let at_n = subst (λ n. IsPast n s.here s.labels.items s.locals.items s.operands.items s.callers.items (get_or s.labels.items (length s.labels.items - n) d)) n past in
-      subst (λ (l : Label). IsPast c.args.n s.here s.labels.items s.locals.items s.operands.items s.callers.items l) is at_n
+      subst (λ (l : StackLevel). IsPast c.args.n s.here s.labels.items s.locals.items s.operands.items s.callers.items l) is at_n
 
 pub invariant_of-self : goal.invariant_of-self
 invariant_of-self c = past_sound c.self.inside c.args.n c.truncate.new.self c.index-label.result.now c.self.invariant (omega (arith, height c)) (label c) (cut c)

@@ -1,7 +1,7 @@
 use Rattle.guest_process.proofs.KeptFits.{state_kept}
 use Rattle.guest_process.proofs.KeptSound.{sound_kept}
 use Rattle.guest_process.proofs.Starting.{started}
-use Rattle.guest_process.proofs.laws.kept.Goals as goal
+use Rattle.guest_process.proofs.laws.states_fit.Goals as goal
 
 pub returns-clause-ranges : goal.returns-clause-ranges
 returns-clause-ranges c =

@@ -1,5 +1,5 @@
 use Rattle.drill_command.proofs.Performs.{done_performs, stop_performs}
-use Rattle.drill_command.proofs.command.drill.Goals as goal
+use Rattle.drill_command.proofs.command.drill_rounds.Goals as goal
 
 pub returns-in-Ok : goal.returns-in-Ok
 returns-in-Ok c = done_performs c.args.rounds c.in-Ok.ensures.room c.in-Ok.text c.in-Ok.ensures.told
