@@ -7,7 +7,7 @@
 #![tactic(auto)]
 
 mod chunk;
-mod laws;
+pub mod laws;
 mod line;
 mod mark;
 mod send_map;
@@ -16,7 +16,6 @@ mod stream_map;
 mod streams;
 
 pub use chunk::{Chunk, read_chunk};
-pub use laws::{fronts_count, read_is_kept, unsent_is_free};
 pub use line::StreamLine;
 pub use mark::Mark;
 pub use streams::Streams;

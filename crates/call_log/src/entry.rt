@@ -9,7 +9,7 @@ use crate::fields::{
 };
 use crate::number::{read_clock, read_u16, read_u32, read_u64};
 use crate::version::Version;
-use fri_bytes::{Cursor, exact_readers};
+use fri_bytes::Cursor;
 use lib_calls::EntryView;
 
 // The entry at the front of the bytes, which are behind an entry with the clock `last`, and the bytes behind it.
@@ -22,7 +22,7 @@ pub(crate) fn read_entry(
     ensures spelled { IfSome result (λ r. bytes.now ≡ encoding version last (entry_of r.0) ++ r.1.now) }
     ensures none { IfNone result (BeginsNoEntry version last bytes.now) }
 {
-    exact_readers();
+    fri_bytes::laws::exact_readers();
     match version {
         Version::One => read_framed(bytes, Version::One, last),
         Version::Two => read_framed(bytes, Version::Two, last),

@@ -4,7 +4,7 @@ ghost use Rattle.call_log.specs.Head.{BeginsNoHead, IsHead, head_bytes, head_of}
 ghost use Rattle.call_log.specs.Reading.{Gives, name_at, read_head as head_read};
 
 use crate::version::Version;
-use fri_bytes::{Cursor, exact_readers};
+use fri_bytes::Cursor;
 use fri_text::is_name;
 use thiserror::Error;
 
@@ -31,7 +31,7 @@ pub(crate) fn read_head(bytes: &[u8]) -> Option<(LogHead<'_>, &[u8])>
     ensures spelled { IfSome result (λ r. bytes.now ≡ head_bytes (head_of r.0) ++ r.1.now) }
     ensures none { IfNone result (BeginsNoHead bytes.now) }
 {
-    exact_readers();
+    fri_bytes::laws::exact_readers();
     let mut cursor = Cursor::new(bytes);
     let head = read_fields(&mut cursor)?;
     Some((head, cursor.rest()))

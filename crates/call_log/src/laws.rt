@@ -1,13 +1,12 @@
 // The laws of logs, as calls that do nothing.
 ghost use Rattle.call_log.specs.Laws.{ExactLogs, NoLonger, RewrittenIsRead};
-
-use fri_bytes::exact_readers;
+ghost use Rattle.call_log.specs.Walk.{EntryLeads, IsEnd};
 
 /// The functions that say what stands in a log give what the bytes spell, and nothing else.
 pub fn exact_logs()
     ensures { ExactLogs }
 {
-    exact_readers();
+    fri_bytes::laws::exact_readers();
 }
 
 /// An entry whose numbers are no greater than those of an event takes no more bytes in version 2 than in
@@ -21,4 +20,14 @@ pub fn rewritten_is_read()
     ensures { RewrittenIsRead }
 {
     exact_logs();
+}
+
+/// Where an entry stands at the front of what is left of a log, it takes bytes, is the first of all its
+/// entries, and what is left behind it has the others and the same rest. Where none stands there, there
+/// is no entry, and all bytes are the rest.
+pub fn entry_by_entry()
+    ensures step { EntryLeads }
+    ensures end { IsEnd }
+{
+    fri_bytes::laws::exact_readers();
 }

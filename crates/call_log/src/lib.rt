@@ -16,7 +16,7 @@
 mod entry;
 mod fields;
 mod head;
-mod laws;
+pub mod laws;
 mod length;
 mod limits;
 mod number;
@@ -24,14 +24,11 @@ mod put;
 mod rewriting;
 mod version;
 mod view;
-mod walk;
 
 pub use head::{BadHead, LogHead};
-pub use laws::{exact_logs, no_longer, rewritten_is_read};
 pub use length::entry_length;
 pub use limits::MOST_LOG;
 pub use put::{put_entry, put_head};
 pub use rewriting::rewrite;
 pub use version::Version;
 pub use view::LogView;
-pub use walk::entry_by_entry;

@@ -9,7 +9,6 @@ ghost use Rattle.call_log.specs.Log.{entries_of, entry_at, head_at, rest_of};
 use crate::entry::read_entry;
 use crate::head::{BadHead, LogHead, read_head};
 use crate::version::Version;
-use fri_bytes::exact_readers;
 use lib_calls::EntryView;
 use std::marker::Model;
 
@@ -42,7 +41,7 @@ impl<'a> LogView<'a> {
         ensures found { IfOk result (λ log. head_at bytes.now ≡ Some (log.head, log.left)) }
         ensures missing { OnErr result (head_at bytes.now ≡ None) }
     {
-        exact_readers();
+        fri_bytes::laws::exact_readers();
         let Some((head, rest)) = read_head(bytes) else {
             return Err(BadHead);
         };
@@ -89,7 +88,7 @@ impl<'a> LogView<'a> {
         ensures end { IfNone result (rest_of self.new.left ≡ self.new.left.bytes) }
         ensures shorter { IfSome result (λ _. length self.new.left.bytes + least_entry ≤ length self.old.left.bytes) }
     {
-        exact_readers();
+        fri_bytes::laws::exact_readers();
         let (entry, rest) = read_entry(self.rest, self.head.version, self.last)?;
         self.last = entry.clock;
         self.rest = rest;

@@ -8,9 +8,8 @@
 #![tactic(auto)]
 
 mod kind;
-mod laws;
+pub mod laws;
 mod signature;
 
 pub use kind::Kind;
-pub use laws::read_back;
 pub use signature::Signature;

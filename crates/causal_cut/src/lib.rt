@@ -9,11 +9,10 @@
 mod asks;
 mod clocks;
 mod cut;
-mod laws;
+pub mod laws;
 mod refusal;
 mod settle;
 mod walk;
 
 pub use cut::{Cut, least_cut};
-pub use laws::fronts_replay;
 pub use refusal::CutError;

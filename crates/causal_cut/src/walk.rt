@@ -6,7 +6,7 @@ ghost use Rattle.causal_cut.specs.Past.{accepted_counts};
 
 use crate::asks::{Ask, push_ask};
 use crate::clocks::Clocks;
-use group_state::{Group, ordered};
+use group_state::Group;
 use std::alloc::{AllocError, Global};
 
 /// What the events of a group ask for, in their order, and how many each node has.
@@ -28,7 +28,7 @@ pub(crate) fn walk(
     ensures counts { IfOk result (λ walked. walked.counts.items ≡ accepted_counts group.entry.start) }
     ensures fits { IfOk result (λ _. PartsFit group.entry.start) }
 {
-    ordered();
+    group_state::laws::ordered();
     let _ = group.position();
     let mut here = group;
     let mut clocks = Clocks::none(alloc, numbers.len())?;

@@ -10,12 +10,12 @@ ghost use Rattle.command_run.specs.Call.{CountsFaults, StopsAs, Raises, reads_af
 
 use crate::refusal::{Reason, StopCause};
 use fri_outside::{FileError, Files};
-use guest_process::{Process, counting};
+use guest_process::Process;
 use std::alloc::Global;
 use wasm_decode::{DecodeError, decode};
 use wasm_step::StartError;
 use wasm_types::{Module, ValidModule};
-use wasm_validate::{Invalid, exact_fault, validate};
+use wasm_validate::{Invalid, validate};
 
 const MODULE_LIMIT: usize = 4_194_304;
 
@@ -66,7 +66,7 @@ fn valid(alloc: Global, name: &str, module: Module) -> Result<ValidModule, StopC
     ensures cause { (old new : Counts) → IfErr result (Raises old new) }
     ensures still { (n : ℕ) → (reads_after n result ≡ n) × (writes_after n result ≡ n) }
 {
-    exact_fault();
+    wasm_validate::laws::exact_fault();
     match validate(alloc, module) {
         Ok(valid) => Ok(valid),
         Err(Invalid::HasFloat) => Err(StopCause::refuse(alloc, name, Reason::HasFloat)),
@@ -123,7 +123,7 @@ pub fn begin_process<'m>(
     ensures cause { (old new : Counts) → IfErr result (Raises old new) }
     ensures still { (n : ℕ) → (reads_after n result ≡ n) × (writes_after n result ≡ n) }
 {
-    counting();
+    guest_process::laws::counting();
     match Process::start(alloc, module, who, count) {
         Ok(process) => Ok(process),
         Err(StartError::BadSegment) => Err(StopCause::refuse(alloc, name, Reason::BadSegment)),

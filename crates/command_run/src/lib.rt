@@ -9,14 +9,13 @@
 
 mod inputs;
 mod kept;
-mod laws;
+pub mod laws;
 mod printing;
 mod refusal;
 mod status;
 
 pub use inputs::{begin_process, take_file, take_module};
 pub use kept::ModuleFiles;
-pub use laws::reads_modules;
 pub use printing::{finish, give_up, refuse_words, say_refused};
 pub use refusal::{Reason, StopCause, WorkText};
 pub use status::Status;

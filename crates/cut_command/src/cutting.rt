@@ -13,7 +13,7 @@ use crate::fronts::Front;
 use crate::past::take_past;
 use call_log::rewrite;
 use command_run::{StopCause, WorkText};
-use fri_outside::{Files, keeps_files};
+use fri_outside::Files;
 use log_pairs::{Pair, begin_all, load_all};
 use process_files::write_file;
 use std::alloc::Global;
@@ -25,7 +25,7 @@ fn write_cuts<F: Files>(alloc: Global, fronts: &[Front<'_>], files: &mut F) -> R
     ensures counts { CountsFaults (F.counts files.old) (F.counts files.new) result }
     ensures cause { IfErr result (Raises (F.counts files.old) (F.counts files.new)) }
 {
-    keeps_files();
+    fri_outside::laws::keeps_files();
     for front in fronts {
         let bytes = rewrite(alloc, &front.log, front.kept)?;
         write_file(alloc, front.log.head().name, ".cut", &bytes, files)?;

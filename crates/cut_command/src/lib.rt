@@ -9,10 +9,9 @@
 
 mod cutting;
 mod fronts;
-mod laws;
+pub mod laws;
 mod past;
 mod words;
 
 pub use cutting::cut;
-pub use laws::cuts_work;
 pub use words::{event_number_of, process_of};

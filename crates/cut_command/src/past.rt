@@ -14,7 +14,7 @@ ghost use Rattle.cut_command.specs.Laws.{IsCut};
 ghost use Rattle.cut_command.specs.Seen.{AreLeast, work_of_past};
 
 use crate::fronts::{Front, fronts_of, logs_of, print};
-use causal_cut::{CutError, fronts_replay, least_cut};
+use causal_cut::{CutError, least_cut};
 use command_run::{Reason, StopCause};
 use fri_text::Text;
 use log_pairs::{Loaded, Pair, first_log, log_file};
@@ -71,7 +71,7 @@ pub(crate) fn take_past<'m>(
     ensures cause { (old new : Counts) → IfErr result (Raises old new) }
     ensures still { (n : ℕ) → (reads_after n result ≡ n) × (writes_after n result ≡ n) }
 {
-    fronts_replay();
+    causal_cut::laws::fronts_replay();
     let Some(node) = node_of(&parts, process) else {
         return Err(StopCause::refuse(alloc, first_log(pairs), Reason::NoProcess));
     };

@@ -1,11 +1,9 @@
 // What is so of all sessions, as a call that does nothing.
 ghost use Rattle.debug_command.specs.Laws.{SessionsWork};
 
-use log_pairs::opens_groups;
-
 /// A group and an input within the limit have an outcome that is work.
 pub fn sessions_work()
     ensures { SessionsWork }
 {
-    opens_groups();
+    log_pairs::laws::opens_groups();
 }

@@ -9,7 +9,6 @@
 
 mod converse;
 mod debugging;
-mod laws;
+pub mod laws;
 
 pub use debugging::debug;
-pub use laws::sessions_work;

@@ -6,11 +6,10 @@ ghost use Rattle.drill_command.specs.Drill.{drill_modules};
 ghost use Rattle.drill_command.specs.Seen.{HasAllRounds, StopsDrill};
 
 use command_run::{Reason, StopCause};
-use fri_outside::{MemFiles, keeps_files};
-use group_record::{RecordError, agreement, beginning, run_record};
+use fri_outside::MemFiles;
+use group_record::{RecordError, run_record};
 use shared_module::SharedModule;
 use std::alloc::Global;
-use wasm_validate::exact_fault;
 
 /// The logs of a recording, and how many of its tries and items were idle.
 #[derive(Drop)]
@@ -30,10 +29,10 @@ pub(crate) fn record(
     requires modules { map module_of modules.now ≡ drill_modules }
     ensures { MatchResult result (HasAllRounds rounds) (StopsDrill rounds) }
 {
-    keeps_files();
-    exact_fault();
-    beginning();
-    agreement();
+    fri_outside::laws::keeps_files();
+    wasm_validate::laws::exact_fault();
+    group_record::laws::beginning();
+    group_record::laws::agreement();
     let schedule = schedule_text::drill(alloc, rounds)?;
     let mut files = MemFiles::new(alloc);
     match run_record(alloc, &schedule, modules, &mut files, false) {

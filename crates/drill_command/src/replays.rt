@@ -10,9 +10,9 @@ ghost use Rattle.drill_command.specs.Drill.{drill_group, replay_of_process, repl
 ghost use Rattle.drill_command.specs.Ring.{ring};
 ghost use Rattle.drill_command.specs.Seen.{HoldLogs};
 
-use call_log::{LogView, exact_logs};
+use call_log::LogView;
 use fri_outside::MemFiles;
-use guest_process::{Process, counting};
+use guest_process::Process;
 use proc_replay::Replayer;
 use std::alloc::{AllocError, Global};
 use wasm_step::StartError;
@@ -35,8 +35,8 @@ fn begin<'m, 'a>(
     ensures { IfOk result (λ r. (S : State) × (start ring p 4 ≡ Some S)
         × ((steps : List Step) → HoldLogs steps files.now → r ≡ replay_of_process drill_group steps p S)) }
 {
-    exact_logs();
-    counting();
+    call_log::laws::exact_logs();
+    guest_process::laws::counting();
     let Some(bytes) = files.bytes(log) else {
         unreachable!();
     };
@@ -61,7 +61,7 @@ pub(crate) fn begin_all<'m, 'a>(
     ensures parts { IfOk result (λ parts. AreParts parts.items) }
     ensures replays { IfOk result (λ parts. (steps : List Step) → HoldLogs steps files.now → parts.items ≡ replays_of_logs drill_group steps) }
 {
-    counting();
+    guest_process::laws::counting();
     let n0 = begin(alloc, module, files, 0, "n0.log")?;
     let n1 = begin(alloc, module, files, 1, "n1.log")?;
     let n2 = begin(alloc, module, files, 2, "n2.log")?;

@@ -10,7 +10,6 @@ use std::alloc::{AllocError, Global};
 use wasm_types::{
     Export, ExportDesc, Func, FuncType, Import, ImportDesc, Instr, Limits, Module, ValType, claim,
 };
-use wasm_validate::exact_fault;
 
 const ME: u32 = 0;
 
@@ -214,7 +213,7 @@ fn ring(alloc: Global) -> Result<Module, AllocError>
 fn valid_ring(alloc: Global) -> Result<SharedModule, AllocError>
     ensures { IfOk result (λ m. module_of m ≡ ring) }
 {
-    exact_fault();
+    wasm_validate::laws::exact_fault();
     SharedModule::new(alloc, claim(alloc, ring(alloc)?)?)
 }
 

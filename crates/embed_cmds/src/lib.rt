@@ -10,7 +10,7 @@
 
 mod faults;
 mod keyword;
-mod laws;
+pub mod laws;
 mod parser;
 mod program;
 mod run;
@@ -18,7 +18,6 @@ mod token;
 mod variables;
 
 pub use faults::{ProgramFaults, program_faults};
-pub use laws::exact_programs;
 pub use parser::parse_program;
 pub use program::{Program, SayItem, Stmt};
 pub use run::{push_value, run_program};

@@ -10,7 +10,7 @@ ghost use Rattle.embed_cmds.specs.Reading.{before_quote as before_quote_of, afte
 use crate::keyword::{Keyword, keyword_from};
 use fri_bytes::Bytes;
 use std::alloc::Global;
-use watch_expr::{Expr, ExprError, Tokens, exact_reading, is_word, parse};
+use watch_expr::{Expr, ExprError, Tokens, is_word, parse};
 
 /// Whether a token has this text.
 pub(crate) fn stands(tokens: &Tokens<'_>, at: usize, text: &str) -> bool
@@ -109,6 +109,6 @@ pub(crate) fn read_expression(
     ensures read { ReadAs expression_of tokens.now (expression names.now (drop at (texts tokens.now))) result }
     ensures onward { IfOk result (λ r. at ≤ r.1) }
 {
-    exact_reading();
+    watch_expr::laws::exact_reading();
     parse(alloc, tokens, at, names)
 }

@@ -10,13 +10,12 @@
 
 mod bytes;
 mod cursor;
-mod laws;
+pub mod laws;
 mod leb;
 mod put;
 mod short;
 
 pub use bytes::Bytes;
 pub use cursor::Cursor;
-pub use laws::exact_readers;
 pub use put::{put_byte, put_bytes, put_u16, put_u32, put_u64};
 pub use short::{put_short, short_length};

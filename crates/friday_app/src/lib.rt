@@ -9,9 +9,8 @@
 #![tactic(auto)]
 
 mod command;
-mod laws;
+pub mod laws;
 mod top;
 
 pub use command_run::Status;
-pub use laws::recorded_streams;
 pub use top::friday;

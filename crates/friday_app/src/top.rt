@@ -8,17 +8,16 @@ ghost use Rattle.friday_app.specs.Valid.{IsValidCall};
 
 use crate::command::{Command, parse_words};
 use command_run::{Status, finish, give_up, refuse_words};
-use cut_command::{cut, cuts_work};
-use debug_command::{debug, sessions_work};
+use cut_command::cut;
+use debug_command::debug;
 use drill_command::drill_rounds;
 use fri_outside::{Files, Terminal};
-use headline::left_is_shown;
-use migrate_command::{migrate, migrations_work};
-use record_command::{record, recordings_rest, recordings_work};
-use replay_command::{replay, replays_work};
-use schedule_command::{schedule, schedules_work};
+use migrate_command::migrate;
+use record_command::record;
+use replay_command::replay;
+use schedule_command::schedule;
 use std::alloc::{AllocError, Global};
-use streams_command::{streams, streams_work};
+use streams_command::streams;
 
 // Runs what the words say.
 fn run<F: Files, T: Terminal>(alloc: Global, words: &[String], files: &mut F, io: &mut T) -> Status
@@ -27,8 +26,8 @@ fn run<F: Files, T: Terminal>(alloc: Global, words: &[String], files: &mut F, io
         (outside (F.told files.new) (F.counts files.new) (T.hearing io.new) (T.taken io.new) (T.faults io.new))
         result }
 {
-    recordings_rest();
-    left_is_shown();
+    record_command::laws::recordings_rest();
+    headline::laws::left_is_shown();
     match parse_words(alloc, words) {
         Ok(None) => refuse_words(io),
         Ok(Some(Command::Record(images, schedule_file))) => {
@@ -87,12 +86,12 @@ pub fn friday<F: Files, T: Terminal>(
         (outside (F.told files.new) (F.counts files.new) (T.hearing io.new) (T.taken io.new) (T.faults io.new))
         → Works (command_of (map string_bytes words.now)) (F.told files.old) ((T.hearing io.old).left) result) }
 {
-    recordings_work();
-    replays_work();
-    sessions_work();
-    migrations_work();
-    schedules_work();
-    cuts_work();
-    streams_work();
+    record_command::laws::recordings_work();
+    replay_command::laws::replays_work();
+    debug_command::laws::sessions_work();
+    migrate_command::laws::migrations_work();
+    schedule_command::laws::schedules_work();
+    cut_command::laws::cuts_work();
+    streams_command::laws::streams_work();
     run(alloc, words, files, io)
 }

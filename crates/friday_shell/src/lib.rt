@@ -8,12 +8,11 @@
 #![tactic(auto)]
 
 mod answer;
-mod laws;
+pub mod laws;
 mod points;
 mod session;
 mod shown;
 mod state;
 mod variables;
 
-pub use laws::refused_stays;
 pub use session::{Go, Session};

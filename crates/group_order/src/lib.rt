@@ -8,10 +8,9 @@
 //! `finds_one_more` says what one send more changes.
 #![tactic(auto)]
 
-mod laws;
+pub mod laws;
 mod merge;
 mod send_index;
 
-pub use laws::{finds_one_more, merges};
 pub use merge::Merge;
 pub use send_index::SendIndex;

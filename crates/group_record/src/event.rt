@@ -7,7 +7,7 @@ ghost use Rattle.group_record.specs.Recorded.{IsEntryOf};
 use crate::answer::answer_now;
 use crate::signals::signal_after;
 use group_world::World;
-use guest_process::{Process, one_event, rises, states_fit};
+use guest_process::Process;
 use lamport_tag::next_clock;
 use lib_calls::{Entry, outgoing};
 use std::alloc::{AllocError, Global};
@@ -27,9 +27,9 @@ pub(crate) fn live_entry(
     ensures { IfOk result (IsEntryOf process.now thread (env_of world.now p)) }
 {
     // What these ensure tells the proof that the event is one that its entry tells.
-    one_event();
-    rises();
-    states_fit();
+    guest_process::laws::one_event();
+    guest_process::laws::rises();
+    guest_process::laws::states_fit();
     let _ = process.events();
     let _ = world.time(p);
     if world.is_killed(p) {

@@ -2,10 +2,6 @@
 ghost use Rattle.group_record.specs.Laws.{Agreement, Beginning, CutAgreement, Delivery, TakesDrawn, TakesWaiting};
 ghost use Rattle.group_record.specs.Standing.{Standing};
 
-use call_log::exact_logs;
-use group_world::by_counting;
-use guest_process::{counting, one_event, rises, states_fit};
-
 /// A group of a schedule and valid modules, whose processes have begun, is one of which the two laws speak.
 pub fn beginning()
     ensures { Beginning }
@@ -17,10 +13,10 @@ pub fn beginning()
 pub fn standing()
     ensures { Standing }
 {
-    one_event();
-    states_fit();
-    rises();
-    counting();
+    guest_process::laws::one_event();
+    guest_process::laws::states_fit();
+    guest_process::laws::rises();
+    guest_process::laws::counting();
 }
 
 /// At each moment of a recording each log tells the events of its process: they are its entries, each is
@@ -30,11 +26,11 @@ pub fn agreement()
     ensures whole { Agreement }
     ensures cut { CutAgreement }
 {
-    exact_logs();
-    one_event();
-    states_fit();
-    rises();
-    counting();
+    call_log::laws::exact_logs();
+    guest_process::laws::one_event();
+    guest_process::laws::states_fit();
+    guest_process::laws::rises();
+    guest_process::laws::counting();
 }
 
 /// Each datagram that an event took came first in the mailbox. It came from outside, or is one that a
@@ -44,11 +40,11 @@ pub fn agreement()
 pub fn delivery()
     ensures { Delivery }
 {
-    by_counting();
-    one_event();
-    states_fit();
-    rises();
-    counting();
+    group_world::laws::by_counting();
+    guest_process::laws::one_event();
+    guest_process::laws::states_fit();
+    guest_process::laws::rises();
+    guest_process::laws::counting();
 }
 
 /// With good arguments each recv and try_recv takes the datagram that waits first, and each random the
@@ -57,8 +53,8 @@ pub fn taking()
     ensures datagrams { TakesWaiting }
     ensures bytes { TakesDrawn }
 {
-    one_event();
-    states_fit();
-    rises();
-    counting();
+    guest_process::laws::one_event();
+    guest_process::laws::states_fit();
+    guest_process::laws::rises();
+    guest_process::laws::counting();
 }

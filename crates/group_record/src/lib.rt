@@ -16,7 +16,7 @@ mod error;
 mod event;
 mod images;
 mod items;
-mod laws;
+pub mod laws;
 mod logs;
 mod member;
 mod prints;
@@ -26,6 +26,5 @@ mod signals;
 mod summary;
 
 pub use error::RecordError;
-pub use laws::{agreement, beginning, delivery, standing, taking};
 pub use run::run_record;
 pub use summary::{Summary, SummaryLine};

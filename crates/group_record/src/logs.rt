@@ -5,7 +5,7 @@ ghost use Rattle.group_record.specs.Begun.{BeginsLogs, CreatesLogs, WritesHeads}
 
 use crate::error::RecordError;
 use crate::member::Member;
-use fri_outside::{Files, keeps_files};
+use fri_outside::Files;
 
 /// Makes the files of all logs, in order of the processes, and then writes the head of each.
 pub(crate) fn begin_logs<F: Files>(members: &[Member<'_>], files: &mut F) -> Result<(), RecordError>
@@ -21,7 +21,7 @@ fn create_logs<F: Files>(members: &[Member<'_>], files: &mut F) -> Result<(), Re
     ensures files { CreatesLogs members.now result (F.told files.old) (F.told files.new) }
     ensures counted { F.counts files.new ≡ after_writes (F.counts files.old) result }
 {
-    keeps_files();
+    fri_outside::laws::keeps_files();
     for member in members {
         files.create(&member.log)?;
     }
@@ -33,7 +33,7 @@ fn write_heads<F: Files>(members: &[Member<'_>], files: &mut F) -> Result<(), Re
     ensures heads { WritesHeads members.now result (F.told files.old) (F.told files.new) }
     ensures counted { F.counts files.new ≡ after_writes (F.counts files.old) result }
 {
-    keeps_files();
+    fri_outside::laws::keeps_files();
     for member in members {
         files.append(&member.log, &member.head)?;
     }

@@ -15,7 +15,7 @@ ghost use Rattle.group_record.specs.Members.{CanKeep, Starts, Writes, member_aft
 use crate::error::RecordError;
 use call_log::{LogHead, MOST_LOG, Version, put_entry, put_head};
 use fri_outside::Files;
-use guest_process::{Process, counting};
+use guest_process::Process;
 use lib_calls::EntryView;
 use process_files::process_file;
 use schedule_text::ProcessLine;
@@ -48,7 +48,7 @@ impl<'m> Member<'m> {
         requires line { IsProcess line.now }
         ensures { Starts (start_of (module_of «module».now) p count) line.now.name p count result }
     {
-        counting();
+        guest_process::laws::counting();
         let log = process_file(alloc, line.name.as_slice(), ".log")?;
         let head = log_head(alloc, line.name.as_slice(), p, count)?;
         match Process::start(alloc, module, p, count) {

@@ -16,8 +16,8 @@ use crate::event::live_entry;
 use crate::items::act;
 use crate::member::Member;
 use crate::prints::Prints;
-use fri_outside::{Files, keeps_files};
-use group_world::{World, by_counting};
+use fri_outside::Files;
+use group_world::World;
 use lib_calls::Entry;
 use schedule_text::Item;
 use std::alloc::{AllocError, Global};
@@ -72,7 +72,7 @@ impl<'m> Recorder<'m> {
         ensures prints { OnOk result (length self.new.prints ≡ length self.old.prints) }
         ensures counted { F.counts files.new ≡ after_writes (F.counts files.old) result }
     {
-        by_counting();
+        group_world::laws::by_counting();
         match item {
             Item::Run {
                 process,
@@ -122,8 +122,8 @@ impl<'m> Recorder<'m> {
         ensures prints { OnOk result (length self.new.prints ≡ length self.old.prints) }
         ensures counted { F.counts files.new ≡ after_writes (F.counts files.old) result }
     {
-        by_counting();
-        keeps_files();
+        group_world::laws::by_counting();
+        fri_outside::laws::keeps_files();
         let Some(process) = &self.members[p as usize].process else {
             unreachable!();
         };

@@ -8,7 +8,6 @@ use crate::error::RecordError;
 use crate::images::write_images;
 use crate::summary::{Summary, summary_of};
 use fri_outside::Files;
-use group_world::by_counting;
 use schedule_text::Schedule;
 use shared_module::SharedModule;
 use std::alloc::Global;
@@ -29,7 +28,7 @@ pub fn run_record<F: Files>(
     ensures answers { RecordAnswers schedule.now images (first_states schedule.now (map module_of modules.now)) result (F.told files.old) (F.told files.new) }
     ensures counted { F.counts files.new ≡ after_writes (F.counts files.old) result }
 {
-    by_counting();
+    group_world::laws::by_counting();
     let mut recorder = begin(alloc, schedule, modules, images, files)?;
     recorder.perform_all(schedule.items(), files)?;
     let summary = summary_of(alloc, schedule.processes(), &recorder)?;

@@ -7,7 +7,6 @@ ghost use Rattle.group_record.specs.Recorded.{Sums, summary_line_of};
 use crate::member::Member;
 use crate::recorder::Recorder;
 use fri_bytes::Bytes;
-use group_world::by_counting;
 use guest_process::End;
 use schedule_text::ProcessLine;
 use std::alloc::{AllocError, Global};
@@ -42,7 +41,7 @@ pub(crate) fn summary_of(
     requires present { All (λ m. IsTrue (is_some m.process)) recorder.now.members.items }
     ensures { IfOk result (Sums processes.now recorder.now) }
 {
-    by_counting();
+    group_world::laws::by_counting();
     let mut lines = Vec::new(alloc);
     for p in 0..processes.len() {
         let killed = recorder.world.is_killed(p as u32);

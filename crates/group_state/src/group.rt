@@ -10,10 +10,10 @@ use crate::forward::{head_of, take_turn};
 use crate::motions::Motions;
 use crate::stand::{Stand, merge_of};
 use crate::work::Counter;
-use group_order::{Merge, merges};
-use guest_process::{Process, rises, states_fit};
+use group_order::Merge;
+use guest_process::Process;
 use lib_calls::Entry;
-use proc_replay::{Replayer, Turn, replays};
+use proc_replay::{Replayer, Turn};
 use std::alloc::{AllocError, Global};
 use std::marker::Model;
 
@@ -45,10 +45,10 @@ impl<'m, 'a> Course<'m, 'a> {
         ensures sound { OnOk result (IsSoundCourse self.new) }
         ensures moves { IfOk result (Moves (place_of_course self.old) (place_of_course self.new)) }
     {
-        merges::<Entry>();
-        replays();
-        rises();
-        states_fit();
+        group_order::laws::merges::<Entry>();
+        proc_replay::laws::replays();
+        guest_process::laws::rises();
+        guest_process::laws::states_fit();
         let Some(node) = self.merge.next_process() else {
             return Ok(None);
         };
@@ -97,10 +97,10 @@ impl<'m, 'a> Course<'m, 'a> {
         requires { IsSoundCourse self.now }
         ensures { option_map (λ part. part.now.state) result ≡ slice_get (states self.now.first.items self.now.here.at) node }
     {
-        merges::<Entry>();
-        replays();
-        rises();
-        states_fit();
+        group_order::laws::merges::<Entry>();
+        proc_replay::laws::replays();
+        guest_process::laws::rises();
+        guest_process::laws::states_fit();
         let part = self.here.parts.get(node as usize)?;
         Some(part)
     }
@@ -128,7 +128,7 @@ impl<'m, 'a> Group<'m, 'a> {
         requires { AreParts parts.items }
         ensures { IfOk result (λ group. group ≡ record { start = parts.entry.items; at = 0 }) }
     {
-        replays();
+        proc_replay::laws::replays();
         let here = Stand::first(alloc, &parts)?;
         let merge = merge_of(alloc, &here.parts)?;
         let motions = Motions::none(alloc, parts.len())?;

@@ -5,7 +5,7 @@ ghost use Rattle.group_state.specs.Image.{image_of};
 use crate::part::print_events;
 use fri_bytes::Bytes;
 use lib_calls::memory_bytes;
-use proc_replay::{Replayer, replays};
+use proc_replay::Replayer;
 use std::alloc::{AllocError, Global};
 
 /// The bytes of a process's memory after all accepted events of its log, and those that these events print.
@@ -20,7 +20,7 @@ pub fn image_of(alloc: Global, first: &Replayer<'_, '_>) -> Result<Image, AllocE
     requires { first.now.state.events ≡ 0 }
     ensures { IfOk result (λ image. image ≡ image_of first.now) }
 {
-    replays();
+    proc_replay::laws::replays();
     let mut printed = Bytes::new(alloc);
     let last = print_events(first.copy(alloc)?, &mut printed)?;
     let memory = memory_bytes(alloc, last.process().memory())?;

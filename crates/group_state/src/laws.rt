@@ -1,11 +1,7 @@
 // The laws of a group's order and of its states, as calls that do nothing.
 ghost use Rattle.group_state.specs.Laws.{Ordered, SendsFirst, Stepwise};
 
-use call_log::exact_logs;
-use group_order::merges;
-use guest_process::{rises, states_fit};
 use lib_calls::Entry;
-use proc_replay::replays;
 
 /// The accepted events of a group's logs have one order by clock and then by node, in which each node's events
 /// keep their own. An event that took a datagram with a tag comes after the event that the tag names, if that is
@@ -15,9 +11,9 @@ pub fn ordered()
     ensures order { Ordered }
     ensures sends { SendsFirst }
 {
-    merges::<Entry>();
-    rises();
-    states_fit();
+    group_order::laws::merges::<Entry>();
+    guest_process::laws::rises();
+    guest_process::laws::states_fit();
 }
 
 /// At first each node's process stands as its replay does. The event at each position has the fields of its kind and
@@ -26,9 +22,9 @@ pub fn ordered()
 pub fn stepwise()
     ensures { Stepwise }
 {
-    merges::<Entry>();
-    rises();
-    states_fit();
-    replays();
-    exact_logs();
+    group_order::laws::merges::<Entry>();
+    guest_process::laws::rises();
+    guest_process::laws::states_fit();
+    proc_replay::laws::replays();
+    call_log::laws::exact_logs();
 }

@@ -12,7 +12,7 @@ use crate::tally::Tally;
 use fri_bytes::Bytes;
 use guest_process::Verdict;
 use lib_calls::printed;
-use proc_replay::{Replayer, Turn, replays};
+use proc_replay::{Replayer, Turn};
 use std::alloc::AllocError;
 
 /// Replays a log from here to its end, and counts the datagrams of its events.
@@ -25,7 +25,7 @@ pub(crate) fn tally_events<'m, 'a>(
     ensures tally { OnOk result (tally.new ≡ with_all_accepted tally.old (accepted_in part.entry)) }
     ensures ends { IfOk result (EndsAt part.entry) }
 {
-    replays();
+    proc_replay::laws::replays();
     let process = part.head().process;
     let mut part = part;
     'turns: loop {
@@ -47,7 +47,7 @@ pub(crate) fn print_events<'m, 'a>(
     ensures out { OnOk result (out.new ≡ out.old ++ prints (ahead part.entry)) }
     ensures ends { IfOk result (EndsAt part.entry) }
 {
-    replays();
+    proc_replay::laws::replays();
     let mut part = part;
     'turns: loop {
         let (next, turn) = part.next_event()?;

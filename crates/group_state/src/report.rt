@@ -7,9 +7,8 @@ ghost use Rattle.group_state.specs.Tallying.{AreNew, HasTallyRoomFor, with_all_a
 use crate::part::{tally_events, verdict};
 use crate::tally::Tally;
 use fri_bytes::Bytes;
-use group_order::finds_one_more;
-use guest_process::{End, Verdict, rises, states_fit};
-use proc_replay::{Replayer, replays};
+use guest_process::{End, Verdict};
+use proc_replay::Replayer;
 use std::alloc::{AllocError, Global};
 
 /// A log that was replayed to its end: the name of its process, how many entries were accepted, how the process
@@ -56,7 +55,7 @@ fn report_log(
     ensures tally { OnOk result (tally.new ≡ with_all_accepted tally.old (accepted_in part.entry)) }
     ensures line { IfOk result (λ line. line ≡ report_line part.entry) }
 {
-    replays();
+    proc_replay::laws::replays();
     let last = tally_events(part, tally)?;
     let process = last.process();
     Ok(ReportLine {
@@ -82,10 +81,10 @@ pub fn report_of(alloc: Global, parts: Vec<Replayer<'_, '_>>) -> Result<Report, 
     requires { AreParts parts.items }
     ensures { IfOk result (IsReport parts.entry.items) }
 {
-    finds_one_more();
-    replays();
-    rises();
-    states_fit();
+    group_order::laws::finds_one_more();
+    proc_replay::laws::replays();
+    guest_process::laws::rises();
+    guest_process::laws::states_fit();
     parts_fit(&parts);
     let mut tally = Tally::new(alloc, group_count(&parts));
     let mut lines = Vec::new(alloc);

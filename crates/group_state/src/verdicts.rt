@@ -6,10 +6,8 @@ ghost use Rattle.group_state.specs.Report.{verdict_on};
 
 use crate::group::{Course, Group};
 use crate::part::verdict;
-use group_order::merges;
-use guest_process::{Verdict, rises, states_fit};
+use guest_process::Verdict;
 use lib_calls::Entry;
-use proc_replay::replays;
 
 impl<'m, 'a> Group<'m, 'a> {
     /// The verdict on a node's log, of a group at its end: there each log has been replayed to its first entry that is not
@@ -28,10 +26,10 @@ impl<'m, 'a> Course<'m, 'a> {
         requires end { self.now.here.at ≡ length (events self.now.first.items) }
         ensures { result ≡ slice_get (map verdict_on self.now.first.items) node }
     {
-        merges::<Entry>();
-        replays();
-        rises();
-        states_fit();
+        group_order::laws::merges::<Entry>();
+        proc_replay::laws::replays();
+        guest_process::laws::rises();
+        guest_process::laws::states_fit();
         let part = self.here.parts.get(node as usize)?;
         Some(verdict(part))
     }

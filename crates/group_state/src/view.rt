@@ -3,12 +3,9 @@ ghost use Rattle.std.specs.Prelude.{◌≡◌};
 ghost use Rattle.group_state.specs.Seen.{signed_global};
 
 use crate::group::{Course, Group};
-use crate::laws::stepwise;
-use group_order::merges;
-use guest_process::{Process, rises, states_fit, unmarked_stays};
+use guest_process::Process;
 use lib_calls::Entry;
 use page_watch::TouchView;
-use proc_replay::replays;
 use wasm_types::Value;
 use watch_expr::View;
 
@@ -104,10 +101,10 @@ impl<'m, 'a> Course<'m, 'a> {
         ensures { (S : State) (l : Location) → slice_get (states self.now.first.items self.now.here.at) node ≡ Some S → node_of l ≡ node → number ≡ mark_in S l
             → result ≡ mark self.now.first.items self.now.here.at l }
     {
-        stepwise();
-        rises();
-        states_fit();
-        unmarked_stays();
+        crate::laws::stepwise();
+        guest_process::laws::rises();
+        guest_process::laws::states_fit();
+        guest_process::laws::unmarked_stays();
         self.motions.position(node, number)
     }
 }
@@ -124,12 +121,12 @@ impl<'m, 'a> TouchView for Group<'m, 'a> {
     ghost marks = { λ place. mark place.start place.at };
 
     fn position(&self) -> u64 {
-        merges::<Entry>();
-        replays();
-        rises();
-        states_fit();
-        stepwise();
-        unmarked_stays();
+        group_order::laws::merges::<Entry>();
+        proc_replay::laws::replays();
+        guest_process::laws::rises();
+        guest_process::laws::states_fit();
+        crate::laws::stepwise();
+        guest_process::laws::unmarked_stays();
         self.course.here.at
     }
 

@@ -8,10 +8,9 @@
 //! datagram was sent or came from outside, and is taken in its turn. Without memory nothing changes.
 #![tactic(auto)]
 
-mod laws;
+pub mod laws;
 mod surroundings;
 mod world;
 
-pub use laws::by_counting;
 pub use lossy_net::Front;
 pub use world::World;

@@ -1,20 +1,17 @@
 // The laws over one event, as calls that do nothing.
 ghost use Rattle.guest_process.specs.Crews.{LockKept, OnlySpawnAdds, OtherThreadsStay};
+ghost use Rattle.guest_process.specs.EventCount.{BeginsFresh, CountsEvents};
 ghost use Rattle.guest_process.specs.Marks.{UnmarkedStays};
 ghost use Rattle.guest_process.specs.Numbers.{LegalNumbers, LegalTraffic};
 ghost use Rattle.guest_process.specs.OneEvent.{IsKept, IsKeptSound, IsStarted, OneEvent, Possible, Rises, WorldIsThere};
-
-use guest_memory::stamps_no_later;
-use lamport_tag::{cut_short, tags_read_back};
-use wasm_step::{marked, never_stuck};
 
 /// An event that the world let a process have has the shape of its kind and is legal where it comes,
 /// and the state after it is the one that its entry alone tells.
 pub fn one_event()
     ensures { OneEvent }
 {
-    cut_short();
-    tags_read_back();
+    lamport_tag::laws::cut_short();
+    lamport_tag::laws::tags_read_back();
 }
 
 /// A legal entry is the event of a try of its thread in each world that has what its answer brings, whatever
@@ -24,7 +21,7 @@ pub fn possible()
     ensures event { Possible }
     ensures world { WorldIsThere }
 {
-    tags_read_back();
+    lamport_tag::laws::tags_read_back();
 }
 
 /// What a legal entry says is within the limits of its process, and within those of the datagrams of its group.
@@ -43,7 +40,7 @@ pub fn legal_traffic()
 pub fn rises()
     ensures { Rises }
 {
-    never_stuck();
+    wasm_step::laws::never_stuck();
 }
 
 /// A legal event of one thread leaves each other thread that was made as it was. Only one of `spawn` makes
@@ -52,7 +49,7 @@ pub fn others_stay()
     ensures stay { OtherThreadsStay }
     ensures made { OnlySpawnAdds }
 {
-    never_stuck();
+    wasm_step::laws::never_stuck();
 }
 
 /// A lock has one holder from the event that takes it, when it was free, to that by which this same
@@ -60,7 +57,7 @@ pub fn others_stay()
 pub fn lock_kept()
     ensures { LockKept }
 {
-    never_stuck();
+    wasm_step::laws::never_stuck();
 }
 
 /// How a process of a valid module begins is in the ranges on which the law over one event rests, and
@@ -70,9 +67,9 @@ pub fn states_fit()
     ensures ranges { IsKept }
     ensures sound { IsKeptSound }
 {
-    never_stuck();
-    stamps_no_later();
-    marked();
+    wasm_step::laws::never_stuck();
+    guest_memory::laws::stamps_no_later();
+    wasm_step::laws::marked();
 }
 
 /// A page, a global and the memory's size that a legal event does not mark are as they were before it, and none
@@ -80,6 +77,13 @@ pub fn states_fit()
 pub fn unmarked_stays()
     ensures { UnmarkedStays }
 {
-    never_stuck();
-    marked();
+    wasm_step::laws::never_stuck();
+    wasm_step::laws::marked();
 }
+
+/// A process begins with no event, with its number and in its group, and each legal entry is the entry
+/// of one event more.
+pub fn counting()
+    ensures begun { BeginsFresh }
+    ensures counted { CountsEvents }
+{}

@@ -12,12 +12,11 @@
 mod advance;
 mod answer;
 mod calls;
-mod count;
 mod divergence;
 mod end;
 mod handlers;
 mod judge;
-mod laws;
+pub mod laws;
 mod need;
 mod parts;
 mod process;
@@ -28,14 +27,9 @@ mod waiting;
 mod world;
 
 pub use answer::is_due;
-pub use count::counting;
 pub use divergence::Divergence;
 pub use end::End;
 pub use judge::ends_process;
-pub use laws::{
-    legal_numbers, legal_traffic, lock_kept, one_event, others_stay, possible, rises, states_fit,
-    unmarked_stays,
-};
 pub use need::Need;
 pub use process::Process;
 pub use verdict::Verdict;

@@ -24,12 +24,12 @@ use crate::need::Need;
 use crate::parts::Parts;
 use crate::waiting::{Waiting, beginning};
 use coop_threads::{Crew, Status};
-use guest_memory::{Memory, stamps_no_later};
+use guest_memory::Memory;
 use lib_calls::{Call, EntryView};
 use signal_points::Handlers;
 use std::alloc::{AllocError, Global};
 use std::marker::Model;
-use wasm_step::{StartError, Store, Strand, marked, never_stuck};
+use wasm_step::{StartError, Store, Strand};
 use wasm_types::{ValidModule, Value};
 
 /// A process of a guest.
@@ -151,8 +151,8 @@ impl<'m> Process<'m> {
         ensures { IfOk result (λ p. p ≡ next self.entry (entry_of entry.now)) }
     {
         // Their laws tell the proof what a burst and a write leave as it is, and what they mark.
-        never_stuck();
-        marked();
+        wasm_step::laws::never_stuck();
+        wasm_step::laws::marked();
         let mut parts = self.parts;
         parts.advance(entry)?;
         Ok(Process { parts })
@@ -250,7 +250,7 @@ fn begin<'m>(
     ensures { IfOk result (λ p. start (module_of «module».now) who count ≡ Some p) }
 {
     // Its laws tell the proof that no page bears an event's number.
-    stamps_no_later();
+    guest_memory::laws::stamps_no_later();
     let strand = Strand::first(alloc, module)?;
     let mut crew = Crew::new(alloc);
     match crew.spawn(beginning(strand)) {

@@ -10,10 +10,9 @@
 ghost use Rattle.std.specs.Prelude.{◌≡◌, ◌^◌, ◌<◌, ◌==◌, max, IfSome, IfNone, option_map};
 ghost use Rattle.lamport_tag.specs.Tag.{IsTagged, IsUntagged, clock_of, next_clock_of, is_sendable as is_sendable_of, tag_at, tag_bytes};
 
-mod laws;
+pub mod laws;
 
 use byteorder::{ByteOrder, LittleEndian};
-pub use laws::{cut_short, tags_read_back};
 
 const MAGIC: [u8; 4] = [0xD7, b'L', b'O', b'G'];
 

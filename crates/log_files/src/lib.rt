@@ -5,8 +5,7 @@
 //! `specs/Valid` says which files are logs, and the law `finds_logs` that these are found.
 #![tactic(auto)]
 
-mod laws;
+pub mod laws;
 mod logs;
 
-pub use laws::finds_logs;
 pub use logs::{begin_log, take_log};

@@ -7,9 +7,8 @@
 #![tactic(auto)]
 
 mod finding;
-mod laws;
+pub mod laws;
 mod pairs;
 
 pub use finding::{first_log, log_file, module_file};
-pub use laws::opens_groups;
 pub use pairs::{Loaded, Pair, begin_all, load_all};

@@ -10,7 +10,7 @@ ghost use Rattle.command_run.specs.Kept.{AreOfFiles};
 ghost use Rattle.log_pairs.specs.Pairs.{Loaded as LoadedOf, NoneOpened, Pair as PairOf, WasOpened, clash, has_name, has_process, insert_replay, is_other_group, loaded_pair, replay_of_log};
 ghost use Rattle.log_pairs.specs.Seen.{AreLoaded, AreOneGroup, IsLoaded, WereLoaded, pair_of};
 
-use call_log::{LogHead, LogView, exact_logs};
+use call_log::{LogHead, LogView};
 use command_run::{ModuleFiles, Reason, StopCause, begin_process};
 use fri_bytes::Bytes;
 use fri_outside::Files;
@@ -158,7 +158,7 @@ fn begin_replay<'m>(alloc: Global, loaded: &'m Loaded<'_>) -> Result<Replayer<'m
     ensures cause { (old new : Counts) → IfErr result (Raises old new) }
     ensures still { (n : ℕ) → (reads_after n result ≡ n) × (writes_after n result ≡ n) }
 {
-    exact_logs();
+    call_log::laws::exact_logs();
     let Ok(log) = LogView::begin(&loaded.log) else {
         unreachable!();
     };

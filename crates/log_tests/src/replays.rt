@@ -1,6 +1,6 @@
 // A replay that is copied.
 use call_log::LogView;
-use guest_process::{Process, counting};
+use guest_process::Process;
 use proc_replay::{Replayer, Turn};
 use std::alloc::Global;
 use std::test::Fail;
@@ -27,7 +27,7 @@ fn begin<'m, 'a>(
     module: &'m ValidModule,
     bytes: &'a [u8],
 ) -> Result<Replayer<'m, 'a>, Fail> {
-    counting();
+    guest_process::laws::counting();
     let log = LogView::begin(bytes)?;
     let head = log.head();
     let process = Process::start(alloc, module, head.process, head.count)?;

@@ -6,9 +6,8 @@
 //! log whose newer form is within the limit has work (`specs/Valid`).
 #![tactic(auto)]
 
-mod laws;
+pub mod laws;
 mod making;
 mod newer;
 
-pub use laws::{migrations_keep, migrations_work};
 pub use making::migrate;

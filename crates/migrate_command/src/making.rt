@@ -7,7 +7,7 @@ ghost use Rattle.migrate_command.specs.Migrate.{migrate_outcome};
 
 use crate::newer::{Migration, take_migration};
 use command_run::{StopCause, WorkText};
-use fri_outside::{Files, keeps_files};
+use fri_outside::Files;
 use std::alloc::Global;
 
 // Makes a file that has these bytes.
@@ -16,7 +16,7 @@ fn make_file<F: Files>(name: &str, bytes: &[u8], files: &mut F) -> Result<(), St
     ensures counts { CountsFaults (F.counts files.old) (F.counts files.new) result }
     ensures cause { IfErr result (Raises (F.counts files.old) (F.counts files.new)) }
 {
-    keeps_files();
+    fri_outside::laws::keeps_files();
     files.create(name)?;
     files.append(name, bytes)?;
     Ok(())

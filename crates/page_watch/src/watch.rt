@@ -12,7 +12,7 @@ use crate::view::TouchView;
 use std::alloc::{AllocError, Global};
 use std::marker::Model;
 use std::sync::ledger::Ledger;
-use watch_expr::{Expr, Place, Reading, Steps, eval_reads, reads_low, reads_tell};
+use watch_expr::{Expr, Place, Reading, Steps, eval_reads};
 
 /// A value before an event and after it, where `None` stands for undef.
 #[derive(Clone, Copy, Debug, PartialEq, Eq)]
@@ -74,7 +74,7 @@ impl Watch {
         ensures fires { IfOk result (λ change. change ≡ change_of (value (V.states v.now (V.at v.now - 1)) no_variables self.old.expression) (value (V.states v.now (V.at v.now)) no_variables self.old.expression)) }
         ensures steps { steps.new ≡ steps.old + (if meets (V.marks v.now) (V.at v.now) (reads (V.states v.now (V.at v.now - 1)) self.old.expression) then 1 else 0) }
     {
-        reads_tell();
+        watch_expr::laws::reads_tell();
         let _ = v.position();
         let old = self.value();
         self.ask(alloc, v, steps)?;
@@ -94,7 +94,7 @@ impl Watch {
         ensures evaluates { IfOk result (λ evaluates. evaluates ≡ meets (V.marks v.now) (V.at v.now) self.old.places) }
         ensures steps { steps.new ≡ steps.old + (if meets (V.marks v.now) (V.at v.now) self.old.places then 1 else 0) }
     {
-        reads_low();
+        watch_expr::laws::reads_low();
         let at = v.position();
         if !is_touched(v, at, &self.reading.places) {
             return Ok(false);

@@ -12,7 +12,7 @@ use crate::watch::Watch;
 use std::alloc::{AllocError, Global};
 use std::marker::Model;
 use std::sync::ledger::Ledger;
-use watch_expr::{Expr, Steps, reads_low, reads_tell};
+use watch_expr::{Expr, Steps};
 
 /// Watches that are asked together. Beside them stand all places that they were read from, so that an event that touched
 /// none of these costs little, however many watches there are. Contracts see the list of them.
@@ -62,7 +62,7 @@ impl Watches {
         ensures stand { IfOk result (λ done. All (λ w. Stands w (V.states v.now (V.at v.now))) self → All (λ w. Stands w (V.states v.now (V.at v.now))) done) }
         ensures steps { steps.new ≡ steps.old + 1 }
     {
-        reads_low();
+        watch_expr::laws::reads_low();
         let Watches {
             mut watches,
             places,
@@ -103,8 +103,8 @@ impl Watches {
         ensures same { IfOk result (λ done. IsFalse done.1 → done.0 ≡ self) }
         ensures steps { OnOk result (steps.new ≡ steps.old + count_by (λ w. meets (V.marks v.now) (V.at v.now) (reads (V.states v.now (V.at v.now - 1)) w.expression)) self) }
     {
-        reads_low();
-        reads_tell();
+        watch_expr::laws::reads_low();
+        watch_expr::laws::reads_tell();
         let at = v.position();
         let Watches { watches, places } = self;
         if !places.is_touched(v, at) {
@@ -152,7 +152,7 @@ fn ask_one<V: TouchView, L: Ledger>(
     ensures places { IfOk result (λ all. Covers (all ++ watch.old.places) watch.new.places) }
     ensures steps { OnOk result (steps.new ≡ steps.old + (if meets (V.marks v.now) (V.at v.now) watch.old.places then 1 else 0)) }
 {
-    reads_low();
+    watch_expr::laws::reads_low();
     if watch.ask(alloc, v, steps)? {
         places.with(alloc, watch.places())
     } else {

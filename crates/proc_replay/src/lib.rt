@@ -8,10 +8,9 @@
 //! more bytes in version 2. Inside, the turn that comes next is kept, so each entry is read and judged once.
 #![tactic(auto)]
 
-mod laws;
+pub mod laws;
 mod replayer;
 mod turn;
 
-pub use laws::{accepted_no_longer, replays};
 pub use replayer::Replayer;
 pub use turn::Turn;

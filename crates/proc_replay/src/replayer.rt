@@ -7,8 +7,8 @@ ghost use Rattle.proc_replay.specs.Replaying.{IsRoomy, after, replaying, turn};
 ghost use Rattle.proc_replay.specs.Seen.{move_of};
 
 use crate::turn::Turn;
-use call_log::{LogHead, LogView, entry_by_entry};
-use guest_process::{Process, counting};
+use call_log::{LogHead, LogView};
+use guest_process::Process;
 use std::alloc::{AllocError, Global};
 use std::marker::Model;
 
@@ -81,8 +81,8 @@ impl<'m, 'a> Replayer<'m, 'a> {
         ensures turn { IfOk result (λ r. move_of r.1 ≡ turn self.entry) }
         ensures after { IfOk result (λ r. r.0 ≡ after self.entry) }
     {
-        entry_by_entry();
-        counting();
+        call_log::laws::entry_by_entry();
+        guest_process::laws::counting();
         let Replayer { process, mut ahead } = self;
         let turn = ahead.turn;
         let Turn::Event(entry) = &turn else {

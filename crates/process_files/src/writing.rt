@@ -7,7 +7,7 @@ ghost use Rattle.process_files.specs.Images.{image_files};
 ghost use Rattle.process_files.specs.Parts.{AreMadeInPart};
 
 use crate::naming::process_file;
-use fri_outside::{Files, WriteError, keeps_files};
+use fri_outside::{Files, WriteError};
 use std::alloc::Global;
 
 /// Makes the two files of a process's image: one that has its memory, and then one that has what it printed.
@@ -40,7 +40,7 @@ pub fn write_file<F: Files>(
     ensures err { OnErr result (AreMadeInPart ((name.now ++ ending.now, bytes.now) ∷ []) (F.told files.old) (F.told files.new)) }
     ensures counted { F.counts files.new ≡ after_write (F.counts files.old) result }
 {
-    keeps_files();
+    fri_outside::laws::keeps_files();
     let file = process_file(alloc, name, ending)?;
     files.create(&file)?;
     files.append(&file, bytes)

@@ -2,30 +2,25 @@
 ghost use Rattle.record_command.specs.Agreement.{RecordingsAgree};
 ghost use Rattle.record_command.specs.Laws.{RecordingsRest, RecordingsStand, RecordingsWork};
 
-use command_run::reads_modules;
-use fri_outside::keeps_files;
-use group_record::{agreement, beginning, delivery, taking};
-use schedule_text::exact_outcome;
-
 /// The logs of a recording tell its events at each moment, also where the next entry stands behind one in part. Each
 /// datagram that was taken came from outside or is one that was sent; what waits is taken, and nothing twice.
 pub fn recordings_agree()
     ensures { RecordingsAgree }
 {
-    reads_modules();
-    exact_outcome();
-    beginning();
-    agreement();
-    delivery();
-    taking();
+    command_run::laws::reads_modules();
+    schedule_text::laws::exact_outcome();
+    group_record::laws::beginning();
+    group_record::laws::agreement();
+    group_record::laws::delivery();
+    group_record::laws::taking();
 }
 
 /// A schedule and modules that can be recorded whole have an outcome that is work.
 pub fn recordings_work()
     ensures { RecordingsWork }
 {
-    reads_modules();
-    exact_outcome();
+    command_run::laws::reads_modules();
+    schedule_text::laws::exact_outcome();
 }
 
 /// Before anything is made, a folder stands as at a moment of the run.
@@ -40,6 +35,6 @@ pub fn recordings_rest()
 pub fn recordings_stand()
     ensures { RecordingsStand }
 {
-    keeps_files();
-    exact_outcome();
+    fri_outside::laws::keeps_files();
+    schedule_text::laws::exact_outcome();
 }

@@ -7,9 +7,8 @@
 #![tactic(auto)]
 
 mod inputs;
-mod laws;
+pub mod laws;
 mod recording;
 mod summary;
 
-pub use laws::{recordings_agree, recordings_rest, recordings_stand, recordings_work};
 pub use recording::record;

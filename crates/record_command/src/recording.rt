@@ -11,12 +11,11 @@ ghost use Rattle.command_run.specs.Call.{CountsFaults, StopsAs, TellsOutcome, Ma
 ghost use Rattle.record_command.specs.Seen.{Gathers, RefusesAs};
 
 use crate::inputs::{take_modules, take_schedule};
-use crate::laws::recordings_agree;
 use crate::summary::print_summary;
 use command_run::{Reason, StopCause, WorkText};
-use fri_outside::{Files, keeps_files};
+use fri_outside::Files;
 use group_record::{RecordError, run_record};
-use schedule_text::{Schedule, exact_outcome};
+use schedule_text::Schedule;
 use shared_module::SharedModule;
 use std::alloc::Global;
 
@@ -95,7 +94,7 @@ fn record_group<F: Files>(
     ensures counts { CountsFaults (F.counts files.old) (F.counts files.new) result }
     ensures cause { IfErr result (Raises (F.counts files.old) (F.counts files.new)) }
 {
-    keeps_files();
+    fri_outside::laws::keeps_files();
     match run_record(alloc, schedule, modules, files, images) {
         Ok(summary) => {
             let text = print_summary(alloc, &summary)?;
@@ -123,9 +122,9 @@ pub fn record<F: Files>(
     ensures counts { CountsFaults (F.counts files.old) (F.counts files.new) result }
     ensures cause { IfErr result (Raises (F.counts files.old) (F.counts files.new)) }
 {
-    keeps_files();
-    exact_outcome();
-    recordings_agree();
+    fri_outside::laws::keeps_files();
+    schedule_text::laws::exact_outcome();
+    crate::laws::recordings_agree();
     let inputs = gather(alloc, schedule_file, files)?;
     record_group(
         alloc,

@@ -6,9 +6,8 @@
 //! have work.
 #![tactic(auto)]
 
-mod laws;
+pub mod laws;
 mod replaying;
 mod report;
 
-pub use laws::replays_work;
 pub use replaying::replay;

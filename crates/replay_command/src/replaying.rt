@@ -9,7 +9,7 @@ ghost use Rattle.log_pairs.specs.Seen.{pair_of};
 
 use crate::report::print_report;
 use command_run::{StopCause, WorkText};
-use fri_outside::{Files, keeps_files};
+use fri_outside::Files;
 use group_state::{image_of, report_of};
 use log_pairs::{Pair, begin_all, load_all};
 use proc_replay::Replayer;
@@ -28,7 +28,7 @@ fn write_images<F: Files>(
     ensures counts { CountsFaults (F.counts files.old) (F.counts files.new) result }
     ensures cause { IfErr result (Raises (F.counts files.old) (F.counts files.new)) }
 {
-    keeps_files();
+    fri_outside::laws::keeps_files();
     for part in parts {
         let image = image_of(alloc, part)?;
         write_image(
@@ -77,7 +77,7 @@ pub fn replay<F: Files>(
     ensures counts { CountsFaults (F.counts files.old) (F.counts files.new) result }
     ensures cause { IfErr result (Raises (F.counts files.old) (F.counts files.new)) }
 {
-    keeps_files();
+    fri_outside::laws::keeps_files();
     let all = load_all(alloc, pairs, files)?;
     let parts = begin_all(alloc, &all)?;
     write_asked(alloc, images, &parts, files)?;

@@ -9,9 +9,8 @@
 mod back;
 mod draft;
 mod items;
-mod laws;
+pub mod laws;
 mod refusal;
 
 pub use back::schedule_back;
-pub use laws::records_back;
 pub use refusal::BackError;

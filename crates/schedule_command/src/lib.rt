@@ -6,8 +6,7 @@
 //! `specs/Laws`); the law `schedules_work` says which files have work.
 #![tactic(auto)]
 
-mod laws;
+pub mod laws;
 mod making;
 
-pub use laws::schedules_work;
 pub use making::schedule;

@@ -10,15 +10,13 @@ ghost use Rattle.schedule_back.specs.Seen.{BringBytes};
 ghost use Rattle.schedule_command.specs.Schedule.{is_complete, lines_of_replays, schedule_outcome, unless_incomplete};
 ghost use Rattle.schedule_command.specs.Seen.{AnswerRecordsBack, IsMade};
 
-use call_log::{exact_logs, rewritten_is_read};
-use command_run::{Reason, StopCause, WorkText, reads_modules};
+use command_run::{Reason, StopCause, WorkText};
 use fri_bytes::Bytes;
 use fri_outside::Files;
-use guest_process::states_fit;
 use log_pairs::{Loaded, Pair, begin_all, first_log, load_all, log_file, module_file};
 use proc_replay::Replayer;
-use schedule_back::{BackError, records_back, schedule_back};
-use schedule_text::{ProcessLine, written_is_read};
+use schedule_back::{BackError, schedule_back};
+use schedule_text::ProcessLine;
 use std::alloc::{AllocError, Global};
 
 // A line of the schedule for each process.
@@ -103,12 +101,12 @@ pub fn schedule<'a, F: Files>(
     ensures same { F.told files.new ≡ F.told files.old }
     ensures converse { WhenTold (F.told files.old) (λ folder. IfOk result (AnswerRecordsBack (map pair_of pairs.now) folder)) }
 {
-    exact_logs();
-    rewritten_is_read();
-    reads_modules();
-    written_is_read();
-    states_fit();
-    records_back();
+    call_log::laws::exact_logs();
+    call_log::laws::rewritten_is_read();
+    command_run::laws::reads_modules();
+    schedule_text::laws::written_is_read();
+    guest_process::laws::states_fit();
+    schedule_back::laws::records_back();
     let all = load_all(alloc, pairs, files)?;
     let parts = begin_all(alloc, &all)?;
     make(alloc, pairs, &all, parts)

@@ -1,8 +1,6 @@
 // What holds of the grammar, whatever the bytes are. These calls do nothing.
 ghost use Rattle.schedule_text.specs.Laws.{SpellOne, SpellOrBad, NeverBoth, OneBadLine, GivesSchedules, RefusesMore, NamesBadLine, TextSpells, TextIsRead};
 
-use fri_text::{exact_hex, words_read_back};
-
 /// Bytes spell at most one schedule.
 pub fn one_schedule()
     ensures { SpellOne }
@@ -27,6 +25,6 @@ pub fn written_is_read()
     ensures spells { TextSpells }
     ensures read { TextIsRead }
 {
-    words_read_back();
-    exact_hex();
+    fri_text::laws::words_read_back();
+    fri_text::laws::exact_hex();
 }

@@ -22,7 +22,7 @@ mod draft;
 mod error;
 mod fields;
 mod item;
-mod laws;
+pub mod laws;
 mod limits;
 mod process;
 mod read;
@@ -33,7 +33,6 @@ mod write;
 
 pub use error::ScheduleError;
 pub use item::Item;
-pub use laws::{exact_outcome, one_schedule, spelled_or_bad, written_is_read};
 pub use limits::{
     MOST_DATAGRAM, MOST_PROCESSES, MOST_ROUNDS, MOST_RUNS, MOST_SCHEDULE, MOST_THREAD,
 };

@@ -8,13 +8,12 @@
 #![tactic(auto)]
 
 mod command;
-mod laws;
+pub mod laws;
 mod line;
 mod read;
 mod refusal;
 mod verbs;
 
 pub use command::{DebuggerCommand, WhichNodes};
-pub use laws::exact_commands;
 pub use line::{Line, read_line, trimmed};
 pub use refusal::{LineRefusal, refused};

@@ -13,7 +13,7 @@ use crate::verbs::read_command;
 use embed_cmds::program_faults;
 use fri_bytes::Bytes;
 use std::alloc::{AllocError, Global};
-use watch_expr::{ExprError, exact_cut, find_faults, is_blank, lex};
+use watch_expr::{ExprError, find_faults, is_blank, lex};
 
 // How many bytes a line has at most.
 const MOST_BYTES: usize = 4096;
@@ -54,7 +54,7 @@ fn spelled(alloc: Global, bytes: &[u8], names: &[Bytes]) -> Result<DebuggerComma
     requires short { length bytes.now ≤ 4096 }
     ensures { SpellsCommand names.now bytes.now result }
 {
-    exact_cut();
+    watch_expr::laws::exact_cut();
     let tokens = lex(alloc, bytes)?;
     read_command(alloc, &tokens, names)
 }

@@ -10,7 +10,7 @@ use crate::command::{DebuggerCommand, WhichNodes};
 use fri_bytes::Bytes;
 use lib_calls::Kind;
 use std::alloc::Global;
-use watch_expr::{Expr, ExprError, Tokens, exact_reading, find_name, is_word, parse};
+use watch_expr::{Expr, ExprError, Tokens, find_name, is_word, parse};
 
 /// The number that token n is, from the least to the most.
 pub(crate) fn read_number(
@@ -128,7 +128,7 @@ pub(crate) fn read_expression(
     requires { length names.now < 2 ^ 32 }
     ensures { ReadsAs expression_of tokens.now (expression_from names.now (texts tokens.now) from) result }
 {
-    exact_reading();
+    watch_expr::laws::exact_reading();
     let (expression, next) = parse(alloc, tokens, from, names)?;
     if next < tokens.count() {
         return Err(ExprError::Syntax(tokens.column(next)));

@@ -11,14 +11,13 @@
 
 mod back;
 mod firing;
-mod laws;
+pub mod laws;
 mod point;
 mod points;
 mod turn;
 mod walk;
 mod watching;
 
-pub use laws::exact_firing;
 pub use point::Trigger;
 pub use points::Points;
 pub use walk::WalkEnd;

@@ -6,10 +6,9 @@
 //! each group's files have work.
 #![tactic(auto)]
 
-mod laws;
+pub mod laws;
 mod printing;
 mod telling;
 mod walking;
 
-pub use laws::streams_work;
 pub use walking::streams;

@@ -8,11 +8,10 @@ ghost use Rattle.streams_command.specs.Streams.{streams_outcome, streams_text, t
 
 use crate::printing::print;
 use crate::telling::Told;
-use byte_streams::unsent_is_free;
 use command_run::{StopCause, WorkText};
 use fri_outside::Files;
 use fri_text::Text;
-use group_state::{Group, ordered, stepwise};
+use group_state::Group;
 use log_pairs::{Pair, begin_all, load_all};
 use proc_replay::Replayer;
 use std::alloc::{AllocError, Global};
@@ -45,9 +44,9 @@ fn walk(alloc: Global, parts: Vec<Replayer<'_, '_>>) -> Result<Told, AllocError>
     requires { AreParts parts.items }
     ensures { IfOk result (λ told. IsToldOf told (traffic_of_events parts.entry.items (events parts.entry.items))) }
 {
-    ordered();
-    stepwise();
-    unsent_is_free();
+    group_state::laws::ordered();
+    group_state::laws::stepwise();
+    byte_streams::laws::unsent_is_free();
     let count = group_count(&parts);
     let processes = processes_of(alloc, &parts)?;
     let mut here = Group::begin(alloc, parts)?;

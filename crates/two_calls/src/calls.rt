@@ -6,7 +6,6 @@ ghost use Rattle.two_calls.specs.Calls.{ShowsRecorded};
 
 use fri_outside::{Files, Terminal};
 use friday_app::{Status, friday};
-use schedule_text::exact_outcome;
 use std::alloc::Global;
 
 /// Makes a call with the first words, and where its work is done one with the second. Gives the second status, or that of
@@ -30,7 +29,7 @@ pub fn record_and_show<F: Files, T: Terminal>(
     // It is done exactly where the first call is
     ensures stopped { IfErr result (λ status. status ≢ Status.Done) }
 {
-    exact_outcome();
+    schedule_text::laws::exact_outcome();
     match friday(alloc, first, files, io) {
         Status::Done => Ok(friday(alloc, second, files, io)),
         status => Err(status),

@@ -10,7 +10,7 @@ use crate::numbers::{
 };
 use crate::types::result_type;
 use crate::vectors::{IndexEntry, vector};
-use fri_bytes::{Cursor, exact_readers};
+use fri_bytes::Cursor;
 use std::alloc::Global;
 use wasm_types::Instr;
 
@@ -56,7 +56,7 @@ fn sequence(
         return Err(DecodeError::Malformed);
     }
     // An instruction takes a byte at least, since the readers are exact.
-    exact_readers();
+    fri_bytes::laws::exact_readers();
     let mut instrs = Vec::new(alloc);
     loop {
         let opcode = byte(cursor)?;

@@ -7,7 +7,7 @@
 //! asked here. Inside, the readers follow the definitions that compute, from the front of the bytes on (`specs/Decoding`).
 #![tactic(auto)]
 
-ghost use Rattle.std.specs.Prelude.{◌≡◌, ◌↔◌, ℕ, List, Some, None, IfOk, IsErrOf, MatchResult};
+ghost use Rattle.std.specs.Prelude.{◌≡◌, Some, None, IfOk, IsErrOf, MatchResult};
 ghost use Rattle.wasm_types.specs.Modules.{module_of, Module as Shown};
 ghost use Rattle.wasm_decode.specs.Decoding.{DecodesAll};
 ghost use Rattle.wasm_decode.specs.Grammar.{SpellsModule};
@@ -17,6 +17,7 @@ mod entries;
 mod error;
 mod functions;
 mod instructions;
+pub mod laws;
 mod numbers;
 mod sections;
 mod types;
@@ -24,7 +25,7 @@ mod vectors;
 
 use entries::{ElemEntry, ExportEntry, GlobalEntry, ImportEntry, SegmentEntry};
 pub use error::DecodeError;
-use fri_bytes::{Cursor, exact_readers};
+use fri_bytes::Cursor;
 use numbers::end;
 use sections::{code_section, customs, header, section, start_section};
 use std::alloc::Global;
@@ -51,7 +52,7 @@ pub fn decode(alloc: Global, bytes: &[u8]) -> Result<Module, DecodeError>
         (λ m. module_of_bytes bytes.now ≡ Some (module_of m))
         (λ e. e ≡ DecodeError.Malformed → module_of_bytes bytes.now ≡ None) }
 {
-    exact_readers();
+    fri_bytes::laws::exact_readers();
     module(alloc, bytes)
 }
 
@@ -90,18 +91,4 @@ fn module(alloc: Global, bytes: &[u8]) -> Result<Module, DecodeError>
         elems,
         segments,
     })
-}
-
-/// A law: bytes spell at most one module.
-pub fn one_module()
-    ensures { (bytes : List ℕ) (a b : Shown) → SpellsModule bytes a → SpellsModule bytes b → a ≡ b }
-{
-    exact_readers();
-}
-
-/// A law: the function that gives the module gives the one that the bytes spell, and no other.
-pub fn module_is_spelled()
-    ensures { (bytes : List ℕ) (m : Shown) → (module_of_bytes bytes ≡ Some m) ↔ SpellsModule bytes m }
-{
-    exact_readers();
 }

@@ -10,7 +10,7 @@ use crate::error::DecodeError;
 use crate::functions::code;
 use crate::numbers::{byte, end, number};
 use crate::vectors::{Entry, byte_vector, utf8_name, vector};
-use fri_bytes::{Cursor, exact_readers};
+use fri_bytes::Cursor;
 use std::alloc::Global;
 use wasm_types::Func;
 
@@ -60,7 +60,7 @@ fn is_next(cursor: &Cursor, byte: u8) -> bool
 pub(crate) fn customs(cursor: &mut Cursor) -> Result<(), DecodeError>
     ensures { Passes result cursor.new (customs_at cursor.old.left) }
 {
-    exact_readers();
+    fri_bytes::laws::exact_readers();
     while is_next(cursor, 0) {
         byte(cursor)?;
         custom(cursor)?;

@@ -16,7 +16,7 @@ mod control;
 mod first;
 mod halt;
 mod in_place;
-mod laws;
+pub mod laws;
 mod levels;
 mod memory;
 mod rows;
@@ -26,6 +26,5 @@ mod step;
 mod strand;
 
 pub use call::CallSite;
-pub use laws::never_stuck;
 pub use strand::{HandlerError, Pause, Strand};
-pub use wasm_store::{StartError, Store, marked};
+pub use wasm_store::{StartError, Store};

@@ -14,7 +14,7 @@ use crate::stack::Stack;
 use std::alloc::{AllocError, Global};
 use std::marker::Model;
 use wasm_store::Store;
-use wasm_types::{Slot, Trap, ValidModule, Value, types_agree};
+use wasm_types::{Slot, Trap, ValidModule, Value};
 
 /// A thread of a module, with its whole stack.
 #[derive(Drop)]
@@ -163,7 +163,7 @@ impl<'m> Strand<'m> {
         } = self;
         // Its `ensures` tells the proof that the module is valid.
         let _ = module.module();
-        types_agree();
+        wasm_types::laws::types_agree();
         match stack.run(module, store)? {
             Stopped::Calling(site) => {
                 let strand = Strand {

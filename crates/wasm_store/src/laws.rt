@@ -1,8 +1,6 @@
 // The laws of marks, as a call that does nothing.
 ghost use Rattle.wasm_store.specs.Marks.{GrowthMarks, MarksFollow, NothingMarks, SetMarks, WritesMark};
 
-use guest_memory::{stamps_no_later, stamps_tell};
-
 /// What sets a global, makes the memory larger or writes to it marks nothing later than the event that does so,
 /// and leaves what that event has not marked as it was; also one after the other.
 pub fn marked()
@@ -12,6 +10,6 @@ pub fn marked()
     ensures nothing { NothingMarks }
     ensures follow { MarksFollow }
 {
-    stamps_no_later();
-    stamps_tell();
+    guest_memory::laws::stamps_no_later();
+    guest_memory::laws::stamps_tell();
 }

@@ -9,9 +9,8 @@
 
 mod global;
 mod handler;
-mod laws;
+pub mod laws;
 mod start;
 mod store;
 
-pub use laws::marked;
 pub use store::{StartError, Store};

@@ -15,7 +15,7 @@ mod callee;
 mod code;
 mod declared;
 mod functions;
-mod laws;
+pub mod laws;
 mod library;
 mod modules;
 mod operators;
@@ -29,7 +29,6 @@ pub use callee::{Callee, callee_at};
 pub use code::{Instr, ValType, Value};
 pub use declared::{Declared, zero_of};
 pub use functions::{imported_type, is_same_type, result_of, type_at, type_of};
-pub use laws::types_agree;
 pub use library::importable;
 pub use modules::{
     Elem, Export, ExportDesc, Func, FuncType, GlobalDef, Import, ImportDesc, Limits, Module,

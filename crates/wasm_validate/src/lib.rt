@@ -19,7 +19,7 @@ mod floats;
 mod functions;
 mod imports;
 mod invalid;
-mod laws;
+pub mod laws;
 mod limits;
 mod segments;
 mod shape;
@@ -28,7 +28,6 @@ mod start;
 
 use check::check;
 pub use invalid::Invalid;
-pub use laws::exact_fault;
 use std::alloc::Global;
 use wasm_types::{Module, ValidModule, claim};
 

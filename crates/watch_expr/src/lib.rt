@@ -13,7 +13,7 @@
 mod error;
 mod expr;
 mod faults;
-mod laws;
+pub mod laws;
 mod lexer;
 mod number;
 mod parser;
@@ -28,7 +28,6 @@ mod word;
 pub use error::ExprError;
 pub use expr::{Agg, Binary, Expr, NodeName, Unary, Width};
 pub use faults::{Faults, find_faults};
-pub use laws::{exact_cut, exact_reading, none_apart, reads_low, reads_tell};
 pub use lexer::{is_blank, lex};
 pub use number::MOST_NUMBER;
 pub use parser::parse;

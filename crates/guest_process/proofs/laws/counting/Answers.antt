@@ -1,5 +1,5 @@
 use Rattle.guest_process.proofs.EventCounts.{begins, counts}
-use Rattle.guest_process.proofs.count.counting.Goals as goal
+use Rattle.guest_process.proofs.laws.counting.Goals as goal
 
 pub returns-clause-begun : goal.returns-clause-begun
 returns-clause-begun c = begins

@@ -1,5 +1,5 @@
 use Rattle.call_log.proofs.Walks.{end, step}
-use Rattle.call_log.proofs.walk.entry_by_entry.Goals as goal
+use Rattle.call_log.proofs.laws.entry_by_entry.Goals as goal
 
 pub returns-clause-end : goal.returns-clause-end
 returns-clause-end c = end c.exact_readers.ensures
