@@ -10,7 +10,7 @@ use lamport_tag::Tag;
 use lib_calls::{Call, EntryView};
 
 /// The number of bytes that an entry takes behind one with the clock `last`.
-#[tactic(auto, using(crate::proofs::Sizes::encoding_size))]
+#[tactic(auto, using(crate::proofs::EntrySizes::encoding_size))]
 pub fn entry_length(version: Version, last: u64, entry: &EntryView<'_>) -> u64
     requires { IsShaped (entry_of entry.now) }
     ensures { result ≡ length (encoding version last (entry_of entry.now)) }
@@ -20,7 +20,7 @@ pub fn entry_length(version: Version, last: u64, entry: &EntryView<'_>) -> u64
 }
 
 // The number of bytes that its body takes.
-#[tactic(auto, using(crate::proofs::Sizes::body_size))]
+#[tactic(auto, using(crate::proofs::EntrySizes::body_size))]
 #[inline(always)]
 pub(crate) fn body_length(version: Version, last: u64, entry: &EntryView<'_>) -> u32
     requires { IsShaped (entry_of entry.now) }

@@ -1,5 +1,5 @@
-pub mod Ends
-pub mod Faults
-pub mod Keeping
-pub mod Made
-pub mod Modules
+pub mod CommandEnds
+pub mod ModuleFaults
+pub mod KeptModules
+pub mod MadeFiles
+pub mod ReadModules

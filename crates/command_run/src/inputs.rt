@@ -58,7 +58,7 @@ fn spelled(alloc: Global, name: &str, bytes: &[u8]) -> Result<Module, StopCause>
 }
 
 // The module, where it is valid.
-#[tactic(auto, using(crate::proofs::Faults::no_fault, crate::proofs::Faults::has_float, crate::proofs::Faults::bad_import, crate::proofs::Faults::untyped, crate::proofs::Faults::over_limit, crate::proofs::Faults::no_start))]
+#[tactic(auto, using(crate::proofs::ModuleFaults::no_fault, crate::proofs::ModuleFaults::has_float, crate::proofs::ModuleFaults::bad_import, crate::proofs::ModuleFaults::untyped, crate::proofs::ModuleFaults::over_limit, crate::proofs::ModuleFaults::no_start))]
 fn valid(alloc: Global, name: &str, module: Module) -> Result<ValidModule, StopCause>
     ensures answer { MatchResult result
         (λ v. valid_module name.now (shown «module») ≡ Ok (shown v))

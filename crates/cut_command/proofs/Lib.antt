@@ -1,3 +1,3 @@
-pub mod Keeping
-pub mod Making
-pub mod Opened
+pub mod KeptLengths
+pub mod MadeFiles
+pub mod CutOutcome

@@ -1,8 +1,8 @@
-pub mod Bytes
-pub mod Conversing
-pub mod Hearing
-pub mod Listening
-pub mod Runs
-pub mod Talking
+pub mod SessionBytes
+pub mod SessionEnds
+pub mod InputPieces
+pub mod WholeSessions
+pub mod DebugOutcome
+pub mod PrintedSoFar
 pub mod WholeLines
-pub mod Works
+pub mod OutcomeIsWork

@@ -1,8 +1,8 @@
-pub mod Begins
+pub mod ProcessesBegin
 pub mod Instructions
-pub mod Performs
-pub mod Recorded
-pub mod Replayed
-pub mod Valid
-pub mod Walked
-pub mod Told
+pub mod DrillOutcome
+pub mod RecordedLogs
+pub mod LogReplays
+pub mod RingIsValid
+pub mod PositionWalk
+pub mod DrillText

@@ -10,9 +10,9 @@ use Rattle.embed_cmds.specs.declared.keyword.Keyword.TheVariants as keyword
 use Rattle.embed_cmds.specs.Grammar.{IsItems, IsStatement, IsProgram, last, more, set, say, stop, if_alone, if_else}
 use Rattle.embed_cmds.specs.Reading.{Left, Read, then_reads, then_goes, after_token, or_stays, keyword_text, expression, then_more, separated_in, item, part, else_part, if_statement, statement_by, statement, program_in}
 use Rattle.embed_cmds.specs.Tree.{SaidItem, Statement, Set, Say, If, Statements, End, Then, sequence}
-use Rattle.embed_cmds.proofs.ExpressionLaws.{EndsWith, expression_reads}
-use Rattle.embed_cmds.proofs.ItemLaws.{item_takes, item_reads}
-use Rattle.embed_cmds.proofs.StatementLaws.{keyword_again}
+use Rattle.embed_cmds.proofs.ExpressionLemmas.{EndsWith, expression_reads}
+use Rattle.embed_cmds.proofs.ItemLemmas.{item_takes, item_reads}
+use Rattle.embed_cmds.proofs.StatementLemmas.{keyword_again}
 
 -- what may stand behind a program
 pub data ProgramEnd : Left → Type 0 where

@@ -109,7 +109,7 @@ pub fn put_short(out: &mut Vec<u8>, v: u64) -> Result<(), AllocError>
 }
 
 // Adds the number, which takes two bytes or more, most often two or three.
-#[tactic(auto, using(crate::proofs::Shorts::two_bytes, crate::proofs::Shorts::three_bytes))]
+#[tactic(auto, using(crate::proofs::ShortNumbers::two_bytes, crate::proofs::ShortNumbers::three_bytes))]
 fn put_longer(out: &mut Vec<u8>, number: u64) -> Result<(), AllocError>
     requires { 128 ≤ number }
     ensures ok { OnOk result (out.new.items ≡ out.old.items ++ short_bytes number) }
@@ -170,7 +170,7 @@ pub fn short_length(v: u64) -> u64
 }
 
 // How many bytes a number takes that takes two or more.
-#[tactic(auto, using(crate::proofs::Shorts::two_bytes, crate::proofs::Shorts::three_bytes), unfolding(crate::specs::Short::short_bytes))]
+#[tactic(auto, using(crate::proofs::ShortNumbers::two_bytes, crate::proofs::ShortNumbers::three_bytes), unfolding(crate::specs::Short::short_bytes))]
 fn longer_length(number: u64) -> u64
     requires { 128 ≤ number }
     ensures length { result ≡ length (short_bytes number) }

@@ -1,3 +1,3 @@
-pub mod HexLaws
-pub mod Lines
-pub mod Numbers
+pub mod HexLemmas
+pub mod FirstLines
+pub mod DecimalNumbers

@@ -1,4 +1,4 @@
-pub mod Completes
-pub mod Runs
-pub mod Wording
-pub mod Streaming
+pub mod WorkIsDone
+pub mod CommandRuns
+pub mod WordTests
+pub mod RecordedStreams

@@ -1,7 +1,7 @@
-pub mod Answered
-pub mod Attached
-pub mod Events
-pub mod Listed
-pub mod Named
-pub mod Starts
-pub mod Stays
+pub mod LineAnswers
+pub mod AttachAnswers
+pub mod EventLines
+pub mod ListLines
+pub mod ProcessNames
+pub mod LogsStay
+pub mod RefusalStays

@@ -1,4 +1,4 @@
-pub mod First
-pub mod Least
-pub mod Merging
-pub mod Receivers
+pub mod FirstHead
+pub mod LeastEvent
+pub mod MergedOrder
+pub mod SendReceivers

@@ -24,7 +24,7 @@ use Rattle.guest_process.specs.Seen.{able, plain}
 use Rattle.guest_process.specs.State.{State, is_running, thread_at}
 use Rattle.group_record.specs.Around.{answer_by, signal_with, world_gives}
 use Rattle.group_record.specs.Recorded.{IsLiveEntry}
-use Rattle.group_record.proofs.Chosen.{chosen_is, handlers_after}
+use Rattle.group_record.proofs.ReadySignals.{chosen_is, handlers_after}
 
 -- ---- the answer
 

@@ -76,7 +76,7 @@ impl Tally {
         self.add_receipt(process, entry)
     }
 
-    #[tactic(auto, using(crate::proofs::Tallied::below_count))]
+    #[tactic(auto, using(crate::proofs::TallyCounts::below_count))]
     fn add_send(&mut self, process: u32, entry: &EntryView<'_>) -> Result<(), AllocError>
         requires new { IsNewSend self.old (record { process = process; entry = entry_of entry.now }) }
         requires room { HasTallyRoom self.old }

@@ -41,7 +41,7 @@ impl<'m, 'a> View for Group<'m, 'a> {
 
     ghost nodes = { nodes_at };
 
-    #[tactic(auto, using(crate::proofs::Seeing::node_for_each))]
+    #[tactic(auto, using(crate::proofs::NodeViews::node_for_each))]
     fn node_count(&self) -> u32 {
         self.nodes()
     }

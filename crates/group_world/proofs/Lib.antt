@@ -1,6 +1,6 @@
-pub mod Lists
-pub mod EventLaws
-pub mod NetLaws
-pub mod Counting
-pub mod Origins
-pub mod Turns
+pub mod ListEnds
+pub mod EventLemmas
+pub mod NetLemmas
+pub mod CountedWorld
+pub mod DatagramOrigins
+pub mod DatagramTurns

@@ -125,7 +125,7 @@ impl World {
 
     // Keeps the datagram that the event sent into the group, if it sent one.
     #[inline(always)]
-    #[tactic(auto, using(crate::proofs::EventLaws::sent_within))]
+    #[tactic(auto, using(crate::proofs::EventLemmas::sent_within))]
     fn keep_sent(&mut self, p: u32, entry: &EntryView<'_>) -> Result<(), AllocError>
         requires { p < process_count self.old }
         ensures ok { OnOk result (self.new ≡ record self.old {

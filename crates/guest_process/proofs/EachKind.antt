@@ -28,8 +28,8 @@ use Rattle.guest_process.specs.Fits.{EnvFits, StateFits}
 use Rattle.guest_process.specs.Legal.{gives_answer}
 use Rattle.guest_process.specs.Live.{Env, cut_datagram, random_answer, taken_of, world_answer}
 use Rattle.guest_process.specs.State.{State, without_lock}
-use Rattle.guest_process.proofs.Failing.{kept, same}
-use Rattle.guest_process.proofs.Written.{asked_good, random_short, recv_short, try_recv_short}
+use Rattle.guest_process.proofs.FirstFailure.{kept, same}
+use Rattle.guest_process.proofs.AnswerWrites.{asked_good, random_short, recv_short, try_recv_short}
 
 -- no bytes and no tag, which every kind may have
 pub no_bytes : (b : Bool) → IsStringIf b []

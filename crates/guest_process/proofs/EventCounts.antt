@@ -23,8 +23,8 @@ use Rattle.guest_process.specs.Legal.{reason_at}
 use Rattle.guest_process.specs.Next.{next_at}
 use Rattle.guest_process.specs.Start.{begun_with}
 use Rattle.guest_process.specs.State.{State, is_running, thread_at}
-use Rattle.guest_process.proofs.Failing.{unless_none}
-use Rattle.guest_process.proofs.Effects.{effects_has}
+use Rattle.guest_process.proofs.FirstFailure.{unless_none}
+use Rattle.guest_process.proofs.CallEffects.{effects_has}
 
 -- ---- a process begins with no event
 

@@ -27,9 +27,9 @@ use Rattle.guest_process.specs.OneEvent.{IsKept, Rises, RisesTo}
 use Rattle.guest_process.specs.Start.{waiting_at}
 use Rattle.guest_process.specs.State.{State, is_running, thread_at}
 use Rattle.guest_process.proofs.EachKind.{answer_clock}
-use Rattle.guest_process.proofs.Changes.{Affects, event_affects}
-use Rattle.guest_process.proofs.Failing.{all_hold, unless_none}
-use Rattle.guest_process.proofs.Marking.{MarkLaws, next_within}
+use Rattle.guest_process.proofs.KeptByEvents.{Affects, event_affects}
+use Rattle.guest_process.proofs.FirstFailure.{all_hold, unless_none}
+use Rattle.guest_process.proofs.EventMarks.{MarkLaws, next_within}
 
 argument_fits : (b : Bool) (bits : ℕ) → IsNumberIf b (cond b (bits % 2 ^ 64) 0)
 argument_fits true bits = omega arith

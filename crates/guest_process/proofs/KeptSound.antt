@@ -30,10 +30,10 @@ use Rattle.guest_process.specs.OneEvent.{IsKeptSound}
 use Rattle.guest_process.specs.Sound.{IsSound, IsStanding, StandsAtKind}
 use Rattle.guest_process.specs.Start.{waiting_at}
 use Rattle.guest_process.specs.State.{State, is_running, thread_at}
-use Rattle.guest_process.proofs.Changes.{Stand, affected, event_affects, went_on}
-use Rattle.guest_process.proofs.Effects.{effects_has}
-use Rattle.guest_process.proofs.Signalled.{AreHandlers, given_is, set_sound}
-use Rattle.guest_process.proofs.Failing.{unless_none}
+use Rattle.guest_process.proofs.KeptByEvents.{Stand, affected, event_affects, went_on}
+use Rattle.guest_process.proofs.CallEffects.{effects_has}
+use Rattle.guest_process.proofs.HandlerCalls.{AreHandlers, given_is, set_sound}
+use Rattle.guest_process.proofs.FirstFailure.{unless_none}
 
 -- a reply is a value of the width of the result
 width_fits : (none narrow : Bool) (reply : ℕ) → IsResult (slice_get (cond none [] (cond narrow (I32 ∷ []) (I64 ∷ []))) 0) (cond none None (cond narrow (Some (values.I32 (reply % 2 ^ 32))) (Some (values.I64 reply))))

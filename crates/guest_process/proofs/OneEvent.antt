@@ -27,10 +27,10 @@ use Rattle.guest_process.specs.Legal.{checks, gives_answer, is_handled}
 use Rattle.guest_process.specs.Live.{Env, Event, Answered, answered_now, as_given, chosen_signal, event, from_world, event_of_waiting, lowest, world_answer}
 use Rattle.guest_process.specs.OneEvent.{Agrees, OneEvent}
 use Rattle.guest_process.specs.State.{State, is_running, thread_at}
-use Rattle.guest_process.proofs.Failing.{same, kept, mapped, none_failing, lowest_holds}
+use Rattle.guest_process.proofs.FirstFailure.{same, kept, mapped, none_failing, lowest_holds}
 use Rattle.guest_process.proofs.Outgoing.{outgoing_fits}
 use Rattle.guest_process.proofs.EachKind.{no_bytes, no_tag, ReplyFits, reply_fits, world_matches}
-use Rattle.guest_process.proofs.Written.{given_written}
+use Rattle.guest_process.proofs.AnswerWrites.{given_written}
 
 pub live_low : (slots : List (Slot Waiting)) (t : ℕ) (w : Waiting) → option_and_then value_of (slice_get slots t) ≡ Some w → t < length slots
 live_low [] t w h = cc

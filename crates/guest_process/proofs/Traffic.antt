@@ -16,9 +16,9 @@ use Rattle.guest_process.specs.Fits.{StateFits}
 use Rattle.guest_process.specs.Legal.{checks, gives_answer, reason_at}
 use Rattle.guest_process.specs.Numbers.{CallsWell, HasTraffic, LegalTraffic}
 use Rattle.guest_process.specs.State.{State, is_running, thread_at}
-use Rattle.guest_process.proofs.Failing.{all_hold, unless_none}
-use Rattle.guest_process.proofs.Legality.{call_told, fits_at}
-use Rattle.guest_process.proofs.Written.{not_minus_one, random_short, recv_short, send_short, try_recv_short}
+use Rattle.guest_process.proofs.FirstFailure.{all_hold, unless_none}
+use Rattle.guest_process.proofs.LegalEntries.{call_told, fits_at}
+use Rattle.guest_process.proofs.AnswerWrites.{not_minus_one, random_short, recv_short, send_short, try_recv_short}
 
 -- ---- the reply says whether the arguments are good
 

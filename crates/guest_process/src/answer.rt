@@ -32,7 +32,7 @@ pub fn is_due(until: u64, time: u64) -> bool
 }
 
 /// The strand of a thread whose call was answered.
-#[tactic(auto, using(crate::proofs::Answering::is_answer))]
+#[tactic(auto, using(crate::proofs::AnsweredCalls::is_answer))]
 pub(crate) fn answered(waiting: Waiting<'_>, reply: u64) -> Result<Strand<'_>, AllocError>
     requires { StandsAtKind waiting.strand.«module» waiting waiting.kind }
     ensures { IfOk result (λ s. s ≡ answered waiting.entry.strand (reply_value waiting.entry.kind reply)) }

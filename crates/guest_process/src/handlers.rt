@@ -35,7 +35,7 @@ impl<'m> Parts<'m> {
     }
 
     /// Gives the signal the handler of this number, where that may be.
-    #[tactic(auto, using(crate::proofs::Signalled::set_handlers))]
+    #[tactic(auto, using(crate::proofs::HandlerCalls::set_handlers))]
     pub(crate) fn set_handler(&mut self, signal: u32, number: u32)
         ensures state { state_of self.new ≡ after_need (handled (state_of self.old) signal number) (state_of self.old) }
         ensures same_module { self.new.«module» ≡ self.old.«module» }

@@ -91,7 +91,7 @@ impl<'m> Parts<'m> {
     }
 
     // Whether some environment gives the answer.
-    #[tactic(auto, using(crate::proofs::Judging::fixed, crate::proofs::Judging::blocked, crate::proofs::Judging::world))]
+    #[tactic(auto, using(crate::proofs::JudgeTests::fixed, crate::proofs::JudgeTests::blocked, crate::proofs::JudgeTests::world))]
     fn is_answer(&self, entry: &EntryView<'_>, waiting: &Waiting<'m>) -> bool
         ensures { result ≡ (checks (state_of self.now) (entry_of entry.now) waiting.now).reply }
     {
@@ -117,7 +117,7 @@ impl<'m> Parts<'m> {
     }
 
     /// The handlers once a pending call was answered, however it is.
-    #[tactic(auto, using(crate::proofs::Signalled::same_handlers, crate::proofs::Signalled::given_handlers))]
+    #[tactic(auto, using(crate::proofs::HandlerCalls::same_handlers, crate::proofs::HandlerCalls::given_handlers))]
     pub(crate) fn handlers_after(&self, waiting: &Waiting<'m>) -> Handlers
         ensures { (t : ℕ) (a : Answer) → result ≡ (effects waiting.now.kind (state_of self.now) t waiting.now.call a).handlers }
     {

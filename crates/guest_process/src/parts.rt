@@ -119,7 +119,7 @@ impl<'m> Parts<'m> {
     }
 }
 
-#[tactic(auto, using(crate::proofs::Over::over_more, crate::proofs::Over::not_over))]
+#[tactic(auto, using(crate::proofs::AllEnded::over_more, crate::proofs::AllEnded::not_over))]
 fn is_all_over(crew: &Crew<Waiting<'_>>) -> bool
     ensures { result ≡ all_over crew.now.threads }
 {

@@ -218,7 +218,7 @@ impl<'m> Process<'m> {
     }
 
     /// How a thread stands.
-    #[tactic(auto, using(crate::proofs::Advancing::none_taken))]
+    #[tactic(auto, using(crate::proofs::EventCode::none_taken))]
     pub fn status(&self, thread: u16) -> Status
         ensures status { result ≡ status_of (slice_get self.now.crew.threads thread) }
         ensures here { result ≢ Status.Taken }

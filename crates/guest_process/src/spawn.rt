@@ -16,7 +16,7 @@ use wasm_step::Strand;
 
 impl<'m> Parts<'m> {
     /// The reply where a thread is to begin with the function of this table index.
-    #[tactic(auto, using(crate::proofs::Spawning::spawned_reply, crate::proofs::Spawning::not_spawned))]
+    #[tactic(auto, using(crate::proofs::MadeThreads::spawned_reply, crate::proofs::MadeThreads::not_spawned))]
     pub(crate) fn spawned(&self, index: u32) -> Need
         ensures { (arg : ℕ) → result ≡ plain (spawned (state_of self.now) index arg) }
     {
@@ -28,7 +28,7 @@ impl<'m> Parts<'m> {
 
     /// Makes a thread that begins with the function of this table index and is given this argument, where
     /// that may be.
-    #[tactic(auto, using(crate::proofs::Spawning::found_own, crate::proofs::Spawning::has_room, crate::proofs::Spawning::spawned_so, crate::proofs::Spawning::none_made))]
+    #[tactic(auto, using(crate::proofs::MadeThreads::found_own, crate::proofs::MadeThreads::has_room, crate::proofs::MadeThreads::spawned_so, crate::proofs::MadeThreads::none_made))]
     pub(crate) fn spawn(&mut self, index: u32, arg: u32) -> Result<(), AllocError>
         requires same_module { module_of self.old.«module».now ≡ self.old.store.«module» }
         ensures state { OnOk result (state_of self.new ≡ after_need (spawned (state_of self.old) index arg) (state_of self.old)) }
@@ -53,7 +53,7 @@ impl<'m> Parts<'m> {
     }
 
     // Makes a thread that begins with this function.
-    #[tactic(auto, using(crate::proofs::Spawning::begun))]
+    #[tactic(auto, using(crate::proofs::MadeThreads::begun))]
     fn begin(&mut self, func: u32, arg: u32) -> Result<(), AllocError>
         requires room { length self.old.crew.threads < most_threads }
         requires same_module { module_of self.old.«module».now ≡ self.old.store.«module» }

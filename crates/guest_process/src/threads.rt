@@ -33,7 +33,7 @@ impl<'m> Parts<'m> {
     }
 
     // How the thread with this number stands.
-    #[tactic(auto, using(crate::proofs::Crews::unknown_past))]
+    #[tactic(auto, using(crate::proofs::CrewViews::unknown_past))]
     fn status(&self, number: u32) -> Status
         ensures { result ≡ status_of (slice_get (state_of self.now).crew.threads number) }
     {
@@ -66,7 +66,7 @@ impl<'m> Parts<'m> {
     }
 
     /// The thread asks for the lock m, which it then holds if it was free.
-    #[tactic(auto, using(crate::proofs::Crews::lock_taken))]
+    #[tactic(auto, using(crate::proofs::CrewViews::lock_taken))]
     pub(crate) fn lock(&mut self, m: u32, thread: u16) -> Result<(), AllocError>
         ensures state { OnOk result (state_of self.new ≡ after_need (locked (state_of self.old) m thread) (state_of self.old)) }
         ensures same_module { self.new.«module» ≡ self.old.«module» }
@@ -77,7 +77,7 @@ impl<'m> Parts<'m> {
     }
 
     /// The thread gives the lock m back, if it holds it.
-    #[tactic(auto, using(crate::proofs::Crews::lock_freed, crate::proofs::Crews::lock_kept))]
+    #[tactic(auto, using(crate::proofs::CrewViews::lock_freed, crate::proofs::CrewViews::lock_kept))]
     pub(crate) fn unlock(&mut self, m: u32, thread: u16)
         ensures state { state_of self.new ≡ after_need (unlocked (state_of self.old) m thread) (state_of self.old) }
         ensures same_module { self.new.«module» ≡ self.old.«module» }

@@ -1,4 +1,4 @@
 pub mod LittleEndian
-pub mod TagLaws
-pub mod CutLaws
-pub mod BackLaws
+pub mod TagLemmas
+pub mod CutLemmas
+pub mod BackLemmas

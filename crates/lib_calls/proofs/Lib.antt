@@ -1,3 +1,3 @@
-pub mod Ranges
-pub mod Writes
-pub mod Sames
+pub mod MemoryRanges
+pub mod AnswerRoom
+pub mod ComparedRanges

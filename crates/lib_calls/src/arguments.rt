@@ -143,7 +143,7 @@ fn is_nothing(bytes: &[u8]) -> bool
 }
 
 // Whether these are the bytes of a range that a call may name, and none where it may not.
-#[tactic(auto, using(crate::proofs::Ranges::range_inside, crate::proofs::Sames::not_as_long))]
+#[tactic(auto, using(crate::proofs::MemoryRanges::range_inside, crate::proofs::ComparedRanges::not_as_long))]
 fn is_named(bytes: &[u8], memory: &Memory, addr: u64, len: u64) -> bool
     ensures { result ≡ bytes_eq bytes.now (named memory.now addr len) }
 {

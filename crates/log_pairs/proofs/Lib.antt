@@ -1,8 +1,8 @@
-pub mod Beginning
-pub mod Clashing
-pub mod Groups
-pub mod Loading
-pub mod Opening
-pub mod Places
-pub mod Placing
-pub mod Together
+pub mod BegunReplays
+pub mod LogClashes
+pub mod GroupBegins
+pub mod LoadedPairs
+pub mod OpenedReplays
+pub mod PairPlaces
+pub mod PlacedReplays
+pub mod PairsTogether

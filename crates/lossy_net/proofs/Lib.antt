@@ -1,3 +1,3 @@
-pub mod NetworkLaws
-pub mod SentLaws
-pub mod MailboxLaws
+pub mod NetworkLemmas
+pub mod SentLemmas
+pub mod MailboxLemmas

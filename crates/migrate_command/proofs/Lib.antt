@@ -1,3 +1,3 @@
-pub mod Fronts
-pub mod Migrated
-pub mod Keeping
+pub mod FileFronts
+pub mod MigrateOutcome
+pub mod NewFileIsRead

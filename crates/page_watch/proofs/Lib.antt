@@ -1,5 +1,5 @@
-pub mod Adding
-pub mod Asking
-pub mod Marking
+pub mod AddedPlaces
+pub mod AskedWatches
+pub mod MarkedPlaces
 pub mod OneNode
-pub mod Staying
+pub mod WatchStays

@@ -1,4 +1,4 @@
-pub mod Looking
-pub mod Steps
-pub mod Walking
-pub mod Sizes
+pub mod NextEntry
+pub mod OneTurn
+pub mod TurnAfterTurn
+pub mod AcceptedSizes

@@ -1,2 +1,2 @@
-pub mod Imaging
-pub mod Replayed
+pub mod ReplayImages
+pub mod ReplayOutcome

@@ -1,8 +1,8 @@
-pub mod DrillLaws
-pub mod FieldLaws
-pub mod ItemLaws
-pub mod LineLaws
-pub mod OutcomeLaws
-pub mod StepLaws
-pub mod TextLaws
-pub mod WordLaws
+pub mod DrillLemmas
+pub mod FieldLemmas
+pub mod ItemLemmas
+pub mod LineLemmas
+pub mod OutcomeLemmas
+pub mod StepLemmas
+pub mod TextLemmas
+pub mod WordLemmas

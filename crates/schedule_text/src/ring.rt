@@ -10,7 +10,7 @@ use crate::schedule::Schedule;
 use fri_bytes::Bytes;
 use std::alloc::{AllocError, Global};
 
-#[tactic(auto, using(crate::proofs::DrillLaws::drill_within, crate::proofs::DrillLaws::drill_more))]
+#[tactic(auto, using(crate::proofs::DrillLemmas::drill_within, crate::proofs::DrillLemmas::drill_more))]
 /// The schedule of a group of four processes of the module `ring`, in which so many rounds a datagram goes from a
 /// process to the next. In each third round the process is tried before its datagram has come.
 pub fn drill(alloc: Global, rounds: u32) -> Result<Schedule, AllocError>

@@ -20,8 +20,8 @@ use Rattle.shell_lines.specs.declared.command.Verb.TheVariants as verb
 use Rattle.shell_lines.specs.Grammar.{IsCommand, BeginsCommand, StopsAtToken, goto, step_once, step, back_once, back, print, mem, threads, last_events, events, watch, break, break_everywhere, delete, attach, list, set, vars, continue, rcontinue, quit}
 use Rattle.shell_lines.specs.Laws.{ExactCommands}
 use Rattle.shell_lines.specs.Lines.{At, Back, Break, LineCommand, Continue, Delete, Do, Events, Everywhere, Goto, ListPoints, ListVariables, Mem, Print, Quit, Rcontinue, WhichNodes, SetTo, Step, Threads, Watch, command_of_verb, command_spelled, ends_at, expression_from, node_called, node_named, number_from, number_in_range, program_from, scope_named, sign_of, then_takes, token_at, verb_of, verb_word, verbs}
-use Rattle.shell_lines.proofs.Forms.{Ends, Form, Stop, Then, Tokens, as_form, ends_form, then_form}
-use Rattle.shell_lines.proofs.Parts.{Body, Count, Value, body_form, count_form, value_form}
+use Rattle.shell_lines.proofs.TokenForms.{Ends, Form, Stop, Then, Tokens, as_form, ends_form, then_form}
+use Rattle.shell_lines.proofs.CommandParts.{Body, Count, Value, body_form, count_form, value_form}
 
 same_bytes : (a b : List ℕ) → bytes_eq a b ≡ true → a ≡ b
 same_bytes a b e = (bytes_eq-Decides a b).0 e

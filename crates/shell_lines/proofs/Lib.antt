@@ -1,7 +1,7 @@
-pub mod Blanks
+pub mod SilentLines
 pub mod Commands
-pub mod Forms
+pub mod TokenForms
 pub mod OuterBlanks
-pub mod Parts
-pub mod Programs
-pub mod Viable
+pub mod CommandParts
+pub mod ProgramFaults
+pub mod ViableTokens

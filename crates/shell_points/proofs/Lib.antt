@@ -1,5 +1,5 @@
-pub mod Exact
-pub mod Held
-pub mod Returning
-pub mod Walks
-pub mod Reading
+pub mod ExactFiring
+pub mod HeldPoints
+pub mod LastFiring
+pub mod PointWalks
+pub mod PointReads

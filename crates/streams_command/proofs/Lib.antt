@@ -1,7 +1,7 @@
-mod Listed
-mod Sending
-mod Told
-mod Unsent
-mod Walked
-mod Printed
-mod Performing
+mod CountedStreams
+mod SentInGroup
+mod ToldByEvents
+mod NoClockTwice
+mod GroupWalk
+mod StreamsText
+mod NoFileMade

@@ -57,7 +57,7 @@ impl Told {
     }
 
     /// An event of a process, of a group of `count`.
-    #[tactic(auto, using(crate::proofs::Sending::below_count))]
+    #[tactic(auto, using(crate::proofs::SentInGroup::below_count))]
     pub(crate) fn tell(
         &mut self,
         count: u32,

@@ -1,2 +1,2 @@
-pub mod Leaving
-pub mod Calling
+pub mod LeftByRecording
+pub mod SecondCall

@@ -13,8 +13,8 @@ use Rattle.wasm_decode.specs.declared.error.DecodeError.TheVariants as errors
 use Rattle.wasm_decode.specs.Decoding.{IsErrorOf}
 use Rattle.wasm_decode.specs.Values.{Reader, ◌>>=◌, result_type_at}
 use Rattle.wasm_decode.specs.Instrs.{Ended, whole_at, block_at, if_at, instr_at, is_end_opcode, sequence_at, levels_at}
-use Rattle.wasm_decode.proofs.Steps.{byte_takes}
-use Rattle.wasm_decode.proofs.InstrLaws.{instr_takes, levels_read}
+use Rattle.wasm_decode.proofs.ReaderSteps.{byte_takes}
+use Rattle.wasm_decode.proofs.InstrLemmas.{instr_takes, levels_read}
 
 -- ---- instructions that the program makes
 

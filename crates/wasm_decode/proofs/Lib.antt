@@ -1,9 +1,9 @@
-pub mod Steps
-pub mod Compose
-pub mod ValueLaws
-pub mod InstrLaws
-pub mod EntryLaws
-pub mod SectionLaws
-pub mod ModuleLaws
-pub mod Loops
+pub mod ReaderSteps
+pub mod ComposedReaders
+pub mod ValueLemmas
+pub mod InstrLemmas
+pub mod EntryLemmas
+pub mod SectionLemmas
+pub mod ModuleLemmas
+pub mod ValueLoops
 pub mod InstrLoop

@@ -18,8 +18,8 @@ use Rattle.wasm_step.specs.Limits.{Within}
 use Rattle.wasm_step.specs.Reduce.{Both, After, Goes, Stops, limited, numeric, put_computed, instr_row, at_trap, with_top}
 use Rattle.wasm_step.specs.Thread.{Thread, fits_limits, size_of_thread, with_operand}
 use Rattle.wasm_step.specs.View.{IsStack, thread_of}
-use Rattle.wasm_step.proofs.Runs.{settle_here, burst_on}
-use Rattle.wasm_step.proofs.Views.{IsSound-operands, keeps_popped, keeps_pushed, popped_view, pushed_view}
+use Rattle.wasm_step.proofs.LevelRuns.{settle_here, burst_on}
+use Rattle.wasm_step.proofs.StackViews.{IsSound-operands, keeps_popped, keeps_pushed, popped_view, pushed_view}
 
 same_type_itself : (v : ValType) → is_same v v ≡ true
 same_type_itself types.I32 = refl

@@ -16,7 +16,7 @@ use Rattle.wasm_step.specs.Limits.{Within}
 use Rattle.wasm_step.specs.View.{and_close, closed_by, entered_by, levels_of}
 use Rattle.wasm_step.specs.Reduce.{Goes, ended, branch, jump, keep, on_test, past, instr_row, with_top}
 use Rattle.wasm_step.specs.Thread.{Level, Frame, Thread, is_end, closed, closed_to, depth, opened, size_of_thread, size_of_frames, size_of_levels, waiting}
-use Rattle.wasm_step.proofs.Runs.{none_left, settle_end}
+use Rattle.wasm_step.proofs.LevelRuns.{none_left, settle_end}
 
 pub outer_is : (gives : Option ValType) (ls : List StackLevel) (ops : List Value) (t : Thread) → is_some (closed_to (levels_of gives ls ops) t) ≡ nat_lt 0 (length ls)
 outer_is gives [] ops t = refl

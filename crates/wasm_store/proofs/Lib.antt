@@ -1,4 +1,4 @@
-mod Fitting
-pub mod Globals
-pub mod Marking
-pub mod Suited
+mod SegmentsFit
+pub mod GlobalViews
+pub mod StoreMarks
+pub mod StoreSuits

@@ -1,4 +1,4 @@
 pub mod Heights
-pub mod Runs
-pub mod Trees
-pub mod Unknown
+pub mod LocalRuns
+pub mod TreeStacks
+pub mod UnknownOperands

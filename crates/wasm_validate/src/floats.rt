@@ -13,7 +13,7 @@ use wasm_types::{
 };
 
 /// Whether a float value type or an instruction on floats stands anywhere in the module.
-#[tactic(auto, using(crate::proofs::Lists::list_any_map))]
+#[tactic(auto, using(crate::proofs::ListTests::list_any_map))]
 pub(crate) fn is_with_floats(module: &Module) -> bool
     ensures { result ≡ is_with_floats (module_of «module».now) }
 {

@@ -40,7 +40,7 @@ pub(crate) fn check_shape(
     }
 }
 
-#[tactic(auto, using(crate::proofs::Lists::list_all_map))]
+#[tactic(auto, using(crate::proofs::ListTests::list_all_map))]
 fn is_within_limits(module: &Module) -> bool
     ensures { result ≡ is_within_limits (module_of «module».now) }
 {
@@ -56,7 +56,7 @@ fn is_within_limits(module: &Module) -> bool
     are_tables(&module.tables) && are_memories(&module.mems)
 }
 
-#[tactic(auto, using(crate::proofs::Lists::list_all_map))]
+#[tactic(auto, using(crate::proofs::ListTests::list_all_map))]
 fn is_linked(module: &Module, type_indices: &[u32]) -> bool
     requires indices { type_indices.now ≡ funcs_of (module_of «module».now) }
     requires imports { All (IsOfLibrary (module_of «module».now).types) (module_of «module».now).imports }

@@ -14,7 +14,7 @@ const ELEMENTS: u32 = 65_536;
 const LOCALS: u32 = 4_096;
 
 /// Whether a memory, a table or a function of the module is too large.
-#[tactic(auto, using(crate::proofs::Lists::list_any_map))]
+#[tactic(auto, using(crate::proofs::ListTests::list_any_map))]
 pub(crate) fn is_over_limit(module: &Module) -> bool
     ensures { result ≡ is_over_limit (module_of «module».now) }
 {

@@ -18,8 +18,8 @@ use Rattle.watch_expr.specs.Expression.{Expression, Number, One, Two, Over, Var,
 use Rattle.watch_expr.specs.Spelling.{is_word, number_of, node_of_word, binary_sign, binary_of, unary_sign, unary_of, agg_word, agg_of, place_word, place_of}
 use Rattle.watch_expr.specs.Grammar.{UNARY, FIRST, operator_level, left_level, IsAt, higher, two, one, number, variable, brackets, over, load, global, clock, events, size, IsExpr, BeginsExpr}
 use Rattle.watch_expr.specs.Machine.{PendingOperator, Left, Front, Inside, MachineState, Want, Have, Part, settle_operators, after_operator, closing, is_closed_with, enclose, close, Went, More, Whole, Opens, when, only_if, at_place, begin_as, begun_by, onward, lead, want_sign, want_number, have_as, step, steps, whole_expression, whole}
-use Rattle.watch_expr.proofs.Settling.{tested, left_high, left_low, Fits, fits_more, fits_unary, settle_stops, operator_goes, operator_gave}
-use Rattle.watch_expr.proofs.Words.{same_bytes, binary_is, binary_again, unary_is, agg_is, place_is, place_again, sign_read, agg_read, bracket_read, dollar_read, at_read, closing_again, zero_is}
+use Rattle.watch_expr.proofs.SettledOperators.{tested, left_high, left_low, Fits, fits_more, fits_unary, settle_stops, operator_goes, operator_gave}
+use Rattle.watch_expr.proofs.KnownWords.{same_bytes, binary_is, binary_again, unary_is, agg_is, place_is, place_again, sign_read, agg_read, bracket_read, dollar_read, at_read, closing_again, zero_is}
 
 module _ (names : List (List ℕ)) where
   -- what is spelled at a level is spelled at each lower one

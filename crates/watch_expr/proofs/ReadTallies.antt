@@ -11,7 +11,7 @@ use Rattle.watch_expr.specs.Reads.{reads_at}
 use Rattle.watch_expr.specs.Value.{Setting, value_at}
 use Rattle.watch_expr.specs.ValueTally.{IsWithin, added_if, empty_tally, total}
 use Rattle.watch_expr.specs.View.{◌>>=◌}
-use Rattle.watch_expr.proofs.Tallies.{ending, ending_all, ending_first, ending_none, ending_some, range_next, within_more}
+use Rattle.watch_expr.proofs.ValueTallies.{ending, ending_all, ending_first, ending_none, ending_some, range_next, within_more}
 
 -- what becomes of a tally with the values from the node k on, if there is one
 abbrev ending_if : Setting → Expression → Option Tally → ℕ → ℕ → Option ℤ

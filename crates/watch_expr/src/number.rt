@@ -10,7 +10,7 @@ use std::str;
 /// The greatest number that a word is.
 pub const MOST_NUMBER: u64 = i64::MAX as u64;
 
-#[tactic(auto, using(crate::proofs::Numbers::at_most_up_to), unfolding(crate::specs::Spelling::number_of))]
+#[tactic(auto, using(crate::proofs::WordNumbers::at_most_up_to), unfolding(crate::specs::Spelling::number_of))]
 /// The number that the word is, if it is one: in decimal digits, or in hexadecimal ones behind `0x`.
 pub(crate) fn read_number(word: &[u8]) -> Option<u64>
     ensures { result ≡ number_of word.now }

@@ -92,7 +92,7 @@ fn want(frames: &mut Vec<Frame>, text: &[u8]) -> Result<Step, AllocError>
 }
 
 /// Where an operand is wanted and no number stands.
-#[tactic(auto, using(crate::proofs::Piles::pile_push))]
+#[tactic(auto, using(crate::proofs::StackPiles::pile_push))]
 fn want_operand(frames: &mut Vec<Frame>, text: &[u8]) -> Result<Step, AllocError>
     ensures { IfOk result (λ s. GivesStep (want_sign (unary_of text.now) (pile [] frames.old.items) text.now)
         (state frames.old.items Mode.Want) frames.new.items s) }
@@ -122,7 +122,7 @@ fn part(
 }
 
 /// Goes on with what a token gave, or stays.
-#[tactic(auto, using(crate::proofs::Piles::pile_push))]
+#[tactic(auto, using(crate::proofs::StackPiles::pile_push))]
 fn led(frames: &mut Vec<Frame>, went: Option<Went>, mode: Mode) -> Result<Step, AllocError>
     ensures { IfOk result (λ s. Led (lead (pile [] frames.old.items) (went_if went)) (state frames.old.items mode) frames.new.items s) }
 {
@@ -286,7 +286,7 @@ fn close(alloc: Global, frames: &mut Vec<Frame>, x: Expr, text: &[u8]) -> Result
 }
 
 /// What was opened and a token behind it.
-#[tactic(auto, using(crate::proofs::Piles::pile_push))]
+#[tactic(auto, using(crate::proofs::StackPiles::pile_push))]
 fn closed(
     alloc: Global,
     frames: &mut Vec<Frame>,

@@ -1,7 +1,7 @@
 use Rattle.std.proofs.Common.{sym, ap, ◌∙◌, rules, arith}
 use Rattle.std.proofs.lemmas.List.{take_rest}
 use Rattle.byteorder.specs.Endian.{little_number}
-use Rattle.lamport_tag.proofs.TagLaws.{Reads, Reads-tagged, Reads-untagged, no_magic, too_short, untagged_at, tag_at-tagged}
+use Rattle.lamport_tag.proofs.TagLemmas.{Reads, Reads-tagged, Reads-untagged, no_magic, too_short, untagged_at, tag_at-tagged}
 use Rattle.lamport_tag.proofs.read_tag.Goals as goal
 use Rattle.lamport_tag.proofs.read_tag.Goals.{then-bytes-lt-TAG_LENGTH-via-then-bytes-lt-TAG_LENGTH, then-bytes-lt-TAG_LENGTH-via-else-bytes-lt-TAG_LENGTH+then-not-starts_with}
 

@@ -8,7 +8,7 @@ use Rattle.wasm_decode.specs.declared.error.DecodeError.TheVariants as errors
 use Rattle.wasm_decode.specs.Decoding.{DecodesAll}
 use Rattle.wasm_decode.specs.Grammar.{SpellsModule}
 use Rattle.wasm_decode.specs.Sections.{module_of_bytes}
-use Rattle.wasm_decode.proofs.ModuleLaws.{module_takes, module_again}
+use Rattle.wasm_decode.proofs.ModuleLemmas.{module_takes, module_again}
 use Rattle.wasm_decode.proofs.decode.Goals as goal
 
 is_found : ExactReaders → (bytes : List ℕ) (r : Result RustModule DecodeError) → DecodesAll module_of r (module_of_bytes bytes) → IfOk r (λ m. SpellsModule bytes (module_of m))

@@ -1,7 +1,7 @@
 use Rattle.std.proofs.Common.{ap, sym, ◌∙◌, rules, arith}
 use Rattle.std.proofs.lemmas.List.{take_rest}
 use Rattle.byteorder.specs.Endian.{little_number}
-use Rattle.byte_streams.proofs.ChunkLaws.{Reads, Reads-chunk, chunk_at-chunk, no_chunk, other_is_none, short_is_none}
+use Rattle.byte_streams.proofs.ChunkLemmas.{Reads, Reads-chunk, chunk_at-chunk, no_chunk, other_is_none, short_is_none}
 use Rattle.byte_streams.proofs.chunk.read_chunk.Goals as goal
 use Rattle.byte_streams.proofs.chunk.read_chunk.Goals.{then-payload-lt-HEAD_LENGTH-via-then-payload-lt-HEAD_LENGTH, then-payload-lt-HEAD_LENGTH-via-else-payload-lt-HEAD_LENGTH+then-not-starts_with}
 

@@ -1,4 +1,4 @@
-use Rattle.byte_streams.proofs.Cuts.{front_counts, plain_fronts, short_plain, strange_by_send}
+use Rattle.byte_streams.proofs.CountedFronts.{front_counts, plain_fronts, short_plain, strange_by_send}
 use Rattle.byte_streams.proofs.laws.fronts_count.Goals as goal
 
 pub returns-clause-counted : goal.returns-clause-counted

@@ -5,7 +5,7 @@ use Rattle.lib_calls.specs.Entry.{IsShaped}
 use Rattle.call_log.specs.declared.version.Version.{Version}
 use Rattle.call_log.specs.Entry.{BeginsNoEntry, encoding}
 use Rattle.call_log.specs.Reading.{read_entry}
-use Rattle.call_log.proofs.EntryLaws.{read_entry-found, read_entry-none}
+use Rattle.call_log.proofs.EntryLemmas.{read_entry-found, read_entry-none}
 use Rattle.call_log.proofs.entry.read_entry.Goals as goal
 
 -- what is read is an entry of its kind's shape

@@ -1,7 +1,7 @@
 use Rattle.std.proofs.Common.{◌≡◌, ℕ, List, ◌++◌, IfNone, Option, Some, None, sym, ap, ◌∙◌, rules}
 use Rattle.call_log.specs.Head.{IsHead, head_of, head_bytes}
 use Rattle.call_log.specs.Reading.{read_head}
-use Rattle.call_log.proofs.HeadLaws.{read_head-found, read_head-none}
+use Rattle.call_log.proofs.HeadLemmas.{read_head-found, read_head-none}
 use Rattle.call_log.proofs.head.read_head.Goals as goal
 
 -- what holds, holds where there is nothing

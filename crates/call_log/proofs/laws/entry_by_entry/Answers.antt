@@ -1,4 +1,4 @@
-use Rattle.call_log.proofs.Walks.{end, step}
+use Rattle.call_log.proofs.EntryWalks.{end, step}
 use Rattle.call_log.proofs.laws.entry_by_entry.Goals as goal
 
 pub returns-clause-end : goal.returns-clause-end

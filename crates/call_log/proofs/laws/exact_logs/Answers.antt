@@ -1,9 +1,9 @@
 use Rattle.std.proofs.Common.{sym, ap, ◌∙◌}
 use Rattle.std.specs.Prelude.{Some}
 use Rattle.call_log.specs.Log.{Unread}
-use Rattle.call_log.proofs.EntryLaws.{entry_at-begins, entry_at-found}
-use Rattle.call_log.proofs.Entries.{held_alone, held_cut, holds_exactly}
-use Rattle.call_log.proofs.HeadLaws.{head_at-begins, head_at-found}
+use Rattle.call_log.proofs.EntryLemmas.{entry_at-begins, entry_at-found}
+use Rattle.call_log.proofs.AllEntries.{held_alone, held_cut, holds_exactly}
+use Rattle.call_log.proofs.HeadLemmas.{head_at-begins, head_at-found}
 use Rattle.call_log.proofs.laws.exact_logs.Goals as goal
 
 pub returns : goal.returns

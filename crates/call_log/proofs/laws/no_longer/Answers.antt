@@ -1,4 +1,4 @@
-use Rattle.call_log.proofs.Versions.{no_longer}
+use Rattle.call_log.proofs.VersionSizes.{no_longer}
 use Rattle.call_log.proofs.laws.no_longer.Goals as goal
 
 pub returns : goal.returns

@@ -3,7 +3,7 @@ use Rattle.lib_calls.specs.declared.entry.Entry.{Entry}
 use Rattle.lib_calls.specs.Entry.{entry_of}
 use Rattle.call_log.specs.declared.version.Version.{Version}
 use Rattle.call_log.specs.Entry.{string_if, tag_if}
-use Rattle.call_log.proofs.Sizes.{body_size, length-body_lt}
+use Rattle.call_log.proofs.EntrySizes.{body_size, length-body_lt}
 use Rattle.call_log.proofs.length.body_length.Goals as goal
 
 pub overflow_cast-result : goal.overflow_cast-result

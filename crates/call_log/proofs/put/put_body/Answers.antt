@@ -8,8 +8,8 @@ use Rattle.lib_calls.specs.Entry.{entry_of}
 use Rattle.call_log.specs.declared.version.Version.{Version}
 use Rattle.call_log.specs.Version.{clock_bytes, number_bytes}
 use Rattle.call_log.specs.Entry.{body_bytes, front_bytes, argument_bytes, reply_bytes, tag_if, string_if}
-use Rattle.call_log.proofs.FieldLaws.{on_ok}
-use Rattle.call_log.proofs.Puts.{kept, kept_on_err, on_err}
+use Rattle.call_log.proofs.FieldLemmas.{on_ok}
+use Rattle.call_log.proofs.FrontStays.{kept, kept_on_err, on_err}
 use Rattle.call_log.proofs.put.put_body.Goals as goal
 
 regroup : (clock thread kind signal arguments reply outgoing incoming tag : List ℕ) → concat (clock ∷ thread ∷ kind ∷ signal ∷ arguments ∷ reply ∷ outgoing ∷ incoming ∷ tag ∷ []) ≡ concat (clock ∷ thread ∷ (kind ++ signal) ∷ []) ++ (arguments ++ ((reply ++ (outgoing ++ incoming)) ++ tag))

@@ -1,4 +1,4 @@
-use Rattle.call_log.proofs.Puts.{kept_on_err}
+use Rattle.call_log.proofs.FrontStays.{kept_on_err}
 use Rattle.call_log.proofs.put.put_reply.Goals as goal
 
 pub returns-clause-err : goal.returns-clause-err

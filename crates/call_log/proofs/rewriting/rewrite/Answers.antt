@@ -1,5 +1,5 @@
 use Rattle.lib_calls.specs.Entry.{entry_of}
-use Rattle.call_log.proofs.Renewing.{written_more}
+use Rattle.call_log.proofs.LogRewriting.{written_more}
 use Rattle.call_log.proofs.rewriting.rewrite.Goals as goal
 
 pub loop-preserved : goal.loop-preserved

@@ -1,4 +1,4 @@
-use Rattle.call_table.proofs.Reading.{by_number, by_name}
+use Rattle.call_table.proofs.TableReadBack.{by_number, by_name}
 use Rattle.call_table.proofs.laws.read_back.Goals as goal
 
 pub returns-clause-numbers : goal.returns-clause-numbers

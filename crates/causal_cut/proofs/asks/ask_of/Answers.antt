@@ -1,7 +1,7 @@
 use Rattle.std.proofs.Common.{◌≡◌, ◌∙◌, ◌<◌, ◌+◌, ℕ, suc, [], get_or, Some, None, ap, arith, length, sym}
 use Rattle.group_state.specs.Moves.{event_of}
-use Rattle.causal_cut.proofs.Asking.{found_ask, lost_ask}
-use Rattle.causal_cut.proofs.Places.{place_within}
+use Rattle.causal_cut.proofs.EventAsks.{found_ask, lost_ask}
+use Rattle.causal_cut.proofs.ListPlaces.{place_within}
 use Rattle.causal_cut.proofs.asks.ask_of.Goals as goal
 
 pub returns-in_err-of : goal.returns-in_err-of

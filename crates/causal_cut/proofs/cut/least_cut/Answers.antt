@@ -8,7 +8,7 @@ use Rattle.causal_cut.specs.declared.asks.Ask.{Ask}
 use Rattle.causal_cut.specs.Asks.{AreAsks, alone, settled}
 use Rattle.causal_cut.specs.Past.{accepted_counts}
 use Rattle.causal_cut.proofs.Families.{at}
-use Rattle.causal_cut.proofs.Least.{answered, is_least}
+use Rattle.causal_cut.proofs.SettledIsLeast.{answered, is_least}
 use Rattle.causal_cut.proofs.cut.least_cut.Goals as goal
 
 pub returns-clause-answer : goal.returns-clause-answer

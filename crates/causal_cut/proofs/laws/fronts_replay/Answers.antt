@@ -1,4 +1,4 @@
-use Rattle.causal_cut.proofs.Cutting.{fronts}
+use Rattle.causal_cut.proofs.CutLogs.{fronts}
 use Rattle.causal_cut.proofs.laws.fronts_replay.Goals as goal
 
 pub returns : goal.returns

@@ -2,8 +2,8 @@ use Rattle.std.proofs.Common.{◌≡◌, ◌∙◌, ap, arith, length, rules, se
 use Rattle.std.specs.Prelude.{replicate}
 use Rattle.std.proofs.lemmas.Grind.{common_steps}
 use Rattle.causal_cut.specs.Asks.{alone, settled}
-use Rattle.causal_cut.proofs.Least.{length_alone, written_over}
-use Rattle.causal_cut.proofs.Settling.{length_settled}
+use Rattle.causal_cut.proofs.SettledIsLeast.{length_alone, written_over}
+use Rattle.causal_cut.proofs.SettledFamily.{length_settled}
 use Rattle.causal_cut.proofs.settle.least_family.Goals as goal
 
 pub returns : goal.returns

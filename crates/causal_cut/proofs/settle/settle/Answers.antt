@@ -1,7 +1,7 @@
 use Rattle.std.proofs.Common.{◌≡◌, ◌∙◌, List, ap, length, subst, sym}
 use Rattle.causal_cut.specs.declared.asks.Ask.{Ask}
 use Rattle.causal_cut.specs.Asks.{AreOfNodes, settled}
-use Rattle.causal_cut.proofs.Settling.{length_follow, settled_last, within_parts}
+use Rattle.causal_cut.proofs.SettledFamily.{length_follow, settled_last, within_parts}
 use Rattle.causal_cut.proofs.settle.settle.Goals as goal
 
 pub loop-ask-preserved : goal.loop-ask-preserved

@@ -1,7 +1,7 @@
 use Rattle.std.proofs.Common.{◌∙◌, ◌<◌, Option, arith, length, subst}
 use Rattle.group_state.specs.declared.event.GroupEvent.{GroupEvent}
 use Rattle.group_state.specs.Moves.{Moves}
-use Rattle.causal_cut.proofs.Walking.{clocks_ready, few_nodes, node_ready, walk_begins, walk_ends, walk_more}
+use Rattle.causal_cut.proofs.GroupWalk.{clocks_ready, few_nodes, node_ready, walk_begins, walk_ends, walk_more}
 use Rattle.causal_cut.proofs.walk.walk.Goals as goal
 
 pub events-init : goal.events-init

@@ -1,6 +1,6 @@
 use Rattle.std.proofs.Common.{◌-◌, length}
 use Rattle.group_state.specs.Place.{events}
-use Rattle.causal_cut.proofs.Walking.{IsWalked}
+use Rattle.causal_cut.proofs.GroupWalk.{IsWalked}
 use Rattle.causal_cut.proofs.walk.walk.Given as goal
 
 abbrev pub invariant-events : goal.invariant-events

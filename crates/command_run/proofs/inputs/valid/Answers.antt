@@ -2,7 +2,7 @@ use Rattle.std.proofs.Common.{subst}
 use Rattle.wasm_validate.specs.Refusals.{IsFirst}
 use Rattle.wasm_types.specs.Modules.{module_of as shown}
 use Rattle.command_run.specs.declared.refusal.Reason.TheVariants as reason
-use Rattle.command_run.proofs.Faults.{bad_import, fault_stops}
+use Rattle.command_run.proofs.ModuleFaults.{bad_import, fault_stops}
 use Rattle.command_run.proofs.inputs.valid.Goals as goal
 
 pub returns-in-Err-BadImport-clause-answer : goal.returns-in-Err-BadImport-clause-answer

@@ -1,4 +1,4 @@
-use Rattle.command_run.proofs.Modules.{modules_read}
+use Rattle.command_run.proofs.ReadModules.{modules_read}
 use Rattle.command_run.proofs.laws.reads_modules.Goals as goal
 
 pub returns : goal.returns

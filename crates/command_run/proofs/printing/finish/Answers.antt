@@ -1,4 +1,4 @@
-use Rattle.command_run.proofs.Ends.{finishes}
+use Rattle.command_run.proofs.CommandEnds.{finishes}
 use Rattle.command_run.proofs.printing.finish.Goals as goal
 
 pub returns : goal.returns

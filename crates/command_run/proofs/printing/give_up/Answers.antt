@@ -1,4 +1,4 @@
-use Rattle.command_run.proofs.Ends.{nothing_begun}
+use Rattle.command_run.proofs.CommandEnds.{nothing_begun}
 use Rattle.command_run.proofs.printing.give_up.Goals as goal
 
 pub returns-clause-ends : goal.returns-clause-ends

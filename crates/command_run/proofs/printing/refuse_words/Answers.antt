@@ -1,5 +1,5 @@
 use Rattle.std.proofs.Common.{refl}
-use Rattle.command_run.proofs.Ends.{words_end}
+use Rattle.command_run.proofs.CommandEnds.{words_end}
 use Rattle.command_run.proofs.printing.refuse_words.Goals as goal
 
 pub returns-clause-ends : goal.returns-clause-ends

@@ -6,7 +6,7 @@ use Rattle.command_run.specs.FileLaws.{some_made}
 use Rattle.command_run.specs.OutcomeLaws.{refused_makes, refused_tells}
 use Rattle.log_pairs.specs.Seen.{WereLoaded, pair_of}
 use Rattle.cut_command.specs.Cut.{cut_outcome}
-use Rattle.cut_command.proofs.Opened.{files_made, found_past, opening_stops, work_cuts, work_makes, work_tells}
+use Rattle.cut_command.proofs.CutOutcome.{files_made, found_past, opening_stops, work_cuts, work_makes, work_tells}
 use Rattle.cut_command.proofs.cutting.cut.Goals as goal
 
 pub returns-in_err-all-clause-makes : goal.returns-in_err-all-clause-makes

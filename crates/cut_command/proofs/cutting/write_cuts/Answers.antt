@@ -4,7 +4,7 @@ use Rattle.call_log.specs.Head.{Head}
 use Rattle.command_run.specs.CountLaws.{counts_same}
 use Rattle.command_run.specs.FileLaws.{failed_makes}
 use Rattle.cut_command.specs.Seen.{front_file}
-use Rattle.cut_command.proofs.Making.{file_here, first_made, head_here, one_made, part_made}
+use Rattle.cut_command.proofs.MadeFiles.{file_here, first_made, head_here, one_made, part_made}
 use Rattle.cut_command.proofs.cutting.write_cuts.Goals as goal
 
 pub returns-in_err-bytes-clause-made : goal.returns-in_err-bytes-clause-made

@@ -1,6 +1,6 @@
 use Rattle.std.proofs.Common.{◌∙◌, Some, ap, sym}
 use Rattle.std.proofs.lemmas.Option.{slice_get-get_or}
-use Rattle.cut_command.proofs.Keeping.{one_more}
+use Rattle.cut_command.proofs.KeptLengths.{one_more}
 use Rattle.cut_command.proofs.fronts.fronts_of.Goals as goal
 
 pub loop-node-preserved : goal.loop-node-preserved

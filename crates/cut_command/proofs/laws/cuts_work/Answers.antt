@@ -1,4 +1,4 @@
-use Rattle.cut_command.proofs.Opened.{cuts_work}
+use Rattle.cut_command.proofs.CutOutcome.{cuts_work}
 use Rattle.cut_command.proofs.laws.cuts_work.Goals as goal
 
 pub returns : goal.returns

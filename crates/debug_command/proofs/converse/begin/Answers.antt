@@ -4,7 +4,7 @@ use Rattle.std.specs.Io.KnownBytes.{append_known}
 use Rattle.std.proofs.lemmas.Result.{err_from_is_err_and}
 use Rattle.group_state.specs.Place.{GroupPlace}
 use Rattle.friday_shell.specs.Session.{opening}
-use Rattle.debug_command.proofs.Listening.{opens, opens_failed, opens_memory}
+use Rattle.debug_command.proofs.WholeSessions.{opens, opens_failed, opens_memory}
 use Rattle.debug_command.proofs.converse.begin.Goals as goal
 
 pub returns-in_err-group-clause-said : goal.returns-in_err-group-clause-said

@@ -1,7 +1,7 @@
 use Rattle.std.proofs.Common.{◌∙◌, ap}
 use Rattle.command_run.specs.Call.{said_after}
 use Rattle.debug_command.specs.Conversation.{terminal_at}
-use Rattle.debug_command.proofs.Conversing.{conversed_done, conversed_large, conversed_memory, conversed_read, conversed_write}
+use Rattle.debug_command.proofs.SessionEnds.{conversed_done, conversed_large, conversed_memory, conversed_read, conversed_write}
 use Rattle.debug_command.proofs.converse.converse.Goals as goal
 
 pub returns-in-Ok : goal.returns-in-Ok

@@ -5,7 +5,7 @@ use Rattle.fri_outside.specs.Outside.{WhenTold}
 use Rattle.fri_outside.specs.Terminal.{Hearing, with_asking}
 use Rattle.debug_command.specs.Conversation.{TakesOfInput, terminal_at}
 use Rattle.debug_command.specs.Talk.{GoesOn, StopsIn, exchange_of, talk_of}
-use Rattle.debug_command.proofs.Listening.{breaks_in, breaks_read, hears, none_counted, stops_read}
+use Rattle.debug_command.proofs.WholeSessions.{breaks_in, breaks_read, hears, none_counted, stops_read}
 use Rattle.debug_command.proofs.converse.hear.Goals as goal
 
 pub returns-in_err-count-clause-said : goal.returns-in_err-count-clause-said

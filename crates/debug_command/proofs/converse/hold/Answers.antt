@@ -3,7 +3,7 @@ use Rattle.std.proofs.lemmas.Result.{err_from_is_err_and}
 use Rattle.fri_outside.specs.Terminal.{Hearing}
 use Rattle.debug_command.specs.Conversation.{terminal_at}
 use Rattle.debug_command.specs.Talk.{talk_of, why_of}
-use Rattle.debug_command.proofs.Listening.{held, held_unopened, none_counted, opens_read}
+use Rattle.debug_command.proofs.WholeSessions.{held, held_unopened, none_counted, opens_read}
 use Rattle.debug_command.proofs.converse.hold.Goals as goal
 
 pub returns-in_err-talk-clause-said : goal.returns-in_err-talk-clause-said

@@ -6,7 +6,7 @@ use Rattle.fri_outside.specs.Terminal.{Hearing}
 use Rattle.debug_command.specs.Conversation.{terminal_at}
 use Rattle.debug_command.specs.Limits.{most_input}
 use Rattle.debug_command.specs.Talk.{Spoke, heard_of, listened_after, spoken_after, talk_of}
-use Rattle.debug_command.proofs.Listening.{listens_all, listens_broken, listens_error, listens_more, listens_none, none_counted, spoke_read}
+use Rattle.debug_command.proofs.WholeSessions.{listens_all, listens_broken, listens_error, listens_more, listens_none, none_counted, spoke_read}
 use Rattle.debug_command.proofs.converse.listen.Goals as goal
 
 pub hearing-init : goal.hearing-init

@@ -2,7 +2,7 @@ use Rattle.std.proofs.Common.{◌≡◌, ◌-◌, ◌≤◌}
 use Rattle.debug_command.specs.Conversation.{terminal_at}
 use Rattle.debug_command.specs.Limits.{most_input}
 use Rattle.debug_command.specs.Talk.{talk_of}
-use Rattle.debug_command.proofs.Listening.{ListensFrom}
+use Rattle.debug_command.proofs.WholeSessions.{ListensFrom}
 use Rattle.debug_command.proofs.converse.listen.Given as goal
 
 abbrev pub invariant-hearing : goal.invariant-hearing

@@ -3,7 +3,7 @@ use Rattle.std.specs.Prelude.{Ok, Err}
 use Rattle.std.proofs.lemmas.Result.{err_from_is_err_and}
 use Rattle.fri_text.specs.Line.{lines_of}
 use Rattle.debug_command.specs.Talk.{Spoke, talk_of}
-use Rattle.debug_command.proofs.Bytes.{stops_large, stops_memory, stops_spoken, takes_ended, takes_other}
+use Rattle.debug_command.proofs.SessionBytes.{stops_large, stops_memory, stops_spoken, takes_ended, takes_other}
 use Rattle.debug_command.proofs.converse.take_byte.Goals as goal
 
 pub returns-then-count-ge-INPUT_LIMIT-clause-said : goal.returns-then-count-ge-INPUT_LIMIT-clause-said

@@ -2,7 +2,7 @@ use Rattle.std.proofs.Common.{◌+◌, ◌∷◌, [], List, ℕ, take, drop, sub
 use Rattle.std.proofs.lemmas.List.{take_more}
 use Rattle.std.proofs.lemmas.Result.{err_from_is_err_and}
 use Rattle.debug_command.specs.Talk.{StopsIn, talk_of}
-use Rattle.debug_command.proofs.Hearing.{goes_on_more, goes_on_none, piece_split, stops_later}
+use Rattle.debug_command.proofs.InputPieces.{goes_on_more, goes_on_none, piece_split, stops_later}
 use Rattle.debug_command.proofs.converse.take_piece.Goals as goal
 
 pub loop-b-init : goal.loop-b-init

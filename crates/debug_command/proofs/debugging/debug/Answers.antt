@@ -3,7 +3,7 @@ use Rattle.command_run.specs.CountLaws.{counts_none, counts_of_part, counts_stil
 use Rattle.command_run.specs.Run.{Outside, outside}
 use Rattle.log_pairs.specs.declared.pairs.Loaded.{Loaded}
 use Rattle.log_pairs.specs.Seen.{WereLoaded, pair_of}
-use Rattle.debug_command.proofs.Runs.{performed, run_conversed, run_refused}
+use Rattle.debug_command.proofs.DebugOutcome.{performed, run_conversed, run_refused}
 use Rattle.debug_command.proofs.debugging.debug.Goals as goal
 
 pub returns-in-Err : goal.returns-in-Err

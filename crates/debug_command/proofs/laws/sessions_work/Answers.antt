@@ -1,4 +1,4 @@
-use Rattle.debug_command.proofs.Works.{sessions_do_work}
+use Rattle.debug_command.proofs.OutcomeIsWork.{sessions_do_work}
 use Rattle.debug_command.proofs.laws.sessions_work.Goals as goal
 
 pub returns : goal.returns

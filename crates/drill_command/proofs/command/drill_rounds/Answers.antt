@@ -1,4 +1,4 @@
-use Rattle.drill_command.proofs.Performs.{done_performs, stop_performs}
+use Rattle.drill_command.proofs.DrillOutcome.{done_performs, stop_performs}
 use Rattle.drill_command.proofs.command.drill_rounds.Goals as goal
 
 pub returns-in-Ok : goal.returns-in-Ok

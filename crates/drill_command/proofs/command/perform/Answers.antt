@@ -1,4 +1,4 @@
-use Rattle.drill_command.proofs.Told.{tells}
+use Rattle.drill_command.proofs.DrillText.{tells}
 use Rattle.drill_command.proofs.command.perform.Goals as goal
 
 pub returns : goal.returns

@@ -4,7 +4,7 @@ use Rattle.command_run.specs.Call.{RefusesFile}
 use Rattle.command_run.specs.declared.refusal.Reason.TheVariants as reason
 use Rattle.fri_outside.specs.Memory.{FilesInMemory}
 use Rattle.wasm_types.specs.Modules.{module_of}
-use Rattle.drill_command.proofs.Recorded.{full_stops_by, recorded_by}
+use Rattle.drill_command.proofs.RecordedLogs.{full_stops_by, recorded_by}
 use Rattle.drill_command.proofs.recording.record.Goals as goal
 
 pub returns-in-Ok : goal.returns-in-Ok

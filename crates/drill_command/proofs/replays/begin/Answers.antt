@@ -4,7 +4,7 @@ use Rattle.call_log.specs.Head.{Head}
 use Rattle.wasm_types.specs.Modules.{module_of}
 use Rattle.group_record.specs.Run.{Step}
 use Rattle.drill_command.specs.Seen.{HoldLogs}
-use Rattle.drill_command.proofs.Replayed.{begins_as, never_headless, opened_as, replay_is}
+use Rattle.drill_command.proofs.LogReplays.{begins_as, never_headless, opened_as, replay_is}
 use Rattle.drill_command.proofs.replays.begin.Goals as goal
 
 pub unreachable-requires-in_default-begin : goal.unreachable-requires-in_default-begin

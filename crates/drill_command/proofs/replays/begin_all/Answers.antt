@@ -1,7 +1,7 @@
 use Rattle.std.proofs.Common.{List}
 use Rattle.group_record.specs.Run.{Step}
 use Rattle.drill_command.specs.Seen.{HoldLogs}
-use Rattle.drill_command.proofs.Replayed.{parts_are, replays_are}
+use Rattle.drill_command.proofs.LogReplays.{parts_are, replays_are}
 use Rattle.drill_command.proofs.replays.begin_all.Goals as goal
 
 pub returns-clause-parts : goal.returns-clause-parts

@@ -1,4 +1,4 @@
-use Rattle.drill_command.proofs.Valid.{is_valid}
+use Rattle.drill_command.proofs.RingIsValid.{is_valid}
 use Rattle.drill_command.proofs.ring.valid_ring.Goals as goal
 
 pub claim-requires : goal.claim-requires

@@ -3,7 +3,7 @@ use Rattle.std.specs.Prelude.{is_some}
 use Rattle.group_state.specs.Seen.{nodes_at}
 use Rattle.shell_points.specs.Firing.{is_unchanged, no_variable}
 use Rattle.watch_expr.specs.Value.{value}
-use Rattle.drill_command.proofs.Walked.{all_watched, fired_within, moves_on, one_walked}
+use Rattle.drill_command.proofs.PositionWalk.{all_watched, fired_within, moves_on, one_walked}
 use Rattle.group_state.specs.Place.{GroupPlace}
 use Rattle.drill_command.proofs.watching.watch.Goals as goal
 

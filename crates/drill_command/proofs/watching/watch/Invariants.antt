@@ -2,7 +2,7 @@ use Rattle.std.proofs.Common.{◌≡◌, ◌-◌, length}
 use Rattle.group_state.specs.Place.{events}
 use Rattle.watch_expr.specs.Expression.{expression_of}
 use Rattle.drill_command.specs.Drill.{drill_watch}
-use Rattle.drill_command.proofs.Walked.{WalkedTo}
+use Rattle.drill_command.proofs.PositionWalk.{WalkedTo}
 use Rattle.drill_command.proofs.watching.watch.Given as goal
 
 abbrev pub invariant-positions : goal.invariant-positions

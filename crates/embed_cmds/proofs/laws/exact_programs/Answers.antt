@@ -1,4 +1,4 @@
-use Rattle.embed_cmds.proofs.ProgramLaws.{programs, stops}
+use Rattle.embed_cmds.proofs.ProgramLemmas.{programs, stops}
 use Rattle.embed_cmds.proofs.laws.exact_programs.Goals as goal
 
 pub returns : goal.returns

@@ -1,6 +1,6 @@
 use Rattle.std.proofs.Common.{◌≡◌, List, OnOk, subst, arith}
 use Rattle.std.proofs.lemmas.Grind.{common_steps}
-use Rattle.embed_cmds.proofs.Mentioned.{mention_all_append}
+use Rattle.embed_cmds.proofs.MentionOrder.{mention_all_append}
 use Rattle.embed_cmds.proofs.Choices.{mentions_both}
 use Rattle.embed_cmds.specs.Variables.{Variable}
 use Rattle.embed_cmds.proofs.variables.+mention.Goals as goal

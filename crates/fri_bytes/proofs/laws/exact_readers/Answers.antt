@@ -1,7 +1,7 @@
-use Rattle.fri_bytes.proofs.Le.{le_reads, le_at-to_le_bytes, le_at_spelled}
-use Rattle.fri_bytes.proofs.LebLaws.{unsigned_reads, signed_reads}
+use Rattle.fri_bytes.proofs.FixedNumbers.{le_reads, le_at-to_le_bytes, le_at_spelled}
+use Rattle.fri_bytes.proofs.LebLemmas.{unsigned_reads, signed_reads}
 use Rattle.fri_bytes.proofs.Readers.{piece_reads}
-use Rattle.fri_bytes.proofs.Shorts.{short_reads, short_at-short_bytes, short_at_spelled}
+use Rattle.fri_bytes.proofs.ShortNumbers.{short_reads, short_at-short_bytes, short_at_spelled}
 use Rattle.fri_bytes.proofs.laws.exact_readers.Goals as goal
 
 pub returns : goal.returns

@@ -2,7 +2,7 @@ use Rattle.std.proofs.Common.{◌≡◌, ◌≤◌, List, ◌++◌, length, take
 use Rattle.std.proofs.Math.Seq.{take-append_seam}
 use Rattle.std.proofs.lemmas.List.{take-take}
 use Rattle.std.proofs.lemmas.Result.{on_err_weaker}
-use Rattle.fri_bytes.proofs.Shorts.{put_more}
+use Rattle.fri_bytes.proofs.ShortNumbers.{put_more}
 use Rattle.fri_bytes.proofs.short.+put_within.Goals as goal
 
 kept : {A : Type 0} (old part out new : List A) → out ≡ old ++ part → take (length out) new ≡ out → take (length old) new ≡ old

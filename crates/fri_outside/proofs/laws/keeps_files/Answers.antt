@@ -1,5 +1,5 @@
-use Rattle.fri_outside.proofs.Several.{more_made, piece_grows, grown_apart, apart_stand, fronts_left}
-use Rattle.fri_outside.proofs.Stored.{get_set, with_piece-with_file, within_held}
+use Rattle.fri_outside.proofs.SeveralFiles.{more_made, piece_grows, grown_apart, apart_stand, fronts_left}
+use Rattle.fri_outside.proofs.StoredFiles.{get_set, with_piece-with_file, within_held}
 use Rattle.fri_outside.proofs.laws.keeps_files.Goals as goal
 
 pub returns : goal.returns

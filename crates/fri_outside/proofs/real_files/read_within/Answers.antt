@@ -1,5 +1,5 @@
 use Rattle.std.proofs.Common.{◌<◌, ◌≤◌, length, arith}
-use Rattle.fri_outside.proofs.Reading.{found_held, found_over}
+use Rattle.fri_outside.proofs.FilePieces.{found_held, found_over}
 use Rattle.fri_outside.proofs.real_files.read_within.Goals as goal
 
 pub returns-in-Ok-clause-answer : goal.returns-in-Ok-clause-answer

@@ -1,4 +1,4 @@
-use Rattle.fri_text.proofs.HexLaws.{hex_some, hex_none}
+use Rattle.fri_text.proofs.HexLemmas.{hex_some, hex_none}
 use Rattle.fri_text.proofs.laws.exact_hex.Goals as goal
 
 pub returns : goal.returns

@@ -3,8 +3,8 @@ use Rattle.std.specs.Prelude.{FitsSigned}
 use Rattle.std.specs.Int.{w64}
 use Rattle.std.specs.Fmt.{signed_decimal}
 use Rattle.fri_text.specs.Decimal.{signed_of}
-use Rattle.fri_text.proofs.HexLaws.{hex_again}
-use Rattle.fri_text.proofs.Numbers.{decimal_of-decimal, signed_of-signed_decimal}
+use Rattle.fri_text.proofs.HexLemmas.{hex_again}
+use Rattle.fri_text.proofs.DecimalNumbers.{decimal_of-decimal, signed_of-signed_decimal}
 use Rattle.fri_text.proofs.laws.words_read_back.Goals as goal
 
 signed_again : (z : ℤ) → FitsSigned w64 z → signed_of (signed_decimal z) ≡ Some z

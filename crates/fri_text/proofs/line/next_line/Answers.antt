@@ -1,5 +1,5 @@
 use Rattle.std.proofs.Common.{sym, ◌∙◌}
-use Rattle.fri_text.proofs.Lines.{byte_drops, line_next, line_shortens, lines_of_some}
+use Rattle.fri_text.proofs.FirstLines.{byte_drops, line_next, line_shortens, lines_of_some}
 use Rattle.fri_text.proofs.line.next_line.Goals as goal
 
 pub returns-clause-taken : goal.returns-clause-taken

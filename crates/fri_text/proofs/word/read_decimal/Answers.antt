@@ -1,7 +1,7 @@
 use Rattle.std.proofs.Common.{◌≡◌, true, rules, sym, ◌∙◌}
 use Rattle.std.specs.Char.{is_ascii_digit}
 use Rattle.std.specs.List.{list_all}
-use Rattle.fri_text.proofs.Numbers.{IsUtf8-digits, too_great}
+use Rattle.fri_text.proofs.DecimalNumbers.{IsUtf8-digits, too_great}
 use Rattle.fri_text.proofs.word.read_decimal.Goals as goal
 
 pub returns-in_default : goal.returns-in_default

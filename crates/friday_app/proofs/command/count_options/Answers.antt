@@ -3,7 +3,7 @@ use Rattle.std.specs.Prelude.{filter}
 use Rattle.std.proofs.lemmas.Iterator.{YieldsList-from_slice}
 use Rattle.std.proofs.lemmas.Iterator.Consumers.{YieldsList-from_filter, count_from_yields_List}
 use Rattle.friday_app.specs.Command.{is_images}
-use Rattle.friday_app.proofs.Wording.{length-filter_map}
+use Rattle.friday_app.proofs.WordTests.{length-filter_map}
 use Rattle.friday_app.proofs.command.count_options.Goals as goal
 
 pub returns : goal.returns

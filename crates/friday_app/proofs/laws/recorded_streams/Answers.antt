@@ -1,4 +1,4 @@
-use Rattle.friday_app.proofs.Streaming.{recorded_streams}
+use Rattle.friday_app.proofs.RecordedStreams.{recorded_streams}
 use Rattle.friday_app.proofs.laws.recorded_streams.Goals as goal
 
 pub returns : goal.returns

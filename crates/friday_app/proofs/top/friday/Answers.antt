@@ -1,4 +1,4 @@
-use Rattle.friday_app.proofs.Completes.{run_completes}
+use Rattle.friday_app.proofs.WorkIsDone.{run_completes}
 use Rattle.friday_app.proofs.top.friday.Goals as goal
 
 pub returns-clause-complete : goal.returns-clause-complete

@@ -4,7 +4,7 @@ use Rattle.proc_replay.specs.Replaying.{Replaying}
 use Rattle.group_state.specs.Moves.{event_of}
 use Rattle.group_state.specs.Place.{GroupPlace, events}
 use Rattle.group_texts.specs.Texts.{event_line, last_lines}
-use Rattle.friday_shell.proofs.Events.{events_more}
+use Rattle.friday_shell.proofs.EventLines.{events_more}
 use Rattle.friday_shell.proofs.answer.last_events.Goals as goal
 
 pub events-preserved : goal.events-preserved

@@ -1,6 +1,6 @@
 use Rattle.shell_lines.specs.Seen.{command}
 use Rattle.friday_shell.specs.Seen.{session_state}
-use Rattle.friday_shell.proofs.Answered.{start_stays}
+use Rattle.friday_shell.proofs.LineAnswers.{start_stays}
 use Rattle.friday_shell.proofs.answer.perform.Goals as goal
 
 pub returns-clause-start : goal.returns-clause-start

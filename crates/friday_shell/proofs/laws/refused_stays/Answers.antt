@@ -1,4 +1,4 @@
-use Rattle.friday_shell.proofs.Stays.{stays}
+use Rattle.friday_shell.proofs.RefusalStays.{stays}
 use Rattle.friday_shell.proofs.laws.refused_stays.Goals as goal
 
 pub returns : goal.returns

@@ -1,7 +1,7 @@
 use Rattle.std.proofs.Common.{◌∙◌, sym}
 use Rattle.embed_cmds.specs.Tree.{body}
 use Rattle.friday_shell.specs.Seen.{session_state}
-use Rattle.friday_shell.proofs.Attached.{attached_there, none_held, too_many}
+use Rattle.friday_shell.proofs.AttachAnswers.{attached_there, none_held, too_many}
 use Rattle.friday_shell.proofs.points.attach.Goals as goal
 
 pub returns-in_default : goal.returns-in_default

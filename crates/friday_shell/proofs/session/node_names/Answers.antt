@@ -1,6 +1,6 @@
 use Rattle.std.proofs.Common.{◌≡◌, ℕ, List, Some, slice_get, ap, ◌∙◌}
 use Rattle.group_state.specs.Place.{node_names}
-use Rattle.friday_shell.proofs.Named.{named_more}
+use Rattle.friday_shell.proofs.ProcessNames.{named_more}
 use Rattle.friday_shell.proofs.session.node_names.Goals as goal
 
 pub loop-node-preserved : goal.loop-node-preserved

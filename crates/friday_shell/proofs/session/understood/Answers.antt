@@ -1,4 +1,4 @@
-use Rattle.friday_shell.proofs.Answered.{read_is}
+use Rattle.friday_shell.proofs.LineAnswers.{read_is}
 use Rattle.friday_shell.proofs.session.understood.Goals as goal
 
 pub returns-clause-line : goal.returns-clause-line

@@ -1,6 +1,6 @@
 use Rattle.std.proofs.Common.{sym}
 use Rattle.friday_shell.specs.Answer.{variable_text}
-use Rattle.friday_shell.proofs.Listed.{listed_more}
+use Rattle.friday_shell.proofs.ListLines.{listed_more}
 use Rattle.friday_shell.proofs.variables.list_variables.Goals as goal
 
 pub loop-n-preserved : goal.loop-n-preserved

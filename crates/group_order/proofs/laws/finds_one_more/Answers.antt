@@ -1,4 +1,4 @@
-use Rattle.group_order.proofs.Receivers.{finds_one_more}
+use Rattle.group_order.proofs.SendReceivers.{finds_one_more}
 use Rattle.group_order.proofs.laws.finds_one_more.Goals as goal
 
 pub returns : goal.returns

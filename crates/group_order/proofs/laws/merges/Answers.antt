@@ -1,4 +1,4 @@
-use Rattle.group_order.proofs.Merging.{merged}
+use Rattle.group_order.proofs.MergedOrder.{merged}
 use Rattle.group_order.proofs.laws.merges.Goals as goal
 
 pub returns : goal.returns

@@ -8,7 +8,7 @@ use Rattle.wasm_types.specs.Modules.{module_of}
 use Rattle.group_record.specs.Answer.{first_states, first_states_from, group_of, names_of}
 use Rattle.group_record.specs.Begun.{AreStarted, BeginsAll, heads}
 use Rattle.group_record.specs.declared.member.Member.{Member}
-use Rattle.group_record.proofs.Begins.{files_begun, have_heads, logs_fail, members_fail, nothing_made, recorder_begun}
+use Rattle.group_record.proofs.FirstRecorder.{files_begun, have_heads, logs_fail, members_fail, nothing_made, recorder_begun}
 use Rattle.group_record.proofs.begin.begin.Goals as goal
 
 pub returns-in_err-members-clause-begins : goal.returns-in_err-members-clause-begins

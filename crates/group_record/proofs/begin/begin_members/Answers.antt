@@ -6,8 +6,8 @@ use Rattle.std.proofs.lemmas.Result.{err_from_is_err_and}
 use Rattle.schedule_text.specs.declared.process.ProcessLine.{ProcessLine}
 use Rattle.wasm_types.specs.Modules.{module_of}
 use Rattle.group_record.specs.declared.member.Member.{Member}
-use Rattle.group_record.proofs.Small.{at_place}
-use Rattle.group_record.proofs.Starting.{HaveStarted, all_begun, member_fails, name_at, next_started, none_started}
+use Rattle.group_record.proofs.SharedLemmas.{at_place}
+use Rattle.group_record.proofs.FirstProcesses.{HaveStarted, all_begun, member_fails, name_at, next_started, none_started}
 use Rattle.group_record.proofs.begin.begin_members.Goals as goal
 
 pub loop-p-init : goal.loop-p-init

@@ -4,8 +4,8 @@ use Rattle.fri_outside.specs.Several.{with_files}
 use Rattle.fri_outside.specs.declared.files.WriteError.TheVariants as writing
 use Rattle.process_files.specs.Parts.{AreMadeInPart}
 use Rattle.group_record.specs.Run.{size}
-use Rattle.group_record.proofs.Imaging.{asked_fails, image_fails, image_is, image_made, name_here, named_all, within_kept}
-use Rattle.group_record.proofs.Small.{at_place, failed_write}
+use Rattle.group_record.proofs.ImageFiles.{asked_fails, image_fails, image_is, image_made, name_here, named_all, within_kept}
+use Rattle.group_record.proofs.SharedLemmas.{at_place, failed_write}
 use Rattle.group_record.proofs.images.write_images.Goals as goal
 
 pub returns-in_err-memory-clause-images : goal.returns-in_err-memory-clause-images

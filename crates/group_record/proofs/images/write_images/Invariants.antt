@@ -1,7 +1,7 @@
 use Rattle.std.proofs.Common.{◌≡◌, map}
 use Rattle.group_record.specs.Recorded.{KeepsUp}
 use Rattle.group_record.specs.Run.{GroupStart, Progress}
-use Rattle.group_record.proofs.Imaging.{ImagesTo}
+use Rattle.group_record.proofs.ImageFiles.{ImagesTo}
 use Rattle.group_record.proofs.images.write_images.Given as goal
 
 abbrev pub invariant-loop-p : goal.invariant-loop-p

@@ -1,4 +1,4 @@
-use Rattle.group_record.proofs.Agreeing.{agrees, agrees_cut}
+use Rattle.group_record.proofs.LogsAgree.{agrees, agrees_cut}
 use Rattle.group_record.proofs.laws.agreement.Goals as goal
 
 pub returns-clause-whole : goal.returns-clause-whole

@@ -1,4 +1,4 @@
-use Rattle.group_record.proofs.Begun.{begins}
+use Rattle.group_record.proofs.GroupOfSchedule.{begins}
 use Rattle.group_record.proofs.laws.beginning.Goals as goal
 
 pub returns : goal.returns

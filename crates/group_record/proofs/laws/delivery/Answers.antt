@@ -1,4 +1,4 @@
-use Rattle.group_record.proofs.Delivering.{delivers}
+use Rattle.group_record.proofs.DeliveredDatagrams.{delivers}
 use Rattle.group_record.proofs.laws.delivery.Goals as goal
 
 pub returns : goal.returns

@@ -1,4 +1,4 @@
-use Rattle.group_record.proofs.Following.{stands}
+use Rattle.group_record.proofs.RunStands.{stands}
 use Rattle.group_record.proofs.laws.standing.Goals as goal
 
 pub returns : goal.returns

@@ -1,4 +1,4 @@
-use Rattle.group_record.proofs.Drawing.{draws, takes_waiting}
+use Rattle.group_record.proofs.EventTakes.{draws, takes_waiting}
 use Rattle.group_record.proofs.laws.taking.Goals as goal
 
 pub returns-clause-datagrams : goal.returns-clause-datagrams

@@ -2,8 +2,8 @@ use Rattle.std.proofs.Common.{◌≡◌, ◌∙◌, ◌<◌, arith}
 use Rattle.std.proofs.lemmas.Result.{err_from_is_err_and}
 use Rattle.group_record.specs.Logs.{log_name}
 use Rattle.group_record.specs.Run.{name_of_process, size}
-use Rattle.group_record.proofs.Heads.{all_made, create_goes_on, create_stops}
-use Rattle.group_record.proofs.Small.{at_place, failed_write}
+use Rattle.group_record.proofs.LogHeads.{all_made, create_goes_on, create_stops}
+use Rattle.group_record.proofs.SharedLemmas.{at_place, failed_write}
 use Rattle.group_record.proofs.logs.create_logs.Goals as goal
 
 pub returns-in_err-create-clause-files : goal.returns-in_err-create-clause-files

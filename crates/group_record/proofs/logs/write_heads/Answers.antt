@@ -3,8 +3,8 @@ use Rattle.std.proofs.lemmas.Result.{err_from_is_err_and}
 use Rattle.group_record.specs.Begun.{heads}
 use Rattle.group_record.specs.Logs.{log_name}
 use Rattle.group_record.specs.Run.{name_of_process, size}
-use Rattle.group_record.proofs.Heads.{all_heads, head_stops, heads_go_on}
-use Rattle.group_record.proofs.Small.{at_place, failed_write}
+use Rattle.group_record.proofs.LogHeads.{all_heads, head_stops, heads_go_on}
+use Rattle.group_record.proofs.SharedLemmas.{at_place, failed_write}
 use Rattle.group_record.proofs.logs.write_heads.Goals as goal
 
 pub returns-in_err-append-clause-heads : goal.returns-in_err-append-clause-heads

@@ -9,9 +9,9 @@ use Rattle.wasm_types.specs.Modules.{module_of}
 use Rattle.group_record.specs.Answer.{first_states, group_of}
 use Rattle.group_record.specs.Recorded.{Does, MakesImages, Sums}
 use Rattle.group_record.specs.Run.{after_items, run}
-use Rattle.group_record.proofs.Answering.{all_present, begin_fails, images_fail, last_count, last_keeps, run_done, run_fails, saying_fails}
-use Rattle.group_record.proofs.Counted.{schedule_few}
-use Rattle.group_record.proofs.Recording.{world_size}
+use Rattle.group_record.proofs.RecordAnswer.{all_present, begin_fails, images_fail, last_count, last_keeps, run_done, run_fails, saying_fails}
+use Rattle.group_record.proofs.RecorderCounts.{schedule_few}
+use Rattle.group_record.proofs.RecorderSteps.{world_size}
 use Rattle.group_record.proofs.run.run_record.Goals as goal
 
 pub returns-in_err-recorder-clause-answers : goal.returns-in_err-recorder-clause-answers

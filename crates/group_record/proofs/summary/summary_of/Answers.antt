@@ -4,9 +4,9 @@ use Rattle.schedule_text.specs.declared.process.ProcessLine.{ProcessLine}
 use Rattle.group_record.specs.Answer.{summary_lines}
 use Rattle.group_record.specs.Run.{size}
 use Rattle.group_record.specs.declared.summary.SummaryLine.{SummaryLine}
-use Rattle.group_record.proofs.Small.{at_place}
-use Rattle.group_record.proofs.Starting.{name_at}
-use Rattle.group_record.proofs.Summing.{line_is, lines_next}
+use Rattle.group_record.proofs.SharedLemmas.{at_place}
+use Rattle.group_record.proofs.FirstProcesses.{name_at}
+use Rattle.group_record.proofs.SummaryLines.{line_is, lines_next}
 use Rattle.group_record.proofs.summary.summary_of.Goals as goal
 
 pub loop-p-preserved : goal.loop-p-preserved

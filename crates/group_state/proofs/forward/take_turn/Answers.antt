@@ -1,5 +1,5 @@
 use Rattle.std.proofs.Common.{◌-◌, rules}
-use Rattle.group_state.proofs.Forwarding.{turned}
+use Rattle.group_state.proofs.GroupSteps.{turned}
 use Rattle.group_state.proofs.forward.take_turn.Goals as goal
 
 pub returns : goal.returns

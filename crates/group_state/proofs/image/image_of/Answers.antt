@@ -1,7 +1,7 @@
 use Rattle.std.proofs.Common.{ap, ◌∙◌}
 use Rattle.guest_memory.specs.Memory.{Memory}
 use Rattle.guest_process.specs.State.{State}
-use Rattle.group_state.proofs.Folding.{image_at}
+use Rattle.group_state.proofs.ReplayEnds.{image_at}
 use Rattle.group_state.proofs.image.image_of.Goals as goal
 
 pub returns : goal.returns

@@ -1,8 +1,8 @@
 use Rattle.std.proofs.Common.{ap, arith}
 use Rattle.lamport_tag.specs.Tag.{clock_of as tag_clock}
 use Rattle.group_state.specs.Place.{events}
-use Rattle.group_state.proofs.Following.{start_merged, tag_below}
-use Rattle.group_state.proofs.Nodes.{stands_before}
+use Rattle.group_state.proofs.AheadInOrder.{start_merged, tag_below}
+use Rattle.group_state.proofs.NodeEvents.{stands_before}
 use Rattle.group_state.proofs.laws.ordered.Goals as goal
 
 pub returns-clause-order : goal.returns-clause-order

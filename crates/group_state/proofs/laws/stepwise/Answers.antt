@@ -1,4 +1,4 @@
-use Rattle.group_state.proofs.Stepping.{none_made, one_step}
+use Rattle.group_state.proofs.NextPosition.{none_made, one_step}
 use Rattle.group_state.proofs.laws.stepwise.Goals as goal
 
 pub returns : goal.returns

@@ -4,7 +4,7 @@ use Rattle.guest_process.specs.declared.verdict.Verdict.TheVariants.{Diverged}
 use Rattle.guest_process.specs.Replay.{left_over}
 use Rattle.proc_replay.specs.Course.{Tells}
 use Rattle.proc_replay.specs.Replaying.{Replaying, turn}
-use Rattle.group_state.proofs.Walking.{ends, prints_all, prints_first, prints_more}
+use Rattle.group_state.proofs.ReplayTurns.{ends, prints_all, prints_first, prints_more}
 use Rattle.group_state.proofs.part.print_events.Goals as goal
 
 pub turns-init : goal.turns-init

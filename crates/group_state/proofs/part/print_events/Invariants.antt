@@ -1,5 +1,5 @@
 use Rattle.std.proofs.Common.{length}
-use Rattle.group_state.proofs.Walking.{Prints}
+use Rattle.group_state.proofs.ReplayTurns.{Prints}
 use Rattle.group_state.proofs.part.print_events.Given as goal
 
 abbrev pub invariant-turns : goal.invariant-turns

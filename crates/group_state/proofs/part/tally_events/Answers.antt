@@ -5,7 +5,7 @@ use Rattle.guest_process.specs.declared.verdict.Verdict.TheVariants.{Diverged}
 use Rattle.guest_process.specs.Replay.{left_over}
 use Rattle.proc_replay.specs.Course.{Tells}
 use Rattle.proc_replay.specs.Replaying.{Replaying, turn}
-use Rattle.group_state.proofs.Walking.{ends, next_new, next_room, tallies_all, tallies_first, tallies_more}
+use Rattle.group_state.proofs.ReplayTurns.{ends, next_new, next_room, tallies_all, tallies_first, tallies_more}
 use Rattle.group_state.proofs.part.tally_events.Goals as goal
 
 pub turns-init : goal.turns-init

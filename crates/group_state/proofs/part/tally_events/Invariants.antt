@@ -1,5 +1,5 @@
 use Rattle.std.proofs.Common.{length}
-use Rattle.group_state.proofs.Walking.{Tallies}
+use Rattle.group_state.proofs.ReplayTurns.{Tallies}
 use Rattle.group_state.proofs.part.tally_events.Given as goal
 
 abbrev pub invariant-turns : goal.invariant-turns

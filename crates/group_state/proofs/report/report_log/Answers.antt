@@ -1,7 +1,7 @@
 use Rattle.std.proofs.Common.{ap, ◌∙◌}
 use Rattle.call_log.specs.Head.{Head}
 use Rattle.guest_process.specs.State.{State}
-use Rattle.group_state.proofs.Folding.{line_so}
+use Rattle.group_state.proofs.ReplayEnds.{line_so}
 use Rattle.group_state.proofs.report.report_log.Goals as goal
 
 pub returns-clause-line : goal.returns-clause-line

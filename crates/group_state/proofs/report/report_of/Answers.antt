@@ -4,8 +4,8 @@ use Rattle.std.proofs.lemmas.List.{nil_from_length}
 use Rattle.proc_replay.specs.Replaying.{Replaying}
 use Rattle.group_state.specs.declared.report.ReportLine.{ReportLine}
 use Rattle.group_state.specs.Place.{PartsFit, group_count}
-use Rattle.group_state.proofs.Following.{few_events}
-use Rattle.group_state.proofs.Reporting.{Reports, all_counted, all_lines, next_new, next_room, reports_begin, reports_more}
+use Rattle.group_state.proofs.AheadInOrder.{few_events}
+use Rattle.group_state.proofs.LogReports.{Reports, all_counted, all_lines, next_new, next_room, reports_begin, reports_more}
 use Rattle.group_state.proofs.report.report_of.Goals as goal
 
 pub loop-part-init : goal.loop-part-init

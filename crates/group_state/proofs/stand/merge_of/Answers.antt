@@ -1,7 +1,7 @@
 use Rattle.std.proofs.Common.{◌<◌, ◌≤◌, ◌∙◌, length, map, sym, ap, arith, take_all}
 use Rattle.std.proofs.lemmas.List.{length-set}
 use Rattle.group_state.specs.Place.{head}
-use Rattle.group_state.proofs.Forwarding.{headed}
+use Rattle.group_state.proofs.GroupSteps.{headed}
 use Rattle.group_state.proofs.stand.merge_of.Goals as goal
 
 pub loop-node-preserved : goal.loop-node-preserved

@@ -1,6 +1,6 @@
 use Rattle.std.proofs.Common.{◌∙◌, ◌++◌, List, ℕ, append_assoc, ap, codes}
 use Rattle.group_texts.specs.Texts.{argument_text, arguments_text, signed_text}
-use Rattle.group_texts.proofs.Pieces.{arguments_more}
+use Rattle.group_texts.proofs.TextPieces.{arguments_more}
 use Rattle.group_texts.proofs.event.push_arguments.Goals as goal
 
 pub loop-argument-preserved : goal.loop-argument-preserved

@@ -1,6 +1,6 @@
 use Rattle.std.proofs.Common.{◌++◌, ◌+◌, ◌<◌, length, refl, arith}
 use Rattle.group_texts.specs.Texts.{thread_lines}
-use Rattle.group_texts.proofs.Pieces.{lines_more}
+use Rattle.group_texts.proofs.TextPieces.{lines_more}
 use Rattle.group_texts.proofs.event.push_lines.Goals as goal
 
 pub loop-t-preserved : goal.loop-t-preserved

@@ -1,6 +1,6 @@
 use Rattle.std.proofs.Common.{◌∙◌, ◌++◌, List, ℕ, map, append-nil, ap, sym}
 use Rattle.proc_replay.specs.Replaying.{Replaying}
-use Rattle.group_texts.proofs.Pieces.{none_named}
+use Rattle.group_texts.proofs.TextPieces.{none_named}
 use Rattle.group_texts.proofs.event.push_name.Goals as goal
 
 pub returns-in-None : goal.returns-in-None

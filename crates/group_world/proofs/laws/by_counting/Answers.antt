@@ -1,6 +1,6 @@
-use Rattle.group_world.proofs.Counting.{counting}
-use Rattle.group_world.proofs.Origins.{has_origin}
-use Rattle.group_world.proofs.Turns.{in_turn}
+use Rattle.group_world.proofs.CountedWorld.{counting}
+use Rattle.group_world.proofs.DatagramOrigins.{has_origin}
+use Rattle.group_world.proofs.DatagramTurns.{in_turn}
 use Rattle.group_world.proofs.laws.by_counting.Goals as goal
 
 pub returns-clause-counted : goal.returns-clause-counted

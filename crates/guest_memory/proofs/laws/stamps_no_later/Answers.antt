@@ -1,4 +1,4 @@
-use Rattle.guest_memory.proofs.Later.{begins, grown, written}
+use Rattle.guest_memory.proofs.StampsNoLater.{begins, grown, written}
 use Rattle.guest_memory.proofs.laws.stamps_no_later.Goals as goal
 
 pub returns-clause-written : goal.returns-clause-written

@@ -1,4 +1,4 @@
-use Rattle.guest_memory.proofs.Tells.{grown, keeps, written}
+use Rattle.guest_memory.proofs.StampsTell.{grown, keeps, written}
 use Rattle.guest_memory.proofs.laws.stamps_tell.Goals as goal
 
 pub returns-clause-written : goal.returns-clause-written

@@ -1,7 +1,7 @@
 use Rattle.std.proofs.Common.{◌≤◌, ap, arith, length, refl, length-take, length-drop}
 use Rattle.guest_memory.specs.LittleEndian.{little_endian}
 use Rattle.guest_memory.specs.Pages.{flat}
-use Rattle.guest_memory.proofs.Pieces.{across}
+use Rattle.guest_memory.proofs.WrittenPieces.{across}
 use Rattle.guest_memory.proofs.pages.number_across.Goals as goal
 
 pub overflow_add-addr : goal.overflow_add-addr

@@ -1,5 +1,5 @@
 use Rattle.std.proofs.Common.{◌≡◌, ◌<◌, ◌≤◌, ◌+◌, ◌-◌, ◌/◌, ◌%◌, min, ◌∙◌, sym, arith, length, get_or, ap, refl}
-use Rattle.guest_memory.proofs.Flat.{flat-length, whole-get, flat-part}
+use Rattle.guest_memory.proofs.FlatPages.{flat-length, whole-get, flat-part}
 use Rattle.guest_memory.proofs.pages.part_in.Goals as goal
 
 pub returns-then-index-pages : goal.returns-then-index-pages

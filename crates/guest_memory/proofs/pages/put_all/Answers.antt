@@ -1,7 +1,7 @@
 use Rattle.std.proofs.Common.{rules, ◌≡◌, ◌<◌, ◌≤◌, ◌+◌, ◌*◌, ◌-◌, ◌/◌, ◌%◌, arith, refl, length}
 use Rattle.guest_memory.specs.Pages.{flat}
-use Rattle.guest_memory.proofs.Flat.{flat-length}
-use Rattle.guest_memory.proofs.Writes.{puts-more, puts-none}
+use Rattle.guest_memory.proofs.FlatPages.{flat-length}
+use Rattle.guest_memory.proofs.PageWrites.{puts-more, puts-none}
 use Rattle.guest_memory.proofs.pages.put_all.Goals as goal
 
 pub loop-done-init : goal.loop-done-init

@@ -1,5 +1,5 @@
 use Rattle.std.proofs.Common.{◌≡◌, ◌≤◌, ◌-◌, length, take}
-use Rattle.guest_memory.proofs.Writes.{Puts}
+use Rattle.guest_memory.proofs.PageWrites.{Puts}
 use Rattle.guest_memory.proofs.pages.put_all.Given as goal
 
 abbrev pub invariant-loop-done : goal.invariant-loop-done

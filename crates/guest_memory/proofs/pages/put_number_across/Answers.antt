@@ -1,7 +1,7 @@
 use Rattle.std.proofs.Common.{◌≡◌, ◌∙◌, List, ℕ, take, arith, ap}
 use Rattle.std.specs.Int.{bytes_low_first}
 use Rattle.guest_memory.specs.LittleEndian.{low_bytes, IsWidth}
-use Rattle.guest_memory.proofs.Numbers.{take-bytes_low_first}
+use Rattle.guest_memory.proofs.NumberBytes.{take-bytes_low_first}
 use Rattle.guest_memory.proofs.pages.put_number_across.Goals as goal
 
 taken : (all : List ℕ) (width value : ℕ) → IsWidth width → all ≡ bytes_low_first 0 8 value → take width all ≡ low_bytes width value

@@ -3,9 +3,9 @@ use Rattle.std.proofs.Math.ListN.{set}
 use Rattle.guest_memory.specs.LittleEndian.{low_bytes, IsWidth}
 use Rattle.guest_memory.specs.Pages.{AreWhole, put_in_page}
 use Rattle.guest_memory.specs.declared.page.Page.{Page}
-use Rattle.guest_memory.proofs.Numbers.{length-low_bytes}
-use Rattle.guest_memory.proofs.Flat.{set-same}
-use Rattle.guest_memory.proofs.Writes.{Puts, puts-one, puts-nothing, on_err}
+use Rattle.guest_memory.proofs.NumberBytes.{length-low_bytes}
+use Rattle.guest_memory.proofs.FlatPages.{set-same}
+use Rattle.guest_memory.proofs.PageWrites.{Puts, puts-one, puts-nothing, on_err}
 use Rattle.guest_memory.proofs.pages.put_number_in.Goals as goal
 
 stored : (ps : List Page) (addr width value number : ℕ) (d page : Page) → IsWidth width → AreWhole ps → addr % 4096 + width ≤ 4096 → addr / 4096 < length ps

@@ -1,5 +1,5 @@
 use Rattle.std.proofs.Common.{◌∙◌, arith, ap, sym}
-use Rattle.guest_memory.proofs.Stamps.{stamps-get, stamps-past}
+use Rattle.guest_memory.proofs.PageStamps.{stamps-get, stamps-past}
 use Rattle.guest_memory.proofs.pages.stamp_at.Goals as goal
 
 pub returns-then-page-pages : goal.returns-then-page-pages

@@ -1,4 +1,4 @@
-use Rattle.guest_process.proofs.Numbers.{legal_numbers}
+use Rattle.guest_process.proofs.LegalNumbers.{legal_numbers}
 use Rattle.guest_process.proofs.laws.legal_numbers.Goals as goal
 
 pub returns : goal.returns

@@ -1,4 +1,4 @@
-use Rattle.guest_process.proofs.CrewLaws.{locks_kept}
+use Rattle.guest_process.proofs.CrewLemmas.{locks_kept}
 use Rattle.guest_process.proofs.laws.lock_kept.Goals as goal
 
 pub returns : goal.returns

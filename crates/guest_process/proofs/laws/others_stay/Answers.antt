@@ -1,4 +1,4 @@
-use Rattle.guest_process.proofs.CrewLaws.{others_kept, spawn_adds}
+use Rattle.guest_process.proofs.CrewLemmas.{others_kept, spawn_adds}
 use Rattle.guest_process.proofs.laws.others_stay.Goals as goal
 
 pub returns-clause-stay : goal.returns-clause-stay

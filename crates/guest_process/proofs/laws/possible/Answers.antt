@@ -1,4 +1,4 @@
-use Rattle.guest_process.proofs.Worlds.{possible, world_is_there}
+use Rattle.guest_process.proofs.PossibleWorlds.{possible, world_is_there}
 use Rattle.guest_process.proofs.laws.possible.Goals as goal
 
 pub returns-clause-event : goal.returns-clause-event

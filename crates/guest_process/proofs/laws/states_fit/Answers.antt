@@ -1,6 +1,6 @@
 use Rattle.guest_process.proofs.KeptFits.{state_kept}
 use Rattle.guest_process.proofs.KeptSound.{sound_kept}
-use Rattle.guest_process.proofs.Starting.{started}
+use Rattle.guest_process.proofs.FirstState.{started}
 use Rattle.guest_process.proofs.laws.states_fit.Goals as goal
 
 pub returns-clause-ranges : goal.returns-clause-ranges

@@ -1,4 +1,4 @@
-use Rattle.guest_process.proofs.Marking.{unmarked}
+use Rattle.guest_process.proofs.EventMarks.{unmarked}
 use Rattle.guest_process.proofs.laws.unmarked_stays.Goals as goal
 
 pub returns : goal.returns

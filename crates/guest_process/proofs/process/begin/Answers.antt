@@ -7,7 +7,7 @@ use Rattle.guest_process.specs.declared.parts.Parts.{Parts}
 use Rattle.guest_process.specs.declared.end.End.TheVariants.{Running}
 use Rattle.guest_process.specs.Seen.{IsOfModule}
 use Rattle.guest_process.specs.Start.{waits}
-use Rattle.guest_process.proofs.Starting.{is_process}
+use Rattle.guest_process.proofs.FirstState.{is_process}
 use Rattle.guest_process.proofs.process.begin.Goals as goal
 
 pub invariant_of-result : goal.invariant_of-result

@@ -1,4 +1,4 @@
-use Rattle.headline.proofs.Left.{left_is_shown_so}
+use Rattle.headline.proofs.LeftIsShown.{left_is_shown_so}
 use Rattle.headline.proofs.laws.left_is_shown.Goals as goal
 
 pub returns : goal.returns

@@ -1,4 +1,4 @@
-use Rattle.headline.proofs.Whole.{headline}
+use Rattle.headline.proofs.RecordingIsShown.{headline}
 use Rattle.headline.proofs.laws.recordings_are_shown.Goals as goal
 
 pub returns : goal.returns

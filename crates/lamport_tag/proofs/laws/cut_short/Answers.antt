@@ -1,4 +1,4 @@
-use Rattle.lamport_tag.proofs.CutLaws.{cut_untagged, cut_found}
+use Rattle.lamport_tag.proofs.CutLemmas.{cut_untagged, cut_found}
 use Rattle.lamport_tag.proofs.laws.cut_short.Goals as goal
 
 pub returns-clause-untagged : goal.returns-clause-untagged

@@ -1,4 +1,4 @@
-use Rattle.lamport_tag.proofs.BackLaws.{found_sendable, found_again}
+use Rattle.lamport_tag.proofs.BackLemmas.{found_sendable, found_again}
 use Rattle.lamport_tag.proofs.laws.tags_read_back.Goals as goal
 
 pub returns-clause-sent : goal.returns-clause-sent

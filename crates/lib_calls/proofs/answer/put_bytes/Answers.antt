@@ -1,7 +1,7 @@
 use Rattle.std.proofs.lemmas.Result.{on_err_weaker}
 use Rattle.lib_calls.specs.Answer.{answer_of}
 use Rattle.lib_calls.specs.Entry.{entry_of}
-use Rattle.lib_calls.proofs.Ranges.{part_of_payload}
+use Rattle.lib_calls.proofs.MemoryRanges.{part_of_payload}
 use Rattle.lib_calls.proofs.answer.put_bytes.Goals as goal
 
 pub returns-clause-err : goal.returns-clause-err

@@ -3,7 +3,7 @@ use Rattle.std.specs.Int.{w32, to_le_bytes}
 use Rattle.std.proofs.lemmas.Result.{on_err_weaker}
 use Rattle.lib_calls.specs.Answer.{answer_of}
 use Rattle.lib_calls.specs.Entry.{entry_of}
-use Rattle.lib_calls.proofs.Ranges.{on_err, part_of_payload, part_of_sender}
+use Rattle.lib_calls.proofs.MemoryRanges.{on_err, part_of_payload, part_of_sender}
 use Rattle.lib_calls.proofs.answer.put_datagram.Goals as goal
 
 pub returns-in_err-put-clause-err : goal.returns-in_err-put-clause-err

@@ -1,6 +1,6 @@
 use Rattle.lib_calls.specs.Answer.{answer_of}
 use Rattle.lib_calls.specs.Entry.{entry_of}
-use Rattle.lib_calls.proofs.Writes.{random_room, recv_room, try_recv_room}
+use Rattle.lib_calls.proofs.AnswerRoom.{random_room, recv_room, try_recv_room}
 use Rattle.lib_calls.proofs.answer.write_answer.Goals as goal
 
 pub put_bytes-requires : goal.put_bytes-requires

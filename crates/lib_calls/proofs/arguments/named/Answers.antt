@@ -1,5 +1,5 @@
 use Rattle.std.proofs.Common.{◌∙◌, sym}
-use Rattle.lib_calls.proofs.Ranges.{range_inside}
+use Rattle.lib_calls.proofs.MemoryRanges.{range_inside}
 use Rattle.lib_calls.proofs.arguments.named.Goals as goal
 
 pub read-requires-clause-inside : goal.read-requires-clause-inside

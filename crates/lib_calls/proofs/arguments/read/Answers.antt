@@ -1,5 +1,5 @@
 use Rattle.std.proofs.Common.{arith}
-use Rattle.lib_calls.proofs.Ranges.{read_more}
+use Rattle.lib_calls.proofs.MemoryRanges.{read_more}
 use Rattle.lib_calls.proofs.arguments.read.Goals as goal
 
 pub loop-count-preserved : goal.loop-count-preserved

@@ -1,7 +1,7 @@
 use Rattle.std.proofs.Common.{◌≡◌, ℕ, length, take, sym, subst, ◌∙◌, arith}
 use Rattle.std.proofs.lemmas.List.{take_all}
 use Rattle.guest_memory.specs.Memory.{bytes_from}
-use Rattle.lib_calls.proofs.Sames.{agree, other_part, part_differs, same_more, same_part}
+use Rattle.lib_calls.proofs.ComparedRanges.{agree, other_part, part_differs, same_more, same_part}
 use Rattle.lib_calls.proofs.arguments.stands_at.Goals as goal
 
 pub returns-then-ne : goal.returns-then-ne

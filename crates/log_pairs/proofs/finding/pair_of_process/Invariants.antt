@@ -1,4 +1,4 @@
-use Rattle.log_pairs.proofs.Places.{NoneBefore}
+use Rattle.log_pairs.proofs.PairPlaces.{NoneBefore}
 use Rattle.log_pairs.proofs.finding.pair_of_process.Given as goal
 
 abbrev pub invariant-loop-place : goal.invariant-loop-place

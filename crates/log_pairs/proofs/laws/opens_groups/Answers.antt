@@ -1,4 +1,4 @@
-use Rattle.log_pairs.proofs.Groups.{groups_open}
+use Rattle.log_pairs.proofs.GroupBegins.{groups_open}
 use Rattle.log_pairs.proofs.laws.opens_groups.Goals as goal
 
 pub returns : goal.returns

@@ -2,8 +2,8 @@ use Rattle.std.proofs.Common.{◌≡◌, ◌∙◌, ◌∷◌, ◌+◌, ap, drop
 use Rattle.std.proofs.lemmas.List.{drop_all, drop_more}
 use Rattle.std.proofs.lemmas.Result.{err_from_is_err_and}
 use Rattle.log_pairs.specs.declared.pairs.Loaded.{Loaded}
-use Rattle.log_pairs.proofs.Beginning.{all_begun, beginning_stops, group_begun, one_begun, one_loaded}
-use Rattle.log_pairs.proofs.Opening.{begun_opens, unbegun_stops}
+use Rattle.log_pairs.proofs.BegunReplays.{all_begun, beginning_stops, group_begun, one_begun, one_loaded}
+use Rattle.log_pairs.proofs.OpenedReplays.{begun_opens, unbegun_stops}
 use Rattle.log_pairs.proofs.pairs.begin_all.Goals as goal
 
 pub begin_replay-requires : goal.begin_replay-requires

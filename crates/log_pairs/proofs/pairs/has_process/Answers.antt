@@ -3,7 +3,7 @@ use Rattle.std.specs.List.{list_any}
 use Rattle.std.proofs.lemmas.Iterator.{YieldsList-from_slice}
 use Rattle.std.proofs.lemmas.Iterator.Search.{any_from_yields_List}
 use Rattle.log_pairs.specs.declared.pairs.Loaded.{Loaded}
-use Rattle.log_pairs.proofs.Clashing.{processes_are}
+use Rattle.log_pairs.proofs.LogClashes.{processes_are}
 use Rattle.log_pairs.proofs.pairs.has_process.Goals as goal
 
 pub returns : goal.returns

@@ -5,7 +5,7 @@ use Rattle.call_log.specs.Limits.{most_log}
 use Rattle.log_pairs.specs.Pairs.{clash}
 use Rattle.log_pairs.specs.Seen.{pair_of}
 use Rattle.command_run.specs.CountLaws.{counts_later, counts_none, counts_still}
-use Rattle.log_pairs.proofs.Loading.{is_loaded, pair_read, read_as}
+use Rattle.log_pairs.proofs.LoadedPairs.{is_loaded, pair_read, read_as}
 use Rattle.log_pairs.proofs.pairs.load.Goals as goal
 
 pub returns-in_err-begin_log-clause-cause : goal.returns-in_err-begin_log-clause-cause

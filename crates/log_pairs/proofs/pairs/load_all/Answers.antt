@@ -3,8 +3,8 @@ use Rattle.std.proofs.lemmas.List.{drop_all, drop_more}
 use Rattle.std.proofs.lemmas.Result.{err_from_is_err_and}
 use Rattle.log_pairs.specs.declared.pairs.Loaded.{Loaded}
 use Rattle.log_pairs.specs.Seen.{AreLoaded, pair_of}
-use Rattle.log_pairs.proofs.Opening.{unread_stops}
-use Rattle.log_pairs.proofs.Loading.{AreRead, all_read, none_read, one_read, reading_stops}
+use Rattle.log_pairs.proofs.OpenedReplays.{unread_stops}
+use Rattle.log_pairs.proofs.LoadedPairs.{AreRead, all_read, none_read, one_read, reading_stops}
 use Rattle.fri_outside.specs.Outside.{Folder}
 use Rattle.command_run.specs.CountLaws.{counts_later, counts_none}
 use Rattle.command_run.specs.Kept.{AreOfFiles}

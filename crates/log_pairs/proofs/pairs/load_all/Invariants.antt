@@ -1,6 +1,6 @@
 use Rattle.std.proofs.Common.{◌≡◌, drop}
 use Rattle.std.specs.Prelude.{⊤, Ok}
-use Rattle.log_pairs.proofs.Loading.{AreRead}
+use Rattle.log_pairs.proofs.LoadedPairs.{AreRead}
 use Rattle.command_run.specs.Call.{CountsFaults}
 use Rattle.command_run.specs.Kept.{AreOfFiles}
 use Rattle.log_pairs.proofs.pairs.load_all.Given as goal

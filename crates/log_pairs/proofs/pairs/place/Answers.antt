@@ -2,7 +2,7 @@ use Rattle.std.proofs.Common.{◌≡◌, ◌∙◌, ℕ, List, ap, length}
 use Rattle.std.specs.List.{insert}
 use Rattle.call_log.specs.Head.{Head}
 use Rattle.proc_replay.specs.Replaying.{Replaying}
-use Rattle.log_pairs.proofs.Placing.{lower, put_behind}
+use Rattle.log_pairs.proofs.PlacedReplays.{lower, put_behind}
 use Rattle.log_pairs.proofs.pairs.place.Goals as goal
 
 pub returns : goal.returns

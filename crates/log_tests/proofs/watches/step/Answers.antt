@@ -3,7 +3,7 @@ use Rattle.std.specs.Prelude.{is_some}
 use Rattle.group_state.specs.Place.{GroupPlace}
 use Rattle.group_state.specs.Seen.{nodes_at}
 use Rattle.page_watch.specs.Watched.{Stands}
-use Rattle.log_tests.proofs.Stepping.{stood}
+use Rattle.log_tests.proofs.WatchedEvent.{stood}
 use Rattle.log_tests.proofs.watches.step.Goals as goal
 
 pub after_event-requires-clause-stands : goal.after_event-requires-clause-stands

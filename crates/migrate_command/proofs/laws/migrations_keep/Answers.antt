@@ -1,4 +1,4 @@
-use Rattle.migrate_command.proofs.Keeping.{migration_keeps}
+use Rattle.migrate_command.proofs.NewFileIsRead.{migration_keeps}
 use Rattle.migrate_command.proofs.laws.migrations_keep.Goals as goal
 
 pub returns : goal.returns

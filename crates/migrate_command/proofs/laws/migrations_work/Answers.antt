@@ -1,4 +1,4 @@
-use Rattle.migrate_command.proofs.Keeping.{migration_works}
+use Rattle.migrate_command.proofs.NewFileIsRead.{migration_works}
 use Rattle.migrate_command.proofs.laws.migrations_work.Goals as goal
 
 pub returns : goal.returns

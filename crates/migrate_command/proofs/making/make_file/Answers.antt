@@ -1,5 +1,5 @@
 use Rattle.std.proofs.lemmas.Result.{err_from_is_err_and}
-use Rattle.migrate_command.proofs.Fronts.{append_failed, create_failed}
+use Rattle.migrate_command.proofs.FileFronts.{append_failed, create_failed}
 use Rattle.migrate_command.proofs.making.make_file.Goals as goal
 
 pub returns-in_err-create-clause-made : goal.returns-in_err-create-clause-made

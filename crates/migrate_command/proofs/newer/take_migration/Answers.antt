@@ -7,7 +7,7 @@ use Rattle.command_run.specs.Call.{StopsAs}
 use Rattle.command_run.specs.CountLaws.{counts_still}
 use Rattle.command_run.specs.Outcome.{CommandOutcome}
 use Rattle.migrate_command.specs.Seen.{work_of_migration}
-use Rattle.migrate_command.proofs.Migrated.{at_log}
+use Rattle.migrate_command.proofs.MigrateOutcome.{at_log}
 use Rattle.migrate_command.proofs.newer.take_migration.Goals as goal
 
 pub returns-in_err-log-clause-counts : goal.returns-in_err-log-clause-counts

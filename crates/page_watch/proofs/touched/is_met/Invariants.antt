@@ -1,4 +1,4 @@
-use Rattle.page_watch.proofs.Marking.{IsUnmetBefore}
+use Rattle.page_watch.proofs.MarkedPlaces.{IsUnmetBefore}
 use Rattle.page_watch.proofs.touched.is_met.Given as goal
 
 abbrev pub invariant-loop-place : goal.invariant-loop-place

@@ -1,7 +1,7 @@
 use Rattle.std.proofs.Common.{◌-◌, ◌<◌, List, length, sym, ap, arith}
 use Rattle.page_watch.specs.Touch.{meets}
 use Rattle.page_watch.specs.Watched.{Watched, watch_after_event}
-use Rattle.page_watch.proofs.Asking.{one_more, stands_here}
+use Rattle.page_watch.proofs.AskedWatches.{one_more, stands_here}
 use Rattle.page_watch.proofs.watches.ask_all.Goals as goal
 
 pub ask_one-requires-clause-stands : goal.ask_one-requires-clause-stands

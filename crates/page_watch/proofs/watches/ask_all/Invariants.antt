@@ -1,6 +1,6 @@
 use Rattle.page_watch.specs.Touch.{meets}
 use Rattle.page_watch.specs.Watched.{watch_after_event}
-use Rattle.page_watch.proofs.Asking.{AreAsked}
+use Rattle.page_watch.proofs.AskedWatches.{AreAsked}
 use Rattle.page_watch.proofs.watches.ask_all.Given as goal
 
 abbrev pub invariant-loop-n : goal.invariant-loop-n

@@ -1,4 +1,4 @@
-use Rattle.proc_replay.proofs.Sizes.{accepted_no_longer}
+use Rattle.proc_replay.proofs.AcceptedSizes.{accepted_no_longer}
 use Rattle.proc_replay.proofs.laws.accepted_no_longer.Goals as goal
 
 pub returns : goal.returns

@@ -1,4 +1,4 @@
-use Rattle.proc_replay.proofs.Walking.{course, one_turn}
+use Rattle.proc_replay.proofs.TurnAfterTurn.{course, one_turn}
 use Rattle.proc_replay.proofs.laws.replays.Goals as goal
 
 pub returns-clause-course : goal.returns-clause-course

@@ -3,7 +3,7 @@ use Rattle.std.specs.Prelude.{IsUtf8}
 use Rattle.wasm_types.specs.Modules.{module_of as shown}
 use Rattle.command_run.specs.Call.{StopsAs}
 use Rattle.command_run.specs.Inputs.{module_in}
-use Rattle.record_command.proofs.Names.{module_utf8}
+use Rattle.record_command.proofs.ModuleNames.{module_utf8}
 use Rattle.record_command.proofs.inputs.take_module_of.Goals as goal
 
 pub returns-clause-answer : goal.returns-clause-answer

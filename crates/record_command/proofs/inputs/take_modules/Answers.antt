@@ -5,7 +5,7 @@ use Rattle.schedule_text.specs.declared.process.ProcessLine.{ProcessLine}
 use Rattle.fri_outside.specs.Outside.{Folder}
 use Rattle.command_run.specs.CountLaws.{counts_later, counts_none}
 use Rattle.command_run.specs.Kept.{AreOfFiles}
-use Rattle.record_command.proofs.Modules.{AreTaken, none_taken, one_taken}
+use Rattle.record_command.proofs.GroupModules.{AreTaken, none_taken, one_taken}
 use Rattle.record_command.proofs.inputs.take_modules.Goals as goal
 
 pub loop-line-init : goal.loop-line-init

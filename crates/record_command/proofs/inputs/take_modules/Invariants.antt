@@ -1,7 +1,7 @@
 use Rattle.std.proofs.Common.{◌≡◌, map}
 use Rattle.std.specs.Prelude.{⊤, Ok}
 use Rattle.wasm_types.specs.Modules.{module_of as shown}
-use Rattle.record_command.proofs.Modules.{AreTaken}
+use Rattle.record_command.proofs.GroupModules.{AreTaken}
 use Rattle.command_run.specs.Call.{CountsFaults}
 use Rattle.command_run.specs.Kept.{AreOfFiles}
 use Rattle.record_command.proofs.inputs.take_modules.Given as goal

@@ -1,4 +1,4 @@
-use Rattle.record_command.proofs.Recordings.{recordings_agree_so}
+use Rattle.record_command.proofs.FolderRecordings.{recordings_agree_so}
 use Rattle.record_command.proofs.laws.recordings_agree.Goals as goal
 
 pub returns : goal.returns

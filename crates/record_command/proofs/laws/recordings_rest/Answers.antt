@@ -1,5 +1,5 @@
 use Rattle.std.proofs.Common.{Some, refl}
-use Rattle.record_command.proofs.Recordings.{moment_before}
+use Rattle.record_command.proofs.FolderRecordings.{moment_before}
 use Rattle.record_command.proofs.laws.recordings_rest.Goals as goal
 
 pub returns : goal.returns

@@ -1,4 +1,4 @@
-use Rattle.record_command.proofs.Standing.{recordings_stand_so}
+use Rattle.record_command.proofs.StoppedStands.{recordings_stand_so}
 use Rattle.record_command.proofs.laws.recordings_stand.Goals as goal
 
 pub returns : goal.returns

@@ -1,4 +1,4 @@
-use Rattle.record_command.proofs.Works.{recording_works}
+use Rattle.record_command.proofs.OutcomeIsWork.{recording_works}
 use Rattle.record_command.proofs.laws.recordings_work.Goals as goal
 
 pub returns : goal.returns

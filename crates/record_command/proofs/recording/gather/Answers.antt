@@ -4,7 +4,7 @@ use Rattle.wasm_types.specs.Modules.{module_of as shown}
 use Rattle.schedule_text.specs.declared.process.ProcessLine.{ProcessLine}
 use Rattle.command_run.specs.Call.{StopsAs}
 use Rattle.record_command.specs.Expected.{modules_of}
-use Rattle.record_command.proofs.Gathered.{modules_stop, schedule_stops}
+use Rattle.record_command.proofs.GatheredOutcome.{modules_stop, schedule_stops}
 use Rattle.record_command.proofs.recording.gather.Goals as goal
 
 pub returns-in_err-schedule-clause-answer : goal.returns-in_err-schedule-clause-answer

@@ -3,9 +3,9 @@ use Rattle.std.proofs.lemmas.Result.{err_from_is_err_and}
 use Rattle.wasm_types.specs.Modules.{module_of as shown}
 use Rattle.record_command.specs.Expected.{record_outcome}
 use Rattle.record_command.specs.Seen.{Gathers}
-use Rattle.record_command.proofs.Gathered.{group_makes}
+use Rattle.record_command.proofs.GatheredOutcome.{group_makes}
 use Rattle.command_run.specs.OutcomeLaws.{refused_makes, refused_tells}
-use Rattle.record_command.proofs.Recordings.{moment_before, moment_then, recording_left}
+use Rattle.record_command.proofs.FolderRecordings.{moment_before, moment_then, recording_left}
 use Rattle.record_command.proofs.recording.record.Goals as goal
 
 pub returns-in_err-inputs-clause-tells : goal.returns-in_err-inputs-clause-tells

@@ -3,7 +3,7 @@ use Rattle.std.proofs.lemmas.List.{length-map}
 use Rattle.std.proofs.lemmas.Result.{err_from_is_err_and}
 use Rattle.wasm_types.specs.Modules.{module_of as shown}
 use Rattle.group_record.specs.Answer.{first_states}
-use Rattle.record_command.proofs.Grouped.{answer_stops, done_changes, done_tells, error_makes, error_tells, refuses_within}
+use Rattle.record_command.proofs.GroupOutcome.{answer_stops, done_changes, done_tells, error_makes, error_tells, refuses_within}
 use Rattle.record_command.proofs.recording.record_group.Goals as goal
 
 pub returns-in_err-text-in-Ok-clause-makes : goal.returns-in_err-text-in-Ok-clause-makes

@@ -1,5 +1,5 @@
 use Rattle.std.proofs.Common.{refl}
-use Rattle.record_command.proofs.Names.{named_by}
+use Rattle.record_command.proofs.ModuleNames.{named_by}
 use Rattle.record_command.proofs.recording.refuse_module.Goals as goal
 
 pub returns-in-Ok : goal.returns-in-Ok

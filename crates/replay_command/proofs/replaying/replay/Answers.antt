@@ -7,7 +7,7 @@ use Rattle.command_run.specs.OutcomeLaws.{refused_makes, refused_tells}
 use Rattle.log_pairs.specs.declared.pairs.Loaded.{Loaded}
 use Rattle.log_pairs.specs.Seen.{WereLoaded, pair_of}
 use Rattle.replay_command.specs.Report.{replay_outcome}
-use Rattle.replay_command.proofs.Replayed.{images_begun, images_made, opening_stops, replay_makes, report_tells}
+use Rattle.replay_command.proofs.ReplayOutcome.{images_begun, images_made, opening_stops, replay_makes, report_tells}
 use Rattle.replay_command.proofs.replaying.replay.Goals as goal
 
 pub returns-in_err-all-clause-tells : goal.returns-in_err-all-clause-tells

@@ -2,7 +2,7 @@ use Rattle.std.proofs.Common.{◌<◌, length, arith}
 use Rattle.std.proofs.lemmas.Result.{err_from_is_err_and}
 use Rattle.call_log.specs.Head.{head_of}
 use Rattle.command_run.specs.FileLaws.{failed_makes}
-use Rattle.replay_command.proofs.Imaging.{first_made, node_fresh, node_named, one_made, own_files, part_made}
+use Rattle.replay_command.proofs.ReplayImages.{first_made, node_fresh, node_named, one_made, own_files, part_made}
 use Rattle.command_run.specs.CountLaws.{counts_same}
 use Rattle.replay_command.proofs.replaying.write_images.Goals as goal
 

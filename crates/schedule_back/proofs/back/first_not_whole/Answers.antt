@@ -1,7 +1,7 @@
 use Rattle.std.proofs.Common.{◌∙◌, ◌≤◌, arith, length, map, sym}
 use Rattle.std.proofs.lemmas.List.{length-map}
 use Rattle.group_state.specs.Report.{verdict_on}
-use Rattle.schedule_back.proofs.Verdicts.{all_whole, first_other}
+use Rattle.schedule_back.proofs.FirstVerdict.{all_whole, first_other}
 use Rattle.schedule_back.proofs.back.first_not_whole.Goals as goal
 
 pub returns-then-not-is_whole : goal.returns-then-not-is_whole

@@ -1,4 +1,4 @@
-use Rattle.schedule_back.proofs.Verdicts.{WholeUpTo}
+use Rattle.schedule_back.proofs.FirstVerdict.{WholeUpTo}
 use Rattle.schedule_back.proofs.back.first_not_whole.Given as goal
 
 abbrev pub invariant-loop-node : goal.invariant-loop-node

@@ -5,7 +5,7 @@ use Rattle.schedule_text.specs.Limits.{most_runs}
 use Rattle.group_state.specs.Place.{GroupPlace, events}
 use Rattle.schedule_back.specs.Outcome.{first_not_whole, text_or_refusal}
 use Rattle.schedule_back.specs.Seen.{IsBackError, IsDraft}
-use Rattle.schedule_back.proofs.Answering.{answers}
+use Rattle.schedule_back.proofs.DraftOutcome.{answers}
 use Rattle.schedule_back.proofs.back.schedule_back.Goals as goal
 
 pub returns-clause-answer : goal.returns-clause-answer

@@ -1,7 +1,7 @@
 use Rattle.std.proofs.Common.{Option, subst}
 use Rattle.group_state.specs.declared.event.GroupEvent.{GroupEvent}
 use Rattle.group_state.specs.Moves.{Moves}
-use Rattle.schedule_back.proofs.Walked.{all_walked, one_walked}
+use Rattle.schedule_back.proofs.GroupWalk.{all_walked, one_walked}
 use Rattle.schedule_back.proofs.draft.walk.Goals as goal
 
 pub returns-in_default-clause-draft : goal.returns-in_default-clause-draft

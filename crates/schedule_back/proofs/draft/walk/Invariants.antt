@@ -1,6 +1,6 @@
 use Rattle.std.proofs.Common.{◌-◌, length}
 use Rattle.group_state.specs.Place.{events}
-use Rattle.schedule_back.proofs.Walked.{WalkedTo}
+use Rattle.schedule_back.proofs.GroupWalk.{WalkedTo}
 use Rattle.schedule_back.proofs.draft.walk.Given as goal
 
 abbrev pub invariant-events : goal.invariant-events

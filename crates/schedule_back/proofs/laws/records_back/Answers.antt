@@ -1,4 +1,4 @@
-use Rattle.schedule_back.proofs.Converse.{converse}
+use Rattle.schedule_back.proofs.ScheduleRecords.{converse}
 use Rattle.schedule_back.proofs.laws.records_back.Goals as goal
 
 pub returns : goal.returns

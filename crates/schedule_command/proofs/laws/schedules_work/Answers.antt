@@ -1,4 +1,4 @@
-use Rattle.schedule_command.proofs.Working.{schedules_work}
+use Rattle.schedule_command.proofs.OutcomeIsWork.{schedules_work}
 use Rattle.schedule_command.proofs.laws.schedules_work.Goals as goal
 
 pub returns : goal.returns

@@ -1,6 +1,6 @@
 use Rattle.std.proofs.Common.{map, take}
 use Rattle.log_pairs.specs.Seen.{pair_of}
-use Rattle.schedule_command.proofs.Lined.{AreLines}
+use Rattle.schedule_command.proofs.ScheduleLines.{AreLines}
 use Rattle.schedule_command.proofs.making.lines_of.Given as goal
 
 abbrev pub invariant-loop-part : goal.invariant-loop-part

@@ -1,4 +1,4 @@
-use Rattle.schedule_text.proofs.OutcomeLaws as laws
+use Rattle.schedule_text.proofs.OutcomeLemmas as laws
 use Rattle.schedule_text.proofs.laws.exact_outcome.Goals as goal
 
 pub returns-clause-schedules : goal.returns-clause-schedules

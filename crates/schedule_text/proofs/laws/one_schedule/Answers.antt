@@ -1,4 +1,4 @@
-use Rattle.schedule_text.proofs.OutcomeLaws as laws
+use Rattle.schedule_text.proofs.OutcomeLemmas as laws
 use Rattle.schedule_text.proofs.laws.one_schedule.Goals as goal
 
 pub returns : goal.returns

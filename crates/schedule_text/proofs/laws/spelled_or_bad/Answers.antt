@@ -1,4 +1,4 @@
-use Rattle.schedule_text.proofs.OutcomeLaws as laws
+use Rattle.schedule_text.proofs.OutcomeLemmas as laws
 use Rattle.schedule_text.proofs.laws.spelled_or_bad.Goals as goal
 
 pub returns-clause-either : goal.returns-clause-either

@@ -1,4 +1,4 @@
-use Rattle.schedule_text.proofs.TextLaws.{text_spells, text_read}
+use Rattle.schedule_text.proofs.TextLemmas.{text_spells, text_read}
 use Rattle.schedule_text.proofs.laws.written_is_read.Goals as goal
 
 pub returns-clause-spells : goal.returns-clause-spells

@@ -2,7 +2,7 @@ use Rattle.std.proofs.Common.{◌≡◌, Bool, length, None, Some, Ok, sym, ap, 
 use Rattle.std.proofs.lemmas.Result.{err_from_is_err_and}
 use Rattle.schedule_text.specs.Outcome.{IsScheduleError}
 use Rattle.schedule_text.specs.Reading.{TakesLine, with_line, schedule_of}
-use Rattle.schedule_text.proofs.OutcomeLaws.{read_begins, read_on, read_bad, read_ends}
+use Rattle.schedule_text.proofs.OutcomeLemmas.{read_begins, read_on, read_bad, read_ends}
 use Rattle.schedule_text.proofs.read.read_lines.Goals as goal
 
 pub loop-line-init : goal.loop-line-init

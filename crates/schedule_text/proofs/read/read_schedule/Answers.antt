@@ -7,7 +7,7 @@ use Rattle.schedule_text.specs.Grammar.{Spells, BadAt}
 use Rattle.schedule_text.specs.Outcome.{Answers}
 use Rattle.schedule_text.specs.Reading.{schedule_of}
 use Rattle.schedule_text.specs.Schedule.{Schedule, IsSchedule, run_count}
-use Rattle.schedule_text.proofs.OutcomeLaws.{schedule_found, schedule_bad, schedule_over, schedule_again, over_again, bad_again}
+use Rattle.schedule_text.proofs.OutcomeLemmas.{schedule_found, schedule_bad, schedule_over, schedule_again, over_again, bad_again}
 use Rattle.schedule_text.proofs.read.read_schedule.Goals as goal
 
 is_found : (bytes : List ℕ) (r : Result Schedule ScheduleError) → Answers r (schedule_of bytes) → IfOk r (λ s. Spells bytes s × IsSchedule s)

@@ -1,5 +1,5 @@
 use Rattle.schedule_text.specs.Reading.{schedule_part}
-use Rattle.schedule_text.proofs.OutcomeLaws.{schedule_found}
+use Rattle.schedule_text.proofs.OutcomeLemmas.{schedule_found}
 use Rattle.schedule_text.proofs.read.read_whole.Goals as goal
 
 pub into_schedule-requires : goal.into_schedule-requires

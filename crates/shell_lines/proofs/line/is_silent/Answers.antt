@@ -1,4 +1,4 @@
-use Rattle.shell_lines.proofs.Blanks.{silent_blank, silent_where}
+use Rattle.shell_lines.proofs.SilentLines.{silent_blank, silent_where}
 use Rattle.shell_lines.proofs.line.is_silent.Goals as goal
 
 pub returns-in-Some : goal.returns-in-Some

@@ -3,7 +3,7 @@ use Rattle.std.proofs.lemmas.List.{length-map}
 use Rattle.std.proofs.lemmas.Result.{err_from_is_err_and}
 use Rattle.watch_expr.specs.Lexing.{texts}
 use Rattle.watch_expr.specs.Expression.{expression_of}
-use Rattle.shell_lines.proofs.Viable.{refused_as, stops_at, whole_is}
+use Rattle.shell_lines.proofs.ViableTokens.{refused_as, stops_at, whole_is}
 use Rattle.shell_lines.proofs.read.read_expression.Goals as goal
 
 pub returns-in_err-expression : goal.returns-in_err-expression

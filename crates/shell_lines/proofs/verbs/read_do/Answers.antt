@@ -1,5 +1,5 @@
 use Rattle.std.proofs.lemmas.Result.{err_from_is_err_and}
-use Rattle.shell_lines.proofs.Programs.{program_refused}
+use Rattle.shell_lines.proofs.ProgramFaults.{program_refused}
 use Rattle.shell_lines.proofs.verbs.read_do.Goals as goal
 
 pub returns-in_err-program : goal.returns-in_err-program

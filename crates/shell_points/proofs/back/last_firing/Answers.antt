@@ -6,9 +6,9 @@ use Rattle.shell_points.specs.declared.point.Point.{Point as Held}
 use Rattle.shell_points.specs.Firing.{firing_lines, place_at}
 use Rattle.shell_points.specs.Returning.{return_from}
 use Rattle.shell_points.specs.Seen.{point, return_of}
-use Rattle.shell_points.proofs.Returning.{begins_so, goes_to, later_last}
+use Rattle.shell_points.proofs.LastFiring.{begins_so, goes_to, later_last}
 use Rattle.shell_points.specs.Watching.{watched}
-use Rattle.shell_points.proofs.Reading.{moved_on, read_before, read_now, ticked_from_start}
+use Rattle.shell_points.proofs.PointReads.{moved_on, read_before, read_now, ticked_from_start}
 use Rattle.shell_points.proofs.back.last_firing.Goals as goal
 
 pub positions-init : goal.positions-init

@@ -2,8 +2,8 @@ use Rattle.std.proofs.Common.{◌≡◌, ◌<◌, ◌-◌, None, length, get_or,
 use Rattle.shell_points.specs.declared.point.Point.{Point as Held}
 use Rattle.shell_points.specs.Firing.{firing_lines}
 use Rattle.shell_points.specs.Seen.{point}
-use Rattle.shell_points.proofs.Returning.{said_more}
-use Rattle.shell_points.proofs.Walks.{read_at, said}
+use Rattle.shell_points.proofs.LastFiring.{said_more}
+use Rattle.shell_points.proofs.PointWalks.{read_at, said}
 use Rattle.shell_points.proofs.back.said_here.Goals as goal
 
 pub loop-n-preserved : goal.loop-n-preserved

@@ -3,7 +3,7 @@ use Rattle.shell_points.specs.declared.point.Point.{Point as Held}
 use Rattle.shell_points.specs.Firing.{has_due}
 use Rattle.shell_points.specs.Reading.{readings}
 use Rattle.shell_points.specs.Seen.{point}
-use Rattle.shell_points.proofs.Reading.{nothing_said, where_none}
+use Rattle.shell_points.proofs.PointReads.{nothing_said, where_none}
 use Rattle.shell_points.proofs.back.text_here.Goals as goal
 
 pub returns-in-None : goal.returns-in-None

@@ -1,4 +1,4 @@
-use Rattle.shell_points.proofs.Exact.{exact}
+use Rattle.shell_points.proofs.ExactFiring.{exact}
 use Rattle.shell_points.proofs.laws.exact_firing.Goals as goal
 
 pub returns : goal.returns

@@ -3,7 +3,7 @@ use Rattle.std.specs.List.{list_any}
 use Rattle.std.proofs.lemmas.Iterator.{YieldsList-from_slice}
 use Rattle.std.proofs.lemmas.Iterator.Search.{any_from_yields_List}
 use Rattle.shell_points.specs.declared.point.Point.{Point as Held}
-use Rattle.shell_points.proofs.Held.{held_same}
+use Rattle.shell_points.proofs.HeldPoints.{held_same}
 use Rattle.shell_points.proofs.points.is_held.Goals as goal
 
 pub returns : goal.returns

@@ -3,7 +3,7 @@ use Rattle.std.proofs.Common.{map}
 use Rattle.shell_points.specs.Points.{point_text}
 use Rattle.shell_points.specs.declared.point.Point.{Point as Held}
 use Rattle.shell_points.specs.Seen.{point}
-use Rattle.shell_points.proofs.Held.{listed}
+use Rattle.shell_points.proofs.HeldPoints.{listed}
 use Rattle.shell_points.proofs.points.list.Goals as goal
 
 pub loop-point-preserved : goal.loop-point-preserved

@@ -1,5 +1,5 @@
 use Rattle.std.proofs.Common.{sym}
-use Rattle.shell_points.proofs.Held.{put_same}
+use Rattle.shell_points.proofs.HeldPoints.{put_same}
 use Rattle.shell_points.proofs.points.put.Goals as goal
 
 pub returns : goal.returns

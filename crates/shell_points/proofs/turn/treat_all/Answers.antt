@@ -2,7 +2,7 @@ use Rattle.std.proofs.Common.{◌≡◌, ◌<◌, ◌-◌, None, length, get_or,
 use Rattle.shell_points.specs.declared.point.Point.{Point as Held}
 use Rattle.shell_points.specs.Seen.{point, run_so_far}
 use Rattle.shell_points.specs.Walking.{quiet, treat_all}
-use Rattle.shell_points.proofs.Walks.{read_at, treated, treated_more}
+use Rattle.shell_points.proofs.PointWalks.{read_at, treated, treated_more}
 use Rattle.shell_points.proofs.turn.treat_all.Goals as goal
 
 pub loop-n-preserved : goal.loop-n-preserved

@@ -4,7 +4,7 @@ use Rattle.shell_points.specs.Firing.{has_due}
 use Rattle.shell_points.specs.Reading.{readings}
 use Rattle.shell_points.specs.Seen.{point}
 use Rattle.shell_points.specs.Walking.{quiet}
-use Rattle.shell_points.proofs.Reading.{nothing_done, where_none}
+use Rattle.shell_points.proofs.PointReads.{nothing_done, where_none}
 use Rattle.shell_points.proofs.turn.turn_here.Goals as goal
 
 pub returns-in-None : goal.returns-in-None

@@ -9,9 +9,9 @@ use Rattle.shell_points.specs.Firing.{place_at}
 use Rattle.shell_points.specs.Seen.{Walks, point, run_so_far}
 use Rattle.group_texts.specs.Texts.{position_line}
 use Rattle.shell_points.specs.Walking.{lines_in, most_lines, quiet, treat_all, walk_ended, walk_from, walk_on, walk_over}
-use Rattle.shell_points.proofs.Walks.{arrives, lines_append, moves_on, pauses_here, rests_here, stays, step, stops_here}
+use Rattle.shell_points.proofs.PointWalks.{arrives, lines_append, moves_on, pauses_here, rests_here, stays, step, stops_here}
 use Rattle.shell_points.specs.Watching.{watched}
-use Rattle.shell_points.proofs.Reading.{moved_on, read_before, read_now, ticked, ticks_none}
+use Rattle.shell_points.proofs.PointReads.{moved_on, read_before, read_now, ticked, ticks_none}
 use Rattle.shell_points.proofs.walk.walk.Goals as goal
 
 all_three : {A E : Type 0} (r : Result A E) (P Q R S : A → Type 0) → ((a : A) → P a → Q a → R a → S a) → IfOk r P → IfOk r Q → IfOk r R → IfOk r S

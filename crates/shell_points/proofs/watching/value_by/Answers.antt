@@ -1,4 +1,4 @@
-use Rattle.shell_points.proofs.Reading.{dealt_next}
+use Rattle.shell_points.proofs.PointReads.{dealt_next}
 use Rattle.shell_points.proofs.watching.value_by.Goals as goal
 
 pub returns-in-Watch-clause-value : goal.returns-in-Watch-clause-value

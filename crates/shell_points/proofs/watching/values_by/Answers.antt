@@ -1,5 +1,5 @@
 use Rattle.std.proofs.Common.{◌<◌, length, sym, arith}
-use Rattle.shell_points.proofs.Reading.{deals_one, has_room}
+use Rattle.shell_points.proofs.PointReads.{deals_one, has_room}
 use Rattle.shell_points.proofs.watching.values_by.Goals as goal
 
 pub value_by-value-requires-clause-room : goal.value_by-value-requires-clause-room

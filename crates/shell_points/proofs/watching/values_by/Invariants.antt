@@ -1,4 +1,4 @@
-use Rattle.shell_points.proofs.Reading.{AreDealt}
+use Rattle.shell_points.proofs.PointReads.{AreDealt}
 use Rattle.shell_points.proofs.watching.values_by.Given as goal
 
 abbrev pub invariant-loop-point : goal.invariant-loop-point

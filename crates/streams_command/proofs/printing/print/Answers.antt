@@ -1,7 +1,7 @@
 use Rattle.std.proofs.Common.{◌≡◌, ◌∙◌, ◌++◌, ℕ, ap, arith, flat_map, length, take}
 use Rattle.std.proofs.lemmas.List.{take_all}
 use Rattle.streams_command.specs.Streams.{stream_counts_text, stream_line_text}
-use Rattle.streams_command.proofs.Printed.{printed}
+use Rattle.streams_command.proofs.StreamsText.{printed}
 use Rattle.streams_command.proofs.printing.print.Goals as goal
 
 pub returns : goal.returns

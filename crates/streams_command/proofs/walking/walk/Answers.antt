@@ -7,7 +7,7 @@ use Rattle.group_state.specs.Moves.{Moves}
 use Rattle.group_state.specs.Place.{group_count}
 use Rattle.streams_command.specs.Seen.{IsToldOf}
 use Rattle.streams_command.specs.Streams.{traffic_of_event}
-use Rattle.streams_command.proofs.Walked.{all_walked, is_next, one_walked, process_read}
+use Rattle.streams_command.proofs.GroupWalk.{all_walked, is_next, one_walked, process_read}
 use Rattle.streams_command.proofs.walking.walk.Goals as goal
 
 pub returns-in_default : goal.returns-in_default

@@ -1,6 +1,6 @@
 use Rattle.std.proofs.Common.{◌-◌, length}
 use Rattle.group_state.specs.Place.{events}
-use Rattle.streams_command.proofs.Walked.{WalkedTo}
+use Rattle.streams_command.proofs.GroupWalk.{WalkedTo}
 use Rattle.streams_command.proofs.walking.walk.Given as goal
 
 abbrev pub invariant-events : goal.invariant-events

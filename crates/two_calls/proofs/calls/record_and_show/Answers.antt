@@ -1,4 +1,4 @@
-use Rattle.two_calls.proofs.Calling.{shows_recorded}
+use Rattle.two_calls.proofs.SecondCall.{shows_recorded}
 use Rattle.two_calls.proofs.calls.record_and_show.Goals as goal
 
 pub returns-in-Done-clause-shown : goal.returns-in-Done-clause-shown

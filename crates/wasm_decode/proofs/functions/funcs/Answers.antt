@@ -3,7 +3,7 @@ use Rattle.std.proofs.lemmas.List.{map_push}
 use Rattle.std.proofs.lemmas.Result.{err_from_is_err_and}
 use Rattle.std.proofs.Math.ListN.{drop_of_length-le}
 use Rattle.wasm_types.specs.Modules.{func}
-use Rattle.wasm_decode.proofs.Loops.{func_goes_on, func_fails, funcs_done}
+use Rattle.wasm_decode.proofs.ValueLoops.{func_goes_on, func_fails, funcs_done}
 use Rattle.wasm_decode.proofs.functions.funcs.Goals as goal
 
 pub returns-in_err-sized_func : goal.returns-in_err-sized_func

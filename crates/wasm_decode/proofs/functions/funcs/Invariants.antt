@@ -2,7 +2,7 @@
 use Rattle.std.proofs.Common.{◌≡◌, map, drop}
 use Rattle.wasm_types.specs.Modules.{func}
 use Rattle.wasm_decode.specs.Entries.{funcs_at}
-use Rattle.wasm_decode.proofs.Loops.{with_front}
+use Rattle.wasm_decode.proofs.ValueLoops.{with_front}
 use Rattle.wasm_decode.proofs.functions.funcs.Given as goal
 
 abbrev pub invariant-loop-index : goal.invariant-loop-index

@@ -3,7 +3,7 @@ use Rattle.std.proofs.lemmas.Bool.{ne_eqb}
 use Rattle.std.proofs.lemmas.Result.{err_from_is_err_and}
 use Rattle.wasm_types.specs.Code.{tree}
 use Rattle.wasm_decode.specs.Instrs.{is_end_opcode, levels_at}
-use Rattle.wasm_decode.proofs.Steps.{byte_takes}
+use Rattle.wasm_decode.proofs.ReaderSteps.{byte_takes}
 use Rattle.wasm_decode.proofs.InstrLoop.{block_made, loop_made, if_made_one, if_made_two, starts, no_levels, no_byte, ended, no_instr, more, shorter}
 use Rattle.wasm_decode.proofs.instructions.+instrs.Goals as goal
 use Rattle.wasm_decode.proofs.instructions.+instrs.Goals.{sequence-then-opcode-eq-END-via-then-opcode-eq-END, sequence-then-opcode-eq-END-via-else-opcode-eq-END+then-opcode-eq-ELSE}

@@ -1,4 +1,4 @@
-use Rattle.wasm_decode.proofs.ModuleLaws.{module_takes, module_again}
+use Rattle.wasm_decode.proofs.ModuleLemmas.{module_takes, module_again}
 use Rattle.wasm_decode.proofs.laws.module_is_spelled.Goals as goal
 
 pub returns : goal.returns

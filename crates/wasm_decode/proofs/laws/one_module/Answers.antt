@@ -1,6 +1,6 @@
 use Rattle.std.proofs.Common.{sym, ◌∙◌}
-use Rattle.wasm_decode.proofs.Steps.{some_is}
-use Rattle.wasm_decode.proofs.ModuleLaws.{module_again}
+use Rattle.wasm_decode.proofs.ReaderSteps.{some_is}
+use Rattle.wasm_decode.proofs.ModuleLemmas.{module_again}
 use Rattle.wasm_decode.proofs.laws.one_module.Goals as goal
 
 pub returns : goal.returns

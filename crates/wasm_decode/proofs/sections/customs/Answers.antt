@@ -1,6 +1,6 @@
 use Rattle.std.proofs.Common.{◌∙◌, sym, arith, length}
 use Rattle.std.proofs.lemmas.Result.{err_from_is_err_and}
-use Rattle.wasm_decode.proofs.SectionLaws.{custom_shorter, skip_more, skip_fails, skip_done, customs_is}
+use Rattle.wasm_decode.proofs.SectionLemmas.{custom_shorter, skip_more, skip_fails, skip_done, customs_is}
 use Rattle.wasm_decode.proofs.sections.customs.Goals as goal
 
 pub loop-cursor-init : goal.loop-cursor-init

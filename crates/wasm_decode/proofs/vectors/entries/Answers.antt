@@ -1,7 +1,7 @@
 use Rattle.std.proofs.Common.{◌≡◌, ◌++◌, ◌∷◌, [], map}
 use Rattle.std.proofs.lemmas.Result.{err_from_is_err_and}
 use Rattle.std.proofs.lemmas.List.{map_push}
-use Rattle.wasm_decode.proofs.Loops.{goes_on, fails, is_done}
+use Rattle.wasm_decode.proofs.ValueLoops.{goes_on, fails, is_done}
 use Rattle.wasm_decode.proofs.vectors.entries.Goals as goal
 
 pub returns-in_err-read : goal.returns-in_err-read

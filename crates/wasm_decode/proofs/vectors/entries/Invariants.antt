@@ -1,7 +1,7 @@
 -- What was found, with what is still read in front of it, is all that is read.
 use Rattle.std.proofs.Common.{◌≡◌, ◌-◌, map}
 use Rattle.wasm_decode.specs.Values.{each_at}
-use Rattle.wasm_decode.proofs.Loops.{with_front}
+use Rattle.wasm_decode.proofs.ValueLoops.{with_front}
 use Rattle.wasm_decode.proofs.vectors.entries.Given as goal
 
 abbrev pub invariant-loop : goal.invariant-loop

@@ -1,5 +1,5 @@
-use Rattle.wasm_step.proofs.Bursts.{burst_fits, burst_module}
-use Rattle.wasm_step.proofs.Marking.{burst_marks}
+use Rattle.wasm_step.proofs.BurstsFit.{burst_fits, burst_module}
+use Rattle.wasm_step.proofs.InstructionMarks.{burst_marks}
 use Rattle.wasm_step.proofs.laws.never_stuck.Goals as goal
 
 pub returns-clause-stops : goal.returns-clause-stops

@@ -1,4 +1,4 @@
-use Rattle.wasm_store.proofs.Marking.{follow, grown, same, set, written}
+use Rattle.wasm_store.proofs.StoreMarks.{follow, grown, same, set, written}
 use Rattle.wasm_store.proofs.laws.marked.Goals as goal
 
 pub returns-clause-set : goal.returns-clause-set

@@ -1,7 +1,7 @@
 use Rattle.std.proofs.Common.{◌∙◌, ap, arith}
 use Rattle.std.proofs.lemmas.Grind.{common_steps}
 use Rattle.wasm_store.specs.Globals.{stamps_of_globals, values_of}
-use Rattle.wasm_store.proofs.Globals.{first_stamps_are, first_values_are}
+use Rattle.wasm_store.proofs.GlobalViews.{first_stamps_are, first_values_are}
 use Rattle.wasm_store.proofs.start.begin.Goals as goal
 
 pub returns : goal.returns

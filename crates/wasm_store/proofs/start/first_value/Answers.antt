@@ -1,4 +1,4 @@
-use Rattle.wasm_store.proofs.Fitting.{value_read}
+use Rattle.wasm_store.proofs.SegmentsFit.{value_read}
 use Rattle.wasm_store.proofs.start.first_value.Goals as goal
 
 pub returns : goal.returns

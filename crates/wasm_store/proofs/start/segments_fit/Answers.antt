@@ -3,7 +3,7 @@ use Rattle.std.specs.Prelude.{◌&&◌}
 use Rattle.std.specs.List.{list_all}
 use Rattle.wasm_types.specs.Modules.{module_of}
 use Rattle.wasm_store.specs.Start.{first_min, initial_globals, is_elem_inside, is_segment_within}
-use Rattle.wasm_store.proofs.Fitting.{fit_by_sizes}
+use Rattle.wasm_store.proofs.SegmentsFit.{fit_by_sizes}
 use Rattle.wasm_store.proofs.start.segments_fit.Goals as goal
 
 pub returns-then-are_elems_inside : goal.returns-then-are_elems_inside

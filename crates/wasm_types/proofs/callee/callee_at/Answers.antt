@@ -3,7 +3,7 @@ use Rattle.std.proofs.lemmas.Grind.{common_steps}
 use Rattle.std.proofs.lemmas.Option.{gets, slice_get-map}
 use Rattle.std.specs.Option.{option_map}
 use Rattle.wasm_types.specs.Modules.{func, module_of}
-use Rattle.wasm_types.proofs.LocalLaws.{zeros_at}
+use Rattle.wasm_types.proofs.LocalLemmas.{zeros_at}
 use Rattle.wasm_types.proofs.callee.callee_at.Goals as goal
 
 module _ (c : goal.In-Some-declared) where

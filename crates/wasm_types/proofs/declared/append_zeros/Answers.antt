@@ -1,7 +1,7 @@
 use Rattle.std.proofs.Common.{◌≡◌, ℕ, ◌+◌, ◌-◌, List, ◌++◌, length, take, replicate, ◌∙◌, arith, append_assoc}
 use Rattle.std.proofs.lemmas.List.{take_all}
 use Rattle.wasm_types.specs.declared.code.Value.{Value}
-use Rattle.wasm_types.proofs.Zeros.{zeros_more}
+use Rattle.wasm_types.proofs.ZeroLocals.{zeros_more}
 use Rattle.wasm_types.proofs.declared.append_zeros.Goals as goal
 
 -- a list of `len` values that is resized to `m + n`, where `m` is `len` too, gets `n` values more

@@ -1,5 +1,5 @@
 use Rattle.std.proofs.Common.{◌+◌, arith}
-use Rattle.wasm_types.proofs.Zeros.{zeros_count, zeros_part}
+use Rattle.wasm_types.proofs.ZeroLocals.{zeros_count, zeros_part}
 use Rattle.wasm_types.proofs.declared.count_of.Goals as goal
 
 pub returns-then-run-count : goal.returns-then-run-count

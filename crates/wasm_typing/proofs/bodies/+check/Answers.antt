@@ -1,6 +1,6 @@
 use Rattle.std.proofs.Common.{arith}
 use Rattle.std.proofs.lemmas.Grind.{common_steps}
-use Rattle.wasm_typing.proofs.Trees.{after-block, after-loop, after-if}
+use Rattle.wasm_typing.proofs.TreeStacks.{after-block, after-loop, after-if}
 use Rattle.wasm_typing.proofs.bodies.+check.Goals as goal
 
 pub check-returns-in-Block-clause-typed : goal.check-returns-in-Block-clause-typed

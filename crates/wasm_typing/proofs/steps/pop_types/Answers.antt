@@ -1,5 +1,5 @@
 use Rattle.std.proofs.Common.{reverse, sym, ◌∙◌}
-use Rattle.wasm_typing.proofs.Unknown.{pop_each-unknown}
+use Rattle.wasm_typing.proofs.UnknownOperands.{pop_each-unknown}
 use Rattle.wasm_typing.proofs.steps.pop_types.Goals as goal
 
 pub returns-then-is_unknown : goal.returns-then-is_unknown

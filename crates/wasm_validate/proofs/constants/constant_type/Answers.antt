@@ -1,4 +1,4 @@
-use Rattle.wasm_validate.proofs.ConstantLaws.{no_constant}
+use Rattle.wasm_validate.proofs.ConstantLemmas.{no_constant}
 use Rattle.wasm_validate.proofs.constants.constant_type.Goals as goal
 
 pub returns-in-None : goal.returns-in-None

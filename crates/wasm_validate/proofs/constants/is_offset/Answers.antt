@@ -1,6 +1,6 @@
 use Rattle.std.proofs.Common.{map}
 use Rattle.wasm_types.specs.Modules.{global_def}
-use Rattle.wasm_validate.proofs.ConstantLaws.{no_offset}
+use Rattle.wasm_validate.proofs.ConstantLemmas.{no_offset}
 use Rattle.wasm_validate.proofs.constants.is_offset.Goals as goal
 
 pub returns-in-None : goal.returns-in-None

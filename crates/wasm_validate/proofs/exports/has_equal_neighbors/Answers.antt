@@ -1,4 +1,4 @@
-use Rattle.wasm_validate.proofs.NameLaws.{equal_at, differ_more}
+use Rattle.wasm_validate.proofs.NameLemmas.{equal_at, differ_more}
 use Rattle.wasm_validate.proofs.exports.has_equal_neighbors.Goals as goal
 
 pub returns-then-is_same : goal.returns-then-is_same

@@ -2,7 +2,7 @@ use Rattle.std.proofs.Common.{◌≡◌, ◌≢◌, Bool, true, false, not, map,
 use Rattle.std.proofs.lemmas.List.{take_all}
 use Rattle.wasm_types.specs.declared.modules.Export.{Export}
 use Rattle.wasm_validate.specs.Neighbors.{HasEqualNeighbors, HasNoEqualNeighbors}
-use Rattle.wasm_validate.proofs.NameLaws.{names_differ, names_repeat}
+use Rattle.wasm_validate.proofs.NameLemmas.{names_differ, names_repeat}
 use Rattle.wasm_validate.proofs.exports.have_own_names.Goals as goal
 
 judged : (r : Bool) (Repeat Differ Own : Type 0) → MatchBool r Repeat Differ → (Repeat → Own → ⊥) → (Differ → Own) → IsTrue (not r) ↔ Own

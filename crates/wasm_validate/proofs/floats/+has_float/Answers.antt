@@ -1,5 +1,5 @@
 use Rattle.std.proofs.Common.{sym, ◌∙◌}
-use Rattle.wasm_validate.proofs.FloatLaws.{block_is, first_is, second_is}
+use Rattle.wasm_validate.proofs.FloatLemmas.{block_is, first_is, second_is}
 use Rattle.wasm_validate.proofs.floats.+has_float.Goals as goal
 
 pub has_float-returns-then-have_float : goal.has_float-returns-then-have_float

@@ -1,5 +1,5 @@
 use Rattle.std.proofs.Common.{sym, ◌∙◌}
-use Rattle.wasm_validate.proofs.FloatLaws.{last_is}
+use Rattle.wasm_validate.proofs.FloatLemmas.{last_is}
 use Rattle.wasm_validate.proofs.floats.is_with_floats.Goals as goal
 
 pub returns-else-in_elems : goal.returns-else-in_elems

@@ -1,7 +1,7 @@
 use Rattle.std.proofs.lemmas.Result.{err_from_is_err_and}
 use Rattle.wasm_types.specs.Modules.{func, module_of}
 use Rattle.wasm_types.specs.Rules.{IsTypedFunc, AreTypedFuncs}
-use Rattle.wasm_validate.proofs.Loops.{All-step, All-done, judges_refused, not_all}
+use Rattle.wasm_validate.proofs.ListLoops.{All-step, All-done, judges_refused, not_all}
 use Rattle.wasm_validate.proofs.functions.check_functions.Goals as goal
 
 pub loop-function-preserved : goal.loop-function-preserved

@@ -1,7 +1,7 @@
 use Rattle.std.proofs.Common.{map, refl}
 use Rattle.wasm_types.specs.Modules.{func_type, import_of}
 use Rattle.wasm_types.specs.Library.{IsOfLibrary}
-use Rattle.wasm_validate.proofs.Loops.{All-step, All-done, not_all}
+use Rattle.wasm_validate.proofs.ListLoops.{All-step, All-done, not_all}
 use Rattle.wasm_validate.proofs.imports.are_of_library.Goals as goal
 
 pub returns-then-not-is_of_library : goal.returns-then-not-is_of_library

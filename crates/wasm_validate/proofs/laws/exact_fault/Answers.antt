@@ -1,4 +1,4 @@
-use Rattle.wasm_validate.proofs.FaultLaws.{no_fault, is_valid, found_first, first_found}
+use Rattle.wasm_validate.proofs.FaultLemmas.{no_fault, is_valid, found_first, first_found}
 use Rattle.wasm_validate.proofs.laws.exact_fault.Goals as goal
 
 pub returns : goal.returns

@@ -1,5 +1,5 @@
 use Rattle.std.proofs.Common.{sym, ◌∙◌}
-use Rattle.wasm_validate.proofs.ShapeLaws.{shaped_from, within_by, linked_by, own_names, own_names_shown}
+use Rattle.wasm_validate.proofs.ShapeLemmas.{shaped_from, within_by, linked_by, own_names, own_names_shown}
 use Rattle.wasm_validate.proofs.shape.check_shape.Goals as goal
 
 pub returns-then-not-is_within_limits : goal.returns-then-not-is_within_limits

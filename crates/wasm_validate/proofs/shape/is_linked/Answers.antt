@@ -1,5 +1,5 @@
 use Rattle.std.proofs.Common.{sym, ◌∙◌}
-use Rattle.wasm_validate.proofs.ShapeLaws.{last_is}
+use Rattle.wasm_validate.proofs.ShapeLemmas.{last_is}
 use Rattle.wasm_validate.proofs.shape.is_linked.Goals as goal
 
 pub returns : goal.returns

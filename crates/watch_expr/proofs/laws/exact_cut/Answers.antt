@@ -1,4 +1,4 @@
-use Rattle.watch_expr.proofs.CutLaws.{tokens, bad}
+use Rattle.watch_expr.proofs.CutLemmas.{tokens, bad}
 use Rattle.watch_expr.proofs.laws.exact_cut.Goals as goal
 
 pub returns : goal.returns

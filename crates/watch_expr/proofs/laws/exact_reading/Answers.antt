@@ -1,4 +1,4 @@
-use Rattle.watch_expr.proofs.ReadingLaws.{expressions, begins_is, viable_is}
+use Rattle.watch_expr.proofs.ReadingLemmas.{expressions, begins_is, viable_is}
 use Rattle.watch_expr.proofs.laws.exact_reading.Goals as goal
 
 pub returns : goal.returns

@@ -1,4 +1,4 @@
-use Rattle.watch_expr.proofs.ApartLaws.{none_in}
+use Rattle.watch_expr.proofs.ApartLemmas.{none_in}
 use Rattle.watch_expr.proofs.laws.none_apart.Goals as goal
 
 pub returns : goal.returns

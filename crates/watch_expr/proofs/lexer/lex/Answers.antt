@@ -2,7 +2,7 @@ use Rattle.std.proofs.Common.{◌≡◌, ℕ, ◌-◌, ◌<◌, ◌≤◌, ◌�
 use Rattle.std.proofs.lemmas.List.{length-take-le}
 use Rattle.watch_expr.specs.Front.{front}
 use Rattle.watch_expr.specs.Lexing.{Placed, is_too_deep}
-use Rattle.watch_expr.proofs.Cutting.{slice_rest, cut_blank, cut_token, cut_bad, cut_all, moves}
+use Rattle.watch_expr.proofs.OneCut.{slice_rest, cut_blank, cut_token, cut_bad, cut_all, moves}
 use Rattle.watch_expr.proofs.lexer.lex.Goals as goal
 
 pub loop-at-preserved-then-is_blank : goal.loop-at-preserved-then-is_blank

@@ -1,5 +1,5 @@
 use Rattle.std.proofs.Common.{◌-◌, length}
-use Rattle.watch_expr.proofs.Cutting.{Cuts}
+use Rattle.watch_expr.proofs.OneCut.{Cuts}
 use Rattle.watch_expr.proofs.lexer.lex.Given as goal
 
 abbrev pub invariant-loop-at : goal.invariant-loop-at

@@ -2,7 +2,7 @@ use Rattle.std.proofs.Common.{◌≡◌, true, rules, sym, ◌∙◌}
 use Rattle.std.specs.Char.{is_ascii_hexdigit}
 use Rattle.std.specs.List.{list_all}
 use Rattle.watch_expr.specs.Spelling.{most_number}
-use Rattle.watch_expr.proofs.Numbers.{IsUtf8-digits, too_great, hex_number_is}
+use Rattle.watch_expr.proofs.WordNumbers.{IsUtf8-digits, too_great, hex_number_is}
 use Rattle.watch_expr.proofs.number.read_hexadecimal.Goals as goal
 
 pub returns-in_default : goal.returns-in_default

@@ -2,7 +2,7 @@ use Rattle.std.proofs.Common.{List, [], ◌∷◌, ap, ◌∙◌, refl}
 use Rattle.watch_expr.specs.Expression.{expression_of}
 use Rattle.watch_expr.specs.Machine.{PendingOperator, Left, Front, pile}
 use Rattle.watch_expr.specs.declared.stack.Frame.TheVariants as frame
-use Rattle.watch_expr.proofs.Piles.{close_refused, closed_step, popped}
+use Rattle.watch_expr.proofs.StackPiles.{close_refused, closed_step, popped}
 use Rattle.watch_expr.proofs.parser.close.Goals as goal
 
 pub returns-in_ok-closed-in-Some-Inside : goal.returns-in_ok-closed-in-Some-Inside

@@ -2,7 +2,7 @@ use Rattle.std.proofs.Common.{sym, ap, ◌∙◌}
 use Rattle.watch_expr.specs.Expression.{expression_of}
 use Rattle.watch_expr.specs.declared.stack.Mode.{Mode}
 use Rattle.watch_expr.specs.Machine.{whole_expression, whole, state}
-use Rattle.watch_expr.proofs.Piles.{alone_none, not_empty}
+use Rattle.watch_expr.proofs.StackPiles.{alone_none, not_empty}
 use Rattle.watch_expr.proofs.parser.finish.Goals as goal
 
 pub returns : goal.returns

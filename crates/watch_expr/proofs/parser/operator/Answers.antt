@@ -3,7 +3,7 @@ use Rattle.watch_expr.specs.Grammar.{left_level}
 use Rattle.watch_expr.specs.Expression.{expression_of}
 use Rattle.watch_expr.specs.Machine.{settle_operators, pile}
 use Rattle.watch_expr.specs.declared.stack.Frame.TheVariants as frame
-use Rattle.watch_expr.proofs.Piles.{chains_refused, operator_taken, popped}
+use Rattle.watch_expr.proofs.StackPiles.{chains_refused, operator_taken, popped}
 use Rattle.watch_expr.proofs.parser.operator.Goals as goal
 
 pub returns-then-chains : goal.returns-then-chains

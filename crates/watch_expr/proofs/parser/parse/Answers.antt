@@ -2,7 +2,7 @@ use Rattle.std.proofs.Common.{◌<◌, length, arith, sym}
 use Rattle.std.proofs.lemmas.Option.{slice_get_within}
 use Rattle.watch_expr.specs.Lexing.{texts}
 use Rattle.watch_expr.specs.Machine.{state}
-use Rattle.watch_expr.proofs.Parsing.{went_on, stopped, all_taken}
+use Rattle.watch_expr.proofs.ParseResults.{went_on, stopped, all_taken}
 use Rattle.watch_expr.proofs.parser.parse.Goals as goal
 
 pub loop-text-smaller : goal.loop-text-smaller

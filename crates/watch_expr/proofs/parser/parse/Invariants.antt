@@ -1,7 +1,7 @@
 use Rattle.std.proofs.Common.{◌-◌, length}
 use Rattle.watch_expr.specs.Lexing.{texts}
 use Rattle.watch_expr.specs.Machine.{state}
-use Rattle.watch_expr.proofs.Parsing.{Reached}
+use Rattle.watch_expr.proofs.ParseResults.{Reached}
 use Rattle.watch_expr.proofs.parser.parse.Given as goal
 
 abbrev pub invariant-loop-text : goal.invariant-loop-text

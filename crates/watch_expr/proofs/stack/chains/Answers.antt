@@ -1,7 +1,7 @@
 use Rattle.std.proofs.Common.{◌≡◌, ◌-◌, List, length, slice_get, Option, Some, sym, ap, ◌∙◌, refl}
 use Rattle.watch_expr.specs.declared.stack.Frame.{Frame}
 use Rattle.watch_expr.specs.Grammar.{operator_level}
-use Rattle.watch_expr.proofs.Piles.{compares_last}
+use Rattle.watch_expr.proofs.StackPiles.{compares_last}
 use Rattle.watch_expr.proofs.stack.chains.Goals as goal
 
 pub returns-then-level_of-eq2 : goal.returns-then-level_of-eq2

@@ -1,6 +1,6 @@
 use Rattle.std.proofs.Common.{arith, ◌≤◌}
 use Rattle.watch_expr.specs.Grammar.{operator_level}
-use Rattle.watch_expr.proofs.Piles.{front_step, left_step, left_stops, inside_stops}
+use Rattle.watch_expr.proofs.StackPiles.{front_step, left_step, left_stops, inside_stops}
 use Rattle.watch_expr.proofs.stack.settled.Goals as goal
 
 pub loop-frame-preserved : goal.loop-frame-preserved

@@ -2,7 +2,7 @@ use Rattle.std.proofs.Common.{◌≤◌, ◌<◌, length, sym, ap, ◌∙◌, ar
 use Rattle.watch_expr.specs.declared.expr.Expr.{Expr}
 use Rattle.watch_expr.specs.Expression.{expression_of}
 use Rattle.watch_expr.specs.Value.{setting, value_at}
-use Rattle.watch_expr.proofs.Tallies.{ends_all, ends_none, goes_on}
+use Rattle.watch_expr.proofs.ValueTallies.{ends_all, ends_none, goes_on}
 use Rattle.watch_expr.proofs.value.+eval.Goals as goal
 
 pub returns-in_err-a-in-Over : goal.returns-in_err-a-in-Over

@@ -1,6 +1,6 @@
 use Rattle.watch_expr.specs.Expression.{expression_of}
 use Rattle.watch_expr.specs.Value.{setting}
-use Rattle.watch_expr.proofs.Tallies.{IsOnTheWay}
+use Rattle.watch_expr.proofs.ValueTallies.{IsOnTheWay}
 use Rattle.watch_expr.proofs.value.+eval.Given as goal
 
 abbrev pub decreases-eval_at : goal.decreases-eval_at

@@ -1,4 +1,4 @@
-use Rattle.byte_streams.proofs.Maps.{by_sender_exact, insert-seen}
+use Rattle.byte_streams.proofs.TreeMaps.{by_sender_exact, insert-seen}
 use Rattle.byte_streams.proofs.send_map.SendMap.add.Goals as goal
 
 pub returns : goal.returns

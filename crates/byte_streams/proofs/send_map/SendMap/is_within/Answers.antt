@@ -2,7 +2,7 @@ use Rattle.std.proofs.Common.{Option, ap, sym, ◌∙◌}
 use Rattle.byte_streams.specs.Keeping.{is_front_of_sent}
 use Rattle.byte_streams.specs.Seen.{piece_of}
 use Rattle.byte_streams.specs.declared.send_map.SentChunk.{SentChunk}
-use Rattle.byte_streams.proofs.Maps.{by_sender_exact, get-seen}
+use Rattle.byte_streams.proofs.TreeMaps.{by_sender_exact, get-seen}
 use Rattle.byte_streams.proofs.send_map.SendMap.is_within.Goals as goal
 
 pub returns-in_default : goal.returns-in_default

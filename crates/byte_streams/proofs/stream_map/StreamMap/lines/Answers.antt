@@ -3,7 +3,7 @@ use Rattle.std.proofs.lemmas.Iterator.{YieldsList-from_map, items_from_collect}
 use Rattle.std.proofs.lemmas.Iterator.Consumers.{YieldsList-at, YieldsList-from_rest}
 use Rattle.byte_streams.specs.Keys.{Contents, StreamKey}
 use Rattle.byte_streams.specs.Lines.{stream_line}
-use Rattle.byte_streams.proofs.Maps.{by_stream_exact, entries-seen}
+use Rattle.byte_streams.proofs.TreeMaps.{by_stream_exact, entries-seen}
 use Rattle.byte_streams.proofs.stream_map.StreamMap.lines.Goals as goal
 
 pub returns : goal.returns

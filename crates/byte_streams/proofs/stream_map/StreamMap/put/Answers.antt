@@ -1,4 +1,4 @@
-use Rattle.byte_streams.proofs.Maps.{by_stream_exact, insert-seen}
+use Rattle.byte_streams.proofs.TreeMaps.{by_stream_exact, insert-seen}
 use Rattle.byte_streams.proofs.stream_map.StreamMap.put.Goals as goal
 
 pub returns : goal.returns

@@ -1,6 +1,6 @@
 use Rattle.std.proofs.Common.{List, ℕ, Bor, None, Some, ap, sym, ◌∙◌, option_map}
 use Rattle.byte_streams.specs.Lines.{read_of}
-use Rattle.byte_streams.proofs.Maps.{by_stream_exact, get-seen}
+use Rattle.byte_streams.proofs.TreeMaps.{by_stream_exact, get-seen}
 use Rattle.byte_streams.proofs.stream_map.StreamMap.read_bytes.Goals as goal
 
 pub returns-in_err-get : goal.returns-in_err-get

@@ -3,8 +3,8 @@ use Rattle.std.specs.BTreeMap.{BTreeMap}
 use Rattle.std.specs.FinMap as map
 use Rattle.byte_streams.specs.Keys.{Contents, StreamKey}
 use Rattle.byte_streams.specs.Seen.{piece_of}
-use Rattle.byte_streams.proofs.Changing.{begun, counts_there, sent_there}
-use Rattle.byte_streams.proofs.Maps.{by_stream_exact, get-seen, insert-seen}
+use Rattle.byte_streams.proofs.PieceChanges.{begun, counts_there, sent_there}
+use Rattle.byte_streams.proofs.TreeMaps.{by_stream_exact, get-seen, insert-seen}
 use Rattle.byte_streams.proofs.stream_map.StreamMap.write.Goals as goal
 
 pub returns-in-Some-clause-counts : goal.returns-in-Some-clause-counts

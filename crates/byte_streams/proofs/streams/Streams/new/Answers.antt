@@ -1,4 +1,4 @@
-use Rattle.byte_streams.proofs.Steps.{nothing_stands}
+use Rattle.byte_streams.proofs.StreamsSteps.{nothing_stands}
 use Rattle.byte_streams.proofs.streams.Streams.new.Goals as goal
 
 pub returns : goal.returns

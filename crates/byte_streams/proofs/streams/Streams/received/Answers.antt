@@ -1,8 +1,8 @@
 use Rattle.std.proofs.Common.{sym}
 use Rattle.byte_streams.specs.Seen.{piece_of}
-use Rattle.byte_streams.proofs.Steps.{receive_covering, receive_outside, receive_elsewhere}
+use Rattle.byte_streams.proofs.StreamsSteps.{receive_covering, receive_outside, receive_elsewhere}
 use Rattle.byte_streams.proofs.streams.Streams.received.Goals.{then-not-is_within-via-then-not-is_within, then-not-is_within-via-else-not-is_within+then-not-cover}
-use Rattle.byte_streams.proofs.Receives.{received_plain}
+use Rattle.byte_streams.proofs.KeptAfterReceive.{received_plain}
 use Rattle.byte_streams.proofs.streams.Streams.received.Goals as goal
 
 pub returns-in_default : goal.returns-in_default

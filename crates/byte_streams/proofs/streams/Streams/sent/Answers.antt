@@ -1,7 +1,7 @@
 use Rattle.std.proofs.Common.{sym}
 use Rattle.byte_streams.specs.Seen.{piece_of}
-use Rattle.byte_streams.proofs.Sends.{sent_plain}
-use Rattle.byte_streams.proofs.Steps.{counting_send, strange_send}
+use Rattle.byte_streams.proofs.KeptAfterSend.{sent_plain}
+use Rattle.byte_streams.proofs.StreamsSteps.{counting_send, strange_send}
 use Rattle.byte_streams.proofs.streams.Streams.sent.Goals as goal
 
 pub returns-in_default : goal.returns-in_default

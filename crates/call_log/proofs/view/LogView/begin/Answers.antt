@@ -1,4 +1,4 @@
-use Rattle.call_log.proofs.HeadLaws.{head_at-begins, head_at-none}
+use Rattle.call_log.proofs.HeadLemmas.{head_at-begins, head_at-none}
 use Rattle.call_log.proofs.view.LogView.begin.Goals as goal
 
 pub returns-in_default-clause-missing : goal.returns-in_default-clause-missing

@@ -4,8 +4,8 @@ use Rattle.lib_calls.specs.declared.entry.Entry.{Entry}
 use Rattle.lib_calls.specs.Entry.{entry_of}
 use Rattle.call_log.specs.Entry.{encoding}
 use Rattle.call_log.specs.Log.{Log, Unread, entries_of, entry_at, rest_of}
-use Rattle.call_log.proofs.EntryLaws.{entry_at-begins, entry_at-none}
-use Rattle.call_log.proofs.Entries.{Stops, entries_of-next, rest_of-next, shorter, entries_of-end, rest_of-end}
+use Rattle.call_log.proofs.EntryLemmas.{entry_at-begins, entry_at-none}
+use Rattle.call_log.proofs.AllEntries.{Stops, entries_of-next, rest_of-next, shorter, entries_of-end, rest_of-end}
 use Rattle.call_log.proofs.view.LogView.next_entry.Goals as goal
 
 -- what holds, holds where there is nothing

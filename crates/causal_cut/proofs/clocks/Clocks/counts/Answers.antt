@@ -1,7 +1,7 @@
 use Rattle.std.proofs.Common.{◌≡◌, ◌∙◌, ◌<◌, ℕ, List, [], ◌∷◌, ◌++◌, length, map, Some, sym, ap, arith, refl}
 use Rattle.std.specs.Prelude.{option_map, slice_get}
 use Rattle.std.proofs.lemmas.Option.{slice_get-map, slice_get_read}
-use Rattle.causal_cut.proofs.Places.{map_more}
+use Rattle.causal_cut.proofs.ListPlaces.{map_more}
 use Rattle.causal_cut.proofs.clocks.Clocks.counts.Goals as goal
 
 pub loop-own-preserved : goal.loop-own-preserved

@@ -2,7 +2,7 @@ use Rattle.std.proofs.Common.{◌≡◌, ◌∙◌, ◌<◌, ◌+◌, ℕ, List,
 use Rattle.std.specs.Prelude.{option_map}
 use Rattle.std.proofs.lemmas.List.{get_or-map, length-map}
 use Rattle.causal_cut.specs.Asks.{AreRising, number_among}
-use Rattle.causal_cut.proofs.Numbering.{number_searched}
+use Rattle.causal_cut.proofs.ClockNumbers.{number_searched}
 use Rattle.causal_cut.proofs.clocks.Clocks.number.Goals as goal
 
 pub returns-in_err-index : goal.returns-in_err-index

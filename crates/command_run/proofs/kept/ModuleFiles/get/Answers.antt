@@ -7,7 +7,7 @@ use Rattle.wasm_types.specs.Modules.{module_of as shown}
 use Rattle.command_run.specs.declared.kept.ModuleFile.{ModuleFile}
 use Rattle.command_run.specs.Inputs.{module_in}
 use Rattle.command_run.specs.Kept.{IsOfFile}
-use Rattle.command_run.proofs.Keeping.{found_so, none_passes, one_passes, said_of_none}
+use Rattle.command_run.proofs.KeptModules.{found_so, none_passes, one_passes, said_of_none}
 use Rattle.command_run.proofs.kept.ModuleFiles.get.Goals as goal
 
 pub returns-in_err-file-clause-none : goal.returns-in_err-file-clause-none

@@ -3,7 +3,7 @@ use Rattle.std.specs.Prelude.{IsTrue, bytes_eq, string_bytes}
 use Rattle.std.specs.List.{list_any}
 use Rattle.std.proofs.lemmas.Slice.Eq.{bytes_eq-Decides}
 use Rattle.command_run.specs.declared.kept.ModuleFile.{ModuleFile}
-use Rattle.command_run.proofs.Keeping.{last_passes}
+use Rattle.command_run.proofs.KeptModules.{last_passes}
 use Rattle.command_run.proofs.kept.ModuleFiles.take.Goals as goal
 
 pub returns-clause-read : goal.returns-clause-read

@@ -1,7 +1,7 @@
 use Rattle.std.proofs.Common.{sym, ap, ◌∙◌}
 use Rattle.std.specs.FinMap as map
 use Rattle.coop_threads.specs.Locks.{Holders}
-use Rattle.coop_threads.proofs.Held.{get-held}
+use Rattle.coop_threads.proofs.LockHolders.{get-held}
 use Rattle.coop_threads.proofs.locks.Locks.holder.Goals as goal
 
 pub returns : goal.returns

@@ -1,6 +1,6 @@
 use Rattle.std.proofs.Common.{◌≡◌, None, ap, ◌∙◌}
 use Rattle.std.specs.FinMap as map
-use Rattle.coop_threads.proofs.Held.{held-insert}
+use Rattle.coop_threads.proofs.LockHolders.{held-insert}
 use Rattle.coop_threads.specs.Locks.{Holders, holders_after}
 use Rattle.coop_threads.proofs.locks.Locks.lock.Goals as goal
 

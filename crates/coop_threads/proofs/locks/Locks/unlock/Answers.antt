@@ -1,7 +1,7 @@
 use Rattle.std.proofs.Common.{ap, ◌∙◌}
 use Rattle.std.specs.FinMap as map
 use Rattle.coop_threads.specs.Locks.{Holders}
-use Rattle.coop_threads.proofs.Held.{held-remove}
+use Rattle.coop_threads.proofs.LockHolders.{held-remove}
 use Rattle.coop_threads.proofs.locks.Locks.unlock.Goals as goal
 
 pub returns-clause-freed : goal.returns-clause-freed

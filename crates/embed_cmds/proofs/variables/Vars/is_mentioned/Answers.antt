@@ -1,5 +1,5 @@
 use Rattle.std.proofs.Common.{List, ap, ◌∙◌}
-use Rattle.embed_cmds.proofs.Kept.{found_mentioned}
+use Rattle.embed_cmds.proofs.MapEntries.{found_mentioned}
 use Rattle.embed_cmds.specs.Variables.{Variable, is_mentioned}
 use Rattle.embed_cmds.proofs.variables.Vars.is_mentioned.Goals as goal
 

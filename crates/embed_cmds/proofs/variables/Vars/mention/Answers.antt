@@ -1,5 +1,5 @@
 use Rattle.std.proofs.Common.{◌≡◌, List, None, OnOk, length, take, ap, sym, subst, ◌∙◌}
-use Rattle.embed_cmds.proofs.Mentioned.{front_kept, mention_front, set_mentions}
+use Rattle.embed_cmds.proofs.MentionOrder.{front_kept, mention_front, set_mentions}
 use Rattle.embed_cmds.specs.Variables.{Variable, with_value}
 use Rattle.embed_cmds.proofs.variables.Vars.mention.Goals as goal
 

@@ -1,7 +1,7 @@
 use Rattle.std.proofs.Common.{◌≡◌, ℕ, Bool, false, List, length, take, nat_le, Option, ℤ, sym, ap, ◌∙◌, if◌then◌else◌, rules}
 use Rattle.std.proofs.lemmas.List.{take-map}
 use Rattle.std.specs.Global.{Vec}
-use Rattle.embed_cmds.proofs.Mentioned.{front_stays}
+use Rattle.embed_cmds.proofs.MentionOrder.{front_stays}
 use Rattle.embed_cmds.specs.Faulty.{set_names}
 use Rattle.embed_cmds.specs.Kept.{variable, variables_of}
 use Rattle.embed_cmds.specs.Tree.{body}

@@ -1,6 +1,6 @@
 use Rattle.std.proofs.Common.{List, ap, ◌∙◌}
 use Rattle.std.specs.Option.{option_flatten}
-use Rattle.embed_cmds.proofs.Kept.{found_value}
+use Rattle.embed_cmds.proofs.MapEntries.{found_value}
 use Rattle.embed_cmds.specs.Variables.{Variable, variable_value}
 use Rattle.embed_cmds.proofs.variables.VarsScope.value.Goals as goal
 

@@ -1,7 +1,7 @@
 use Rattle.std.proofs.Common.{sym}
 use Rattle.fri_bytes.specs.Short.{IsShort, short_at}
 use Rattle.fri_bytes.proofs.Readers.{none_begins, only_begins}
-use Rattle.fri_bytes.proofs.Shorts.{short_reads}
+use Rattle.fri_bytes.proofs.ShortNumbers.{short_reads}
 use Rattle.fri_bytes.proofs.cursor.Cursor.short_u64.Goals as goal
 
 pub returns-in_err-number-clause-none : goal.returns-in_err-number-clause-none

@@ -1,7 +1,7 @@
 use Rattle.std.proofs.Common.{◌∙◌, ◌++◌, ℕ, List, take, drop, ap, sym, arith}
 use Rattle.std.proofs.lemmas.Grind.{common_steps}
 use Rattle.fri_outside.specs.Memory.{SourceInMemory}
-use Rattle.fri_outside.proofs.Known.{front_given, given_more}
+use Rattle.fri_outside.proofs.KnownBytes.{front_given, given_more}
 use Rattle.fri_outside.proofs.mem_streams.MemSourceSource.read.Goals as goal
 
 pub returns-clause-bytes : goal.returns-clause-bytes

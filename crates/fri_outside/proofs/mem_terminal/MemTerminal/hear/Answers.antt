@@ -2,7 +2,7 @@ use Rattle.std.proofs.Common.{◌≡◌, ◌∷◌, ◌++◌, ℕ, List, [], len
 use Rattle.std.specs.Prelude.{Ok}
 use Rattle.fri_outside.specs.Memory.{Hears, TerminalInMemory}
 use Rattle.fri_outside.specs.declared.mem_terminal.Mark.{Mark}
-use Rattle.fri_outside.proofs.Marks.{hears_noted, told}
+use Rattle.fri_outside.proofs.GivenTimes.{hears_noted, told}
 use Rattle.fri_outside.proofs.mem_terminal.MemTerminal.hear.Goals as goal
 
 pub returns-clause-heard : goal.returns-clause-heard

@@ -1,6 +1,6 @@
 use Rattle.std.proofs.Common.{subst}
 use Rattle.fri_outside.specs.Memory.{Says, TerminalInMemory}
-use Rattle.fri_outside.proofs.Marks.{says_kept, told}
+use Rattle.fri_outside.proofs.GivenTimes.{says_kept, told}
 use Rattle.fri_outside.proofs.mem_terminal.MemTerminal.say.Goals as goal
 
 pub returns : goal.returns

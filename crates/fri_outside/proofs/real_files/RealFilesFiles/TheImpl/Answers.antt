@@ -1,5 +1,5 @@
 use Rattle.std.proofs.Common.{refl, inl}
-use Rattle.fri_outside.proofs.Untold.{at_ok, at_err}
+use Rattle.fri_outside.proofs.UntoldFiles.{at_ok, at_err}
 use Rattle.fri_outside.proofs.real_files.RealFilesFiles.TheImpl.Goals as goal
 
 pub read-tells : goal.read-tells

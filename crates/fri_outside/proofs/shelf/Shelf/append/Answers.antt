@@ -2,7 +2,7 @@ use Rattle.std.proofs.Common.{◌++◌, ap, ◌∙◌, rules}
 use Rattle.std.specs.FinMap.{insert}
 use Rattle.std.proofs.lemmas.Result.{err_from_is_err_and, on_ok_weaker}
 use Rattle.fri_outside.specs.Outside.{Folder, bytes_at}
-use Rattle.fri_outside.proofs.Stored.{folder_appended, folder_kept, folder_begun}
+use Rattle.fri_outside.proofs.StoredFiles.{folder_appended, folder_kept, folder_begun}
 use Rattle.fri_outside.proofs.shelf.Shelf.append.Goals as goal
 
 pub returns-in_err-extend_from_slice-in-Some-clause-err :

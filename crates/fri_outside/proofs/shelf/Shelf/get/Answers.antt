@@ -1,7 +1,7 @@
 use Rattle.std.proofs.Common.{Some, ap, ◌∙◌}
 use Rattle.std.specs.FinMap.{get}
 use Rattle.fri_outside.specs.Outside.{Folder}
-use Rattle.fri_outside.proofs.Stored.{get_some, get_none}
+use Rattle.fri_outside.proofs.StoredFiles.{get_some, get_none}
 use Rattle.fri_outside.proofs.shelf.Shelf.get.Goals as goal
 
 pub returns-in-Some : goal.returns-in-Some

@@ -1,7 +1,7 @@
 use Rattle.std.proofs.Common.{List, ℕ, string_bytes, ap, ◌∙◌}
 use Rattle.std.specs.FinMap.{insert}
 use Rattle.fri_outside.specs.Outside.{Folder}
-use Rattle.fri_outside.proofs.Stored.{folder_put}
+use Rattle.fri_outside.proofs.StoredFiles.{folder_put}
 use Rattle.fri_outside.proofs.shelf.Shelf.put.Goals as goal
 
 pub returns-clause-ok : goal.returns-clause-ok

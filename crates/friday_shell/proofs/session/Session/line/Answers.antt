@@ -3,7 +3,7 @@ use Rattle.shell_lines.specs.Seen.{command}
 use Rattle.group_state.specs.Place.{node_names}
 use Rattle.friday_shell.specs.Points.{SessionState}
 use Rattle.friday_shell.specs.Ticks.{command_ticks}
-use Rattle.friday_shell.proofs.Answered.{command_ticks_of, refused_ticks, silent_ticks}
+use Rattle.friday_shell.proofs.LineAnswers.{command_ticks_of, refused_ticks, silent_ticks}
 use Rattle.friday_shell.proofs.session.Session.line.Goals as goal
 
 pub returns-in-Silent-clause-ticks : goal.returns-in-Silent-clause-ticks

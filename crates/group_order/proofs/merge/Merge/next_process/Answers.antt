@@ -1,6 +1,6 @@
 use Rattle.std.proofs.Common.{◌≤◌, Option, Some, length, rules, subst}
 use Rattle.group_order.specs.declared.merge.Head.{Head}
-use Rattle.group_order.proofs.First.{IsFirstOf, whole}
+use Rattle.group_order.proofs.FirstHead.{IsFirstOf, whole}
 use Rattle.group_order.proofs.merge.Merge.next_process.Goals as goal
 
 pub returns-clause-next : goal.returns-clause-next

@@ -1,4 +1,4 @@
-use Rattle.group_order.proofs.First.{IsFirstOf}
+use Rattle.group_order.proofs.FirstHead.{IsFirstOf}
 use Rattle.group_order.proofs.merge.Merge.next_process.Given as goal
 
 abbrev pub invariant-nodes : goal.invariant-nodes

@@ -1,7 +1,7 @@
 use Rattle.std.proofs.Common.{ap, ◌∙◌}
 use Rattle.std.specs.FinMap as map
 use Rattle.group_order.specs.Sends.{Sends}
-use Rattle.group_order.proofs.Receivers.{kept-insert}
+use Rattle.group_order.proofs.SendReceivers.{kept-insert}
 use Rattle.group_order.proofs.send_index.SendIndex.add.Goals as goal
 
 pub returns-clause-ok : goal.returns-clause-ok

@@ -1,7 +1,7 @@
 use Rattle.std.proofs.Common.{sym, ap, ◌∙◌}
 use Rattle.std.specs.FinMap as map
 use Rattle.group_order.specs.Sends.{Sends}
-use Rattle.group_order.proofs.Receivers.{get-kept}
+use Rattle.group_order.proofs.SendReceivers.{get-kept}
 use Rattle.group_order.proofs.send_index.SendIndex.find_send.Goals as goal
 
 pub returns : goal.returns

@@ -3,10 +3,10 @@ use Rattle.std.proofs.lemmas.Result.{err_from_is_err_and}
 use Rattle.group_record.specs.declared.member.Member.{Member}
 use Rattle.group_record.specs.Around.{env_of}
 use Rattle.group_record.specs.Run.{attempt}
-use Rattle.group_record.proofs.Counted.{counted_kept}
-use Rattle.group_record.proofs.Going.{attempt_leads}
-use Rattle.group_record.proofs.Recording.{can_keep, few_had, group_size, kept_at, lives_of, memory_stops, never_away, tells_of, try_event, try_idle}
-use Rattle.group_record.proofs.Small.{at_place, only_one}
+use Rattle.group_record.proofs.RecorderCounts.{counted_kept}
+use Rattle.group_record.proofs.GroupRunStops.{attempt_leads}
+use Rattle.group_record.proofs.RecorderSteps.{can_keep, few_had, group_size, kept_at, lives_of, memory_stops, never_away, tells_of, try_event, try_idle}
+use Rattle.group_record.proofs.SharedLemmas.{at_place, only_one}
 use Rattle.group_record.proofs.recorder.Recorder.attempt.Goals as goal
 
 pub unreachable-requires : goal.unreachable-requires

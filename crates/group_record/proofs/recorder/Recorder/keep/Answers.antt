@@ -8,8 +8,8 @@ use Rattle.group_world.specs.World.{after_event}
 use Rattle.lib_calls.specs.Entry.{entry_of}
 use Rattle.lib_calls.specs.Traffic.{printed}
 use Rattle.group_record.specs.Recorded.{with_print}
-use Rattle.group_record.proofs.Recording.{stops_of, written_of}
-use Rattle.group_record.proofs.Small.{at_place, only_one}
+use Rattle.group_record.proofs.RecorderSteps.{stops_of, written_of}
+use Rattle.group_record.proofs.SharedLemmas.{at_place, only_one}
 use Rattle.group_record.proofs.recorder.Recorder.keep.Goals as goal
 
 pub keep-requires-clause-event : goal.keep-requires-clause-event

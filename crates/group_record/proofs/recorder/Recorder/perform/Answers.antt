@@ -2,9 +2,9 @@ use Rattle.std.proofs.Common.{◌∙◌, refl, sym}
 use Rattle.std.proofs.lemmas.Result.{err_from_is_err_and}
 use Rattle.group_record.specs.Recorded.{acts, after_act}
 use Rattle.group_record.specs.Run.{after_item}
-use Rattle.group_record.proofs.Counted.{counted_other, few_other}
-use Rattle.group_record.proofs.Going.{item_leads}
-use Rattle.group_record.proofs.Recording.{acted_prints, is_other, item_comes, memory_stops, world_size}
+use Rattle.group_record.proofs.RecorderCounts.{counted_other, few_other}
+use Rattle.group_record.proofs.GroupRunStops.{item_leads}
+use Rattle.group_record.proofs.RecorderSteps.{acted_prints, is_other, item_comes, memory_stops, world_size}
 use Rattle.group_record.proofs.recorder.Recorder.perform.Goals as goal
 
 pub act-requires : goal.act-requires

@@ -1,9 +1,9 @@
 use Rattle.std.proofs.Common.{◌∙◌, ◌+◌, drop, arith}
 use Rattle.std.proofs.lemmas.Result.{err_from_is_err_and}
 use Rattle.group_record.specs.Run.{GroupStart, Progress, after_item, after_items}
-use Rattle.group_record.proofs.Counted.{few_first, few_next}
-use Rattle.group_record.proofs.Loops.{count_next, has_come, item_next, item_stops, items_end, under_next}
-use Rattle.group_record.proofs.Small.{failed_writes}
+use Rattle.group_record.proofs.RecorderCounts.{few_first, few_next}
+use Rattle.group_record.proofs.RecorderLoops.{count_next, has_come, item_next, item_stops, items_end, under_next}
+use Rattle.group_record.proofs.SharedLemmas.{failed_writes}
 use Rattle.group_record.proofs.recorder.Recorder.perform_all.Goals as goal
 
 pub returns-in_err-perform-clause-comes : goal.returns-in_err-perform-clause-comes

@@ -3,7 +3,7 @@ use Rattle.std.specs.Prelude.{sum_by}
 use Rattle.fri_outside.specs.Outside.{Folder}
 use Rattle.group_record.specs.Run.{GroupStart, Progress, after_items}
 use Rattle.group_record.specs.Recorded.{FilesOf, HasCountsFor, KeepsUp, UnderWay, counted_of}
-use Rattle.group_record.proofs.Loops.{ComesTo}
+use Rattle.group_record.proofs.RecorderLoops.{ComesTo}
 use Rattle.group_record.proofs.recorder.Recorder.perform_all.Given as goal
 
 abbrev pub invariant-loop-item : goal.invariant-loop-item

@@ -1,8 +1,8 @@
 use Rattle.std.proofs.Common.{◌≡◌, ◌∙◌, ◌-◌, ◌+◌, suc, arith}
 use Rattle.std.proofs.lemmas.Result.{err_from_is_err_and}
 use Rattle.group_record.specs.Run.{GroupStart, Progress, attempt, attempts}
-use Rattle.group_record.proofs.Loops.{attempts-none, count_next, has_come, try_next, try_stops, under_next}
-use Rattle.group_record.proofs.Small.{failed_writes}
+use Rattle.group_record.proofs.RecorderLoops.{attempts-none, count_next, has_come, try_next, try_stops, under_next}
+use Rattle.group_record.proofs.SharedLemmas.{failed_writes}
 use Rattle.group_record.proofs.recorder.Recorder.run.Goals as goal
 
 pub returns-in_err-attempt-clause-comes : goal.returns-in_err-attempt-clause-comes

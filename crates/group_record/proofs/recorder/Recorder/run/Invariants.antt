@@ -2,7 +2,7 @@ use Rattle.std.proofs.Common.{◌≡◌, ◌+◌, ◌-◌, length, Option}
 use Rattle.fri_outside.specs.Outside.{Folder}
 use Rattle.group_record.specs.Run.{GroupStart, Progress, attempts}
 use Rattle.group_record.specs.Recorded.{FilesOf, KeepsUp, UnderWay, total_count}
-use Rattle.group_record.proofs.Loops.{ComesTo}
+use Rattle.group_record.proofs.RecorderLoops.{ComesTo}
 use Rattle.group_record.proofs.recorder.Recorder.run.Given as goal
 
 abbrev pub invariant-loop : goal.invariant-loop

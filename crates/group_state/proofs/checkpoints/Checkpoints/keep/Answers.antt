@@ -1,4 +1,4 @@
-use Rattle.group_state.proofs.Copying.{keeps_more, keeps_rest}
+use Rattle.group_state.proofs.GroupCopies.{keeps_more, keeps_rest}
 use Rattle.group_state.proofs.checkpoints.Checkpoints.keep.Goals as goal
 
 pub returns-in_err-copy : goal.returns-in_err-copy

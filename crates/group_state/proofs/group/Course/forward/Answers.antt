@@ -3,10 +3,10 @@ use Rattle.group_order.specs.Heads.{AreNone}
 use Rattle.guest_memory.specs.Memory.{IsMemory}
 use Rattle.guest_process.specs.State.{State}
 use Rattle.group_state.specs.Place.{events, head}
-use Rattle.group_state.proofs.Copying.{length_parts}
-use Rattle.group_state.proofs.Following.{ends}
-use Rattle.group_state.proofs.Forwarding.{forwarded, given, is_event, stands_on}
-use Rattle.group_state.proofs.Moved.{length_motions, moved_on}
+use Rattle.group_state.proofs.GroupCopies.{length_parts}
+use Rattle.group_state.proofs.AheadInOrder.{ends}
+use Rattle.group_state.proofs.GroupSteps.{forwarded, given, is_event, stands_on}
+use Rattle.group_state.proofs.NodeMoves.{length_motions, moved_on}
 use Rattle.group_order.specs.Order.{node_event}
 use Rattle.group_state.proofs.group.Course.forward.Goals as goal
 

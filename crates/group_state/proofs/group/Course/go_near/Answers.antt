@@ -3,7 +3,7 @@ use Rattle.std.specs.Prelude.{IfSome}
 use Rattle.proc_replay.specs.Replaying.{Replaying}
 use Rattle.group_state.specs.Place.{head}
 use Rattle.group_state.specs.Stands.{IsStand}
-use Rattle.group_state.proofs.Copying.{few_parts, kept_checkpoint}
+use Rattle.group_state.proofs.GroupCopies.{few_parts, kept_checkpoint}
 use Rattle.group_state.proofs.group.Course.go_near.Goals as goal
 
 pub merge_of-requires : goal.merge_of-requires

@@ -1,6 +1,6 @@
 use Rattle.std.proofs.Common.{◌∙◌, ap}
 use Rattle.group_state.specs.Motions.{position_of}
-use Rattle.group_state.proofs.Marking.{position_told}
+use Rattle.group_state.proofs.GroupMarks.{position_told}
 use Rattle.group_state.proofs.group.Course.position_of.Goals as goal
 
 pub returns : goal.returns

@@ -1,6 +1,6 @@
 use Rattle.std.proofs.Common.{◌∙◌, ◌<◌, map, length, get_or, ap, refl, arith}
 use Rattle.group_state.specs.Place.{states}
-use Rattle.group_state.proofs.Following.{no_state_at, state_at, states_at}
+use Rattle.group_state.proofs.AheadInOrder.{no_state_at, state_at, states_at}
 use Rattle.group_state.proofs.group.Course.replay.Goals as goal
 
 pub returns-in_err-part : goal.returns-in_err-part

@@ -1,7 +1,7 @@
 use Rattle.std.proofs.Common.{◌<◌, ◌∙◌, length, get_or, take, ap, arith}
 use Rattle.group_state.specs.Place.{events}
 use Rattle.group_state.specs.Report.{verdict_on}
-use Rattle.group_state.proofs.Telling.{none_said, said_at, told}
+use Rattle.group_state.proofs.VerdictsAtEnd.{none_said, said_at, told}
 use Rattle.group_state.proofs.group.Course.verdict.Goals as goal
 
 pub returns-in_err-part : goal.returns-in_err-part

@@ -5,9 +5,9 @@ use Rattle.group_state.specs.At.{IsSoundCourse}
 use Rattle.group_state.specs.Motions.{no_motions}
 use Rattle.group_state.specs.Place.{PartsFit, head}
 use Rattle.group_state.specs.Stands.{AreStands, IsStand}
-use Rattle.group_state.proofs.Copying.{few_parts}
-use Rattle.group_state.proofs.Following.{few_events}
-use Rattle.group_state.proofs.Moved.{first_motions}
+use Rattle.group_state.proofs.GroupCopies.{few_parts}
+use Rattle.group_state.proofs.AheadInOrder.{few_events}
+use Rattle.group_state.proofs.NodeMoves.{first_motions}
 use Rattle.group_state.proofs.group.Group.begin.Goals as goal
 
 pub merge_of-requires : goal.merge_of-requires

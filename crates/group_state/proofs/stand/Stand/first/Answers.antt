@@ -1,5 +1,5 @@
 use Rattle.std.proofs.Common.{refl}
-use Rattle.group_state.proofs.Copying.{first_stand}
+use Rattle.group_state.proofs.GroupCopies.{first_stand}
 use Rattle.group_state.proofs.stand.Stand.first.Goals as goal
 
 pub returns-clause-stand : goal.returns-clause-stand

@@ -2,7 +2,7 @@ use Rattle.std.proofs.Common.{◌∙◌, ap}
 use Rattle.std.specs.Prelude.{option_map}
 use Rattle.lib_calls.specs.declared.entry.Entry.{Entry}
 use Rattle.group_order.specs.Order.{NodeEvent}
-use Rattle.group_state.proofs.Marking.{last_mover}
+use Rattle.group_state.proofs.GroupMarks.{last_mover}
 use Rattle.group_state.proofs.view.GroupTouchView.last_node.Goals as goal
 
 pub returns : goal.returns

@@ -1,6 +1,6 @@
 use Rattle.std.proofs.Common.{◌∙◌, map, ap}
-use Rattle.group_state.proofs.Following.{states_at}
-use Rattle.group_state.proofs.Marking.{sound_at, tells}
+use Rattle.group_state.proofs.AheadInOrder.{states_at}
+use Rattle.group_state.proofs.GroupMarks.{sound_at, tells}
 use Rattle.group_state.proofs.view.GroupTouchView.position.Goals as goal
 
 pub returns-clause-tells : goal.returns-clause-tells

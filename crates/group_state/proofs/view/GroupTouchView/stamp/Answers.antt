@@ -1,7 +1,7 @@
 use Rattle.std.proofs.Common.{◌∙◌, refl, sym, ap}
 use Rattle.std.specs.Prelude.{option_map}
 use Rattle.watch_expr.specs.declared.reads.Place.TheVariants as location
-use Rattle.group_state.proofs.Touching.{unmarked_place}
+use Rattle.group_state.proofs.LastTouches.{unmarked_place}
 use Rattle.group_state.proofs.view.GroupTouchView.stamp.Goals as goal
 
 pub returns-in-Some : goal.returns-in-Some

@@ -5,7 +5,7 @@ use Rattle.lib_calls.specs.declared.entry.Entry.{Entry}
 use Rattle.lib_calls.specs.Entry.{entry_of}
 use Rattle.lib_calls.specs.Traffic.{is_sent, is_taken}
 use Rattle.group_world.specs.World.{Surroundings, World, after_entry, after_event, no_surroundings, sent_if, process_count, surroundings_of, took_if}
-use Rattle.group_world.proofs.EventLaws.{either_first, not_both}
+use Rattle.group_world.proofs.EventLemmas.{either_first, not_both}
 use Rattle.group_world.proofs.world.World.event.Goals as goal
 
 -- the three steps of an event: a datagram is kept, one is let go, and the place is settled

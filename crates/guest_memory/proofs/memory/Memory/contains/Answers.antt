@@ -1,5 +1,5 @@
 use Rattle.std.proofs.Common.{◌≡◌, length, arith, rules}
-use Rattle.guest_memory.proofs.Ranges.{test-then, test-else}
+use Rattle.guest_memory.proofs.PageRanges.{test-then, test-else}
 use Rattle.guest_memory.proofs.memory.Memory.contains.Goals as goal
 
 pub returns-then-addr-count : goal.returns-then-addr-count

@@ -1,5 +1,5 @@
 use Rattle.std.proofs.Common.{◌≡◌, ◌+◌, ◌*◌, ◌/◌, length, arith, rules}
-use Rattle.guest_memory.proofs.Flat.{flat-length}
+use Rattle.guest_memory.proofs.FlatPages.{flat-length}
 use Rattle.guest_memory.proofs.memory.Memory.grow.Goals as goal
 
 pub invariant_of-self-2 : goal.invariant_of-self-2

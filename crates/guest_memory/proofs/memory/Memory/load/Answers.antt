@@ -1,5 +1,5 @@
 use Rattle.std.proofs.Common.{◌≡◌, length, arith, rules, refl, ap, Some}
-use Rattle.guest_memory.proofs.Ranges.{one-inside, one-outside}
+use Rattle.guest_memory.proofs.PageRanges.{one-inside, one-outside}
 use Rattle.guest_memory.proofs.memory.Memory.load.Goals as goal
 
 pub returns-then-addr-len : goal.returns-then-addr-len

@@ -1,4 +1,4 @@
-use Rattle.guest_memory.proofs.Ranges.{few-bytes}
+use Rattle.guest_memory.proofs.PageRanges.{few-bytes}
 use Rattle.guest_memory.proofs.memory.Memory.load_across.Goals as goal
 
 pub number_across-requires-clause-few : goal.number_across-requires-clause-few

@@ -3,10 +3,10 @@ use Rattle.std.proofs.lemmas.List.{with_items_is}
 use Rattle.guest_memory.specs.LittleEndian.{low_bytes}
 use Rattle.guest_memory.specs.Memory.{put_piece}
 use Rattle.guest_memory.specs.Pages.{flat, stamps_of}
-use Rattle.guest_memory.proofs.Numbers.{length-low_bytes}
-use Rattle.guest_memory.proofs.Flat.{flat-length}
-use Rattle.guest_memory.proofs.Ranges.{one-inside, one-outside}
-use Rattle.guest_memory.proofs.Writes.{on_err, prefix-seen}
+use Rattle.guest_memory.proofs.NumberBytes.{length-low_bytes}
+use Rattle.guest_memory.proofs.FlatPages.{flat-length}
+use Rattle.guest_memory.proofs.PageRanges.{one-inside, one-outside}
+use Rattle.guest_memory.proofs.PageWrites.{on_err, prefix-seen}
 use Rattle.guest_memory.proofs.memory.Memory.store.Goals as goal
 
 pub returns-then-addr-len-clause-answer : goal.returns-then-addr-len-clause-answer

@@ -3,9 +3,9 @@ use Rattle.std.proofs.lemmas.List.{with_items_is}
 use Rattle.std.proofs.lemmas.Bool.Decides.{nat_tests}
 use Rattle.guest_memory.specs.LittleEndian.{low_bytes}
 use Rattle.guest_memory.specs.Pages.{flat}
-use Rattle.guest_memory.proofs.Numbers.{length-low_bytes}
-use Rattle.guest_memory.proofs.Ranges.{few-bytes}
-use Rattle.guest_memory.proofs.Writes.{on_err, prefix-seen}
+use Rattle.guest_memory.proofs.NumberBytes.{length-low_bytes}
+use Rattle.guest_memory.proofs.PageRanges.{few-bytes}
+use Rattle.guest_memory.proofs.PageWrites.{on_err, prefix-seen}
 use Rattle.guest_memory.proofs.memory.Memory.store_across.Goals as goal
 
 pub put_number_across-requires-clause-few : goal.put_number_across-requires-clause-few

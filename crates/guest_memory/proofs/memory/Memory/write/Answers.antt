@@ -1,4 +1,4 @@
-use Rattle.guest_memory.proofs.Ranges.{few-bytes}
+use Rattle.guest_memory.proofs.PageRanges.{few-bytes}
 use Rattle.guest_memory.proofs.memory.Memory.write.Goals as goal
 
 pub put_all-requires-clause-few : goal.put_all-requires-clause-few

@@ -3,7 +3,7 @@ use Rattle.lib_calls.specs.Entry.{entry_of}
 use Rattle.wasm_step.specs.Suits.{Suits}
 use Rattle.guest_process.specs.Seen.{state_of}
 use Rattle.guest_process.proofs.EventCounts.{counts}
-use Rattle.guest_process.proofs.Marking.{numbered_suits}
+use Rattle.guest_process.proofs.EventMarks.{numbered_suits}
 use Rattle.guest_process.proofs.parts.Parts.advance.Goals as goal
 
 pub overflow_add-self : goal.overflow_add-self

@@ -10,8 +10,8 @@ use Rattle.guest_process.specs.Kinds.{reply_value}
 use Rattle.guest_process.specs.Seen.{state_of}
 use Rattle.guest_process.specs.Sound.{StandsAtKind}
 use Rattle.guest_process.specs.State.{awaits_event, pending_kind, thread_at, with_thread}
-use Rattle.guest_process.proofs.Advancing.{acted_events, acted_handlers, acted_module, exits, goes, goes_out, is_out, stands_at, still_live, taken_is}
-use Rattle.guest_process.proofs.Legality.{is_answer_of}
+use Rattle.guest_process.proofs.EventCode.{acted_events, acted_handlers, acted_module, exits, goes, goes_out, is_out, stands_at, still_live, taken_is}
+use Rattle.guest_process.proofs.LegalEntries.{is_answer_of}
 use Rattle.guest_process.proofs.parts.Parts.make_event.Goals as goal
 
 pub act-requires-clause-answer : goal.act-requires-clause-answer

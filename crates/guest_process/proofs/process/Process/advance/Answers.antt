@@ -2,8 +2,8 @@ use Rattle.std.proofs.Common.{◌≡◌, None, ap, sym, subst, ◌∙◌}
 use Rattle.lib_calls.specs.Entry.{entry_of}
 use Rattle.guest_process.specs.Legal.{reason}
 use Rattle.guest_process.specs.Seen.{IsOfModule, state_of}
-use Rattle.guest_process.proofs.Advancing.{process_kept}
-use Rattle.guest_process.proofs.Marking.{MarkLaws}
+use Rattle.guest_process.proofs.EventCode.{process_kept}
+use Rattle.guest_process.proofs.EventMarks.{MarkLaws}
 use Rattle.guest_process.proofs.process.Process.advance.Goals as goal
 
 pub invariant_of-result : goal.invariant_of-result

@@ -1,7 +1,7 @@
 use Rattle.std.proofs.Common.{◌<◌, ◌≤◌, length, List, ap, subst, sym, ◌∙◌, refl, arith, rules}
 use Rattle.std.specs.Prelude.{option_map}
 use Rattle.lossy_net.specs.Network.{Sent, Traffic, sent_by}
-use Rattle.lossy_net.proofs.SentLaws.{found_is_for, found_is_within}
+use Rattle.lossy_net.proofs.SentLemmas.{found_is_for, found_is_within}
 use Rattle.lossy_net.proofs.net.Net.deliver.Goals as goal
 
 -- the datagram's receiver is a process of the group, as that of each that was sent

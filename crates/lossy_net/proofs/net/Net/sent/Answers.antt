@@ -1,6 +1,6 @@
 use Rattle.std.proofs.Common.{rules, arith, length-set}
 use Rattle.lossy_net.specs.Network.{Sent}
-use Rattle.lossy_net.proofs.SentLaws.{IsAddressed-added}
+use Rattle.lossy_net.proofs.SentLemmas.{IsAddressed-added}
 use Rattle.lossy_net.proofs.net.Net.sent.Goals as goal
 
 -- the traffic of the sender has one more datagram, which is for a process of the group, or is as before

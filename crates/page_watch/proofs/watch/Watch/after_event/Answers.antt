@@ -3,7 +3,7 @@ use Rattle.page_watch.specs.Firing.{change_of}
 use Rattle.page_watch.specs.Watched.{Stands}
 use Rattle.watch_expr.specs.Reads.{no_variables}
 use Rattle.watch_expr.specs.Value.{value}
-use Rattle.page_watch.proofs.Asking.{same_expression, stands_after}
+use Rattle.page_watch.proofs.AskedWatches.{same_expression, stands_after}
 use Rattle.page_watch.proofs.watch.Watch.after_event.Goals as goal
 
 pub returns-clause-stands : goal.returns-clause-stands

@@ -6,7 +6,7 @@ use Rattle.watch_expr.specs.Reads.{reads}
 use Rattle.page_watch.specs.Places.{places_of}
 use Rattle.page_watch.specs.Touch.{meets}
 use Rattle.page_watch.specs.Watched.{Stands, Watched}
-use Rattle.page_watch.proofs.Asking.{counts, none_counted, none_stand, same_expressions, stand_now}
+use Rattle.page_watch.proofs.AskedWatches.{counts, none_counted, none_stand, same_expressions, stand_now}
 use Rattle.page_watch.proofs.watches.Watches.after_event.Goals as goal
 
 pub returns-then-not-is_touched-clause-stand : goal.returns-then-not-is_touched-clause-stand

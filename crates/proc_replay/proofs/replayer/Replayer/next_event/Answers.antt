@@ -6,7 +6,7 @@ use Rattle.proc_replay.specs.declared.replayer.Ahead.{Ahead}
 use Rattle.proc_replay.specs.Inside.{IsAhead}
 use Rattle.proc_replay.specs.Replaying.{replaying}
 use Rattle.proc_replay.specs.Seen.{move_of}
-use Rattle.proc_replay.proofs.Looking.{made}
+use Rattle.proc_replay.proofs.NextEntry.{made}
 use Rattle.proc_replay.proofs.replayer.Replayer.next_event.Goals as goal
 
 pub advance-requires-clause-legal : goal.advance-requires-clause-legal

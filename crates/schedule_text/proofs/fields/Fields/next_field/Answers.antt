@@ -1,6 +1,6 @@
 use Rattle.std.proofs.Common.{refl, sym, ap, ◌∙◌}
 use Rattle.schedule_text.specs.Fields.{field_at}
-use Rattle.schedule_text.proofs.FieldLaws.{no_field, next_is}
+use Rattle.schedule_text.proofs.FieldLemmas.{no_field, next_is}
 use Rattle.schedule_text.proofs.fields.Fields.next_field.Goals as goal
 
 pub returns-in_err-start : goal.returns-in_err-start

@@ -4,7 +4,7 @@ use Rattle.std.specs.Prelude.{IfSome}
 use Rattle.shell_points.specs.Points.{Point, place_of_point}
 use Rattle.shell_points.specs.Seen.{point}
 use Rattle.shell_points.specs.declared.point.Point.{Point as Held}
-use Rattle.shell_points.proofs.Held.{places_same}
+use Rattle.shell_points.proofs.HeldPoints.{places_same}
 use Rattle.shell_points.proofs.points.Points.place_of.Goals as goal
 
 pub returns-clause-place : goal.returns-clause-place

@@ -3,7 +3,7 @@ use Rattle.std.specs.List.{list_any}
 use Rattle.shell_points.specs.declared.point.Point.{Point as Held}
 use Rattle.shell_points.specs.Seen.{point}
 use Rattle.shell_points.specs.Watching.{is_break, watched}
-use Rattle.shell_points.proofs.Reading.{evaluations, none_due, reads_by, still}
+use Rattle.shell_points.proofs.PointReads.{evaluations, none_due, reads_by, still}
 use Rattle.shell_points.proofs.watching.Watching.after_event.Goals as goal
 
 pub returns-then-not-has_breaks-clause-now : goal.returns-then-not-has_breaks-clause-now

@@ -5,12 +5,12 @@ use Rattle.wasm_step.specs.Burst.{burst, settle, spent}
 use Rattle.wasm_step.specs.Limits.{Within}
 use Rattle.wasm_step.specs.Reduce.{Goes, instr_row, reduce, leave_frame}
 use Rattle.wasm_step.specs.Thread.{Thread, depth}
-use Rattle.wasm_step.proofs.Ends.{ended_within}
+use Rattle.wasm_step.proofs.EndsWithinLimits.{ended_within}
 use Rattle.wasm_step.proofs.LevelEnds.{depth_within, fewer_left}
 use Rattle.wasm_step.proofs.InPlace.{limited_within}
-use Rattle.wasm_step.proofs.Runs.{burst_spent, way_halts}
+use Rattle.wasm_step.proofs.LevelRuns.{burst_spent, way_halts}
 use Rattle.wasm_step.specs.declared.halt.Way.{Way}
-use Rattle.wasm_step.proofs.Todo.{closing, ends, ends_here, full_goes, full_stops, returning, row_goes, row_stops}
+use Rattle.wasm_step.proofs.BurstTodo.{closing, ends, ends_here, full_goes, full_stops, returning, row_goes, row_stops}
 use Rattle.wasm_step.proofs.stack.Stack.burst.Goals as goal
 
 pub steps-preserved-then-close : goal.steps-preserved-then-close

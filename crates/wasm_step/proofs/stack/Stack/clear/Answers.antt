@@ -1,6 +1,6 @@
 use Rattle.std.proofs.Common.{[], ap, ◌∙◌, arith}
 use Rattle.wasm_step.specs.Thread.{Thread}
-use Rattle.wasm_step.proofs.Views.{IsSound-operands, keeps_cleared, cleared_view}
+use Rattle.wasm_step.proofs.StackViews.{IsSound-operands, keeps_cleared, cleared_view}
 use Rattle.wasm_step.proofs.stack.Stack.clear.Goals as goal
 
 pub invariant_of-self : goal.invariant_of-self

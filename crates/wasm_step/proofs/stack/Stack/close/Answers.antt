@@ -1,6 +1,6 @@
 use Rattle.std.proofs.Common.{sym, ap, ◌∙◌, arith}
 use Rattle.wasm_step.specs.Thread.{closed}
-use Rattle.wasm_step.proofs.Views.{closed_view}
+use Rattle.wasm_step.proofs.StackViews.{closed_view}
 use Rattle.wasm_step.proofs.stack.Stack.close.Goals as goal
 
 pub returns-clause-closed : goal.returns-clause-closed

@@ -1,7 +1,7 @@
 use Rattle.std.proofs.Common.{◌≡◌, ◌≤◌, ◌-◌, ◌∙◌, length, take, drop, ap, arith, length-drop}
 use Rattle.std.proofs.lemmas.List.{length-reverse}
 use Rattle.wasm_step.specs.Thread.{Thread, without}
-use Rattle.wasm_step.proofs.Views.{IsSound-operands, keeps_without, without_view}
+use Rattle.wasm_step.proofs.StackViews.{IsSound-operands, keeps_without, without_view}
 use Rattle.wasm_step.proofs.stack.Stack.drop_last.Goals as goal
 
 pub overflow_sub-height : goal.overflow_sub-height

@@ -1,6 +1,6 @@
 use Rattle.std.proofs.Common.{◌∙◌, sym, ap, arith}
 use Rattle.wasm_step.specs.Thread.{without}
-use Rattle.wasm_step.proofs.Views.{IsSound-operands, keeps_popped, popped_view, some_operand}
+use Rattle.wasm_step.proofs.StackViews.{IsSound-operands, keeps_popped, popped_view, some_operand}
 use Rattle.wasm_step.proofs.stack.Stack.drop_one.Goals as goal
 
 pub take_last-top-requires : goal.take_last-top-requires

@@ -1,7 +1,7 @@
 use Rattle.std.proofs.Common.{◌≡◌, ◌-◌, Some, length, refl, sym, ap, ◌∙◌, arith}
 use Rattle.wasm_step.specs.Thread.{Thread, arguments, called_with}
 use Rattle.wasm_step.specs.declared.stack.StackFrame.{StackFrame}
-use Rattle.wasm_step.proofs.Frames.{IsEntered, entered_sound, entered_view}
+use Rattle.wasm_step.proofs.EnteredFrames.{IsEntered, entered_sound, entered_view}
 use Rattle.wasm_step.proofs.stack.Stack.enter.Goals as goal
 use Rattle.wasm_step.proofs.stack.Stack.enter.Goals.{After-len-self-inside}
 

@@ -8,7 +8,7 @@ use Rattle.wasm_types.specs.Modules.{func_type}
 use Rattle.wasm_step.specs.View.{thread_of}
 use Rattle.wasm_step.specs.Thread.{Thread, arguments, called, called_with, without}
 use Rattle.wasm_step.specs.declared.stack.StackFrame.{StackFrame}
-use Rattle.wasm_step.proofs.Frames.{IsEntered, grown, height as height_of, entered_sound, entered_view, size_within, within_of}
+use Rattle.wasm_step.proofs.EnteredFrames.{IsEntered, grown, height as height_of, entered_sound, entered_view, size_within, within_of}
 use Rattle.wasm_step.proofs.stack.Stack.enter_within.Goals as goal
 use Rattle.wasm_step.proofs.stack.Stack.enter_within.Goals.{After-len-2, After-truncate}
 

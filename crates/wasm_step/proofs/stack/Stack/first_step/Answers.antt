@@ -5,7 +5,7 @@ use Rattle.wasm_step.specs.Answer.{after_of}
 use Rattle.wasm_step.specs.Burst.{Done, at_next, settle}
 use Rattle.wasm_step.specs.Paused.{settled_of}
 use Rattle.wasm_step.specs.Reduce.{Sticks}
-use Rattle.wasm_step.proofs.Runs.{standing, settle_halts, burst_done, stopped_step, first_on}
+use Rattle.wasm_step.proofs.LevelRuns.{standing, settle_halts, burst_done, stopped_step, first_on}
 use Rattle.wasm_step.proofs.stack.Stack.first_step.Goals as goal
 
 pub returns-in_default : goal.returns-in_default

@@ -2,7 +2,7 @@ use Rattle.std.proofs.Common.{◌≡◌, ◌+◌, ◌-◌, ◌<◌, ◌≤◌, t
 use Rattle.std.specs.Prelude.{nat_lt, nat_le, ◌&&◌}
 use Rattle.std.proofs.lemmas.Bool.{ltb-true}
 use Rattle.wasm_step.specs.Thread.{has_frame_room}
-use Rattle.wasm_step.proofs.Views.{frame_room_view}
+use Rattle.wasm_step.proofs.StackViews.{frame_room_view}
 use Rattle.wasm_step.proofs.stack.Stack.has_frame_place.Goals as goal
 use Rattle.wasm_step.proofs.stack.Stack.has_frame_place.Goals.{then-more-self, else-more-self}
 

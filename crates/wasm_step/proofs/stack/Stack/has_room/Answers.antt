@@ -1,7 +1,7 @@
 use Rattle.std.proofs.Common.{◌≡◌, ◌+◌, length, ap, ◌∙◌}
 use Rattle.std.specs.Prelude.{nat_lt, nat_le, ◌&&◌}
 use Rattle.wasm_step.specs.Thread.{has_room}
-use Rattle.wasm_step.proofs.Views.{room_view}
+use Rattle.wasm_step.proofs.StackViews.{room_view}
 use Rattle.wasm_step.proofs.stack.Stack.has_room.Goals as goal
 
 pub returns : goal.returns

@@ -1,7 +1,7 @@
 use Rattle.std.proofs.Common.{◌≡◌, ◌+◌, ◌-◌, ◌≤◌, length, ap, sym, ◌∙◌, subst}
 use Rattle.std.specs.Prelude.{nat_lt, nat_le, ◌&&◌}
 use Rattle.wasm_step.specs.Thread.{Thread, has_room, without}
-use Rattle.wasm_step.proofs.Views.{room_without_view}
+use Rattle.wasm_step.proofs.StackViews.{room_without_view}
 use Rattle.wasm_step.proofs.stack.Stack.has_room_without.Goals as goal
 
 pub returns : goal.returns

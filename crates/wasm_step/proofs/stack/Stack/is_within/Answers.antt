@@ -4,7 +4,7 @@ use Rattle.std.specs.Prelude.{reverse}
 use Rattle.wasm_step.specs.Thread.{fits_limits}
 use Rattle.wasm_step.specs.View.{thread_of}
 use Rattle.wasm_step.proofs.InPlace.{within_is}
-use Rattle.wasm_step.proofs.Views.{length_of_frames, size_view}
+use Rattle.wasm_step.proofs.StackViews.{length_of_frames, size_view}
 use Rattle.wasm_step.proofs.stack.Stack.is_within.Goals as goal
 
 pub returns-then-len-lt-FRAME_LIMIT : goal.returns-then-len-lt-FRAME_LIMIT

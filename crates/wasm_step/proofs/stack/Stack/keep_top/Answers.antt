@@ -1,7 +1,7 @@
 use Rattle.std.proofs.Common.{◌-◌, ap, sym, ◌∙◌, take, arith}
 use Rattle.wasm_step.specs.Thread.{Thread, with_operand}
 use Rattle.wasm_step.specs.View.{IsStack, thread_of}
-use Rattle.wasm_step.proofs.Views.{IsSound-operands, keeps_cleared, keeps_pushed, cleared_view, pushed_view, stack_top}
+use Rattle.wasm_step.proofs.StackViews.{IsSound-operands, keeps_cleared, keeps_pushed, cleared_view, pushed_view, stack_top}
 use Rattle.wasm_step.proofs.stack.Stack.keep_top.Goals as goal
 
 module _ (c : goal.After-push_reserved) where

@@ -3,7 +3,7 @@ use Rattle.wasm_step.specs.Reduce.{Goes, on_top, resumed}
 use Rattle.wasm_step.specs.Thread.{Thread, left}
 use Rattle.wasm_step.specs.View.{IsStack, thread_of}
 use Rattle.wasm_step.specs.declared.stack.Stack.TheInside.{Inside}
-use Rattle.wasm_step.proofs.Views.{IsLeft, IsSound-operands, floor_low, keeps_pushed, left_sound, left_view, pushed_view, some_operand, stack_top}
+use Rattle.wasm_step.proofs.StackViews.{IsLeft, IsSound-operands, floor_low, keeps_pushed, left_sound, left_view, pushed_view, some_operand, stack_top}
 use Rattle.wasm_step.proofs.stack.Stack.leave_with_top.Goals as goal
 use Rattle.wasm_step.proofs.stack.Stack.leave_with_top.Goals.{Start}
 

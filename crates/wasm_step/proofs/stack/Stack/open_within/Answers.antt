@@ -6,7 +6,7 @@ use Rattle.wasm_step.specs.Limits.{Within}
 use Rattle.wasm_step.specs.View.{entered_by, opened_by}
 use Rattle.wasm_step.specs.Thread.{Thread, size_of_thread}
 use Rattle.wasm_step.proofs.LevelEnds.{within_elsewhere, within_opened}
-use Rattle.wasm_step.proofs.Views.{opened_view, size_view}
+use Rattle.wasm_step.proofs.StackViews.{opened_view, size_view}
 use Rattle.wasm_step.proofs.stack.Stack.open_within.Goals as goal
 
 pub returns-clause-within : goal.returns-clause-within

@@ -8,7 +8,7 @@ use Rattle.wasm_step.specs.View.{entered_by, IsStack, opened_by, thread_of}
 use Rattle.wasm_step.specs.Thread.{Thread, size_of_thread, without}
 use Rattle.wasm_step.proofs.Accesses.{within_without}
 use Rattle.wasm_step.proofs.LevelEnds.{within_elsewhere, within_opened}
-use Rattle.wasm_step.proofs.Views.{IsSound-operands, below_last, keeps_without, opened_sound, opened_view, without_view}
+use Rattle.wasm_step.proofs.StackViews.{IsSound-operands, below_last, keeps_without, opened_sound, opened_view, without_view}
 use Rattle.wasm_step.proofs.stack.Stack.open_without_top.Goals as goal
 
 module _ (c : goal.After-self-2-1) where

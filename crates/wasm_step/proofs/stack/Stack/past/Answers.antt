@@ -1,7 +1,7 @@
 use Rattle.std.proofs.Common.{◌≡◌, suc, ◌-◌, ap, sym, ◌∙◌, subst, length, get_or, take, arith}
 use Rattle.wasm_step.specs.declared.stack.StackLevel.{StackLevel}
 use Rattle.wasm_step.specs.View.{closed_by}
-use Rattle.wasm_step.proofs.Views.{IsPast, past_in, past_none, past_sound, past_view}
+use Rattle.wasm_step.proofs.StackViews.{IsPast, past_in, past_none, past_sound, past_view}
 use Rattle.wasm_step.proofs.stack.Stack.past.Goals as goal
 
 pub returns-then-height-self : goal.returns-then-height-self

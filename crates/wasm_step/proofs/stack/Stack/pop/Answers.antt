@@ -1,7 +1,7 @@
 use Rattle.std.proofs.Common.{sym, ap, ◌∙◌, arith}
 use Rattle.wasm_step.specs.Thread.{with_operand}
 use Rattle.wasm_step.specs.View.{thread_of}
-use Rattle.wasm_step.proofs.Views.{IsSound-operands, keeps_popped, popped_view}
+use Rattle.wasm_step.proofs.StackViews.{IsSound-operands, keeps_popped, popped_view}
 use Rattle.wasm_step.proofs.stack.Stack.pop.Goals as goal
 
 pub invariant_of-self : goal.invariant_of-self

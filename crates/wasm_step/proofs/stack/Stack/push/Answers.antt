@@ -1,6 +1,6 @@
 use Rattle.std.proofs.Common.{ap, ◌∙◌}
 use Rattle.wasm_step.specs.Thread.{with_operand}
-use Rattle.wasm_step.proofs.Views.{IsSound-operands, keeps_pushed, pushed_view}
+use Rattle.wasm_step.proofs.StackViews.{IsSound-operands, keeps_pushed, pushed_view}
 use Rattle.wasm_step.proofs.stack.Stack.push.Goals as goal
 
 pub invariant_of-self-2 : goal.invariant_of-self-2

@@ -3,7 +3,7 @@ use Rattle.wasm_step.specs.Limits.{Within}
 use Rattle.wasm_step.specs.Thread.{Thread, size_of_thread, with_operand}
 use Rattle.wasm_step.specs.View.{thread_of}
 use Rattle.wasm_step.proofs.InPlace.{within_pushed}
-use Rattle.wasm_step.proofs.Views.{IsSound-operands, keeps_pushed, pushed_view, size_view}
+use Rattle.wasm_step.proofs.StackViews.{IsSound-operands, keeps_pushed, pushed_view, size_view}
 use Rattle.wasm_step.proofs.stack.Stack.push_within.Goals as goal
 
 pub invariant_of-self : goal.invariant_of-self

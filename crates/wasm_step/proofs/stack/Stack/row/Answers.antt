@@ -10,9 +10,9 @@ use Rattle.wasm_step.specs.Answer.{way_of}
 use Rattle.wasm_step.specs.Limits.{Within}
 use Rattle.wasm_step.specs.Reduce.{After, Goes, branch_table, call, instr_row, keep}
 use Rattle.wasm_step.specs.Thread.{Thread}
-use Rattle.wasm_step.proofs.Ends.{StaysWithin, branch_within, branch_if_within, branch_table_within, return_within}
+use Rattle.wasm_step.proofs.EndsWithinLimits.{StaysWithin, branch_within, branch_if_within, branch_table_within, return_within}
 use Rattle.wasm_step.proofs.LevelEnds.{row_enters, row_chooses}
-use Rattle.wasm_step.proofs.Todo.{todo_within}
+use Rattle.wasm_step.proofs.BurstTodo.{todo_within}
 use Rattle.wasm_step.proofs.stack.Stack.row.Goals as goal
 use Rattle.wasm_step.proofs.stack.Stack.row.Goals.{in-Br, in-BrIf, in-BrTable, in-Return, in-CallFunc, in-CallIndirect}
 

@@ -2,7 +2,7 @@ use Rattle.std.proofs.Common.{◌+◌, ap, ◌∙◌, refl}
 use Rattle.std.proofs.Math.ListN.{set}
 use Rattle.std.specs.Vec.{with_item}
 use Rattle.wasm_step.specs.Thread.{Thread}
-use Rattle.wasm_step.proofs.Views.{set_view}
+use Rattle.wasm_step.proofs.StackViews.{set_view}
 use Rattle.wasm_step.proofs.stack.Stack.set_local.Goals as goal
 
 pub returns-clause-set : goal.returns-clause-set

@@ -1,6 +1,6 @@
 use Rattle.std.proofs.Common.{◌≡◌, true, rules, sym, ap, ◌∙◌}
 use Rattle.wasm_step.specs.Answer.{way_of}
-use Rattle.wasm_step.proofs.Runs.{none_left, settle_end}
+use Rattle.wasm_step.proofs.LevelRuns.{none_left, settle_end}
 use Rattle.wasm_step.proofs.stack.Stack.settle.Goals as goal
 
 pub ends-preserved : goal.ends-preserved

@@ -2,7 +2,7 @@ use Rattle.std.proofs.Common.{◌≡◌, ◌≤◌, ◌-◌, ◌∙◌, Some, le
 use Rattle.std.proofs.lemmas.List.{take_rest}
 use Rattle.wasm_step.specs.Call.{sited, site_of}
 use Rattle.wasm_step.specs.Thread.{arguments, without}
-use Rattle.wasm_step.proofs.Views.{IsSound-operands, keeps_without, without_view, arguments_view}
+use Rattle.wasm_step.proofs.StackViews.{IsSound-operands, keeps_without, without_view, arguments_view}
 use Rattle.wasm_step.proofs.stack.Stack.take_site.Goals as goal
 
 module _ (c : goal.After-truncate) where

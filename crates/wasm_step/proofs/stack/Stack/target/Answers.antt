@@ -3,7 +3,7 @@ use Rattle.wasm_types.specs.Code.{tree, trees}
 use Rattle.wasm_types.specs.CodeLaws.{tree-loop}
 use Rattle.wasm_step.specs.Thread.{Thread}
 use Rattle.wasm_step.specs.View.{Opened, opened_by, innermost, frame_labels}
-use Rattle.wasm_step.proofs.Views.{innermost_top, opens_none}
+use Rattle.wasm_step.proofs.StackViews.{innermost_top, opens_none}
 use Rattle.wasm_step.proofs.stack.Stack.target.Goals as goal
 use Rattle.wasm_step.proofs.stack.Stack.target.Goals.{After-index}
 

@@ -1,6 +1,6 @@
 use Rattle.std.proofs.Common.{Some, sym, ap, ◌∙◌}
 use Rattle.wasm_types.specs.Modules.{module_of}
-use Rattle.wasm_step.proofs.Begins.{first_fits}
+use Rattle.wasm_step.proofs.FirstThreads.{first_fits}
 use Rattle.wasm_step.proofs.strand.Strand.first.Goals as goal
 
 pub invariant_of-result : goal.invariant_of-result

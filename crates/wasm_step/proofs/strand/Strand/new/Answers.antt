@@ -5,7 +5,7 @@ use Rattle.wasm_types.specs.Modules.{Func, module_of}
 use Rattle.wasm_step.specs.Strand.{new_thread, started_above}
 use Rattle.wasm_types.specs.Locals.{zeros}
 use Rattle.wasm_step.specs.Thread.{at_start}
-use Rattle.wasm_step.proofs.Begins.{new_fits}
+use Rattle.wasm_step.proofs.FirstThreads.{new_fits}
 use Rattle.wasm_step.proofs.strand.Strand.new.Goals as goal
 
 pub invariant_of-result : goal.invariant_of-result

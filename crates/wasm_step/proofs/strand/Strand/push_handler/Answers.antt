@@ -4,7 +4,7 @@ use Rattle.wasm_types.specs.Modules.{Func, Module, module_of}
 use Rattle.wasm_step.specs.Fits.{StandsFit}
 use Rattle.wasm_step.specs.Strand.{Strand, IsHandler, started_above, handling}
 use Rattle.wasm_step.specs.Thread.{Thread, waiting_frame}
-use Rattle.wasm_step.proofs.Begins.{handler_fits}
+use Rattle.wasm_step.proofs.FirstThreads.{handler_fits}
 use Rattle.wasm_step.proofs.strand.Strand.push_handler.Goals as goal
 
 pub invariant_of-result : goal.invariant_of-result

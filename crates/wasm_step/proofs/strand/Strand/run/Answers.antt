@@ -7,7 +7,7 @@ use Rattle.wasm_step.specs.Answer.{stopped_of}
 use Rattle.wasm_step.specs.Fits.{HaltFits, StandsFit}
 use Rattle.wasm_step.specs.Strand.{Strand}
 use Rattle.wasm_step.specs.Thread.{Thread}
-use Rattle.wasm_step.proofs.Bursts.{leaving}
+use Rattle.wasm_step.proofs.BurstsFit.{leaving}
 use Rattle.wasm_step.proofs.strand.Strand.run.Goals as goal
 
 pub unreachable-requires : goal.unreachable-requires

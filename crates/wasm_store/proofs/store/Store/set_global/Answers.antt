@@ -1,5 +1,5 @@
 use Rattle.wasm_types.specs.Modules.{module_of}
-use Rattle.wasm_store.proofs.Globals.{set_seen}
+use Rattle.wasm_store.proofs.GlobalViews.{set_seen}
 use Rattle.wasm_store.proofs.store.Store.set_global.Goals as goal
 
 pub returns-clause-new : goal.returns-clause-new

@@ -2,7 +2,7 @@ use Rattle.std.proofs.Common.{◌≡◌, ◌∙◌, ap, slice_get, arith}
 use Rattle.std.specs.Option.{option_flatten}
 use Rattle.std.proofs.lemmas.Grind.{common_steps}
 use Rattle.std.proofs.lemmas.Option.{gets}
-use Rattle.wasm_types.proofs.ImportLaws.{kind_there}
+use Rattle.wasm_types.proofs.ImportLemmas.{kind_there}
 use Rattle.wasm_types.proofs.valid.ValidModule.import_kind.Goals as goal
 
 pub returns : goal.returns

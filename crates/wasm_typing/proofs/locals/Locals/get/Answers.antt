@@ -1,6 +1,6 @@
 use Rattle.std.proofs.Common.{sym, ◌∙◌, subst, arith}
 use Rattle.std.specs.List.Sorted.{IsNonDecreasing}
-use Rattle.wasm_typing.proofs.Runs.{ends_rise, found_at}
+use Rattle.wasm_typing.proofs.LocalRuns.{ends_rise, found_at}
 use Rattle.wasm_typing.proofs.locals.Locals.get.Goals as goal
 
 pub run_at-requires : goal.run_at-requires

@@ -1,6 +1,6 @@
 use Rattle.std.proofs.Common.{List, ℕ, length, take, Some, ap, ◌∙◌}
 use Rattle.guest_memory.specs.Memory.{put_piece}
-use Rattle.watch_expr.proofs.Pieces.{two_parts}
+use Rattle.watch_expr.proofs.SplitBytes.{two_parts}
 use Rattle.watch_expr.proofs.value.loads.piece.Goals as goal
 
 pub returns-in_ok-rest : goal.returns-in_ok-rest

@@ -1,0 +1,61 @@
+-- What is read, and which receives count.
+use Rattle.std.proofs.Common.{◌≡◌, ℕ, ◌+◌, ◌≤◌, Bool, true, false, cond, List, [], ◌∷◌, length, map, take, Some, None, refl, sym, ap, subst, ◌∙◌, arith}
+use Rattle.std.specs.Prelude.{if◌then◌else◌, option_map}
+use Rattle.std.specs.FinMap as map
+use Rattle.std.specs.List.{prefix_len, take_while}
+use Rattle.std.proofs.lemmas.List.{length-take}
+use Rattle.std.proofs.lemmas.List.Folds.{length-prefix_len}
+use Rattle.std.proofs.lemmas.Option.{same_Some}
+use Rattle.byte_streams.specs.Keys.{Contents, chunk_of, key_of}
+use Rattle.byte_streams.specs.Laws.{IsReadOf, IsUnsent, ReadIsKept, UnsentIsFree}
+use Rattle.byte_streams.specs.Lines.{covered_front}
+use Rattle.byte_streams.specs.Stands.{KeptTraffic, StandsFor, contents}
+use Rattle.byte_streams.specs.Traffic.{Received, Sent, StreamName, SendOrReceive, numbers_below, counted_send, is_covered, is_listed, read_count, written}
+use Rattle.byte_streams.proofs.CoveredPositions.{length-below}
+
+-- ---- a send that was not made
+
+never_sent : (from clock : ℕ) (traffic : List SendOrReceive) → IsUnsent from clock traffic → counted_send from clock traffic ≡ None
+never_sent from clock [] none = refl
+never_sent from clock (Received r ∷ early) none = never_sent from clock early none.1
+never_sent from clock (Sent s ∷ early) none = rw none.0 (never_sent from clock early none.1)
+
+pub unsent_free : UnsentIsFree
+unsent_free kept traffic from clock h none = h.sends from clock ∙ ap (option_map chunk_of) (never_sent from clock traffic none)
+
+-- ---- what is read
+
+prefix_len-map : (f : ℕ → Bool) (xs : List ℕ) → prefix_len (λ is. is) (map f xs) ≡ prefix_len f xs
+prefix_len-map f [] = refl
+prefix_len-map f (x ∷ xs) = ap (λ (n : ℕ). cond (f x) (1 + n) 0) (prefix_len-map f xs)
+
+length-take_while : {A : Type 0} (p : A → Bool) (xs : List A) → length (take_while p xs) ≡ prefix_len p xs
+length-take_while p xs = length-prefix_len p xs
+
+front_count : (name : StreamName) (traffic : List SendOrReceive) → covered_front (contents name traffic) ≡ read_count name traffic
+front_count name traffic =
+    let positions = numbers_below (length (written name traffic)) in
+    length-take_while (λ (is : Bool). is) (map (is_covered name traffic) positions) ∙ prefix_len-map (is_covered name traffic) positions
+    ∙ sym (length-take_while (is_covered name traffic) positions)
+
+read_within : (name : StreamName) (traffic : List SendOrReceive) → read_count name traffic ≤ length (written name traffic)
+read_within name traffic =
+    let positions = numbers_below (length (written name traffic)) in
+    omega (arith, length-take (prefix_len (is_covered name traffic) positions) positions, length-below (length (written name traffic)))
+
+kept_is : (kept : KeptTraffic) (traffic : List SendOrReceive) (name : StreamName) (c : Contents) → StandsFor kept traffic → map.get kept.streams (key_of name) ≡ Some c
+    → contents name traffic ≡ c
+kept_is kept traffic name c h has = by_listed (is_listed name traffic) (sym (h.streams name) ∙ has) where
+  by_listed : (b : Bool) → (if b then Some (contents name traffic) else None) ≡ Some c → contents name traffic ≡ c
+  by_listed true e = same_Some (contents name traffic) c e
+  by_listed false e = absurd cc
+
+pub read_kept : ReadIsKept
+read_kept kept traffic name c h has =
+    subst (λ (d : Contents). IsReadOf d name traffic) (kept_is kept traffic name c h has)
+    (record {
+      bytes = ap (λ (n : ℕ). take n (written name traffic)) (front_count name traffic);
+      count = front_count name traffic;
+      within = read_within name traffic;
+      written = refl;
+    })

@@ -1,0 +1,168 @@
+-- The logs that the recording leaves in memory.
+use Rattle.std.proofs.Common.{◌≡◌, ◌≢◌, ◌∙◌, ◌<◌, ℕ, zero, suc, Bool, false, List, [], ◌∷◌, ◌++◌, Option, Some, None, Result, Ok, Err, length, map, get_or, ap, arith, refl, subst, sym}
+use Rattle.std.specs.Prelude.{All, AllPairs, codes, string_bytes}
+use Rattle.std.specs.FinMap.{empty, get}
+use Rattle.std.specs.List.{AllByRecursion}
+use Rattle.std.proofs.lemmas.List.Kept.{AllPairs-cons}
+use Rattle.std.proofs.lemmas.Option.{same_Some}
+use Rattle.fri_outside.specs.Laws.{KeepsFiles}
+use Rattle.fri_outside.specs.Memory.{FilesInMemory}
+use Rattle.fri_outside.specs.Outside.{Folder}
+use Rattle.fri_outside.specs.Several.{Adds, AreApart, with_files}
+use Rattle.wasm_types.specs.Modules.{Module}
+use Rattle.wasm_types.specs.Valid.{IsValid}
+use Rattle.wasm_validate.specs.Fault.{ExactFault}
+use Rattle.schedule_text.specs.Drill.{drill_schedule}
+use Rattle.schedule_text.specs.Schedule.{IsInRange, IsSchedule, Schedule}
+use Rattle.guest_process.specs.State.{State}
+use Rattle.group_record.specs.declared.error.RecordError.{RecordError}
+use Rattle.group_record.specs.declared.error.RecordError.TheVariants as errors
+use Rattle.group_record.specs.declared.summary.Summary.{Summary}
+use Rattle.group_record.specs.Answer.{IsRecordedWhole, IsFull, RecordAnswers, first_states, first_states_from, group_of}
+use Rattle.group_record.specs.Laws.{Agreement, Beginning, IsBegun}
+use Rattle.group_record.specs.Logs.{TellsEvents, log_name, logs}
+use Rattle.group_record.specs.Run.{Step, log_of, name_of_process, run, size}
+use Rattle.command_run.specs.declared.refusal.Reason.TheVariants as reason
+use Rattle.command_run.specs.declared.refusal.StopCause.{StopCause}
+use Rattle.command_run.specs.declared.refusal.StopCause.TheVariants as refusal
+use Rattle.command_run.specs.Call.{RefusesFile}
+use Rattle.command_run.specs.OutcomeLaws.{same_Ok}
+use Rattle.drill_command.specs.declared.recording.Recording.{Recording}
+use Rattle.drill_command.specs.Drill.{drill_group, drill_modules, drill_run, drill_states}
+use Rattle.drill_command.specs.Ring.{ring}
+use Rattle.drill_command.specs.Seen.{HoldLogs, HasAllRounds, StopsDrill}
+use Rattle.drill_command.proofs.ProcessesBegin.{all_begin}
+use Rattle.drill_command.proofs.RingIsValid.{ring_is_valid}
+
+-- ---- lists of four
+
+pub each : {X : Type 0} (P : X → Type 0) (xs : List X) → AllByRecursion P xs → All P xs
+each P [] all k d below = absurd (omega (arith, below))
+each P (x ∷ xs) all zero d below = all.0
+each P (x ∷ xs) all (suc k) d below = each P xs all.1 k d (omega (arith, below))
+
+abbrev File : Type 0
+File = List ℕ × List ℕ
+
+abbrev Apart : File → File → Type 0
+Apart one other = one.0 ≢ other.0
+
+abbrev ApartBehind : List File → Type 0
+ApartBehind [] = Unit {0}
+ApartBehind (x ∷ xs) = AllByRecursion (Apart x) xs × ApartBehind xs
+
+all_apart : (xs : List File) → ApartBehind xs → AllPairs Apart xs
+all_apart [] apart = λ i j d below within. absurd (omega (arith, below, within))
+all_apart (x ∷ xs) apart = AllPairs-cons Apart x xs (each (Apart x) xs apart.0) (all_apart xs apart.1)
+
+abbrev digit : List ℕ → ℕ
+digit name = get_or name 1 0
+
+unlike : (a b : File) → (digit a.0 ≡ digit b.0 → ⊥) → Apart a b
+unlike a b differ same = differ (ap digit same)
+
+-- ---- the logs
+
+abbrev log_at : List Step → ℕ → File
+log_at steps p = (log_name (name_of_process drill_group p), log_of drill_group steps p)
+
+abbrev all_logs : List Step → List File
+all_logs steps = log_at steps 0 ∷ log_at steps 1 ∷ log_at steps 2 ∷ log_at steps 3 ∷ []
+
+logs_are : (steps : List Step) → logs drill_group steps ++ [] ≡ all_logs steps
+logs_are steps = refl
+
+logs_apart : (steps : List Step) → AreApart (all_logs steps)
+logs_apart steps = all_apart (all_logs steps) (
+  (unlike (log_at steps 0) (log_at steps 1) (λ (e : 48 ≡ 49). omega (arith, e)), (unlike (log_at steps 0) (log_at steps 2) (λ (e : 48 ≡ 50). omega (arith, e)), (unlike (log_at steps 0) (log_at steps 3) (λ (e : 48 ≡ 51). omega (arith, e)), tt))),
+  (
+    (unlike (log_at steps 1) (log_at steps 2) (λ (e : 49 ≡ 50). omega (arith, e)), (unlike (log_at steps 1) (log_at steps 3) (λ (e : 49 ≡ 51). omega (arith, e)), tt)),
+    ((unlike (log_at steps 2) (log_at steps 3) (λ (e : 50 ≡ 51). omega (arith, e)), tt), (tt, tt)),
+  ),
+)
+
+logs_held : KeepsFiles → (steps : List Step) (folder : Folder) → Some folder ≡ with_files (all_logs steps) (Some empty)
+    → (p : ℕ) → p < 4 → get folder (log_name (name_of_process drill_group p)) ≡ Some (log_of drill_group steps p)
+logs_held keeps steps folder is = at
+  where
+    stands : Adds (all_logs steps) empty folder
+    stands = let made = keeps.stands empty (all_logs steps) (logs_apart steps) in
+        subst (Adds (all_logs steps) empty) (sym (same_Some folder made.0 (is ∙ made.1))) made.2
+
+    at : (p : ℕ) → p < 4 → get folder (log_name (name_of_process drill_group p)) ≡ Some (log_of drill_group steps p)
+    at zero below = stands.held 0 (log_at steps 0).0 (log_at steps 0).1 refl
+    at (suc zero) below = stands.held 1 (log_at steps 1).0 (log_at steps 1).1 refl
+    at (suc (suc zero)) below = stands.held 2 (log_at steps 2).0 (log_at steps 2).1 refl
+    at (suc (suc (suc zero))) below = stands.held 3 (log_at steps 3).0 (log_at steps 3).1 refl
+    at (suc (suc (suc (suc p)))) below = absurd (omega (arith, below))
+
+-- the logs of the whole run tell its events
+logs_tell : ExactFault → Beginning → Agreement → (rounds : ℕ) → IsSchedule (drill_schedule rounds) → (p : ℕ) → p < 4 → TellsEvents drill_group (drill_run rounds).steps p
+unfolding drill_run
+logs_tell exact beginning agreement rounds schedule p below =
+    let valid = ring_is_valid exact in
+    let begun : IsBegun drill_group × All (IsInRange (size drill_group)) (drill_schedule rounds).items =
+    beginning (drill_schedule rounds) drill_modules drill_states schedule.formed refl (each IsValid drill_modules (valid, (valid, (valid, (valid, tt))))) all_begin in
+    agreement drill_group (drill_schedule rounds).items begun.0 begun.1 (drill_run rounds).steps ([], refl) p below
+
+-- ---- the answers
+
+pub recorded : KeepsFiles → ExactFault → Beginning → Agreement → (rounds : ℕ) → IsSchedule (drill_schedule rounds) → (ms : List Module) → ms ≡ drill_modules
+    → (summary : Summary) (files : FilesInMemory) → RecordAnswers (drill_schedule rounds) false (first_states (drill_schedule rounds) ms) (Ok summary) (Some empty) (Some files.folder)
+    → HasAllRounds rounds (record { files = files; idle = summary.idle })
+unfolding drill_run
+recorded keeps exact beginning agreement rounds schedule ms are summary files (first, begun, done) =
+    let same : first ≡ drill_states = same_Ok (first_states_from 4 0 ms) first drill_states begun (ap (first_states_from 4 0) are ∙ all_begin) in
+    let is : IsRecordedWhole false drill_group (drill_run rounds) summary (Some empty) (Some files.folder) =
+    subst (λ (states : List State). IsRecordedWhole false (group_of (drill_schedule rounds) states) (run (group_of (drill_schedule rounds) states) (drill_schedule rounds).items) summary (Some empty) (Some files.folder)) same done in
+    record {
+      room = is.room;
+      idle = is.summary.idle;
+      logs = record {
+        logs = logs_held keeps (drill_run rounds).steps files.folder is.files;
+        tells = logs_tell exact beginning agreement rounds schedule;
+      };
+    }
+
+-- the same of a schedule and a folder that are these
+pub recorded_by : KeepsFiles → ExactFault → Beginning → Agreement → (rounds : ℕ) → IsSchedule (drill_schedule rounds) → (ms : List Module) → ms ≡ drill_modules
+    → (s : Schedule) → s ≡ drill_schedule rounds → (before : Folder) → before ≡ empty
+    → (summary : Summary) (files : FilesInMemory) → RecordAnswers s false (first_states s ms) (Ok summary) (Some before) (Some files.folder)
+    → HasAllRounds rounds (record { files = files; idle = summary.idle })
+recorded_by keeps exact beginning agreement rounds schedule ms are s is before fresh summary files answers =
+    recorded keeps exact beginning agreement rounds schedule ms are summary files
+    (subst (λ (f : Folder). RecordAnswers (drill_schedule rounds) false (first_states (drill_schedule rounds) ms) (Ok summary) (Some f) (Some files.folder)) fresh
+    (subst (λ (x : Schedule). RecordAnswers x false (first_states x ms) (Ok summary) (Some before) (Some files.folder)) is answers))
+
+pub never_bad : (rounds : ℕ) (ms : List Module) → ms ≡ drill_modules → (p : ℕ) (before after : Option Folder)
+    → RecordAnswers (drill_schedule rounds) false (first_states (drill_schedule rounds) ms) (Err (errors.BadSegment p)) before after → ⊥
+never_bad rounds ms are p before after answers = refuted (sym answers.0 ∙ ap (first_states_from 4 0) are ∙ all_begin)
+  where
+    refuted : Err p ≡ Ok drill_states → ⊥
+    refuted e = cc
+
+pub full_stops : (rounds : ℕ) (ms : List Module) → ms ≡ drill_modules → (item : ℕ) (before after : Option Folder)
+    → RecordAnswers (drill_schedule rounds) false (first_states (drill_schedule rounds) ms) (Err (errors.LogFull item)) before after
+    → (e : StopCause) → RefusesFile (codes "drill") (reason.LogFull item) e → StopsDrill rounds e
+unfolding drill_run
+full_stops rounds ms are item before after (first, begun, full) e refuses = stops e refuses
+  where
+    same : first ≡ drill_states
+    same = same_Ok (first_states_from 4 0 ms) first drill_states begun (ap (first_states_from 4 0) are ∙ all_begin)
+
+    is : (drill_run rounds).full ≡ Some item
+    is = (subst (λ (states : List State). IsFull (group_of (drill_schedule rounds) states) (run (group_of (drill_schedule rounds) states) (drill_schedule rounds).items) item before after) same full).full
+
+    stops : (e : StopCause) → RefusesFile (codes "drill") (reason.LogFull item) e → StopsDrill rounds e
+    stops (refusal.Refused file why) (named, because) = rw because (named, is)
+    stops refusal.NoMemory refuses = tt
+    stops other refuses = absurd refuses
+
+-- the same of a schedule and an answer that are these
+pub full_stops_by : (rounds : ℕ) (ms : List Module) → ms ≡ drill_modules → (s : Schedule) → s ≡ drill_schedule rounds → (item : ℕ) (error : RecordError) → error ≡ errors.LogFull item
+    → (before after : Option Folder) → RecordAnswers s false (first_states s ms) (Err error) before after
+    → (e : StopCause) → RefusesFile (codes "drill") (reason.LogFull item) e → StopsDrill rounds e
+full_stops_by rounds ms are s is item error full before after answers =
+    full_stops rounds ms are item before after
+    (subst (λ (x : RecordError). RecordAnswers (drill_schedule rounds) false (first_states (drill_schedule rounds) ms) (Err x) before after) full
+    (subst (λ (x : Schedule). RecordAnswers x false (first_states x ms) (Err error) before after) is answers))

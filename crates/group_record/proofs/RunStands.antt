@@ -1,0 +1,94 @@
+-- The acts of a run can follow each other, and so a run stands at each moment.
+use Rattle.std.proofs.Common.{◌≡◌, ℕ, ◌≤◌, Bool, true, false, List, [], ◌∷◌, length, refl, ap, ◌∙◌, arith}
+use Rattle.std.specs.Prelude.{Option, Some, IsTrue}
+use Rattle.call_table.specs.Table.{kind_numbered}
+use Rattle.call_table.specs.declared.kind.Kind.{Kind}
+use Rattle.call_table.specs.declared.kind.Kind.TheVariants.{Random}
+use Rattle.lib_calls.specs.Effects.{is_good}
+use Rattle.lib_calls.specs.Traffic.{drawn, draws_as, is_taken}
+use Rattle.lib_calls.specs.declared.entry.Entry.{Entry}
+use Rattle.guest_process.specs.Live.{Event}
+use Rattle.guest_process.specs.State.{State}
+use Rattle.group_world.specs.History.{Act, mailbox, pool}
+use Rattle.group_world.specs.History as world
+use Rattle.group_world.specs.Laws.{CanBe, CanFollow}
+use Rattle.group_record.specs.Run.{GroupStart, Step, Had, Did, world_around, history, size}
+use Rattle.group_record.specs.Laws.{DrawsIf, IsBegun}
+use Rattle.group_record.specs.Standing.{IsDone, IsRun, Standing, StandsReplayed}
+use Rattle.group_record.proofs.RunSteps.{is_run}
+use Rattle.group_record.proofs.LogsAgree.{KeepsAfter, Laws, keeps}
+use Rattle.group_record.proofs.DeliveredDatagrams.{took, takes_kind}
+use Rattle.group_record.proofs.EventTakes.{Came, answers_random, came_by, draws_if}
+
+-- ---- what an event takes is there
+
+takes_there : (group : GroupStart) (early : List Step) (p : ℕ) (e : Event) (S : State) → Came group early p e S → IsTrue (is_taken e.entry) → 1 ≤ length (mailbox (size group) (history early) p)
+takes_there group early p e S c takes =
+    let w = c.in_it.waiting in
+    let t = took w.kind S c.thread w.call (world_around (size group) early p) c.in_it.given e.entry c.in_it.answer c.reply (takes_kind e.entry w.kind c.of_kind takes) in
+    omega (arith, ap (λ (box : List (List ℕ)). length box) t.first)
+
+drawn_by : (e : Entry) (k : Kind) → kind_numbered e.call.kind ≡ Some k → drawn e ≡ draws_as (Some k) e
+unfolding drawn
+drawn_by e k of_kind = ap (λ (o : Option Kind). draws_as o e) of_kind
+
+drawn_within : (early : List Step) (p : ℕ) (e : Event) (good : Bool) → DrawsIf good early p e → drawn e.entry ≤ length (pool (history early) p)
+drawn_within early p e true draws = omega (arith, draws.count, draws.enough)
+drawn_within early p e false none = omega (arith, none)
+
+draws_as_within : (k : Kind) (e : Entry) (many : ℕ) → (k ≡ Random → draws_as (Some k) e ≤ many) → draws_as (Some k) e ≤ many
+draws_as_within Random e many within = within refl
+draws_as_within _ e many within = omega arith
+
+draws_there : (group : GroupStart) (early : List Step) (p : ℕ) (e : Event) (S : State) → Came group early p e S → drawn e.entry ≤ length (pool (history early) p)
+draws_there group early p e S c =
+    let kind = c.in_it.waiting.kind in
+    let by : drawn e.entry ≡ draws_as (Some kind) e.entry = drawn_by e.entry kind c.of_kind in
+    let few : draws_as (Some kind) e.entry ≤ length (pool (history early) p) = draws_as_within kind e.entry (length (pool (history early) p)) (λ is.
+    let random : kind_numbered e.entry.call.kind ≡ Some Random = c.of_kind ∙ ap Some is in
+    let within = drawn_within early p e (is_good e.entry.call S.store.memory)
+    (draws_if S early (size group) p e (is_good e.entry.call S.store.memory) refl random (answers_random group early p e S c random)) in
+    omega (arith, within, by)) in
+    omega (arith, by, few)
+
+-- ---- the acts
+
+act_follows : (group : GroupStart) (early : List Step) (act : Act) → IsDone group early act → CanFollow (size group) (history early) act
+act_follows group early (world.Event p e) done = absurd done
+act_follows group early (world.Deliver p n) done = done.0
+act_follows group early (world.Inject p bytes) done = done
+act_follows group early (world.Clock p value) done = done.0
+act_follows group early (world.Random p bytes) done = done
+act_follows group early (world.Signal p signal) done = done
+act_follows group early (world.Kill p) done = done.0
+
+acts_follow : Laws → (group : GroupStart) → IsBegun group → (steps : List Step) → IsRun group steps → CanBe (size group) (history steps)
+acts_follow laws group begun [] run = tt
+acts_follow laws group begun (Had p e ∷ early) run =
+    let k : KeepsAfter group early p = keeps laws group begun early run.1 p run.0.within in
+    let c : Came group early p e k.last = came_by group early p e k run.0 in
+    ((run.0.within, record { datagrams = takes_there group early p e k.last c; bytes = draws_there group early p e k.last c }), acts_follow laws group begun early run.1)
+acts_follow laws group begun (Did act ∷ early) run = (act_follows group early act run.0, acts_follow laws group begun early run.1)
+
+-- ---- all of it
+
+process_stands : (group : GroupStart) (steps : List Step) (p : ℕ) → KeepsAfter group steps p → StandsReplayed group steps p
+process_stands group steps p k = record {
+  first = k.first;
+  begun = k.begun;
+  last = k.last;
+  stands = k.stands;
+  replay = k.reached;
+  events = k.events;
+  count = k.group_size;
+  fits = k.fits;
+}
+
+pub stands : Laws → Standing
+stands laws group items begun fits early front =
+    let run : IsRun group early = is_run group items fits early front in
+    record {
+      steps = run;
+      acts = acts_follow laws group begun early run;
+      processes = λ p within. process_stands group early p (keeps laws group begun early run p within);
+    }

@@ -1,0 +1,150 @@
+-- The replays at a position have the events ahead that the order has behind it.
+use Rattle.std.proofs.Common.{◌≡◌, ℕ, zero, suc, ◌+◌, ◌*◌, ◌≤◌, ◌<◌, ◌^◌, List, [], ◌∷◌, ◌++◌, map, length, length-append, take, drop, get_or, set, Some, None, refl, sym, ap, subst, ◌∙◌, add-one, arith, mul-le-mul_right}
+use Rattle.std.specs.Prelude.{All, option_map, slice_get}
+use Rattle.std.specs.List.{AllByRecursion}
+use Rattle.std.proofs.lemmas.List.{length-map}
+use Rattle.std.proofs.lemmas.List.Elements.{recursion_from_All}
+use Rattle.std.proofs.lemmas.Option.{slice_get-map, slice_get_past, slice_get_read}
+use Rattle.lib_calls.specs.declared.entry.Entry.{Entry}
+use Rattle.call_log.specs.Limits.{least_entry, most_log}
+use Rattle.guest_process.specs.Fits.{StateFits}
+use Rattle.guest_process.specs.OneEvent.{IsKept, Rises as AreRising}
+use Rattle.guest_process.specs.State.{State}
+use Rattle.group_order.specs.Heads.{AreNone, IsFirstNode}
+use Rattle.group_order.specs.Order.{AreMerged, ClocksRise, IsMerged, NodeEvent, events_from, list_of, node_event, of_node, order}
+use Rattle.proc_replay.specs.Course.{AreReplays, AreTurns, ahead}
+use Rattle.proc_replay.specs.Replaying.{Makes, Replaying, after, turn}
+use Rattle.group_state.specs.Stands.{parts_from}
+use Rattle.group_state.specs.Place.{PartsFit, entry_clock, events, head, node_event_count, states}
+use Rattle.group_state.proofs.TurnsAhead.{ahead_room, made_first}
+use Rattle.group_state.proofs.NodeEvents.{among_own, count_take, length_sort, of_node-drop, sorted_drop}
+use Rattle.group_state.proofs.ClocksRise.{IsAboveTag, ahead_rises, ahead_tags}
+use Rattle.group_state.proofs.ReplaysAfter.{found, heads_ahead, parts_ahead, parts_more, parts_rise, parts_states}
+
+-- x is the element at k
+pub record Front (X : Type 0) (xs : List X) (k : ℕ) (x : X) : Type 0 where
+  pub here : slice_get xs k ≡ Some x
+  pub within : k < length xs
+  pub more : take (suc k) xs ≡ take k xs ++ x ∷ []
+
+pub front : {X : Type 0} (xs : List X) (k : ℕ) (x : X) (ys : List X) → drop k xs ≡ x ∷ ys → Front X xs k x
+front [] zero x ys is = absurd (cc)
+front [] (suc k) x ys is = absurd (cc)
+front (a ∷ xs) zero x ys is =
+    let same : a ≡ x = cc in
+    record { here = ap Some same; within = omega arith; more = ap (λ y. y ∷ []) same }
+front (a ∷ xs) (suc k) x ys is =
+    let f = front xs k x ys is in
+    record { here = f.here; within = omega (arith, f.within); more = ap (λ l. a ∷ l) f.more }
+
+no_front : {X : Type 0} (xs : List X) (k : ℕ) → drop k xs ≡ [] → slice_get xs k ≡ None
+no_front [] k is = refl
+no_front (a ∷ xs) zero is = absurd (cc)
+no_front (a ∷ xs) (suc k) is = no_front xs k is
+
+-- what the turn of the node that comes next gives
+pub record Goes (start : List Replaying) (at node : ℕ) : Type 0 where
+  pub entry : Entry
+  pub part : Replaying
+  pub here : slice_get (parts_from 0 start (take at (events start))) node ≡ Some part
+  pub makes : turn part ≡ Makes entry
+  pub next : slice_get (events start) at ≡ Some (node_event node entry)
+  pub more : set (parts_from 0 start (take at (events start))) node (after part) ≡ parts_from 0 start (take (at + 1) (events start))
+  pub within : at < length (events start)
+
+module _ (merging : AreMerged Entry) (rising : AreRising) (kept : IsKept) where
+  all_rise : (rs : List Replaying) → AllByRecursion (λ (r : Replaying). StateFits r.state) rs → AllByRecursion (ClocksRise entry_clock) (map ahead rs)
+  all_rise [] fits = tt
+  all_rise (r ∷ rs) fits = (ahead_rises rising kept r fits.0, all_rise rs fits.1)
+
+  start_rises : (start : List Replaying) → PartsFit start → AllByRecursion (ClocksRise entry_clock) (map ahead start)
+  start_rises start fits = all_rise start (recursion_from_All (λ (r : Replaying). StateFits r.state) start fits)
+
+  pub start_merged : (start : List Replaying) → PartsFit start → IsMerged entry_clock (map ahead start)
+  start_merged start fits = merging entry_clock (map ahead start) (start_rises start fits)
+
+  all_tagged : (rs : List Replaying) (node : ℕ) → AllByRecursion (λ (r : Replaying). StateFits r.state) rs → AllByRecursion IsAboveTag (list_of (map ahead rs) node)
+  all_tagged [] node fits = tt
+  all_tagged (r ∷ rs) zero fits = ahead_tags rising kept r fits.0
+  all_tagged (r ∷ rs) (suc node) fits = all_tagged rs node fits.1
+
+  -- the clock of an event is above that of the tag that it took
+  pub tag_below : (start : List Replaying) → PartsFit start → (j : ℕ) (x : NodeEvent Entry) → slice_get (events start) j ≡ Some x → IsAboveTag x.entry
+  tag_below start fits j x is =
+      among_own IsAboveTag (events start) j x is
+      (subst (AllByRecursion IsAboveTag) (sym ((start_merged start fits).is.own x.node))
+      (all_tagged start x.node (recursion_from_All (λ (r : Replaying). StateFits r.state) start fits)))
+
+  module _ (course : AreTurns) (start : List Replaying) (fits : PartsFit start) (at : ℕ) where
+    abbrev pub so_far : List (NodeEvent Entry)
+    so_far = take at (events start)
+
+    abbrev pub parts_at : List Replaying
+    parts_at = parts_from 0 start so_far
+
+    parts_merged : IsMerged entry_clock (map ahead parts_at)
+    parts_merged = merging entry_clock (map ahead parts_at) (parts_rise course 0 start so_far (start_rises start fits))
+
+    pub own_left : (node : ℕ) → of_node node (drop at (events start)) ≡ list_of (map ahead parts_at) node
+    own_left node =
+        let same : 0 + node ≡ node = omega arith in
+        of_node-drop node at (events start)
+        ∙ ap (drop (node_event_count node so_far)) ((start_merged start fits).is.own node)
+        ∙ ap (λ n. drop (node_event_count n so_far) (list_of (map ahead start) node)) (sym same)
+        ∙ sym (parts_ahead course 0 start so_far node)
+
+    left_order : drop at (events start) ≡ order entry_clock (map ahead parts_at)
+    left_order = parts_merged.only (drop at (events start)) (record { sorted = sorted_drop at (events start) (start_merged start fits).is.sorted; own = own_left })
+
+    pub goes : (node : ℕ) → IsFirstNode (map head parts_at) node → Goes start at node
+    goes node first =
+        let b = parts_merged.begins node (subst (λ heads. IsFirstNode heads node) (sym (heads_ahead course parts_at)) first) in
+        let f = found parts_at node b.entry b.rest b.list in
+        let x = node_event node b.entry in
+        let at_front = front (events start) at x _ (left_order ∙ b.order) in
+        record {
+          entry = b.entry;
+          part = f.part;
+          here = f.here;
+          makes = made_first course f.part b.entry b.rest f.ahead_is;
+          next = at_front.here;
+          more = sym (ap (λ n. parts_from 0 start (take n (events start))) (add-one at) ∙ ap (parts_from 0 start) at_front.more ∙ parts_more 0 start so_far x node f.part (omega arith) f.here);
+          within = at_front.within;
+        }
+
+    pub ends : AreNone (map head parts_at) → slice_get (events start) at ≡ None
+    ends none = no_front (events start) at (left_order ∙ parts_merged.ends (subst AreNone (sym (heads_ahead course parts_at)) none))
+
+    pub states_at : AreReplays → All (λ (r : Replaying). r.state.events ≡ 0) start → map (λ (r : Replaying). r.state) parts_at ≡ states start at
+    states_at replays fresh =
+        parts_states replays 0 start so_far (recursion_from_All (λ (r : Replaying). r.state.events ≡ 0) start fresh)
+        (λ k. let same : k ≡ 0 + k = omega arith in
+        subst (λ n. node_event_count n so_far ≤ length (list_of (map ahead start) k)) same
+        (omega (arith, count_take k at (events start), ap length ((start_merged start fits).is.own k))))
+
+-- ---- how many events there can be
+
+module _ (course : AreTurns) where
+  few_from : (most i : ℕ) (rs : List Replaying) → AllByRecursion (λ (r : Replaying). length r.left.bytes ≤ most) rs → least_entry * length (events_from i (map ahead rs)) ≤ length rs * most
+  few_from most i [] small = omega arith
+  few_from most i (r ∷ rs) small =
+      omega (arith, small.0, ahead_room course r, few_from most (suc i) rs small.1, length-append (map (node_event i) (ahead r)) (events_from (suc i) (map ahead rs)), length-map (ahead r) (node_event i))
+
+  -- logs within their limit have fewer events than a number of 64 bits can count
+  pub few_events : (rs : List Replaying) → All (λ (r : Replaying). length r.left.bytes ≤ most_log) rs → length rs ≤ 16 → length (events rs) < 2 ^ 64
+  few_events rs small few =
+      let within = recursion_from_All (λ (r : Replaying). length r.left.bytes ≤ most_log) rs small in
+      omega (arith, length_sort (events_from 0 (map ahead rs)), few_from most_log 0 rs within, mul-le-mul_right most_log few)
+
+-- ---- the process of one node
+
+pub state_at : (parts : List Replaying) (after : List State) (node : ℕ) (p : Replaying) (S : State) → map (λ (r : Replaying). r.state) parts ≡ after → node < length parts
+    → p ≡ get_or parts node p → S ≡ p.state → Some S ≡ slice_get after node
+state_at parts after node p S are within p_is S_is =
+    ap Some S_is
+    ∙ ap (option_map (λ (r : Replaying). r.state)) (sym (slice_get_read parts (length parts) node p refl within p_is))
+    ∙ sym (slice_get-map (λ (r : Replaying). r.state) parts node)
+    ∙ ap (λ states. slice_get states node) are
+
+pub no_state_at : (parts : List Replaying) (after : List State) (node : ℕ) → map (λ (r : Replaying). r.state) parts ≡ after → length parts ≤ node → None ≡ slice_get after node
+no_state_at parts after node are past = sym (slice_get_past after node (omega (arith, ap length are, length-map parts (λ (r : Replaying). r.state), past)))

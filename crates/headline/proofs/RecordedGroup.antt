@@ -1,0 +1,198 @@
+-- A recording's group, and each of its processes: its module, its first state, and its log.
+use Rattle.std.proofs.Common.{◌≡◌, ◌≢◌, ◌⊎◌, ◌∙◌, ◌<◌, ◌+◌, ℕ, zero, suc, List, [], ◌∷◌, ◌++◌, length, map, slice_get, Option, Some, None, Result, Ok, Err, inl, inr, ap, arith, refl, subst, sym}
+use Rattle.std.specs.Prelude.{All, AllPairs, slice_index_or}
+use Rattle.std.specs.FinMap.{get}
+use Rattle.std.proofs.lemmas.List.{length-map}
+use Rattle.fri_outside.specs.Outside.{Folder, found_within}
+use Rattle.wasm_types.specs.Modules.{Module}
+use Rattle.wasm_types.specs.Valid.{IsValid}
+use Rattle.wasm_decode.specs.Sections.{module_of_bytes}
+use Rattle.schedule_text.specs.declared.item.Item.{Item}
+use Rattle.schedule_text.specs.declared.process.ProcessLine.{ProcessLine}
+use Rattle.schedule_text.specs.Laws.{GivesSchedules}
+use Rattle.schedule_text.specs.Reading.{ScheduleRefusal, BadLineAt, TooManyRuns, schedule_of}
+use Rattle.schedule_text.specs.Schedule.{IsInRange, IsWellFormed, Schedule}
+use Rattle.guest_process.specs.Start.{start}
+use Rattle.guest_process.specs.State.{State}
+use Rattle.group_record.specs.Answer.{first_states_from, group_of, with_first_state}
+use Rattle.group_record.specs.Laws.{Beginning, IsBegun}
+use Rattle.group_record.specs.Logs.{TellsBefore, log_name}
+use Rattle.group_record.specs.Run.{GroupStart, Step, head_of_log, log_of, name_of_process, size}
+use Rattle.command_run.specs.Inputs.{module_in, spelled_module, valid_module}
+use Rattle.command_run.specs.Laws.{ReadsModules}
+use Rattle.command_run.specs.Limits.{most_module}
+use Rattle.command_run.specs.Outcome.{CommandStop, and_then, bytes_or_stop, file_of}
+use Rattle.command_run.specs.OutcomeLaws.{follows, same_Ok, value_or}
+use Rattle.log_pairs.specs.Valid.{GoTogether}
+use Rattle.record_command.specs.Agreement.{IsRecordable, group_in}
+use Rattle.record_command.specs.Expected.{module_name, modules_of, schedule_in, schedule_or_refusal}
+use Rattle.schedule_text.specs.Limits.{most_schedule}
+use Rattle.headline.specs.Headline.{HoldsProcess, files_of_process}
+use Rattle.headline.proofs.LoadedPairs.{PairStands, log_stands}
+use Rattle.headline.proofs.ShownReplays.{replay_of}
+
+-- ---- the schedule
+
+read_by : (name : List ℕ) (r : Result Schedule ScheduleRefusal) (schedule : Schedule) → schedule_or_refusal name r ≡ Ok schedule → r ≡ Ok schedule
+read_by name (Ok s) schedule is = ap (λ (s : Schedule). Ok s) (same_Ok (schedule_or_refusal name (Ok s)) s schedule refl is)
+read_by name (Err (BadLineAt line)) schedule is = cc
+read_by name (Err TooManyRuns) schedule is = cc
+
+pub schedule_formed : GivesSchedules → (folder : Folder) (name : List ℕ) (schedule : Schedule) → schedule_in folder name ≡ Ok schedule → IsWellFormed schedule
+schedule_formed gives folder name schedule is =
+    let bytes = follows (file_of folder name most_schedule) _ schedule is in
+    ((gives bytes.given schedule).0 (read_by name (schedule_of bytes.given) schedule bytes.comes)).0.formed
+
+-- ---- the modules
+
+record AreModules (lines : List ProcessLine) (ms : List Module) : Type 0 where
+  count : length ms ≡ length lines
+  valid : All IsValid ms
+
+valid_too : (m : Module) (ms : List Module) → IsValid m → All IsValid ms → All IsValid (m ∷ ms)
+valid_too m ms valid rest zero d below = valid
+valid_too m ms valid rest (suc k) d below = rest k d (omega (arith, below))
+
+no_module : All IsValid []
+no_module k d below = absurd (omega (arith, below))
+
+are_modules : ReadsModules → (folder : Folder) (lines : List ProcessLine) (ms : List Module) → modules_of folder lines ≡ Ok ms → AreModules lines ms
+are_modules reads folder [] ms is = subst (AreModules []) (ap (value_or []) is) (record { count = refl; valid = no_module })
+are_modules reads folder (line ∷ lines) ms is =
+    let first = follows (module_in folder line.«module») _ ms is in
+    let rest = follows (modules_of folder lines) _ ms first.comes in
+    let known = are_modules reads folder lines rest.given rest.is_given in
+    subst (AreModules (line ∷ lines)) (ap (value_or []) rest.comes) (record {
+      count = ap suc known.count;
+      valid = valid_too first.given rest.given (reads.valid folder line.«module» first.given first.is_given) known.valid;
+    })
+
+-- the group has begun, and the items are in range for it
+pub record HasBegun (group : GroupStart) (items : List Item) : Type 0 where
+  pub begun : IsBegun group
+  pub fits : All (IsInRange (size group)) items
+
+pub has_begun : ReadsModules → GivesSchedules → Beginning → {folder : Folder} {name : List ℕ} (r : IsRecordable folder name) → HasBegun (group_in r) r.schedule.items
+has_begun reads gives beginning {folder} {name} r =
+    let modules = are_modules reads folder r.schedule.processes r.modules r.found in
+    let both = beginning r.schedule r.modules r.first (schedule_formed gives folder name r.schedule r.spelled) modules.count modules.valid r.begins in
+    record { begun = both.0; fits = both.1 }
+
+-- ---- one process
+
+-- the module of a file, with which a process begins so
+pub record Begins (folder : Folder) (name : List ℕ) (p count : ℕ) (S : State) : Type 0 where
+  pub «module» : Module
+  pub reads : module_in folder name ≡ Ok «module»
+  pub begins : start «module» p count ≡ Some S
+
+record FirstStates (o : Option State) (rest : Result (List State) ℕ) (first : List State) : Type 0 where
+  one : State
+  is_one : o ≡ Some one
+  others : List State
+  are_others : rest ≡ Ok others
+  whole : one ∷ others ≡ first
+
+abbrev states_in : Result (List State) ℕ → List State
+states_in (Ok states) = states
+states_in (Err p) = []
+
+first_states_are : (o : Option State) (q : ℕ) (rest : Result (List State) ℕ) (first : List State) → with_first_state o q rest ≡ Ok first → FirstStates o rest first
+first_states_are None q rest first is = cc
+first_states_are (Some S) q (Ok states) first is = record { one = S; is_one = refl; others = states; are_others = refl; whole = ap states_in is }
+first_states_are (Some S) q (Err p) first is = cc
+
+abbrev file_at : List ProcessLine → ℕ → List ℕ
+file_at lines i = slice_index_or (map (λ (line : ProcessLine). line.«module») lines) i []
+
+begins_at : (folder : Folder) (count q : ℕ) (line : ProcessLine) (lines : List ProcessLine) (S : State) (m : Module) (one : State) (others : List State) → module_in folder line.«module» ≡ Ok m → start m q count ≡ Some one
+    → ((j : ℕ) → slice_get others j ≡ Some S → Begins folder (file_at lines j) (suc q + j) count S)
+    → (i : ℕ) → slice_get (one ∷ others) i ≡ Some S → Begins folder (file_at (line ∷ lines) i) (q + i) count S
+begins_at folder count q line lines S m one others reads begins later zero at =
+    let here : q ≡ q + 0 = omega arith in
+    record { «module» = m; reads = reads; begins = ap (λ (n : ℕ). start m n count) (sym here) ∙ begins ∙ at }
+begins_at folder count q line lines S m one others reads begins later (suc i) at =
+    let here : suc q + i ≡ q + suc i = omega arith in subst (λ (n : ℕ). Begins folder (file_at lines i) n count S) here (later i at)
+
+nothing_at : (S : State) (i : ℕ) → slice_get [] i ≡ Some S → ⊥
+nothing_at S i e = cc
+
+begins_from : (folder : Folder) (count q : ℕ) (lines : List ProcessLine) (ms : List Module) (first : List State) → modules_of folder lines ≡ Ok ms → first_states_from count q ms ≡ Ok first
+    → (i : ℕ) (S : State) → slice_get first i ≡ Some S → Begins folder (file_at lines i) (q + i) count S
+begins_from folder count q [] ms first found begun i S at =
+    let none : [] ≡ first = ap states_in (ap (first_states_from count q) (ap (value_or []) found) ∙ begun) in
+    absurd (nothing_at S i (ap (λ (xs : List State). slice_get xs i) none ∙ at))
+begins_from folder count q (line ∷ lines) ms first found begun i S at =
+    let one = follows (module_in folder line.«module») _ ms found in
+    let rest = follows (modules_of folder lines) _ ms one.comes in
+    let whole : one.given ∷ rest.given ≡ ms = ap (value_or []) rest.comes in
+    let states = first_states_are (start one.given q count) q (first_states_from count (suc q) rest.given) first (ap (first_states_from count q) whole ∙ begun) in
+    begins_at folder count q line lines S one.given states.one states.others one.is_given states.is_one
+    (λ j here. begins_from folder count (suc q) lines rest.given states.others rest.is_given states.are_others j S here)
+    i (ap (λ (xs : List State). slice_get xs i) states.whole ∙ at)
+
+group_size : (schedule : Schedule) (first : List State) → length schedule.processes ≡ size (group_of schedule first)
+group_size schedule first = sym (length-map schedule.processes (λ (line : ProcessLine). line.name))
+
+pub begins_in : {folder : Folder} {name : List ℕ} (r : IsRecordable folder name) (p : ℕ) (S : State) → slice_get (group_in r).first p ≡ Some S → Begins folder (module_name r.schedule p) p (size (group_in r)) S
+begins_in {folder} r p S at =
+    let here : 0 + p ≡ p = omega arith in
+    subst (λ (n : ℕ). Begins folder (module_name r.schedule p) p n S) (group_size r.schedule r.first)
+    (subst (λ (n : ℕ). Begins folder (module_name r.schedule p) n (length r.schedule.processes) S) here
+    (begins_from folder (length r.schedule.processes) 0 r.schedule.processes r.modules r.first r.found r.begins p S at))
+
+-- ---- its pair, in a folder that holds it
+
+abbrev module_by : List ℕ → Option (List ℕ) → Result Module CommandStop
+module_by name held = and_then (bytes_or_stop name (found_within most_module held)) (λ bytes. and_then (spelled_module name (module_of_bytes bytes)) (valid_module name))
+
+same_module : (before folder : Folder) (name : List ℕ) → get folder name ≡ get before name → module_in folder name ≡ module_in before name
+same_module before folder name same = ap (module_by name) same
+
+pub pair_stands : ReadsModules → {before : Folder} {name : List ℕ} (r : IsRecordable before name) (steps : List Step) (cut : ℕ → List ℕ) (folder : Folder) (p : ℕ) → HoldsProcess r steps cut folder p
+    → (t : TellsBefore (group_in r) steps p (cut p)) → PairStands folder (files_of_process r.schedule p) (replay_of (group_in r) steps cut p t)
+pair_stands reads {before} r steps cut folder p holds t =
+    let b = begins_in r p t.first t.begun in
+    record {
+      «module» = b.«module»;
+      reads = same_module before folder (module_name r.schedule p) holds.«module» ∙ b.reads;
+      begins = b.begins;
+      log = log_stands reads folder (log_name (name_of_process (group_in r) p)) (log_of (group_in r) steps p ++ cut p) (head_of_log (group_in r) p) t.left holds.log t.within t.head;
+    }
+
+-- ---- the heads go together
+
+names_differ : (lines : List ProcessLine) → AllPairs (λ a b. a.name ≢ b.name) lines → (p q : ℕ) → p < q → q < length lines
+    → slice_index_or (map (λ (line : ProcessLine). line.name) lines) p [] ≢ slice_index_or (map (λ (line : ProcessLine). line.name) lines) q []
+names_differ lines apart p q before inside same =
+    apart p q none before inside (name_is lines p (omega (arith, before, inside)) ∙ same ∙ sym (name_is lines q inside)) where
+      none : ProcessLine
+      none = record { name = []; «module» = [] }
+
+      name_is : (lines : List ProcessLine) (i : ℕ) → i < length lines → (slice_index_or lines i none).name ≡ slice_index_or (map (λ (line : ProcessLine). line.name) lines) i []
+      name_is [] i below = absurd (omega (arith, below))
+      name_is (line ∷ lines) zero below = refl
+      name_is (line ∷ lines) (suc i) below = name_is lines i (omega (arith, below))
+
+less_or_more : (p q : ℕ) → p ≢ q → (p < q) ⊎ (q < p)
+less_or_more zero zero apart = absurd (apart refl)
+less_or_more zero (suc q) apart = inl (omega arith)
+less_or_more (suc p) zero apart = inr (omega arith)
+less_or_more (suc p) (suc q) apart = further (less_or_more p q (λ same. apart (ap suc same))) where
+  further : (p < q) ⊎ (q < p) → (suc p < suc q) ⊎ (suc q < suc p)
+  further (inl less) = inl (omega (arith, less))
+  further (inr more) = inr (omega (arith, more))
+
+pub together : (schedule : Schedule) (first : List State) → IsWellFormed schedule → (p q : ℕ) → p < size (group_of schedule first) → q < size (group_of schedule first) → p ≢ q
+    → GoTogether (head_of_log (group_of schedule first) p) (head_of_log (group_of schedule first) q)
+together schedule first formed p q below also apart = record {
+  count = refl;
+  process = apart;
+  name = by_order (less_or_more p q apart);
+} where
+  count : length schedule.processes ≡ size (group_of schedule first)
+  count = group_size schedule first
+
+  by_order : (p < q) ⊎ (q < p) → name_of_process (group_of schedule first) p ≢ name_of_process (group_of schedule first) q
+  by_order (inl less) same = names_differ schedule.processes formed.names p q less (omega (arith, also, count)) same
+  by_order (inr more) same = names_differ schedule.processes formed.names q p more (omega (arith, below, count)) (sym same)

@@ -1,0 +1,128 @@
+-- The recording of the files that a folder holds: there is one, and its logs agree with it.
+use Rattle.std.proofs.Common.{◌≡◌, ◌++◌, ℕ, Bool, List, Option, Some, option_map, Result, Ok, Err, refl, sym, ap, subst, ◌∙◌}
+use Rattle.fri_outside.specs.Laws.{KeepsFiles}
+use Rattle.fri_outside.specs.Outside.{Folder, WhenTold}
+use Rattle.fri_outside.specs.Several.{with_files}
+use Rattle.wasm_types.specs.Modules.{Module}
+use Rattle.guest_process.specs.State.{State}
+use Rattle.schedule_text.specs.Laws.{GivesSchedules}
+use Rattle.schedule_text.specs.Reading.{ScheduleRefusal, BadLineAt, TooManyRuns, schedule_of}
+use Rattle.schedule_text.specs.Schedule.{IsWellFormed, Schedule}
+use Rattle.group_record.specs.Answer.{StoppedWhere, first_states}
+use Rattle.group_record.specs.Files.{InHeads, IsStopped}
+use Rattle.group_record.specs.Images.{images_of}
+use Rattle.group_record.specs.Laws.{Agreement, Beginning, CutAgreement, Delivery, TakesDrawn, TakesWaiting}
+use Rattle.group_record.specs.Logs.{logs}
+use Rattle.group_record.specs.Run.{log_of}
+use Rattle.command_run.specs.declared.refusal.WorkText.{WorkText}
+use Rattle.command_run.specs.declared.refusal.StopCause.{StopCause}
+use Rattle.command_run.specs.declared.refusal.StopCause.TheVariants as refusal
+use Rattle.record_command.specs.Agreement.{IsRecordable, LeavesMoment, LeavesRecording, RecordingsAgree, group_in, run_in, steps_in}
+use Rattle.command_run.specs.Call.{IsAnswerResult, MakesWorkFiles}
+use Rattle.record_command.specs.Expected.{group_outcome, modules_of, record_outcome, schedule_in, schedule_or_refusal}
+use Rattle.schedule_text.specs.Limits.{most_schedule}
+use Rattle.command_run.specs.Outcome.{CommandOutcome, file_of, writes_of}
+use Rattle.record_command.specs.Seen.{Gathers}
+use Rattle.record_command.proofs.GatheredOutcome.{gathered}
+use Rattle.record_command.proofs.GroupOutcome.{group_writes}
+use Rattle.command_run.specs.Laws.{ReadsModules}
+use Rattle.command_run.specs.OutcomeLaws.{follows, same_Ok}
+use Rattle.record_command.proofs.GroupModules.{modules_valid}
+use Rattle.record_command.proofs.StoppedFiles.{images_are_no_logs, logs_apart, logs_stand}
+
+-- ---- a schedule that was read
+
+read_by : (name : List ℕ) (r : Result Schedule ScheduleRefusal) (schedule : Schedule) → schedule_or_refusal name r ≡ Ok schedule → r ≡ Ok schedule
+read_by name (Ok s) schedule is = ap (λ (s : Schedule). Ok s) (same_Ok (schedule_or_refusal name (Ok s)) s schedule refl is)
+read_by name (Err (BadLineAt line)) schedule is = cc
+read_by name (Err TooManyRuns) schedule is = cc
+
+pub schedule_formed : GivesSchedules → (folder : Folder) (name : List ℕ) (schedule : Schedule) → schedule_in folder name ≡ Ok schedule → IsWellFormed schedule
+schedule_formed gives folder name schedule is =
+    let bytes = follows (file_of folder name most_schedule) _ schedule is in
+    ((gives bytes.given schedule).0 (read_by name (schedule_of bytes.given) schedule bytes.comes)).0.formed
+
+-- ---- its logs agree with it
+
+-- what is known of runs
+pub record RunLaws : Type 0 where
+  pub logs : Agreement
+  pub cut : CutAgreement
+  pub datagrams : Delivery
+  pub waiting : TakesWaiting
+  pub random : TakesDrawn
+
+pub recordings_agree_so : ReadsModules → GivesSchedules → Beginning → RunLaws → RecordingsAgree
+recordings_agree_so reads gives beginning laws folder name r =
+    let modules = modules_valid reads folder r.schedule.processes r.modules r.found in
+    let begun = beginning r.schedule r.modules r.first (schedule_formed gives folder name r.schedule r.spelled) modules.count modules.valid r.begins in
+    record {
+      logs = laws.logs (group_in r) r.schedule.items begun.0 begun.1;
+      cut = laws.cut (group_in r) r.schedule.items begun.0 begun.1;
+      datagrams = laws.datagrams (group_in r) r.schedule.items begun.0 begun.1;
+      waiting = laws.waiting (group_in r) r.schedule.items begun.0 begun.1;
+      random = laws.random (group_in r) r.schedule.items begun.0 begun.1;
+    }
+
+-- ---- it is the one that was gathered
+
+record IsOne (schedule : Schedule) (modules : List Module) {folder : Folder} {name : List ℕ} (r : IsRecordable folder name) : Type 0 where
+  schedules : schedule ≡ r.schedule
+  modules_same : modules ≡ r.modules
+
+pub gathers_it : {folder : Folder} {name : List ℕ} (r : IsRecordable folder name) → Gathers folder name r.schedule r.modules
+gathers_it r = record { spelled = r.spelled; found = r.found }
+
+one_recording : {folder : Folder} {name : List ℕ} (schedule : Schedule) (modules : List Module) → Gathers folder name schedule modules → (r : IsRecordable folder name) → IsOne schedule modules r
+one_recording {folder} {name} schedule modules g r =
+    let schedules : schedule ≡ r.schedule = same_Ok (schedule_in folder name) schedule r.schedule g.spelled r.spelled in
+    record {
+      schedules = schedules;
+      modules_same = same_Ok (modules_of folder r.schedule.processes) modules r.modules (ap (λ (s : Schedule). modules_of folder s.processes) (sym schedules) ∙ g.found) r.found;
+    }
+
+-- ---- what stands of it
+
+-- before anything was made
+pub moment_before : RecordingsAgree → (told after : Option Folder) (images : Bool) (name : List ℕ) → after ≡ told → WhenTold told (λ before. LeavesMoment images name before after)
+moment_before agree told after images name same before is r = (InHeads 0 (λ p. 0) (same ∙ is), agree before name r)
+
+-- where the recording was stopped or came to its end
+pub moment_then : RecordingsAgree → (told middle after : Option Folder) (images : Bool) (name : List ℕ) (schedule : Schedule) (modules : List Module) → WhenTold told (λ folder. Gathers folder name schedule modules)
+    → middle ≡ told → StoppedWhere schedule images (first_states schedule modules) middle after → WhenTold told (λ before. LeavesMoment images name before after)
+moment_then agree told middle after images name schedule modules gathers same stopped before is r = (here, agree before name r) where
+  one : IsOne schedule modules r
+  one = one_recording schedule modules (gathers before is) r
+
+  here : IsStopped (group_in r) (steps_in r) (images_of images (group_in r) (run_in r)) (Some before) after
+  here = subst (λ (s : Result (List State) ℕ). StoppedWhere r.schedule images s (Some before) after) r.begins
+      (subst (λ (m : List Module). StoppedWhere r.schedule images (first_states r.schedule m) (Some before) after) one.modules_same
+      (subst (λ (s : Schedule). StoppedWhere s images (first_states s modules) (Some before) after) one.schedules
+      (subst (λ (t : Option Folder). StoppedWhere schedule images (first_states schedule modules) t after) (same ∙ is) stopped)))
+
+-- at an answer the files of the outcome are made
+made_at_end : (result : Result WorkText StopCause) (files : List (List ℕ × List ℕ)) (before after : Option Folder) → IsAnswerResult result → MakesWorkFiles result files before after → after ≡ with_files files before
+made_at_end (Ok answer) files before after end makes = makes
+made_at_end (Err (refusal.Refused file why)) files before after end makes = makes
+made_at_end (Err (refusal.Absent file)) files before after end makes = makes
+made_at_end (Err refusal.ReadFault) files before after end makes = absurd end
+made_at_end (Err refusal.WriteFault) files before after end makes = absurd end
+made_at_end (Err refusal.NoMemory) files before after end makes = absurd end
+
+-- those of a recording are its logs, and behind them the images that were asked for
+recording_writes : {folder : Folder} {name : List ℕ} (images : Bool) (r : IsRecordable folder name) → writes_of (record_outcome images name folder) ≡ logs (group_in r) (steps_in r) ++ images_of images (group_in r) (run_in r)
+recording_writes {folder} {name} images r =
+    ap writes_of (gathered folder images name r.schedule r.modules (gathers_it r) ∙ ap (group_outcome images name r.schedule) r.begins)
+    ∙ group_writes images name r.schedule r.first
+
+pub recording_left : KeepsFiles → GivesSchedules → RecordingsAgree → (told after : Option Folder) (images : Bool) (name : List ℕ) (result : Result WorkText StopCause)
+    → ((o : CommandOutcome) → option_map (record_outcome images name) told ≡ Some o → MakesWorkFiles result (writes_of o) told after) → IsAnswerResult result
+    → WhenTold told (λ before. WhenTold after (LeavesRecording name before))
+recording_left keeps gives agree told after images name result makes end before is now here r =
+    let made = made_at_end result _ told after end (makes (record_outcome images name before) (ap (option_map (record_outcome images name)) is)) in
+    let whole = sym here ∙ made ∙ ap (with_files (writes_of (record_outcome images name before))) is ∙ ap (λ (files : List (List ℕ × List ℕ)). with_files files (Some before)) (recording_writes images r) in
+    let formed = schedule_formed gives before name r.schedule r.spelled in (
+      logs_stand keeps (group_in r) (steps_in r) (images_of images (group_in r) (run_in r)) before now (logs_apart r.schedule.processes 0 (log_of (group_in r) (steps_in r)) formed.names)
+          (images_are_no_logs images (group_in r) (run_in r)) (sym whole),
+      agree before name r,
+    )

@@ -1,0 +1,226 @@
+-- The parts of commands that are expressions, programs, and counts that may be left out.
+use Rattle.std.proofs.Common.{◌≡◌, ℕ, suc, ◌+◌, ◌-◌, ◌<◌, ◌≤◌, Bool, true, false, cond, List, [], ◌∷◌, ◌++◌, length, take, drop, Option, Some, None, Result, Ok, Err, refl, sym, ap, ◌∙◌, subst, append_assoc, append-nil, arith}
+use Rattle.std.proofs.Math.Seq.{drop-append_seam, take-append_seam}
+use Rattle.std.proofs.lemmas.List.{length-append}
+use Rattle.std.specs.Prelude.{codes}
+use Rattle.watch_expr.specs.Computed.{begins_some, expression_spelled, viable}
+use Rattle.watch_expr.specs.Expression.{Expression, Var}
+use Rattle.watch_expr.specs.Grammar.{BeginsExpr, IsExpr, higher, variable}
+use Rattle.watch_expr.specs.Laws.{ExactReading}
+use Rattle.embed_cmds.specs.Grammar.{BeginsProgram, NoProgramGoesOn, IsProgram, last, stop}
+use Rattle.embed_cmds.specs.Laws.{ExactPrograms}
+use Rattle.embed_cmds.specs.Reading.{program_of}
+use Rattle.embed_cmds.specs.Tree.{End, Statements, Stop as StopStatement, Then as ThenStatement}
+use Rattle.shell_lines.specs.Lines.{LineCommand, count_or, ends_at, expression_from, expression_or_at, located, number_from, program_from, then_takes, token_at}
+use Rattle.shell_lines.proofs.TokenForms.{Ends, Form, Stop, Then, Tokens, ends_form, goes_on, then_form}
+
+drop_front : (front rest : Tokens) (k : ℕ) → length front ≡ k → drop k (front ++ rest) ≡ rest
+drop_front front rest k here = subst (λ (n : ℕ). drop n (front ++ rest) ≡ rest) here (drop-append_seam front rest)
+
+-- ---- expressions
+
+-- they are an expression, which makes the command
+abbrev pub Value : Tokens → (Expression → LineCommand) → Tokens → LineCommand → Type 0
+Value names command ts c = (x : Expression) × IsExpr names ts x × (command x ≡ c)
+
+-- so many of the tokens begin some expression behind those before, and no more do
+record Takes (names before ts : Tokens) (n : ℕ) : Type 0 where
+  within : n ≤ length ts
+  begins : BeginsExpr names (before ++ take n ts)
+  longest : n < length ts → BeginsExpr names (before ++ take (suc n) ts) → ⊥
+
+module _ (law : ExactReading) (names : Tokens) where
+  abbrev more_taken : Tokens → List ℕ → Tokens → ℕ
+  more_taken before t ts = viable names (before ++ t ∷ []) ts
+
+  takes_by : (before : Tokens) (t : List ℕ) (ts : Tokens) → BeginsExpr names before → (b : Bool) → begins_some names (before ++ t ∷ []) ≡ b
+      → (BeginsExpr names (before ++ t ∷ []) → Takes names (before ++ t ∷ []) ts (more_taken before t ts)) → Takes names before (t ∷ ts) (cond b (suc (more_taken before t ts)) 0)
+  takes_by before t ts begun true e rest =
+      let n = more_taken before t ts in
+      let h = rest ((law.begins names (before ++ t ∷ [])).0 e) in
+      record {
+        within = omega (arith, h.within);
+        begins = subst (λ (us : Tokens). BeginsExpr names us) (append_assoc before (t ∷ []) (take n ts)) h.begins;
+        longest = λ lt b. h.longest (omega (arith, lt)) (subst (λ (us : Tokens). BeginsExpr names us) (sym (append_assoc before (t ∷ []) (take (suc n) ts))) b);
+      }
+  takes_by before t ts begun false e rest = record {
+    within = omega arith;
+    begins = subst (λ (us : Tokens). BeginsExpr names us) (sym (append-nil before)) begun;
+    longest = λ lt b. let never : ◌≡◌ {A = Bool} true false = sym ((law.begins names (before ++ t ∷ [])).1 b) ∙ e in cc;
+  }
+
+  takes : (before ts : Tokens) → BeginsExpr names before → Takes names before ts (viable names before ts)
+  takes before [] begun = record { within = omega arith; begins = subst (λ (us : Tokens). BeginsExpr names us) (sym (append-nil before)) begun; longest = λ lt. absurd (omega (arith, lt)) }
+  takes before (t ∷ ts) begun = takes_by before t ts begun (begins_some names (before ++ t ∷ [])) refl (λ more. takes (before ++ t ∷ []) ts more)
+
+  some_variable : IsExpr names (codes "$" ∷ codes "a" ∷ []) (Var (codes "a"))
+  some_variable = higher (higher (higher (higher (higher (higher (variable (codes "a") refl))))))
+
+  module _ (k : ℕ) (command : Expression → LineCommand) where
+    abbrev value_reader : Tokens → Result LineCommand ℕ
+    value_reader ts = then_takes (expression_from names ts k) (λ x. Ok (command x))
+
+    value_is : (front rest : Tokens) (o : Option Expression) → length front ≡ k → expression_spelled names rest ≡ o
+        → value_reader (front ++ rest) ≡ then_takes (expression_or_at (k + viable names [] rest) o) (λ x. Ok (command x))
+    value_is front rest o here e =
+        ap (λ (us : Tokens). then_takes (expression_or_at (k + viable names [] us) (expression_spelled names us)) (λ x. Ok (command x))) (drop_front front rest k here)
+        ∙ ap (λ (o : Option Expression). then_takes (expression_or_at (k + viable names [] rest) o) (λ x. Ok (command x))) e
+
+    value_spells : (front rest : Tokens) (c : LineCommand) → length front ≡ k → value_reader (front ++ rest) ≡ Ok c → Value names command rest c
+    value_spells front rest c here e = by (expression_spelled names rest) refl
+      where
+        by : (o : Option Expression) → expression_spelled names rest ≡ o → Value names command rest c
+        by None is = let never : ◌≡◌ {A = Result LineCommand ℕ} (Err (k + viable names [] rest)) (Ok c) = sym (value_is front rest None here is) ∙ e in absurd cc
+        by (Some x) is =
+            let same : ◌≡◌ {A = Result LineCommand ℕ} (Ok (command x)) (Ok c) = sym (value_is front rest (Some x) here is) ∙ e in
+            (x, (law.expressions names rest x).0 is, cc)
+
+    value_reads : (front rest : Tokens) (c : LineCommand) → length front ≡ k → Value names command rest c → value_reader (front ++ rest) ≡ Ok c
+    value_reads front rest c here r = value_is front rest (Some r.0) here ((law.expressions names rest r.0).1 r.1) ∙ ap (λ (d : LineCommand). Ok d) r.2
+
+    value_stops : (front rest : Tokens) (n : ℕ) → length front ≡ k → value_reader (front ++ rest) ≡ Err n → (m : ℕ) × (n ≡ k + m) × Stop (Value names command) rest m
+    value_stops front rest n here e = by (expression_spelled names rest) refl
+      where
+        by : (o : Option Expression) → expression_spelled names rest ≡ o → (m : ℕ) × (n ≡ k + m) × Stop (Value names command) rest m
+        by (Some x) is = let never : ◌≡◌ {A = Result LineCommand ℕ} (Ok (command x)) (Err n) = sym (value_is front rest (Some x) here is) ∙ e in absurd cc
+        by None is =
+            let there : ◌≡◌ {A = Result LineCommand ℕ} (Err (k + viable names [] rest)) (Err n) = sym (value_is front rest None here is) ∙ e in
+            let same : k + viable names [] rest ≡ n = cc in
+            let h = takes [] rest (record { rest = codes "$" ∷ codes "a" ∷ []; whole = Var (codes "a"); spelled = some_variable }) in (
+              viable names [] rest,
+              sym same,
+              record {
+                within = h.within;
+                more = h.begins.rest;
+                whole = command h.begins.whole;
+                begins = (h.begins.whole, h.begins.spelled, refl);
+                longest = λ lt more c r. h.longest lt (record { rest = more; whole = r.0; spelled = r.1 });
+              },
+            )
+
+    pub value_form : Form k (λ ts. then_takes (expression_from names ts k) (λ x. Ok (command x))) (Value names command)
+    value_form = record { spells = value_spells; reads = value_reads; stops = value_stops; some = (codes "$" ∷ codes "a" ∷ [], command (Var (codes "a")), (Var (codes "a"), some_variable, refl)) }
+
+-- ---- programs
+
+front_taken : (front left : Tokens) → take (length front) (front ++ left) ≡ front
+front_taken front left = take-append_seam front left
+
+one_more : (front left : Tokens) (t : List ℕ) → take (suc (length front)) (front ++ t ∷ left) ≡ front ++ t ∷ []
+one_more [] left t = refl
+one_more (u ∷ front) left t = ap (λ (us : Tokens). u ∷ us) (one_more front left t)
+
+-- they are a program, which makes the command
+abbrev pub Body : Tokens → (Statements → LineCommand) → Tokens → LineCommand → Type 0
+Body names command ts c = (p : Statements) × IsProgram names ts p × (command p ≡ c)
+
+module _ (law : ExactPrograms) (names : Tokens) (k : ℕ) (command : Statements → LineCommand) where
+  abbrev body_reader : Tokens → Result LineCommand ℕ
+  body_reader ts = then_takes (program_from names ts k) (λ p. Ok (command p))
+
+  body_is : (front rest : Tokens) (r : Result Statements Tokens) → length front ≡ k → program_of names rest ≡ r
+      → body_reader (front ++ rest) ≡ then_takes (located (front ++ rest) r) (λ p. Ok (command p))
+  body_is front rest r here e =
+      ap (λ (us : Tokens). then_takes (located (front ++ rest) (program_of names us)) (λ p. Ok (command p))) (drop_front front rest k here)
+      ∙ ap (λ (r : Result Statements Tokens). then_takes (located (front ++ rest) r) (λ p. Ok (command p))) e
+
+  body_spells : (front rest : Tokens) (c : LineCommand) → length front ≡ k → body_reader (front ++ rest) ≡ Ok c → Body names command rest c
+  body_spells front rest c here e = by (program_of names rest) refl
+    where
+      by : (r : Result Statements Tokens) → program_of names rest ≡ r → Body names command rest c
+      by (Err left) is = let never : ◌≡◌ {A = Result LineCommand ℕ} (Err (length (front ++ rest) - length left)) (Ok c) = sym (body_is front rest (Err left) here is) ∙ e in absurd cc
+      by (Ok p) is =
+          let same : ◌≡◌ {A = Result LineCommand ℕ} (Ok (command p)) (Ok c) = sym (body_is front rest (Ok p) here is) ∙ e in
+          (p, (law.programs names rest p).0 is, cc)
+
+  body_reads : (front rest : Tokens) (c : LineCommand) → length front ≡ k → Body names command rest c → body_reader (front ++ rest) ≡ Ok c
+  body_reads front rest c here r = body_is front rest (Ok r.0) here ((law.programs names rest r.0).1 r.1) ∙ ap (λ (d : LineCommand). Ok d) r.2
+
+  -- a program that begins with these and one token more of those that are left
+  body_longest : (front left : Tokens) → NoProgramGoesOn names front left → length front < length (front ++ left) → (more : Tokens) (c : LineCommand) → Body names command (take (suc (length front)) (front ++ left) ++ more) c → ⊥
+  body_longest front [] stops lt more c r = absurd (omega (arith, lt, length-append front []))
+  body_longest front (t ∷ left) stops lt more c r =
+      stops (record { rest = more; whole = r.0; spelled = subst (λ (us : Tokens). IsProgram names (us ++ more) r.0) (one_more front left t) r.1 })
+
+  body_stop : (front left : Tokens) → BeginsProgram names front → NoProgramGoesOn names front left → Stop (Body names command) (front ++ left) (length front)
+  body_stop front left b stops = record {
+    within = omega (arith, length-append front left);
+    more = b.rest;
+    whole = command b.whole;
+    begins = (b.whole, subst (λ (us : Tokens). IsProgram names (us ++ b.rest) b.whole) (sym (front_taken front left)) b.spelled, refl);
+    longest = body_longest front left stops;
+  }
+
+  body_stops : (front rest : Tokens) (n : ℕ) → length front ≡ k → body_reader (front ++ rest) ≡ Err n → (m : ℕ) × (n ≡ k + m) × Stop (Body names command) rest m
+  body_stops front rest n here e = by (program_of names rest) refl
+    where
+      by : (r : Result Statements Tokens) → program_of names rest ≡ r → (m : ℕ) × (n ≡ k + m) × Stop (Body names command) rest m
+      by (Ok p) is = let never : ◌≡◌ {A = Result LineCommand ℕ} (Ok (command p)) (Err n) = sym (body_is front rest (Ok p) here is) ∙ e in absurd cc
+      by (Err left) is =
+          let there : ◌≡◌ {A = Result LineCommand ℕ} (Err (length (front ++ rest) - length left)) (Err n) = sym (body_is front rest (Err left) here is) ∙ e in
+          let same : length (front ++ rest) - length left ≡ n = cc in
+          let h = (law.stops names rest left).0 is in
+          let long : length rest ≡ length h.front + length left = ap (λ (us : Tokens). length us) h.parts ∙ length-append h.front left in (
+            length h.front,
+            omega (arith, same, long, here, length-append front rest),
+            subst (λ (us : Tokens). Stop (Body names command) us (length h.front)) (sym h.parts) (body_stop h.front left h.begins h.stops),
+          )
+
+  pub body_form : Form k (λ ts. then_takes (program_from names ts k) (λ p. Ok (command p))) (Body names command)
+  body_form = record { spells = body_spells; reads = body_reads; stops = body_stops; some = (codes "stop" ∷ [], command (ThenStatement StopStatement End), (ThenStatement StopStatement End, last stop, refl)) }
+
+-- ---- a count that may be left out
+
+abbrev Counted : ℕ → ℕ → (ℕ → LineCommand) → Tokens → LineCommand → Type 0
+Counted least most command = Then (number_from least most) (λ n. Ends (command n))
+
+-- none, or a number in a range
+abbrev pub Count : ℕ → ℕ → ℕ → (ℕ → LineCommand) → Tokens → LineCommand → Type 0
+Count least most absent command [] c = command absent ≡ c
+Count least most absent command (t ∷ ts) c = Counted least most command (t ∷ ts) c
+
+counts_too : (least most absent : ℕ) (command : ℕ → LineCommand) (ts : Tokens) (c : LineCommand) → Counted least most command ts c → Count least most absent command ts c
+counts_too least most absent command [] c r = absurd r
+counts_too least most absent command (t ∷ ts) c r = r
+
+module _ (least most absent : ℕ) (command : ℕ → LineCommand) (sample : List ℕ) (n : ℕ) (counts : number_from least most sample ≡ Some n) where
+  abbrev count_reader : Tokens → Result LineCommand ℕ
+  count_reader ts = then_takes (count_or least most absent ts) (λ n. ends_at ts 2 (command n))
+
+  counted_form : Form 1 (λ ts. then_takes (token_at (number_from least most) ts 1) (λ n. ends_at ts 2 (command n))) (Counted least most command)
+  counted_form = then_form ℕ (number_from least most) (λ n ts. ends_at ts 2 (command n)) 1 (λ n. Ends (command n)) (λ n. ends_form 2 (command n)) sample n counts
+
+  left_out : (front : Tokens) → length front ≡ 1 → count_reader (front ++ []) ≡ Ok (command absent)
+  left_out [] here = absurd (omega (arith, here))
+  left_out (t ∷ []) here = refl
+  left_out (t ∷ (u ∷ front)) here = absurd (omega (arith, here))
+
+  there_is : (front rest : Tokens) (t : List ℕ) → length front ≡ 1 → count_reader (front ++ t ∷ rest) ≡ then_takes (token_at (number_from least most) (front ++ t ∷ rest) 1) (λ n. ends_at (front ++ t ∷ rest) 2 (command n))
+  there_is front rest t here =
+      ap (λ (b : Bool). then_takes (cond b (Ok absent) (token_at (number_from least most) (front ++ t ∷ rest) 1)) (λ n. ends_at (front ++ t ∷ rest) 2 (command n))) (goes_on front rest t 1 here)
+
+  count_spells : (front rest : Tokens) (c : LineCommand) → length front ≡ 1 → count_reader (front ++ rest) ≡ Ok c → Count least most absent command rest c
+  count_spells front [] c here e = let same : ◌≡◌ {A = Result LineCommand ℕ} (Ok (command absent)) (Ok c) = sym (left_out front here) ∙ e in cc
+  count_spells front (t ∷ rest) c here e = counted_form.spells front (t ∷ rest) c here (sym (there_is front rest t here) ∙ e)
+
+  count_reads : (front rest : Tokens) (c : LineCommand) → length front ≡ 1 → Count least most absent command rest c → count_reader (front ++ rest) ≡ Ok c
+  count_reads front [] c here r = left_out front here ∙ ap (λ (d : LineCommand). Ok d) r
+  count_reads front (t ∷ rest) c here r = there_is front rest t here ∙ counted_form.reads front (t ∷ rest) c here r
+
+  count_stops : (front rest : Tokens) (n : ℕ) → length front ≡ 1 → count_reader (front ++ rest) ≡ Err n → (m : ℕ) × (n ≡ 1 + m) × Stop (Count least most absent command) rest m
+  count_stops front [] n here e = let never : ◌≡◌ {A = Result LineCommand ℕ} (Ok (command absent)) (Err n) = sym (left_out front here) ∙ e in absurd cc
+  count_stops front (t ∷ rest) n here e =
+      let s = counted_form.stops front (t ∷ rest) n here (sym (there_is front rest t here) ∙ e) in (
+        s.0,
+        s.1,
+        record {
+          within = s.2.within;
+          more = s.2.more;
+          whole = s.2.whole;
+          begins = counts_too least most absent command (take s.0 (t ∷ rest) ++ s.2.more) s.2.whole s.2.begins;
+          longest = s.2.longest;
+        },
+      )
+
+  pub count_form : Form 1 (λ ts. then_takes (count_or least most absent ts) (λ n. ends_at ts 2 (command n))) (Count least most absent command)
+  count_form = record { spells = count_spells; reads = count_reads; stops = count_stops; some = ([], command absent, refl) }

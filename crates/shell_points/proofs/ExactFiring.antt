@@ -1,0 +1,291 @@
+-- Where points fire and where walks end, by the definitions that compute it.
+use Rattle.std.proofs.Common.{◌≡◌, ◌↔◌, ◌⊎◌, ℕ, ℤ, zero, suc, ◌+◌, ◌-◌, ◌<◌, ◌≤◌, Bool, true, false, ◌||◌, ◌&&◌, not, cond, nat_le, List, [], ◌∷◌, ◌++◌, length, Option, Some, None, inl, inr, refl, sym, ap, ◌∙◌, subst, append_assoc, arith}
+use Rattle.std.proofs.lemmas.Bool.Decides.{leb_tells}
+use Rattle.std.proofs.lemmas.List.{append-nil}
+use Rattle.std.proofs.lemmas.List.Elements.{recursion_from_All}
+use Rattle.std.proofs.Math.Bool.{or_assoc}
+use Rattle.std.specs.List.{AllByRecursion}
+use Rattle.std.specs.Prelude.{codes, negsuc, pos}
+use Rattle.embed_cmds.specs.Running.{ProgramState}
+use Rattle.embed_cmds.specs.Tree.{Statements}
+use Rattle.embed_cmds.specs.Variables.{Variable}
+use Rattle.group_state.specs.Place.{events}
+use Rattle.group_state.specs.Seen.{nodes_at}
+use Rattle.proc_replay.specs.Replaying.{Replaying}
+use Rattle.watch_expr.specs.Value.{equal}
+use Rattle.watch_expr.specs.View.{Node}
+use Rattle.shell_points.specs.Firing.{firing_line, firing_lines, has_due, is_due_at, is_unchanged, place_at, said_at, value_at_position}
+use Rattle.shell_points.specs.Laws.{ExactFiring, IsContinued, IsLastDue, IsNextDue, NoneBelow, ends, stops}
+use Rattle.shell_points.specs.Points.{Point}
+use Rattle.shell_points.specs.Returning.{last_due}
+use Rattle.shell_points.specs.Walking.{Walk, fired, quiet, treat, treat_all, walk_ended, walk_on, walk_over}
+use Rattle.shell_points.proofs.LastFiring.{empty, none_at_start, silent_is}
+use Rattle.shell_points.proofs.PointWalks.{rests_here}
+
+-- ---- values
+
+both : (a b : Bool) → (a && b) ≡ true → (a ≡ true) × (b ≡ true)
+both true b e = (refl, e)
+both false b e = absurd cc
+
+le_is : (a b : ℕ) → nat_le a b ≡ true → a ≤ b
+le_is a b e = elim (leb_tells a b) [ inl t ↦ t.1 | inr f ↦ absurd cc ]
+
+le_self : (a : ℕ) → nat_le a a ≡ true
+le_self a = elim (leb_tells a a) [ inl t ↦ t.0 | inr f ↦ absurd (omega (arith, f.1)) ]
+
+one_number : (a b : ℕ) → (nat_le a b && nat_le b a) ≡ true → a ≡ b
+one_number a b e =
+    let e2 = both (nat_le a b) (nat_le b a) e in
+    omega (arith, le_is a b e2.0, le_is b a e2.1)
+
+twice : (a : Bool) → a ≡ true → (a && a) ≡ true
+twice a e = ap (λ (b : Bool). b && a) e ∙ e
+
+same_equal : (a b : ℤ) → equal a b ≡ true → a ≡ b
+same_equal (pos a) (pos b) e = ap pos (one_number a b e)
+same_equal (pos a) (negsuc b) e = absurd cc
+same_equal (negsuc a) (pos b) e = absurd cc
+same_equal (negsuc a) (negsuc b) e = ap negsuc (sym (one_number b a e))
+
+equal_same : (a : ℤ) → equal a a ≡ true
+equal_same (pos a) = twice (nat_le a a) (le_self a)
+equal_same (negsuc a) = twice (nat_le a a) (le_self a)
+
+same_is : (a b : Option ℤ) → is_unchanged a b ≡ true → a ≡ b
+same_is None None e = refl
+same_is None (Some b) e = absurd cc
+same_is (Some a) None e = absurd cc
+same_is (Some a) (Some b) e = ap (λ (z : ℤ). Some z) (same_equal a b e)
+
+pub same_again : (a : Option ℤ) → is_unchanged a a ≡ true
+same_again None = refl
+same_again (Some a) = equal_same a
+
+differ : (a b : Option ℤ) → not (is_unchanged a b) ≡ true → a ≡ b → ⊥
+differ a b e same =
+    let again : is_unchanged a b ≡ true = ap (λ (c : Option ℤ). is_unchanged a c) (sym same) ∙ same_again a in
+    let never : ◌≡◌ {A = Bool} false true = sym (ap not again) ∙ e in
+    absurd cc
+
+differ_again : (a b : Option ℤ) → (a ≡ b → ⊥) → not (is_unchanged a b) ≡ true
+differ_again a b other = by (is_unchanged a b) (same_is a b)
+  where
+    by : (c : Bool) → (c ≡ true → a ≡ b) → not c ≡ true
+    by true is = absurd (other (is refl))
+    by false is = refl
+
+-- ---- the last position below at which some point fires
+
+true_or_false : (b : Bool) → b ≡ true → b ≡ false → ⊥
+true_or_false true e f = absurd cc
+true_or_false false e f = absurd cc
+
+either_side : (a b : ℕ) → (a < b) ⊎ ((a ≡ b) ⊎ (b < a))
+either_side a b = elim (leb_tells a b) [
+  | inl t ↦ elim (leb_tells b a) [ inl u ↦ inr (inl (omega (arith, t.1, u.1))) | inr u ↦ inl (omega (arith, u.1)) ]
+  | inr f ↦ inr (inr (omega (arith, f.1)))
+]
+
+module _ (start : List Replaying) (points : List Point) where
+  abbrev due : ℕ → Bool
+  due k = has_due start points k
+
+  some_below : (k : ℕ) → due k ≡ true → 1 ≤ k
+  some_below zero is = absurd (true_or_false (due 0) is (none_at_start start points))
+  some_below (suc k) is = omega arith
+
+  last_is : (at k : ℕ) → last_due start points at ≡ Some k → IsLastDue start points at k
+  last_is zero k e = absurd cc
+  last_is (suc n) k e = by (due n) refl e (last_is n k)
+    where
+      by : (b : Bool) → due n ≡ b → cond b (Some n) (last_due start points n) ≡ Some k → (last_due start points n ≡ Some k → IsLastDue start points n k)
+          → IsLastDue start points (suc n) k
+      by true is e lower =
+          let same : n ≡ k = cc in
+          subst (λ (m : ℕ). IsLastDue start points (suc n) m) same (record {
+            from_one = some_below n is;
+            below = omega arith;
+            due = is;
+            none_between = λ m low high. absurd (omega (arith, low, high));
+          })
+      by false is e lower =
+          let i = lower e in
+          record {
+            from_one = i.from_one;
+            below = omega (arith, i.below);
+            due = i.due;
+            none_between = λ m low high. elim (either_side m n) [
+              | inl lt ↦ i.none_between m low lt
+              | inr ge ↦ elim ge [ inl same ↦ ap (λ (j : ℕ). due j) same ∙ is | inr gt ↦ absurd (omega (arith, high, gt)) ]
+            ];
+          }
+
+  none_is : (at : ℕ) → last_due start points at ≡ None → NoneBelow start points at
+  none_is zero e m lt = absurd (omega (arith, lt))
+  none_is (suc n) e m lt = by (due n) refl e (none_is n)
+    where
+      by : (b : Bool) → due n ≡ b → cond b (Some n) (last_due start points n) ≡ None → (last_due start points n ≡ None → NoneBelow start points n) → due m ≡ false
+      by true is e lower = absurd cc
+      by false is e lower = elim (either_side m n) [
+        | inl less ↦ lower e m less
+        | inr ge ↦ elim ge [ inl same ↦ ap (λ (j : ℕ). due j) same ∙ is | inr gt ↦ absurd (omega (arith, lt, gt)) ]
+      ]
+
+  one_last : (at j k : ℕ) → IsLastDue start points at j → IsLastDue start points at k → j ≡ k
+  one_last at j k h i = elim (either_side j k) [
+    | inl lt ↦ absurd (true_or_false (due k) i.due (h.none_between k lt i.below))
+    | inr ge ↦ elim ge [ inl same ↦ same | inr gt ↦ absurd (true_or_false (due j) h.due (i.none_between j gt h.below)) ]
+  ]
+
+  last_again : (at k : ℕ) → IsLastDue start points at k → last_due start points at ≡ Some k
+  last_again at k h = by (last_due start points at) refl
+    where
+      by : (o : Option ℕ) → last_due start points at ≡ o → o ≡ Some k
+      by None e = absurd (true_or_false (due k) h.due (none_is at e k h.below))
+      by (Some j) e = ap (λ (n : ℕ). Some n) (one_last at j k (last_is at j e) h)
+
+  none_again : (at : ℕ) → NoneBelow start points at → last_due start points at ≡ None
+  none_again at none = by (last_due start points at) refl
+    where
+      by : (o : Option ℕ) → last_due start points at ≡ o → o ≡ None
+      by None e = refl
+      by (Some j) e = let h = last_is at j e in absurd (true_or_false (due j) h.due (none j h.below))
+
+-- ---- the first position after at which some point fires
+
+or_false : (b : Bool) → (b || false) ≡ b
+or_false true = refl
+or_false false = refl
+
+or_true : (b : Bool) → (b || true) ≡ true
+or_true true = refl
+or_true false = refl
+
+none_said : (lines : List ℕ) → empty lines ≡ true → lines ≡ []
+none_said [] e = refl
+none_said (b ∷ lines) e = absurd cc
+
+-- a state that has said more, and has been asked to stop or not
+abbrev adds : ProgramState → List ℕ → Bool → ProgramState
+adds r line asks = record { variables = r.variables; text = r.text ++ line; stopped = r.stopped || asks }
+
+-- what a point without a program does
+bare : (nodes : List Node) (r : ProgramState) (line : List ℕ) (b : Bool) (program : Option Statements) → program ≡ None → cond b (fired nodes r line program) r ≡ adds r (cond b line []) b
+bare nodes r line b (Some body) e = absurd cc
+bare nodes r line true None e = λ i. record { variables = r.variables; text = r.text ++ line; stopped = sym (or_true r.stopped) i }
+bare nodes r line false None e = λ i. record { variables = r.variables; text = sym (append-nil r.text) i; stopped = sym (or_false r.stopped) i }
+
+module _ (start : List Replaying) (k : ℕ) where
+  one_bare : (r : ProgramState) (p : Point) → p.program ≡ None → treat start k r p ≡ adds r (said_at start k p) (is_due_at start k p.trigger)
+  one_bare r p e = bare (nodes_at (place_at start k)) r (firing_line start k p.number p.trigger) (is_due_at start k p.trigger) p.program e
+
+  all_bare : (points : List Point) (r : ProgramState) → AllByRecursion (λ (p : Point). p.program ≡ None) points → treat_all start k r points ≡ adds r (firing_lines start points k) (has_due start points k)
+  all_bare [] r none = λ i. record { variables = r.variables; text = sym (append-nil r.text) i; stopped = sym (or_false r.stopped) i }
+  all_bare (p ∷ points) r none =
+      let line = said_at start k p in
+      let first = is_due_at start k p.trigger in
+      ap (λ (q : ProgramState). treat_all start k q points) (one_bare r p none.0) ∙ all_bare points (adds r line first) none.1
+      ∙ (λ i. record {
+        variables = r.variables;
+        text = append_assoc r.text line (firing_lines start points k) i;
+        stopped = or_assoc r.stopped first (has_due start points k) i;
+      })
+
+module _ (start : List Replaying) (points : List Point) where
+  abbrev After : ℕ → ℕ → List ℕ → Type 0
+  After at k text = IsContinued start points at k text
+
+  later : (at k : ℕ) → has_due start points (suc at) ≡ false → IsNextDue start points (suc at) k → IsNextDue start points at k
+  later at k none h = record {
+    after = omega (arith, h.after);
+    within = h.within;
+    due = h.due;
+    none_between = λ m low high. elim (either_side m (suc at)) [
+      | inl lt ↦ absurd (omega (arith, low, lt))
+      | inr ge ↦ elim ge [ inl same ↦ ap (λ (j : ℕ). has_due start points j) same ∙ none | inr gt ↦ h.none_between m gt high ]
+    ];
+  }
+
+  later_on : (at : ℕ) → has_due start points (suc at) ≡ false → {k : ℕ} {text : List ℕ} → After (suc at) k text → After at k text
+  later_on at none (stops k h) = stops k (later at k none h)
+  later_on at none (ends h) = ends (λ m low high. elim (either_side m (suc at)) [
+    | inl lt ↦ absurd (omega (arith, low, lt))
+    | inr ge ↦ elim ge [ inl same ↦ ap (λ (j : ℕ). has_due start points j) same ∙ none | inr gt ↦ h m gt high ]
+  ])
+
+  one_next : (at j k : ℕ) → IsNextDue start points at j → IsNextDue start points at k → j ≡ k
+  one_next at j k h i = elim (either_side j k) [
+    | inl lt ↦ absurd (true_or_false (has_due start points j) h.due (i.none_between j h.after lt))
+    | inr ge ↦ elim ge [ inl same ↦ same | inr gt ↦ absurd (true_or_false (has_due start points k) i.due (h.none_between k i.after gt)) ]
+  ]
+
+  one_end : (at : ℕ) → {j k : ℕ} {said text : List ℕ} → After at j said → After at k text → (j ≡ k) × (said ≡ text)
+  one_end at (stops j h) (stops k i) = let same = one_next at j k h i in (same, ap (firing_lines start points) same)
+  one_end at (stops j h) (ends none) = absurd (true_or_false (has_due start points j) h.due (none j h.after h.within))
+  one_end at (ends none) (stops k i) = absurd (true_or_false (has_due start points k) i.due (none k i.after i.within))
+  one_end at (ends none) (ends also) = (refl, refl)
+
+  module _ (none : AllByRecursion (λ (p : Point). p.program ≡ None) points) (variables : List Variable) where
+    abbrev Comes : ℕ → Walk → Type 0
+    Comes at w = (k : ℕ) × (text : List ℕ) × (w ≡ walk_ended k variables text) × After at k text
+
+    comes : (left at : ℕ) → at + left ≡ length (events start) → Comes at (walk_over start points at left variables [])
+    comes zero at all =
+        let last : at ≡ length (events start) = omega (arith, all) in (
+          length (events start),
+          codes "end\n",
+          ap (λ (k : ℕ). walk_ended k variables (codes "end\n")) last,
+          ends (λ m low high. absurd (omega (arith, low, high, last))),
+        )
+    comes (suc left) at all =
+        let next = suc at in
+        let rest = walk_over start points next left in
+        let did : walk_on rest next [] (treat_all start next (quiet variables) points) ≡ walk_on rest next [] (adds (quiet variables) (firing_lines start points next) (has_due start points next)) =
+        ap (walk_on rest next []) (all_bare start next points (quiet variables) none) in
+        by (has_due start points next) refl did (comes left next (omega (arith, all)))
+      where
+        by : (b : Bool) → has_due start points (suc at) ≡ b
+            → walk_over start points at (suc left) variables [] ≡ walk_on (walk_over start points (suc at) left) (suc at) [] (adds (quiet variables) (firing_lines start points (suc at)) b)
+            → Comes (suc at) (walk_over start points (suc at) left variables []) → Comes at (walk_over start points at (suc left) variables [])
+        by true is did further = (
+          suc at,
+          firing_lines start points (suc at),
+          did,
+          stops (suc at) (record {
+            after = omega arith;
+            within = omega (arith, all);
+            due = is;
+            none_between = λ m low high. absurd (omega (arith, low, high));
+          }),
+        )
+        by false is did further =
+            let next = suc at in
+            let rest = walk_over start points next left in
+            let silent : firing_lines start points next ≡ [] = none_said (firing_lines start points next) (silent_is start points next ∙ ap not is) in
+            let on : walk_over start points at (suc left) variables [] ≡ rest variables [] =
+            did ∙ ap (λ (lines : List ℕ). walk_on rest next [] (adds (quiet variables) lines false)) silent
+            ∙ rests_here rest next [] (adds (quiet variables) [] false) refl (omega arith) in
+            (further.0, further.1, on ∙ further.2, later_on at is further.3)
+
+  comes_to : (at : ℕ) (variables : List Variable) (k : ℕ) (text : List ℕ) → AllByRecursion (λ (p : Point). p.program ≡ None) points
+      → at ≤ length (events start) → (walk_over start points at (length (events start) - at) variables [] ≡ walk_ended k variables text) ↔ After at k text
+  comes_to at variables k text none within =
+      let walk = walk_over start points at (length (events start) - at) variables [] in
+      let w = comes none variables (length (events start) - at) at (omega (arith, within)) in (
+        λ (e : walk ≡ walk_ended k variables text).
+            let one : walk_ended w.0 variables w.1 ≡ walk_ended k variables text = sym w.2 ∙ e in
+            subst (λ (v : Walk). After at v.at v.text) one w.3,
+        λ (h : After at k text).
+            let one = one_end at w.3 h in
+            w.2 ∙ (λ i. walk_ended (one.0 i) variables (one.1 i)),
+      )
+
+pub exact : ExactFiring
+exact = record {
+  changes = λ start x k. (differ (value_at_position start x k) (value_at_position start x (suc k)), differ_again (value_at_position start x k) (value_at_position start x (suc k)));
+  last = λ start points at k. (last_is start points at k, last_again start points at k);
+  none_below = λ start points at. (none_is start points at, none_again start points at);
+  next = λ place points variables k text within none.
+      comes_to place.start points place.at variables k text (recursion_from_All (λ (p : Point). p.program ≡ None) points none) within;
+}
