@@ -42,7 +42,7 @@ whole_cut x (y ∷ xs) ys =
     let rest = whole_cut y xs ys in
     (suc rest.0, rest.1, ap (λ fs. x ∷ fs) rest.2)
 
-pub whole_part : (xs ys : List (List ℕ × List ℕ)) (before after : Option Folder) → after ≡ with_files xs before → AreMadeInPart (xs ++ ys) before after
+whole_part : (xs ys : List (List ℕ × List ℕ)) (before after : Option Folder) → after ≡ with_files xs before → AreMadeInPart (xs ++ ys) before after
 whole_part [] ys before after is = inl is
 whole_part (x ∷ xs) ys before after is =
     let cut = whole_cut x xs ys in
