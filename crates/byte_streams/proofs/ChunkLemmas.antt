@@ -66,7 +66,7 @@ front_8 (a ∷ b ∷ c ∷ d ∷ e ∷ f ∷ g ∷ h ∷ rest) bytes long =
     ap (λ front. front ++ rest) (sym (le_bytes_8 (a ∷ b ∷ c ∷ d ∷ e ∷ f ∷ g ∷ h ∷ []) _ refl (AreBytes-take 8 (a ∷ b ∷ c ∷ d ∷ e ∷ f ∷ g ∷ h ∷ rest) bytes) refl))
 front_8 list bytes long = absurd (omega arith)
 
--- where the magic bytes stand, the bytes are those of the piece whose numbers stand behind them
+-- where the magic bytes stand, the bytes are those of the piece whose numbers are after them
 spelled_at : (payload : List ℕ) → AreBytes payload → 14 ≤ length payload → starts_with nat_eq payload chunk_magic ≡ true → payload ≡ chunk_bytes (piece_in payload)
 unfolding piece_in chunk_bytes
 spelled_at payload bytes long starts =
@@ -78,7 +78,7 @@ spelled_at payload bytes long starts =
     ∙ ap (λ (x : List ℕ). to_le_bytes w16 (from_le_bytes w16 (drop 4 payload)) ++ x) (drop-drop 2 4 payload ∙ offset
     ∙ ap (λ (x : List ℕ). to_le_bytes w64 (from_le_bytes w64 (drop 6 payload)) ++ x) (drop-drop 8 6 payload)))
 
--- what a reader says that found these two numbers behind the magic bytes
+-- what a reader says that found these two numbers after the magic bytes
 pub record Reads (payload : List ℕ) (stream offset : ℕ) : Type 0 where
   pub bytes : AreBytes payload
   pub long : 14 ≤ length payload

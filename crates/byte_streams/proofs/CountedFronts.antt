@@ -87,7 +87,7 @@ plain_fronts r early payload count none front = rw (ap chunk_at front ∙ none_c
 
 -- ---- a front of what a send brought
 
--- the latest send at a clock is found behind what came later
+-- the latest send at a clock is found after what came later
 sent_stays : (s : Sending) (early later : List SendOrReceive) (w : Written) → IsUnsent s.from s.clock later → Counts s early w
     → counted_send s.from s.clock (later ++ Sent s ∷ early) ≡ Some w
 sent_stays s early [] w none h =

@@ -45,7 +45,7 @@ front_of from by piece early (Some w) kept =
     front_kept from by piece early w (kept w refl) (eqb-true w.to by to) (eqb-true w.piece.stream piece.stream stream) (eqb-true w.piece.offset piece.offset offset))))
     ∙ regroup (w.to == by) (w.piece.stream == piece.stream) (w.piece.offset == piece.offset) _ _
 
--- the piece is a front of what was sent where the send that is kept has its place and not fewer bytes, and it stands in what
+-- the piece is a front of what was sent where the send that is kept has its place and not fewer bytes, and it is in what
 -- is kept of the stream
 pub front_is : (from clock by : ℕ) (piece : Piece) (early : List SendOrReceive)
     → is_front_of by piece (counted_send from clock early)
@@ -54,7 +54,7 @@ front_is from clock by piece early = front_of from by piece early (counted_send 
 
 -- ---- what is covered was written
 
--- the stream of a front of what was sent is listed, and the front stands in it
+-- the stream of a front of what was sent is listed, and the front is in it
 pub record IsFront (from by : ℕ) (piece : Piece) (early : List SendOrReceive) : Type 0 where
   pub listed : is_listed (name_of from by piece.stream) early ≡ true
   pub stands : Stands piece (written (name_of from by piece.stream) early)

@@ -8,7 +8,7 @@ use Rattle.std.proofs.lemmas.Slice.Eq.{bytes_eq-Decides}
 use Rattle.byte_streams.specs.Chunk.{Piece}
 use Rattle.byte_streams.specs.Traffic.{continues_or_repeats, stands_in}
 
--- the piece lies within the bytes and is what stands there
+-- the piece lies within the bytes and is what is there
 pub record Stands (piece : Piece) (bytes : List ℕ) : Type 0 where
   pub within : piece.offset + length piece.bytes ≤ length bytes
   pub same : piece.bytes ≡ take (length piece.bytes) (drop piece.offset bytes)
@@ -18,7 +18,7 @@ stands piece bytes tests =
     let parts = and_parts _ _ tests in
     record { within = leb-true _ _ parts.0; same = (bytes_eq-Decides piece.bytes _).0 parts.1 }
 
--- bytes behind those where it stands change nothing
+-- bytes after those where it stands change nothing
 pub Stands-more : (piece : Piece) (bytes more : List ℕ) → Stands piece bytes → Stands piece (bytes ++ more)
 Stands-more piece bytes more h =
     let offset : piece.offset ≤ length bytes = omega (arith, h.within) in
@@ -28,7 +28,7 @@ Stands-more piece bytes more h =
       same = h.same ∙ sym (ap (take (length piece.bytes)) (drop-append-le piece.offset bytes more offset) ∙ take-append-le (length piece.bytes) (drop piece.offset bytes) more room);
     }
 
--- a piece that begins at the end stands there once it is written
+-- a piece that begins at the end is there once it is written
 pub Stands-end : (piece : Piece) (before : List ℕ) → piece.offset ≡ length before → Stands piece (before ++ piece.bytes)
 Stands-end piece before at = record {
   within = omega (arith, at, length-append before piece.bytes);
@@ -47,7 +47,7 @@ Stands-sent piece before on = by_end _ refl where
 short : (front whole : List ℕ) → length whole < length front → bytes_eq front (take (length front) whole) ≡ false
 short front whole less = false_from_ne_true _ (λ is. omega (arith, ap length ((bytes_eq-Decides front _).0 is), length-take (length front) whole))
 
--- a piece at the same place is a front of one that stands there where it is not longer and stands there too
+-- a piece at the same place is a front of one that is there where it is not longer and is there too
 pub front_test : (whole piece : Piece) (bytes : List ℕ) → Stands whole bytes → whole.offset ≡ piece.offset
     → starts_with nat_eq whole.bytes piece.bytes ≡ (nat_le (length piece.bytes) (length whole.bytes) && stands_in piece bytes)
 front_test whole piece bytes h at = by_length _ refl where

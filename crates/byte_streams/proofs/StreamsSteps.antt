@@ -1,4 +1,4 @@
--- A step of `Streams`, by what its two maps are before it and behind it.
+-- A step of `Streams`, by what its two maps are before it and after it.
 use Rattle.std.proofs.Common.{◌≡◌, Bool, true, false, List, [], ◌∷◌, Some, sym, ap, subst, ◌∙◌}
 use Rattle.std.specs.Prelude.{if◌then◌else◌}
 use Rattle.std.specs.FinMap as map

@@ -1,4 +1,4 @@
--- What the sends of some traffic come to.
+-- What the sends of some traffic write.
 use Rattle.std.proofs.Common.{◌≡◌, ℕ, Bool, true, false, List, [], ◌∷◌, ◌++◌, length, Option, Some, None, refl, sym, ap, subst, ◌∙◌, ⊎_elim, inl, inr}
 use Rattle.std.specs.Prelude.{◌==◌, ◌&&◌, if◌then◌else◌, ◌⊎◌}
 use Rattle.std.proofs.lemmas.Bool.{and_from, and_parts, cond-false, cond-true, eq-eqb, eqb-true, or_left, or_parts, or_right}
@@ -87,7 +87,7 @@ unlisted name (Sent s ∷ early) e =
 
 -- ---- a send that counts stays
 
--- the stream of a send that counts is listed, and what the send brings stands in it
+-- the stream of a send that counts is listed, and what the send brings is in it
 pub record IsKept (from : ℕ) (w : Written) (traffic : List SendOrReceive) : Type 0 where
   pub stands : Stands w.piece (written (name_of from w.to w.piece.stream) traffic)
   pub listed : is_listed (name_of from w.to w.piece.stream) traffic ≡ true

@@ -1,4 +1,4 @@
--- The sends and receives of a group, and what they come to as streams. All lists of them have the latest first.
+-- The sends and receives of a group, and the streams that they make. All lists of them have the latest first.
 use Rattle.std.specs.Prelude.{ℕ, zero, suc, ◌+◌, ◌==◌, ◌&&◌, ◌||◌, Bool, false, nat_eq, nat_lt, nat_le, bytes_eq, if◌then◌else◌, List, [], ◌∷◌, ◌++◌, length, take, drop, Option, Some, None}
 use Rattle.std.specs.List.{starts_with, take_while}
 use Rattle.lamport_tag.specs.declared.Tag.{Tag}
@@ -13,7 +13,7 @@ pub record Sending : Type 0 where
   pub to : ℕ
   pub payload : List ℕ
 
--- a process took a payload behind this tag
+-- a process took a payload after this tag
 pub record Receiving : Type 0 where
   pub by : ℕ
   pub tag : Tag
@@ -34,7 +34,7 @@ is_stream name from to number = (name.from == from) && ((name.to == to) && (name
 
 -- ---- what was written
 
--- the bytes that a send adds behind those that were written to the stream before
+-- the bytes that a send adds after those that were written to the stream before
 abbrev pub added_bytes : StreamName → Sending → Option Piece → List ℕ → List ℕ
 added_bytes name s None before = []
 added_bytes name s (Some piece) before = if is_stream name s.from s.to piece.stream && (piece.offset == length before) then piece.bytes else []
@@ -46,7 +46,7 @@ written name (Sent s ∷ early) = written name early ++ added_bytes name s (chun
 
 -- ---- what a send is
 
--- the piece lies within these bytes and is what stands there
+-- the piece lies within these bytes and is what is there
 abbrev pub stands_in : Piece → List ℕ → Bool
 stands_in piece bytes = nat_le (piece.offset + length piece.bytes) (length bytes) && bytes_eq piece.bytes (take (length piece.bytes) (drop piece.offset bytes))
 
@@ -61,7 +61,7 @@ abbrev pub send_mark : Sending → Option Piece → List SendOrReceive → Mark
 send_mark s None early = Plain
 send_mark s (Some piece) early = if continues_or_repeats piece (written (stream_of s piece) early) then Counted else Strange
 
--- behind the traffic before it
+-- after the traffic before it
 abbrev pub mark_of_send : Sending → List SendOrReceive → Mark
 mark_of_send s early = send_mark s (chunk_at s.payload) early
 
@@ -111,7 +111,7 @@ abbrev pub receive_mark : Receiving → Option Piece → List SendOrReceive → 
 receive_mark r None early = Plain
 receive_mark r (Some piece) early = if is_front_of r.by piece (counted_send r.tag.sender r.tag.clock early) then Counted else Strange
 
--- behind the traffic before it
+-- after the traffic before it
 abbrev pub mark_of_receive : Receiving → List SendOrReceive → Mark
 mark_of_receive r early = receive_mark r (chunk_at r.payload) early
 

@@ -7,7 +7,7 @@ use byteorder::{ByteOrder, LittleEndian};
 
 const MAGIC: [u8; 4] = *b"STRM";
 
-// The length of what stands before a piece's own bytes.
+// The length of what comes before a piece's own bytes.
 const HEAD_LENGTH: usize = 14;
 
 /// A piece of a stream: the stream's number, how many bytes of it come before, and the bytes, which are part of the payload.
@@ -19,7 +19,7 @@ pub struct Chunk<'a> {
 }
 
 /// The piece that a payload carries. None comes exactly where it is no chunk: the bytes `STRM`, the stream's number in two
-/// bytes and the offset in eight, the lowest byte first, and any bytes behind them.
+/// bytes and the offset in eight, the lowest byte first, and any bytes after them.
 pub fn read_chunk(payload: &[u8]) -> Option<Chunk<'_>>
     ensures chunk { IfSome result (λ c. IsChunk payload.now (piece_of c)) }
     ensures none { IfNone result (IsNoChunk payload.now) }

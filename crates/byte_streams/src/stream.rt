@@ -64,7 +64,7 @@ impl Stream {
         covered
     }
 
-    // Whether the piece lies within what was written and is what stands there.
+    // Whether the piece lies within what was written and is what is there.
     fn has(&self, chunk: &Chunk<'_>) -> bool
         ensures { result ≡ stands_in (piece_of chunk.now) self.now.written }
     {
@@ -73,7 +73,7 @@ impl Stream {
             && written[chunk.offset as usize..].starts_with(chunk.bytes)
     }
 
-    // A piece that is taken covers its positions, where it is what stands there. Says whether it is.
+    // A piece that is taken covers its positions, where it is what is there. Says whether it is.
     pub(crate) fn cover(&mut self, chunk: &Chunk<'_>) -> bool
         ensures stands { result ≡ stands_in (piece_of chunk.now) self.old.written }
         ensures contents { self.new ≡ (if result then with_cover (piece_of chunk.now) self.old else self.old) }

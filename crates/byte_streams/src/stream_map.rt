@@ -81,7 +81,7 @@ impl StreamMap {
         Ok(())
     }
 
-    // A piece that is taken of a stream covers its positions, where it is what stands there. Says whether it is.
+    // A piece that is taken of a stream covers its positions, where it is what is there. Says whether it is.
     pub(crate) fn cover(&mut self, from: u32, to: u32, chunk: &Chunk<'_>) -> bool
         ensures stands { result ≡ is_taken_of (from, (to, chunk.now.stream)) (piece_of chunk.now) self.old }
         ensures streams { self.new ≡ (if result then with_taken (from, (to, chunk.now.stream)) (piece_of chunk.now) self.old else self.old) }

@@ -70,7 +70,7 @@ impl Streams {
         Ok(Mark::Counted)
     }
 
-    /// A process took a payload behind this tag. The streams are not used again after want of memory.
+    /// A process took a payload after this tag. The streams are not used again after want of memory.
     pub fn received(&mut self, by: u32, tag: Tag, payload: &[u8]) -> Result<Mark, AllocError>
         ensures { let r : Receiving = record { by = by; tag = tag; payload = payload.now } in IfOk result (λ mark. (early : List SendOrReceive) → StandsFor self.old early → StandsFor self.new (Received r ∷ early) × (mark ≡ mark_of_receive r early)) }
     {

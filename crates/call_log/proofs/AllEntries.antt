@@ -30,7 +30,7 @@ pub record Begins (left : Unread) : Type 0 where
 abbrev pub Stops : Unread → Type 0
 Stops left = BeginsNoEntry left.version left.last left.bytes
 
--- fewer bytes are left behind it
+-- fewer bytes are left after it
 fewer : (left : Unread) (b : Begins left) → length b.rest + least_entry ≤ length left.bytes
 fewer left b = shorter left.version left.last left.bytes b.entry b.rest b.spelled
 
@@ -54,7 +54,7 @@ module _ (readers : ExactReaders) where
   pub front_cases : (left : Unread) → Begins left ⊎ Stops left
   front_cases left = cases left (entry_at left) refl
 
-  -- what is read where an entry stands in front
+  -- what is read where an entry is in front
   reads : (left : Unread) (b : Begins left) → entry_at left ≡ Some (b.entry, unread_after_entry left b.entry b.rest)
   reads left b = entry_at-begins readers left b.entry b.rest b.shaped b.spelled
 
@@ -95,12 +95,12 @@ module _ (readers : ExactReaders) where
   walk-none : (left : Unread) → entry_at left ≡ None → walk_within (length left.bytes) left ≡ record { entries = []; rest = left.bytes }
   walk-none left none = walk-step left ∙ ap (walk_then (walk_within (length left.bytes)) left.bytes) none
 
-  -- the entry that stands in front is the first of all
+  -- the entry that is in front is the first of all
   pub entries_of-next : (left : Unread) (e : Entry) (rest : List ℕ) → IsShaped e → left.bytes ≡ encoding left.version left.last e ++ rest → entries_of left ≡ e ∷ entries_of (unread_after_entry left e rest)
   unfolding entries_of
   entries_of-next left e rest shaped begins = ap (λ (w : EntriesAndRest). w.entries) (walk-next left e rest shaped begins)
 
-  -- and the bytes behind all entries are those behind the others
+  -- and the bytes after all entries are those after the others
   pub rest_of-next : (left : Unread) (e : Entry) (rest : List ℕ) → IsShaped e → left.bytes ≡ encoding left.version left.last e ++ rest → rest_of left ≡ rest_of (unread_after_entry left e rest)
   unfolding rest_of
   rest_of-next left e rest shaped begins = ap (λ (w : EntriesAndRest). w.rest) (walk-next left e rest shaped begins)

@@ -1,4 +1,4 @@
--- An entry stands at the front of some bytes exactly where `entry_at` gives one.
+-- An entry is at the front of some bytes exactly where `entry_at` gives one.
 use Rattle.std.proofs.Common.{append_assoc, nat_eq, ◌≡◌, ℕ, ◌<◌, ◌≤◌, true, leb, List, [], ◌∷◌, ◌++◌, length, drop, slice_index, Option, Some, None, refl, sym, ap, ◌∙◌, subst, arith}
 use Rattle.std.specs.Int.{w16, w32, w64}
 use Rattle.std.specs.List.{starts_with}
@@ -197,7 +197,7 @@ module _ (readers : ExactReaders) where
       let at : Steps v last steps.0 bytes e = steps.1 in
       shaped_from v last bytes e are (subst (λ (k : ℕ). Steps v last k bytes e) (sym at.kind_is) at)
 
-  -- ---- an entry behind its length
+  -- ---- an entry after its length
 
   read_entry-from : (v : Version) (last : ℕ) (bytes after within rest : List ℕ) (n : ℕ) (e : Entry) → number_at v w32 bytes ≡ Some (n, after) → piece_at n after ≡ Some (within, rest) → body_at v last within ≡ Some e → read_entry v last bytes ≡ Some (e, rest)
   unfolding read_entry
@@ -223,7 +223,7 @@ module _ (readers : ExactReaders) where
       ∙ ap (λ (k : ℕ). number_bytes v w32 k ++ (body ++ rest)) (sym size ∙ ap length is)
       ∙ sym (append_assoc (number_bytes v w32 (length body)) body rest)
 
-  -- and what they read is an entry that stands there
+  -- and what they read is an entry that is there
   pub read_entry-found : (v : Version) (last : ℕ) (bytes : List ℕ) (e : Entry) (rest : List ℕ) → AreBytes bytes → read_entry v last bytes ≡ Some (e, rest) → IsShaped e × (bytes ≡ encoding v last e ++ rest)
   unfolding read_entry
   read_entry-found v last bytes e rest are found =
@@ -239,7 +239,7 @@ module _ (readers : ExactReaders) where
       encoding_from v last bytes size.0.1 piece.0.0 piece.0.1 size.0.0 entry.0 number.1 after front.2.0 inside.1 in
       subst (λ (x : Entry × List ℕ). IsShaped x.0 × (bytes ≡ encoding v last x.0 ++ x.1)) (same_Some (entry.0, piece.0.1) (e, rest) entry.2) (inside.0, spelled)
 
-  -- where they read nothing, no entry stands in front
+  -- where they read nothing, no entry is in front
   pub read_entry-none : (v : Version) (last : ℕ) (bytes : List ℕ) → read_entry v last bytes ≡ None → BeginsNoEntry v last bytes
   read_entry-none v last bytes none e rest shaped begins =
       let some : read_entry v last bytes ≡ Some (e, rest) = ap (read_entry v last) begins ∙ read_entry-encoding v last e rest shaped in
@@ -256,7 +256,7 @@ module _ (readers : ExactReaders) where
       let after : drop (length spelling) left.bytes ≡ rest = ap (drop (length spelling)) begins ∙ drop_at spelling rest (length spelling) refl in
       next _ _ (e, rest) _ read (when_true _ _ _ _ (both_true _ _ (is_shaped-from e shaped) starts) (ap (λ (t : List ℕ). Some (e, unread_after_entry left e t)) after))
 
--- an entry in front, and what is left behind it
+-- an entry in front, and what is left after it
 pub record IsNext (left : Unread) (e : Entry) (next : Unread) : Type 0 where
   pub shaped : IsShaped e
   pub spelled : left.bytes ≡ encoding left.version left.last e ++ next.bytes

@@ -24,7 +24,7 @@ front_in_range [] rest small i = omega arith
 front_in_range (b ∷ front) rest small zero = small 0
 front_in_range (b ∷ front) rest small (suc i) = front_in_range front rest (λ j. small (suc j)) i
 
--- so are the bytes behind them
+-- so are the bytes after them
 pub rest_in_range : (front rest : List ℕ) → AreBytes (front ++ rest) → AreBytes rest
 rest_in_range [] rest small i = small i
 rest_in_range (b ∷ front) rest small i = rest_in_range front rest (λ j. small (suc j)) i
@@ -51,7 +51,7 @@ bytes_after {spell = spell} field bytes x rest are e =
     let found = field.found bytes x rest are e in
     rest_in_range (spell x) rest (λ i. subst (λ (list : List ℕ). slice_index list i < 256) found.1 (are i))
 
--- the same behind the same bytes
+-- the same after the same bytes
 pub onto : (front : List ℕ) {a b : List ℕ} → a ≡ b → front ++ a ≡ front ++ b
 onto front e = ap (λ (t : List ℕ). front ++ t) e
 

@@ -1,4 +1,4 @@
--- What was there before stays in front, also where memory is wanting for a later part of an entry.
+-- What was there before stays in front, also where memory runs out for a later part of an entry.
 use Rattle.std.proofs.Common.{◌≡◌, ◌≤◌, List, ◌++◌, length, take, Result, Ok, Err, OnErr, arith, ◌∙◌, sym, ap, length-append}
 use Rattle.std.proofs.Math.Seq.{take-append_seam, take-length}
 use Rattle.std.proofs.lemmas.List.{take-take}

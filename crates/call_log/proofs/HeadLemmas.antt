@@ -1,4 +1,4 @@
--- A head stands at the front of some bytes exactly where `head_at` gives one.
+-- A head is at the front of some bytes exactly where `head_at` gives one.
 use Rattle.std.proofs.Common.{◌≡◌, ℕ, ◌^◌, ◌<◌, inl, inr, true, cond, nat_eq, eqb, leb, ltb, lit<, List, [], ◌∷◌, ◌++◌, length, drop, slice_index, Some, None, codes, refl, sym, ap, ◌∙◌, subst, arith}
 use Rattle.std.specs.List.{starts_with}
 use Rattle.std.specs.Int.{w32, to_le_bytes}
@@ -132,7 +132,7 @@ module _ (readers : ExactReaders) where
       ap read_head (concat-append (codes "LLOG" ∷ to_le_bytes w32 (version_number h.version) ∷ to_le_bytes w32 h.count ∷ to_le_bytes w32 h.process ∷ (length h.name ∷ []) ∷ h.name ∷ []) rest)
       ∙ read_head-from (codes "LLOG" ++ version) h rest read
 
-  -- and what they read is a head that stands there
+  -- and what they read is a head that is there
   pub read_head-found : (bytes : List ℕ) (h : Head) (rest : List ℕ) → AreBytes bytes → read_head bytes ≡ Some (h, rest) → IsHead h × (bytes ≡ head_bytes h ++ rest)
   unfolding read_head head_bytes
   read_head-found bytes h rest are found =
@@ -170,7 +170,7 @@ module _ (readers : ExactReaders) where
       ∙ sym (concat-append (codes "LLOG" ∷ to_le_bytes w32 (version_number kind.0) ∷ to_le_bytes w32 count.0.0 ∷ to_le_bytes w32 process.0.0 ∷ (length name.0.0 ∷ []) ∷ name.0.0 ∷ []) name.0.1) in
       subst (λ (x : Head × List ℕ). IsHead x.0 × (bytes ≡ head_bytes x.0 ++ x.1)) end.1 (fits, spelled)
 
-  -- where they read nothing, no head stands in front
+  -- where they read nothing, no head is in front
   pub read_head-none : (bytes : List ℕ) → read_head bytes ≡ None → BeginsNoHead bytes
   read_head-none bytes none h rest fits begins =
       let some : read_head bytes ≡ Some (h, rest) = ap read_head begins ∙ read_head-head_bytes h rest fits in
@@ -186,7 +186,7 @@ module _ (readers : ExactReaders) where
       let after : drop (length (head_bytes h)) bytes ≡ rest = ap (drop (length (head_bytes h))) begins ∙ drop_at (head_bytes h) rest (length (head_bytes h)) refl in
       next _ _ (h, rest) _ read (when_true _ _ _ _ (both_true _ _ (is_head-from h fits) starts) (ap (λ (t : List ℕ). Some (h, unread_after_head h t)) after))
 
--- a head in front, and what is left behind it
+-- a head in front, and what is left after it
 pub record IsInFront (bytes : List ℕ) (h : Head) (left : Unread) : Type 0 where
   pub fits : IsHead h
   pub spelled : bytes ≡ head_bytes h ++ left.bytes

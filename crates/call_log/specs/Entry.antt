@@ -37,7 +37,7 @@ argument_bytes v call = concat (
     ∷ number_if v (nat_lt 2 (argument_count call.kind)) call.a2
     ∷ [])
 
--- the fields of an entry behind one with the clock `last`, one after the other
+-- the fields of an entry after one with the clock `last`, one after the other
 unfoldable pub body_bytes : Version → ℕ → Entry → List ℕ
 body_bytes v last e = concat (
     clock_bytes v last e.clock
@@ -55,7 +55,7 @@ body_bytes v last e = concat (
 unfoldable pub encoding : Version → ℕ → Entry → List ℕ
 encoding v last e = number_bytes v w32 (length (body_bytes v last e)) ++ body_bytes v last e
 
--- entries, one after the other, behind one with the clock `last`
+-- entries, one after the other, after one with the clock `last`
 abbrev pub encodings : Version → ℕ → List Entry → List ℕ
 encodings v last [] = []
 encodings v last (e ∷ es) = encoding v last e ++ encodings v e.clock es
@@ -65,14 +65,14 @@ abbrev pub clock_after : ℕ → List Entry → ℕ
 clock_after last [] = last
 clock_after last (e ∷ es) = clock_after e.clock es
 
--- the fields of an entry in front of its arguments
+-- the fields of an entry before its arguments
 unfoldable pub front_bytes : Version → ℕ → Entry → List ℕ
 front_bytes v last e = concat (clock_bytes v last e.clock ∷ number_bytes v w16 e.thread ∷ (e.call.kind ∷ e.signal ∷ []) ∷ [])
 
--- those behind its arguments and in front of its tag
+-- those after its arguments and before its tag
 unfoldable pub reply_bytes : Version → Entry → List ℕ
 reply_bytes v e = number_bytes v w64 e.reply ++ (string_if v (has_outgoing e.call.kind) e.outgoing ++ string_if v (has_incoming e.call.kind) e.incoming)
 
--- no entry stands at the front of the bytes, which are behind an entry with the clock `last`
+-- no entry is at the front of the bytes, which are after an entry with the clock `last`
 abbrev pub BeginsNoEntry : Version → ℕ → List ℕ → Type 0
 BeginsNoEntry v last bytes = (e : Entry) (rest : List ℕ) → IsShaped e → bytes ≡ encoding v last e ++ rest → ⊥

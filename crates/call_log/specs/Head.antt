@@ -36,6 +36,6 @@ head_bytes h = concat (
     ∷ h.name
     ∷ [])
 
--- no head stands at the front of the bytes
+-- no head is at the front of the bytes
 abbrev pub BeginsNoHead : List ℕ → Type 0
 BeginsNoHead bytes = (h : Head) (rest : List ℕ) → IsHead h → bytes ≡ head_bytes h ++ rest → ⊥

@@ -11,11 +11,11 @@ use Rattle.call_log.specs.Log.{Holds, Unread, unread_after_head, entries_of, ent
 
 -- ---- reading
 
--- the head that is found is the one that stands in front
+-- the head that is found is the one that is in front
 abbrev pub FindsHeads : Type 0
 FindsHeads = (bytes : List ℕ) (head : Head) (left : Unread) → (head_at bytes ≡ Some (head, left)) ↔ (IsHead head × ((bytes ≡ head_bytes head ++ left.bytes) × (left ≡ unread_after_head head left.bytes)))
 
--- the entry that is found is the one that stands in front
+-- the entry that is found is the one that is in front
 abbrev pub FindsEntries : Type 0
 FindsEntries = (left : Unread) (e : Entry) (next : Unread) → (entry_at left ≡ Some (e, next)) ↔ (IsShaped e × ((left.bytes ≡ encoding left.version left.last e ++ next.bytes) × (next ≡ unread_after_entry left e next.bytes)))
 
@@ -32,7 +32,7 @@ abbrev pub HoldsCut : Type 0
 HoldsCut = (v : Version) (last : ℕ) (entries : List Entry) (e : Entry) (n : ℕ) → All IsShaped entries → IsShaped e → n < length (encoding v (clock_after last entries) e)
     → Holds (record { version = v; last = last; bytes = encodings v last entries ++ take n (encoding v (clock_after last entries) e) }) entries (take n (encoding v (clock_after last entries) e))
 
--- reading gives exactly what stands in a log
+-- reading gives exactly what is in a log
 pub record ExactLogs : Type 0 where
   pub heads : FindsHeads
   pub entries : FindsEntries
@@ -49,7 +49,7 @@ pub record IsNear (last : ℕ) (e : Entry) (tag : Tag) : Type 0 where
   pub reply : e.reply ≤ 60000
   pub clock : e.clock ≤ last + (2 ^ 62 + 1)
 
--- An entry whose numbers are no greater than those of an event, behind an entry with the clock `last`. Arguments, the
+-- An entry whose numbers are no greater than those of an event, after an entry with the clock `last`. Arguments, the
 -- signal and the reply of an entry without a tag may be any.
 pub record IsCommon (last : ℕ) (e : Entry) : Type 0 where
   pub thread : e.thread < 128
@@ -65,7 +65,7 @@ NoLonger = (last : ℕ) (e : Entry) → IsShaped e → IsCommon last e → lengt
 
 -- ---- a log that is written again
 
--- these bytes are a log with this head but for the version, which is 2, these entries, and nothing behind them
+-- these bytes are a log with this head but for the version, which is 2, these entries, and nothing after them
 pub record IsNewer (head : Head) (es : List Entry) (bytes : List ℕ) : Type 0 where
   pub left : Unread
   pub found : head_at bytes ≡ Some (record head { version = Two }, left)

@@ -14,23 +14,23 @@ use Rattle.call_log.specs.Head.{Head, head_bytes}
 use Rattle.fri_text.specs.Name.{is_name}
 use Rattle.call_log.specs.Reading.{read_entry, read_head}
 
--- What was not read of a log: its version, the clock of the entry that was read last, or 0 in front of the first,
+-- What was not read of a log: its version, the clock of the entry that was read last, or 0 before the first,
 -- and the bytes that are left.
 pub record Unread : Type 0 where
   pub version : Version
   pub last : ℕ
   pub bytes : List ℕ
 
--- the head, and what is left behind the entries that were read
+-- the head, and what is left after the entries that were read
 pub record Log : Type 0 where
   pub head : Head
   pub left : Unread
 
--- these bytes, behind a head
+-- these bytes, after a head
 abbrev pub unread_after_head : Head → List ℕ → Unread
 unread_after_head head bytes = record { version = head.version; last = 0; bytes = bytes }
 
--- these bytes, behind an entry of what was left
+-- these bytes, after an entry of what was left
 abbrev pub unread_after_entry : Unread → Entry → List ℕ → Unread
 unread_after_entry left e bytes = record { version = left.version; last = e.clock; bytes = bytes }
 
@@ -44,7 +44,7 @@ pub record Holds (left : Unread) (entries : List Entry) (rest : List ℕ) : Type
 abbrev pub rewritten : Head → List Entry → List ℕ
 rewritten head entries = head_bytes (record head { version = Two }) ++ encodings Two 0 entries
 
--- ---- what stands at the front of some bytes, as functions
+-- ---- what is at the front of some bytes, as functions
 
 -- the test of `IsNumberIf`
 abbrev pub is_number_if : Bool → ℕ → Bool
@@ -79,18 +79,18 @@ is_shaped e =
     && is_string_if (has_incoming e.call.kind) e.incoming
     && is_tag_if (has_tag e.call.kind) e.tag
 
--- the entry, where it is one and the bytes begin with its encoding, and what is left behind it
+-- the entry, where it is one and the bytes begin with its encoding, and what is left after it
 unfoldable pub entry_in : Unread → Entry → Option (Entry × Unread)
 entry_in left e =
     if is_shaped e && starts_with nat_eq left.bytes (encoding left.version left.last e)
     then Some (e, unread_after_entry left e (drop (length (encoding left.version left.last e)) left.bytes))
     else None
 
--- the entry at the front of what is left and what is left behind it, or nothing where none stands there
+-- the entry at the front of what is left and what is left after it, or nothing where none is there
 unfoldable pub entry_at : Unread → Option (Entry × Unread)
 entry_at left = option_and_then (λ x. entry_in left x.0) (read_entry left.version left.last left.bytes)
 
--- the entries at the front of some bytes, and the bytes behind them
+-- the entries at the front of some bytes, and the bytes after them
 pub record EntriesAndRest : Type 0 where
   pub entries : List Entry
   pub rest : List ℕ
@@ -113,7 +113,7 @@ walk_within (suc limit) left = walk_then (walk_within limit) left.bytes (entry_a
 unfoldable pub entries_of : Unread → List Entry
 entries_of left = (walk_within (length left.bytes) left).entries
 
--- the bytes behind all of them
+-- the bytes after all of them
 unfoldable pub rest_of : Unread → List ℕ
 rest_of left = (walk_within (length left.bytes) left).rest
 
@@ -121,11 +121,11 @@ rest_of left = (walk_within (length left.bytes) left).rest
 unfoldable pub is_head : Head → Bool
 is_head h = nat_le 1 h.count && nat_le h.count 16 && nat_lt h.process h.count && is_name h.name
 
--- the head, where it is one and the bytes begin with its spelling, and what is left behind it
+-- the head, where it is one and the bytes begin with its spelling, and what is left after it
 unfoldable pub head_in : List ℕ → Head → Option (Head × Unread)
 head_in bytes h =
     if is_head h && starts_with nat_eq bytes (head_bytes h) then Some (h, unread_after_head h (drop (length (head_bytes h)) bytes)) else None
 
--- the head at the front of the bytes and what is left behind it, or nothing where none stands there
+-- the head at the front of the bytes and what is left after it, or nothing where none is there
 unfoldable pub head_at : List ℕ → Option (Head × Unread)
 head_at bytes = option_and_then (λ x. head_in bytes x.0) (read_head bytes)

@@ -55,7 +55,7 @@ tag_fields_at v bytes = do
   clock ← number_at v w64 sender.1
   Some (record { sender = sender.0; clock = clock.0 }, clock.1)
 
--- a tag behind its flag, or the flag that there is none
+-- a tag after its flag, or the flag that there is none
 unfoldable pub flagged_at : Version → List ℕ → Option (Option Tag × List ℕ)
 flagged_at v bytes = do
   flag ← byte_at bytes
@@ -66,7 +66,7 @@ flagged_at v bytes = do
 abbrev pub tag_if_at : Version → Bool → List ℕ → Option (Option Tag × List ℕ)
 tag_if_at v has bytes = if has then flagged_at v bytes else Some (None, bytes)
 
--- an entry that is the whole of the bytes, without its length, behind an entry with the clock `last`
+-- an entry that is the whole of the bytes, without its length, after an entry with the clock `last`
 unfoldable pub body_at : Version → ℕ → List ℕ → Option Entry
 body_at v last bytes = do
   clock ← clock_at v last bytes
@@ -91,7 +91,7 @@ body_at v last bytes = do
       })
       else None
 
--- an entry at the front, and the bytes behind it
+-- an entry at the front, and the bytes after it
 unfoldable pub read_entry : Version → ℕ → List ℕ → Option (Entry × List ℕ)
 read_entry v last bytes = do
   size ← number_at v w32 bytes
@@ -101,18 +101,18 @@ read_entry v last bytes = do
 
 -- ---- a head
 
--- the bytes that are to stand at the front, and the bytes behind them
+-- the bytes that are to be at the front, and the bytes after them
 abbrev pub mark_at : List ℕ → List ℕ → Option (List ℕ × List ℕ)
 mark_at mark bytes = piece_at (length mark) bytes >>= (λ piece. if bytes_eq piece.0 mark then Some piece else None)
 
--- a name behind its length
+-- a name after its length
 unfoldable pub name_at : List ℕ → Option (List ℕ × List ℕ)
 name_at bytes = do
   size ← byte_at bytes
   name ← piece_at size.0 size.1
   if is_name name.0 then Some name else None
 
--- a head at the front, and the bytes behind it
+-- a head at the front, and the bytes after it
 unfoldable pub read_head : List ℕ → Option (Head × List ℕ)
 read_head bytes = do
   magic ← mark_at (codes "LLOG") bytes

@@ -6,7 +6,7 @@ use Rattle.fri_bytes.specs.Short.{short_at, short_bytes}
 use Rattle.call_log.specs.declared.version.Version.{Version}
 use Rattle.call_log.specs.declared.version.Version.TheVariants.{One, Two}
 
--- the number of the version, as it stands in the head
+-- the number of the version, as it is in the head
 abbrev pub version_number : Version → ℕ
 version_number One = 1
 version_number Two = 2

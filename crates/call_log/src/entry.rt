@@ -12,7 +12,7 @@ use crate::version::Version;
 use fri_bytes::Cursor;
 use lib_calls::EntryView;
 
-// The entry at the front of the bytes, which are behind an entry with the clock `last`, and the bytes behind it.
+// The entry at the front of the bytes, which follow an entry with the clock `last`, and the bytes after it.
 pub(crate) fn read_entry(
     bytes: &[u8],
     version: Version,

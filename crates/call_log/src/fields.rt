@@ -79,7 +79,7 @@ fn read_number_if(cursor: &mut Cursor<'_>, version: Version, has: bool) -> Optio
     }
 }
 
-// Bytes behind their length, where there are some, else none.
+// Bytes after their length, where there are some, else none.
 #[inline(always)]
 pub(crate) fn read_string_if<'a>(
     cursor: &mut Cursor<'a>,
@@ -95,7 +95,7 @@ pub(crate) fn read_string_if<'a>(
     }
 }
 
-// Bytes behind their length, which are shorter than 2 GiB.
+// Bytes after their length, which are shorter than 2 GiB.
 #[tactic(auto, unfolding(crate::specs::Reading::string_at))]
 #[inline(always)]
 fn read_string<'a>(cursor: &mut Cursor<'a>, version: Version) -> Option<&'a [u8]>
@@ -124,7 +124,7 @@ pub(crate) fn read_tag_if(
     }
 }
 
-// A tag behind its flag, or the flag that there is none.
+// A tag after its flag, or the flag that there is none.
 #[tactic(auto, unfolding(crate::specs::Reading::flagged_at))]
 #[inline(always)]
 fn read_flagged(cursor: &mut Cursor<'_>, version: Version) -> Option<Option<Tag>>

@@ -25,7 +25,7 @@ pub struct LogHead<'a> {
 #[error("the bytes do not begin with the head of a log")]
 pub struct BadHead;
 
-// The head at the front of the bytes, and the bytes behind it.
+// The head at the front of the bytes, and the bytes after it.
 pub(crate) fn read_head(bytes: &[u8]) -> Option<(LogHead<'_>, &[u8])>
     ensures head { IfSome result (λ r. IsHead (head_of r.0)) }
     ensures spelled { IfSome result (λ r. bytes.now ≡ head_bytes (head_of r.0) ++ r.1.now) }
@@ -61,7 +61,7 @@ fn read_fields<'a>(cursor: &mut Cursor<'a>) -> Option<LogHead<'a>>
     }
 }
 
-// A name behind its length.
+// A name after its length.
 #[tactic(auto, unfolding(crate::specs::Reading::name_at))]
 fn read_name<'a>(cursor: &mut Cursor<'a>) -> Option<&'a [u8]>
     ensures { Gives (option_map (λ x. x.now) result) cursor.new (name_at cursor.old.left) }

@@ -2,7 +2,7 @@
 ghost use Rattle.call_log.specs.Laws.{ExactLogs, NoLonger, RewrittenIsRead};
 ghost use Rattle.call_log.specs.Walk.{EntryLeads, IsEnd};
 
-/// The functions that say what stands in a log give what the bytes spell, and nothing else.
+/// The functions that say what is in a log give what the bytes spell, and nothing else.
 pub fn exact_logs()
     ensures { ExactLogs }
 {
@@ -15,15 +15,15 @@ pub fn no_longer()
     ensures { NoLonger }
 {}
 
-/// What a log is rewritten to is read as its head in version 2 and those entries, and nothing is left behind them.
+/// What a log is rewritten to is read as its head in version 2 and those entries, and nothing is left after them.
 pub fn rewritten_is_read()
     ensures { RewrittenIsRead }
 {
     exact_logs();
 }
 
-/// Where an entry stands at the front of what is left of a log, it takes bytes, is the first of all its
-/// entries, and what is left behind it has the others and the same rest. Where none stands there, there
+/// Where an entry is at the front of what is left of a log, it takes bytes, is the first of all its
+/// entries, and what is left after it has the others and the same rest. Where none is there, there
 /// is no entry, and all bytes are the rest.
 pub fn entry_by_entry()
     ensures step { EntryLeads }

@@ -9,7 +9,7 @@ use crate::version::Version;
 use lamport_tag::Tag;
 use lib_calls::{Call, EntryView};
 
-/// The number of bytes that an entry takes behind one with the clock `last`.
+/// The number of bytes that an entry takes after one with the clock `last`.
 #[tactic(auto, using(crate::proofs::EntrySizes::encoding_size))]
 pub fn entry_length(version: Version, last: u64, entry: &EntryView<'_>) -> u64
     requires { IsShaped (entry_of entry.now) }

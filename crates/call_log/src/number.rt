@@ -52,7 +52,7 @@ fn read_below(cursor: &mut Cursor<'_>, limit: u64) -> Option<u64>
     if number < limit { Some(number) } else { None }
 }
 
-// The clock of the next entry, behind an entry with the clock `last`.
+// The clock of the next entry, after an entry with the clock `last`.
 #[inline(always)]
 pub(crate) fn read_clock(cursor: &mut Cursor<'_>, version: Version, last: u64) -> Option<u64>
     ensures { Gives result cursor.new (clock_at version last cursor.old.left) }
@@ -111,7 +111,7 @@ pub(crate) fn put_number_u64(
     }
 }
 
-// Adds the clock of an entry, behind an entry with the clock `last`.
+// Adds the clock of an entry, after an entry with the clock `last`.
 #[inline(always)]
 pub(crate) fn put_clock(
     out: &mut Vec<u8>,
@@ -164,7 +164,7 @@ pub(crate) fn length_u64(version: Version, number: u64) -> u64
     }
 }
 
-// How many bytes the clock of an entry takes, behind an entry with the clock `last`.
+// How many bytes the clock of an entry takes, after an entry with the clock `last`.
 #[inline(always)]
 pub(crate) fn length_clock(version: Version, last: u64, clock: u64) -> u64
     ensures length { result ≡ length (clock_bytes version last clock) }

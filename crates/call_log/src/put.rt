@@ -62,7 +62,7 @@ fn is_small(entry: &EntryView<'_>) -> bool {
 }
 
 // Adds an entry of version 2. The length of its body most likely takes one byte, which is put in once the
-// body stands after it, so that no field is measured first.
+// body comes after it, so that no field is measured first.
 #[inline(always)]
 fn put_small(out: &mut Vec<u8>, last: u64, entry: &EntryView<'_>) -> Result<(), AllocError>
     requires { IsShaped (entry_of entry.now) }
@@ -104,7 +104,7 @@ fn put_measured(
     Ok(())
 }
 
-// Adds the fields of an entry, or some of them where memory is wanting.
+// Adds the fields of an entry, or some of them where memory runs out.
 #[inline(always)]
 fn put_body(
     out: &mut Vec<u8>,
@@ -122,7 +122,7 @@ fn put_body(
     put_tag_if(out, version, has_tag(entry.call.kind), entry.tag)
 }
 
-// Adds the fields in front of the arguments, or some of them where memory is wanting.
+// Adds the fields before the arguments, or some of them where memory runs out.
 #[inline(always)]
 fn put_front(
     out: &mut Vec<u8>,
@@ -180,7 +180,7 @@ fn put_any_front(
     put_bytes(out, &[entry.call.kind, entry.signal])
 }
 
-// Adds the arguments that the call has, or some of them where memory is wanting.
+// Adds the arguments that the call has, or some of them where memory runs out.
 #[tactic(auto, unfolding(crate::specs::Entry::argument_bytes))]
 #[inline(always)]
 fn put_arguments(out: &mut Vec<u8>, version: Version, call: &Call) -> Result<(), AllocError>
@@ -211,7 +211,7 @@ fn put_number_if(
     }
 }
 
-// Adds the reply, and the bytes that went out and came in, or a part of that where memory is wanting.
+// Adds the reply, and the bytes that went out and came in, or a part of that where memory runs out.
 #[tactic(auto, unfolding(crate::specs::Entry::reply_bytes))]
 #[inline(always)]
 fn put_reply(out: &mut Vec<u8>, version: Version, entry: &EntryView<'_>) -> Result<(), AllocError>
@@ -225,7 +225,7 @@ fn put_reply(out: &mut Vec<u8>, version: Version, entry: &EntryView<'_>) -> Resu
     put_string_if(out, version, has_incoming(kind), entry.incoming)
 }
 
-// Adds bytes behind their length, or the length alone where memory is wanting, where the kind has them.
+// Adds bytes after their length, or the length alone where memory runs out, where the kind has them.
 #[inline(always)]
 fn put_string_if(
     out: &mut Vec<u8>,
@@ -244,8 +244,8 @@ fn put_string_if(
     Ok(())
 }
 
-// Adds a tag behind its flag or the flag that there is none, where there may be a tag, or some of that where
-// memory is wanting.
+// Adds a tag after its flag or the flag that there is none, where there may be a tag, or some of that where
+// memory runs out.
 #[inline(always)]
 fn put_tag_if(
     out: &mut Vec<u8>,
@@ -264,7 +264,7 @@ fn put_tag_if(
     }
 }
 
-// Adds a tag behind the flag that there is one, or some of that where memory is wanting.
+// Adds a tag after the flag that there is one, or some of that where memory runs out.
 #[inline(always)]
 fn put_tag(out: &mut Vec<u8>, version: Version, tag: Tag) -> Result<(), AllocError>
     ensures ok { OnOk result (out.new.items ≡ out.old.items ++ flagged version (Some tag)) }

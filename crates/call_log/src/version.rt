@@ -12,7 +12,7 @@ pub enum Version {
 }
 
 impl Version {
-    // The number that stands in the head.
+    // The number that is in the head.
     pub(crate) fn number(self) -> u32
         ensures { result ≡ version_number self }
     {

@@ -33,7 +33,7 @@ impl<'a> Model for LogView<'a> {
 }
 
 impl<'a> LogView<'a> {
-    /// The log behind its head.
+    /// The log after its head.
     pub fn begin(bytes: &'a [u8]) -> Result<LogView<'a>, BadHead>
         ensures head { IfOk result (λ log. IsHead log.head) }
         ensures spelled { IfOk result (λ log. bytes.now ≡ head_bytes log.head ++ log.left.bytes) }
@@ -71,7 +71,7 @@ impl<'a> LogView<'a> {
     }
 
     /// The next entry. Its outgoing and incoming bytes are pieces of the log. None comes where no entry
-    /// stands next, as at the end, in front of a cut entry or of one with a byte too many, and then the
+    /// comes next, as at the end, before a cut entry or one with a byte too many, and then the
     /// log stays where it is.
     pub fn next_entry(&mut self) -> Option<EntryView<'a>>
         ensures shaped { IfSome result (λ e. IsShaped (entry_of e)) }
@@ -95,7 +95,7 @@ impl<'a> LogView<'a> {
         Some(entry)
     }
 
-    /// The bytes behind the entries that were read.
+    /// The bytes after the entries that were read.
     pub fn rest(&self) -> &'a [u8]
         ensures { result.now ≡ self.now.left.bytes }
     {

@@ -27,7 +27,7 @@ all_counted : Counts 0 kinds
 all_counted =
     (refl, (refl, (refl, (refl, (refl, (refl, (refl, (refl, (refl, (refl, (refl, (refl, (refl, (refl, (refl, (refl, (refl, (refl, tt))))))))))))))))))
 
--- what stands at a number has it
+-- what is at a number has it
 pub number_of : (number : ℕ) (kind : Kind) → kind_numbered number ≡ Some kind → (row kind).number ≡ number
 unfolding kind_numbered
 number_of number kind e = omega (arith, counted 0 kinds number kind all_counted e)

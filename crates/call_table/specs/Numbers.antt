@@ -5,7 +5,7 @@ use Rattle.call_table.specs.declared.kind.Kind.{Kind}
 use Rattle.call_table.specs.declared.kind.Kind.TheVariants.{Begin, Exit, Note, Print, Now, SleepUntil, Random, Me, Send, Recv, TryRecv, Spawn, Yield, Join, Lock, Unlock, OnSignal, Thread}
 use Rattle.call_table.specs.Table.{row, kinds, kind_numbered}
 
--- a kind stands at its number
+-- a kind is at its number
 pub numbered : (kind : Kind) → kind_numbered (row kind).number ≡ Some kind
 unfolding kind_numbered
 numbered Begin = refl

@@ -1,4 +1,4 @@
--- A log that is cut behind some of its accepted entries, and written in version 2.
+-- A log that is cut after some of its accepted entries, and written in version 2.
 use Rattle.std.proofs.Common.{◌≡◌, ◌∙◌, ℕ, zero, suc, ◌+◌, ◌≤◌, List, [], ◌∷◌, ◌++◌, length, length-append, take, Option, Some, None, refl, ap, subst, arith}
 use Rattle.std.proofs.lemmas.List.{take-take}
 use Rattle.std.proofs.lemmas.List.Elements.{All-take}

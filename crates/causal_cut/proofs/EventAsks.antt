@@ -134,7 +134,7 @@ module _ (sends : SendsFirst) (start : List Replaying) (fits : PartsFit start) (
 
 -- ---- what is asked
 
--- the event of this node behind k others asks for what a tag names
+-- the event of this node after k others asks for what a tag names
 abbrev Wants : List Replaying → Option Tag → List ℕ → Type 0
 Wants start tag family = IsTrue (is_within (map (count_asked tag) start) family)
 

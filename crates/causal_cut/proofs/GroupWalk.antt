@@ -257,7 +257,7 @@ module _ (ordered : Ordered) (sends : SendsFirst) (start : List Replaying) (part
 
 -- ---- a group that walks
 
--- the walk of a group has come to a position
+-- the walk of a group has reached a position
 pub record IsWalked (first here : GroupPlace) (clocks : List (List ℕ)) (asks : List Ask) : Type 0 where
   pub start : here.start ≡ first.start
   pub within : here.at ≤ length (events first.start)

@@ -15,7 +15,7 @@ entry_in e = e.entry
 abbrev is_of : ℕ → NodeEvent Entry → Bool
 is_of node e = e.node == node
 
--- what the node has of one event and of others behind it
+-- what the node has of one event and of others after it
 abbrev with_first : NodeEvent Entry → List (NodeEvent Entry) → ℕ → Bool → List Entry
 with_first e es node b = map entry_in (cond b (e ∷ filter (is_of node) es) (filter (is_of node) es))
 

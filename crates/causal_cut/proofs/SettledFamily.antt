@@ -50,7 +50,7 @@ length_follow a ns = elim (cases_follow a ns) [
   | inr lacks ↦ ap length lacks.1
 ]
 
--- what is met stays so, where what is asked for is not behind it
+-- what is met stays so, where what is asked for is not after it
 met_more : (a b : Ask) (ns : List ℕ) → Precedes a b → IsMet ns b → IsMet (follow a ns) b
 met_more a b ns before met has = elim (cases_follow a ns) [
   | inl r ↦ elim (cases_set ns a.of (max (at ns a.of) a.upto) b.node) [
@@ -108,7 +108,7 @@ settled_below (a ∷ asks) ns most below met = follow_below a (settled asks ns) 
 abbrev pub IsAlone : ℕ → List ℕ → Type 0
 IsAlone node ns = (other : ℕ) → (other ≡ node → ⊥) → at ns other ≡ 0
 
--- where each event of this node that asks is behind what the family has of it, nothing is asked
+-- where each event of this node that asks is after what the family has of it, nothing is asked
 no_asks : (node : ℕ) (a : Ask) (asks : List Ask) (ns : List ℕ) → IsAlone node ns → AreCounted asks → a.of ≡ node → at ns node < a.upto → AllByRecursion (Precedes a) asks → settled asks ns ≡ ns
 no_asks node a [] ns alone counted of less before = refl
 no_asks node a (b ∷ asks) ns alone counted of less before =

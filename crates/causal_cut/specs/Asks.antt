@@ -41,7 +41,7 @@ ask_for clocks node clock of =
 abbrev pub ask_by : List ℕ → List (List ℕ) → ℕ → Tag → Option Ask
 ask_by processes clocks node tag = option_and_then (ask_for clocks node tag.clock) (position (λ p. p == tag.sender) processes)
 
--- what an event asks for that comes behind events with these clocks
+-- what an event asks for that comes after events with these clocks
 abbrev pub ask_of : List ℕ → List (List ℕ) → NodeEvent Entry → Option Ask
 ask_of processes clocks e = option_and_then (ask_by processes clocks e.node) e.entry.tag
 

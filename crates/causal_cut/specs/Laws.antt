@@ -20,7 +20,7 @@ pub record IsLeastPast (start : List Replaying) (node event : ℕ) (lengths : Li
   pub least : (family : List ℕ) → IsTrue (is_within family (accepted_counts start)) → IsTrue (is_closed start family) → IsTrue (holds_event node event family)
       → IsTrue (is_within lengths family)
 
--- These bytes are a log of version 2 with the head and the first n entries of a log, and nothing behind them. Its replay
+-- These bytes are a log of version 2 with the head and the first n entries of a log, and nothing after them. Its replay
 -- accepts these entries and is whole, and after each number of them the state is that of the log's replay.
 pub record IsFront (r : Replaying) (n : ℕ) (bytes : List ℕ) : Type 0 where
   pub newer : IsNewer r.head (take n (entries_of r.left)) bytes
@@ -29,6 +29,6 @@ pub record IsFront (r : Replaying) (n : ℕ) (bytes : List ℕ) : Type 0 where
   pub states : (m : ℕ) → m ≤ n → state_after r.state (entries_of newer.left) m ≡ state_after r.state (entries_of r.left) m
   pub no_longer : length bytes ≤ length (head_bytes r.head) + length r.left.bytes
 
--- so it is with what a log is rewritten to that is cut behind some of its accepted events
+-- this holds of what a log is rewritten to that is cut after some of its accepted events
 abbrev pub FrontsReplay : Type 0
 FrontsReplay = (r : Replaying) (n : ℕ) → IsAtHead r → StateFits r.state → n ≤ length (ahead r) → IsFront r n (rewritten r.head (take n (entries_of r.left)))

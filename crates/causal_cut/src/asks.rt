@@ -9,7 +9,7 @@ use group_state::GroupEvent;
 use proc_replay::Replayer;
 use std::alloc::{AllocError, Global};
 
-/// An event asks for others: event `number` of `node`, counted from 1, took a tag that names the event behind which `of` has
+/// An event asks for others: event `number` of `node`, counted from 1, took a tag that names the event after which `of` has
 /// had `upto` events.
 #[derive(Clone, Copy)]
 pub(crate) struct Ask {
@@ -37,7 +37,7 @@ fn node_of(processes: &[u32], process: u32) -> Option<usize>
     processes.iter().position(|p| *p == process)
 }
 
-// What an event asks for that comes behind events with these clocks. The event that a tag names has had its place before, so
+// What an event asks for that comes after events with these clocks. The event that a tag names has had its place before, so
 // that a clock that is not among them is of no accepted event.
 fn ask_of(processes: &[u32], clocks: &Clocks, event: &GroupEvent<'_>) -> Option<Ask>
     requires few { length processes.now ≤ 16 }

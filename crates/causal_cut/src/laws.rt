@@ -1,7 +1,7 @@
 // The law of cut logs, as a call that does nothing.
 ghost use Rattle.causal_cut.specs.Laws.{FrontsReplay};
 
-/// A log that is cut behind some of its accepted events and written in version 2 is whole, is replayed to the states of
+/// A log that is cut after some of its accepted events and written in version 2 is whole, is replayed to the states of
 /// before, and is no longer.
 pub fn fronts_replay()
     ensures { FrontsReplay }

@@ -3,7 +3,8 @@
 //! A family has a length for each log, and is closed where each event within it that took a tag has the event that the tag
 //! names within it too, as far as the logs are given. `least_cut` gives the least closed family that holds an event
 //! (`least_past` of `specs/Past`, which speaks of all closed families): its code walks the group once, and goes back once over
-//! the tags that were taken. The law `fronts_replay` says what the logs are that are cut so: whole, with the states of before.
+//! the tags that were taken. The law `fronts_replay` says that logs cut in this way are whole and have the states of before.
+//! Inside are the notes of which event asks for which (`specs/Asks`).
 #![tactic(auto)]
 
 mod asks;

@@ -1,4 +1,4 @@
--- What a command's result comes to, once its text is printed.
+-- The outcome of a command's result, once its text is printed.
 use Rattle.std.proofs.Common.{◌≡◌, ◌≢◌, ◌++◌, ℕ, List, [], Bool, IsTrue, Option, Some, Result, Ok, Err, IfSome, IfNone, refl, sym, ap, subst, ◌∙◌, inl, inr, IfErr, arith, cond, string_bytes}
 use Rattle.std.specs.Result.{IsOk}
 use Rattle.std.proofs.lemmas.Grind.{common_steps}
@@ -88,7 +88,7 @@ status_ends (Err refusal.ReadFault) answer outcome is answers fault h = absurd (
 status_ends (Err refusal.WriteFault) answer outcome is answers fault h = absurd (subst IsAnswerStatus fault h)
 status_ends (Err refusal.NoMemory) answer outcome is answers fault h = absurd (subst IsAnswerStatus fault h)
 
--- at an answer a command came to its end
+-- at an answer a command reached its end
 is_end : (ended : Result WorkText StopCause) (answer : Status) → FaultStatus ended answer → IsAnswerStatus answer → IsAnswerResult ended
 is_end (Ok given) answer fault is = tt
 is_end (Err (refusal.Refused file why)) answer fault is = tt

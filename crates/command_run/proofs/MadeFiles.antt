@@ -59,7 +59,7 @@ all_changes (file ∷ files) before after e = record {
       (rest.0, rest.1, λ q. more_left old (insert old file.0 file.1) rest.0 file files q refl (rest.2 q));
 }
 
--- whatever a command comes to, it changed only the files that it was to make
+-- whatever the outcome of a command, it changed only the files that it was to make
 pub makes_changes : (ended : Result WorkText StopCause) (files : List (List ℕ × List ℕ)) (before after : Option Folder) → MakesWorkFiles ended files before after → ChangesOnly before files after
 makes_changes (Ok answer) files before after makes = all_changes files before after makes
 makes_changes (Err (refusal.Refused file why)) files before after makes = all_changes files before after makes
@@ -87,7 +87,7 @@ changes_others files before after changes = record {
   stays old new name out (inl same) = same
   stays old new name out (inr (bytes, among, part)) = absurd (out (name_among (files old) (name, bytes) among))
 
--- whatever it comes to, the names of the files that it was to make alone changed
+-- whatever its outcome, the names of the files that it was to make alone changed
 pub makes_others : (written : Folder → List (List ℕ)) (expected : Option CommandOutcome) (before after : Option Folder) (ended : Result WorkText StopCause)
     → ((o : CommandOutcome) → expected ≡ Some o → MakesWorkFiles ended (writes_of o) before after)
     → ((folder : Folder) → before ≡ Some folder → WritesOnly written expected before after folder)

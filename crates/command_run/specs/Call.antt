@@ -15,7 +15,7 @@ use Rattle.command_run.specs.declared.refusal.StopCause.{StopCause}
 use Rattle.command_run.specs.declared.refusal.StopCause.TheVariants as refusal
 use Rattle.command_run.specs.Outcome.{CommandOutcome, CommandWork, CommandStop, Refuses, Lacks, refuses_at_once, refused_line, absent_line}
 
--- statuses 0 to 4: the call came to its end, with no fault and no want of memory
+-- statuses 0 to 4: the call reached its end, with no fault and no want of memory
 abbrev pub IsAnswerStatus : Status → Type 0
 IsAnswerStatus ends.ReadFault = ⊥
 IsAnswerStatus ends.WriteFault = ⊥
@@ -55,7 +55,7 @@ PrintsLast files printed printed_after before after = (printed_after ≡ printed
 
 -- A COMMAND'S RESULT, before its text is written
 
--- a command came to an answer: its work, or a refusal
+-- a command gave an answer: its work, or a refusal
 abbrev pub IsAnswerResult : Result WorkText StopCause → Type 0
 IsAnswerResult (Ok answer) = Unit {0}
 IsAnswerResult (Err (refusal.Refused file why)) = Unit {0}
@@ -76,7 +76,7 @@ StopsAs wanted refusal.NoMemory = Unit {0}
 abbrev pub RefusesWith : CommandOutcome → List ℕ → Reason → Type 0
 RefusesWith outcome file why = (done : CommandWork) × (outcome ≡ Err (Refuses file why done)) × (done.text ≡ [])
 
--- what a failed write comes to
+-- the result of a failed write
 abbrev pub write_refusal : WriteError → StopCause
 write_refusal writing.Failed = refusal.WriteFault
 write_refusal writing.NoMemory = refusal.NoMemory
@@ -162,7 +162,7 @@ abbrev pub DivergesOnlyIf : Bool → Result WorkText StopCause → Type 0
 DivergesOnlyIf may_diverge (Ok (answered.Diverged text)) = IsTrue may_diverge
 DivergesOnlyIf may_diverge result = Unit {0}
 
--- the status and the text that a command's result comes to, unless a fault or want of memory ended it
+-- the status and the text of a command's result, unless a fault or want of memory ended it
 abbrev pub status_and_text : Result WorkText StopCause → Option (Status × List ℕ)
 status_and_text (Ok (answered.Done text)) = Some (ends.Done, text)
 status_and_text (Ok (answered.Diverged text)) = Some (ends.Diverged, text)
@@ -184,7 +184,7 @@ abbrev pub said_after : ℕ → Status → ℕ
 said_after count ends.WriteFault = raised count
 said_after count answer = count
 
--- what a command's result comes to, with its text written
+-- the end of a command's result, with its text written
 pub record FinishesCall (ended : Result WorkText StopCause) (answer : Status) (before after : Option (List ℕ)) (faults_before faults_after : ℕ) : Type 0 where
   pub status : IfSome (status_and_text ended) (λ a. IsAnswerStatus answer → answer ≡ a.0)
   pub text : IfSome (status_and_text ended) (λ a. Prints answer a.1 before after)

@@ -20,7 +20,7 @@ same_others names before after e = record { each = λ old told. (old, e ∙ told
 
 -- ---- files that are made one after the other
 
--- some files are made behind the others
+-- some files are made after the others
 pub with_more : (files more : List (List ℕ × List ℕ)) (told : Option Folder) → with_files (files ++ more) told ≡ with_files more (with_files files told)
 with_more [] more told = refl
 with_more (file ∷ files) more told = with_more files more (with_file file.0 file.1 told)
@@ -28,7 +28,7 @@ with_more (file ∷ files) more told = with_more files more (with_file file.0 fi
 abbrev a_file : List ℕ → List ℕ → Option (List ℕ × List ℕ)
 a_file name bytes = Some (name, bytes)
 
--- with more files behind the whole ones
+-- with more files after the whole ones
 further_at : (whole more : List (List ℕ × List ℕ)) (k : ℕ) (x : List ℕ × List ℕ) → slice_get whole k ≡ Some x → slice_get (whole ++ more) k ≡ Some x
 further_at [] more k x at = cc
 further_at (y ∷ whole) more zero x at = at
@@ -38,7 +38,7 @@ pub fronts_of_more : (files whole more : List (List ℕ × List ℕ)) → AreFro
 fronts_of_more files whole more fronts place n bytes at =
     let f = fronts place n bytes at in (f.0, further_at whole more place (n, bytes ++ f.0) f.1)
 
--- behind the same files
+-- after the same files
 pub fronts_behind : (first files whole : List (List ℕ × List ℕ)) → AreFronts files whole → AreFronts (first ++ files) (first ++ whole)
 fronts_behind [] files whole fronts place n bytes at = fronts place n bytes at
 fronts_behind (file ∷ first) files whole fronts zero n bytes at = ([], at ∙ ap (a_file n) (sym (append-nil bytes)))

@@ -12,7 +12,7 @@ use Rattle.command_run.specs.Inputs.{module_in}
 abbrev pub IsOfFile : Folder → ModuleFile → Type 0
 IsOfFile folder file = module_in folder (string_bytes file.name) ≡ Ok (module_of file.«module»)
 
--- so it is of each, as far as the folder tells its files
+-- this holds of each, as far as the folder tells its files
 abbrev pub AreOfFiles : Option Folder → ModuleFiles → Type 0
 AreOfFiles told files = WhenTold told (λ folder. AllByRecursion (IsOfFile folder) files.kept.items)
 

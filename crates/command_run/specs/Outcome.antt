@@ -1,4 +1,4 @@
--- What a command comes to: the work that it does, or the stop at which it ends.
+-- The outcome of a command: the work that it does, or the stop at which it ends.
 use Rattle.std.specs.Prelude.{ℕ, List, [], ◌++◌, Bool, false, map, decimal, codes, Result, Ok, Err, if◌then◌else◌}
 use Rattle.fri_outside.specs.Outside.{Folder, Found, Missing, Over, Held, found}
 use Rattle.command_run.specs.declared.status.Status.{Status}

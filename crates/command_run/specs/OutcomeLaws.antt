@@ -62,7 +62,7 @@ pub outcome_when_told : (f : Folder → CommandOutcome) (told : Option Folder) (
 outcome_when_told f None o e = absurd (subst (λ (t : Option CommandOutcome). IfSome t (λ _. ⊥)) e tt)
 outcome_when_told f (Some folder) o e = (folder, refl, sym (same_Some _ _ e))
 
--- so it is with what is refused over a folder that may be told
+-- the same of what is refused over a folder that may be told
 pub refused_tells : (f : Folder → CommandOutcome) (told : Option Folder) (e : StopCause) → WhenTold told (λ folder. StopsAs (f folder) e) → (o : CommandOutcome) → option_map f told ≡ Some o → TellsOutcome o (Err e)
 refused_tells f told e stops o is =
     let h = outcome_when_told f told o is in

@@ -55,7 +55,7 @@ FaultsTold answer old new = faults_of new ≡ faults_of old
 
 -- ---- the end of a call, whatever its command
 
--- a command of which this is expected, as far as files and input tell it, and which may write these names, came to its
+-- a command from which this is expected, as far as files and input tell it, and which may write these names, reached its
 -- end with this status
 pub record CallEnds (expected : Option CommandOutcome) (written : Folder → List (List ℕ)) (old new : Outside) (answer : Status) : Type 0 where
   pub status : WhenTold expected (λ outcome. IsAnswerStatus answer → answer ≡ outcome_status outcome)

@@ -1,4 +1,4 @@
-//! What all commands share: how a call ends, what a command comes to, and the files of modules.
+//! What all commands share: how a call ends, the outcome of a command, and the files of modules.
 //!
 //! A command reads its files by `take_file` and `take_module`, which answer with what stands in them or with a `StopCause`, and
 //! those of its modules by `ModuleFiles`, which reads each once and keeps it. It comes to a `WorkText` or a `StopCause`; `finish` prints that and gives the `Status` (`Finished` of `specs/Run`).

@@ -116,7 +116,7 @@ fn say_absent<K: Sink>(alloc: Global, file: &str, out: &mut K) -> Status
     }
 }
 
-// Writes what a command's result comes to.
+// Writes the outcome of a command's result.
 fn print_end<K: Sink>(alloc: Global, ended: Result<WorkText, StopCause>, out: &mut K) -> Status
     ensures ends { FinishesCall ended result (K.taken out.old) (K.taken out.new) (K.faults out.old) (K.faults out.new) }
     ensures heard { K.hearing out.new ≡ K.hearing out.old }
@@ -132,7 +132,7 @@ fn print_end<K: Sink>(alloc: Global, ended: Result<WorkText, StopCause>, out: &m
     }
 }
 
-/// Writes what a command's result comes to, and ends the call. What the files were before the command and are behind it,
+/// Writes the outcome of a command's result, and ends the call. What the files were before the command and are after it,
 /// and how their faults were counted, is what the command says of its result.
 pub fn finish<K: Sink>(alloc: Global, ended: Result<WorkText, StopCause>, out: &mut K) -> Status
     ensures { (expected : Option CommandOutcome) (written : Folder → List (List ℕ)) (may_diverge : Bool) (before after : Option Folder) (counts counts_after : Counts)

@@ -1,4 +1,4 @@
-// What a command comes to, before its text is written.
+// The outcome of a command, before its text is written.
 ghost use Rattle.std.specs.Prelude.{◌≡◌};
 ghost use Rattle.command_run.specs.declared.refusal.StopCause.TheVariants as refusal;
 ghost use Rattle.command_run.specs.Call.{write_refusal};
@@ -54,7 +54,7 @@ pub enum WorkText {
     Diverged(Text),
 }
 
-/// Why a command does not come to its end. A file's name is kept, since it may come from another file.
+/// Why a command does not reach its end. A file's name is kept, since it may come from another file.
 #[derive(Drop)]
 pub enum StopCause {
     Refused(String, Reason),

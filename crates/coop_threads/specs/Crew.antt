@@ -25,7 +25,7 @@ stored (Kept value) = Some (Some value)
 stored Lent = Some None
 stored Over = None
 
--- the thread of which this is stored
+-- the thread for which this is stored
 abbrev pub slot_of_thread : {T : Type 0} → Option (Option T) → Slot T
 slot_of_thread (Some (Some value)) = Kept value
 slot_of_thread (Some None) = Lent

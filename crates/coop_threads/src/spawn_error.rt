@@ -1,6 +1,6 @@
 // Why no thread was made.
 
-/// Why no thread was made, with the value that it would have had: the most were made, or memory is wanting.
+/// Why no thread was made, with the value that it would have had: the most were made, or memory ran out.
 #[derive(Debug, Drop)]
 pub enum SpawnError<T> {
     Full(T),

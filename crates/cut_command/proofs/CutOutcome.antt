@@ -1,4 +1,4 @@
--- What a cut comes to, from what was read and made.
+-- The outcome of a cut, from what was read and made.
 use Rattle.std.proofs.Common.{◌≡◌, ◌∙◌, ◌≤◌, ℕ, Bool, cond, List, [], length, map, Option, Some, None, option_map, Result, Ok, Err, ap, refl, subst, sym}
 use Rattle.std.specs.Prelude.{⊤, MatchResult, slice_index_or}
 use Rattle.std.proofs.lemmas.Bool.{le-leb}
@@ -27,7 +27,7 @@ use Rattle.cut_command.specs.Seen.{front_file, work_of_past}
 
 -- ---- what was read decides
 
--- pairs that were read to these replays come to what is made of these
+-- the outcome of pairs that were read to these replays is what is made of these
 opened : (process event : ℕ) (folder : Folder) (pairs : List Pair) (ls : List Loaded) (start : List Replaying) → loaded_pairs folder [] pairs ≡ Ok ls → replays_of_pairs folder pairs ≡ Ok start
     → cut_outcome process event pairs folder ≡ cut_of_replays pairs ls process event start
 opened process event folder pairs ls start loaded is =
@@ -68,7 +68,7 @@ stops_too process event folder pairs refusal.NoMemory is = tt
 pub opening_stops : (process event : ℕ) (pairs : List Pair) (told : Option Folder) (e : StopCause) → NoneOpened pairs told e → WhenTold told (λ folder. StopsAs (cut_outcome process event pairs folder) e)
 opening_stops process event pairs told e none folder is = stops_too process event folder pairs e (none folder is)
 
--- what the replays came to
+-- the outcome of the replays
 pub found_past : (process event : ℕ) (pairs : List Pair) (told : Option Folder) (all : List LoadedFiles) (start : List Replaying) (found : Result Past StopCause) → WereLoaded pairs told all → WasOpened pairs told start
     → ((ls : List Loaded) → AreLoaded all ls → MatchResult found (λ past. cut_of_replays pairs ls process event start ≡ Ok (work_of_past past)) (StopsAs (cut_of_replays pairs ls process event start)))
     → WhenTold told (λ folder. MatchResult found (λ past. cut_outcome process event pairs folder ≡ Ok (work_of_past past)) (StopsAs (cut_outcome process event pairs folder)))

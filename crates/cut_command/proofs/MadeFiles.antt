@@ -42,7 +42,7 @@ more_files [] n file at = cc
 more_files (f ∷ files) zero file at = ap (λ (f : List ℕ × List ℕ). f ∷ []) (same_Some f file at)
 more_files (f ∷ files) (suc n) file at = ap (λ (fs : Files). f ∷ fs) (more_files files n file at)
 
--- a file stands behind those before it
+-- a file comes after those before it
 files_around : (files : Files) (n : ℕ) (file : List ℕ × List ℕ) → slice_get files n ≡ Some file → files ≡ take n files ++ (file ∷ drop (suc n) files)
 files_around [] n file at = cc
 files_around (f ∷ files) zero file at = ap (λ (f : List ℕ × List ℕ). f ∷ files) (same_Some f file at)

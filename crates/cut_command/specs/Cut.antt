@@ -1,4 +1,4 @@
--- What `cut` comes to, given the files.
+-- The outcome of `cut`, given the files.
 use Rattle.std.specs.Prelude.{ℕ, false, ◌==◌, List, [], ◌∷◌, ◌++◌, take, decimal, codes, position, Option, Some, None, Ok, Err}
 use Rattle.fri_outside.specs.Outside.{Folder}
 use Rattle.call_log.specs.Log.{entries_of, rewritten}

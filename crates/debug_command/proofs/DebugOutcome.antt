@@ -1,4 +1,4 @@
--- What `debug` comes to, from what it read and what its session said.
+-- The outcome of `debug`, from what it read and what its session said.
 use Rattle.std.proofs.Common.{◌≡◌, ◌⊎◌, ◌∙◌, ℕ, Bool, true, false, cond, List, [], Option, Some, None, option_map, Result, Ok, Err, refl, sym, ap, subst, inl, inr, arith}
 use Rattle.std.specs.Prelude.{⊤, option_and_then}
 use Rattle.std.proofs.lemmas.Option.{same_Some}
@@ -79,7 +79,7 @@ run_refused pairs e answer old new f = record {
 
 -- ---- a session was held
 
--- what it comes to, where the input is told
+-- its outcome, where the input is told
 record IsSpoken (start : List Replaying) (left : Option (List ℕ)) (o : CommandOutcome) : Type 0 where
   input : List ℕ
   told : left ≡ Some input

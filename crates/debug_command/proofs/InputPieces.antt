@@ -53,7 +53,7 @@ stops_later a b more before mid now talk here why first second = (
       subst (λ (l : List ℕ). Stops start printed now l why) (ap (λ (l : List ℕ). l ++ more) (append_assoc taken a b) ∙ append_assoc taken (a ++ b) more) longer,
 )
 
--- a byte of a piece, and what is before and behind it
+-- a byte of a piece, and what is before and after it
 pub piece_split : (piece : List ℕ) (i b : ℕ) → take (i + 1) piece ≡ take i piece ++ b ∷ [] → (take i piece ++ b ∷ []) ++ drop (i + 1) piece ≡ piece
 piece_split piece i b e = ap (λ (l : List ℕ). l ++ drop (i + 1) piece) (sym e) ∙ take-append-drop (i + 1) piece
 

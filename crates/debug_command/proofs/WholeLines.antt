@@ -45,7 +45,7 @@ whole_part-append_some (c ∷ a) b some =
 whole_part-kept : (c : ℕ) (t : List ℕ) → list_any is_line_feed (c ∷ t) ≡ true → (open_line : List ℕ) → t ≡ whole_part t ++ open_line → c ∷ t ≡ whole_part (c ∷ t) ++ open_line
 whole_part-kept c t some open_line e = rw some (ap (λ (l : List ℕ). c ∷ l) e)
 
--- behind them there is no line feed
+-- after them there is no line feed
 pub whole_part-front : (t : List ℕ) → (open_line : List ℕ) × ((t ≡ whole_part t ++ open_line) × (list_any is_line_feed open_line ≡ false))
 whole_part-front [] = ([], (refl, refl))
 whole_part-front (c ∷ t) =

@@ -76,7 +76,7 @@ breaks_read exchange talk same unasked silent = λ start printed taken s.
 
 -- ---- piece after piece
 
--- a session took these bytes, and stands behind them
+-- a session took these bytes, and is after them
 pub record Listens (start : List Replaying) (printed : Option (List ℕ)) (old here : TerminalState) (talk : Talk) : Type 0 where
   pub taken : List ℕ
   pub stands : SessionStands start printed here.taken talk taken

@@ -37,7 +37,7 @@ pub record TakesOfInput (input : List ℕ) (after : Option (List ℕ)) (taken : 
   pub whole : input ≡ taken ++ rest
 
 -- the last piece was asked for only where no whole line before it ends the session, and no byte past the next one
--- behind the limit
+-- after the limit
 pub record Asks (start : List Replaying) (taken : List ℕ) : Type 0 where
   pub earlier : List ℕ
   pub piece : List ℕ

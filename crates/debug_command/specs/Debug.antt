@@ -1,4 +1,4 @@
--- What `debug` comes to.
+-- The outcome of `debug`.
 use Rattle.std.specs.Prelude.{ℕ, ◌&&◌, Bool, false, not, nat_lt, List, [], ◌∷◌, length, take, codes, Option, Some, option_map, Result, Ok, Err, if◌then◌else◌}
 use Rattle.std.specs.List.{list_any}
 use Rattle.fri_outside.specs.Outside.{Folder}
@@ -36,7 +36,7 @@ is_large start input = nat_lt most_input (length input) && not (ends (opening st
 abbrev pub spoken : List ℕ → CommandWork
 spoken text = record { text = text; writes = []; diverged = false }
 
--- what a session over these replays comes to, where this is typed
+-- the outcome of a session over these replays, where this is typed
 abbrev pub session_outcome : List Replaying → List ℕ → CommandOutcome
 session_outcome start input =
     if is_large start input then Err (Refuses input_name reason.TooLarge (spoken (session_text start (early_lines input))))

@@ -80,11 +80,11 @@ pub record SessionStands (start : List Replaying) (printed now : Option (List �
   pub count_is : talk.count ≡ length taken
   pub within : talk.count ≤ most_input
 
--- some of the front of what is to be printed was printed, whatever comes behind the bytes that were taken
+-- some of the front of what is to be printed was printed, whatever comes after the bytes that were taken
 abbrev pub SaysPart : List Replaying → Option (List ℕ) → Option (List ℕ) → List ℕ → Type 0
 SaysPart start printed now taken = (rest : List ℕ) → (n : ℕ) × (now ≡ append_known printed (take n (outcome_text (session_outcome start (taken ++ rest)))))
 
--- a line ended the session, whatever comes behind it
+-- a line ended the session, whatever comes after it
 pub record Quits (start : List Replaying) (printed now : Option (List ℕ)) (taken : List ℕ) : Type 0 where
   pub ended : ends (opening start) (whole_lines taken) ≡ true
   pub fits : (rest : List ℕ) → is_large start (taken ++ rest) ≡ false
@@ -196,7 +196,7 @@ abbrev pub why_of : Result ⊤ Ended → Ended
 why_of (Ok _) = cause.Done
 why_of (Err why) = why
 
--- a session is done: it printed the whole text, at the end of the input or behind a line that ends it
+-- a session is done: it printed the whole text, at the end of the input or after a line that ends it
 pub record Concludes (start : List Replaying) (printed now : Option (List ℕ)) (taken input : List ℕ) : Type 0 where
   pub fits : is_large start input ≡ false
   pub text : now ≡ append_known printed (session_text start (lines_of input))

@@ -255,7 +255,7 @@ fn hold<T: Terminal, L: Ledger>(
 }
 
 /// Answers each whole line of the input before it asks for more, and ends after a line that ends the session, or
-/// behind the last line. The counter of the evaluations of watchpoints begins with the session.
+/// after the last line. The counter of the evaluations of watchpoints begins with the session.
 pub(crate) fn converse<T: Terminal, L: Ledger>(
     alloc: Global,
     blank: Blank,

@@ -1,4 +1,4 @@
--- What the drill comes to, where its work is done and where it is stopped.
+-- The outcome of the drill, where its work is done and where it is stopped.
 use Rattle.std.proofs.Common.{◌≡◌, ◌∙◌, ℕ, false, List, [], Option, Some, None, Result, Ok, Err, ap, refl, subst, sym, inl}
 use Rattle.std.specs.Prelude.{IfErr, codes, string_bytes}
 use Rattle.std.proofs.lemmas.Option.{same_Some}

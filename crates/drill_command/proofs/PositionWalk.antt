@@ -60,7 +60,7 @@ pub stays : (old new : GroupPlace) (event : Option GroupEvent) → is_some event
 stays old new None none moves = (moves.place, past (events old.start) old.at moves.gives)
 stays old new (Some e) none moves = absurd cc
 
--- the walk has come to a position, and this was seen up to there
+-- the walk has reached a position, and this was seen up to there
 pub record WalkedTo (first here : GroupPlace) (firings : ℕ) (last : Option ℤ) : Type 0 where
   pub start : here.start ≡ first.start
   pub within : here.at ≤ length (events first.start)

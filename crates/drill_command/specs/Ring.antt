@@ -1,5 +1,5 @@
 -- The module `ring`: each process of it takes a number from the process before, adds one, and sends it to the next. How
--- often it did so stands in its memory at 1024. Process 0 sends first.
+-- often it did so is in its memory at 1024. Process 0 sends first.
 use Rattle.std.specs.Prelude.{ℕ, List, [], ◌∷◌, Some, None, codes, replicate}
 use Rattle.wasm_types.specs.declared.code.ValType.TheVariants.{I32}
 use Rattle.wasm_types.specs.declared.modules.ExportDesc.TheVariants as exported

@@ -1,4 +1,4 @@
--- What the parts of the drill have come to.
+-- The results of the parts of the drill.
 use Rattle.std.specs.Prelude.{◌≡◌, ℕ, ◌<◌, List, length, codes, string_bytes, Option, Some, None}
 use Rattle.std.specs.FinMap.{get}
 use Rattle.fri_outside.specs.Memory.{FilesInMemory}

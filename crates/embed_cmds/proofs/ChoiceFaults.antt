@@ -10,7 +10,7 @@ use Rattle.embed_cmds.specs.Faulty.{lacks, lacks_one, nests, nests_one}
 use Rattle.embed_cmds.specs.Tree.{statement_of, statements}
 use Rattle.embed_cmds.specs.TreeLaws.{statement_of-if}
 
--- an aggregate stands in an aggregate, in the value or inside
+-- an aggregate is in an aggregate, in the value or inside
 pub nests_if : (s : Stmt) (x : Expr) (on_true on_false : Vec Stmt) (all value inside first second : Bool) → s ≡ stmt.If x on_true on_false → all ≡ (value || inside) → value ≡ is_nested (expression_of x) → inside ≡ (first || second) → first ≡ nests (statements on_true.items) → second ≡ nests (statements on_false.items) → all ≡ nests_one (statement_of s)
 nests_if s x on_true on_false all value inside first second is a v i f g =
     a ∙ rw (v, i, f, g) (sym (ap (λ (s : Stmt). nests_one (statement_of s)) is ∙ ap nests_one (statement_of-if x on_true on_false)))

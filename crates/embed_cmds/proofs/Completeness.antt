@@ -14,12 +14,12 @@ use Rattle.embed_cmds.proofs.ExpressionLemmas.{EndsWith, expression_reads}
 use Rattle.embed_cmds.proofs.ItemLemmas.{item_takes, item_reads}
 use Rattle.embed_cmds.proofs.StatementLemmas.{keyword_again}
 
--- what may stand behind a program
+-- what may follow a program
 pub data ProgramEnd : Left → Type 0 where
   nothing : ProgramEnd []
   brace : {ts : Left} → ProgramEnd (codes "}" ∷ ts)
 
--- what may stand behind a statement
+-- what may follow a statement
 data StatementEnd : Left → Type 0 where
   end : {ts : Left} → ProgramEnd ts → StatementEnd ts
   semicolon : {ts : Left} → StatementEnd (codes ";" ∷ ts)

@@ -1,4 +1,4 @@
--- Reading one thing behind another splits tokens as each of both does.
+-- Reading one thing after another splits tokens as each of both does.
 use Rattle.std.proofs.Common.{◌≡◌, ℕ, true, false, List, [], ◌∷◌, ◌++◌, Option, Some, None, option_map, Ok, Err, bytes_eq, inl, inr, refl, sym, ap, ◌∙◌, subst, append_assoc}
 use Rattle.std.proofs.lemmas.Bool.{cases_Bool}
 use Rattle.embed_cmds.specs.Reading.{Left, Read, then_reads, then_goes, after_token, token_as}
@@ -66,14 +66,14 @@ module _ {A B : Type 0} (L : Left → A → Type 0) (N : Left → B → Type 0) 
     local = λ other same. ap (λ (r : Read A). then_reads r (λ a rest. Ok (f a, rest))) (s.local other same) ∙ outcome_as s.got other;
   }
 
--- ---- behind a token
+-- ---- after a token
 
 module _ {B : Type 0} (text : List ℕ) (M : Left → B → Type 0) (N : Left → B → Type 0) (more : (back : Left) (b : B) → M back b → N (text ∷ back) b) where
   spelled_behind : (got : Option B) (front : Left) → Spelled M got front → Spelled N got (text ∷ front)
   spelled_behind None front h = (h.0, h.1, more (front ++ h.0) h.1 h.2)
   spelled_behind (Some b) front h = more front b h
 
-  -- where the token is taken, whatever reads behind it
+  -- where the token is taken, whatever reads after it
   pub behind_split : (read next : Left → Read B) → ((us : Left) → read (text ∷ us) ≡ next us) → (ts : Left) → Split next M ts → Split read N (text ∷ ts)
   behind_split read next takes ts s = record {
     front = text ∷ s.front;

@@ -57,7 +57,7 @@ module _ {A : Type 0} (sign : List ℕ) (G : Left → A → Type 0) (L : Left �
     pub last : (a : Left) (i : A) → G a i → L a (i ∷ [])
     pub more : (a b : Left) (i : A) (is : List A) → G a i → L b is → L (a ++ sign ∷ b) (i ∷ is)
 
-  -- what stands behind the first thing of a list
+  -- what follows the first thing of a list
   data Behind (i : A) : Left → List A → Type 0 where
     nothing : Behind i [] (i ∷ [])
     others : {b : Left} {is : List A} → L b is → Behind i (sign ∷ b) (i ∷ is)

@@ -41,7 +41,7 @@ found_value name (e ∷ es) =
     ap (λ (b : Bool). option_flatten (cond b (Some e.1) (lookup (named name) es))) (turned name e.0)
     ∙ flat_or (bytes_eq e.0.items name) e.1 (lookup (named name) es) (variable_value (variables_of es) name) (found_value name es)
 
--- either of two entries in front, and those behind it
+-- either of two entries in front, and those after it
 seen_or : (b : Bool) (e f : Vec ℕ × Option ℤ) (es fs : Entries) (vs : List Variable) → variables_of fs ≡ vs → variables_of (cond b (f ∷ es) (e ∷ fs)) ≡ cond b (variable f ∷ variables_of es) (variable e ∷ vs)
 seen_or true e f es fs vs h = refl
 seen_or false e f es fs vs h = ap (λ (us : List Variable). variable e ∷ us) h

@@ -1,4 +1,4 @@
--- What is mentioned comes behind what was there.
+-- What is mentioned comes after what was there.
 use Rattle.std.proofs.Common.{◌≡◌, ℕ, Bool, true, false, cond, ◌||◌, List, [], ◌∷◌, ◌++◌, length, take, Option, None, Result, Ok, Err, OnOk, ℤ, refl, sym, ap, ◌∙◌, true≢false}
 use Rattle.std.proofs.Math.Seq.{take-append_seam, take-length}
 use Rattle.std.proofs.lemmas.List.{append-nil, append_assoc}
@@ -49,7 +49,7 @@ front_stays vs names =
     let adds = mention_all-adds vs names in
     ap (take (length vs)) adds.1 ∙ take-append_seam vs adds.0
 
--- what a name adds comes behind too
+-- what a name adds comes after it too
 pub mention_front : (vs : List Variable) (name : List ℕ) → take (length vs) (mention vs name) ≡ vs
 mention_front vs name = front_stays vs (name ∷ [])
 

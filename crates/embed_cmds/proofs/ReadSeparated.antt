@@ -39,7 +39,7 @@ refused_in sign one (suc most) here left le nothing e = ap (λ (r : Read _). the
 pub refuses : {A : Type 0} (sign : List ℕ) (one : Left → Read A) (all : Left) (front : List A) (here left : Left) → Reached sign one all front here → one [] ≡ Err [] → one here ≡ Err left → separated sign one all ≡ Err left
 refuses sign one all front here left h nothing e = h.same ∙ ap (in_front front) (refused_in sign one h.most here left h.enough nothing e)
 
--- behind the sign, what the rest gives, with this in front
+-- after the sign, what the rest gives, with this in front
 abbrev onto : {A : Type 0} → A → Read (List A) → Read (List A)
 onto a more = then_reads more (λ more left. Ok (a ∷ more, left))
 
@@ -74,7 +74,7 @@ ends sign one all front here left a h nothing e none =
     let p = read_first sign one h.most here left a h.enough nothing e in
     h.same ∙ ap (in_front front) (p.2 ∙ more_stops sign (separated_in sign one p.0) a left none)
 
--- where one does, reading goes on behind it
+-- where one does, reading goes on after it
 pub goes_on : {A : Type 0} (sign : List ℕ) (one : Left → Read A) (all : Left) (front : List A) (here left : Left) (a : A) → Reached sign one all front here → one [] ≡ Err [] → one here ≡ Ok (a, left) → is_ok (after_token sign left) ≡ true → length left ≤ length here → Reached sign one all (front ++ a ∷ []) (drop 1 left)
 goes_on sign one all front here left a h nothing e some shorter =
     let p = read_first sign one h.most here left a h.enough nothing e in
@@ -102,7 +102,7 @@ pub ended : {X A : Type 0} (f : X → A) (sign : List ℕ) (one : Left → Read 
 ended f sign one ts all items more x at next reached nothing e pushed none =
     ends sign one all (map f items) (drop at ts) (drop next ts) (f x) reached nothing e none ∙ ap (λ (list : List _). Ok (list, drop next ts)) (map_push f items more x pushed)
 
--- one more was read, and a sign stands behind it
+-- one more was read, and a sign follows it
 pub went_on : {X A : Type 0} (f : X → A) (sign : List ℕ) (one : Left → Read A) (ts all : Left) (items more : List X) (x : X) (at next : ℕ) → Reached sign one all (map f items) (drop at ts) → one [] ≡ Err [] → one (drop at ts) ≡ Ok (f x, drop next ts) → more ≡ items ++ x ∷ [] → is_ok (after_token sign (drop next ts)) ≡ true → at ≤ next → Reached sign one all (map f more) (drop (next + 1) ts)
 went_on f sign one ts all items more x at next reached nothing e pushed some onward =
     let shorter : length (drop next ts) ≤ length (drop at ts) = omega (arith, length-drop next ts, length-drop at ts) in

@@ -89,6 +89,6 @@ else_there : (inside : Left → Read Statements) (left : Left) → is_ok (after_
 else_there inside [] e = absurd (cc)
 else_there inside (t ∷ left) e = ap (λ (b : Bool). part_if b (part inside left) (t ∷ left)) (sym (first_is (codes "else") t left) ∙ e)
 
--- a second part behind `else`
+-- a second part after `else`
 pub else_is : (inside : Left → Read Statements) (ts : Left) (n : ℕ) → is_ok (after_token (codes "else") (drop n ts)) ≡ true → else_part inside (drop n ts) ≡ part inside (drop (n + 1) ts)
 else_is inside ts n e = else_there inside (drop n ts) e ∙ ap (part inside) (drop_one ts n)

@@ -1,4 +1,4 @@
--- What stands at a number among tokens.
+-- What is at a number among tokens.
 use Rattle.std.proofs.Common.{◌≡◌, ℕ, suc, ◌+◌, ◌-◌, ◌<◌, ◌≤◌, ◌==◌, Bool, true, false, bytes_eq, cond, List, [], ◌∷◌, ◌++◌, length, drop, slice_get, Option, Some, None, option_map, unwrap_or, if◌then◌else◌, eq-eqb, Result, Ok, Err, inl, inr, refl, sym, ap, ◌∙◌, arith, add-one, length-drop}
 use Rattle.std.proofs.Math.Seq.{drop-cons}
 use Rattle.std.proofs.lemmas.List.{drop-drop, drop_all, length-map}
@@ -20,7 +20,7 @@ at_token ts n t e =
 pub at_end : (ts : Left) (n : ℕ) → slice_get ts n ≡ None → drop n ts ≡ []
 at_end ts n e = elim (slice_get_cases ts n).1 [ inl h ↦ absurd (cc (h.2, e)) | inr h ↦ drop_all n ts h.0 ]
 
--- the token behind
+-- the tokens after the next one
 pub drop_one : (ts : Left) (n : ℕ) → drop 1 (drop n ts) ≡ drop (n + 1) ts
 drop_one ts n = drop-drop 1 n ts
 

@@ -66,7 +66,7 @@ module _ (names : List (List ℕ)) where
   some_part : SpellsSome IsPart
   some_part = let some = some_program in (_, some.1, braces some.2)
 
-  -- the closing brace behind a program
+  -- the closing brace after a program
   data Closing (p : Statements) : Left → Statements → Type 0 where
     closing : Closing p (codes "}" ∷ []) p
 
@@ -106,18 +106,18 @@ module _ (names : List (List ℕ)) where
 
   -- ---- choices
 
-  -- what stands behind the first part
+  -- what follows the first part
   data ElseBehind (x : Expression) (p : Statements) : Left → Statement → Type 0 where
     chosen : {c : Left} {q : Statements} → IsElse c q → ElseBehind x p c (If x p q)
 
-  -- what stands behind the expression
+  -- what follows the expression
   data PartsBehind (x : Expression) : Left → Statement → Type 0 where
     both : {b c : Left} {p q : Statements} → IsPart b p → IsElse c q → PartsBehind x (b ++ c) (If x p q)
 
   behind_part : (x : Expression) (b back : Left) (p : Statements) (s : Statement) → IsPart b p → ElseBehind x p back s → PartsBehind x (b ++ back) s
   behind_part x b back p s h (chosen k) = both h k
 
-  -- the keyword and what stands behind it
+  -- the keyword and what follows it
   abbrev StatementBehind : Keyword → Left → Statement → Type 0
   StatementBehind k back s = IsStatement names (keyword_text k ∷ back) s
 
@@ -142,7 +142,7 @@ module _ (names : List (List ℕ)) where
 
   -- ---- the other statements
 
-  -- a variable's name and what stands behind it
+  -- a variable's name and what follows it
   data SetBehind (name : List ℕ) : Left → Statement → Type 0 where
     to : {a : Left} {x : Expression} → IsExpr names a x → SetBehind name a (Set name x)
 

@@ -1,5 +1,5 @@
 -- How reading splits tokens: those that are read, or begin something, and those that are left. What is read does not
--- depend on tokens behind the first one that is left.
+-- depend on tokens after the first one that is left.
 use Rattle.std.proofs.Common.{◌≡◌, ℕ, true, List, [], ◌∷◌, ◌++◌, Option, Some, None, Ok, Err, bytes_eq, refl, sym, ap, ◌∙◌, subst}
 use Rattle.std.proofs.lemmas.List.{append_cancel_right}
 use Rattle.std.proofs.lemmas.Slice.Eq.{bytes_eq-Decides}

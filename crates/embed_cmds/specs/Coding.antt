@@ -61,7 +61,7 @@ abbrev statements_in : List Word → Statements
 statements_in ws = first_read (read_words ws [])
 
 abbrev mutual
-  -- a statement's words, in front of others; those of the sequence behind it stand before them
+  -- a statement's words, in front of others; those of the sequence after it stand before them
   write : Statement → List Word → List Word
   write (Set name x) ws = inl (name, x) ∷ ws
   write (Say items) ws = inr (inl items) ∷ ws

@@ -19,7 +19,7 @@ abbrev mutual
   nests_one Stop = false
   nests_one (If x on_true on_false) = is_nested x || (nests on_true || nests on_false)
 
-  -- an aggregate stands in an aggregate
+  -- an aggregate is in an aggregate
   pub nests : Statements → Bool
   nests End = false
   nests (Then first rest) = nests_one first || nests rest
@@ -31,7 +31,7 @@ abbrev mutual
   lacks_one Stop = false
   lacks_one (If x on_true on_false) = lacks_node false x || (lacks on_true || lacks on_false)
 
-  -- a name is that of no node, or `@_` stands outside an aggregate
+  -- a name is that of no node, or `@_` is outside an aggregate
   pub lacks : Statements → Bool
   lacks End = false
   lacks (Then first rest) = lacks_one first || lacks rest

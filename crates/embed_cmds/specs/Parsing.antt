@@ -8,11 +8,11 @@ use Rattle.embed_cmds.specs.Faulty.{lacks, nests}
 use Rattle.embed_cmds.specs.Reading.{Left, Read, program_of}
 use Rattle.embed_cmds.specs.Tree.{Statements, body}
 
--- the column of the first token that is left, and where none is that behind the line
+-- the column of the first token that is left, and where none is that after the line
 abbrev pub column_of : Lexed → Left → ℕ
 column_of line left = column_at line (length (texts line) - length left)
 
--- what was read and the number of the token behind it, or the column of the token at which reading stopped
+-- what was read and the number of the token after it, or the column of the token at which reading stopped
 abbrev pub ReadAs : {A B : Type 0} → (A → B) → Lexed → Read B → Result (A × ℕ) ExprError → Type 0
 ReadAs shown line wanted (Ok r) = wanted ≡ Ok (shown r.0, drop r.1 (texts line))
 ReadAs shown line wanted (Err (Syntax column)) = (left : Left) × (wanted ≡ Err left) × (column ≡ column_of line left)

@@ -12,7 +12,7 @@ use Rattle.embed_cmds.specs.Tree.{SaidItem, Words, Value, Statement, Set, Say, S
 abbrev pub Left : Type 0
 Left = List (List ℕ)
 
--- what was read, with the tokens behind it; or the tokens from the first one on that no program could have there
+-- what was read, with the tokens after it; or the tokens from the first one on that no program could have there
 abbrev pub Read : Type 0 → Type 0
 Read A = Result (A × Left) Left
 
@@ -26,7 +26,7 @@ then_goes (Err left) next = Err left
 
 -- ---- one token
 
--- behind this token
+-- after this token
 abbrev pub after_token : List ℕ → Left → Result Left Left
 after_token text [] = Err []
 after_token text (t ∷ ts) = if bytes_eq t text then Ok ts else Err (t ∷ ts)
@@ -134,7 +134,7 @@ statement_by inside names keyword.Say ts = say_statement names ts
 statement_by inside names keyword.Stop ts = Ok (Stop, ts)
 statement_by inside names keyword.If ts = if_statement inside names ts
 
--- a statement, where `inside` reads what stands in its braces
+-- a statement, where `inside` reads what is in its braces
 abbrev pub statement : (Left → Read Statements) → List (List ℕ) → Left → Read Statement
 statement inside names ts = then_reads (token_as keyword_of ts) (statement_by inside names)
 

@@ -49,7 +49,7 @@ abbrev mutual
   after_statement nodes r (If x on_true on_false) =
       if is_nonzero (value_in nodes r.variables x) then after_statements nodes r on_true else after_statements nodes r on_false
 
-  -- after statements, of which none is run behind a `stop`
+  -- after statements, none of which is run after a `stop`
   pub after_statements : List Node → ProgramState → Statements → ProgramState
   after_statements nodes r End = r
   after_statements nodes r (Then first rest) =

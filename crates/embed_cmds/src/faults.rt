@@ -12,9 +12,9 @@ use watch_expr::{Expr, find_faults};
 /// What may be wrong with a program that is of the grammar.
 #[derive(Clone, Copy, Debug, PartialEq, Eq)]
 pub struct ProgramFaults {
-    /// An aggregate stands in an aggregate.
+    /// An aggregate is in an aggregate.
     pub nested: bool,
-    /// A name is that of no node, or `@_` stands outside an aggregate.
+    /// A name is that of no node, or `@_` is outside an aggregate.
     pub no_node: bool,
 }
 

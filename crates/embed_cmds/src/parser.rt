@@ -15,8 +15,8 @@ use watch_expr::{ExprError, Tokens};
 
 /// Reads the program that all tokens from one on spell. The names are those of the nodes, in their order. Where they
 /// spell none, the answer is Syntax, with the column of the first token that no program could have there, or of the
-/// one behind the line. Otherwise it is Nested where an aggregate stands in an aggregate, and else NoNode where a name
-/// is that of no node or `@_` stands outside an aggregate.
+/// one after the line. Otherwise it is Nested where an aggregate is in an aggregate, and else NoNode where a name
+/// is that of no node or `@_` is outside an aggregate.
 pub fn parse_program(
     alloc: Global,
     tokens: &Tokens,

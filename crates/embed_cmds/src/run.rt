@@ -24,7 +24,7 @@ pub fn push_value(text: &mut Text, value: Option<i64>) -> Result<(), AllocError>
 }
 
 /// Runs a program over the nodes of a view, and tells whether a `stop` was reached. The lines that it says are
-/// appended to `out`. After want of memory a part of its effects may stand in `vars` and `out`.
+/// appended to `out`. After want of memory a part of its effects may be in `vars` and `out`.
 pub fn run_program<V: View>(
     alloc: Global,
     p: &Program,

@@ -24,7 +24,7 @@ pub(crate) fn stands(tokens: &Tokens<'_>, at: usize, text: &str) -> bool
     }
 }
 
-/// The number of the token behind one that has to have this text.
+/// The number of the token after one that has to have this text.
 pub(crate) fn expect(tokens: &Tokens<'_>, at: usize, text: &str) -> Result<usize, ExprError>
     ensures goes { GoesAs tokens.now (after_token text.now (drop at (texts tokens.now))) result }
     ensures onward { IfOk result (λ next. at ≤ next) }

@@ -109,7 +109,7 @@ impl Vars {
         self.values.len()
     }
 
-    /// The name and the value of the variable with this number, from 0, and None exactly behind the last.
+    /// The name and the value of the variable with this number, from 0, and None exactly after the last.
     pub fn at(&self, n: usize) -> Option<(&[u8], Option<i64>)>
         ensures { option_map (λ v. (v.0.now, v.1)) result ≡ slice_get self.now n }
     {

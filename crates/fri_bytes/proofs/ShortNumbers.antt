@@ -56,7 +56,7 @@ part_within : (most high low n : ℕ) → n ≡ 128 * high + low → Fits (suc m
 part_within most high low n is fits =
     below_part high low n (128 ^ most) is (subst (λ (k : ℕ). n < k) (pow-suc 128 most) fits.within)
 
--- what is left behind seven bits takes a byte fewer
+-- what is left after seven bits takes a byte fewer
 high_fits : (most high low n : ℕ) → n ≡ 128 * high + low → 1 ≤ high → Fits (suc most) n → Fits most high
 high_fits zero high low n is some fits = let none : high < 1 = part_within zero high low n is fits in absurd (omega arith)
 high_fits (suc most) high low n is some fits = record { some = omega arith; within = part_within (suc most) high low n is fits }
@@ -65,7 +65,7 @@ longer_shortest : (b : ℕ) (s : List ℕ) (n high : ℕ) → 128 ≤ b → b < 
 longer_shortest b [] n high big byte some value h = absurd h
 longer_shortest b (c ∷ s) n high big byte some value h = (big, byte, high, some, value, h)
 
--- one byte, or one and those of the part behind it
+-- one byte, or one and those of the part after it
 shortest_by : (small : Bool) (n : ℕ) (more : List ℕ) → ltb n 128 ≡ small → (128 ≤ n → IsShortest more (n / 128)) → IsShortest (cond small (n ∷ []) ((128 + n % 128) ∷ more)) n
 shortest_by true n more e behind = (ltb-true n 128 e, refl)
 shortest_by false n more e behind =
@@ -160,7 +160,7 @@ unfolding short_bytes
 short_at-short_bytes n rest small =
     short_reads.again (short_within 10 n) n rest (record { small = small; shortest = written_shortest 10 n (fits_ten n small) })
 
--- and what is read stands there as writing it appends it
+-- and what is read is there as writing it appends it
 pub short_at_spelled : (bytes : List ℕ) (n : ℕ) (rest : List ℕ) → short_at bytes ≡ Some (n, rest) → (n < 2 ^ 64) × (bytes ≡ short_bytes n ++ rest)
 unfolding short_bytes
 short_at_spelled bytes n rest e =

@@ -2,7 +2,7 @@
 -- first, where a byte from 128 on is not the last.
 use Rattle.std.specs.Prelude.{◌≡◌, ℕ, zero, suc, ◌+◌, ◌-◌, ◌*◌, ◌/◌, ◌%◌, ◌^◌, ◌<◌, ◌≤◌, ◌==◌, ◌||◌, List, [], ◌∷◌, Option, Some, None, nat_lt, nat_le, if◌then◌else◌, option_and_then}
 
--- The bytes spell the number, and no byte could be left out: what stands behind a byte from 128 on is not 0.
+-- The bytes spell the number, and no byte could be left out: what follows a byte from 128 on is not 0.
 abbrev pub IsShortest : List ℕ → ℕ → Type 0
 IsShortest [] n = ⊥
 IsShortest (b ∷ []) n = (b < 128) × (n ≡ b)
@@ -26,7 +26,7 @@ short_bytes n = short_within 10 n
 
 -- ---- reading from the front: the number and the bytes after it, or nothing
 
--- seven bits and those of the bytes behind, which are not 0 and fit
+-- seven bits and those of the bytes after them, which are not 0 and fit
 abbrev pub longer : ℕ → ℕ × List ℕ → Option (ℕ × List ℕ)
 longer b x = if (x.0 == 0) || nat_le (2 ^ 57) x.0 then None else Some (128 * x.0 + (b - 128), x.1)
 

@@ -97,7 +97,7 @@ impl<'a> Cursor<'a> {
     }
 
     /// The next number below 2^64 in its shortest LEB128 spelling, which has at most 10 bytes. None where
-    /// no such spelling stands at the front.
+    /// no such spelling is at the front.
     #[inline(always)]
     pub fn short_u64(&mut self) -> Option<u64>
         ensures taken { Takes self.old self.new result (short_at self.old.left) }
@@ -113,7 +113,7 @@ impl<'a> Cursor<'a> {
 
     /// The next number of 32 bits in LEB128, as the WebAssembly standard has it (version 1.0, section
     /// 5.2.2): at most 5 bytes, which may be more than the number needs. None where no such spelling
-    /// stands at the front.
+    /// is at the front.
     pub fn leb_u32(&mut self) -> Option<u32>
         ensures taken { Takes self.old self.new result (unsigned_at (2 ^ 32) self.old.left) }
         ensures spelled { IfSome result (λ n. Begins (IsUnsigned (2 ^ 32)) self.old.left n self.new.left) }

@@ -20,7 +20,7 @@ pub(crate) fn short(bytes: &[u8]) -> Option<(u64, &[u8])>
     longer(*first, rest)
 }
 
-// The number of a first byte that is not its last and of those behind it, which most often are one or two.
+// The number of a first byte that is not its last and of those after it, which most often are one or two.
 fn longer(first: u8, bytes: &[u8]) -> Option<(u64, &[u8])>
     requires { 128 ≤ first }
     ensures value { option_map (λ x. (x.0, x.1.now)) result ≡ option_and_then (longer_of first) (short_within_at 9 bytes.now) }
@@ -36,7 +36,7 @@ fn longer(first: u8, bytes: &[u8]) -> Option<(u64, &[u8])>
     joined(first, high, rest)
 }
 
-// The number behind two bytes, which most often stands in one.
+// The number after two bytes, which most often stands in one.
 #[inline(always)]
 fn behind_two(bytes: &[u8]) -> Option<(u64, &[u8])>
     ensures value { option_map (λ x. (x.0, x.1.now)) result ≡ short_within_at 8 bytes.now }
@@ -66,7 +66,7 @@ fn short_within(bytes: &[u8], most: u32) -> Option<(u64, &[u8])>
     joined(first, high, rest)
 }
 
-// Seven bits of the first byte, and above them the number behind it, which is not 0 and fits.
+// Seven bits of the first byte, and above them the number after it, which is not 0 and fits.
 #[inline(always)]
 fn joined(first: u8, high: u64, rest: &[u8]) -> Option<(u64, &[u8])>
     requires { 128 ≤ first }
@@ -79,7 +79,7 @@ fn joined(first: u8, high: u64, rest: &[u8]) -> Option<(u64, &[u8])>
     Some((128 * high + u64::from(first - 128), rest))
 }
 
-// Adds the number in its shortest spelling of at most so many bytes, or a first part of that where memory is wanting.
+// Adds the number in its shortest spelling of at most so many bytes, or a first part of that where memory runs out.
 fn put_within(out: &mut Vec<u8>, number: u64, most: u32) -> Result<(), AllocError>
     ensures ok { OnOk result (out.new.items ≡ out.old.items ++ within_bytes most number) }
     ensures err { OnErr result (take (length out.old.items) out.new.items ≡ out.old.items) }

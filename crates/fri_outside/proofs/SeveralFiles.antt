@@ -1,4 +1,4 @@
--- What holds of several files that are made one behind the other.
+-- What holds of several files that are made one after the other.
 use Rattle.std.proofs.Common.{◌≡◌, ◌≢◌, ◌⊎◌, ℕ, zero, suc, List, [], ◌∷◌, ◌++◌, Bool, true, false, cond, map, slice_get, slice_index_or, length, Option, Some, None, unwrap_or, Contains, refl, sym, ap, subst, ◌∙◌, inl, inr, arith}
 use Rattle.std.proofs.Math.ListN.{get_or-map}
 use Rattle.std.proofs.Math.Seq.{take-append_seam}
@@ -11,7 +11,7 @@ use Rattle.fri_outside.specs.Outside.{Folder, bytes_at, with_file, with_piece}
 use Rattle.fri_outside.specs.Several.{with_files, grown, AreApart, AreFronts, Adds, IsLeft, ChangesOnly}
 use Rattle.fri_outside.proofs.StoredFiles.{is_same, get_set, with_piece-with_file}
 
--- one more file behind the others
+-- one more file after the others
 pub more_made : (told : Option Folder) (files : List (List ℕ × List ℕ)) (name bytes : List ℕ) → with_file name bytes (with_files files told) ≡ with_files (files ++ (name, bytes) ∷ []) told
 more_made told [] name bytes = refl
 more_made told (file ∷ files) name bytes = more_made (with_file file.0 file.1 told) files name bytes
@@ -43,7 +43,7 @@ insert_swapped s a b x y apart = same_map nat_list_cmp_total (slice_cmp-IsAntisy
     ∙ ap (cond (eq_by_cmp (slice_cmp nat_cmp) q a) (Some x)) (sym (get-insert nat_list_cmp_total s b y q))
     ∙ sym (get-insert nat_list_cmp_total (insert s b y) a x q))
 
--- a piece goes behind a file's bytes before or after another file is made
+-- a piece is added to a file before or after another file is made
 piece_first : (told : Option Folder) (name piece other bytes : List ℕ) → other ≢ name → with_piece name piece (with_file other bytes told) ≡ with_file other bytes (with_piece name piece told)
 piece_first None name piece other bytes apart = refl
 piece_first (Some s) name piece other bytes apart = ap Some (
@@ -58,7 +58,7 @@ piece_before told (file ∷ files) name piece apart =
     piece_before (with_file file.0 file.1 told) files name piece (λ place. apart (suc place))
     ∙ ap (with_files files) (piece_first told name piece file.0 file.1 (apart 0 file.0 file.1 refl))
 
--- files behind one that is apart from them have other names
+-- files after one that is apart from them have other names
 apart_from_first : (file : List ℕ × List ℕ) (files : List (List ℕ × List ℕ)) → AreApart (file ∷ files)
     → (place : ℕ) (other bytes : List ℕ) → slice_get files place ≡ Some (other, bytes) → other ≢ file.0
 apart_from_first file files apart place other bytes at same =
@@ -68,7 +68,7 @@ apart_from_first file files apart place other bytes at same =
 apart_behind : (file : List ℕ × List ℕ) (files : List (List ℕ × List ℕ)) → AreApart (file ∷ files) → AreApart files
 apart_behind file files apart i j d before within = apart (suc i) (suc j) d (omega arith) (omega arith)
 
--- a piece behind the bytes of one file
+-- a piece after the bytes of one file
 pub piece_grows : (told : Option Folder) (files : List (List ℕ × List ℕ)) (place : ℕ) (name bytes piece : List ℕ) → AreApart files → slice_get files place ≡ Some (name, bytes)
     → with_piece name piece (with_files files told) ≡ with_files (grown files place piece) told
 piece_grows told [] place name bytes piece apart at = cc

@@ -4,8 +4,8 @@ use Rattle.std.specs.FinMap.{get, insert}
 use Rattle.fri_outside.specs.Outside.{Folder, Held, found_within, with_file, with_piece}
 use Rattle.fri_outside.specs.Several.{with_files, grown, AreApart, AreFronts, Adds, ChangesOnly}
 
--- a file that was made has its bytes, a piece goes behind them, and a reader finds bytes within its limit.
--- Of several files: one more is made behind the others, a piece goes behind the bytes of one and leaves them apart,
+-- a file that was made has its bytes, a piece goes after them, and a reader finds bytes within its limit.
+-- Of several files: one more is made after the others, a piece goes after the bytes of one and leaves them apart,
 -- all that are apart stand in the folder that they made, and where some were made in part no other name changed
 pub record KeepsFiles : Type 0 where
   pub made : (folder : Folder) (name bytes : List ℕ) → get (insert folder name bytes) name ≡ Some bytes

@@ -2,6 +2,6 @@
 use Rattle.std.specs.Prelude.{◌≡◌, List, ℕ, ◌++◌, Option}
 use Rattle.std.specs.Io.KnownBytes.{Consumes}
 
--- a first part of the bytes that were left is left no more, and stands behind those that were there
+-- a first part of the bytes that were left is no longer left, and follows those that were there
 abbrev pub MovesBytes : Option (List ℕ) → Option (List ℕ) → List ℕ → List ℕ → Type 0
 MovesBytes left now before after = (piece : List ℕ) × Consumes left now piece × (after ≡ before ++ piece)

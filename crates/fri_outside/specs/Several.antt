@@ -8,7 +8,7 @@ abbrev pub with_files : List (List ℕ × List ℕ) → Option Folder → Option
 with_files [] told = told
 with_files (file ∷ files) told = with_files files (with_file file.0 file.1 told)
 
--- the files with this piece behind the bytes of the one at this place, if there is one
+-- the files with this piece after the bytes of the one at this place, if there is one
 abbrev pub grown : List (List ℕ × List ℕ) → ℕ → List ℕ → List (List ℕ × List ℕ)
 grown [] place piece = []
 grown (file ∷ files) zero piece = (file.0, file.1 ++ piece) ∷ files

@@ -1,4 +1,4 @@
--- Terminals: what is heard beside what is said, and in which order.
+-- Terminals: what is heard and what is said, and in which order.
 use Rattle.std.specs.Prelude.{ℕ, List, [], ◌∷◌, ◌++◌, flat_map, Option, None, option_map}
 
 -- a time at which more was asked for: what had been said by then, as far as that is told, and the bytes that were given

@@ -1,4 +1,4 @@
-// Files in memory, of which chosen calls fail.
+// Files in memory, whose chosen calls fail.
 ghost use Rattle.std.specs.Prelude.{◌≡◌, ◌↔◌, [], Some, OnOk, OnErr, IsErrOf, MatchResult};
 ghost use Rattle.std.specs.Option.{option_copied};
 ghost use Rattle.std.specs.FinMap.{empty, get, insert};
@@ -37,7 +37,7 @@ impl Model for MemFiles {
 }
 
 impl MemFiles {
-    /// No files, of which no call fails.
+    /// No files, and no call fails.
     pub fn new(alloc: Global) -> Self
         ensures { result ≡ record {
           folder = empty;

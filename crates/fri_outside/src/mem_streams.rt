@@ -1,4 +1,4 @@
-// A source and a sink in memory, of which chosen calls fail.
+// A source and a sink in memory, whose chosen calls fail.
 ghost use Rattle.std.specs.Prelude.{◌≡◌, ◌<◌, ◌≤◌, ◌++◌, ◌↔◌, [], Some, min, length, take, drop, IsErr, IfOk, IsErrOf, OnOk, OnErr, MatchResult};
 ghost use Rattle.fri_outside.specs.Outside.{after_source_read, after_sink_write};
 ghost use Rattle.fri_outside.specs.Terminal.{deaf};
@@ -37,7 +37,7 @@ impl Model for MemSource {
 }
 
 impl MemSource {
-    /// A source of these bytes, of which a read gives at most `piece`, and no call fails.
+    /// A source of these bytes. A read gives at most `piece` of them, and no call fails.
     pub fn new(bytes: Vec<u8>, piece: usize) -> Self
         requires { 1 ≤ piece }
         ensures { result ≡ record { given = []; rest = bytes.items; piece = piece; plan = no_failures; faults = 0 } }
@@ -118,7 +118,7 @@ impl Model for MemSink {
 }
 
 impl MemSink {
-    /// A sink that took no bytes, and of which no call fails.
+    /// A sink that took no bytes, and no call fails.
     pub fn new(alloc: Global) -> Self
         ensures { result ≡ record { bytes = []; plan = no_failures; faults = 0 } }
     {

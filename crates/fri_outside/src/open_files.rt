@@ -58,7 +58,7 @@ impl<F: OpenFile + Drop> OpenFiles<F> {
         }
     }
 
-    /// Closes all files, also behind one that cannot be closed.
+    /// Closes all files, also after one that cannot be closed.
     pub(crate) fn close_all(&mut self) -> Result<(), WriteError> {
         let mut closed = Ok(());
         for open in self.files.drain(..) {

@@ -156,7 +156,7 @@ fn open_error(error: &io::Error) -> WriteError {
 // How many bytes are copied at once.
 const PIECE: usize = 65_536;
 
-// Puts whole pieces behind the bytes, of so many bytes in all that are expected. `read_to_end` would first fill what it
+// Adds whole pieces after the bytes, of so many bytes in all that are expected. `read_to_end` would first fill what it
 // reads into with zeros, byte by byte, which takes longer than to read.
 fn append_pieces<F: Read>(file: &mut F, expected: u64, bytes: &mut Vec<u8>) -> io::Result<()>
     ensures { OnOk result (MovesBytes (F.remaining file.old) (F.remaining file.new) bytes.old.items bytes.new.items) }
@@ -169,7 +169,7 @@ fn append_pieces<F: Read>(file: &mut F, expected: u64, bytes: &mut Vec<u8>) -> i
     Ok(())
 }
 
-// The bytes of a file, of which so many are expected, and one more than the limit of a file that is longer.
+// The bytes of a file, where so many are expected, and one more than the limit of a file that is longer.
 fn read_up_to<F: Read + Drop>(
     alloc: Global,
     file: F,

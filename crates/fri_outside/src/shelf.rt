@@ -57,7 +57,7 @@ impl Shelf {
         Ok(())
     }
 
-    /// Puts a piece behind the bytes of a name, which has none where it is new.
+    /// Adds a piece after the bytes of a name, which has none where it is new.
     pub(crate) fn append(
         &mut self,
         alloc: Global,

@@ -14,7 +14,7 @@ is_decimal word = nat_lt 0 (length word) && list_all is_ascii_digit word
 abbrev pub decimal_of : List ℕ → Option ℕ
 decimal_of word = if is_decimal word then Some (digits_value 10 word) else None
 
--- the same where one minus may stand in front
+-- the same where one minus may be in front
 abbrev pub signed_of : List ℕ → Option ℤ
 signed_of [] = None
 signed_of (b ∷ word) = if b == 45 then option_map (λ n. neg_ℤ (pos n)) (decimal_of word) else option_map pos (decimal_of (b ∷ word))

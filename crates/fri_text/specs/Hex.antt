@@ -15,7 +15,7 @@ IsHexWord word = (word ≡ codes "-") ⊎ ((0 < length word) × (length word % 2
 abbrev pub are_digits : List ℕ → Bool
 are_digits word = nat_lt 0 (length word) && (length word % 2 == 0) && list_all is_hex_digit word
 
--- the bytes that a word writes: none by a minus, and one by each two digits, of which the first is the higher
+-- the bytes that a word writes: none for a minus, and one for each two digits, the first of which is the higher
 abbrev pub hex_of : List ℕ → Option (List ℕ)
 hex_of word = if bytes_eq word (codes "-") then Some [] else (if are_digits word then result_ok (decode_of word) else None)
 

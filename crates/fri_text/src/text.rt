@@ -71,7 +71,7 @@ impl Text {
         self.push_str(buffer.format(v))
     }
 
-    /// Adds the number in decimal digits, with a minus in front of a negative one.
+    /// Adds the number in decimal digits, with a minus before a negative one.
     pub fn push_i64(&mut self, v: i64) -> Result<(), AllocError>
         ensures ok { OnOk result (self.new ≡ self.old ++ signed_decimal v) }
         ensures err { OnErr result (self.new ≡ self.old) }

@@ -35,8 +35,8 @@ fn are_digits(bytes: &[u8]) -> bool
     bytes.iter().all(u8::is_ascii_digit)
 }
 
-/// The number that the word writes in decimal digits, where one minus may stand in front, but no plus.
-/// `NotNumber` comes where no digit stands behind it or another byte than a digit, and `TooGreat` where
+/// The number that the word writes in decimal digits, where one minus may be in front, but no plus.
+/// `NotNumber` comes where no digit comes after it or another byte than a digit, and `TooGreat` where
 /// an i64 doesn't hold the number.
 pub fn read_signed(word: &[u8]) -> Result<i64, TextError>
     ensures { result ≡ within_i64 (signed_of word.now) }

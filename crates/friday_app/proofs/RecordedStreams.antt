@@ -36,7 +36,7 @@ all_append P (x ∷ xs) ys first second = (first.0, all_append P xs ys first.1 s
 
 -- ---- the events between two places of the order
 
--- these stand between, each behind the first of the two
+-- these stand between, each after the first of the two
 record Between (Q : NodeEvent Entry → Type 0) (es : List (NodeEvent Entry)) (i j : ℕ) (a : NodeEvent Entry) : Type 0 where
   mid : List (NodeEvent Entry)
   is : take j es ≡ take i es ++ (a ∷ mid)
@@ -93,13 +93,13 @@ index_at [] node p at = cc
 index_at (q ∷ ps) zero p at = same_Some q p at
 index_at (q ∷ ps) (suc node) p at = index_at ps node p at
 
--- a number behind the first is above it
+-- a number after the first is above it
 above_first : (first : ℕ) (ps : List ℕ) → AllByRecursion (λ q. first < q) ps → (node : ℕ) → node < length ps → first < slice_index_or ps node 0
 above_first first [] all node within = absurd (omega (arith, within))
 above_first first (p ∷ ps) all zero within = all.0
 above_first first (p ∷ ps) all (suc node) within = above_first first ps all.1 node (omega (arith, within))
 
--- of numbers that ascend each stands at one place
+-- of numbers that ascend each is at one place
 one_place : (ps : List ℕ) → Ascend ps → (m n : ℕ) → m < length ps → n < length ps → slice_index_or ps m 0 ≡ slice_index_or ps n 0 → m ≡ n
 one_place [] up m n first second same = absurd (omega (arith, first))
 one_place (p ∷ ps) up zero zero first second same = refl
@@ -107,7 +107,7 @@ one_place (p ∷ ps) up zero (suc n) first second same = absurd (omega (arith, s
 one_place (p ∷ ps) up (suc m) zero first second same = absurd (omega (arith, same, above_first p ps up.0 m (omega (arith, first))))
 one_place (p ∷ ps) up (suc m) (suc n) first second same = ap suc (one_place ps up.1 m n (omega (arith, first)) (omega (arith, second)) same)
 
--- ---- a send and the traffic behind it
+-- ---- a send and the traffic after it
 
 -- none of the events between is a send of the same process at the same clock
 module _ (count : ℕ) (start : List Replaying) (q clock : ℕ) where
@@ -135,7 +135,7 @@ module _ (count : ℕ) (start : List Replaying) (q clock : ℕ) where
       subst (IsUnsent q clock) (sym (reverse-append (told e) (flat_map told mid)))
       (all_append (λ t. is_send_at q clock t ≡ false) (reverse (flat_map told mid)) (reverse (told e)) (unsent mid all.1) (unsent_one e all.0))
 
--- an event behind the send in the order, of one of these nodes, is of another process or at another clock
+-- an event after the send in the order, of one of these nodes, is of another process or at another clock
 other_event : (start : List Replaying) (ps : List ℕ) → map (λ (r : Replaying). r.head.process) start ≡ ps → Ascend ps → (q node : ℕ) (sent : Entry) (e : NodeEvent Entry) → process_at start node ≡ q → node < length ps
     → precedes entry_clock (node_event node sent) e ≡ true → e.node < length ps → ((process_at start e.node == q) && (e.entry.clock == sent.clock)) ≡ false
 other_event start ps processes up q node sent e of within behind inside = by_process (process_at start e.node == q) refl where
@@ -156,7 +156,7 @@ other_event start ps processes up q node sent e of within behind inside = by_pro
         ∙ ap (λ b. (sent.clock == e.entry.clock) && b) not_lower ∙ and_false (sent.clock == e.entry.clock) in
         let wrong = sym behind ∙ never in cc
 
--- the traffic of some events, of this one, and of those behind it
+-- the traffic of some events, of this one, and of those after it
 split_traffic : (f : NodeEvent Entry → List SendOrReceive) (front mid : List (NodeEvent Entry)) (e : NodeEvent Entry) (t : SendOrReceive) → f e ≡ t ∷ []
     → reverse (flat_map f (front ++ (e ∷ mid))) ≡ reverse (flat_map f mid) ++ (t ∷ reverse (flat_map f front))
 split_traffic f front mid e t is =

@@ -27,7 +27,7 @@ is_images word = bytes_eq word (codes "--images")
 abbrev pub options_in : List (List ℕ) → List (List ℕ)
 options_in words = filter is_images words
 
--- the words beside it
+-- the words other than it
 abbrev pub names_in : List (List ℕ) → List (List ℕ)
 names_in words = filter (λ word. not (is_images word)) words
 
@@ -76,7 +76,7 @@ abbrev pub streaming : Bool → List (List ℕ) → Option Command
 streaming images [] = None
 streaming images names = if images then None else option_map Streams (pairs_of names)
 
--- the command of this verb, of these words beside the option
+-- the command of this verb, of these words other than the option
 abbrev pub command_by : List ℕ → Bool → List (List ℕ) → Option Command
 command_by verb images names =
     if bytes_eq verb (codes "record") then recording images names
@@ -89,7 +89,7 @@ command_by verb images names =
     else if bytes_eq verb (codes "streams") then streaming images names
     else None
 
--- the command that the words name: a verb, and behind it names of files, and once at most the option for images
+-- the command that the words name: a verb, and after it names of files, and once at most the option for images
 abbrev pub command_of : List (List ℕ) → Option Command
 command_of [] = None
 command_of (verb ∷ words) =

@@ -1,4 +1,4 @@
--- What each command comes to, given the files and the input.
+-- The outcome of each command, given the files and the input.
 use Rattle.std.specs.Prelude.{ℕ, List, [], Option, Some, None, option_map, option_and_then, Err}
 use Rattle.fri_outside.specs.Outside.{Folder}
 use Rattle.command_run.specs.Outcome.{CommandOutcome, NotACommand, written_names}

@@ -25,9 +25,9 @@ pub record CommandRun (command : Option Command) (old new : Outside) (answer : S
   -- the logs that a recording leaves hold its events: replay accepts each, and makes the recorded states of them. So it is
   -- where a log was full, too. Each datagram that was taken came from outside or is one that was sent
   pub recorded : IsAnswerStatus answer → WhenTold old.told (λ before. WhenTold new.told (KeepsRecording command before))
-  -- wherever a recording was stopped, its logs are those of a moment of its run, but that behind one of them a first part
+  -- wherever a recording was stopped, its logs are those of a moment of its run, but after one of them a first part
   -- of the next entry may stand; or the logs hold a first part of their heads, or are not made yet; or the whole logs
-  -- stand, and behind them the first ones of the images, the last of which may be cut off
+  -- stand, and after them the first ones of the images, the last of which may be cut off
   pub moment : WhenTold old.told (λ before. KeepsMoment command before new.told)
   -- those logs and the modules, and these alone, make `replay` and `debug` show the recorded calls, replies and memories: in
   -- every folder, for some or all of the processes, in any order. After an answer that is the whole run, and elsewhere a

@@ -23,7 +23,7 @@ sending_of q e = record { from = q; clock = e.clock; to = e.call.a0; payload = e
 abbrev pub tag_of : ℕ → Entry → Tag
 tag_of q e = record { sender = q; clock = e.clock }
 
--- what process p took by this event, behind this tag
+-- what process p took by this event, after this tag
 abbrev pub receiving_of : ℕ → Tag → Entry → Receiving
 receiving_of p tag e = record { by = p; tag = tag; payload = e.incoming }
 
@@ -31,7 +31,7 @@ receiving_of p tag e = record { by = p; tag = tag; payload = e.incoming }
 abbrev pub traffic_before : List Replaying → ℕ → List SendOrReceive
 traffic_before start k = traffic_of_events start (take k (events start))
 
--- The send of process q stands before place j of the order. There process p took what it sent, under its name; and to the
+-- The send of process q comes before place j of the order. There process p took what it sent, under its name; and to the
 -- streams this is not strange, unless the send is.
 pub record IsSendTaken (start : List Replaying) (j p : ℕ) (e : Entry) (q node : ℕ) (sent : Entry) : Type 0 where
   pub place : ℕ
@@ -41,7 +41,7 @@ pub record IsSendTaken (start : List Replaying) (j p : ℕ) (e : Entry) (q node 
   pub marks : mark_of_send (sending_of q sent) (traffic_before start place) ≢ Strange
       → mark_of_receive (receiving_of p (tag_of q sent) e) (traffic_before start j) ≢ Strange
 
--- so it is with a datagram that a process sent whose log is given, where its clock is one that a tag can bear
+-- this holds of a datagram that a process sent whose log is given, where its clock is one that a tag can bear
 abbrev pub ReadsSend : (start : List Replaying) (group : GroupStart) (steps : List Step) (ps : List ℕ) (j p : ℕ) (e : Entry) → Received group steps ps (events start) j p e → Type 0
 ReadsSend start group steps ps j p e (FromOutside bytes given tag payload) = Unit {0}
 ReadsSend start group steps ps j p e (FromSend q k sent at is to tells before) = sent.clock ≤ 2 ^ 62 → (node : ℕ) → slice_get ps node ≡ Some q → IsSendTaken start j p e q node sent

@@ -41,7 +41,7 @@ fn is_images(word: &str) -> bool
     word == "--images"
 }
 
-/// The command that the words name: a verb, and behind it names of files or a number, and once at most `--images`.
+/// The command that the words name: a verb, and after it names of files or a number, and once at most `--images`.
 pub fn parse_words(alloc: Global, words: &[String]) -> Result<Option<Command<'_>>, AllocError>
     ensures names { IfOk result (λ command. option_map command_meaning command ≡ command_of (map string_bytes words.now)) }
     ensures rounds { IfOk result (λ command. IfSome command HasRounds) }
@@ -58,7 +58,7 @@ pub fn parse_words(alloc: Global, words: &[String]) -> Result<Option<Command<'_>
     }
 }
 
-// How often the option stands among the words.
+// How often the option is among the words.
 fn count_options(words: &[String]) -> usize
     ensures { result ≡ length (options_in (map string_bytes words.now)) }
 {
@@ -72,7 +72,7 @@ fn are_file_words(names: &[&str]) -> bool
     names.iter().all(|name| is_file_word(name))
 }
 
-// The words beside the option.
+// The words other than the option.
 fn names_in(alloc: Global, words: &[String]) -> Result<Vec<&str>, AllocError>
     ensures { IfOk result (λ names. map (λ name. name.now) names.items ≡ names_in (map string_bytes words.now)) }
 {
@@ -85,7 +85,7 @@ fn names_in(alloc: Global, words: &[String]) -> Result<Vec<&str>, AllocError>
     Ok(names)
 }
 
-// The command of this verb, of these words beside the option.
+// The command of this verb, of these words other than the option.
 fn command_by<'a>(
     alloc: Global,
     verb: &str,

@@ -65,7 +65,7 @@ fn run<F: Files, T: Terminal>(alloc: Global, words: &[String], files: &mut F, io
 
 /// Does what the words of the command line say, without the program's own name.
 ///
-/// What a command comes to (`expected`) is said once for all commands, as far as the files and the
+/// The outcome of a command (`expected`) is said once for all commands, as far as the files and the
 /// input tell it: the status, the text that `io` gets and the files that are made. A fault of an
 /// object that was handed in ends the call in its place, and so does want of memory, which is free.
 pub fn friday<F: Files, T: Terminal>(

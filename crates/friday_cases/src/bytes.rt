@@ -77,7 +77,7 @@ fn push_text(bytes: &mut Vec<u8>, text: &str) -> anyhow::Result<()> {
     Ok(())
 }
 
-// The byte that a letter behind a backslash stands for.
+// The byte that a letter after a backslash stands for.
 fn escaped(letter: u8) -> anyhow::Result<u8> {
     Ok(match letter {
         b'n' => b'\n',

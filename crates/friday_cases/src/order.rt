@@ -62,7 +62,7 @@ pub enum Order<'a> {
     Show(&'a str),
 }
 
-// The first word and what stands behind the blank after it.
+// The first word and what follows the blank after it.
 fn split_word(text: &str) -> (&str, &str) {
     text.split_once(' ').unwrap_or((text, ""))
 }

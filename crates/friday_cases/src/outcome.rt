@@ -1,4 +1,4 @@
-// What a call came to, and how it is told.
+// The outcome of a call, and how it is told.
 
 use friday_app::Status;
 use std::alloc::{AllocError, Global};

@@ -4,7 +4,7 @@ use Rattle.group_state.specs.Place.{GroupPlace}
 use Rattle.embed_cmds.specs.Variables.{Variable}
 use Rattle.shell_points.specs.Points.{Point, Trigger, new_point}
 
--- where its group stands, the points that it holds, in order of their numbers, how many were ever made, and the variables
+-- where its group is, the points that it holds, in order of their numbers, how many were ever made, and the variables
 -- in the order in which they were first mentioned
 pub record SessionState : Type 0 where
   pub place : GroupPlace

@@ -11,15 +11,15 @@ use Rattle.friday_shell.specs.declared.state.State.{State as Stands}
 use Rattle.friday_shell.specs.Answer.{LineAnswer, answer, answer_of_meaning}
 use Rattle.friday_shell.specs.Points.{SessionState}
 
--- what a session keeps, whose group stands there
+-- what a session keeps, whose group is there
 abbrev pub state_with : GroupPlace → Kept → SessionState
 state_with place kept = record { place = place; points = kept.points; made = kept.made; variables = kept.variables }
 
--- where a session stands
+-- where a session is
 abbrev pub session_state : Stands → SessionState
 session_state s = state_with s.group s.kept
 
--- a command was done: this was its answer, and the session stands where the answer says
+-- a command was done: this was its answer, and the session is where the answer says
 pub record Performs (answered : LineAnswer) (new : SessionState) (text : List ℕ) : Type 0 where
   pub text_is : text ≡ answered.text
   pub state : new ≡ answered.state

@@ -7,8 +7,8 @@ use Rattle.shell_points.specs.Watching.{watched}
 use Rattle.group_state.specs.Place.{node_names}
 use Rattle.friday_shell.specs.Points.{SessionState}
 
--- A command that ends at position `to`: `continue` does from where the session stands to there, `rcontinue` over the positions
--- from 0 to the one before where the session stands, and no other does.
+-- A command that ends at position `to`: `continue` does from where the session is to there, `rcontinue` over the positions
+-- from 0 to the one before where the session is, and no other does.
 abbrev pub command_ticks : SessionState → LineCommand → ℕ → ℕ
 command_ticks state Continue to = ticks state.place.start (watched state.points) state.place.at (to - state.place.at)
 command_ticks state Rcontinue to = ticks state.place.start (watched state.points) 0 (state.place.at - 1)
@@ -18,6 +18,6 @@ abbrev pub meaning_ticks : SessionState → LineMeaning → ℕ → ℕ
 meaning_ticks state (Does command) to = command_ticks state command to
 meaning_ticks state _ to = 0
 
--- a line after which the session stands at position `to`
+-- a line after which the session is at position `to`
 abbrev pub line_ticks : SessionState → List ℕ → ℕ → ℕ
 line_ticks state line to = meaning_ticks state (line_meaning (node_names state.place.start) line) to

@@ -22,7 +22,7 @@ use std::alloc::{AllocError, Global};
 use std::sync::ledger::Ledger;
 use watch_expr::Steps;
 
-/// What a command answers, whose line without outer blanks is this, and where the session then stands.
+/// What a command answers, whose line without outer blanks is this, and where the session then is.
 pub(crate) fn perform<'m, 'a, L: Ledger>(
     alloc: Global,
     state: State<'m, 'a>,

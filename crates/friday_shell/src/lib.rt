@@ -1,6 +1,6 @@
 //! The shell of the debugger: a session over the logs of a group, and what it answers to each line.
 //!
-//! What a line says is read by shell_lines, what points do by shell_points, and how events are shown stands in
+//! What a line says is read by shell_lines, what points do by shell_points, and how events are shown is said in
 //! group_texts; here is what a command does. Contracts see a session as the place of its group, its points, how many were
 //! ever made, and its variables (`SessionState` of `specs/Points`). `Session::line` promises, for any bytes, the answer,
 //! the session after it and whether it ends that `answer` of `specs/Answer` gives, and `refused_stays` that a line which

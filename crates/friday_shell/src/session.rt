@@ -31,7 +31,7 @@ pub enum Go {
     Quit,
 }
 
-/// A debugger over the logs of a group. Contracts see where its group stands, the points that it holds, how many were
+/// A debugger over the logs of a group. Contracts see where its group is, the points that it holds, how many were
 /// made, and the variables.
 #[derive(Drop)]
 pub struct Session<'m, 'a> {
@@ -81,7 +81,7 @@ impl<'m, 'a> Session<'m, 'a> {
     }
 
     /// The answer of a line, without its line feed, and whether the session goes on. A line that is refused leaves the
-    /// session as it was. A silent line takes no memory. The counter ticks where a walk evaluates a watchpoint behind its
+    /// session as it was. A silent line takes no memory. The counter ticks where a walk evaluates a watchpoint after its
     /// begin, which is where an event touched something that the watchpoint reads.
     pub fn line<L: Ledger>(
         self,
@@ -110,7 +110,7 @@ impl<'m, 'a> Session<'m, 'a> {
         }
     }
 
-    /// The group, which stands at the session's position.
+    /// The group, which is at the session's position.
     pub fn group(&self) -> &Group<'m, 'a>
         ensures { result.now ≡ self.now.place }
     {

@@ -1,4 +1,4 @@
-// Where a session stands.
+// Where a session is.
 ghost use Rattle.std.specs.Prelude.{◌≡◌, IfOk, Ok};
 
 use embed_cmds::Vars;
@@ -7,7 +7,7 @@ use group_state::Group;
 use shell_points::Points;
 use std::alloc::AllocError;
 
-/// What a session keeps beside its group: the points that are held in order of their numbers, how many were ever made,
+/// What a session keeps besides its group: the points that are held in order of their numbers, how many were ever made,
 /// and the variables.
 #[derive(Drop)]
 pub(crate) struct Kept {
@@ -16,14 +16,14 @@ pub(crate) struct Kept {
     pub(crate) variables: Vars,
 }
 
-/// A group at its position, and what is kept beside it.
+/// A group at its position, and what is kept with it.
 #[derive(Drop)]
 pub(crate) struct State<'m, 'a> {
     pub(crate) group: Group<'m, 'a>,
     pub(crate) kept: Kept,
 }
 
-/// A text, beside which the session stays as it is.
+/// A text; the session stays as it is.
 pub(crate) fn told<'m, 'a>(
     text: Result<Text, AllocError>,
     state: State<'m, 'a>,

@@ -65,7 +65,7 @@ module _ {A : Type 0} (clock : A → ℕ) where
   all_events P Q node [] f all = tt
   all_events P Q node (x ∷ xs) f all = (f x all.0, all_events P Q node xs f all.1)
 
-  -- it precedes the events of the nodes behind its own
+  -- it precedes the events of the nodes after its own
   leads_behind : (a : NodeEvent A) (node : ℕ) (lists : List (List A)) → a.node < node → AllByRecursion (ClocksRise clock) lists
       → ((j at : ℕ) → first_clock clock (list_of lists j) ≡ Some at → clock a.entry ≤ at) → Leads a (events_from node lists)
   leads_behind a node [] h rises f = tt

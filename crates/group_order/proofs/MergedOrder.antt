@@ -143,7 +143,7 @@ module _ {A : Type 0} (clock : A → ℕ) where
     | inr differs ↦ among P events node at all.1 (ap (first_clock clock) (sym (other_own a events node differs)) ∙ e)
   ]
 
-  -- not behind a, nor a tie of a lesser node
+  -- not after a, nor a tie of a lesser node
   record Above (a e : NodeEvent A) : Type 0 where
     pub clock_above : clock a.entry ≤ clock e.entry
     pub tie : clock a.entry ≡ clock e.entry → a.node ≤ e.node

@@ -43,7 +43,7 @@ module _ {A : Type 0} (clock : A → ℕ) where
   abbrev pub order : List (List A) → List (NodeEvent A)
   order lists = sort_events (events_from 0 lists)
 
-  -- each event precedes all behind it
+  -- each event precedes all those after it
   abbrev pub IsSorted : List (NodeEvent A) → Type 0
   IsSorted [] = Unit {0}
   IsSorted (a ∷ events) = AllByRecursion (λ b. precedes a b ≡ true) events × IsSorted events
@@ -66,7 +66,7 @@ module _ {A : Type 0} (clock : A → ℕ) where
   abbrev pub first_clocks : List (List A) → List (Option ℕ)
   first_clocks lists = map first_clock lists
 
-  -- the first event of the order is the first of this node, and the order of what is left stands behind it
+  -- the first event of the order is the first of this node, and the order of what is left follows it
   pub record BeginsWith (lists : List (List A)) (node : ℕ) : Type 0 where
     pub entry : A
     pub rest : List A

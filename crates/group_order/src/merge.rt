@@ -30,7 +30,7 @@ struct Head {
 }
 
 impl Merge {
-    /// So many nodes, of which none has a clock.
+    /// So many nodes, none of which has a clock.
     pub fn new(alloc: Global, nodes: u32) -> Result<Merge, AllocError>
         ensures { IfOk result (λ merge. merge ≡ replicate nodes None) }
     {

@@ -112,7 +112,7 @@ is_send named count h p number bytes e few fits giver tag payload q n is =
           record { tag = tag ∙ ap (λ x. x.0) read; payload = payload ∙ ap (λ x. take e.call.a1 x.1) read };
     }
 
--- ---- what was sent stands in the sender's log
+-- ---- what was sent is in the sender's log
 
 contains_nth : (n : ℕ) (es : List Entry) (e : Entry) → nth_of es n ≡ Some e → Contains es e
 contains_nth zero es e is = cc

@@ -14,7 +14,7 @@ use Rattle.group_record.specs.declared.error.RecordError.TheVariants as errors
 use Rattle.group_record.specs.Begun.{AreStarted, BeginsAll}
 use Rattle.group_record.specs.Members.{IsFreshMember, Starts}
 
--- these states and then what comes behind them
+-- these states and then what comes after them
 abbrev pub ahead : List State → Result (List State) ℕ → Result (List State) ℕ
 ahead first (Ok states) = Ok (first ++ states)
 ahead first (Err p) = Err p
@@ -94,7 +94,7 @@ all_started names modules p members h past all = (
   record { count = h.many ∙ sym all; states = h.states ∙ sym all; each = h.each },
 )
 
--- ---- as the code comes to it
+-- ---- as the code reaches it
 
 pub next_started : (names : List (List ℕ)) (modules : List Module) (p count : ℕ) (members : List Member) (m : Member) (here : Module) (name : List ℕ) → count ≡ length names → HaveStarted names modules p members → p < length modules
     → here ≡ slice_index_or modules p here → name ≡ slice_index_or names p [] → Starts (start here p count) name p count (Ok m) → HaveStarted names modules (p + 1) (members ++ m ∷ [])

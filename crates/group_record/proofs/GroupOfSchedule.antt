@@ -15,7 +15,7 @@ use Rattle.group_record.specs.Run.{size}
 use Rattle.group_record.specs.Answer.{first_states_from, group_of, with_first_state}
 use Rattle.group_record.specs.Laws.{Beginning, IsBegun}
 
--- the module of which a process began
+-- the module with which a process began
 record BeganOf (count p : ℕ) (ms : List Module) (place : ℕ) (S : State) : Type 0 where
   «module» : Module
   found : slice_get ms place ≡ Some «module»

@@ -95,7 +95,7 @@ stopped_on group early late before after on (InEntry steps later p n e split sho
     InEntry steps (on.0 ++ later) p n e (on.1 ∙ ap (λ xs. on.0 ++ xs) split ∙ sym (append_assoc on.0 later (Had p e ∷ steps))) short is
 stopped_on group early late before after on (InImages n m is) = Between early on (is ∙ ap (λ fs. with_files fs before) (after_none (logs group early) n m))
 
--- so it is where images are asked for
+-- the same where images are asked for
 pub stopped_before : (group : GroupStart) (steps : List Step) (images : List (List ℕ × List ℕ)) (before after : Option Folder) → IsStopped group steps [] before after → IsStopped group steps images before after
 stopped_before group steps images before after (InHeads many cut is) = InHeads many cut is
 stopped_before group steps images before after (Between early front is) = Between early front is

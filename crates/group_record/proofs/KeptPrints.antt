@@ -17,7 +17,7 @@ prints_more : (es : List Entry) (e : Entry) → prints (es ++ e ∷ []) ≡ prin
 prints_more [] e = append-nil (printed e)
 prints_more (x ∷ es) e = ap (λ t. printed x ++ t) (prints_more es e) ∙ sym (append_assoc (printed x) (prints es) (printed e))
 
--- of each process of which it is kept, it is what its events printed
+-- where what a process printed is kept, it is what its events printed
 abbrev pub AreKept : List (List ℕ) → List Step → Type 0
 AreKept kept steps = (p : ℕ) (bytes : List ℕ) → slice_get kept p ≡ Some bytes → bytes ≡ prints (entries steps p)
 

@@ -1,4 +1,4 @@
--- Logs that grow: a piece behind one of a group's files, and an entry more.
+-- Logs that grow: a piece after one of a group's files, and an entry more.
 use Rattle.std.proofs.Common.{◌≡◌, ◌≢◌, drop, ℕ, zero, suc, ◌+◌, ◌<◌, ◌≤◌, ◌++◌, Bool, true, false, cond, eqb, List, [], ◌∷◌, length, slice_get, slice_index_or, Option, Some, refl, ap, sym, ◌∙◌, append_assoc, append-nil, length-append, arith}
 use Rattle.std.specs.Prelude.{AllPairs, codes}
 use Rattle.std.proofs.lemmas.Bool.{eq-eqb, eqb-true}
@@ -20,7 +20,7 @@ use Rattle.group_world.specs.History.{put_last_if}
 use Rattle.group_record.specs.Run.{GroupStart, Step, Had, entries, entry_bytes, head_of_log, log_of, name_of_process, size, spelled_next}
 use Rattle.group_record.specs.Logs.{files_from, files_of, log_name, logs}
 
--- the bytes at each place, with a piece behind those at this one
+-- the bytes at each place, with a piece after those at this one
 abbrev pub grown_at : ℕ → List ℕ → (ℕ → List ℕ) → ℕ → List ℕ
 grown_at place piece bytes p = cond (eqb place p) (bytes p ++ piece) (bytes p)
 
@@ -49,7 +49,7 @@ grown_from from (name ∷ names) bytes (suc i) place piece is =
     ap (λ b. (log_name name, b) ∷ grown (files_from (suc from) names bytes) i piece) (sym (grown_there place from piece bytes (omega (arith, is))))
     ∙ ap (λ files. (log_name name, grown_at place piece bytes from) ∷ files) (grown_from (suc from) names bytes i place piece (omega (arith, is)))
 
--- a piece behind one of a group's files
+-- a piece after one of a group's files
 pub grown_files : (group : GroupStart) (bytes : ℕ → List ℕ) (place : ℕ) (piece : List ℕ) → grown (files_of group bytes) place piece ≡ files_of group (grown_at place piece bytes)
 grown_files group bytes place piece = grown_from 0 group.names bytes place place piece (omega arith)
 
@@ -91,7 +91,7 @@ file_of group bytes p within =
     slice_get-get_or (files_of group bytes) p ([], []) (omega (arith, within, length_files 0 group.names bytes))
     ∙ ap Some (file_in group bytes p within)
 
--- a piece that is written behind a log
+-- a piece that is written after a log
 pub piece_written : KeepsFiles → (group : GroupStart) (bytes : ℕ → List ℕ) (p : ℕ) (name piece : List ℕ) (before now : Option Folder) → AllPairs (λ name other. name ≢ other) group.names → p < size group
     → name ≡ log_name (name_of_process group p) → now ≡ with_files (files_of group bytes) before → with_piece name piece now ≡ with_files (grown (files_of group bytes) p piece) before
 piece_written keeps group bytes p name piece before now apart within named is =

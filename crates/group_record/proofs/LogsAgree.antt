@@ -277,7 +277,7 @@ log_within group begun (Did act ∷ early) run p within = act_within group early
 
 -- ---- the log tells its events
 
--- whose bytes behind the head hold its entries, and this much of one more
+-- whose bytes after the head hold its entries, and this much of one more
 log_tells : ExactLogs → (group : GroupStart) → IsBegun group → (steps : List Step) (p : ℕ) (bytes left cut : List ℕ) → p < size group → KeepsAfter group steps p → bytes ≡ head_bytes (head_of_log group p) ++ left
     → Holds (unread_after_head (head_of_log group p) left) (entries steps p) cut → length bytes ≤ most_log → IsLogOfRun group p bytes (entries steps p) (process_states steps p) cut
 log_tells logs group begun steps p bytes left cut inside k is holds fits =

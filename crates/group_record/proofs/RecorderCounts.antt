@@ -1,4 +1,4 @@
--- The counts of a recorder have room for all that a schedule comes to.
+-- The counts of a recorder have room for all that a schedule makes.
 use Rattle.std.proofs.Common.{◌≡◌, ℕ, suc, ◌+◌, ◌<◌, ◌≤◌, ◌^◌, Bool, true, false, List, [], ◌∷◌, length, drop, drop-cons, slice_index_or, ap, sym, subst, ◌∙◌, add-one, arith}
 use Rattle.std.specs.Prelude.{⊤, OnOk, Ok, Err, Result, sum_by}
 use Rattle.std.proofs.lemmas.List.Sums.{sum_by-cons}
@@ -32,7 +32,7 @@ items_few (i ∷ items) = omega (arith, items_few items, item_few i, sum_by-cons
 pub schedule_few : (items : List Item) (r : Recorder) → r.acted ≡ 0 → r.idle ≡ 0 → length items < 2 ^ 63 → run_count items ≤ most_runs → HasCountsFor (sum_by counted_of items) r
 schedule_few items r acted idle short runs = omega (arith, acted, idle, short, runs, items_few items)
 
--- of the items from here on, the first and those behind it
+-- of the items from here on, the first and those after it
 from_next : (items : List Item) (i : ℕ) (d : Item) → i < length items → sum_by counted_of (drop i items) ≡ counted_of (slice_index_or items i d) + sum_by counted_of (drop (i + 1) items)
 from_next items i d inside =
     ap (sum_by counted_of) (drop-cons items i d inside) ∙ sum_by-cons counted_of (slice_index_or items i d) (drop (suc i) items)

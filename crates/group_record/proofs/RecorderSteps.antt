@@ -65,7 +65,7 @@ live_now counting group done r p thread S keeps within =
 pub unless_none : (done next : Progress) → done.full ≡ None → unless_full done next ≡ next
 unless_none done next none = ap (λ o. cond (is_some o) done next) none
 
--- what a try comes to
+-- the result of a try
 pub attempt_is : Counting → (group : GroupStart) (done : Progress) (r : Recorder) (number p thread : ℕ) (S : State) → KeepsUp group done r → p < size group → process_after group done.steps p ≡ Some S
     → attempt group number p thread done ≡ had group number p (live S thread (env_of r.world p)) done
 attempt_is counting group done r number p thread S keeps within here =
@@ -148,7 +148,7 @@ other_member group steps p q e m apart k =
       logged = subst (λ es. All IsShaped es) (sym same) k.logged;
     }
 
--- the member spells the entry as it stands in the log
+-- the member spells the entry as it is in the log
 spelled_here : (group : GroupStart) (steps : List Step) (p : ℕ) (m : Member) (entry : Entry) (e : Event) → IsMember group steps p m → entry ≡ e.entry → spelled m entry ≡ spelled_next steps p e.entry
 spelled_here group steps p m entry e k same = ap (λ last. encoding Two last entry) k.last ∙ ap (λ x. spelled_next steps p x) same
 
@@ -242,7 +242,7 @@ entry_written files_keep group done before now after old p m entry e keeps files
     ∙ ap (λ bytes. with_files (grown (logs group done.steps) p bytes) before) (spelled_here group done.steps p m entry e k same)
     ∙ ap (λ fs. with_files fs before) (logs_grown group done.steps p e)
 
--- memory was wanting before the files were touched
+-- memory ran out before the files were touched
 pub memory_stops : (group : GroupStart) (done next : Progress) (r : Recorder) (before now : Option Folder) → LeadsTo done next → FilesOf group done before now → Comes group next (Err errors.NoMemory) r before now
 memory_stops group done next r before now leads files = Between done.steps leads.front files
 
@@ -418,7 +418,7 @@ item_keeps counting group done old new number (item.Signal p s) keeps fits other
 item_keeps counting group done old new number (item.Kill p) keeps fits other is =
     kills counting group done old new p (is_spared old.members.items old.world p) keeps (omega (arith, fits, keeps.count)) refl is
 
--- so it is done, and no file has changed
+-- this is done, and no file has changed
 logs_stay : (group : GroupStart) (done next : Progress) (before now : Option Folder) → logs group next.steps ≡ logs group done.steps → FilesOf group done before now → FilesOf group next before now
 logs_stay group done next before now same files = files ∙ ap (λ fs. with_files fs before) (sym same)
 

@@ -106,7 +106,7 @@ abbrev pub after_writes : {T : Type 0} → Counts → Result T RecordError → C
 after_writes counts (Err errors.WriteFault) = record counts { writes = raised counts.writes }
 after_writes counts answer = counts
 
--- what a failed write comes to
+-- the result of a failed write
 abbrev pub error_of : WriteError → RecordError
 error_of writing.Failed = errors.WriteFault
 error_of writing.NoMemory = errors.NoMemory

@@ -14,7 +14,7 @@ heads_cut group cut p = take (cut p) (head_bytes (head_of_log group p))
 
 -- Of a run with these steps, which leaves these images, the files are made up to a moment: the first of the
 -- logs are there, each with a first part of its head; or all logs are those of the steps up to that moment,
--- and behind the log of the process of the next event there may be a first part of that event's entry, but not all of
+-- and after the log of the process of the next event there may be a first part of that event's entry, but not all of
 -- it; or the logs are those of all steps, and the first of the images are there, and of the next one a first part
 pub data IsStopped (group : GroupStart) (steps : List Step) (images : List (List ℕ × List ℕ)) (before after : Option Folder) : Type 0 where
   InHeads : (many : ℕ) → (cut : ℕ → ℕ) → after ≡ with_files (take many (files_of group (heads_cut group cut))) before

@@ -43,7 +43,7 @@ abbrev pub Agreement : Type 0
 Agreement = (group : GroupStart) (items : List Item) → IsBegun group → All (IsInRange (size group)) items
     → (steps : List Step) → IsMoment steps (run group items).steps → (p : ℕ) → p < size group → TellsEvents group steps p
 
--- before each event of these steps, a log behind which the event's entry was written in part tells the events before
+-- before each event of these steps, a log after which the event's entry was written in part tells the events before
 -- it, and that part is left over
 abbrev pub TellsCut : GroupStart → List Step → Type 0
 TellsCut group steps = (later early : List Step) (p : ℕ) (e : Event) → steps ≡ later ++ (Had p e ∷ early)
@@ -79,7 +79,7 @@ pub record TakesDatagram (count : ℕ) (early : List Step) (p : ℕ) (e : Event)
   pub sent : (q n : ℕ) → giver.act ≡ Deliver q n → IsSend count giver.earlier q n p e.entry
   pub told : (q n : ℕ) (is : giver.act ≡ Deliver q n) → Contains (entries early q) (sent q n is).sent
 
--- so it is with each event that took one
+-- this holds of each event that took one
 abbrev pub Delivery : Type 0
 Delivery = (group : GroupStart) (items : List Item) → IsBegun group → All (IsInRange (size group)) items
     → (later early : List Step) (p : ℕ) (e : Event) → (run group items).steps ≡ later ++ (Had p e ∷ early) → IsTrue (is_taken e.entry)
@@ -114,7 +114,7 @@ abbrev pub DrawsIf : Bool → List Step → ℕ → Event → Type 0
 DrawsIf true early p e = Draws early p e
 DrawsIf false early p e = drawn e.entry ≡ 0
 
--- so it is with each event of random
+-- this holds of each event of random
 abbrev pub RandomIsDrawn : GroupStart → List Step → Type 0
 RandomIsDrawn group steps = (later early : List Step) (p : ℕ) (e : Event) → steps ≡ later ++ (Had p e ∷ early)
     → (S : State) → process_after group early p ≡ Some S → kind_numbered e.entry.call.kind ≡ Some Random

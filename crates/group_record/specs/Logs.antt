@@ -25,7 +25,7 @@ abbrev pub logs : GroupStart → List Step → List (List ℕ × List ℕ)
 logs group steps = files_of group (log_of group steps)
 
 -- the bytes are a log of process p whose entries are these events', each is accepted where it comes, and
--- after each n of them the replay is in the recorded state. Behind the entries stands this much of one more
+-- after each n of them the replay is in the recorded state. After the entries comes this much of one more
 pub record IsLogOfRun (group : GroupStart) (p : ℕ) (bytes : List ℕ) (es : List Entry) (after : List State) (cut : List ℕ) : Type 0 where
   pub first : State
   pub begun : slice_get group.first p ≡ Some first
@@ -41,6 +41,6 @@ pub record IsLogOfRun (group : GroupStart) (p : ℕ) (bytes : List ℕ) (es : Li
 abbrev pub TellsEvents : GroupStart → List Step → ℕ → Type 0
 TellsEvents group steps p = IsLogOfRun group p (log_of group steps p) (entries steps p) (process_states steps p) []
 
--- and so does the log with these bytes behind it, which are left over
+-- and so does the log with these bytes after it, which are left over
 abbrev pub TellsBefore : GroupStart → List Step → ℕ → List ℕ → Type 0
 TellsBefore group steps p cut = IsLogOfRun group p (log_of group steps p ++ cut) (entries steps p) (process_states steps p) cut

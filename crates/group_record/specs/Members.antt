@@ -32,7 +32,7 @@ Starts first name p count (Err (errors.LogFull item)) = ⊥
 Starts first name p count (Err errors.WriteFault) = ⊥
 Starts first name p count (Err errors.NoMemory) = Unit {0}
 
--- its process stands where the entry is legal, and its log is within the limit
+-- its process is in a state where the entry is legal, and its log is within the limit
 pub record CanKeep (m : Member) (e : Entry) : Type 0 where
   pub state : State
   pub process : m.process ≡ Some state
@@ -40,7 +40,7 @@ pub record CanKeep (m : Member) (e : Entry) : Type 0 where
   pub few : state.events < 2 ^ 61
   pub room : m.size ≤ most_log
 
--- an entry as it is spelled behind those of the member
+-- an entry as it is spelled after those of the member
 abbrev pub spelled : Member → Entry → List ℕ
 spelled m e = encoding Two m.last e
 
@@ -48,7 +48,7 @@ spelled m e = encoding Two m.last e
 abbrev pub member_after : Member → Entry → Member
 member_after m e = record m { size = m.size + length (spelled m e); last = e.clock; process = option_map (λ S. next S e) m.process }
 
--- behind a file there may be a first part of these bytes
+-- after a file there may be a first part of these bytes
 abbrev pub IsAppendedInPart : List ℕ → List ℕ → Option Folder → Option Folder → Type 0
 IsAppendedInPart name bytes before after = (after ≡ before) ⊎ ((n : ℕ) × (after ≡ with_piece name (take n bytes) before))
 
@@ -56,7 +56,7 @@ IsAppendedInPart name bytes before after = (after ≡ before) ⊎ ((n : ℕ) × 
 abbrev pub LogHasRoom : Member → List ℕ → Type 0
 LogHasRoom m bytes = m.size + length bytes ≤ most_log
 
--- these bytes were written behind the log, in the item with this number, or why they were not
+-- these bytes were written after the log, in the item with this number, or why they were not
 abbrev pub Writes : Member → ℕ → List ℕ → Result ⊤ RecordError → Option Folder → Option Folder → Type 0
 Writes m number bytes (Ok _) before after = LogHasRoom m bytes × (after ≡ with_piece (string_bytes m.log) bytes before)
 Writes m number bytes (Err (errors.BadSegment p)) before after = ⊥

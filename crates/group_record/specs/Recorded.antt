@@ -125,7 +125,7 @@ pub record IsMember (group : GroupStart) (steps : List Step) (p : ℕ) (m : Memb
   pub last : m.last ≡ clock_after 0 (entries steps p)
   pub logged : All IsShaped (entries steps p)
 
--- a recorder has come as far as this. Of each process of which it keeps what is printed, it has all of that
+-- a recorder has come as far as this. Where it keeps what a process prints, it has all of that
 pub record KeepsUp (group : GroupStart) (done : Progress) (recorder : Recorder) : Type 0 where
   pub room : done.full ≡ None
   pub apart : AllPairs (λ name other. name ≢ other) group.names
@@ -177,7 +177,7 @@ MakesFiles files (Err (errors.LogFull item)) before after = ⊥
 MakesFiles files (Err errors.WriteFault) before after = AreMadeInPart files before after
 MakesFiles files (Err errors.NoMemory) before after = AreMadeInPart files before after
 
--- the images of the group up to where the recorder stands were to be made, if they were asked for
+-- the images of the group up to where the recorder is were to be made, if they were asked for
 abbrev pub MakesImages : Bool → List ProcessLine → Recorder → Result ⊤ RecordError → Option Folder → Option Folder → Type 0
 MakesImages asked lines recorder result before after =
     (group : GroupStart) (done : Progress) → KeepsUp group done recorder → group.names ≡ map (λ line. line.name) lines
@@ -189,7 +189,7 @@ MakesImages asked lines recorder result before after =
 abbrev pub summary_line_of : List ℕ → Bool → State → SummaryLine
 summary_line_of name killed S = record { name = name; events = S.events; end = S.end; killed = killed }
 
--- it is what is to be said of the run up to where the recorder stands
+-- it is what is to be said of the run up to where the recorder is
 abbrev pub Sums : List ProcessLine → Recorder → Summary → Type 0
 Sums lines recorder summary =
     (group : GroupStart) (done : Progress) → KeepsUp group done recorder → group.names ≡ map (λ line. line.name) lines → IsSummary group done summary

@@ -78,7 +78,7 @@ head_of_log group p = record { version = Two; count = size group; process = p; n
 abbrev pub log_of : GroupStart → List Step → ℕ → List ℕ
 log_of group steps p = head_bytes (head_of_log group p) ++ encodings Two 0 (entries steps p)
 
--- an entry as it is spelled behind those of a process
+-- an entry as it is spelled after those of a process
 abbrev pub spelled_next : List Step → ℕ → Entry → List ℕ
 spelled_next steps p e = encoding Two (clock_after 0 (entries steps p)) e
 
@@ -118,7 +118,7 @@ with_full_log number done = record done { full = Some number }
 abbrev pub unless_full : Progress → Progress → Progress
 unless_full done next = if is_some done.full then done else next
 
--- the event that a try of a thread of a process comes to, where it isn't idle
+-- the event that a try of a thread of a process makes, where it isn't idle
 abbrev pub event_of_try : GroupStart → List Step → ℕ → ℕ → Option Event
 event_of_try group steps p thread = option_and_then (λ S. live S thread (world_around (size group) steps p)) (process_after group steps p)
 

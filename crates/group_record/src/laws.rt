@@ -2,7 +2,7 @@
 ghost use Rattle.group_record.specs.Laws.{Agreement, Beginning, CutAgreement, Delivery, TakesDrawn, TakesWaiting};
 ghost use Rattle.group_record.specs.Standing.{Standing};
 
-/// A group of a schedule and valid modules, whose processes have begun, is one of which the two laws speak.
+/// A group of a schedule and valid modules, whose processes have begun, is one that the two laws are about.
 pub fn beginning()
     ensures { Beginning }
 {}
@@ -20,8 +20,8 @@ pub fn standing()
 }
 
 /// At each moment of a recording each log tells the events of its process: they are its entries, each is
-/// accepted where it comes, and the replay after each n of them is in the recorded state. So it is too with a
-/// log behind which the entry of the next event was written in part, and that part is what its reader leaves.
+/// accepted where it comes, and the replay after each n of them is in the recorded state. The same holds of a
+/// log after which the entry of the next event was written in part, and that part is what its reader leaves.
 pub fn agreement()
     ensures whole { Agreement }
     ensures cut { CutAgreement }

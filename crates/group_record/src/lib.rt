@@ -1,4 +1,4 @@
-//! The recording of a group: a schedule is run over a simulated network, and each event's entry stands in its process's log
+//! The recording of a group: a schedule is run over a simulated network, and each event's entry is in its process's log
 //! before the next event is tried.
 //!
 //! A run is a list of steps over the first states of a group (`specs/Run`): each item of the schedule acts or is idle, and a

@@ -49,7 +49,7 @@ impl Prints {
         Ok(())
     }
 
-    /// What a process printed of which it is kept.
+    /// What a process printed, where that is kept.
     pub(crate) fn of(&self, place: usize) -> &[u8]
         requires { place < length self.now }
         ensures { result.now ≡ slice_index_or self.now place [] }

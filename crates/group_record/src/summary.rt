@@ -11,7 +11,7 @@ use guest_process::End;
 use schedule_text::ProcessLine;
 use std::alloc::{AllocError, Global};
 
-/// How a process stands at the end: its name, how many events it had, whether it runs and how it ended,
+/// How a process is at the end: its name, how many events it had, whether it runs and how it ended,
 /// and whether it was killed.
 #[derive(Debug, PartialEq, Eq, Drop)]
 pub struct SummaryLine {

@@ -1,4 +1,4 @@
--- Where a group stands, and copies of it.
+-- Where a group is, and copies of it.
 use Rattle.std.proofs.Common.{◌≡◌, ℕ, suc, ◌≤◌, Bool, List, [], ◌∷◌, ◌++◌, length, take, Option, Some, None, refl, sym, ap, subst, ◌∙◌, arith}
 use Rattle.std.specs.Prelude.{Contains, IfSome, option_map}
 use Rattle.std.specs.Borrow.{Bor}
@@ -48,7 +48,7 @@ kept_checkpoint start stands (Some s) among all = All-contains (IsStand start) s
 pub few_parts : (start : List Replaying) (stand : Stand) → IsStand start stand → length start ≤ 16 → length stand.parts.items ≤ 16
 few_parts start stand is few = omega (arith, ap length is.parts, length_parts 0 start (take stand.at (events start)), few)
 
--- what a group keeps where it stands
+-- what a group keeps where it is
 pub keeps_more : (old room : List Stand) (here copy : Stand) (new : List Stand) → StillStand old room → SameStand here copy → new ≡ room ++ copy ∷ [] → KeepsStands old here new
 keeps_more old room here copy new still same is =
     λ start all stands. subst (AreStands start) (sym is) (All-push (IsStand start) room copy (still start all) (same_stand start here copy same stands))
@@ -56,7 +56,7 @@ keeps_more old room here copy new still same is =
 pub keeps_rest : (old room : List Stand) (here : Stand) (new : List Stand) → StillStand old room → new ≡ room → KeepsStands old here new
 keeps_rest old room here new still is = λ start all stands. subst (AreStands start) (sym is) (still start all)
 
--- those of which a test said `true`
+-- those for which a test said `true`
 pub picked_stand : (start : List Replaying) (tests : List Bool) (stands : List Stand) → AreStands start stands → AreStands start (items_where_true tests stands)
 picked_stand start tests stands all k d within =
     let from = (get_or_picked tests stands k d within).1 in

@@ -83,7 +83,7 @@ is_event (code.Event v) e is not = not v refl
 is_event code.LogEnd e is not = cc
 is_event (code.Diverged at why) e is not = cc
 
--- so the group stands at the next position
+-- so the group is at the next position
 pub stands_on : (start was new : List Replaying) (heads : List (Option ℕ)) (at node : ℕ) (t : Turn) (v : EntryView) (stand : Stand) → Forwarded start was new heads at node t → t ≡ code.Event v
     → stand.parts.items ≡ new → stand.at ≡ at + 1 → stand.last ≡ Some (record { node = node; entry = v }) → AreSound new → IsStand start stand
 stands_on start was new heads at node t v stand f is parts at_is last_is sound = record {

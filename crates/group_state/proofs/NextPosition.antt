@@ -45,7 +45,7 @@ made r e makes = by_entry (entry_at r.left) refl
     by_entry None none = let told : turn_at r.state None ≡ Makes e = sym (ap (turn_at r.state) none) ∙ makes in absurd (cc)
     by_entry (Some x) is = by_reason x.0 x.1 is (reason r.state x.0) refl
 
--- what is behind a position begins with the event there
+-- what is after a position begins with the event there
 at_front : {X : Type 0} (xs : List X) (k : ℕ) (x : X) → slice_get xs k ≡ Some x → drop k xs ≡ x ∷ drop (suc k) xs
 at_front [] k x is = absurd (cc)
 at_front (y ∷ xs) zero x is = let same : y ≡ x = cc in ap (λ z. z ∷ xs) same

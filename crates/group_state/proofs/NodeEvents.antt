@@ -81,7 +81,7 @@ sorted_at (e ∷ es) (suc i) (suc j) x y sorted less at_i at_j = sorted_at es i 
 precedes_clock : (x y : NodeEvent Entry) → precedes entry_clock x y ≡ true → x.entry.clock ≤ y.entry.clock
 precedes_clock x y before = grind (arith, nat_tests)
 
--- an event with a lesser clock stands before one with a greater
+-- an event with a lesser clock comes before one with a greater
 pub stands_before : (es : List (NodeEvent Entry)) (i j : ℕ) (x y : NodeEvent Entry) → IsSorted entry_clock es → slice_get es i ≡ Some x → slice_get es j ≡ Some y → x.entry.clock < y.entry.clock → i < j
 stands_before es i j x y sorted at_i at_j less = elim (cases_order i j) [
   | inl same ↦

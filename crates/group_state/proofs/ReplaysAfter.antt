@@ -36,7 +36,7 @@ parts_more i (r ∷ rs) es x zero p at is =
 parts_more i (r ∷ rs) es x (suc k) p at is =
     both _ _ _ _ (ap (turns r) (count_other i es x (λ same. omega (arith, same, at)))) (parts_more (suc i) rs es x k p (omega arith) is)
 
--- a replay of which something is ahead
+-- a replay that has something ahead
 pub record Found (parts : List Replaying) (node : ℕ) (e : Entry) (es : List Entry) : Type 0 where
   pub part : Replaying
   pub here : slice_get parts node ≡ Some part

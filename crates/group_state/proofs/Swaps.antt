@@ -7,7 +7,7 @@ use Rattle.std.proofs.lemmas.List.Edits.{swap_is}
 use Rattle.std.proofs.Math.Seq.{take-set-lt}
 
 module _ {X : Type 0} (xs : List X) (n : ℕ) (d y : X) (size : length xs ≡ suc n) where
-  -- the list without the element at i, with the last in its place and y behind
+  -- the list without the element at i, with the last in its place and y at the end
   abbrev behind : ℕ → List X
   behind i = take n (set xs i (get_or xs n d)) ++ y ∷ []
 

@@ -23,7 +23,7 @@ SendsFirst = (start : List Replaying) → PartsFit start → (i j : ℕ) (sent t
     → slice_get (events start) i ≡ Some sent → slice_get (events start) j ≡ Some taken
     → taken.entry.tag ≡ Some tag → sent.entry.clock ≡ tag.clock → i < j
 
--- the event behind the first k is legal in the state of its node, and that node alone goes on, to the next state
+-- the event after the first k is legal in the state of its node, and that node alone goes on, to the next state
 pub record IsStep (start : List Replaying) (k : ℕ) (e : NodeEvent Entry) : Type 0 where
   pub state : State
   pub stands : slice_get (states start k) e.node ≡ Some state

@@ -27,7 +27,7 @@ abbrev pub group_count : List Replaying → ℕ
 group_count [] = 0
 group_count (r ∷ rs) = r.head.count
 
--- each process's number is below those behind it
+-- each process's number is below those after it
 abbrev pub Ascends : List Replaying → Type 0
 Ascends [] = Unit {0}
 Ascends (r ∷ rs) = AllByRecursion (λ s. r.head.process < s.head.process) rs × Ascends rs

@@ -42,7 +42,7 @@ pub record IsReport (start : List Replaying) (report : Report) : Type 0 where
   pub lines : report.lines.items ≡ map report_line start
   pub counts : counts_in report ≡ tally (group_count start) (all_accepted start)
 
--- a replay stands at the end of its log, and comes to the same
+-- a replay is at the end of its log, and has the same outcome
 pub record EndsAt (first last : Replaying) : Type 0 where
   pub same : outcome last ≡ outcome first
   pub head : last.head ≡ first.head

@@ -29,13 +29,13 @@ pub record IsStand (start : List Replaying) (stand : Stand) : Type 0 where
 abbrev pub AreStands : List Replaying → List Stand → Type 0
 AreStands start stands = All (IsStand start) stands
 
--- both are where the group stands
+-- both are where the group is
 pub record SameStand (stand copy : Stand) : Type 0 where
   pub parts : copy.parts.items ≡ stand.parts.items
   pub at : copy.at ≡ stand.at
   pub last : copy.last ≡ stand.last
 
--- the new ones are where a group stands, if the old are
+-- the new ones are where a group is, if the old are
 abbrev pub StillStand : List Stand → List Stand → Type 0
 StillStand old new = (start : List Replaying) → AreStands start old → AreStands start new
 

@@ -93,6 +93,6 @@ is_matched_in sent r = is_to r.process (map.get sent (r.tag.sender, r.tag.clock)
 abbrev pub unmatched_in : Sends → List Receipt → ℕ
 unmatched_in sent taken = length (filter (λ r. not (is_matched_in sent r)) taken)
 
--- what the events so far come to
+-- the tally of the events so far
 abbrev pub counts_of : Tallying → GroupCounts
 counts_of t = record { sends = t.sends; receives = length t.taken; unmatched = unmatched_in t.sent t.taken; untagged = t.untagged }

@@ -1,4 +1,4 @@
-// Where a group stood before, so that it need not begin anew to go back.
+// Where a group stood before, so that it need not begin again to go back.
 ghost use Rattle.std.specs.Prelude.{◌≡◌, ◌≤◌, ◌∷◌, [], Contains, IfSome};
 ghost use Rattle.group_state.specs.Stands.{KeepsStands, StillStand};
 
@@ -11,7 +11,7 @@ const MOST_CHECKPOINTS: usize = 8;
 // So many events lie between two of them at first, and twice as many each time that there would be too many.
 const FIRST_STRIDE: u64 = 256;
 
-/// Where a group stood at positions behind the beginning, in their order. Each is a multiple of the stride.
+/// Where a group stood at positions after the beginning, in their order. Each is a multiple of the stride.
 #[derive(Drop)]
 pub(crate) struct Checkpoints<'m, 'a> {
     pub stride: u64,
@@ -29,7 +29,7 @@ impl<'m, 'a> Checkpoints<'m, 'a> {
         }
     }
 
-    /// Keeps where the group stands, if a multiple of the stride is reached for the first time.
+    /// Keeps where the group is, if a multiple of the stride is reached for the first time.
     pub(crate) fn keep(&mut self, alloc: Global, here: &Stand<'m, 'a>) -> Result<(), AllocError>
         ensures { KeepsStands self.old.stands.items here.now self.new.stands.items }
     {

@@ -156,7 +156,7 @@ impl<'m, 'a> Group<'m, 'a> {
     }
 
     /// The group at position k, and true. False comes exactly where there are fewer than k events, and the
-    /// group is then as it was. It is replayed from where it stands, or from the last checkpoint that is not past
+    /// group is then as it was. It is replayed from where it is, or from the last checkpoint that is not past
     /// the position.
     pub fn goto(self, alloc: Global, k: u64) -> Result<(Group<'m, 'a>, bool), AllocError>
         ensures { IfOk result (λ went. IsAtPosition self.entry k went.0 went.1) }
@@ -180,7 +180,7 @@ impl<'m, 'a> Group<'m, 'a> {
         Ok(Group { course })
     }
 
-    // The group at position k, which is not behind it, and true; or at its end, and false.
+    // The group at position k, which it has not passed, and true; or at its end, and false.
     fn advance_to(self, k: u64) -> Result<(Group<'m, 'a>, bool), AllocError>
         requires { self.at ≤ k }
         ensures start { IfOk result (λ went. went.0.start ≡ self.entry.start) }

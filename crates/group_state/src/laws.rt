@@ -17,7 +17,7 @@ pub fn ordered()
 }
 
 /// At first each node's process stands as its replay does. The event at each position has the fields of its kind and
-/// is legal in the state that its node has there, and behind it that node alone has another state, which is the next
+/// is legal in the state that its node has there, and after it that node alone has another state, which is the next
 /// of that event.
 pub fn stepwise()
     ensures { Stepwise }

@@ -69,7 +69,7 @@ fn left_over(rest: &[u8]) -> Verdict
     }
 }
 
-/// The verdict on a log at whose end a replay stands.
+/// The verdict on a log at whose end a replay is.
 pub(crate) fn verdict(part: &Replayer<'_, '_>) -> Verdict
     requires { (v : VerdictOf) × Tells (turn part.now) part.now.left.bytes v }
     ensures { (v : VerdictOf) → Tells (turn part.now) part.now.left.bytes v → result ≡ v }

@@ -1,4 +1,4 @@
-// Where a group stands.
+// Where a group is.
 ghost use Rattle.std.specs.Prelude.{◌≡◌, ◌≤◌, ℕ, IfOk, IfSome, length, map};
 ghost use Rattle.group_state.specs.Place.{PartsFit, head};
 ghost use Rattle.group_state.specs.Stands.{AreSound, IsStand, SameStand};

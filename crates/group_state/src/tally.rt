@@ -103,7 +103,7 @@ impl Tally {
         Ok(())
     }
 
-    /// What the events so far come to.
+    /// The tally of the events so far.
     pub fn counts(&self) -> GroupCounts
         ensures { result ≡ counts_of self.now }
     {

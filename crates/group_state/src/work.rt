@@ -4,7 +4,7 @@ use crate::group::Group;
 use std::cell::Cell;
 
 /// How many events a group has replayed since it began, those that it replayed again included, and how often a
-/// part of a memory was asked of it. Each count begins again behind 2^64 - 1.
+/// part of a memory was asked of it. Each count begins again after 2^64 - 1.
 #[derive(Clone, Copy)]
 pub struct Work {
     pub events: u64,

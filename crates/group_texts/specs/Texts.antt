@@ -83,7 +83,7 @@ position_line place = codes "at " ++ (decimal place.at ++ event_ending place.sta
 abbrev pub event_line : List Replaying → ℕ → NodeEvent Entry → List ℕ
 event_line start k e = decimal k ++ (codes ": " ++ (event_text start e ++ codes "\n"))
 
--- events, of which the first has this position
+-- events, the first of which has this position
 abbrev pub event_lines : List Replaying → ℕ → List (NodeEvent Entry) → List ℕ
 event_lines start k [] = []
 event_lines start k (e ∷ es) = event_line start k e ++ event_lines start (suc k) es

@@ -114,7 +114,7 @@ fn push_event(
     push_signal(text, event.entry.signal)
 }
 
-/// An event with its position. After want of memory a part of it may stand at the end of the text.
+/// An event with its position. After want of memory a part of it may be at the end of the text.
 pub fn push_event_line(
     text: &mut Text,
     group: &Group<'_, '_>,
@@ -129,7 +129,7 @@ pub fn push_event_line(
     text.push_str("\n")
 }
 
-/// The position of a group, and the event that led there. After want of memory a part of it may stand at the end of
+/// The position of a group, and the event that led there. After want of memory a part of it may be at the end of
 /// the text.
 pub fn push_position(text: &mut Text, group: &Group<'_, '_>) -> Result<(), AllocError>
     ensures { OnOk result (text.new ≡ text.old ++ position_line group.now) }

@@ -16,7 +16,7 @@ first_of_rest zero xs = refl
 first_of_rest (suc n) [] = refl
 first_of_rest (suc n) (x ∷ xs) = first_of_rest n xs
 
--- where one more came at most, what stands at a number stood there before, or it is the one that came
+-- where one more came at most, what is at a number stood there before, or it is the one that came
 before_or_last : {A : Type 0} (xs more : List A) (n : ℕ) (x : A) → length more ≤ 1 → slice_get (xs ++ more) n ≡ Some x
     → (slice_get xs n ≡ Some x) ⊎ ((n ≡ length xs) × (more ≡ x ∷ []))
 before_or_last [] [] n x few found = absurd cc

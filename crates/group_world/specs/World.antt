@@ -7,7 +7,7 @@ use Rattle.lossy_net.specs.Network.{Traffic, no_traffic, nth_of, sent_by, with_d
 use Rattle.signal_points.specs.Signals.{is_pending_in, is_signal, none_pending, with_pending}
 use Rattle.group_world.specs.History.{Act, Event, Deliver, Inject, Clock, Random, Signal, Kill, History, datagram}
 
--- what stands around one process beside its datagrams: the random bytes that are left, the wall time as the
+-- what is around one process, apart from its datagrams: the random bytes that are left, the wall time as the
 -- bits of a signed number, which signals are pending, and whether the process was killed
 pub record Surroundings : Type 0 where
   pub pool : List ℕ
@@ -18,7 +18,7 @@ pub record Surroundings : Type 0 where
 abbrev pub no_surroundings : Surroundings
 no_surroundings = record { pool = []; time = 0; pending = none_pending; killed = false }
 
--- the network, and what stands around each process
+-- the network, and what is around each process
 pub record World : Type 0 where
   pub net : List Traffic
   pub surroundings : List Surroundings

@@ -1,4 +1,4 @@
-// What stands around one process beside its datagrams.
+// What is around one process, apart from its datagrams.
 ghost use Rattle.std.specs.Prelude.{◌≡◌, ◌↔◌, ℕ, ◌++◌, ◌≤◌, length, true, false, IsTrue, OnOk, OnErr};
 ghost use Rattle.lib_calls.specs.Entry.{entry_of};
 ghost use Rattle.lib_calls.specs.Traffic.{drawn as drawn_of};
@@ -52,7 +52,7 @@ impl Surroundings {
         &self.bytes[self.used..]
     }
 
-    /// Puts random bytes behind those that are left.
+    /// Adds random bytes after those that are left.
     pub(crate) fn add(&mut self, bytes: &[u8]) -> Result<(), AllocError>
         ensures ok { OnOk result (self.new ≡ record self.old { pool = self.old.pool ++ bytes.now }) }
         ensures err { OnErr result (self.new ≡ self.old) }

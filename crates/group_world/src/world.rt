@@ -15,8 +15,8 @@ use lossy_net::{Front, Net};
 use std::alloc::{AllocError, Global};
 use std::marker::Model;
 
-/// What is on its way between the processes of a group, and what stands around each of them. Contracts
-/// see the network and what stands around each process.
+/// What is on its way between the processes of a group, and what is around each of them. Contracts
+/// see the network and what is around each process.
 #[derive(Drop)]
 pub struct World {
     alloc: Global,
@@ -177,7 +177,7 @@ impl World {
         self.net.inject(p, bytes)
     }
 
-    /// Puts random bytes behind those that are left for `p`.
+    /// Adds random bytes after those that are left for `p`.
     pub fn add_random(&mut self, p: u32, bytes: &[u8]) -> Result<(), AllocError>
         requires { p < process_count self.old }
         ensures ok { OnOk result (self.new ≡ with_act self.old (Random p bytes.now)) }

@@ -77,7 +77,7 @@ joined xs buffer a n m w e inside fits =
     rw (put-more buffer 0 (length (take n (drop a xs))) (take n (drop a xs)) (take m (drop (a + n) xs)) (omega arith) (omega (arith, front, back)), both)
     (take-front (take w (drop a xs)) (drop (0 + length (take w (drop a xs))) buffer) w (sym size))
 
--- the parts of two pages, which are what stands over their edge
+-- the parts of two pages, which are what is over their edge
 pub across : (xs buffer front back once both : List ℕ) (a w : ℕ) → a + w ≤ length xs → w ≤ 8 → length buffer ≡ 8
     → front ≡ take (min w (4096 - a % 4096)) (drop a xs)
     → back ≡ take (min (w - length front) (4096 - (a + length front) % 4096)) (drop (a + length front) xs)

@@ -124,7 +124,7 @@ impl Memory {
         Some(number_in(&self.pages, addr as usize, width))
     }
 
-    // The same, where the bytes stand in two watch pages.
+    // The same, where the bytes are in two watch pages.
     #[inline(never)]
     fn load_across(&self, addr: u64, width: u32) -> Option<u64>
         requires { IsWidth width }
@@ -155,7 +155,7 @@ impl Memory {
         Ok(true)
     }
 
-    // The same, where the bytes stand in two watch pages.
+    // The same, where the bytes are in two watch pages.
     #[inline(never)]
     fn store_across(&mut self, addr: u64, width: u32, value: u64) -> Result<bool, AllocError>
         requires { IsWidth width }

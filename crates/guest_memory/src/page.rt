@@ -12,7 +12,7 @@ use std::rc::Rc;
 pub(crate) const PAGE: usize = 4096;
 
 /// The bytes of a watch page, and its stamp: the number of the last event that wrote to them, or 0. It
-/// stands in the page, so that who holds the page has both.
+/// is in the page, so that who holds the page has both.
 #[derive(Clone, Copy)]
 pub struct Page {
     pub stamp: u64,

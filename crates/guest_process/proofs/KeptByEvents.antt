@@ -39,7 +39,7 @@ pub record Affects (P : Waiting → Type 0) (S S' : State) : Type 0 where
   pub clock : S'.clock ≡ S.clock
   pub events : S'.events ≡ S.events
 
--- what thread t changes as it goes on: beside that, the locks and the handlers stay, and so does each other
+-- what thread t changes as it goes on: apart from that, the locks and the handlers stay, and so does each other
 -- thread
 pub record Keeps (P : Waiting → Type 0) (t : ℕ) (S S' : State) : Type 0 where
   pub who : S'.who ≡ S.who
@@ -105,7 +105,7 @@ module _ (P : Waiting → Type 0) where
   settled_kept t S S' true k = record { who = k.who; count = k.count; «module» = k.«module»; room = k.room; threads = k.threads; others = k.others; holders = k.holders; handlers = k.handlers; clock = k.clock; events = k.events }
   settled_kept t S S' false k = k
 
-  -- the thread that stands at a call of the library is such
+  -- the thread that is at a call of the library is such
   abbrev pub Stand : Module → Type 0
   Stand m = (S : State) (thread : Thread) (site : CallSite) (kind : Kind) → S.store.«module» ≡ m → kind_at m site.func ≡ Some kind → P (stands S thread site kind)
 

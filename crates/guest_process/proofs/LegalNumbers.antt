@@ -73,7 +73,7 @@ untagged S k e short none other = record {
 nothing : (S : State) (k : Kind) (e : Entry) → brings_nothing e.tag e.incoming ≡ true → takes_as (Some k) e ≡ false → HasBrought S k e
 nothing S k e h other = untagged S k e (nothing_short e.tag e.incoming h) (plain_tag e.tag e.incoming h) other
 
--- a tag that stands with a payload is one that can have been sent
+-- a tag that is with a payload is one that can have been sent
 payload_sent : (count : ℕ) (tag : Option Tag) (payload : List ℕ) → is_payload count tag payload ≡ true → (found : Tag) → tag ≡ Some found → is_sendable count found ≡ true
 payload_sent count None payload h found e = cc
 payload_sent count (Some tag) payload h found e = ap (is_sendable count) (sym (same_Some _ _ e)) ∙ h

@@ -37,7 +37,7 @@ live_low [] t w h = cc
 live_low (slot ∷ slots) zero w h = omega arith
 live_low (slot ∷ slots) (suc t) w h = omega (arith, live_low slots t w h)
 
--- what the laws of the kinds come to
+-- what the laws of the kinds say together
 record Answers (k : Kind) (S : State) (c : Call) (n : Need) (a : Answered) : Type 0 where
   pub possible : gives_answer n a.answer (is_possible k S c a.answer) ≡ true
   pub same : after_need n (with_answer S c a.answer) ≡ a.after

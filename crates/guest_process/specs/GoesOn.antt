@@ -36,7 +36,7 @@ abbrev pub call_of_site : Kind → CallSite → Call
 call_of_site kind site =
     record { kind = (row kind).number; a0 = argument kind 0 site.a0; a1 = argument kind 1 site.a1; a2 = argument kind 2 site.a2 }
 
--- a thread that stands at a call of the library
+-- a thread that is at a call of the library
 abbrev pub stands : State → Thread → CallSite → Kind → Waiting
 stands S thread site kind =
     record { kind = kind; call = call_of_site kind site; strand = record { «module» = S.store.«module»; thread = thread; call = Some site.func } }

@@ -40,7 +40,7 @@ abbrev pub Unless : Bool → Type 0 → Type 0
 Unless true P = Unit {0}
 Unless false P = P
 
--- the datagram of the answer stands first in the mailbox
+-- the datagram of the answer comes first in the mailbox
 abbrev pub StandsFirst : Answer → List (List ℕ) → Type 0
 StandsFirst a mailbox = (later : List (List ℕ)) × (mailbox ≡ datagram_as a.tag a.incoming ∷ later)
 
@@ -69,7 +69,7 @@ abbrev pub mailbox_for : Option Kind → Answer → List (List ℕ)
 mailbox_for (Some TryRecv) a = if a.reply == minus_two then [] else datagram_as a.tag a.incoming ∷ []
 mailbox_for _ a = datagram_as a.tag a.incoming ∷ []
 
--- the world in which an entry comes about: what its call takes is there, and nothing behind it
+-- the world in which an entry comes about: what its call takes is there, and nothing after it
 abbrev pub world_for : Entry → Env
 world_for e = record {
   mailbox = mailbox_for (kind_numbered e.call.kind) (answer_of e);

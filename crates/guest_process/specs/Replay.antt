@@ -18,7 +18,7 @@ abbrev pub state_after : State → List Entry → ℕ → State
 state_after S es n = replayed S (take n es)
 
 -- how far the replay of entries comes: how many are accepted, the longest prefix of which each is legal at the
--- state where it comes, and why the one behind them is not legal, where there is one
+-- state where it comes, and why the one after them is not legal, where there is one
 pub record Reach : Type 0 where
   pub accepted : ℕ
   pub divergence : Option Divergence
@@ -44,10 +44,10 @@ abbrev pub left_over : List ℕ → Verdict
 left_over [] = Whole
 left_over (first ∷ rest) = Left (suc (length rest))
 
--- the verdict on entries that are replayed so far, with these bytes behind them
+-- the verdict on entries that are replayed so far, with these bytes after them
 abbrev pub verdict_of : Reach → List ℕ → Verdict
 verdict_of reach rest = unwrap_or (option_map (Diverged (suc reach.accepted)) reach.divergence) (left_over rest)
 
--- the verdict on the entries of a log and on what is left behind them
+-- the verdict on the entries of a log and on what is left after them
 abbrev pub verdict : State → List Entry → List ℕ → Verdict
 verdict S es rest = verdict_of (reach S es) rest

@@ -11,7 +11,7 @@ use Rattle.guest_process.specs.GoesOn.{handler}
 use Rattle.guest_process.specs.Kinds.{reply_value}
 use Rattle.guest_process.specs.State.{State}
 
--- a thread at `begin` has not run yet; another stands at a call whose result is of its kind's type
+-- a thread at `begin` has not run yet; another is at a call whose result is of its kind's type
 abbrev pub StandsAtKind : Module → Waiting → Kind → Type 0
 StandsAtKind m w Begin = w.strand.call ≡ None
 StandsAtKind m w kind = (func : ℕ) × (w.strand.call ≡ Some func) × ((reply : ℕ) → IsResult (library_result m func) (reply_value kind reply))

@@ -26,7 +26,7 @@ waits strand = record { kind = Begin; call = begin; strand = strand }
 abbrev pub waiting_at : Module → Thread → Waiting
 waiting_at m thread = waits (record { «module» = m; thread = thread; call = None })
 
--- thread 0 stands at `begin`, and nothing has happened
+-- thread 0 is at `begin`, and nothing has happened
 abbrev pub begun : Module → ℕ → ℕ → Store → Thread → State
 begun m who count store thread = awaits_event (record {
   who = who;

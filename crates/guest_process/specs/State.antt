@@ -10,7 +10,7 @@ use Rattle.guest_process.specs.declared.end.End.TheVariants.{Running}
 use Rattle.guest_process.specs.declared.waiting.Waiting.{Waiting}
 
 -- its number and its group's size; its module with memory, globals and table; the threads that were
--- made, each of which stands at a pending call or has ended, and the locks that they hold; the function
+-- made, each of which is at a pending call or has ended, and the locks that they hold; the function
 -- that handles each signal; the clock of its last event, or 0; how many events it has had; and how it ended
 pub record State : Type 0 where
   pub who : ℕ
@@ -26,7 +26,7 @@ pub record State : Type 0 where
 abbrev pub thread_at : State → ℕ → Option Waiting
 thread_at S t = live_at S.crew t
 
--- the kind of the call at which it stands
+-- the kind of the call at which it is
 abbrev pub pending_kind : State → ℕ → Option Kind
 pending_kind S t = option_map (λ w. w.kind) (thread_at S t)
 

@@ -56,7 +56,7 @@ impl<'m> Model for Process<'m> {
 }
 
 impl<'m> Process<'m> {
-    /// Process `who` of a group of `count`, whose thread 0 stands at `begin`. `BadSegment` comes exactly
+    /// Process `who` of a group of `count`, whose thread 0 is at `begin`. `BadSegment` comes exactly
     /// where an element segment ends past the table or a data segment past the memory, and is found
     /// without memory.
     pub fn start(

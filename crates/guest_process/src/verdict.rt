@@ -1,7 +1,7 @@
 // What is said of a log.
 use crate::divergence::Divergence;
 
-/// What is said of a log: all its entries are accepted and nothing is left; so many bytes are left behind them;
+/// What is said of a log: all its entries are accepted and nothing is left; so many bytes are left after them;
 /// or the entry of this number, from 1, is not legal.
 #[derive(Clone, Copy, Debug, PartialEq, Eq, Drop)]
 pub enum Verdict {

@@ -15,7 +15,7 @@ pub(crate) struct Waiting<'m> {
     pub(crate) strand: Strand<'m>,
 }
 
-/// A thread that stands at `begin`.
+/// A thread that is at `begin`.
 pub(crate) fn beginning(strand: Strand<'_>) -> Waiting<'_>
     ensures { result ≡ waits strand.entry }
 {

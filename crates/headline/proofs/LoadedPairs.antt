@@ -62,7 +62,7 @@ clashes_not ls h all =
 
 -- ---- one pair
 
--- of a process: its module stands there and begins so, and its log stands there and has this head
+-- of a process: its module is there and begins so, and its log is there and has this head
 pub record PairStands (folder : Folder) (pair : Pair) (r : Replaying) : Type 0 where
   pub «module» : Module
   pub reads : module_in folder pair.module_name ≡ Ok «module»
@@ -92,7 +92,7 @@ AllStand folder (pair ∷ pairs) (r ∷ rs) = PairStands folder pair r × AllSta
 AllStand folder [] (r ∷ rs) = ⊥
 AllStand folder (pair ∷ pairs) [] = ⊥
 
--- the heads go together, each with all behind it
+-- the heads go together, each with all after it
 abbrev pub AllTogether : List Replaying → Type 0
 AllTogether [] = Unit {0}
 AllTogether (r ∷ rs) = AllByRecursion (λ s. GoTogether r.head s.head) rs × AllTogether rs
@@ -137,7 +137,7 @@ nothing_before (r ∷ rs) = (tt, nothing_before rs)
 pub opened : (folder : Folder) (pairs : List Pair) (rs : List Replaying) → AllStand folder pairs rs → AllTogether rs → Opened folder [] pairs rs
 opened folder pairs rs stand together = opened_from folder [] pairs rs stand together (nothing_before rs)
 
--- ---- a log that stands there
+-- ---- a log that is there
 
 pub log_stands : ReadsModules → (folder : Folder) (name bytes : List ℕ) (head : Head) (left : Unread) → get folder name ≡ Some bytes → length bytes ≤ most_log → head_at bytes ≡ Some (head, left)
     → log_in folder name ≡ Ok (head, left)

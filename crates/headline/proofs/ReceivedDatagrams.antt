@@ -1,4 +1,4 @@
--- Each datagram that was taken came from outside, or its send stands before it in the order.
+-- Each datagram that was taken came from outside, or its send comes before it in the order.
 use Rattle.std.proofs.Common.{◌≡◌, ◌∙◌, ◌≤◌, ◌^◌, ℕ, Bool, true, false, cond, List, [], ◌∷◌, ◌++◌, length, map, take, slice_get, Some, ap, append_assoc, arith, refl, subst, sym}
 use Rattle.std.specs.Prelude.{Contains, IsTrue, ◌==◌}
 use Rattle.std.proofs.Math.Seq.{get_or-append_seam}
@@ -30,7 +30,7 @@ seam : {A : Type 0} (xs : List A) (y : A) (ys whole : List A) → whole ≡ xs +
 seam xs y ys whole is =
     subst (λ (list : List _). Contains list y) (sym is) (length xs, omega (arith, length-append xs (y ∷ ys)), get_or-append_seam xs y ys y)
 
--- what stood in the history before an event stands in that of all steps
+-- what stood in the history before an event is in that of all steps
 stays : (steps later early : List Step) (s : Step) (before after : History) (act : Act) → steps ≡ later ++ (s ∷ early) → history early ≡ before ++ act ∷ after → Contains (history steps) act
 stays steps later early s before after act split is =
     let front = map act_of (later ++ (s ∷ [])) ++ before in
@@ -56,7 +56,7 @@ injects q p given bytes is = by_test (q == p) refl is where
 
 module _ (group : GroupStart) (steps : List Step) (ps : List ℕ) (start : List Replaying) (run : IsRun group steps) (fits : PartsFit start) (sends : SendsFirst)
     (order : IsOrder entry_clock (map (entries steps) ps) (events start)) where
-  -- the send of a tag that an event bears stands before it
+  -- the send of a tag that an event bears comes before it
   before : (j node q k : ℕ) (e sent : Entry) → slice_get (events start) j ≡ Some (node_event node e) → slice_get (entries steps q) k ≡ Some sent → e.tag ≡ Some (record { sender = q; clock = sent.clock })
       → StandsBefore ps (events start) j q sent
   before j node q k e sent at among tag other given =

@@ -118,7 +118,7 @@ equal_test n = tells (eqb_tells n n) where
   tells (inl h) = h.0
   tells (inr h) = absurd (h.1 refl)
 
--- and what stands at a place is an event of its node
+-- and what is at a place is an event of its node
 pub own_of : (es : List (NodeEvent Entry)) (j node : ℕ) (e : Entry) → slice_get es j ≡ Some (node_event node e) → (k : ℕ) × (slice_get (of_node node es) k ≡ Some e)
 own_of [] j node e at = cc
 own_of (x ∷ es) j node e at = by_test (λ j here. own_of es j node e here) (x.node == node) refl j at where

@@ -21,7 +21,7 @@ use Rattle.replay_command.specs.Report.{diverges, images_in, images_if, is_diver
 use Rattle.headline.specs.Shown.{AreShown, ShowsProcess, recorded_events, recorded_images, recorded_line, recorded_report}
 use Rattle.headline.proofs.ShownReplays.{ComesTo}
 
--- so many processes come to what their replays come to
+-- the outcome of so many processes is that of their replays
 abbrev pub AllCome : GroupStart → List Step → (ℕ → List ℕ) → List ℕ → List Replaying → Type 0
 AllCome group steps cut [] [] = Unit {0}
 AllCome group steps cut (p ∷ ps) (r ∷ rs) = ComesTo group steps cut p r × AllCome group steps cut ps rs

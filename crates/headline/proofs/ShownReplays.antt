@@ -67,7 +67,7 @@ verdict_by o n rest = verdict_of (record { accepted = n; divergence = o }) rest
 is_left_over : (S : State) (es : List Entry) (rest : List ℕ) → accepted S es ≡ length es → verdict S es rest ≡ left_over rest
 is_left_over S es rest all = ap (λ (o : Option Divergence). verdict_by o (accepted S es) rest) (no_divergence S es all)
 
--- ---- what it comes to
+-- ---- its outcome
 
 -- the facts of a log and of the run, at the same process
 record Ends (S last : State) (es : List Entry) : Type 0 where

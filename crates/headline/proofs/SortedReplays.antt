@@ -180,7 +180,7 @@ room least limit (p ∷ ps) within ascend above below =
     let rest : suc p + length ps ≤ limit = room (suc p) limit ps (omega (arith, below.0)) ascend.1 (all_so (λ n. p < n) (λ n. suc p ≤ n) ps (λ n h. omega (arith, h)) ascend.0) below.1 in
     omega (arith, above.0, rest)
 
--- where there is no more room than they take, each stands at its place
+-- where there is no more room than they take, each is at its place
 each_at : (least limit : ℕ) (ps : List ℕ) → Ascend ps → AllByRecursion (λ p. least ≤ p) ps → AllByRecursion (λ p. p < limit) ps → least + length ps ≡ limit
     → (i : ℕ) → i < length ps → slice_get ps i ≡ Some (least + i)
 each_at least limit [] ascend above below full i inside = absurd (omega (arith, inside))

@@ -37,7 +37,7 @@ files_of_process schedule p = record { module_name = module_name schedule p; log
 abbrev pub pairs_of_processes : Schedule → List ℕ → List Pair
 pairs_of_processes schedule ps = map (files_of_process schedule) ps
 
--- each number is below those behind it
+-- each number is below those after it
 abbrev pub Ascend : List ℕ → Type 0
 Ascend [] = Unit {0}
 Ascend (p ∷ ps) = AllByRecursion (λ q. p < q) ps × Ascend ps
@@ -100,13 +100,13 @@ pub record ShowsMoment {before : Folder} {schedule_name : List ℕ} (r : IsRecor
   pub at : IsAtMoment (group_in r) (steps_in r) after
   pub shown : ShowsSteps r at.steps at.cut after
 
--- what `record` left with this status shows the whole run where it came to an answer, and elsewhere a moment of it, unless
+-- what `record` left with this status shows the whole run where it gave an answer, and elsewhere a moment of it, unless
 -- it was stopped in the heads
 pub record ShowsRun {before : Folder} {schedule_name : List ℕ} (r : IsRecordable before schedule_name) (answer : Status) (after : Folder) : Type 0 where
   pub whole : IsAnswerStatus answer → ShowsSteps r (steps_in r) no_cut after
   pub stopped : IsInHeads (group_in r) before after ⊎ ShowsMoment r after
 
--- so it is wherever a recording ends
+-- this holds wherever a recording ends
 abbrev pub LeftIsShown : Type 0
 LeftIsShown = (images : Bool) (schedule_name : List ℕ) (answer : Status) (before after : Folder)
     → (IsAnswerStatus answer → LeavesRecording schedule_name before after) → LeavesMoment images schedule_name before (Some after)

@@ -34,7 +34,7 @@ abbrev pub recorded_states : GroupStart → List Step → ℕ → List State
 recorded_states group steps p = option_to_list (slice_get group.first p) ++ process_states steps p
 
 -- a replay is that of a process of the recording. It has all events of the process and no other, each is accepted, and
--- after each n of them it is in the recorded state. What stands after their entries is left over
+-- after each n of them it is in the recorded state. What comes after their entries is left over
 pub record ShowsProcess (group : GroupStart) (steps : List Step) (cut : ℕ → List ℕ) (p : ℕ) (r : Replaying) : Type 0 where
   pub head : r.head ≡ head_of_log group p
   pub begun : slice_get group.first p ≡ Some r.state
@@ -86,13 +86,13 @@ pub record IsRecorded (group : GroupStart) (steps : List Step) (p n : ℕ) (now 
   pub shown : slice_get now node ≡ Some state
   pub recorded : slice_get (recorded_states group steps p) n ≡ Some state
 
--- where the process q is one of these, this event of its own stands before place j of the order
+-- where the process q is one of these, this event of its own comes before place j of the order
 abbrev pub StandsBefore : List ℕ → List (NodeEvent Entry) → ℕ → ℕ → Entry → Type 0
 StandsBefore ps order j q sent =
     (node : ℕ) → slice_get ps node ≡ Some q → (i : ℕ) × (i < j) × (slice_get order i ≡ Some (node_event node sent))
 
 -- the datagram that an event of process p took, at place j of the order, came from outside, or a process had sent it to p.
--- Then the event names the send and tells a first part of what went out, and the send stands before it, unless the
+-- Then the event names the send and tells a first part of what went out, and the send comes before it, unless the
 -- send's clock is past those that a tag can bear
 pub data Received (group : GroupStart) (steps : List Step) (ps : List ℕ) (order : List (NodeEvent Entry)) (j p : ℕ) (e : Entry) : Type 0 where
   FromOutside : (bytes : List ℕ) → Contains (history steps) (Inject p bytes) → e.tag ≡ (read_datagram (size group) bytes).0
@@ -109,6 +109,6 @@ pub record ShowsGroup (group : GroupStart) (steps : List Step) (ps : List ℕ) (
   -- at position k each process is as it was in the recording after as many of its events as stand among the first k
   pub moments : (k node p : ℕ) → slice_get ps node ≡ Some p
       → IsRecorded group steps p (node_event_count node (take k (events start))) (states start k) node
-  -- each taken datagram is one from outside, or its send stands before it
+  -- each taken datagram is one from outside, or its send comes before it
   pub receives : (j node p : ℕ) (e : Entry) → slice_get ps node ≡ Some p → slice_get (events start) j ≡ Some (node_event node e)
       → IsTrue (is_taken e) → Received group steps ps (events start) j p e

@@ -66,7 +66,7 @@ pub one_tag : (count : ℕ) (datagram : List ℕ) (tag tag' : Tag) (payload payl
 one_tag count datagram tag tag' payload payload' few one other =
     some_pair_parts tag tag' payload payload' (sym (tag_at-tagged count datagram tag payload few one) ∙ tag_at-tagged count datagram tag' payload' few other)
 
--- where the magic bytes stand, the bytes are those of the numbers that stand behind them
+-- where the magic bytes stand, the bytes are those of the numbers that stand after them
 pub spelled_at : (datagram : List ℕ) → AreBytes datagram → 16 ≤ length datagram → starts_with nat_eq datagram magic ≡ true → datagram ≡ tag_bytes (numbers_at datagram) ++ drop 16 datagram
 unfolding numbers_at tag_bytes
 spelled_at datagram bytes long starts =
@@ -111,7 +111,7 @@ numbers_at-read datagram s c sender clock =
     let by_sender : ℕ → Tag = λ x. record { sender = x; clock = c } in
     ap by_clock (le_number_8 (drop 8 datagram) ∙ sym clock) ∙ ap by_sender (le_number_4 (drop 4 datagram) ∙ sym sender)
 
--- what a reader says that found these two numbers behind the magic bytes
+-- what a reader says that found these two numbers after the magic bytes
 pub record Reads (datagram : List ℕ) (sender clock : ℕ) : Type 0 where
   pub bytes : AreBytes datagram
   pub long : 16 ≤ length datagram

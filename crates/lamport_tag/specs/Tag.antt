@@ -42,7 +42,7 @@ abbrev pub IsReadAs : ℕ → List ℕ → Option Tag → List ℕ → Type 0
 IsReadAs count datagram (Some tag) payload = IsTagged count datagram tag payload
 IsReadAs count datagram None payload = IsUntagged count datagram × (payload ≡ datagram)
 
--- a datagram's tag, if it has one, and its payload, by what stands at its front
+-- a datagram's tag, if it has one, and its payload, by what is at its front
 abbrev pub payload_behind : List ℕ → Option (Tag × List ℕ) → Option Tag × List ℕ
 payload_behind datagram None = (None, datagram)
 payload_behind datagram (Some tagged) = (Some tagged.0, tagged.1)

@@ -58,7 +58,7 @@ fn clock_before(last: u64, tag: Option<Tag>) -> u64
     last.max(tag.map_or(0, |tag| tag.clock))
 }
 
-/// The tag of a datagram in a group of `count` processes, and the payload behind it. Bytes that only
+/// The tag of a datagram in a group of `count` processes, and the payload after it. Bytes that only
 /// look like a tag, as those that name a sender outside the group, are payload.
 pub fn read_tag(bytes: &[u8], count: u32) -> Option<(Tag, &[u8])>
     ensures tagged { IfSome result (λ r. IsTagged count bytes.now r.0 r.1.now) }

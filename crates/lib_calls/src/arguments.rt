@@ -17,7 +17,7 @@ pub(crate) const PAGE: u64 = 65_536;
 
 /// Whether each range of bytes that the call names lies in the memory and has at most 60,000 bytes. Only
 /// print, random, send, recv and try_recv name a range, and the last two also 4 bytes for the sender. An
-/// empty range may stand at the memory's end, also where the memory has no bytes.
+/// empty range may be at the memory's end, also where the memory has no bytes.
 #[tactic(auto, unfolding(crate::specs::Effects::is_good))]
 pub fn good_arguments(call: &Call, memory: &Memory) -> bool
     ensures { result ≡ is_good call.now memory.now }
@@ -156,7 +156,7 @@ fn is_named(bytes: &[u8], memory: &Memory, addr: u64, len: u64) -> bool
     stands_at(bytes, memory, addr)
 }
 
-// Whether the bytes stand there in the memory, which lends its own in parts.
+// Whether the bytes are there in the memory, which lends its own in parts.
 fn stands_at(bytes: &[u8], memory: &Memory, addr: u64) -> bool
     requires inside { addr + length bytes.now ≤ length memory.now.bytes }
     requires small { addr + length bytes.now ≤ 2 ^ 24 }

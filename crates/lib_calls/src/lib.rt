@@ -6,7 +6,7 @@
 //! what a call names and sends out of the memory, and `write_back` writes what its answer does (`specs/Effects`). `is_sent`,
 //! `is_taken`, `drawn` and `printed` read one entry (`specs/Traffic`). Each gives exactly what its definition says; copies and
 //! `write_back` may want memory. Kinds are those of `call_table`, by their numbers (`specs/Kinds`). What a call means for a
-//! process stands in `guest_process`.
+//! process is said in `guest_process`.
 #![tactic(auto)]
 
 mod answer;

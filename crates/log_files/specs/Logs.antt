@@ -7,7 +7,7 @@ use Rattle.call_log.specs.Limits.{most_log}
 use Rattle.command_run.specs.declared.refusal.Reason.TheVariants as reason
 use Rattle.command_run.specs.Outcome.{CommandStop, and_then, file_of, refuses_at_once}
 
--- the log of a log file, given by its head and what is behind it
+-- the log of a log file, given by its head and what is after it
 abbrev pub log_or_bad_head : List ℕ → Option (Head × Unread) → Result (Head × Unread) CommandStop
 log_or_bad_head name None = Err (refuses_at_once name reason.BadHead)
 log_or_bad_head name (Some log) = Ok log

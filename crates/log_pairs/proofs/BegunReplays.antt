@@ -168,7 +168,7 @@ pub record HasBegun (ls left : List Loaded) (sorted : List Replaying) : Type 0 w
   pub placed : sorted ≡ sort_replays [] begun
   pub first : AllByRecursion IsFirst begun
 
--- so it is, whatever the pairs are that were read
+-- this holds whatever the pairs are that were read
 abbrev pub AreBegun : List LoadedFiles → List LoadedFiles → List Replaying → Type 0
 AreBegun all rest sorted = (ls : List Loaded) → AreLoaded all ls → (left : List Loaded) × (AreLoaded rest left × HasBegun ls left sorted)
 
@@ -209,7 +209,7 @@ beginning_stops all before rest x sorted e has next stops ls are = step (has ls 
       subst (λ (o : Result (List Replaying) CommandStop). StopsAs o e) (sym h.so_far)
       (stops_then (replays_of (l ∷ left)) _ e (stops_then (replay_of_log l) _ e (stops l at.0)))
 
--- something that was read stands at this place
+-- something that was read is at this place
 pub one_loaded : (all before rest : List LoadedFiles) (x : LoadedFiles) (sorted : List Replaying) → AreBegun all before sorted → before ≡ x ∷ rest → (ls : List Loaded) × AreLoaded all ls → (l : Loaded) × IsLoaded x l
 one_loaded all before rest x sorted has next loaded = step (has loaded.0 loaded.1) where
   step : (left : List Loaded) × (AreLoaded before left × HasBegun loaded.0 left sorted) → (l : Loaded) × IsLoaded x l

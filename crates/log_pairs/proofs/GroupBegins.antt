@@ -42,7 +42,7 @@ module _ (modules : ReadsModules) (finds : FindsLogs) where
   replays_in folder [] files = []
   replays_in folder (pair ∷ pairs) files = replay_in folder pair files.0 ∷ replays_in folder pairs files.1
 
-  -- the pairs behind some others, where the heads of them all go together
+  -- the pairs after some others, where the heads of them all go together
   pairs_stand : (folder : Folder) (earlier : List Loaded) (pairs : List Pair) (files : ArePairs folder pairs) → AllPairs GoTogether (map (λ l. l.head) earlier ++ heads_in folder pairs files)
       → loaded_pairs folder earlier pairs ≡ Ok (earlier ++ held_in folder pairs files)
   pairs_stand folder earlier [] files together = ap (λ (ls : List Loaded). Ok ls) (sym (append-nil earlier))

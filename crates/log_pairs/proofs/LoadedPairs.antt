@@ -75,7 +75,7 @@ loaded_more (y ∷ xs) (k ∷ ls) x l all one = (all.0, loaded_more xs ls x l al
 loaded_more [] (k ∷ ls) x l all one = absurd all
 loaded_more (y ∷ xs) [] x l all one = absurd all
 
--- some pairs hold this, and what is wanted of all is what comes of the others behind them
+-- some pairs hold this, and what is wanted of all is what comes of the others after them
 pub record SoFar (folder : Folder) (pairs left : List PairOfWords) (xs : List LoadedFiles) : Type 0 where
   pub held : List Loaded
   pub are : AreLoaded xs held

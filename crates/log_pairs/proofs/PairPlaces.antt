@@ -15,7 +15,7 @@ use Rattle.log_pairs.specs.Finding.{pair_of_process}
 abbrev is_of : ℕ → Loaded → Bool
 is_of process l = l.head.process == process
 
--- none in front of this place is of the process
+-- none before this place is of the process
 abbrev pub NoneBefore : List LoadedFiles → ℕ → ℕ → Type 0
 NoneBefore all process n = (ls : List Loaded) → AreLoaded all ls → (k : ℕ) (l : Loaded) → k < n → slice_get ls k ≡ Some l → is_of process l ≡ false
 
@@ -54,12 +54,12 @@ none_from p i (m ∷ ls) before =
     let first : 0 < suc (length ls) = omega arith in
     ap (λ b. cond b (Some i) (position_from p (i + 1) ls)) (before 0 m first refl) ∙ none_from p (i + 1) ls (λ k x below x_at. before (suc k) x (omega (arith, below)) x_at)
 
--- what stands at a place of a slice, copied
+-- what is at a place of a slice, copied
 pub got : (pairs : List PairOfWords) (n : ℕ) (o : Option (Bor PairOfWords)) → is_some o ≡ ltb n (length pairs) → IfSome o (λ x. x.now ≡ get_or pairs n x.now) → option_copied o ≡ slice_get pairs n
 got pairs n None some is = sym (slice_get_past pairs n (ltb-false n (length pairs) (sym some)))
 got pairs n (Some x) some is = ap Some is ∙ sym (slice_get-get_or pairs n x.now (ltb-true n (length pairs) (sym some)))
 
--- what stands at a place within
+-- what is at a place within
 pub item_at : (all : List LoadedFiles) (n : ℕ) (l : LoadedFiles) → n < length all → l ≡ get_or all n l → slice_get all n ≡ Some l
 item_at all n l within is = slice_get-get_or all n l within ∙ ap Some (sym is)
 

@@ -60,6 +60,6 @@ clashes_not ls h all =
     ∙ ap (λ (b : Bool). first_reason false b (has_name ls h.name)) (no_process ls h all)
     ∙ ap (first_reason false false) (no_name ls h all)
 
--- a head behind those of some pairs, where each two go together
+-- a head after those of some pairs, where each two go together
 pub no_clash : (ls : List Loaded) (h : Head) (rest : List Head) → AllPairs GoTogether (map (λ l. l.head) ls ++ h ∷ rest) → clash ls h ≡ None
 no_clash ls h rest all = clashes_not ls h (of_heads (λ x. GoTogether x h) ls (before_it GoTogether (map (λ l. l.head) ls) h rest all))

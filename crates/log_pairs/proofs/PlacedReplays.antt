@@ -26,7 +26,7 @@ put_at r (s ∷ rs) = by_test (nat_lt s.head.process r.head.process) (count_lowe
       subst (λ (k : ℕ). insert (s ∷ rs) k r ≡ s ∷ insert_replay r rs) next (ap (λ (ps : List Replaying). s ∷ ps) rest)
   by_test false n rest = refl
 
--- behind those with lower numbers
+-- after those with lower numbers
 pub put_behind : (r : Replaying) (rs : List Replaying) → insert rs (length (lower r.head.process rs)) r ≡ insert_replay r rs
 put_behind r rs = ap (λ (n : ℕ). insert rs n r) (length-prefix_len (λ other. nat_lt other.head.process r.head.process) rs) ∙ put_at r rs
 

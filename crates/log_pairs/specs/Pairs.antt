@@ -19,7 +19,7 @@ pub record Pair : Type 0 where
   pub module_name : List ℕ
   pub log_name : List ℕ
 
--- a pair that was read: the name of the module's file, the module, the log's head, and what is behind it
+-- a pair that was read: the name of the module's file, the module, the log's head, and what is after it
 pub record Loaded : Type 0 where
   pub module_name : List ℕ
   pub «module» : Module

@@ -66,7 +66,7 @@ fn calls_name_bytes_and_are_answered(rt: HostRuntime) -> Result<(), Fail> {
     let mut memory = Memory::new(rt.alloc(), 1, 1)?;
     assert!(rt; good_arguments(&call(8, 9, 65_535, 1), &memory));
     assert!(rt; !good_arguments(&call(8, 9, 65_536, 1), &memory));
-    // The bytes stand in two pages of 4,096 bytes.
+    // The bytes are in two pages of 4,096 bytes.
     assert!(rt; memory.write(4094, b"print")?);
     let printed = outgoing(rt.alloc(), &call(3, 4094, 5, 0), &memory)?;
     assert_eq!(rt; printed.as_slice(), b"print".as_slice());

@@ -19,7 +19,7 @@ use wasm_decode::decode;
 use wasm_validate::validate;
 use watch_expr::View;
 
-// Each process of the ring takes a datagram, counts it at 64 and at 1024, and sends what stands at 64 to the next.
+// Each process of the ring takes a datagram, counts it at 64 and at 1024, and sends what is at 64 to the next.
 const RING: &[u8] = b"\0asm\x01\0\0\0\x01\x0f\x03`\0\x01\x7f`\x03\x7f\x7f\x7f\x01\x7f`\0\0\
     \x02)\x03\x06liblog\x02me\0\0\x06liblog\x04send\0\x01\x06liblog\x04recv\0\x01\x03\x02\x01\x02\
     \x05\x03\x01\0\x01\x07\x0a\x01\x06_start\0\x03\x0aW\x01U\x01\x01\x7f\x10\0!\0\x20\0E\x04@\
@@ -125,7 +125,7 @@ fn memories(alloc: Global, group: &Group<'_, '_>) -> Result<Vec<u8>, Fail> {
     Ok(all)
 }
 
-// The group came to the same memories as one that goes there from the beginning.
+// The group reached the same memories as one that goes there from the beginning.
 fn assert_straight(
     rt: &(impl Abort + AllocGlobal),
     group: &Group<'_, '_>,

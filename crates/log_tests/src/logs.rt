@@ -43,18 +43,18 @@ const SENT: &[u8] = b"\x34\0\0\0\x07\0\0\0\0\0\0\0\x02\0\x08\x05\
     \x01\0\0\0\0\0\0\0\x40\0\0\0\0\0\0\0\x04\0\0\0\0\0\0\0\0\0\0\0\0\0\0\0\
     \x04\0\0\0ping";
 
-// The same three behind an entry with the clock 6, in version 2.
+// The same three after an entry with the clock 6, in version 2.
 const TAGGED_TWO: &[u8] = b"\x0e\x01\x02\x09\0\x40\x08\x20\x02\x02hi\x01\x01\x06";
 
 const UNTAGGED_TWO: &[u8] = b"\x0a\x01\x02\x09\0\x40\x08\x20\0\0\0";
 
 const SENT_TWO: &[u8] = b"\x0d\x01\x02\x08\x05\x01\x40\x04\0\x04ping";
 
-// The second behind an entry with the clock 8, so that the difference is 2^64 - 1.
+// The second after an entry with the clock 8, so that the difference is 2^64 - 1.
 const FALLING_TWO: &[u8] =
     b"\x13\xff\xff\xff\xff\xff\xff\xff\xff\xff\x01\x02\x09\0\x40\x08\x20\0\0\0";
 
-// The log of a process that began, and behind it what would be the entry of a `yield` but for its kind, which is 18.
+// The log of a process that began, and after it what would be the entry of a `yield` but for its kind, which is 18.
 const NO_KIND: &[u8; 66] = b"LLOG\x01\0\0\0\x01\0\0\0\0\0\0\0\x01a\
       \x14\0\0\0\x01\0\0\0\0\0\0\0\0\0\0\0\0\0\0\0\0\0\0\0\
       \x14\0\0\0\x02\0\0\0\0\0\0\0\0\0\x12\0\0\0\0\0\0\0\0\0";
@@ -105,7 +105,7 @@ fn sent(outgoing: &[u8]) -> EntryView<'_>
     }
 }
 
-// Whether the entry is written as these bytes, behind what is there and an entry with the clock `last`.
+// Whether the entry is written as these bytes, after what is there and an entry with the clock `last`.
 fn is_written(
     alloc: Global,
     version: Version,

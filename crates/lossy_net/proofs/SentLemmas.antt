@@ -9,7 +9,7 @@ use Rattle.lossy_net.proofs.NetworkLemmas.{traffic_of-changed, traffic_of-others
 
 -- ---- the numbers
 
--- a datagram stands at the numbers from 1 to the count of the datagrams
+-- a datagram is at the numbers from 1 to the count of the datagrams
 pub nth_of-within : (sent : List Sent) (n : ℕ) (datagram : Sent) → nth_of sent n ≡ Some datagram → (1 ≤ n) × (n ≤ length sent)
 nth_of-within sent zero datagram e = absurd cc
 nth_of-within [] (suc n) datagram e = absurd cc

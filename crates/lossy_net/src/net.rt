@@ -9,7 +9,7 @@ use lamport_tag::{Tag, read_tag};
 use std::alloc::{AllocError, Global};
 use std::marker::Model;
 
-/// The first datagram in a mailbox: its tag, where it has one, and the bytes behind the tag.
+/// The first datagram in a mailbox: its tag, where it has one, and the bytes after the tag.
 #[derive(Clone, Copy, Debug, PartialEq, Eq)]
 pub struct Front<'a> {
     pub tag: Option<Tag>,
@@ -39,7 +39,7 @@ impl Model for Net {
 }
 
 impl Net {
-    /// The network of a group of `count` processes, of which none has sent anything.
+    /// The network of a group of `count` processes, none of which has sent anything.
     pub fn new(alloc: Global, count: u32) -> Result<Net, AllocError>
         ensures { IfOk result (λ net. net ≡ replicate count no_traffic) }
     {

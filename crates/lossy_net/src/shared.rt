@@ -21,7 +21,7 @@ impl Model for Shared {
 }
 
 impl Shared {
-    /// The bytes, of which this is the one owner.
+    /// The bytes, whose one owner this is.
     pub(crate) fn new(alloc: Global, bytes: Bytes) -> Result<Shared, AllocError>
         ensures { IfOk result (λ s. s ≡ bytes) }
     {

@@ -11,7 +11,7 @@ const FOLDER: &str = "low_tests_folder";
 
 const NAME: &str = "low_tests_folder/a";
 
-// What stands in a file, or why it was not read.
+// What is in a file, or why it was not read.
 fn text_of<F: Files>(files: &mut F, alloc: Global, name: &str) -> Result<Vec<u8>, FileError> {
     files.read(alloc, name, 5)
 }

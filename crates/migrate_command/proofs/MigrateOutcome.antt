@@ -1,4 +1,4 @@
--- What `migrate` comes to, from the bytes that it read.
+-- The outcome of `migrate`, from the bytes that it read.
 use Rattle.std.proofs.Common.{◌≡◌, ◌∙◌, ℕ, List, Result, Ok, ap}
 use Rattle.fri_outside.specs.Outside.{Folder}
 use Rattle.call_log.specs.Head.{Head}

@@ -15,7 +15,7 @@ abbrev pub newer_head : Head → Head
 newer_head head = record head { version = Two }
 
 -- The log that is read under a name and the one that is written under another: the new file has the same head in version
--- 2 and the same entries, and nothing behind them; and so it is read in the folder that has it.
+-- 2 and the same entries, and nothing after them; and so it is read in the folder that has it.
 pub record KeepsLog (folder : Folder) (log_name new_name : List ℕ) (work : CommandWork) : Type 0 where
   pub head : Head
   pub left : Unread

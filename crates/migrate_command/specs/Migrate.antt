@@ -1,4 +1,4 @@
--- What `migrate` comes to, given the files.
+-- The outcome of `migrate`, given the files.
 use Rattle.std.specs.Prelude.{ℕ, List, [], ◌∷◌, ◌++◌, false, length, decimal, codes, nat_le, if◌then◌else◌, Ok, Err}
 use Rattle.fri_outside.specs.Outside.{Folder}
 use Rattle.call_log.specs.Head.{Head}
@@ -8,7 +8,7 @@ use Rattle.command_run.specs.declared.refusal.Reason.TheVariants as reason
 use Rattle.command_run.specs.Outcome.{CommandOutcome, CommandWork, and_then, refuses_at_once}
 use Rattle.log_files.specs.Logs.{log_in}
 
--- the process's name, how many entries there are, and how many bytes are left behind them
+-- the process's name, how many entries there are, and how many bytes are left after them
 abbrev pub migrate_text : List ℕ → ℕ → ℕ → List ℕ
 migrate_text name entries left = name ++ (codes ": " ++ (decimal entries ++ (codes " entries, " ++ (decimal left ++ codes " bytes left out\n"))))
 

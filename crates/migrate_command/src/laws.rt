@@ -2,7 +2,7 @@
 ghost use Rattle.migrate_command.specs.Laws.{MigrationsKeep, MigrationsWork};
 
 /// The file that a migration makes is read as the log that was read: with its head, in version 2, with its entries, and
-/// with nothing behind them.
+/// with nothing after them.
 pub fn migrations_keep()
     ensures { MigrationsKeep }
 {

@@ -20,7 +20,7 @@ pub(crate) struct Migration {
     pub(crate) text: Text,
 }
 
-// How many entries a log has, and how many bytes are left behind them.
+// How many entries a log has, and how many bytes are left after them.
 #[derive(Clone, Copy)]
 struct Extent {
     entries: u64,

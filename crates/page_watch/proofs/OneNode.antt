@@ -76,7 +76,7 @@ pub record IsUnmetBelow (marks : Place → ℕ) (at : ℕ) (nodes : List NodePla
   pub met : meets marks at (places_in nodes) ≡ meets marks at (places_in (drop i nodes))
 
 module _ (marks : Place → ℕ) (at : ℕ) (nodes : List NodePlaces) (i : ℕ) (n : NodePlaces) (below : i < length nodes) (here : get_or nodes i n ≡ n) where
-  -- this node and those behind it
+  -- this node and those after it
   ahead : drop i nodes ≡ n ∷ drop (i + 1) nodes
   ahead = drop_more nodes i n below ∙ ap (λ (m : NodePlaces). m ∷ drop (i + 1) nodes) here
 

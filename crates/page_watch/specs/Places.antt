@@ -27,6 +27,6 @@ places_of watches = flat_map (λ w. w.places) watches
 abbrev pub Covers : List Place → List Place → Type 0
 Covers all some = (p : Place → Bool) → list_any p all ≡ false → list_any p some ≡ false
 
--- the place is there, or comes behind the others
+-- the place is there, or comes after the others
 abbrev pub AddsPlace : List Place → List Place → Place → Type 0
 AddsPlace old new place = (new ≡ old ++ place ∷ []) ⊎ ((new ≡ old) × Covers old (place ∷ []))

@@ -23,6 +23,6 @@ pub record Stands (watch : Watched) (nodes : List Node) : Type 0 where
 abbrev pub evaluated : List Node → Expression → Watched
 evaluated nodes x = record { expression = x; value = value nodes no_variables x; places = reads nodes x }
 
--- what a watch is after an event: evaluated anew where that touched something that it was read from, and else as it was
+-- what a watch is after an event: evaluated again where that touched something that it was read from, and otherwise as it was
 abbrev pub watch_after_event : (Place → ℕ) → ℕ → List Node → Watched → Watched
 watch_after_event marks at nodes watch = if meets marks at watch.places then evaluated nodes watch.expression else watch

@@ -19,7 +19,7 @@ pub trait TouchView: View {
     /// The mark of each place.
     ghost marks: { Self → Place → ℕ };
 
-    /// The position, of which expressions see the state.
+    /// The position whose state expressions see.
     fn position(&self) -> u64
         ensures is { result ≡ at self.now }
         ensures here { Self.nodes self.now ≡ states self.now (at self.now) }

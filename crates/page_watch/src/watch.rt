@@ -81,7 +81,7 @@ impl Watch {
         Ok(change_between(old, self.value()))
     }
 
-    // Evaluates anew where the event at the view's position touched something that was read, and says whether it did.
+    // Evaluates again where the event at the view's position touched something that was read, and says whether it did.
     pub(crate) fn ask<V: TouchView, L: Ledger>(
         &mut self,
         alloc: Global,

@@ -14,7 +14,7 @@ use std::marker::Model;
 use std::sync::ledger::Ledger;
 use watch_expr::{Expr, Steps};
 
-/// Watches that are asked together. Beside them stand all places that they were read from, so that an event that touched
+/// Watches that are asked together. With them are kept all places that they were read from, so that an event that touched
 /// none of these costs little, however many watches there are. Contracts see the list of them.
 #[derive(Drop)]
 pub struct Watches {

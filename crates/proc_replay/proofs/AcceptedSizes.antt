@@ -60,7 +60,7 @@ module _ (no_longer : NoLonger) (numbers : LegalNumbers) where
         subst (λ last. length (encodings Two last (take n es)) ≤ length (encodings v last es)) (rises S e s legal).told rest in
         omega (arith, later, legal_no_longer v S e s shaped legal, length-append (encoding Two S.clock e) (encodings Two e.clock (take n es)), length-append (encoding v S.clock e) (encodings v e.clock es))
 
-    -- the first that is accepted, and those behind it
+    -- the first that is accepted, and those after it
     first_accepted : (S : State) (e : Entry) (es : List Entry) (v : Version) (n : ℕ) → StateFits S → IsShaped e → suc n ≤ accepted S (e ∷ es)
         → (StateFits (next S e) → n ≤ accepted (next S e) es → length (encodings Two (next S e).clock (take n es)) ≤ length (encodings v (next S e).clock es))
         → (o : Option Divergence) → reason S e ≡ o

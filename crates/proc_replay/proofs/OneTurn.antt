@@ -82,7 +82,7 @@ one_further S e es legal = ap (λ o. reach_then o (reach (next S e) es)) legal
 pub one_accepted : (S : State) (e : Entry) (es : List Entry) → reason S e ≡ None → accepted S (e ∷ es) ≡ suc (accepted (next S e) es)
 one_accepted S e es legal = ap (λ (far : Reach). far.accepted) (one_further S e es legal)
 
--- ---- what a replay comes to
+-- ---- the outcome of a replay
 
 equal : (f g : Reach) (S T : State) (x y : List ℕ) → f ≡ g → S ≡ T → x ≡ y → outcome_by f S x ≡ outcome_by g T y
 equal f g S T x y a b c = rw (a, b, c) refl

@@ -16,14 +16,14 @@ abbrev pub turns : Replaying → ℕ → Replaying
 turns r zero = r
 turns r (suc n) = turns (after r) n
 
--- with so many bytes behind the last event, the turn tells this verdict
+-- with so many bytes after the last event, the turn tells this verdict
 abbrev pub Tells : Move → List ℕ → Verdict → Type 0
 Tells (Makes entry) left v = ⊥
 Tells Ends left v = v ≡ left_over left
 Tells (Diverges at why) left v = v ≡ Diverged at why
 
 -- from the first state of a process on: as many turns make events as entries are accepted, each that of the
--- next entry; after so many of them the state is that of the replay; and each turn behind them tells the verdict
+-- next entry; after so many of them the state is that of the replay; and each turn after them tells the verdict
 pub record IsReplay (first : Replaying) (es : List Entry) (rest : List ℕ) : Type 0 where
   pub states : (n : ℕ) → n ≤ accepted first.state es → (turns first n).state ≡ state_after first.state es n
   pub events : (n : ℕ) (e : Entry) → n < accepted first.state es → slice_get es n ≡ Some e → turn (turns first n) ≡ Makes e
@@ -34,8 +34,8 @@ AreReplays = (first : Replaying) → first.state.events ≡ 0 → IsReplay first
 
 -- ---- one turn
 
--- what a replay comes to: the number of its events, the state after them, the verdict, and the bytes
--- behind all entries
+-- the outcome of a replay: the number of its events, the state after them, the verdict, and the bytes
+-- after all entries
 pub record Outcome : Type 0 where
   pub accepted : ℕ
   pub last : State
@@ -60,7 +60,7 @@ outcome r = outcome_at r.state (entries_of r.left) (rest_of r.left)
 abbrev pub ahead : Replaying → List Entry
 ahead r = take (accepted r.state (entries_of r.left)) (entries_of r.left)
 
--- a turn changes nothing of what the replay comes to. The turn of an event makes the first that is ahead, and
+-- a turn changes nothing of the replay's outcome. The turn of an event makes the first that is ahead, and
 -- takes bytes of the log; one that tells a verdict leaves all as it is, nothing is ahead, and the replay comes
 -- to what is there
 pub record IsTurn (r : Replaying) : Type 0 where

@@ -9,7 +9,7 @@ use Rattle.guest_process.specs.Legal.{reason}
 use Rattle.guest_process.specs.Next.{next}
 use Rattle.guest_process.specs.State.{State}
 
--- the head of the log, the process after the events so far, and what is left of the log behind their entries
+-- the head of the log, the process after the events so far, and what is left of the log after their entries
 pub record Replaying : Type 0 where
   pub head : Head
   pub state : State
@@ -19,7 +19,7 @@ pub record Replaying : Type 0 where
 abbrev pub replaying : State → Log → Replaying
 replaying S log = record { head = log.head; state = S; left = log.left }
 
--- what the next turn is: the event of an entry is made, or no entry stands next, or the entry with this
+-- what the next turn is: the event of an entry is made, or no entry comes next, or the entry with this
 -- number, from 1 on, is not legal
 pub data Move : Type 0 where
   Makes : (entry : Entry) → Move

@@ -10,7 +10,7 @@ use Rattle.guest_process.specs.Replay.{accepted}
 use Rattle.guest_process.specs.State.{State}
 
 -- the first n entries, where all of them are accepted, take no more bytes in version 2 than in any version, and the
--- entries behind them in that version add to these
+-- entries after them in that version add to these
 abbrev pub AcceptedNoLonger : Type 0
 AcceptedNoLonger = (S : State) (es : List Entry) (v : Version) (n : ℕ) → StateFits S → All IsShaped es → n ≤ accepted S es
     → length (encodings Two S.clock (take n es)) ≤ length (encodings v S.clock es)

@@ -4,7 +4,7 @@ ghost use Rattle.proc_replay.specs.Sizes.{AcceptedNoLonger};
 
 /// Turns taken one after the other, from the first state of a process on, make the event of each entry
 /// that is accepted, in order, and of no other; after so many of them the state is that of the replay of
-/// so many entries; and the turns behind them tell the verdict. Each turn leaves what the replay comes to.
+/// so many entries; and the turns after them tell the verdict. Each turn leaves the outcome of the replay.
 pub fn replays()
     ensures course { AreReplays }
     ensures turn { AreTurns }

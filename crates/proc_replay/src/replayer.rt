@@ -21,7 +21,7 @@ pub struct Replayer<'m, 'a> {
 }
 
 // What is left of the log; what the next turn gives, so that each entry is read and judged once; and the log after the
-// entry that stands next.
+// entry that comes next.
 #[derive(Drop)]
 struct Ahead<'a> {
     log: LogView<'a>,
@@ -108,14 +108,14 @@ impl<'m, 'a> Replayer<'m, 'a> {
         self.process.events()
     }
 
-    /// The number of the log's bytes behind the entries of the events so far.
+    /// The number of the log's bytes after the entries of the events so far.
     pub fn left(&self) -> u64
         ensures { result ≡ length self.now.left.bytes }
     {
         self.ahead.log.rest().len() as u64
     }
 
-    /// The log behind the entries of the events so far.
+    /// The log after the entries of the events so far.
     pub fn log(&self) -> LogView<'a>
         ensures { result ≡ record { head = self.now.head; left = self.now.left } }
     {
@@ -140,7 +140,7 @@ impl<'m, 'a> Replayer<'m, 'a> {
 }
 
 impl<'a> Ahead<'a> {
-    // Goes on after the entry that stands next, whose event led to this process.
+    // Goes on after the entry that comes next, whose event led to this process.
     fn go_on(&mut self, process: &Process<'_>)
         requires { IsRoomy process.now self.old.following }
         ensures log { self.new.log ≡ self.old.following }

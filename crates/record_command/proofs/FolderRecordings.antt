@@ -87,7 +87,7 @@ one_recording {folder} {name} schedule modules g r =
 pub moment_before : RecordingsAgree → (told after : Option Folder) (images : Bool) (name : List ℕ) → after ≡ told → WhenTold told (λ before. LeavesMoment images name before after)
 moment_before agree told after images name same before is r = (InHeads 0 (λ p. 0) (same ∙ is), agree before name r)
 
--- where the recording was stopped or came to its end
+-- where the recording was stopped or reached its end
 pub moment_then : RecordingsAgree → (told middle after : Option Folder) (images : Bool) (name : List ℕ) (schedule : Schedule) (modules : List Module) → WhenTold told (λ folder. Gathers folder name schedule modules)
     → middle ≡ told → StoppedWhere schedule images (first_states schedule modules) middle after → WhenTold told (λ before. LeavesMoment images name before after)
 moment_then agree told middle after images name schedule modules gathers same stopped before is r = (here, agree before name r) where
@@ -109,7 +109,7 @@ made_at_end (Err refusal.ReadFault) files before after end makes = absurd end
 made_at_end (Err refusal.WriteFault) files before after end makes = absurd end
 made_at_end (Err refusal.NoMemory) files before after end makes = absurd end
 
--- those of a recording are its logs, and behind them the images that were asked for
+-- those of a recording are its logs, and after them the images that were asked for
 recording_writes : {folder : Folder} {name : List ℕ} (images : Bool) (r : IsRecordable folder name) → writes_of (record_outcome images name folder) ≡ logs (group_in r) (steps_in r) ++ images_of images (group_in r) (run_in r)
 recording_writes {folder} {name} images r =
     ap writes_of (gathered folder images name r.schedule r.modules (gathers_it r) ∙ ap (group_outcome images name r.schedule) r.begins)

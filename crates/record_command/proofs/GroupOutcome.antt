@@ -46,7 +46,7 @@ full_writes : (images : Bool) (group : GroupStart) (done : Progress) (item : ℕ
 full_writes images group done item full =
     sym (append-nil (logs group done.steps)) ∙ ap (λ (files : List (List ℕ × List ℕ)). logs group done.steps ++ files) (sym (no_images images group done item full))
 
--- whether or not a log is full, all logs are written, and behind them the images
+-- whether or not a log is full, all logs are written, and after them the images
 writes_by_room : (images : Bool) (name : List ℕ) (group : GroupStart) (done : Progress) (full : Option ℕ) → done.full ≡ full → writes_of (outcome_by_room images name group done full) ≡ logs group done.steps ++ images_of images group done
 writes_by_room images name group done None room = refl
 writes_by_room images name group done (Some item) full = full_writes images group done item full

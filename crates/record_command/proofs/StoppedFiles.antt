@@ -74,7 +74,7 @@ steps_grow group (step ∷ later) early p =
 log_grows : (group : GroupStart) (early steps : List Step) → IsMoment early steps → (p : ℕ) → IsGrown (log_of group steps p) (log_of group early p)
 log_grows group early steps (later, is) p = subst (λ (s : List Step). IsGrown (log_of group s p) (log_of group early p)) (sym is) (steps_grow group later early p)
 
--- the entry of an event stands behind the log
+-- the entry of an event follows the log
 event_log : (group : GroupStart) (early : List Step) (p : ℕ) (e : Event) → log_of group (Had p e ∷ early) p ≡ log_of group early p ++ entry_bytes group early p e
 unfolding IsGrown
 event_log group early p e =
@@ -82,7 +82,7 @@ event_log group early p e =
     let grown = step_grows group (Had p e) early p in
     grown.1 ∙ ap (λ (bytes : List ℕ). log ++ bytes) (sym (ap (drop (length log)) grown.1 ∙ drop_at log grown.0 (length log) refl))
 
--- behind a first part of that entry comes the rest of it, and then what follows
+-- after a first part of that entry comes the rest of it, and then what follows
 entry_grows : (group : GroupStart) (steps later early : List Step) (p n : ℕ) (e : Event) → steps ≡ later ++ (Had p e ∷ early) → IsGrown (log_of group steps p) (log_of group early p ++ take n (entry_bytes group early p e))
 unfolding IsGrown
 entry_grows group steps later early p n e is =
@@ -144,7 +144,7 @@ taken_at (suc many) (y ∷ xs) (suc k) x at = taken_at many xs k x at
 taken_fronts : (many : ℕ) (files whole : List (List ℕ × List ℕ)) → AreFronts files whole → AreFronts (take many files) whole
 taken_fronts many files whole fronts place n bytes at = fronts place n bytes (taken_at many files place (n, bytes) at)
 
--- with more files behind the whole ones
+-- with more files after the whole ones
 further_at : (whole more : List (List ℕ × List ℕ)) (k : ℕ) (x : List ℕ × List ℕ) → slice_get whole k ≡ Some x → slice_get (whole ++ more) k ≡ Some x
 further_at [] more k x at = cc
 further_at (y ∷ whole) more zero x at = at
@@ -154,7 +154,7 @@ pub fronts_of_more : (files whole more : List (List ℕ × List ℕ)) → AreFro
 fronts_of_more files whole more fronts place n bytes at =
     let f = fronts place n bytes at in (f.0, further_at whole more place (n, bytes ++ f.0) f.1)
 
--- behind the same files
+-- after the same files
 pub fronts_behind : (first files whole : List (List ℕ × List ℕ)) → AreFronts files whole → AreFronts (first ++ files) (first ++ whole)
 fronts_behind [] files whole fronts place n bytes at = fronts place n bytes at
 fronts_behind (file ∷ first) files whole fronts zero n bytes at = ([], at ∙ ap (a_file n) (sym (append-nil bytes)))
@@ -226,9 +226,9 @@ logs_apart lines q bytes apart i j d before within same =
     apart i j none before (omega (arith, inside, count))
     (sym (get_or-map (λ (line : ProcessLine). line.name) lines i none) ∙ names_same ∙ get_or-map (λ (line : ProcessLine). line.name) lines j none)
 
--- ---- images behind the logs
+-- ---- images after the logs
 
--- some files are made behind the others
+-- some files are made after the others
 pub with_more : (files more : List (List ℕ × List ℕ)) (told : Option Folder) → with_files (files ++ more) told ≡ with_files more (with_files files told)
 with_more [] more told = refl
 with_more (file ∷ files) more told = with_more files more (with_file file.0 file.1 told)

@@ -39,7 +39,7 @@ steps_in r = (run_in r).steps
 abbrev pub LeavesLogs : GroupStart → List Step → Folder → Type 0
 LeavesLogs group steps after = (p : ℕ) → p < size group → get after (log_name (name_of_process group p)) ≡ Some (log_of group steps p)
 
--- what may stand after the log of process p at a moment of a run with all these steps: nothing, or a first part of the
+-- what may be after the log of process p at a moment of a run with all these steps: nothing, or a first part of the
 -- entry of the process's next event, and not all of it
 pub data MayFollow (group : GroupStart) (all steps : List Step) (p : ℕ) (cut : List ℕ) : Type 0 where
   Nothing : cut ≡ [] → MayFollow group all steps p cut
@@ -62,7 +62,7 @@ pub record IsAtMoment (group : GroupStart) (all : List Step) (after : Folder) : 
   pub may_follow : (p : ℕ) → p < size group → MayFollow group all steps p (cut p)
   pub logs : LeavesCut group steps cut after
 
--- at each moment of the run the logs tell its events, also the log behind which the next entry stands in part. Each
+-- at each moment of the run the logs tell its events, also the log after which a part of the next entry stands. Each
 -- datagram that was taken came first in the mailbox, and from outside or by a send that an item delivered; what waits
 -- is taken, and so are the first of the random bytes
 pub record LogsAgree (group : GroupStart) (steps : List Step) : Type 0 where
@@ -73,7 +73,7 @@ pub record LogsAgree (group : GroupStart) (steps : List Step) : Type 0 where
   pub waiting : WaitingIsTaken group steps
   pub random : RandomIsDrawn group steps
 
--- so it is with each recording
+-- this holds of each recording
 abbrev pub RecordingsAgree : Type 0
 RecordingsAgree = (folder : Folder) (schedule_name : List ℕ) (r : IsRecordable folder schedule_name) → LogsAgree (group_in r) (steps_in r)
 

@@ -1,4 +1,4 @@
--- What `record` comes to, given the files.
+-- The outcome of `record`, given the files.
 use Rattle.std.specs.List.{slice_index_or}
 use Rattle.std.specs.Prelude.{ℕ, List, [], ◌∷◌, Bool, map, Result, Ok, Err}
 use Rattle.fri_outside.specs.Outside.{Folder}
@@ -38,7 +38,7 @@ abbrev pub states_or_bad_segment : Schedule → Result (List State) ℕ → Resu
 states_or_bad_segment schedule (Ok first) = Ok first
 states_or_bad_segment schedule (Err p) = Err (refuses_at_once (module_name schedule p) reason.BadSegment)
 
--- what the recording of a group comes to, whose processes begin so
+-- the outcome of the recording of a group whose processes begin so
 abbrev pub group_outcome : Bool → List ℕ → Schedule → Result (List State) ℕ → CommandOutcome
 group_outcome images schedule_name schedule states =
     and_then (states_or_bad_segment schedule states) (λ first.

@@ -26,7 +26,7 @@ items_line acted idle = codes "items: " ++ (decimal acted ++ (codes " acted, " +
 abbrev pub summary_text : List SummaryLine → ℕ → ℕ → List ℕ
 summary_text lines acted idle = flat_map process_line lines ++ items_line acted idle
 
--- the work of a run that was recorded whole: the logs, and behind them the images that were asked for
+-- the work of a run that was recorded whole: the logs, and after them the images that were asked for
 abbrev pub recorded_work : Bool → GroupStart → Progress → CommandWork
 recorded_work images group done = record {
   text = summary_text (summary_lines group done.steps 0 group.names) (length done.steps) done.idle;
@@ -42,6 +42,6 @@ abbrev pub outcome_by_room : Bool → List ℕ → GroupStart → Progress → O
 outcome_by_room images schedule_name group done None = Ok (recorded_work images group done)
 outcome_by_room images schedule_name group done (Some item) = Err (Refuses schedule_name (reason.LogFull item) (written_before group done))
 
--- what the run of a schedule comes to, whose file has this name
+-- the outcome of the run of a schedule whose file has this name
 abbrev pub run_outcome : Bool → List ℕ → GroupStart → Progress → CommandOutcome
 run_outcome images schedule_name group done = outcome_by_room images schedule_name group done done.full

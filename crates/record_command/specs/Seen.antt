@@ -1,4 +1,4 @@
--- What was gathered of the files, and what a recording that was not done comes to.
+-- What was gathered of the files, and the outcome of a recording that was not done.
 use Rattle.std.specs.Prelude.{◌≡◌, ℕ, List, Ok}
 use Rattle.fri_outside.specs.Outside.{Folder}
 use Rattle.wasm_types.specs.Modules.{Module}
@@ -16,7 +16,7 @@ pub record Gathers (folder : Folder) (schedule_name : List ℕ) (schedule : Sche
   pub spelled : schedule_in folder schedule_name ≡ Ok schedule
   pub found : modules_of folder schedule.processes ≡ Ok modules
 
--- what a recording that was not done comes to: the refusal of a module or of the schedule, a fault, or want of
+-- the outcome of a recording that was not done: the refusal of a module or of the schedule, a fault, or want of
 -- memory, which may also come in the place of a refusal
 abbrev pub RefusesAs : List ℕ → Schedule → RecordError → StopCause → Type 0
 RefusesAs schedule_name schedule (errors.BadSegment p) e = RefusesFile (module_name schedule p) reason.BadSegment e

@@ -2,7 +2,7 @@
 ghost use Rattle.record_command.specs.Agreement.{RecordingsAgree};
 ghost use Rattle.record_command.specs.Laws.{RecordingsRest, RecordingsStand, RecordingsWork};
 
-/// The logs of a recording tell its events at each moment, also where the next entry stands behind one in part. Each
+/// The logs of a recording tell its events at each moment, also where the next entry comes after one in part. Each
 /// datagram that was taken came from outside or is one that was sent; what waits is taken, and nothing twice.
 pub fn recordings_agree()
     ensures { RecordingsAgree }

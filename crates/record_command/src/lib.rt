@@ -1,9 +1,10 @@
 //! `record [--images] SCHEDULE`: runs a group as a schedule says, and makes the log of each process.
 //!
 //! `record` reads the schedule and the modules that it names, has `group_record` run them, and says what came of it.
-//! Contracts see what the files come to (`record_outcome` of `specs/Expected`): the text, the logs, the images, or the
+//! Contracts see the outcome over the files (`record_outcome` of `specs/Expected`): the text, the logs, the images, or the
 //! stop. Wherever a recording was stopped its logs are those of a moment of its run (`specs/Agreement`). The laws say that
-//! the logs agree with the run, and that valid files have work (`specs/Valid`).
+//! the logs agree with the run, and that valid files have work (`specs/Valid`). Inside is what was gathered of the files so
+//! far (`specs/Seen`).
 #![tactic(auto)]
 
 mod inputs;

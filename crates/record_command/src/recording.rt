@@ -31,7 +31,7 @@ fn refuse_module(alloc: Global, schedule: &Schedule, p: u32) -> StopCause
     }
 }
 
-// What a recording that was not done comes to.
+// The outcome of a recording that was not done.
 fn refusal_of(
     alloc: Global,
     schedule_file: &str,

@@ -55,7 +55,7 @@ more_images [] node r is = cc
 more_images (s ∷ start) zero r is = ap files_of (same_Some _ _ is)
 more_images (s ∷ start) (suc node) r is = ap (λ (files : List (List ℕ × List ℕ)). files_of s ++ files) (more_images start node r is)
 
--- those of a node stand behind those of the nodes before it
+-- those of a node stand after those of the nodes before it
 images_around : (start : List Replaying) (node : ℕ) (r : Replaying) → slice_get start node ≡ Some r → images_in start ≡ images_in (take node start) ++ (files_of r ++ images_in (drop (suc node) start))
 images_around [] node r is = cc
 images_around (s ∷ start) zero r is = ap (λ (s : Replaying). files_of s ++ images_in start) (same_Some _ _ is)

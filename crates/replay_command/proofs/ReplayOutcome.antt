@@ -1,4 +1,4 @@
--- What `replay` comes to, from what it read and made.
+-- The outcome of `replay`, from what it read and made.
 use Rattle.std.proofs.Common.{◌≡◌, ◌∙◌, Bool, List, Option, Some, option_map, Ok, Err, Result, ap, subst, sym}
 use Rattle.fri_outside.specs.Outside.{Folder, WhenTold}
 use Rattle.fri_outside.specs.Several.{with_files}
@@ -35,7 +35,7 @@ opened_works images pairs told start opens o is =
 
 -- ---- what is made
 
--- by their replays behind a slice, of the files as they were found
+-- by their replays in a slice, of the files as they were found
 pub images_made : (images : Bool) (slice start : List Replaying) (told mid after : Option Folder) → slice ≡ start → mid ≡ told → after ≡ with_files (images_if images slice) mid → after ≡ with_files (images_if images start) told
 images_made images slice start told mid after same kept made =
     made ∙ ap (with_files (images_if images slice)) kept ∙ ap (λ (rs : List Replaying). with_files (images_if images rs) told) same

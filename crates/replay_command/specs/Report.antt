@@ -69,7 +69,7 @@ images_in start = flat_map (λ r. image_files r.head.name (left_memory r) (left_
 abbrev pub images_if : Bool → List Replaying → List (List ℕ × List ℕ)
 images_if images start = if images then images_in start else []
 
--- the work of a replay of these logs: what is said of them all, behind the images that were asked for
+-- the work of a replay of these logs: what is said of them all, after the images that were asked for
 abbrev pub replay_work : Bool → List Replaying → CommandWork
 replay_work images start = record {
   text = report_text (map report_line start) (tally (group_count start) (all_accepted start));
@@ -77,6 +77,6 @@ replay_work images start = record {
   diverged = diverges (map report_line start);
 }
 
--- what `replay` comes to, given the files
+-- the outcome of `replay`, given the files
 abbrev pub replay_outcome : Bool → List Pair → Folder → CommandOutcome
 replay_outcome images pairs folder = and_then (replays_of_pairs folder pairs) (λ start. Ok (replay_work images start))

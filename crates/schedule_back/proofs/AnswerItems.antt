@@ -1,4 +1,4 @@
--- What the items in front of a try do to a group at rest: one of them brings what the answer takes, and one the signal.
+-- What the items before a try do to a group at rest: one of them brings what the answer takes, and one the signal.
 use Rattle.std.proofs.Common.{◌≡◌, ℕ, suc, ◌<◌, ◌^◌, Bool, true, false, ◌&&◌, not, cond, List, [], ◌∷◌, ◌++◌, length, take, Option, Some, None, refl, ap, sym, subst, ◌∙◌}
 use Rattle.std.specs.Prelude.{◌==◌}
 use Rattle.std.specs.Int.{w64, cast_signed, cast_unsigned}
@@ -23,7 +23,7 @@ use Rattle.schedule_back.proofs.WorldsAround.{AreQuiet, IsGiven, IsReady, given_
 abbrev pub at_rest : List Step → Progress
 at_rest steps = record { steps = steps; idle = 0; full = None }
 
--- these items, whatever follows them, come to these steps, and change no process and no log
+-- these items, whatever follows them, make these steps, and change no process and no log
 pub record Comes (group : GroupStart) (steps : List Step) (items : List Item) (after : List Step) : Type 0 where
   pub moves : (rest : List Item) (n : ℕ) → (m : ℕ) × (after_items group n (items ++ rest) (at_rest steps) ≡ after_items group m rest (at_rest after))
   pub states : (q : ℕ) → process_after group after q ≡ process_after group steps q
@@ -34,7 +34,7 @@ stays group steps = record { moves = λ rest n. (n, refl); states = λ q. refl; 
 
 -- ---- what the answer takes
 
--- the items of the world come to steps after which the answer has what it takes
+-- the items of the world make steps after which the answer has what it takes
 pub record IsPrepared (group : GroupStart) (count : ℕ) (steps : List Step) (p : ℕ) (e : Entry) (items : List Item) : Type 0 where
   pub after : List Step
   pub comes : Comes group steps items after
@@ -148,7 +148,7 @@ module _ (group : GroupStart) (count : ℕ) (steps : List Step) (p : ℕ) (e : E
 
 -- ---- the signal
 
--- the items in front of the try come to steps after which all is there that the event takes
+-- the items before the try make steps after which all that the event takes is there
 pub record AreReady (group : GroupStart) (count : ℕ) (steps : List Step) (p : ℕ) (e : Entry) : Type 0 where
   pub after : List Step
   pub comes : Comes group steps (world_items (kind_numbered e.call.kind) p e ++ signal_items p e) after

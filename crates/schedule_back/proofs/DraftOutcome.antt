@@ -1,4 +1,4 @@
--- What a draft of all events comes to.
+-- The outcome of a draft of all events.
 use Rattle.std.proofs.Common.{◌≡◌, ◌∙◌, ◌≤◌, ℕ, cond, List, length, Option, Some, None, Ok, Err, ap, sym, subst}
 use Rattle.std.specs.Prelude.{MatchResult, nat_le}
 use Rattle.std.specs.Option.{ok_or}

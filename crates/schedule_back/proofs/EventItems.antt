@@ -1,4 +1,4 @@
--- The items of an event come to that event, and to nothing else.
+-- The items of an event make that event, and nothing else.
 use Rattle.std.proofs.Common.{◌≡◌, ℕ, suc, ◌≤◌, ◌<◌, Bool, true, false, cond, List, [], ◌∷◌, ◌++◌, length, take, Option, Some, refl, ap, sym, subst, ◌∙◌, arith}
 use Rattle.std.specs.Prelude.{◌==◌, option_and_then, slice_get}
 use Rattle.std.proofs.lemmas.Bool.{le-leb}
@@ -27,7 +27,7 @@ use Rattle.schedule_back.proofs.NodeFronts.{of_more, take_more}
 use Rattle.schedule_back.proofs.AnswerItems.{AreReady, are_ready, at_rest, regroup}
 use Rattle.schedule_back.proofs.WorldsAround.{AreQuiet, env_around, quiet_after}
 
--- the run stands where the group of the logs stands after its first k events, and nothing waits anywhere
+-- the run is where the group of the logs comes after its first k events, and nothing waits anywhere
 pub record IsAt (start : List Replaying) (group : GroupStart) (k : ℕ) (steps : List Step) : Type 0 where
   pub states : (p : ℕ) → process_after group steps p ≡ slice_get (states start k) p
   pub logs : (p : ℕ) → entries steps p ≡ of_node p (take k (events start))
@@ -37,13 +37,13 @@ pub record IsAt (start : List Replaying) (group : GroupStart) (k : ℕ) (steps :
 abbrev pub HaveRoom : List Replaying → GroupStart → Type 0
 HaveRoom start group = (p : ℕ) → p < length start → (k : ℕ) → length (head_bytes (head_of_log group p) ++ encodings Two 0 (of_node p (take k (events start)))) ≤ most_log
 
--- these items, whatever follows them, come to these steps
+-- these items, whatever follows them, make these steps
 abbrev pub Moves : GroupStart → List Step → List Item → List Step → Type 0
 Moves group steps items after = (rest : List Item) (n : ℕ) → (m : ℕ) × (after_items group n (items ++ rest) (at_rest steps) ≡ after_items group m rest (at_rest after))
 
 -- ---- the try
 
--- a try of a thread that comes to this event, for which the log has room
+-- a try of a thread that makes this event, for which the log has room
 pub tried : (group : GroupStart) (steps : List Step) (p thread : ℕ) (e : Event) → event_of_try group steps p thread ≡ Some e → log_has_room group steps p e ≡ true
     → (rest : List Item) (n : ℕ) → after_items group n (item.Run p thread 1 ∷ rest) (at_rest steps) ≡ after_items group (suc n) rest (at_rest (Had p e ∷ steps))
 unfolding attempts

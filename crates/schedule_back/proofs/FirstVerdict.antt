@@ -9,7 +9,7 @@ use Rattle.guest_process.specs.declared.verdict.Verdict.{Verdict}
 use Rattle.group_state.specs.Report.{verdict_on}
 use Rattle.schedule_back.specs.Outcome.{first_not_whole, is_whole}
 
--- the logs in front of this place are whole
+-- the logs before this place are whole
 abbrev pub WholeUpTo : List Replaying → ℕ → Type 0
 WholeUpTo start n = (k : ℕ) (v : Verdict) → k < n → slice_get (map verdict_on start) k ≡ Some v → is_whole v ≡ true
 

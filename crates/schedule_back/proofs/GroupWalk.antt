@@ -35,7 +35,7 @@ bytes_more es e all one = All-from_recursion Brings (es ++ e ∷ []) (all_push B
 
 -- ---- the walk
 
--- the walk has come to a position, and this is the draft up to there
+-- the walk has reached a position, and this is the draft up to there
 pub record WalkedTo (first here : GroupPlace) (begun longer : Option (List ℕ)) : Type 0 where
   pub start : here.start ≡ first.start
   pub within : here.at ≤ length (events first.start)

@@ -23,7 +23,7 @@ module _ {A : Type 0} where
   element (x ∷ xs) zero within = (x, refl)
   element (x ∷ xs) (suc k) within = element xs k (omega (arith, within))
 
-  -- what stands in front of what is left
+  -- what is in front of what is left
   pub next_of : (xs : List A) (k : ℕ) (x : A) (ys : List A) → drop k xs ≡ x ∷ ys → (slice_get xs k ≡ Some x) × (drop (suc k) xs ≡ ys)
   next_of [] zero x ys is = absurd (cc)
   next_of [] (suc k) x ys is = absurd (cc)

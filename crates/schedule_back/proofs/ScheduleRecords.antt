@@ -95,7 +95,7 @@ module _ (exact : ExactLogs) (ordered : Ordered) (stepwise : Stepwise) (possible
 
   -- ---- all events
 
-  -- the run comes to the end of the events
+  -- the run reaches the end of the events
   record Ends (n k : ℕ) (steps : List Step) (es : List (NodeEvent Entry)) : Type 0 where
     after : List Step
     comes : after_items (back_group lines start) n (items_of_events es) (at_rest steps) ≡ at_rest after
@@ -127,7 +127,7 @@ module _ (exact : ExactLogs) (ordered : Ordered) (stepwise : Stepwise) (possible
       let rest = ends es first.0 (suc k) one.0 (next_of (events start) k e es left).1 one.2 in
       record { after = rest.after; comes = first.1 ∙ rest.comes; at = rest.at }
 
-  -- the run of the first events, however many, comes to steps after which nothing waits
+  -- the run of the first events, however many, makes steps after which nothing waits
   record IsFront (n : ℕ) (steps : List Step) (es : List (NodeEvent Entry)) : Type 0 where
     after : List Step
     comes : after_items (back_group lines start) n (items_of_events es) (at_rest steps) ≡ at_rest after

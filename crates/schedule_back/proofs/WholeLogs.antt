@@ -38,7 +38,7 @@ said_whole said.Whole is = refl
 said_whole (said.Left bytes) is = absurd (cc)
 said_whole (said.Diverged at why) is = absurd (cc)
 
--- of a whole log nothing is left behind the entries
+-- of a whole log nothing is left after the entries
 pub whole_rest : (r : Replaying) → verdict_on r ≡ said.Whole → rest_of r.left ≡ []
 whole_rest r whole = by_rest (reach r.state (entries_of r.left)).divergence (rest_of r.left) whole where
   by_rest : (d : Option Divergence) (rest : List ℕ) → verdict_of (record (reach r.state (entries_of r.left)) { divergence = d }) rest ≡ said.Whole → rest ≡ []

@@ -46,7 +46,7 @@ pub record NothingWaits (env : Env) : Type 0 where
   pub alive : env.killed ≡ false
 
 -- The text is that of the schedule, within the limits. In the run of the schedule no item is idle, no log is full, between
--- the events nothing waits around a process, and each process has exactly the entries of its log, behind which nothing is
+-- the events nothing waits around a process, and each process has exactly the entries of its log, after which nothing is
 -- left. So its log is that log written again in the version of recordings.
 pub record RecordsBack (lines : List ProcessLine) (start : List Replaying) (text : List ℕ) : Type 0 where
   pub spelled : text ≡ text_of (back lines start)
@@ -61,7 +61,7 @@ pub record RecordsBack (lines : List ProcessLine) (start : List Replaying) (text
   pub logs : (p : ℕ) (r : Replaying) → slice_get start p ≡ Some r
       → log_of (back_group lines start) (back_run lines start).steps p ≡ rewritten r.head (entries_of r.left)
 
--- so it is wherever such a schedule has a text
+-- this holds wherever such a schedule has a text
 abbrev pub Converse : Type 0
 Converse = (lines : List ProcessLine) (start : List Replaying) (text : List ℕ) → IsWholeGroup lines start → BringBytes (events start)
     → text_or_refusal lines start ≡ Ok text → RecordsBack lines start text

@@ -1,10 +1,10 @@
-// Why the logs of a group come to no schedule.
+// Why there is no schedule of the logs of a group.
 ghost use Rattle.std.specs.Prelude.{◌≡◌};
 ghost use Rattle.schedule_back.specs.declared.refusal.BackError.TheVariants as error;
 
 use std::alloc::AllocError;
 
-/// Why the logs of a group come to no schedule.
+/// Why there is no schedule of the logs of a group.
 #[derive(Clone, Copy, Debug, PartialEq, Eq)]
 pub enum BackError {
     /// The log of this process, the first such, has an entry that is not legal, or bytes after its entries.

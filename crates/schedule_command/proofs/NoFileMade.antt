@@ -1,4 +1,4 @@
--- What a command that makes no file did, from what its schedule came to.
+-- What a command that makes no file did, from the outcome of its schedule.
 use Rattle.std.proofs.Common.{◌≡◌, ◌∙◌, false, List, [], Option, option_map, Result, Ok, Err, IfErr, ap, refl, subst, sym, inl}
 use Rattle.std.specs.Prelude.{MatchResult}
 use Rattle.fri_outside.specs.Outside.{Counts, Folder, WhenTold}
@@ -19,7 +19,7 @@ use Rattle.schedule_command.specs.Seen.{IsMade}
 
 -- ---- what was read decides
 
--- pairs that were read to these replays come to what is made of these
+-- the outcome of pairs that were read to these replays is what is made of these
 pub record Opened (folder : Folder) (pairs : List Pair) (ls : List Loaded) (start : List Replaying) : Type 0 where
   pub rs : List Replaying
   pub loaded : loaded_pairs folder [] pairs ≡ Ok ls

@@ -1,4 +1,4 @@
--- Recording the schedule that was printed comes to work, whose logs are those of the replays.
+-- The outcome of recording the schedule that was printed is work, whose logs are those of the replays.
 use Rattle.std.proofs.Common.{◌≡◌, ◌∙◌, ◌+◌, ℕ, zero, suc, false, List, [], ◌∷◌, length, map, Option, Some, Result, Ok, append-nil, ap, arith, refl}
 use Rattle.std.specs.Prelude.{slice_get}
 use Rattle.std.specs.FinMap.{get}

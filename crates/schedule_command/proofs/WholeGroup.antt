@@ -33,7 +33,7 @@ use Rattle.schedule_command.proofs.ReadPairs.{AllApart, PairAt, one_name, one_pr
 
 -- ---- a log that was read
 
--- the file of a log: its bytes, and what stands at their front
+-- the file of a log: its bytes, and what is at their front
 pub record LogFile (folder : Folder) (name : List ℕ) (head : Head) (left : Unread) : Type 0 where
   pub bytes : List ℕ
   pub held : get folder name ≡ Some bytes
@@ -64,7 +64,7 @@ log_file_of exact folder name head left is =
 
 -- ---- the file of a process's module
 
--- the log of this process stands at this place
+-- the log of this process is at this place
 found_from : (k : ℕ) (ls : List Loaded) → AllApart ls → (i : ℕ) (l : Loaded) → slice_get ls i ≡ Some l → position_from (λ (m : Loaded). m.head.process == l.head.process) k ls ≡ Some (k + i)
 found_from k [] apart i l at = cc
 found_from k (m ∷ ls) apart zero l at =

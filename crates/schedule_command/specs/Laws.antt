@@ -27,14 +27,14 @@ pub record IsRecordedAgain (folder : Folder) (writes : List (List ℕ × List �
   pub rest : rest_of newer ≡ []
   pub same : head.version ≡ Two → get folder pair.log_name ≡ Some bytes
 
--- recording comes to work, which makes a log for each of the pairs and nothing else
+-- the outcome of recording is work, which makes a log for each of the pairs and nothing else
 pub record IsRecording (pairs : List Pair) (folder later : Folder) (schedule_name : List ℕ) : Type 0 where
   pub work : CommandWork
   pub is : record_outcome false schedule_name later ≡ Ok work
   pub count : length work.writes ≡ length pairs
   pub logs : All (IsRecordedAgain folder work.writes) pairs
 
--- wherever a file holds this text and the modules stand as they stood, recording it comes to the logs again
+-- wherever a file holds this text and the modules stand as they stood, recording it makes the logs again
 abbrev pub RecordsToLogs : List Pair → Folder → List ℕ → Type 0
 RecordsToLogs pairs folder text = (later : Folder) (schedule_name : List ℕ) → get later schedule_name ≡ Some text
     → All (λ pair. get later pair.module_name ≡ get folder pair.module_name) pairs → IsRecording pairs folder later schedule_name

@@ -1,4 +1,4 @@
--- What `schedule` comes to, given the files.
+-- The outcome of `schedule`, given the files.
 use Rattle.std.specs.Prelude.{ℕ, Bool, false, ◌==◌, if◌then◌else◌, List, [], ◌∷◌, length, map, Result, Ok, Err}
 use Rattle.fri_outside.specs.Outside.{Folder}
 use Rattle.command_run.specs.declared.refusal.Reason.TheVariants as reason

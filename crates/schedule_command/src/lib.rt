@@ -1,7 +1,7 @@
 //! `schedule MODULE LOG ..`: a schedule that records to the logs of a group.
 //!
 //! `schedule` reads the modules and logs (`log_pairs`), holds them to be those of all processes of one group, and prints the
-//! schedule (`schedule_back`). Contracts see what the files come to (`schedule_outcome` of `specs/Schedule`): the text, or the
+//! schedule (`schedule_back`). Contracts see the outcome over the files (`schedule_outcome` of `specs/Schedule`): the text, or the
 //! stop. What was printed records to these logs again, wherever a file holds it and the modules stand (`RecordsToLogs` of
 //! `specs/Laws`); the law `schedules_work` says which files have work.
 #![tactic(auto)]

@@ -25,7 +25,7 @@ skip (b ∷ line) n e =
       | inr other ↦ let none : n ≡ 0 = (e ∙ rw other refl) in rw none refl
     ]
 
--- the parts of a line: what stands before the first blank, and others
+-- the parts of a line: what comes before the first blank, and others
 record IsCut (line : List ℕ) : Type 0 where
   parts : List (List ℕ)
   cut : slice_split is_separator line ≡ take (position_or_len is_separator line) line ∷ parts

@@ -81,7 +81,7 @@ run_written processes p t rest process thread times is_process is_thread e =
       )
     ]
 
--- what is read behind `run` is written so and in range
+-- what is read after `run` is written so and in range
 run_takes : (processes : ℕ) (word : List ℕ) (fields : List (List ℕ)) (item : Item) → word ≡ codes "run" → run_item processes fields ≡ Some item → IsItemLine (word ∷ fields) item × IsInRange processes item
 run_takes processes word fields item is e =
     let h = run_parts processes fields item e in
@@ -89,7 +89,7 @@ run_takes processes word fields item is e =
     let line : codes "run" ∷ h.p ∷ h.t ∷ h.rest ≡ word ∷ fields = ap (λ (v : List ℕ). v ∷ h.p ∷ h.t ∷ h.rest) (sym is) ∙ ap (λ (fs : List (List ℕ)). word ∷ fs) (sym h.fields_are) in
     subst (λ (i : Item). IsItemLine (word ∷ fields) i × IsInRange processes i) h.item_is (subst (λ (fs : List (List ℕ)). IsItemLine fs (Run h.process h.thread h.times) × IsInRange processes (Run h.process h.thread h.times)) line w)
 
--- P and one more field, behind the word of an item
+-- P and one more field, after the word of an item
 record HasPair (processes : ℕ) (fields : List (List ℕ)) (pair : ℕ × List ℕ) : Type 0 where
   p : List ℕ
   fields_are : fields ≡ p ∷ pair.1 ∷ []
@@ -109,13 +109,13 @@ pair_parts processes fields pair e =
       process_is = process_takes processes p.0.0 process.0 process.1;
     })
 
--- they are written so behind the word
+-- they are written so after the word
 pair_takes : (name : List ℕ) (processes : ℕ) (word : List ℕ) (fields : List (List ℕ)) (pair : ℕ × List ℕ) (IsLast : List ℕ → Type 0) → word ≡ name → pair_in processes fields ≡ Some pair → IsLast pair.1 → IsPair name (word ∷ fields) pair.0 IsLast × (pair.0 < processes)
 pair_takes name processes word fields pair IsLast is e last =
     let h = pair_parts processes fields pair e in
     (subst (λ (fs : List (List ℕ)). IsPair name (word ∷ fs) pair.0 IsLast) (sym h.fields_are) (is, h.process_is.0, last), h.process_is.1)
 
--- what is read behind `deliver` is written so and in range
+-- what is read after `deliver` is written so and in range
 deliver_takes : (processes : ℕ) (word : List ℕ) (fields : List (List ℕ)) (item : Item) → word ≡ codes "deliver" → deliver_item processes fields ≡ Some item → IsItemLine (word ∷ fields) item × IsInRange processes item
 unfolding deliver_item
 deliver_takes processes word fields item is e =
@@ -126,7 +126,7 @@ deliver_takes processes word fields item is e =
     let line = pair_takes (codes "deliver") processes word fields pair.0 (λ n. IsNumber n number.0) is pair.1 written.0 in
     subst (λ (i : Item). IsItemLine (word ∷ fields) i × IsInRange processes i) item_is (line.0, (line.1, written.1, written.2))
 
--- what is read behind `clock` is written so and in range
+-- what is read after `clock` is written so and in range
 clock_takes : (processes : ℕ) (word : List ℕ) (fields : List (List ℕ)) (item : Item) → word ≡ codes "clock" → clock_item processes fields ≡ Some item → IsItemLine (word ∷ fields) item × IsInRange processes item
 unfolding clock_item
 clock_takes processes word fields item is e =
@@ -147,7 +147,7 @@ bytes_takes name processes word fields x is e =
     let line = pair_takes name processes word fields pair.0 (λ h. IsHex h bytes.0) is pair.1 bytes.1 in
     subst (λ (y : ℕ × List ℕ). IsPair name (word ∷ fields) y.0 (λ h. IsHex h y.1) × (y.0 < processes) × AreBytes y.1) same (line.0, line.1, hex_takes pair.0.1 bytes.0 bytes.1)
 
--- what is read behind `inject` is written so and in range
+-- what is read after `inject` is written so and in range
 inject_takes : (processes : ℕ) (word : List ℕ) (fields : List (List ℕ)) (item : Item) → word ≡ codes "inject" → inject_item processes fields ≡ Some item → IsItemLine (word ∷ fields) item × IsInRange processes item
 unfolding inject_item
 inject_takes processes word fields item is e =
@@ -155,7 +155,7 @@ inject_takes processes word fields item is e =
     let written = bytes_takes (codes "inject") processes word fields found.0 is found.1 in
     subst (λ (i : Item). IsItemLine (word ∷ fields) i × IsInRange processes i) found.2 (written.0, (written.1, written.2))
 
--- what is read behind `random` is written so and in range
+-- what is read after `random` is written so and in range
 random_takes : (processes : ℕ) (word : List ℕ) (fields : List (List ℕ)) (item : Item) → word ≡ codes "random" → random_item processes fields ≡ Some item → IsItemLine (word ∷ fields) item × IsInRange processes item
 unfolding random_item
 random_takes processes word fields item is e =
@@ -163,7 +163,7 @@ random_takes processes word fields item is e =
     let written = bytes_takes (codes "random") processes word fields found.0 is found.1 in
     subst (λ (i : Item). IsItemLine (word ∷ fields) i × IsInRange processes i) found.2 (written.0, (written.1, written.2))
 
--- what is read behind `signal` is written so and in range
+-- what is read after `signal` is written so and in range
 signal_takes : (processes : ℕ) (word : List ℕ) (fields : List (List ℕ)) (item : Item) → word ≡ codes "signal" → signal_item processes fields ≡ Some item → IsItemLine (word ∷ fields) item × IsInRange processes item
 unfolding signal_item
 signal_takes processes word fields item is e =
@@ -174,7 +174,7 @@ signal_takes processes word fields item is e =
     let line = pair_takes (codes "signal") processes word fields pair.0 (λ n. IsNumber n number.0) is pair.1 written.0 in
     subst (λ (i : Item). IsItemLine (word ∷ fields) i × IsInRange processes i) item_is (line.0, (line.1, written.1, written.2))
 
--- what is read behind `kill` is written so and in range
+-- what is read after `kill` is written so and in range
 kill_takes : (processes : ℕ) (word : List ℕ) (fields : List (List ℕ)) (item : Item) → word ≡ codes "kill" → kill_item processes fields ≡ Some item → IsItemLine (word ∷ fields) item × IsInRange processes item
 unfolding kill_item
 kill_takes processes word fields item is e =
@@ -235,7 +235,7 @@ run_line : (processes : ℕ) (word : List ℕ) (fields : List (List ℕ)) (item 
 unfolding item_by
 run_line processes word fields item is e = rw is e
 
--- the fields of P and one more, behind the word of an item
+-- the fields of P and one more, after the word of an item
 record WritesPair (name word : List ℕ) (fields : List (List ℕ)) (process : ℕ) (IsLast : List ℕ → Type 0) : Type 0 where
   p : List ℕ
   last : List ℕ
@@ -244,7 +244,7 @@ record WritesPair (name word : List ℕ) (fields : List (List ℕ)) (process : �
   process_is : IsNumber p process
   last_is : IsLast last
 
--- what is written behind the word
+-- what is written after the word
 writes_pair : (name word : List ℕ) (fields : List (List ℕ)) (process : ℕ) (IsLast : List ℕ → Type 0) → IsPair name (word ∷ fields) process IsLast → WritesPair name word fields process IsLast
 writes_pair name word [] process IsLast line = absurd line
 writes_pair name word (p ∷ []) process IsLast line = absurd line

@@ -48,7 +48,7 @@ all_keep (line ∷ lines) part end h e =
           all_keep lines next.0 end (step_keeps part (fields_of line) next.0 (kept_step part line next.0 here next.1) h) next.2
     ]
 
--- ---- lines behind the header
+-- ---- lines after the header
 
 -- the lines are process lines and then items, which come to what was there before
 record Adds (part : Part) (lines : List (List ℕ)) (end : Part) : Type 0 where
@@ -138,7 +138,7 @@ adds_step part _ end line lines kept begun (item i has is range) go =
       order = inr refl;
     }
 
--- what comes of lines behind the header is what they add
+-- what comes of lines after the header is what they add
 adds : (lines : List (List ℕ)) (part end : Part) → part.has_header ≡ true → lines_give part lines ≡ Some end → Adds part lines end
 adds [] part end begun e = adds_none part end (some_is part end e)
 adds (line ∷ lines) part end begun e =
@@ -151,7 +151,7 @@ adds (line ∷ lines) part end begun e =
 
 -- ---- all lines
 
--- behind the header, before the first process line
+-- after the header, before the first process line
 abbrev pub begin : Part
 begin = record { has_header = true; processes = []; items = [] }
 
@@ -285,7 +285,7 @@ process_lines_give all ps (q ∷ qs) (fields ∷ lines) e most good apart h =
     ap (λ (o : Option Part). o >>= λ next. fields_give next lines) (process_line_gives ps fields q (omega arith) (subst IsProcess at (good (length ps) q (omega arith))) new h.0)
     ∙ process_lines_give all (ps ++ q ∷ []) qs lines (e ∙ sym (append_assoc ps (q ∷ []) qs)) most good apart h.1
 
--- all items, behind those that have come
+-- all items, after those that have come
 item_lines_give : (ps : List ProcessLine) (is js : List Item) (lines : List (List (List ℕ))) → All (IsInRange (length ps)) js → AllZip IsItemLine lines js → fields_give (having ps is) lines ≡ Some (having ps (is ++ js))
 item_lines_give ps is [] [] range h = ap (λ (ls : List Item). Some (having ps ls)) (sym (append-nil is))
 item_lines_give ps is (j ∷ js) [] range h = absurd h

@@ -49,7 +49,7 @@ came_end number part =
 after_line : (part next : Part) (line : List ℕ) (lines : List (List ℕ)) → with_line part line ≡ Some next → lines_give part (line ∷ lines) ≡ lines_give next lines
 after_line part next line lines e = ap (λ (o : Option Part). o >>= λ p. lines_give p lines) e
 
--- what is said of the lines behind an allowed one is said of all
+-- what is said of the lines after an allowed one is said of all
 came_on : (number : ℕ) (part next : Part) (line : List ℕ) (lines : List (List ℕ)) (outcome : Result Schedule ScheduleRefusal) → with_line part line ≡ Some next → Came next lines (number + 1) outcome → Came part (line ∷ lines) number outcome
 came_on number part next line lines _ e (whole end gives some few) = whole end (after_line part next line lines e ∙ gives) some few
 came_on number part next line lines _ e (over end gives some many) = over end (after_line part next line lines e ∙ gives) some many
@@ -122,17 +122,17 @@ no_items : (items : List Item) → All (IsInRange 0) items → items ≡ []
 no_items [] range = refl
 no_items (i ∷ items) range = absurd (no_process i (range zero i (omega arith)))
 
--- a process line may stand behind the header
+-- a process line may follow the header
 process_after : lines_give (having [] []) (codes "process a a" ∷ []) ≡ Some (having (record { name = codes "a"; «module» = codes "a" } ∷ []) [])
 unfolding with_line with_fields with_process process_line_of
 process_after = refl
 
--- the header and a process line may stand at the front
+-- the header and a process line may be at the front
 all_after : lines_give nothing (codes "friday 1" ∷ codes "process a a" ∷ []) ≡ Some (having (record { name = codes "a"; «module» = codes "a" } ∷ []) [])
 unfolding with_line with_fields with_process process_line_of
 all_after = refl
 
--- lines that are allowed, and behind which these come to a process, begin a schedule
+-- lines that are allowed, and after which these come to a process, begin a schedule
 goes_on : (lines rest : List (List ℕ)) (mid end : Part) → lines_give nothing lines ≡ Some mid → lines_give mid rest ≡ Some end → 0 < length end.processes → BeginSchedule lines
 goes_on lines rest mid end e f some = record { rest = rest; whole = schedule_part end; spelled = lines_take (lines ++ rest) end some (after_lines lines rest nothing mid e ∙ f) }
 
@@ -333,7 +333,7 @@ pub read_begins : (bytes left : List ℕ) (part : Part) → left ≡ bytes → p
 unfolding schedule_of
 read_begins bytes left part same none = rw (same, none) refl
 
--- it goes on behind a line that is allowed
+-- it goes on after a line that is allowed
 pub read_on : (outcome : Result Schedule ScheduleRefusal) (left line after : List ℕ) (number : ℕ) (part next : Part) → outcome_of number part (lines_of left) ≡ outcome → lines_of left ≡ line ∷ lines_of after → with_line part line ≡ Some next → outcome_of (number + 1) next (lines_of after) ≡ outcome
 read_on outcome left line after number part next so_far taken allowed =
     sym (outcome_on number part next line (lines_of after) allowed) ∙ ap (outcome_of number part) (sym taken) ∙ so_far
@@ -343,7 +343,7 @@ pub read_bad : (outcome : Result Schedule ScheduleRefusal) (left line after : Li
 read_bad outcome left line after number part so_far taken refused =
     sym so_far ∙ ap (outcome_of number part) taken ∙ outcome_bad number part line (lines_of after) refused
 
--- it ends behind the last
+-- it ends after the last
 pub read_ends : (outcome : Result Schedule ScheduleRefusal) (left : List ℕ) (number : ℕ) (part : Part) → outcome_of number part (lines_of left) ≡ outcome → lines_of left ≡ [] → outcome ≡ whole_of number part
 read_ends outcome left number part so_far none =
     sym so_far ∙ ap (outcome_of number part) none ∙ outcome_end number part

@@ -68,7 +68,7 @@ kept-kept line lines h = rw (not_passed (fields_of line) h) refl
 abbrev pub IsNew : List ProcessLine → List ℕ → Type 0
 IsNew processes name = (k : ℕ) (d : ProcessLine) → k < length processes → (get_or processes k d).name ≢ name
 
--- a line with these fields is allowed behind `part`, and gives the part of the last argument
+-- a line with these fields is allowed after `part`, and gives the part of the last argument
 pub data Step (part : Part) (fields : List (List ℕ)) : Part → Type 0 where
   header : part.has_header ≡ false → IsHeader fields → Step part fields (record part { has_header = true })
   process : (line : ProcessLine) → part.has_header ≡ true → part.items ≡ [] → length part.processes < most_processes → IsProcessLine fields line → IsProcess line → IsNew part.processes line.name → Step part fields (record part { processes = part.processes ++ line ∷ [] })
@@ -156,7 +156,7 @@ pub record IsPart (part : Part) : Type 0 where
   pub names : AllPairs (λ a b. a.name ≢ b.name) part.processes
   pub items : All (IsInRange (length part.processes)) part.items
 
--- so it is before the first line
+-- this holds before the first line
 pub nothing_is : IsPart nothing
 nothing_is = record {
   before = λ _. refl;

@@ -79,7 +79,7 @@ joined_stays (field ∷ next ∷ fields) h =
     All-append Stays field (32 ∷ join_with_byte 32 (next ∷ fields)) first
     (All-cons Stays 32 (join_with_byte 32 (next ∷ fields)) (refl, refl) (joined_stays (next ∷ fields) (All-tail IsField field (next ∷ fields) h)))
 
--- what stands before a line feed is the first piece
+-- what comes before a line feed is the first piece
 piece_before : (line rest : List ℕ) → All Stays line → pieces_of (line ++ 10 ∷ rest) ≡ line ∷ pieces_of rest
 piece_before [] rest h = refl
 piece_before (b ∷ line) rest h =
@@ -93,7 +93,7 @@ last_stays (b ∷ line) h = (h (length (b ∷ line) - 1) 0 (omega arith)).1
 strip_none : (line : List ℕ) → All Stays line → strip_carriage_return line ≡ line
 strip_none line h = rw (last_stays line h) refl
 
--- so it is the first line
+-- this makes it the first line
 line_before : (line rest : List ℕ) → All Stays line → lines_of (line ++ 10 ∷ rest) ≡ line ∷ lines_of rest
 line_before line rest h =
     ap (map strip_carriage_return) (piece_before line rest h) ∙ ap (λ (l : List ℕ). l ∷ lines_of rest) (strip_none line h)
@@ -219,7 +219,7 @@ header_line =
     line_of_fields (codes "friday") (codes "1" ∷ []) (record { field = record { some = omega arith; visible = AllPass-from_list_all is_visible (codes "friday") refl }; no_comment = refl })
     (All-cons IsField (codes "1") [] version (All-nil IsField))
 
--- two fields behind the first
+-- two fields after the first
 two_fields : (a b : List ℕ) → IsField a → IsField b → All IsField (a ∷ b ∷ [])
 two_fields a b x y = All-cons IsField a (b ∷ []) x (All-cons IsField b [] y (All-nil IsField))
 
@@ -262,7 +262,7 @@ module _ (words : WordsReadBack) (hex : ExactHex) where
   abbrev IsWritten : Item → Type 0
   IsWritten i = IsItemLine (item_fields i) i × IsLine (item_fields i)
 
-  -- P and one more field behind the word
+  -- P and one more field after the word
   pair_line : (word : List ℕ) (process : ℕ) (last : List ℕ) → IsKeyword word → process < 2 ^ 64 → IsField last → IsLine (word ∷ decimal process ∷ last ∷ [])
   pair_line word process last key small field = line_of_fields word (decimal process ∷ last ∷ []) key (two_fields (decimal process) last (decimal_is process small) field)
 

@@ -39,12 +39,12 @@ pub passed : {A : Type 0} (b : Bool) (x : Option A) (y : A) → cond b None x �
 passed true x y e = absurd cc
 passed false x y e = (refl, e)
 
--- the first field that is found stands in front
+-- the first field that is found is in front
 pub field_takes : (fields : List (List ℕ)) (field : List ℕ) (rest : List (List ℕ)) → field_at fields ≡ Some (field, rest) → fields ≡ field ∷ rest
 field_takes [] field rest e = absurd cc
 field_takes (f ∷ fs) field rest e = let same : ◌≡◌ {A = List ℕ × List (List ℕ)} (f, fs) (field, rest) = cc in ap (λ (p : List ℕ × List (List ℕ)). p.0 ∷ p.1) same
 
--- the last field that is found stands alone
+-- the last field that is found is alone
 pub last_takes : (fields : List (List ℕ)) (field : List ℕ) → last_of fields ≡ Some field → fields ≡ field ∷ []
 last_takes [] field e = absurd cc
 last_takes (f ∷ []) field e = let same : f ≡ field = cc in ap (λ (g : List ℕ). g ∷ []) same

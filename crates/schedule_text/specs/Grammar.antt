@@ -16,7 +16,7 @@ use Rattle.schedule_text.specs.Schedule.{Schedule, IsWellFormed}
 abbrev pub IsNumber : List ℕ → ℕ → Type 0
 IsNumber word n = decimal_of word ≡ Some n
 
--- the same where one minus may stand in front
+-- the same where one minus may be in front
 abbrev pub IsSignedNumber : List ℕ → ℤ → Type 0
 IsSignedNumber word z = signed_of word ≡ Some z
 
@@ -87,7 +87,7 @@ pub record BeginSchedule (lines : List (List ℕ)) : Type 0 where
   pub spelled : AreLinesOf (lines ++ rest) whole
 
 -- Line n, counted from 1, is the first that isn't allowed at its place. Where each line is allowed but
--- the header or a process line is still to come, it is the line behind the last.
+-- the header or a process line is still to come, it is the line after the last.
 pub record IsFirstBad (lines : List (List ℕ)) (n : ℕ) : Type 0 where
   pub counted : 1 ≤ n
   pub within : n ≤ length lines + 1

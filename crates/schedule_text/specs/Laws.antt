@@ -38,6 +38,6 @@ NamesBadLine = (bytes : List ℕ) (n : ℕ) → (schedule_of bytes ≡ Err (BadL
 abbrev pub TextSpells : Type 0
 TextSpells = (s : Schedule) → IsWellFormed s → Spells (text_of s) s
 
--- so it is read back, where it has no more run items than the limit
+-- it is read back, where it has no more run items than the limit
 abbrev pub TextIsRead : Type 0
 TextIsRead = (s : Schedule) → IsSchedule s → schedule_of (text_of s) ≡ Ok s

@@ -38,7 +38,7 @@ number_up_to most word = result_ok (up_to most (decimal_of word))
 abbrev pub positive_of : ℕ → List ℕ → Option ℕ
 positive_of most word = number_up_to most word >>= λ n. if n == 0 then None else Some n
 
--- the number of a process, of which there are so many
+-- the number of a process, where there are so many
 abbrev pub process_number_of : ℕ → List ℕ → Option ℕ
 process_number_of processes word = if processes == 0 then None else number_up_to (processes - 1) word
 

@@ -1,4 +1,4 @@
--- Schedules as contracts see them, and the ranges of what stands in one.
+-- Schedules as contracts see them, and the ranges of what is in one.
 use Rattle.std.specs.Prelude.{◌≢◌, ℕ, ◌<◌, ◌≤◌, FitsSigned, Bool, ◌&&◌, not, nat_le, nat_eq, codes, sum_by, List, length, All, AllPairs, IsTrue}
 use Rattle.std.specs.Int.{is_in_range, w64}
 use Rattle.std.specs.List.{list_all, ends_with}

@@ -42,7 +42,7 @@ process_text line = line_text (process_fields line)
 abbrev pub item_text : Item → List ℕ
 item_text item = line_text (item_fields item)
 
--- the lines in front of the items: the first line, and a line for each process
+-- the lines before the items: the first line, and a line for each process
 abbrev pub head_text : List ProcessLine → List ℕ
 head_text lines = line_text header_fields ++ flat_map process_text lines
 

@@ -9,7 +9,7 @@ use thiserror::Error;
 #[derive(Clone, Copy, Debug, PartialEq, Eq, Error)]
 pub enum ScheduleError {
     /// The line with this number, counted from 1, is the first that isn't allowed at its place. Where
-    /// the header or a process line is still to come at the end, it is the line behind the last.
+    /// the header or a process line is still to come at the end, it is the line after the last.
     #[error("line {0} is not allowed here")]
     BadLine(u64),
     /// Each line is allowed, but the run items, repeats counted, are more than `MOST_RUNS`.

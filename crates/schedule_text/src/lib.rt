@@ -4,7 +4,7 @@
 //! before its end is dropped. Its fields are separated by spaces and tabs. A line with no field, or whose
 //! first field begins with `#`, is passed over. The others are, in this order:
 //!
-//! - the header `friday 1`, as it stands here;
+//! - the header `friday 1`, as it is here;
 //! - 1 to `MOST_PROCESSES` lines `process NAME MODULE`, with distinct names; the processes are numbered
 //!   from 0;
 //! - any number of items, each `run P T` (one try), `run P T N` (N tries), `deliver P N`, `inject P HEX`,

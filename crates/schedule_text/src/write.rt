@@ -22,8 +22,8 @@ pub fn write_schedule(alloc: Global, schedule: &Schedule) -> Result<Vec<u8>, All
     Ok(text.into_vec())
 }
 
-/// Adds the lines of a schedule in front of its items: the header, and a line for each process. After want of memory
-/// a part of them may stand at the end of the text.
+/// Adds the lines of a schedule before its items: the header, and a line for each process. After want of memory
+/// a part of them may be at the end of the text.
 pub fn push_head(text: &mut Text, processes: &[ProcessLine]) -> Result<(), AllocError>
     ensures { OnOk result (text.new ≡ text.old ++ head_text processes.now) }
 {
@@ -59,7 +59,7 @@ fn push_items(alloc: Global, text: &mut Text, items: &[Item]) -> Result<(), Allo
     Ok(())
 }
 
-/// Adds the line of an item. After want of memory a part of it may stand at the end of the text.
+/// Adds the line of an item. After want of memory a part of it may be at the end of the text.
 pub fn push_item(alloc: Global, text: &mut Text, item: &Item) -> Result<(), AllocError>
     ensures { OnOk result (text.new ≡ text.old ++ item_text item.now) }
 {

@@ -23,7 +23,7 @@ drop_front front rest k here = subst (λ (n : ℕ). drop n (front ++ rest) ≡ r
 abbrev pub Value : Tokens → (Expression → LineCommand) → Tokens → LineCommand → Type 0
 Value names command ts c = (x : Expression) × IsExpr names ts x × (command x ≡ c)
 
--- so many of the tokens begin some expression behind those before, and no more do
+-- so many of the tokens begin some expression after those before, and no more do
 record Takes (names before ts : Tokens) (n : ℕ) : Type 0 where
   within : n ≤ length ts
   begins : BeginsExpr names (before ++ take n ts)

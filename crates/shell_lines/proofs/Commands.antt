@@ -168,7 +168,7 @@ module _ (names : Tokens) where
       by true star = let never : ◌≡◌ {A = Bool} false true = sym (ap is_word (same_bytes text (codes "*") star)) ∙ e in absurd cc
       by false star = ap (λ (o : Option (Option ℕ)). option_map At o) (node_again text e)
 
--- ---- what stands behind a verb
+-- ---- what follows a verb
 
 abbrev Behind : Tokens → Verb → Tokens → LineCommand → Type 0
 Behind names verb.Goto = Then (number_from 0 most_number) (λ k. Ends (Goto k))

@@ -1,4 +1,4 @@
--- Lines that are silent, by their first byte behind blanks.
+-- Lines that are silent, by their first byte after blanks.
 use Rattle.std.proofs.Common.{◌≡◌, ℕ, Bool, true, false, not, cond, nat_eq, List, [], ◌∷◌, Option, Some, None, refl, ap}
 use Rattle.std.specs.List.{find}
 use Rattle.watch_expr.specs.Lexing.{is_blank}

@@ -15,7 +15,7 @@ abbrev pub Ends : LineCommand → Tokens → LineCommand → Type 0
 Ends command [] c = command ≡ c
 Ends command (t ∷ ts) c = ⊥
 
--- one with a meaning, and behind it those that the meaning asks for
+-- one with a meaning, and after it those that the meaning asks for
 abbrev pub Then : {A : Type 0} → (List ℕ → Option A) → (A → Tokens → LineCommand → Type 0) → Tokens → LineCommand → Type 0
 Then meaning next [] c = ⊥
 Then {A} meaning next (t ∷ ts) c = (a : A) × (meaning t ≡ Some a) × next a ts c
@@ -28,7 +28,7 @@ pub record Stop (R : Tokens → LineCommand → Type 0) (ts : Tokens) (n : ℕ) 
   pub begins : R (take n ts ++ more) whole
   pub longest : n < length ts → (more : Tokens) (c : LineCommand) → R (take (suc n) ts ++ more) c → ⊥
 
--- what f reads behind so many tokens
+-- what f reads after so many tokens
 pub record Form (k : ℕ) (f : Tokens → Result LineCommand ℕ) (R : Tokens → LineCommand → Type 0) : Type 0 where
   pub spells : (front rest : Tokens) (c : LineCommand) → length front ≡ k → f (front ++ rest) ≡ Ok c → R rest c
   pub reads : (front rest : Tokens) (c : LineCommand) → length front ≡ k → R rest c → f (front ++ rest) ≡ Ok c
@@ -135,7 +135,7 @@ module _ (A : Type 0) (meaning : List ℕ → Option A) (next : A → Tokens →
         longest = λ lt more c r. let never : ◌≡◌ {A = Option A} (Some r.0) None = sym r.1 ∙ means in cc;
       }
 
-      -- one that has its meaning, and those behind it stop
+      -- one that has its meaning, and those after it stop
       stops_behind : (t : List ℕ) (rest : Tokens) (b : A) (m : ℕ) → meaning t ≡ Some b → Stop (R b) rest m → Stop (Then meaning R) (t ∷ rest) (suc m)
       stops_behind t rest b m means s = record {
         within = omega (arith, s.within);

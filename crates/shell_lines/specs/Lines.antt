@@ -165,7 +165,7 @@ command_spelled names texts = then_takes (token_at verb_of texts 0) (command_of_
 
 -- ---- what is wrong with a command that is of the grammar
 
--- an aggregate stands in an aggregate
+-- an aggregate is in an aggregate
 abbrev pub has_nested : LineCommand → Bool
 has_nested (Print x) = is_nested x
 has_nested (Watch x) = is_nested x

@@ -26,7 +26,7 @@ without_end_blanks (b ∷ bytes) = if list_all is_blank (b ∷ bytes) then [] el
 abbrev pub trimmed : List ℕ → List ℕ
 trimmed line = without_end_blanks (without_front_blanks line)
 
--- a line of blanks, or one whose first byte behind blanks is `#`
+-- a line of blanks, or one whose first byte after blanks is `#`
 abbrev pub is_silent : List ℕ → Bool
 is_silent [] = true
 is_silent (b ∷ bytes) = if is_blank b then is_silent bytes else b == 35

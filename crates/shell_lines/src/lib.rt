@@ -2,8 +2,8 @@
 //!
 //! That depends on its bytes and on the names of the processes alone, and is one definition, `line_meaning` of
 //! `specs/Meaning`; `read_line` gives it, or wants memory. Contracts see a command as a `LineCommand` of `specs/Lines`,
-//! in which a node is a number, or none where no process has the name. Which tokens are which command says
-//! `specs/Grammar`, and the law `exact_commands` ties it to `command_spelled`, which computes. What a command does stands
+//! in which a node is a number, or none where no process has the name. `specs/Grammar` says which tokens are which
+//! command, and the law `exact_commands` ties it to `command_spelled`, which computes. What a command does is said
 //! in friday_shell.
 #![tactic(auto)]
 

@@ -59,7 +59,7 @@ fn spelled(alloc: Global, bytes: &[u8], names: &[Bytes]) -> Result<DebuggerComma
     read_command(alloc, &tokens, names)
 }
 
-// A line of blanks, or one whose first byte behind blanks is `#`.
+// A line of blanks, or one whose first byte after blanks is `#`.
 fn is_silent(bytes: &[u8]) -> bool
     ensures { result ≡ is_silent bytes.now }
 {
@@ -69,14 +69,14 @@ fn is_silent(bytes: &[u8]) -> bool
     }
 }
 
-// The first byte behind blanks.
+// The first byte after blanks.
 fn front(bytes: &[u8]) -> Option<u8>
     ensures { result ≡ find (λ b. not (is_blank b)) bytes.now }
 {
     bytes.iter().copied().find(|b| !is_blank(*b))
 }
 
-// Whether an aggregate stands in an aggregate.
+// Whether an aggregate is in an aggregate.
 fn has_nested(spelled: &DebuggerCommand) -> bool
     ensures { result ≡ has_nested (command spelled.now) }
 {

@@ -1,4 +1,4 @@
-// What single tokens of a command are, and the expression behind its verb.
+// What single tokens of a command are, and the expression after its verb.
 ghost use Rattle.std.specs.Prelude.{◌≡◌, ◌<◌, ◌^◌, bytes_eq, length, option_map, position};
 ghost use Rattle.call_table.specs.Table.{kind_named};
 ghost use Rattle.shell_lines.specs.Lines.{count_or, ends_at, expression_from, node_named, number_from, scope_named, token_at, variable_at};
@@ -27,7 +27,7 @@ pub(crate) fn read_number(
     }
 }
 
-/// The count behind the verb, where there is one.
+/// The count after the verb, where there is one.
 pub(crate) fn read_count(
     tokens: &Tokens<'_>,
     least: u64,
@@ -101,7 +101,7 @@ fn place_of(text: &[u8], names: &[Bytes]) -> Option<u32>
     Some(place as u32)
 }
 
-/// The variable that token n and the one behind it name: a dollar and a word.
+/// The variable that token n and the one after it name: a dollar and a word.
 pub(crate) fn read_variable(
     alloc: Global,
     tokens: &Tokens<'_>,

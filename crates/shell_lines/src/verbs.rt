@@ -1,4 +1,4 @@
-// Which command the tokens of a line spell: the verb in front, and what stands behind each verb.
+// Which command the tokens of a line spell: the verb first, and what follows each verb.
 ghost use Rattle.std.specs.Prelude.{◌≡◌, ◌<◌, ◌^◌, length};
 ghost use Rattle.shell_lines.specs.Lines.{command_of_verb, command_spelled, token_at, verb_of};
 ghost use Rattle.shell_lines.specs.declared.command.Verb.TheVariants as verb;

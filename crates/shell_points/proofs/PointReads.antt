@@ -256,7 +256,7 @@ ticked_from_start start xs at new before old now here so_far counts =
     let more : ticks start xs 0 (suc at) ≡ ticks start xs 0 at + count_by (is_met start (suc at)) xs = ap (λ (k : ℕ). ticks start xs 0 at + count_by (is_met start k) xs) there in
     omega (arith, so_far, counts, met, all, more)
 
--- what was read is what was read just before where the group now stands
+-- what was read is what was read just before where the group now is
 pub read_before : (start : List Replaying) (at : ℕ) (ps : List Point) (w : Watching) (new : GroupPlace) → new ≡ place_at start (suc at) → IsWatching start at ps w → IsWatching new.start (new.at - 1) ps w
 read_before start at ps w new here read =
     let one : at ≡ suc at - 1 = omega arith in

@@ -31,8 +31,8 @@ pub record IsNextDue (start : List Replaying) (points : List Point) (at k : ℕ)
 abbrev pub NoneAfter : List Replaying → List Point → ℕ → Type 0
 NoneAfter start points at = (m : ℕ) → at < m → m ≤ length (events start) → has_due start points m ≡ false
 
--- From this position a walk over points without programs comes to the first at which some point fires, and says what all
--- say that fire there; or it comes to the last one.
+-- From this position a walk over points without programs goes to the first at which some point fires, and says what all
+-- say that fire there; or it goes to the last one.
 pub data IsContinued (start : List Replaying) (points : List Point) (at : ℕ) : ℕ → List ℕ → Type 0 where
   stops : (k : ℕ) → IsNextDue start points at k → IsContinued start points at k (firing_lines start points k)
   ends : NoneAfter start points at → IsContinued start points at (length (events start)) (codes "end\n")
@@ -41,9 +41,9 @@ pub record ExactFiring : Type 0 where
   -- a watchpoint fires where its value at two neighbouring positions is not the same
   pub changes : (start : List Replaying) (x : Expression) (k : ℕ)
       → (fires start x (suc k) ≡ true) ↔ (value_at_position start x k ≡ value_at_position start x (suc k) → ⊥)
-  -- where `rcontinue` comes to
+  -- where `rcontinue` goes
   pub last : (start : List Replaying) (points : List Point) (at k : ℕ) → (last_due start points at ≡ Some k) ↔ IsLastDue start points at k
   pub none_below : (start : List Replaying) (points : List Point) (at : ℕ) → (last_due start points at ≡ None) ↔ NoneBelow start points at
-  -- where `continue` comes to, over points without programs
+  -- where `continue` goes, over points without programs
   pub next : (place : GroupPlace) (points : List Point) (variables : List Variable) (k : ℕ) (text : List ℕ) → place.at ≤ length (events place.start)
       → All (λ p. p.program ≡ None) points → (walk_from place points variables ≡ walk_ended k variables text) ↔ IsContinued place.start points place.at k text

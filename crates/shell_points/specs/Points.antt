@@ -27,7 +27,7 @@ has_point points n = list_any (λ p. p.number == n) points
 abbrev pub without_point : List Point → ℕ → List Point
 without_point points n = filter (λ p. not (p.number == n)) points
 
--- where the point with this number stands among those that are held
+-- where the point with this number is among those that are held
 abbrev pub place_of_point : List Point → ℕ → Option ℕ
 place_of_point points n = position (λ p. p.number == n) points
 

@@ -1,4 +1,4 @@
--- Where `rcontinue` comes to, and what it says.
+-- Where `rcontinue` goes, and what it says.
 use Rattle.std.specs.Prelude.{ℕ, zero, suc, List, codes, Option, Some, None, if◌then◌else◌}
 use Rattle.proc_replay.specs.Replaying.{Replaying}
 use Rattle.group_state.specs.Place.{GroupPlace}

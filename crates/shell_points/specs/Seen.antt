@@ -31,13 +31,13 @@ run_so_far t = record { variables = t.variables; text = t.text; stopped = t.stop
 abbrev pub return_of : Ended → Return
 return_of r = record { at = r.at; text = r.text }
 
--- a walk from a place came to where it comes
+-- a walk from a place ended where it ends
 pub record Walks (old : GroupPlace) (points : List Point) (before : List Variable) (new : GroupPlace) (after : List Variable) (text : List ℕ) : Type 0 where
   pub place : new ≡ place_at old.start (walk_from old points before).at
   pub variables : after ≡ (walk_from old points before).variables
   pub text_is : text ≡ (walk_from old points before).text ++ position_line new
 
--- a walk back from a place came to where it comes
+-- a walk back from a place ended where it ends
 pub record Returns (old : GroupPlace) (points : List Point) (new : GroupPlace) (text : List ℕ) : Type 0 where
   pub place : new ≡ place_at old.start (return_from old points).at
   pub text_is : text ≡ (return_from old points).text ++ position_line new

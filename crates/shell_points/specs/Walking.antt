@@ -1,4 +1,4 @@
--- What points do where they fire, and where `continue` comes to.
+-- What points do where they fire, and where `continue` goes.
 use Rattle.std.specs.Prelude.{ℕ, zero, suc, ◌-◌, nat_le, Bool, true, false, ◌||◌, List, [], ◌∷◌, ◌++◌, length, codes, count_by, Option, Some, None, if◌then◌else◌}
 use Rattle.fri_text.specs.Line.{is_line_feed}
 use Rattle.proc_replay.specs.Replaying.{Replaying}
@@ -65,7 +65,7 @@ walk_on rest at said r =
 abbrev pub quiet : List Variable → ProgramState
 quiet variables = record { variables = variables; text = []; stopped = false }
 
--- the walk over so many positions behind this one, which has said this
+-- the walk over so many positions after this one, which has said this
 abbrev pub walk_over : List Replaying → List Point → ℕ → ℕ → List Variable → List ℕ → Walk
 walk_over start points at zero variables said = walk_ended at variables (said ++ codes "end\n")
 walk_over start points at (suc left) variables said =

@@ -29,7 +29,7 @@ is_break_by (Break of_node kind) = true
 abbrev pub is_break : Point → Bool
 is_break p = is_break_by p.trigger
 
--- a watchpoint has the next of the values, and the points behind it have the rest
+-- a watchpoint has the next of the values, and the points after it have the rest
 abbrev pub dealt : Trigger → (List Watched → List (Option ℤ)) → List Watched → List (Option ℤ)
 dealt (Watch x) rest [] = None ∷ rest []
 dealt (Watch x) rest (w ∷ watches) = w.value ∷ rest watches

@@ -20,14 +20,14 @@ use std::alloc::{AllocError, Global};
 use std::sync::ledger::Ledger;
 use watch_expr::Steps;
 
-/// Where a walk back ends, and what it says in front of the position.
+/// Where a walk back ends, and what it says before the line of the position.
 #[derive(Drop)]
 pub(crate) struct Return {
     at: u64,
     text: Text,
 }
 
-/// Goes to the last position in front of this one at which a point fires, or else to position 0.
+/// Goes to the last position before this one at which a point fires, or else to position 0.
 pub(crate) fn walk_back<'m, 'a, L: Ledger>(
     alloc: Global,
     group: Group<'m, 'a>,
@@ -46,7 +46,7 @@ pub(crate) fn walk_back<'m, 'a, L: Ledger>(
     Ok((group, text))
 }
 
-// Where points fire last among so many positions behind position 0, at which the group stands. What they said before that
+// Where points fire last among so many positions after position 0, at which the group is. What they said before that
 // is not kept.
 fn last_firing<'m, 'a, L: Ledger>(
     alloc: Global,
@@ -88,7 +88,7 @@ fn later(last: Return, at: u64, text: Text) -> Return
     }
 }
 
-// What all points say that fire where the group stands, by what they read now, and what they read at the position before,
+// What all points say that fire where the group is, by what they read now, and what they read at the position before,
 // where some point may fire.
 fn text_here(
     alloc: Global,
@@ -129,7 +129,7 @@ fn said_here(
     Ok(text)
 }
 
-// What a point says, if it fires where the group stands.
+// What a point says, if it fires where the group is.
 fn push_said(
     text: &mut Text,
     point: &Point,

@@ -34,7 +34,7 @@ fn is_of(node: Option<u32>, kind: Kind, event: &GroupEvent<'_>) -> bool
     of_node && event.entry.call.kind == kind.number()
 }
 
-/// Whether a point fires where the group stands.
+/// Whether a point fires where the group is.
 pub(crate) fn is_due(
     trigger: &Trigger,
     before: Option<i64>,

@@ -119,7 +119,7 @@ impl Points {
         list(alloc, &self.held)
     }
 
-    /// Goes to the first position behind this one at which a point asks to stop or enough was said, or to the last.
+    /// Goes to the first position after this one at which a point asks to stop or enough was said, or to the last.
     /// Each watchpoint is evaluated once where the walk begins, which the counter does not count, and then where an event
     /// touched something that it reads.
     pub fn walk<'m, 'a, L: Ledger>(
@@ -135,7 +135,7 @@ impl Points {
         walk(alloc, group, &self.held, variables, steps)
     }
 
-    /// Goes to the last position in front of this one at which a point fires, and says what all say that fire there, or
+    /// Goes to the last position before this one at which a point fires, and says what all say that fire there, or
     /// else goes to position 0. No program runs. Watchpoints are evaluated at position 0, which the counter does not count,
     /// and then where an event touched something that they read.
     pub fn walk_back<'m, 'a, L: Ledger>(

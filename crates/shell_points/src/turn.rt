@@ -26,7 +26,7 @@ pub(crate) struct Turn {
     pub(crate) stops: bool,
 }
 
-/// What all points do where the group stands, by what they read now, and what they read at the position before, where some
+/// What all points do where the group is, by what they read now, and what they read at the position before, where some
 /// point may fire.
 pub(crate) fn turn_here(
     alloc: Global,
@@ -80,7 +80,7 @@ fn treat_all(
     Ok(turn)
 }
 
-// What a point does where the group stands, if it fires there.
+// What a point does where the group is, if it fires there.
 fn treat(
     alloc: Global,
     point: &Point,

@@ -21,7 +21,7 @@ use watch_expr::Steps;
 // A walk that has said so many lines pauses.
 const MOST_LINES: usize = 10_000;
 
-/// Where a walk came to, what it made of the variables, and what it said.
+/// Where a walk ended, what it made of the variables, and what it said.
 #[derive(Drop)]
 pub struct WalkEnd<'m, 'a> {
     pub group: Group<'m, 'a>,
@@ -29,7 +29,7 @@ pub struct WalkEnd<'m, 'a> {
     pub text: Text,
 }
 
-/// Goes to the first position behind this one at which a point asks to stop or enough was said, or to the last.
+/// Goes to the first position after this one at which a point asks to stop or enough was said, or to the last.
 pub(crate) fn walk<'m, 'a, L: Ledger>(
     alloc: Global,
     group: Group<'m, 'a>,

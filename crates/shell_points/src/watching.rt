@@ -27,7 +27,7 @@ pub(crate) struct Watching {
 }
 
 impl Watching {
-    /// What the points read where the group stands.
+    /// What the points read where the group is.
     pub(crate) fn begin(
         alloc: Global,
         points: &[Point],
@@ -44,7 +44,7 @@ impl Watching {
         })
     }
 
-    /// The same after the next event, where the group now stands; and what they read before it, where some point may fire.
+    /// The same after the next event, where the group now is; and what they read before it, where some point may fire.
     pub(crate) fn after_event<L: Ledger>(
         self,
         alloc: Global,
@@ -83,7 +83,7 @@ impl Watching {
     }
 }
 
-// A watch of each watchpoint, of what it reads where the group stands. These evaluations have a counter of their own.
+// A watch of each watchpoint, of what it reads where the group is. These evaluations have a counter of their own.
 fn watch_all<L: Ledger>(
     alloc: Global,
     blank: Blank,
@@ -144,7 +144,7 @@ fn values_by(
     Ok(values)
 }
 
-// What a point reads, where the next watch is this one, and which watch is the next behind it.
+// What a point reads, where the next watch is this one, and which watch is the next after it.
 fn value_by(point: &Point, watches: &Watches, n: usize) -> (Option<i64>, usize)
     requires fits { length watches.now < 2 ^ 64 }
     requires room { n + length (expressions_of (seen point.now)) ≤ length watches.now }

@@ -3,7 +3,7 @@
 //!
 //! Contracts see `Handlers` and `Pending` as lists by the signal's number, in which the place of 0 stays empty
 //! (`specs/Signals`). Each call gives the exact list after it, and says that no other signal changes. When a signal is
-//! delivered, and what its handler does, stands in `guest_process`. Nothing here takes memory.
+//! delivered, and what its handler does, is said in `guest_process`. Nothing here takes memory.
 #![tactic(auto)]
 
 mod handlers;

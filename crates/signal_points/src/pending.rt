@@ -4,7 +4,7 @@ ghost use Rattle.signal_points.specs.Signals.{any_pending, is_pending_in, most_s
 
 use std::marker::Model;
 
-/// A set of signals, from 1 to 31. Whether there is any in it is kept beside them, since it is asked at each event.
+/// A set of signals, from 1 to 31. Whether there is any in it is kept with them, since it is asked at each event.
 #[derive(Clone, Copy, Debug)]
 pub struct Pending {
     signals: [bool; 32],

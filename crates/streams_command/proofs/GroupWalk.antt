@@ -33,7 +33,7 @@ count_states node (r ∷ rs) es = ap suc (count_states (suc node) rs es)
 
 -- ---- the walk
 
--- the walk of these logs has come to a position, and what was sent and taken up to there was told
+-- the walk of these logs has reached a position, and what was sent and taken up to there was told
 pub record WalkedTo (start : List Replaying) (here : GroupPlace) (t : Told) : Type 0 where
   pub same : here.start ≡ start
   pub told : IsToldOf t (traffic_of_events start (take here.at (events start)))
@@ -50,7 +50,7 @@ all_walked start old new told so_far moves =
     let none : None ≡ slice_get (events start) old.at = moves.gives ∙ ap (λ (s : List Replaying). slice_get (events s) old.at) so_far.same in
     subst (λ (es : List (NodeEvent Entry)). IsToldOf told (traffic_of_events start es)) (take_all old.at (events start) (past (events start) old.at none)) so_far.told
 
--- the event behind the position: its node is there, its send was not told, and it can be counted
+-- the event after the position: its node is there, its send was not told, and it can be counted
 pub record IsNext (start : List Replaying) (old new : GroupPlace) (event : GroupEvent) (t : Told) : Type 0 where
   pub at : slice_get (events start) old.at ≡ Some (event_of event)
   pub new_at : new.at ≡ old.at + 1

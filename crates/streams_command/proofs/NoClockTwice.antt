@@ -73,7 +73,7 @@ unsent_in start e (f ∷ es) apart =
     (all_append (λ t. is_send_at (process_at start e.node) e.entry.clock t ≡ false) (traffic_of_events start es) (traffic_at start f) (unsent_in start e es apart.1)
     (unsent_by start e f (is_sent (group_count start) f.entry) (is_taken f.entry) apart.0))
 
--- the event behind the first k of them
+-- the event after the first k of them
 pub unsent : (start : List Replaying) (es : List (NodeEvent Entry)) (k : ℕ) (e : NodeEvent Entry) → Ascends start → e.node < length start → IsSorted entry_clock es → slice_get es k ≡ Some e
     → IsUnsent (process_at start e.node) e.entry.clock (traffic_of_events start (take k es))
 unsent start es k e up within sorted at = unsent_in start e (take k es) (all_apart start es k e up within sorted at)

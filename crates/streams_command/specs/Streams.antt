@@ -1,4 +1,4 @@
--- What `streams` comes to, given the files.
+-- The outcome of `streams`, given the files.
 use Rattle.std.specs.Prelude.{ℕ, ◌+◌, Bool, true, false, List, [], ◌∷◌, ◌++◌, length, map, reverse, decimal, codes, Option, Some, None, Ok}
 use Rattle.std.specs.FinMap as map
 use Rattle.std.specs.List.{flat_map, slice_index_or}

@@ -9,7 +9,7 @@ use byte_streams::StreamLine;
 use fri_text::Text;
 use std::alloc::{AllocError, Global};
 
-// A number, and what stands behind it.
+// A number, and what follows it.
 fn push_number(text: &mut Text, number: u64, behind: &str) -> Result<(), AllocError>
     ensures { OnOk result (text.new ≡ text.old ++ (decimal number ++ behind.now)) }
 {

@@ -73,7 +73,7 @@ has_all images r old middle rec (p ∷ ps) below = (record { «module» = rec.mo
 
 -- ---- the second call
 
--- a call of which this is expected came to it
+-- a call from which this is expected has this outcome
 came_to : (command : Option Command) (outcome : CommandOutcome) (folder : Folder) (printed : Option (List ℕ)) (middle new : Outside) (answer : Status) → CommandRun command middle new answer
     → expected command middle.told middle.hearing.left ≡ Some outcome → middle.told ≡ Some folder → middle.taken ≡ printed → IsAnswerStatus answer → CameTo outcome folder printed new answer
 came_to command outcome folder printed middle new answer run known told said answers = record {

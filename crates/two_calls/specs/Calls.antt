@@ -1,4 +1,4 @@
--- Two calls of `friday`, of which the first records and the second shows what was recorded.
+-- Two calls of `friday`: the first records, and the second shows what was recorded.
 use Rattle.std.specs.Prelude.{◌≡◌, ◌++◌, ℕ, Bool, List, Option, Some, None, Ok}
 use Rattle.std.specs.Io.KnownBytes.{append_known}
 use Rattle.fri_outside.specs.Outside.{Folder, WhenTold}
@@ -17,7 +17,7 @@ use Rattle.friday_app.specs.Command.{Command, Debug, Record, Replay}
 use Rattle.headline.specs.Headline.{AreProcesses, IsShown, pairs_of_processes}
 use Rattle.headline.specs.Shown.{no_cut, recorded_report}
 
--- a call came to this outcome: its text stands behind what was printed before, and its files in the folder that was there
+-- a call had this outcome: its text follows what was printed before, and its files in the folder that was there
 pub record CameTo (outcome : CommandOutcome) (folder : Folder) (printed : Option (List ℕ)) (new : Outside) (answer : Status) : Type 0 where
   pub status : answer ≡ outcome_status outcome
   pub text : new.taken ≡ append_known printed (outcome_text outcome)
@@ -41,7 +41,7 @@ pub record ShowsThese {before : Folder} {schedule_name : List ℕ} (images : Boo
   pub debugged : second ≡ Some (Debug (pairs_of_processes r.schedule ps)) → IsAnswerStatus answer
       → WhenTold old.hearing.left (λ input. CameTo (session_outcome shown.start input) folder (printed_by images r old.taken) new answer)
 
--- so it is with each schedule that can be recorded, and with the pairs of any of its processes, in any order
+-- this holds of each schedule that can be recorded, and of the pairs of any of its processes, in any order
 abbrev pub ShowsRecorded : Option Command → Option Command → Outside → Outside → Status → Type 0
 ShowsRecorded first second old new answer =
     (images : Bool) (schedule_name : List ℕ) → first ≡ Some (Record images schedule_name)

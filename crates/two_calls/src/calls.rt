@@ -1,4 +1,4 @@
-// Two calls, of which the second shows what the first recorded.
+// Two calls: the second shows what the first recorded.
 ghost use Rattle.std.specs.Prelude.{◌≢◌, IfErr, IfOk, map, string_bytes};
 ghost use Rattle.command_run.specs.Run.{outside};
 ghost use Rattle.friday_app.specs.Command.{command_of};

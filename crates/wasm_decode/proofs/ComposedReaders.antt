@@ -82,7 +82,7 @@ pub tag_again : (tag : ℕ) (rest : List ℕ) → exact_byte_at tag (tag ∷ res
 unfolding exact_byte_at
 tag_again tag rest = rw (eq-eqb tag tag refl) refl
 
--- a value behind a byte that has to stand there
+-- a value after a byte that has to be there
 pub tag_read : {A : Type 0} (tag : ℕ) (P : List ℕ → A → Type 0) (p : Reader A) → Reads P p → Reads (λ bytes x. (behind : List ℕ) × (bytes ≡ tag ∷ behind) × P behind x) (λ bytes. exact_byte_at tag bytes >>= λ behind. p behind)
 tag_read {A} tag P p laws = record {
   takes = λ bytes x rest e.
@@ -94,11 +94,11 @@ tag_read {A} tag P p laws = record {
       rw front (laws.again h.0 x rest h.2);
 }
 
--- what was read behind a byte, where that byte is a part of the spelling
+-- what was read after a byte, where that byte is a part of the spelling
 abbrev pub Behind : {A : Type 0} → (List ℕ → A → Type 0) → ℕ → List ℕ → A → List ℕ → Type 0
 Behind R b bytes x rest = (s : List ℕ) × (bytes ≡ s ++ rest) × R (b ∷ s) x
 
--- the first byte of a spelling, and that the value is read behind it
+-- the first byte of a spelling, and that the value is read after it
 pub record AgainBehind {A : Type 0} (at : ℕ → Reader A) (s : List ℕ) (x : A) : Type 0 where
   pub first : ℕ
   pub behind : List ℕ

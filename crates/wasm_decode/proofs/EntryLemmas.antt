@@ -1,4 +1,4 @@
--- Reading what stands in sections gives what its spellings say.
+-- Reading what is in sections gives what its spellings say.
 use Rattle.std.proofs.Common.{◌≡◌, ℕ, true, List, [], ◌∷◌, ◌++◌, length, Option, Some, None, refl, sym, ap, ◌∙◌, subst, append_assoc}
 use Rattle.std.proofs.lemmas.Bool.{eqb-true, eq-eqb, ltb-true, lt-ltb}
 use Rattle.fri_bytes.specs.Laws.{ExactReaders}
@@ -26,7 +26,7 @@ exported_is byte index d s e h =
     value_takes P 0x02 byte (exported.Memory index) d _ e2 (s, refl, h) (λ e3.
     value_takes P 0x03 byte (exported.Global index) d _ e3 (s, refl, h) (λ none. absurd cc))))
 
--- what is exported, behind the byte that says what it is
+-- what is exported, after the byte that says what it is
 unfoldable exported_at : ℕ → Reader ExportDesc
 exported_at byte bytes = do
   index ← u32_at bytes

@@ -59,7 +59,7 @@ IsTableOfLabels s t = (vector number labels : List ℕ) × (default : ℕ) × (s
 abbrev IsAccess : (ℕ → ℕ → Tree) → List ℕ → Tree → Type 0
 IsAccess make s t = (a o : List ℕ) × (align offset : ℕ) × (s ≡ a ++ o) × IsU32 a align × IsU32 o offset × (t ≡ make align offset)
 
--- ---- what is read is spelled so: an instruction behind its first byte
+-- ---- what is read is spelled so: an instruction after its first byte
 
 -- an instruction in which blocks nest within so many levels
 abbrev Nested : ℕ → List ℕ → Tree → Type 0
@@ -117,7 +117,7 @@ zero_takes n opcode tree spelled bytes t rest e =
 
 -- ---- what is spelled is read
 
--- an instruction's first byte, and that it is read behind it
+-- an instruction's first byte, and that it is read after it
 record Again (n : ℕ) (s : List ℕ) (t : Tree) : Type 0 where
   opcode : ℕ
   behind : List ℕ

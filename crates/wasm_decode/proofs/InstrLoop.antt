@@ -81,7 +81,7 @@ ended n (suc count) front bytes b rest total room byte ends so_far =
     let one : with_front front (sequence_at (levels_at n) (suc count) bytes) ≡ Some ((trees front, b), rest) = rw (byte, ends) refl in
     sym so_far ∙ one
 
--- no instruction stands there
+-- no instruction is there
 pub no_instr : (e : DecodeError) (n count : ℕ) (front : List Instr) (bytes : List ℕ) (b : ℕ) (between : List ℕ) (total : Option (Ended × List ℕ)) → byte_at bytes ≡ Some (b, between) → is_end_opcode b ≡ false → IsErrorOf e (instr_at (levels_at n) b between) → with_front front (sequence_at (levels_at n) count bytes) ≡ total → IsErrorOf e total
 unfolding sequence_at
 no_instr errors.NoMemory n count front bytes b between total byte goes_on none so_far = tt

@@ -63,7 +63,7 @@ From2 indices m = HasSection 2 [] (IsVector IsImport) m.imports (From3 indices m
 abbrev From1 : List ℕ → Module → List ℕ → Type 0
 From1 indices m = HasSection 1 [] (IsVector IsFuncType) m.types (From2 indices m)
 
--- the steps of a reading that gave something, with the bytes behind each
+-- the steps of a reading that gave something, with the bytes after each
 record Steps (bytes : List ℕ) (m : Module) : Type 0 where
   indices : List ℕ
   rest0 : List ℕ

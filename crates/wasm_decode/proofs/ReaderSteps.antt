@@ -26,11 +26,11 @@ pub chosen : {A : Type 0} (b : Bool) (x y z : A) → cond b x y ≡ z → ((b �
 chosen true x y z e = inl (refl, e)
 chosen false x y z e = inr (refl, e)
 
--- two parts, one behind the other
+-- two parts, one after the other
 pub joined : (bytes a between b rest : List ℕ) → bytes ≡ a ++ between → between ≡ b ++ rest → bytes ≡ (a ++ b) ++ rest
 joined bytes a between b rest p q = p ∙ ap (λ (t : List ℕ). a ++ t) q ∙ sym (append_assoc a b rest)
 
--- a byte, and a part behind it
+-- a byte, and a part after it
 pub joined_byte : (bytes : List ℕ) (b : ℕ) (behind a rest : List ℕ) → bytes ≡ b ∷ behind → behind ≡ a ++ rest → bytes ≡ (b ∷ a) ++ rest
 joined_byte bytes b behind a rest p q = p ∙ ap (λ (r : List ℕ). b ∷ r) q
 

@@ -52,7 +52,7 @@ customs_is bytes = refl
 abbrev Above : ℕ → List ℕ → Type 0
 Above from bytes = (k : ℕ) → k ≤ from → starts k bytes ≡ false
 
--- what follows a section: behind custom sections it is still that, and begins with a greater id
+-- what follows a section: after custom sections it is still that, and begins with a greater id
 pub record Tail (from : ℕ) (Q : List ℕ → Type 0) : Type 0 where
   pub skips : (bytes : List ℕ) → Q bytes → (rest : List ℕ) × Leads bytes rest × Q rest × Above from rest
 

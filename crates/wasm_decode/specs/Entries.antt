@@ -1,4 +1,4 @@
--- Reading what stands in sections from the front of bytes.
+-- Reading what is in sections from the front of bytes.
 use Rattle.std.specs.Prelude.{ℕ, ◌^◌, List, [], ◌∷◌, length, Option, Some, None, Bool, ◌==◌, nat_lt, if◌then◌else◌, sum_by}
 use Rattle.fri_bytes.specs.Reading.{byte_at}
 use Rattle.wasm_types.specs.declared.code.ValType.{ValType}
@@ -12,7 +12,7 @@ use Rattle.wasm_decode.specs.Instrs.{expression_at}
 
 -- ---- imports and exports
 
--- what is imported, behind the byte that says what it is
+-- what is imported, after the byte that says what it is
 unfoldable pub imported_at : ℕ → Reader ImportDesc
 imported_at byte bytes =
     if byte == 0x00 then (do

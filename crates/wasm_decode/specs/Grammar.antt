@@ -162,7 +162,7 @@ abbrev mutual
 abbrev pub IsExpression : List ℕ → Trees → Type 0
 IsExpression bytes body = (instrs : List ℕ) × (bytes ≡ instrs ++ 0x0b ∷ []) × IsInstrs instrs body × AllNestWithin 1000 body
 
--- ---- what stands in sections (5.5)
+-- ---- what is in sections (5.5)
 
 -- 5.5.5: what is imported
 abbrev pub IsImportDesc : List ℕ → ImportDesc → Type 0

@@ -63,7 +63,7 @@ access_at make bytes = do
   offset ← u32_at align.1
   Some (make align.0 offset.0, offset.1)
 
--- ---- an instruction with none inside it, behind its first byte
+-- ---- an instruction with none inside it, after its first byte
 
 -- a control instruction
 unfoldable pub control_at : ℕ → Reader Tree
@@ -114,7 +114,7 @@ plain_at opcode bytes =
 
 -- ---- instructions
 
--- an instruction behind its first byte, where `inner` reads the instructions of a block
+-- an instruction after its first byte, where `inner` reads the instructions of a block
 unfoldable pub instr_at : Reader Ended → ℕ → Reader Tree
 instr_at inner opcode bytes =
     if opcode == 0x02 then block_at Block inner bytes else

@@ -29,7 +29,7 @@ skip_at (suc count) bytes =
 unfoldable pub customs_at : List ℕ → Option (List ℕ)
 customs_at bytes = skip_at (length bytes) bytes
 
--- the contents of the section with this id, behind custom sections, or nothing where it is absent
+-- the contents of the section with this id, after custom sections, or nothing where it is absent
 unfoldable pub contents_at : ℕ → Reader (Option (List ℕ))
 contents_at id bytes = do
   rest ← customs_at bytes
@@ -42,7 +42,7 @@ abbrev pub contents_value : {A : Type 0} → A → Reader A → Option (List ℕ
 contents_value absent read None = Some absent
 contents_value absent read (Some contents) = whole_read read contents
 
--- the section with this id, behind custom sections
+-- the section with this id, after custom sections
 unfoldable pub section_at : {A : Type 0} → ℕ → A → Reader A → Reader A
 section_at id absent read bytes = do
   contents ← contents_at id bytes

@@ -45,7 +45,7 @@ f32_at = le_at w32
 abbrev pub f64_at : Reader ℕ
 f64_at = le_at w64
 
--- a byte that has to stand there
+-- a byte that has to be there
 unfoldable pub exact_byte_at : ℕ → List ℕ → Option (List ℕ)
 exact_byte_at tag bytes = do
   b ← byte_at bytes
@@ -143,7 +143,7 @@ min_max_at bytes = do
   max ← u32_at min.1
   Some (record { min = min.0; max = Some max.0 }, max.1)
 
--- limits, behind the byte that says whether there is a maximum
+-- limits, after the byte that says whether there is a maximum
 unfoldable pub limits_of : ℕ → Reader Limits
 limits_of flag bytes =
     if flag == 0x00 then min_at bytes else
@@ -161,7 +161,7 @@ table_at bytes = do
   after ← exact_byte_at 0x70 bytes
   limits_at after
 
--- whether a global is mutable, behind the byte that says it
+-- whether a global is mutable, after the byte that says it
 unfoldable pub mutable_of : ℕ → Reader Bool
 mutable_of b bytes =
     if b == 0x00 then Some (false, bytes) else

@@ -68,7 +68,7 @@ fn sequence(
     }
 }
 
-/// An instruction behind its first byte, with those inside it in less than so many levels.
+/// An instruction after its first byte, with those inside it in less than so many levels.
 #[cycle(instrs)]
 #[tactic(auto, unfolding(crate::specs::Instrs::instr_at, crate::specs::Instrs::block_at, crate::specs::Instrs::if_at))]
 fn instr(alloc: Global, cursor: &mut Cursor, levels: u32, opcode: u8) -> Result<Instr, DecodeError>
@@ -98,7 +98,7 @@ fn instr(alloc: Global, cursor: &mut Cursor, levels: u32, opcode: u8) -> Result<
     }
 }
 
-/// An instruction with none inside it, behind its first byte.
+/// An instruction with none inside it, after its first byte.
 #[tactic(auto, unfolding(crate::specs::Instrs::plain_at))]
 fn plain(alloc: Global, cursor: &mut Cursor, opcode: u8) -> Result<Instr, DecodeError>
     ensures { Decodes tree result cursor.new (plain_at opcode cursor.old.left) }

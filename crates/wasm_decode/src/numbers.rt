@@ -13,7 +13,7 @@ pub(crate) fn byte(cursor: &mut Cursor) -> Result<u8, DecodeError>
     cursor.byte().ok_or(DecodeError::Malformed)
 }
 
-/// A byte that has to stand there.
+/// A byte that has to be there.
 #[tactic(auto, unfolding(crate::specs::Values::exact_byte_at))]
 pub(crate) fn exact_byte(cursor: &mut Cursor, tag: u8) -> Result<(), DecodeError>
     ensures { Passes result cursor.new (exact_byte_at tag cursor.old.left) }

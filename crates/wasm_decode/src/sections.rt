@@ -37,7 +37,7 @@ fn custom_name(contents: &[u8]) -> Result<&[u8], DecodeError>
     utf8_name(&mut cursor)
 }
 
-/// A custom section behind its id.
+/// A custom section after its id.
 #[tactic(auto, unfolding(crate::specs::Values::sized_at))]
 fn custom<'a>(cursor: &mut Cursor<'a>) -> Result<&'a [u8], DecodeError>
     ensures { Decodes (λ name. name.now) result cursor.new (sized_at custom_name_of cursor.old.left) }
@@ -68,7 +68,7 @@ pub(crate) fn customs(cursor: &mut Cursor) -> Result<(), DecodeError>
     Ok(())
 }
 
-/// The contents of the section with this id, behind custom sections, or nothing where it is absent.
+/// The contents of the section with this id, after custom sections, or nothing where it is absent.
 #[tactic(auto, unfolding(crate::specs::Sections::contents_at))]
 fn contents<'a>(cursor: &mut Cursor<'a>, id: u8) -> Result<Option<&'a [u8]>, DecodeError>
     ensures { Decodes (option_map (λ contents. contents.now)) result cursor.new (contents_at id cursor.old.left) }

@@ -1,5 +1,5 @@
 // Vectors and names (WebAssembly 1.0, sections 5.1.3 and 5.2.4). Nothing is set aside for a count, so one
-// with nothing behind it costs nothing.
+// with nothing after it costs nothing.
 ghost use Rattle.std.specs.Prelude.{◌≡◌, ℕ, List, Option, map};
 ghost use Rattle.std.specs.Str.{is_utf8};
 ghost use Rattle.wasm_decode.specs.Decoding.{Decodes};
@@ -10,7 +10,7 @@ use crate::numbers::number;
 use fri_bytes::Cursor;
 use std::alloc::Global;
 
-/// What stands in a vector, and how it is read.
+/// What is in a vector, and how it is read.
 pub(crate) trait Entry {
     type Value: Drop;
 

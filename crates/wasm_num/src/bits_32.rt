@@ -107,7 +107,7 @@ pub fn i32_popcnt(a: u32) -> u32
     a.count_ones()
 }
 
-// ---- arithmetic, of which the lowest 32 bits are kept
+// ---- arithmetic, which keeps the lowest 32 bits
 
 /// The sum.
 pub fn i32_add(a: u32, b: u32) -> u32

@@ -107,7 +107,7 @@ pub fn i64_popcnt(a: u64) -> u64
     u64::from(a.count_ones())
 }
 
-// ---- arithmetic, of which the lowest 64 bits are kept
+// ---- arithmetic, which keeps the lowest 64 bits
 
 /// The sum.
 pub fn i64_add(a: u64, b: u64) -> u64

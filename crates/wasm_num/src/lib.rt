@@ -3,7 +3,7 @@
 //! Each is the operator of the WebAssembly specification, version 1.0, section 4.3.2, and gives exactly what `specs/Operators`
 //! computes on numbers; those that read the lowest bits as a signed number came with version 2.0. A division tells its trap
 //! (`Trap`): a divisor of 0, or a quotient that is too great. All other calls always have a result. Which opcode is which
-//! operator stands in `wasm_values`. Nothing here takes memory.
+//! operator is said in `wasm_values`. Nothing here takes memory.
 #![tactic(auto)]
 
 mod bits_32;

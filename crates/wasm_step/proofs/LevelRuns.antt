@@ -59,7 +59,7 @@ none_left (Then i is) e = cc
 pub standing : (t u v : Thread) (i : Tree) → settled_of (Goes u) ≡ settle t → u ≡ record v { todo = Then i v.todo } → settle t ≡ At i v
 standing t u v i e f = sym e ∙ ap (λ v. settled_of (Goes v)) f
 
--- a thread with an instruction left stands at it
+-- a thread with an instruction left is at it
 pub settle_here : (t : Thread) → is_end t.todo ≡ false → settle t ≡ at_next t.todo t (Done Sticks)
 settle_here t e = settle_by_here (depth t) t e
 

@@ -266,7 +266,7 @@ operator_fits op = by_case (nat_lt op 0x45) refl
 
 -- ---- loads and stores
 
--- the load reads some bytes, of which it makes an operand of this type
+-- the load reads some bytes, and makes an operand of this type from them
 pub record LoadFits (op : ℕ) (k : ValType) : Type 0 where
   pub width : ℕ
   pub reads : load_width op ≡ Some width

@@ -262,7 +262,7 @@ closed_part f labels w locals ops l h lt e =
     let cut = subst (λ ls. AreCut f.bottom ls f.floor) ls h.cut in
     record { top = omega (arith, h.top, cut.0); cut = cut.1; labels_in = within; locals_in = h.locals_in }
 
--- the levels that end, of which the last is below this label
+-- the levels that end, the last of which is below this label
 pub record IsPast (n : ℕ) (f : StackFrame) (labels : List StackLevel) (locals ops : List Value) (callers : List StackFrame) (l : StackLevel) : Type 0 where
   pub part : IsPart (record f { todo = l.todo; floor = l.floor }) (take (length labels - n) labels) locals ops
   pub thread : closed_by n (thread_in f labels locals ops callers) ≡ Some (thread_in (record f { todo = l.todo; floor = l.floor }) (take (length labels - n) labels) locals ops callers)

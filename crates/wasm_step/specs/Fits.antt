@@ -105,7 +105,7 @@ AfterFits m (Stops s) = HaltFits m s
 abbrev pub BurstFits : Module → BurstResult → Type 0
 BurstFits m r = HaltFits m r.stop × Suits r.store
 
--- a thread with the call at which it stands, if it stands at one
+-- a thread with the call at which it is, if it is at one
 abbrev pub StandsFit : Module → Thread → Option ℕ → Type 0
 StandsFit m t None = Fits m t
 StandsFit m t (Some f) = CallFits m t f

@@ -15,7 +15,7 @@ pause_halt (Trapped trap) = Traps trap
 abbrev pub pause_result : Pause → Store → BurstResult
 pause_result p g = record { stop = pause_halt p; store = g }
 
--- a strand that is answered is one of this module, and stands at the call that is answered
+-- a strand that is answered is one of this module, and is at the call that is answered
 abbrev pub StandsAt : Module → Pause → Type 0
 StandsAt m (AtCall s site) = (s.«module» ≡ m) × (s.call ≡ Some site.func)
 StandsAt m Ended = Unit {0}

@@ -6,7 +6,7 @@ use Rattle.wasm_step.specs.Reduce.{After, Goes, Stops, Sticks}
 use Rattle.wasm_store.specs.Store.{Store}
 use Rattle.wasm_step.specs.Thread.{Thread}
 
--- a thread that goes on stands at its next instruction
+-- a thread that goes on is at its next instruction
 abbrev pub settled_of : After → Settled
 settled_of (Goes t) = at_next t.todo t (Done Sticks)
 settled_of (Stops s) = Done s

@@ -211,7 +211,7 @@ abbrev pub jump_out : Thread → After
 jump_out t =
     with_carried (carried t.carries t) (λ o t'. landed (closed (record t' { stack = [] })) (record t' { stack = [] }) t.target o)
 
--- a loop begins anew; it is no instruction again
+-- a loop begins again; that is not a further instruction
 abbrev pub jump_by : Bool → Thread → After
 jump_by true t = Goes (record t { todo = t.target; stack = [] })
 jump_by false t = jump_out t
@@ -295,7 +295,7 @@ abbrev pub call_indirect : ℕ → Store → Thread → After
 call_indirect type g t =
     with_top t (λ v t'. on_i32 v (λ i. call_element g.«module» type (slice_get g.table i) t'))
 
--- ---- the rows, one for each instruction i, which the thread has left behind
+-- ---- the rows, one for each instruction i, which the thread has passed
 
 abbrev pub instr_row : Tree → Thread → Store → Both
 instr_row Unreachable t g = keep g (at_trap traps.Unreachable)

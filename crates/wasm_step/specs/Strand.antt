@@ -1,4 +1,4 @@
--- Threads as their owner sees them: how they begin, what they answer, and what stands above them.
+-- Threads as their owner sees them: how they begin, what they answer, and what is above them.
 use Rattle.std.specs.Prelude.{◌≡◌, ℕ, ◌≤◌, Bool, false, List, [], ◌∷◌, ◌++◌, Option, Some, None, length, slice_get}
 use Rattle.wasm_types.specs.declared.code.Value.{Value}
 use Rattle.wasm_types.specs.declared.code.Value.TheVariants.{I32, I64}
@@ -11,7 +11,7 @@ use Rattle.wasm_step.specs.Thread.{Thread, Frame, at_start, waiting_frame, fits_
 use Rattle.wasm_types.specs.Functions.{own_func, type_of, imported_type}
 use Rattle.wasm_step.specs.Reduce.{with_result}
 
--- a thread with its module, and the function of the library at whose call it stands, if it stands at one
+-- a thread with its module, and the function of the library at whose call it is, if it is at one
 pub record Strand : Type 0 where
   pub «module» : Module
   pub thread : Thread
@@ -27,7 +27,7 @@ abbrev pub started_above : Option Func → List Frame → ℕ → List Value →
 started_above None callers f args = None
 started_above (Some func) callers f args = Some (at_start callers f func.body (args ++ zeros func.locals) None)
 
--- a thread of the module that stands at the start of this function, which has one argument
+-- a thread of the module that is at the start of this function, which has one argument
 abbrev pub new_thread : Module → ℕ → ℕ → Option Thread
 new_thread m f arg = started_above (own_func m f) [] f (I32 arg ∷ [])
 
@@ -66,7 +66,7 @@ answered s value = record s { thread = with_result value s.thread; call = None }
 
 -- ---- the thread that runs first
 
--- the frame of the function that the start section names stands above
+-- the frame of the function that the start section names is above
 abbrev pub with_start : Module → Option ℕ → Option Thread → Option Thread
 with_start m start None = None
 with_start m None (Some t) = Some t

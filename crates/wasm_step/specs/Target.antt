@@ -5,7 +5,7 @@ use Rattle.wasm_step.specs.declared.stack.Target.{Target}
 use Rattle.wasm_step.specs.declared.stack.Target.TheVariants.{Again, Out}
 use Rattle.wasm_step.specs.Thread.{Thread}
 
--- at these instructions, which begin it anew, or behind the level
+-- at these instructions, which begin it again, or after the level
 abbrev pub IsTarget : Target → Thread → Type 0
 IsTarget (Again body) t = (t.loops ≡ true) × (t.target ≡ trees body.now)
 IsTarget (Out carries) t = (t.loops ≡ false) × (t.carries ≡ carries)

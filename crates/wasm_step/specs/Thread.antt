@@ -10,7 +10,7 @@ use Rattle.wasm_types.specs.Locals.{zeros}
 
 -- a level: the type of what it leaves to the one around it, the instructions that are left, its operands
 -- with the topmost first, the instructions at which a branch to it goes on, whether a branch carries an
--- operand, and whether a branch begins it anew, as it does a loop, and does not leave it
+-- operand, and whether a branch begins it again, as it does a loop, and does not leave it
 pub record Level : Type 0 where
   pub gives : Option ValType
   pub todo : Trees

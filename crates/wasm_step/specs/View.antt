@@ -10,7 +10,7 @@ use Rattle.wasm_step.specs.Reduce.{After, Goes, on_test, with_top}
 use Rattle.wasm_step.specs.Thread.{Level, Frame, Thread, closed, opened}
 
 -- what a level is by how it was opened: the type of what it leaves, where a branch to it goes on, whether that carries
--- an operand, and whether it begins the level anew
+-- an operand, and whether it begins the level again
 pub record Opened : Type 0 where
   pub gives : Option ValType
   pub target : Trees

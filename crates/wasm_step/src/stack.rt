@@ -16,7 +16,7 @@ use std::alloc::AllocError;
 use std::marker::Model;
 use wasm_types::{Instr, Slot, ValType, Value};
 
-/// A level around another: the instruction that opened the other, those behind it, and how many operands lie below
+/// A level around another: the instruction that opened the other, those after it, and how many operands lie below
 /// the level.
 #[derive(Clone, Copy)]
 pub struct StackLevel<'m> {
@@ -38,7 +38,7 @@ pub struct StackFrame<'m> {
     gives: Option<ValType>,
 }
 
-/// Where a branch to a level goes on: at these instructions, which begin it anew, or behind the level, with an operand
+/// Where a branch to a level goes on: at these instructions, which begin it again, or after the level, with an operand
 /// or without one.
 #[derive(Clone, Copy)]
 pub enum Target<'m> {
@@ -595,7 +595,7 @@ fn keeps_limits(frames: usize, operands: usize, labels: usize, locals: usize, mo
     operands + labels + locals + more <= SIZE_LIMIT
 }
 
-/// At most so many frames of a thread, of which all but one wait.
+/// At most so many frames of a thread, all but one of which wait.
 pub(crate) const FRAME_LIMIT: usize = 512;
 
 /// Room is made for so many operands at a time.

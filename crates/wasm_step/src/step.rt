@@ -61,7 +61,7 @@ impl<'m> Stack<'m> {
         }
     }
 
-    /// One instruction, which the thread has left behind. Room for further operands is found.
+    /// One instruction, which the thread has passed. Room for further operands is found.
     #[inline(never)]
     pub fn step(
         &mut self,

@@ -52,7 +52,7 @@ pub enum HandlerError {
 /// Where a burst of a thread pauses.
 #[derive(Drop)]
 pub enum Pause<'m> {
-    /// The thread stands at a call of the library.
+    /// The thread is at a call of the library.
     AtCall(Strand<'m>, CallSite),
     /// The thread has ended.
     Ended,

@@ -79,7 +79,7 @@ fn in_two_bytes(n: usize) -> [u8; 2] {
 // A module with one function, which has these instructions, of less than 16,000 bytes.
 fn with_body(alloc: Global, instrs: &[u8]) -> Result<Vec<u8>, AllocError> {
     let mut bytes = FRONT.to_vec(alloc)?;
-    // The section counts the function, its size, its locals and its end beside the instructions.
+    // The section counts the function, its size, its locals and its end as well as the instructions.
     bytes.extend_from_slice(&in_two_bytes(instrs.len() + 5))?;
     bytes.push(1)?;
     bytes.extend_from_slice(&in_two_bytes(instrs.len() + 2))?;

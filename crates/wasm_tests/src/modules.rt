@@ -47,7 +47,7 @@ const MODULES: &[(&[u8], &str)] = &[
     ),
 ];
 
-// Bytes that make no module behind the header.
+// Bytes that make no module after the header.
 const MALFORMED: &[&[u8]] = &[
     // A section twice, two in the wrong order, one that came after version 1.0, and one with no known id.
     b"\x01\x01\0\x01\x01\0",
@@ -62,7 +62,7 @@ const MALFORMED: &[&[u8]] = &[
     b"\x01\x05\x01`\0\0\0",
     b"\x08\x02\0\0",
     b"\x03\x02\x01\0\x0a\x05\x01\x03\0\x0b\x0b",
-    // Counts with nothing behind them.
+    // Counts with nothing after them.
     b"\x01\x05\xff\xff\xff\xff\x0f",
     b"\x02\x05\xff\xff\xff\xff\x0f",
     b"\x03\x05\xff\xff\xff\xff\x0f",

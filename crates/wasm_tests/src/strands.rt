@@ -10,8 +10,8 @@ use wasm_step::{Pause, Store, Strand};
 use wasm_types::{ValType, ValidModule, Value};
 use wasm_validate::validate;
 
-// Its function 1 puts its argument behind the digits of the global 0, which begins as 7. The function
-// stands in the table at 1, and the memory has `log` at 8.
+// Its function 1 puts its argument after the digits of the global 0, which begins as 7. The function
+// is in the table at 1, and the memory has `log` at 8.
 const GUEST: &[u8] = b"\0asm\x01\0\0\0\x01\x0c\x03`\x01~\0`\x01\x7f\0`\0\0\x02\x0f\x01\x06liblog\
     \x04note\0\0\x03\x03\x02\x01\x02\x04\x04\x01p\0\x03\x05\x04\x01\x01\x01\x02\x06\x06\x01\x7f\
     \x01A\x07\x0b\x07\x0a\x01\x06_start\0\x02\x09\x07\x01\0A\x01\x0b\x01\x01\x0a\x15\x02\x0c\0#\

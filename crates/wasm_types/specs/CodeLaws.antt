@@ -31,7 +31,7 @@ tree-if result on_true on_false =
     ap (λ (t : Trees). If result t (trees_of_row (hidden-the_row-Instr-0 on_false))) (trees_of_vec on_true)
     ∙ ap (If result (trees on_true.items)) (trees_of_vec on_false)
 
--- what stands in front of others, in two parts
+-- what is in front of others, in two parts
 pub before-append : (a b : List Instr) (rest : Trees) → before (a ++ b) rest ≡ before a (before b rest)
 before-append [] b rest = refl
 before-append (x ∷ a) b rest = ap (Then (tree x)) (before-append a b rest)

@@ -95,7 +95,7 @@ abbrev trees_in : List Word → Trees
 trees_in ws = first_read (read_words ws [])
 
 abbrev mutual
-  -- an instruction's words, in front of others; those of the sequence behind it stand before them
+  -- an instruction's words, in front of others; those of the sequence after it stand before them
   write : Tree → List Word → List Word
   write (Block result body) ws = write_all body ((1, number_of result ∷ []) ∷ ws)
   write (Loop result body) ws = write_all body ((2, number_of result ∷ []) ∷ ws)

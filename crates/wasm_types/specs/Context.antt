@@ -5,7 +5,7 @@ use Rattle.wasm_types.specs.declared.modules.ImportDesc.{ImportDesc}
 use Rattle.wasm_types.specs.declared.modules.ImportDesc.TheVariants as desc
 use Rattle.wasm_types.specs.Modules.{FuncType, Import, Func, GlobalType, Module, global_type}
 
--- The index of each function's type stands in `funcs`, the imports first. All other imports are refused
+-- The index of each function's type is in `funcs`, the imports first. All other imports are refused
 -- before code is typed, so the other index spaces are those of the module itself.
 pub record Context : Type 0 where
   pub types : List FuncType

@@ -1,4 +1,4 @@
--- Where floats stand in a module.
+-- Where floats are in a module.
 use Rattle.std.specs.Prelude.{ℕ, Bool, true, false, ◌||◌, Option}
 use Rattle.std.specs.List.{list_any}
 use Rattle.std.specs.Option.{option_map_or}

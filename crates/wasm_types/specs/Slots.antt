@@ -12,7 +12,7 @@ value_by (suc n) bits = I64 bits
 abbrev pub value_of_inside : Inside → Value
 value_of_inside s = value_by s.wide s.bits
 
--- the first word is 0 beside 32 bits, and 1 beside 64
+-- the first word is 0 with 32 bits, and 1 with 64
 abbrev pub IsBeside : ℕ → ℕ → Type 0
 IsBeside zero bits = bits < 2 ^ 32
 IsBeside (suc n) bits = n ≡ zero

@@ -58,7 +58,7 @@ abbrev pub pop_each : List ValType → BlockStack → Option BlockStack
 pop_each [] s = Some s
 pop_each (t ∷ ts) s = pop_type t s >>= pop_each ts
 
--- the same of several types, of which the last is on top
+-- the same of several types, the last of which is on top
 abbrev pub pop_types : List ValType → BlockStack → Option BlockStack
 pop_types ts = pop_each (reverse ts)
 

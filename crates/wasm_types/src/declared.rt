@@ -76,7 +76,7 @@ impl Declared {
         }
     }
 
-    /// What the locals start as goes behind these values.
+    /// What the locals start as goes after these values.
     pub fn append(&self, values: &mut Vec<Slot>) -> Result<(), AllocError>
         ensures ok { OnOk result (values.new.items ≡ values.old.items ++ zeros self.now) }
         ensures kept { take (length values.old.items) values.new.items ≡ values.old.items }

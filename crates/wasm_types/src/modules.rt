@@ -34,7 +34,7 @@ pub struct Import {
     pub desc: ImportDesc,
 }
 
-/// A function of the module: its type's index, its locals beside the parameters, each a count and a
+/// A function of the module: its type's index, its locals apart from the parameters, each a count and a
 /// type, and its body without the last `end`.
 #[derive(Debug, PartialEq, Eq, Drop)]
 pub struct Func {

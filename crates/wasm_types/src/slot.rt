@@ -8,7 +8,7 @@ use std::marker::Model;
 /// A value as two words, which are copied together. Contracts see the value.
 #[derive(Clone, Copy, Debug, Drop)]
 pub struct Slot {
-    // 0 beside 32 bits, and 1 beside 64.
+    // 0 with 32 bits, and 1 with 64.
     wide: u64,
     bits: u64,
 }

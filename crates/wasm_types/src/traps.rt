@@ -1,6 +1,6 @@
 // Why a thread is stopped.
 
-/// Why a thread is stopped. Beside the traps of WebAssembly 1.0 these are `Exhausted`, where the
+/// Why a thread is stopped. Apart from the traps of WebAssembly 1.0 these are `Exhausted`, where the
 /// room for operands and frames is used up, and `Spent`, where the budget of steps is.
 #[derive(Clone, Copy, Debug, PartialEq, Eq, Drop)]
 pub enum Trap {

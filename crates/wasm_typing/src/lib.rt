@@ -5,6 +5,7 @@
 //! the code may name of its module, and `Locals` as the list of the types of parameters and locals, which is never written
 //! out, since a few bytes may declare billions. Inside, the stacks of the open blocks lie in one list of operands
 //! (`specs/Operands`), and each step of the check follows the rule's step. The check recurs as deep as blocks nest.
+//! `specs/Locals` and `specs/Views` are inside too.
 #![tactic(auto)]
 
 mod accesses;

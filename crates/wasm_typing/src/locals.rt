@@ -8,7 +8,7 @@ use std::alloc::{AllocError, Global};
 use std::marker::Model;
 use wasm_types::ValType;
 
-/// The types of a function's parameters and locals. Locals stand in runs of one type and are not
+/// The types of a function's parameters and locals. Locals are in runs of one type and are not
 /// written out, since a few bytes of a module may declare billions of them.
 #[derive(Drop)]
 pub struct Locals<'a> {

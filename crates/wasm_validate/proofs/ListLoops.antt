@@ -26,7 +26,7 @@ module _ {X Y : Type 0} (P : Y → Type 0) (f : X → Y) where
       let le_xs : length xs ≤ i = omega (arith, ap length same) in
       All-map P f xs (subst (All IsSeen) (take_all i xs le_xs) all)
 
-  -- an element of which it does not hold
+  -- an element for which it does not hold
   pub not_all : (xs ys : List X) (i : ℕ) (x : X) →
       ys ≡ xs → x ≡ get_or ys i x → i < length ys → ¬ P (f x) → ¬ All P (map f xs)
   not_all xs ys i x same read lt fails all =

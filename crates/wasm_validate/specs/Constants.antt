@@ -1,4 +1,4 @@
--- Instructions that may stand alone in a constant expression.
+-- Instructions that may be alone in a constant expression.
 use Rattle.std.specs.Prelude.{Bool, true, false, List, Option, Some, None, slice_get}
 use Rattle.std.specs.Option.{option_map_or}
 use Rattle.wasm_types.specs.declared.code.ValType.{ValType}

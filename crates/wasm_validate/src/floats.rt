@@ -1,4 +1,4 @@
-// Where floats stand in a module.
+// Where floats are in a module.
 ghost use Rattle.std.specs.Prelude.{◌≡◌};
 ghost use Rattle.std.specs.List.{list_any};
 ghost use Rattle.wasm_types.specs.Accesses.{load_access, store_access};

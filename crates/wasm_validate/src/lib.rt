@@ -4,7 +4,8 @@
 //! out: its code and imports are typed, it has no floats, it imports calls of the library alone, it is within the limits, and
 //! it has a start. Else it gives the first refusal that holds, in the order of `Invalid` (`IsFirst` of `specs/Refusals`). The
 //! law `exact_fault` says that `fault` of `specs/Fault`, which computes, names the first refusal that holds, and none exactly
-//! where the module is valid. Code is checked by `wasm_typing`.
+//! where the module is valid. Code is checked by `wasm_typing`. Inside are the tests of single parts (`specs/Constants`,
+//! `specs/Neighbors`, `specs/Signatures`).
 #![tactic(auto)]
 
 ghost use Rattle.std.specs.Prelude.{◌≡◌, IfErr, IfOk, MatchResult};

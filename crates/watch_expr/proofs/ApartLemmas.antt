@@ -1,4 +1,4 @@
--- No comma, semicolon, brace or string stands in an expression.
+-- No comma, semicolon, brace or string is in an expression.
 use Rattle.std.proofs.Common.{◌≡◌, ℕ, Bool, true, false, not, ◌||◌, ◌==◌, inl, inr, ltb, List, [], ◌∷◌, ◌++◌, length, Option, Some, None, refl, sym, ap, ◌∙◌}
 use Rattle.std.specs.Prelude.{bytes_eq, codes, slice_index, is_some}
 use Rattle.std.specs.Char.{is_ascii_digit}

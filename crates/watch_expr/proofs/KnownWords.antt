@@ -81,7 +81,7 @@ place_again place.Clock = refl
 place_again place.Events = refl
 place_again place.Size = refl
 
--- ---- what a token that stands where an operand is wanted leads to
+-- ---- what a token that is where an operand is wanted leads to
 
 module _ (names : List (List ℕ)) (s : List PendingOperator) where
   pub sign_read : (op : Unary) → step names (Want s) (unary_sign op) ≡ Some (Want (Front op ∷ s))

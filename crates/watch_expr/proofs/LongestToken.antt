@@ -206,7 +206,7 @@ begun (pair a c e) b bytes k le i =
 
 -- ---- what is computed
 
--- the sign that stands in front is a token
+-- the sign that is in front is a token
 record SignAt (b : ℕ) (bytes : List ℕ) (n : ℕ) : Type 0 where
   within : n ≤ length (b ∷ bytes)
   token : IsToken (take n (b ∷ bytes))

@@ -154,7 +154,7 @@ module _ (names : List (List ℕ)) where
   IsHalf (half.Indexed n k) ts = (name word : List ℕ) × (is_word name ≡ true) × (node_of_word names name ≡ n) × (number_of word ≡ Some k) × (ts ≡ codes "@" ∷ name ∷ codes "." ∷ codes "global" ∷ codes "[" ∷ word ∷ [])
   IsHalf (half.Named agg) ts = ts ≡ agg_word agg ∷ []
 
-  -- what an operand that has begun came to
+  -- the outcome of an operand that has begun
   abbrev pub Came : Went → List (List ℕ) → Type 0
   Came (More h) ts = IsHalf h ts
   Came (Whole x) ts = IsAt names FIRST ts x
@@ -274,7 +274,7 @@ module _ (names : List (List ℕ)) where
   given_some true f g e = (refl, cc)
   given_some false f g e = absurd cc
 
-  -- a token of which only this one is given
+  -- a token where only this one is given
   single : (text sign : List ℕ) (f g : Went) → only_if (bytes_eq text sign) f ≡ Some g → (text ∷ [] ≡ sign ∷ []) × (f ≡ g)
   single text sign f g e =
       let p = given_some (bytes_eq text sign) f g e in (ap (λ (t : List ℕ). t ∷ []) (same_bytes text sign p.0), p.1)

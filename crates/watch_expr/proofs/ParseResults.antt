@@ -31,7 +31,7 @@ missing [] n e lt = omega arith
 missing (t ∷ ts) zero e lt = cc
 missing (t ∷ ts) (suc n) e lt = missing ts n e (omega arith)
 
--- one more token behind the one at which reading began
+-- one more token after the one at which reading began
 taken-more : (ts : List (List ℕ)) (from at : ℕ) (t : List ℕ) → from ≤ at → slice_get ts at ≡ Some t → take (at - from + 1) (drop from ts) ≡ take (at - from) (drop from ts) ++ t ∷ []
 taken-more ts from at t le e =
     let place : from + (at - from) ≡ at = omega arith in
@@ -39,7 +39,7 @@ taken-more ts from at t le e =
     ap (λ (n : ℕ). take n (drop from ts)) one
     ∙ take-more (drop from ts) (at - from) t (get-drop ts from (at - from) ∙ ap (slice_get ts) place ∙ e)
 
--- no token stands behind the last one
+-- no token follows the last one
 past : (ts : List (List ℕ)) (from at : ℕ) → from ≤ at → slice_get ts at ≡ None → at - from < length (drop from ts) → ⊥
 past ts from at le e lt = missing ts at e (omega (arith, length-drop from ts))
 

@@ -52,7 +52,7 @@ left_low op = elim (sides op) [ inl p ↦ omega (arith, p.0, low op) | inr p ↦
 
 -- ---- the stack
 
--- an operand of this level may stand on the stack
+-- an operand of this level may be on the stack
 abbrev pub Fits : ℕ → List PendingOperator → Type 0
 Fits k [] = Unit {0}
 Fits k (Left op y ∷ s) = operator_level op < k

@@ -134,7 +134,7 @@ node_back named.Each = refl
 node_back (named.Named None) = refl
 node_back (named.Named (Some n)) = refl
 
--- a number that stands in front of a node
+-- a number that is in front of a node
 abbrev first_in : List ℕ → ℕ
 first_in ns = get_or ns 0 0
 

@@ -40,7 +40,7 @@ expression_spelled names ts = whole_if (steps names (Some (Want [])) ts)
 unfoldable pub begins_some : List (List ℕ) → List (List ℕ) → Bool
 begins_some names ts = is_some (steps names (Some (Want [])) ts)
 
--- how many of these tokens, behind those before, begin some expression with them
+-- how many of these tokens, after those before, begin some expression with them
 abbrev pub viable : List (List ℕ) → List (List ℕ) → List (List ℕ) → ℕ
 viable names before [] = 0
 viable names before (t ∷ ts) = if begins_some names (before ++ t ∷ []) then suc (viable names (before ++ t ∷ []) ts) else 0

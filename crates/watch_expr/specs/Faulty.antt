@@ -4,7 +4,7 @@ use Rattle.watch_expr.specs.declared.expr.NodeName.{NodeName}
 use Rattle.watch_expr.specs.declared.expr.NodeName.TheVariants.{Named, Each}
 use Rattle.watch_expr.specs.Expression.{Expression, Number, Var, One, Two, Over, Load, Global, Clock, Events, Size}
 
--- an aggregate stands in it
+-- an aggregate is in it
 abbrev pub has_aggregate : Expression → Bool
 has_aggregate (Number n) = false
 has_aggregate (Var name) = false
@@ -17,7 +17,7 @@ has_aggregate (Clock node) = false
 has_aggregate (Events node) = false
 has_aggregate (Size node) = false
 
--- an aggregate stands in an aggregate
+-- an aggregate is in an aggregate
 abbrev pub is_nested : Expression → Bool
 is_nested (Number n) = false
 is_nested (Var name) = false

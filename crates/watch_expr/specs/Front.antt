@@ -8,7 +8,7 @@ use Rattle.watch_expr.specs.Lexing.{is_string_byte, is_sign, is_pair}
 abbrev pub word_end : List ℕ → ℕ
 word_end bytes = prefix_len is_word_byte bytes
 
--- where the first byte that stands in no string is at this place, it has to be a quote
+-- where the first byte that is in no string is at this place, it has to be a quote
 abbrev pub quoted : List ℕ → Option ℕ → Option ℕ
 quoted bytes None = None
 quoted bytes (Some n) = if slice_index bytes n == 34 then Some (n + 2) else None

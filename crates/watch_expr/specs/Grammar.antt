@@ -37,7 +37,7 @@ operator_level binary.Mul = 4
 operator_level binary.Div = 4
 operator_level binary.Rem = 4
 
--- the level of what stands to the left of an operator: comparisons don't chain, and the others group from the left
+-- the level of what is to the left of an operator: comparisons don't chain, and the others group from the left
 abbrev pub left_level : Binary → ℕ
 left_level binary.Or = 0
 left_level binary.And = 1

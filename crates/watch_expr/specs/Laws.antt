@@ -23,6 +23,6 @@ pub record ExactReading : Type 0 where
 abbrev pub is_apart : List ℕ → Bool
 is_apart text = bytes_eq text (codes ",") || bytes_eq text (codes ";") || bytes_eq text (codes "{") || bytes_eq text (codes "}") || (slice_index text 0 == 34)
 
--- none of these stands in an expression
+-- none of these is in an expression
 abbrev pub NoneApart : Type 0
 NoneApart = (names ts : List (List ℕ)) (x : Expression) → IsExpr names ts x → list_all (λ t. not (is_apart t)) ts ≡ true

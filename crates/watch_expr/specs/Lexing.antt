@@ -11,7 +11,7 @@ pub record Placed : Type 0 where
   pub text : List ℕ
   pub column : ℕ
 
--- a line in tokens, and the column behind the line
+-- a line in tokens, and the column after the line
 pub record Lexed : Type 0 where
   pub tokens : List Placed
   pub end : ℕ
@@ -20,7 +20,7 @@ pub record Lexed : Type 0 where
 abbrev pub texts : Lexed → List (List ℕ)
 texts line = map (λ t. t.text) line.tokens
 
--- the column of a token, from 0, and behind the last one that of the line's end
+-- the column of a token, from 0, and after the last one that of the line's end
 abbrev pub column_at : Lexed → ℕ → ℕ
 column_at line n = unwrap_or (option_map (λ t. t.column) (slice_get line.tokens n)) line.end
 
@@ -77,7 +77,7 @@ pub data Lexes : ℕ → List ℕ → List Placed → Type 0 where
   token : (column n : ℕ) (bytes : List ℕ) (ts : List Placed) → IsLongest bytes n → Lexes (column + n) (drop n bytes) ts
       → Lexes column bytes (record { text = take n bytes; column = column } ∷ ts)
 
--- Among the bytes from a column on, the first byte that begins no token stands at this one.
+-- Among the bytes from a column on, the first byte that begins no token is at this one.
 pub data IsBadAt : ℕ → List ℕ → ℕ → Type 0 where
   here : (column b : ℕ) (bytes : List ℕ) → is_blank b ≡ false → BeginsNone (b ∷ bytes) → IsBadAt column (b ∷ bytes) column
   past_blank : (column b : ℕ) (bytes : List ℕ) (bad : ℕ) → is_blank b ≡ true → IsBadAt (column + 1) bytes bad → IsBadAt column (b ∷ bytes) bad

@@ -45,7 +45,7 @@ settle_operators k (Left op y ∷ s) x = if nat_le k (operator_level op) then se
 settle_operators k (Front op ∷ s) x = settle_operators k s (One op x)
 settle_operators k (Inside o ∷ s) x = (Inside o ∷ s, x)
 
--- a comparison stands to the left
+-- a comparison is to the left
 abbrev pub compares : List PendingOperator → Bool
 compares (Left op y ∷ s) = operator_level op == 2
 compares _ = false
@@ -164,7 +164,7 @@ abbrev pub went_if : Option RustWent → Option Went
 went_if None = None
 went_if (Some w) = Some (went_of w)
 
--- the last frame stands first
+-- the last frame comes first
 abbrev pub pile : List PendingOperator → List Frame → List PendingOperator
 pile under [] = under
 pile under (f ∷ fs) = pile (pending f ∷ under) fs

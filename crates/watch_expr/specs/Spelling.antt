@@ -42,7 +42,7 @@ abbrev pub hex_number_of : List ℕ → Option ℕ
 hex_number_of digits =
     if nat_lt 0 (length digits) && list_all is_ascii_hexdigit digits then at_most most_number (Some (digits_value 16 digits)) else None
 
--- The number that a word is: in decimal digits, or in hexadecimal ones behind 0x.
+-- The number that a word is: in decimal digits, or in hexadecimal ones after 0x.
 abbrev pub number_in : List ℕ → Option ℕ
 number_in word = if bytes_eq (take 2 word) (codes "0x") then hex_number_of (drop 2 word) else at_most most_number (decimal_of word)
 
@@ -82,7 +82,7 @@ unary_sign unary.Not = codes "!"
 abbrev pub unaries : List Unary
 unaries = unary.Minus ∷ unary.Not ∷ []
 
--- the operator in front of an operand with this sign
+-- the operator before an operand with this sign
 unfoldable pub unary_of : List ℕ → Option Unary
 unary_of text = find (λ op. bytes_eq (unary_sign op) text) unaries
 

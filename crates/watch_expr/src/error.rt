@@ -8,16 +8,16 @@ use thiserror::Error;
 /// Why a line or an expression is refused.
 #[derive(Clone, Copy, Debug, PartialEq, Eq, Error)]
 pub enum ExprError {
-    /// The byte or the token at this column, counted from 1, can't stand there.
+    /// The byte or the token at this column, counted from 1, can't be there.
     #[error("syntax at column {0}")]
     Syntax(u32),
-    /// A name is that of no node, or `@_` stands outside an aggregate.
+    /// A name is that of no node, or `@_` is outside an aggregate.
     #[error("no such node")]
     NoNode,
     /// There are too many tokens, or too many brackets are open at once.
     #[error("too deep")]
     TooDeep,
-    /// An aggregate stands in an aggregate.
+    /// An aggregate is in an aggregate.
     #[error("an aggregate in an aggregate")]
     Nested,
     /// There is no memory for what was read.

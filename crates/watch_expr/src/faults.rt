@@ -8,9 +8,9 @@ use crate::expr::{Expr, NodeName};
 /// What may be wrong with an expression that is of the grammar.
 #[derive(Clone, Copy, Debug, PartialEq, Eq)]
 pub struct Faults {
-    /// An aggregate stands in an aggregate.
+    /// An aggregate is in an aggregate.
     pub nested: bool,
-    /// A name is that of no node, or `@_` stands outside an aggregate.
+    /// A name is that of no node, or `@_` is outside an aggregate.
     pub no_node: bool,
     /// A variable is named.
     pub variable: bool,
@@ -48,7 +48,7 @@ impl Faults {
     }
 }
 
-/// The faults of an expression that stands in an aggregate, or in none.
+/// The faults of an expression that is in an aggregate, or in none.
 fn faults_in(e: &Expr, inside: bool) -> Faults
     ensures nested { result.nested ≡ ((inside && has_aggregate (expression_of e.now)) || is_nested (expression_of e.now)) }
     ensures no_node { result.no_node ≡ lacks_node inside (expression_of e.now) }

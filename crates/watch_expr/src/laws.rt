@@ -12,7 +12,7 @@ pub fn exact_reading()
     ensures { ExactReading }
 {}
 
-/// No comma, semicolon, brace or string stands in an expression.
+/// No comma, semicolon, brace or string is in an expression.
 pub fn none_apart()
     ensures { NoneApart }
 {}

@@ -66,7 +66,7 @@ fn word_length(bytes: &[u8]) -> usize
     bytes.iter().take_while(|b| is_word_byte(**b)).count()
 }
 
-/// How many bytes the string has of which the first quote was taken.
+/// How many bytes the string has whose first quote was taken.
 fn string_length(rest: &[u8]) -> Option<usize>
     ensures { result ≡ string_end rest.now }
 {
@@ -77,7 +77,7 @@ fn string_length(rest: &[u8]) -> Option<usize>
     Some(end + 2)
 }
 
-/// The place of the first byte that stands in no string.
+/// The place of the first byte that is in no string.
 fn string_stop(bytes: &[u8]) -> Option<usize>
     ensures stop { result ≡ position (λ b. not (is_byte_of_string b)) bytes.now }
     ensures within { IfSome result (λ n. n < length bytes.now) }
@@ -144,7 +144,7 @@ fn is_too_deep(tokens: &[Token]) -> bool
     false
 }
 
-/// How many brackets are open behind a token, where at most so many were.
+/// How many brackets are open after a token, where at most so many were.
 fn depth_with(depth: u32, text: &[u8]) -> u32
     requires { depth ≤ 64 }
     ensures { result ≡ depth_after depth text.now }

@@ -6,8 +6,8 @@
 //! `View` and a `Scope` of the caller's, which contracts see as a list of nodes and as a function (`specs/View`). `eval_reads`
 //! gives the value with the places that it was read from (`specs/Reads`). The laws say that the tokens of a line and the
 //! expression of tokens are the only ones and are computed (`exact_cut`, `exact_reading`), and that a value stays where none of
-//! its places changed (`reads_tell`). Inside, a machine with a stack reads expressions (`specs/Machine`), so that brackets in
-//! brackets take no stack of the program's.
+//! its places changed (`reads_tell`). Expressions are read by a machine with a stack, which `specs/Machine` computes, so that
+//! brackets in brackets take no stack of the program's. Inside is the tally of an aggregate (`specs/ValueTally`).
 #![tactic(auto)]
 
 mod error;

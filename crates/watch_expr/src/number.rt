@@ -11,7 +11,7 @@ use std::str;
 pub const MOST_NUMBER: u64 = i64::MAX as u64;
 
 #[tactic(auto, using(crate::proofs::WordNumbers::at_most_up_to), unfolding(crate::specs::Spelling::number_of))]
-/// The number that the word is, if it is one: in decimal digits, or in hexadecimal ones behind `0x`.
+/// The number that the word is, if it is one: in decimal digits, or in hexadecimal ones after `0x`.
 pub(crate) fn read_number(word: &[u8]) -> Option<u64>
     ensures { result ≡ number_of word.now }
 {

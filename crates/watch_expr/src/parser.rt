@@ -15,7 +15,7 @@ use fri_bytes::Bytes;
 use std::alloc::{AllocError, Global};
 
 /// Reads the expression that begins at a token, as far as the tokens go on with some expression, and gives the
-/// number of the token behind it. The names are those of the nodes, in their order.
+/// number of the token after it. The names are those of the nodes, in their order.
 pub fn parse(
     alloc: Global,
     tokens: &Tokens,
@@ -252,7 +252,7 @@ fn global(node: NodeName, n: u64, text: &[u8]) -> Option<Went>
     }
 }
 
-/// Behind an operand, an operator.
+/// After an operand, an operator.
 fn operator(alloc: Global, frames: &mut Vec<Frame>, x: Expr, op: Binary) -> Result<Step, AllocError>
     ensures { IfOk result (λ s. GivesStep (after_operator op (settle_operators (left_level op) (pile [] frames.old.items) (expression_of x)))
         (Have (pile [] frames.old.items) (expression_of x)) frames.new.items s) }
@@ -265,7 +265,7 @@ fn operator(alloc: Global, frames: &mut Vec<Frame>, x: Expr, op: Binary) -> Resu
     Ok(Step::Next(Mode::Want))
 }
 
-/// Behind an operand, a token that is no operator.
+/// After an operand, a token that is no operator.
 fn close(alloc: Global, frames: &mut Vec<Frame>, x: Expr, text: &[u8]) -> Result<Step, AllocError>
     ensures { IfOk result (λ s. GivesStep (after_closing text.now (settle_operators 0 (pile [] frames.old.items) (expression_of x)))
         (Have (pile [] frames.old.items) (expression_of x)) frames.new.items s) }
@@ -285,7 +285,7 @@ fn close(alloc: Global, frames: &mut Vec<Frame>, x: Expr, text: &[u8]) -> Result
     }
 }
 
-/// What was opened and a token behind it.
+/// What was opened and a token after it.
 #[tactic(auto, using(crate::proofs::StackPiles::pile_push))]
 fn closed(
     alloc: Global,

@@ -5,7 +5,7 @@ ghost use Rattle.watch_expr.specs.Lexing.{texts, column_at, number_of_token_at};
 use crate::number::read_number;
 use std::marker::Model;
 
-/// A token: its bytes as they stand in the line, and the column of the first of them.
+/// A token: its bytes as they are in the line, and the column of the first of them.
 #[derive(Drop)]
 pub(crate) struct Token<'a> {
     pub(crate) text: &'a [u8],
@@ -43,7 +43,7 @@ impl<'a> Tokens<'a> {
         self.tokens.len()
     }
 
-    /// The bytes of the token with this number, from 0, and None exactly behind the last.
+    /// The bytes of the token with this number, from 0, and None exactly after the last.
     pub fn text(&self, n: usize) -> Option<&'a [u8]>
         ensures text { option_map (λ text. text.now) result ≡ slice_get (texts self.now) n }
         ensures small { IfSome result (λ _. n < 2 ^ 63) }
@@ -58,7 +58,7 @@ impl<'a> Tokens<'a> {
         read_number(self.text(n)?)
     }
 
-    /// The column of the token, and behind the last token the one behind the line.
+    /// The column of the token, and after the last token the one after the line.
     pub fn column(&self, n: usize) -> u32
         ensures { result ≡ column_at self.now n }
     {

@@ -3,7 +3,7 @@ ghost use Rattle.std.specs.Prelude.{◌≡◌, ◌<◌, ℕ, ℤ, List, Option, 
 ghost use Rattle.guest_memory.specs.Memory.{IsMemory};
 ghost use Rattle.watch_expr.specs.View.{Node, node_clock, events_at, global_at, part_at, size_at};
 
-/// A group of which an expression is evaluated. It tells a state for each node.
+/// A group over which an expression is evaluated. It tells a state for each node.
 pub trait View {
     /// The states of the nodes, by their numbers.
     ghost nodes: { Self → List Node };

@@ -119,7 +119,7 @@ pub(crate) fn read_binary(sign: &[u8]) -> Option<Binary>
         .find(|op| sign_of_binary(*op).as_bytes() == sign)
 }
 
-/// The operator in front of an operand with this sign.
+/// The operator before an operand with this sign.
 #[tactic(auto, unfolding(crate::specs::Spelling::unary_of))]
 pub(crate) fn read_unary(sign: &[u8]) -> Option<Unary>
     ensures { result ≡ unary_of sign.now }
@@ -166,7 +166,7 @@ pub(crate) fn read_node(names: &[Bytes], word: &[u8]) -> NodeName
     }
 }
 
-/// Where this name stands among the names.
+/// Where this name is among the names.
 pub fn find_name(names: &[Bytes], word: &[u8]) -> Option<usize>
     ensures place { result ≡ position (λ name. bytes_eq name word.now) names.now }
     ensures within { IfSome result (λ n. n < length names.now) }

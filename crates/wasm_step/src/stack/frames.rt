@@ -186,7 +186,7 @@ fn append_all(items: &mut Vec<Slot>, more: &[Slot]) -> Result<(), AllocError>
 /// no faster, and which valgrind counts for each byte.
 const PIECE: usize = 64;
 
-// These values behind the others, for which there is room.
+// These values after the others, for which there is room.
 #[inline(always)]
 fn append_reserved(items: &mut Vec<Slot>, more: &[Slot], few: bool)
     requires { length items.old.items + length more.now ≤ vec_capacity items.old }

@@ -8,7 +8,7 @@ use crate::value::places::within;
 use crate::view::View;
 use std::alloc::AllocError;
 
-// What a load of so many bytes reads beside its address.
+// What a load of so many bytes reads besides its address.
 pub(crate) fn push_load<V: View>(
     v: &V,
     node: Option<u32>,

@@ -13,13 +13,13 @@ shaped : {A : Type 0} → ExactReaders → (f : A → Entry × List ℕ) (v w : 
 shaped readers f v w last bytes are same None e = tt
 shaped readers f v w last bytes are same (Some x) e = (read_entry-found readers w last bytes (f x).0 (f x).1 are (sym e)).0
 
--- which stands at the front
+-- which is at the front
 spelled : {A : Type 0} → ExactReaders → (f : A → Entry × List ℕ) (v w : Version) (last : ℕ) (bytes : List ℕ) → AreBytes bytes → v ≡ w → (r : Option A) → option_map f r ≡ read_entry w last bytes → IfSome r (λ x. bytes ≡ encoding v last (f x).0 ++ (f x).1)
 spelled readers f v w last bytes are same None e = tt
 spelled readers f v w last bytes are same (Some x) e =
     subst (λ (u : Version). bytes ≡ encoding u last (f x).0 ++ (f x).1) (sym same) (read_entry-found readers w last bytes (f x).0 (f x).1 are (sym e)).1
 
--- where nothing is read, none stands there
+-- where nothing is read, none is there
 none : {A : Type 0} → ExactReaders → (f : A → Entry × List ℕ) (v w : Version) (last : ℕ) (bytes : List ℕ) → v ≡ w → (r : Option A) → option_map f r ≡ read_entry w last bytes → IfNone r (BeginsNoEntry v last bytes)
 none readers f v w last bytes same None e =
     subst (λ (u : Version). BeginsNoEntry u last bytes) (sym same) (read_entry-none readers w last bytes (sym e))

@@ -12,7 +12,7 @@ short_byte : (n : ℕ) → n < 128 → short_bytes n ≡ n ∷ []
 unfolding short_bytes
 short_byte n small = rw (lt-ltb n 128 small) refl
 
--- a short body behind its length is the entry
+-- a short body after its length is the entry
 behind_length : (last : ℕ) (e : Entry) → length (body_bytes Two last e) < 128 → encoding Two last e ≡ length (body_bytes Two last e) ∷ body_bytes Two last e
 unfolding encoding
 behind_length last e small = ap (λ (t : List ℕ). t ++ body_bytes Two last e) (short_byte (length (body_bytes Two last e)) small)

@@ -112,7 +112,7 @@ returns-then-said-ge-MOST_LINES-clause-ticks g c =
     (λ done same. is ∙ ap (λ (p : GroupPlace). c.args.steps.now + ticks first.start (watched ps) first.at (p.at - first.at)) (sym same))
     c.arrive-then-said-ge-MOST_LINES.ensures.group
 
--- where a walk ended, what was said and the position came to be its text
+-- where a walk ended, what was said and the position reached are its text
 pub returns-then-is_none-clause-walks : goal.returns-then-is_none-clause-walks
 returns-then-is_none-clause-walks g c =
     let i = c.positions.invariant in

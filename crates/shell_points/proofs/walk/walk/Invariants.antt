@@ -7,7 +7,7 @@ use Rattle.shell_points.specs.Walking.{lines_in, walk_from, walk_over}
 use Rattle.shell_points.specs.Watching.{IsWatching, watched}
 use Rattle.shell_points.proofs.walk.walk.Given as goal
 
--- the walk from here on, behind what it made and said so far, is the whole
+-- the walk from here on, after what it made and said so far, is the whole
 abbrev pub invariant-positions : goal.invariant-positions
 invariant-positions g l = record {
   start : l.walked.group.start ≡ l.fn.group.start;
