@@ -2,7 +2,8 @@
 """Lists the public names of the crates that have two homes or two meanings, and the laws that docs/architecture.md does not tell
 as they stand, and fails where there is one.
 
-check_words.py [CRATE ..]   (all crates, if none is given)
+check_words.py [CRATE ..]       (all crates, if none is given)
+check_words.py --home NAME ..   prints where these names are defined, and checks nothing
 
 No other crate can see what a program has, so only libraries are read. Names are those of public definitions in specs/ and of public functions, types, traits and constants in src/. Methods, fields and
 constructors are not among them, since they are read with their type. A name has two homes where two crates define it, or one
@@ -140,7 +141,8 @@ def laws_apart(crates):
 
 
 def main():
-    chosen = sys.argv[1:]
+    asked = sys.argv[2:] if sys.argv[1:2] == ["--home"] else None
+    chosen = sys.argv[1:] if asked is None else []
     crates = sorted(path.split(os.sep)[-3] for path in glob.glob(os.path.join(TOP, "crates", "*", "src", "lib.rt")))
     unknown = set(chosen) - set(crates)
     if unknown:
@@ -149,6 +151,9 @@ def main():
     for crate in crates:
         for name, home in names_of(crate):
             names[name].append(home)
+    if asked is not None:
+        print(*("%s: %s" % (name, ", ".join(map(str, names.get(name, ["no public name"])))) for name in asked), sep="\n")
+        return 0 if asked and names.keys() >= set(asked) else 1
     listed = 0
     for name, homes in sorted(names.items()):
         groups = meanings(homes)
