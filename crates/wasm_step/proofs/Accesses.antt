@@ -7,9 +7,11 @@ use Rattle.wasm_types.specs.declared.code.Value.{Value}
 use Rattle.wasm_types.specs.declared.code.Value.TheVariants.{I32}
 use Rattle.wasm_values.specs.Access.{load_width, load_value}
 use Rattle.wasm_store.specs.Store.{Store}
-use Rattle.wasm_step.specs.Limits.{Within}
-use Rattle.wasm_step.specs.Reduce.{Goes, got, load, load_at, read_at}
-use Rattle.wasm_step.specs.Thread.{Thread, without}
+use Rattle.wasm_stack.specs.Limits.{Within}
+use Rattle.wasm_stack.specs.After.{Goes}
+use Rattle.wasm_stack.specs.Rows.{got}
+use Rattle.wasm_step.specs.Reduce.{load, load_at, read_at}
+use Rattle.wasm_stack.specs.Thread.{Thread, without}
 
 pub load_by : (op offset base w n : ℕ) (v : Value) (memory : Memory) (t : Thread) → t.stack ≡ I32 base ∷ drop 1 t.stack → load_width op ≡ Some w → loaded memory (base + offset) w ≡ Some n → load_value op n ≡ Some v → Goes (record t { stack = v ∷ drop 1 t.stack }) ≡ load op offset memory t
 load_by op offset base w n v memory t st width at value =

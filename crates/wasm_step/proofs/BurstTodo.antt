@@ -5,15 +5,18 @@ use Rattle.wasm_types.specs.declared.code.Value.{Value}
 use Rattle.wasm_types.specs.declared.code.Instr.{Instr}
 use Rattle.wasm_types.specs.Code.{Trees, End, Then, tree, trees}
 use Rattle.wasm_store.specs.Store.{Store}
-use Rattle.wasm_step.specs.declared.halt.Way.{Way}
-use Rattle.wasm_step.specs.declared.halt.Way.TheVariants as way
-use Rattle.wasm_step.specs.declared.halt.Next.{Next}
-use Rattle.wasm_step.specs.declared.halt.Next.TheVariants.{Going}
-use Rattle.wasm_step.specs.Answer.{after_of, halt_of, way_of}
+use Rattle.wasm_stack.specs.declared.halt.Way.{Way}
+use Rattle.wasm_stack.specs.declared.halt.Way.TheVariants as way
+use Rattle.wasm_stack.specs.declared.halt.Next.{Next}
+use Rattle.wasm_stack.specs.declared.halt.Next.TheVariants.{Going}
+use Rattle.wasm_stack.specs.Answer.{after_of, way_of}
+use Rattle.wasm_step.specs.Paused.{halt_of}
 use Rattle.wasm_step.specs.Burst.{At, burst, settle}
-use Rattle.wasm_step.specs.Limits.{Within}
-use Rattle.wasm_step.specs.Reduce.{Both, Halt, After, Goes, Stops, at_end, carried, ended, instr_row, keep, limited, reduce, resumed, leave_frame, with_carried}
-use Rattle.wasm_step.specs.Thread.{Level, Thread, closed, closed_to, is_end, left}
+use Rattle.wasm_stack.specs.Limits.{Within}
+use Rattle.wasm_step.specs.Reduce.{Both, instr_row, keep, reduce}
+use Rattle.wasm_stack.specs.After.{Halt, After, Goes, Stops, limited}
+use Rattle.wasm_stack.specs.Control.{at_end, carried, ended, resumed, leave_frame, with_carried}
+use Rattle.wasm_stack.specs.Thread.{Level, Thread, closed, closed_to, is_end, left}
 use Rattle.wasm_step.proofs.LevelEnds.{end_same, within_elsewhere}
 use Rattle.wasm_step.proofs.InPlace.{step_by}
 use Rattle.wasm_step.proofs.LevelRuns.{burst_ended, burst_stop, settle_here, step_on, step_stop, way_halts}

@@ -8,16 +8,17 @@ use Rattle.wasm_types.specs.Context.{Context}
 use Rattle.wasm_types.specs.Functions.{TypesAgree}
 use Rattle.wasm_types.specs.Modules.{Module}
 use Rattle.wasm_types.specs.Valid.{IsValid}
-use Rattle.wasm_step.specs.declared.halt.Stopped.{Stopped}
-use Rattle.wasm_step.specs.Answer.{stopped_of}
-use Rattle.wasm_step.specs.Paused.{stopped_result}
+use Rattle.wasm_step.specs.declared.run.Stopped.{Stopped}
+use Rattle.wasm_step.specs.Paused.{stopped_of, stopped_result}
 use Rattle.wasm_step.specs.Burst.{Settled, At, Done, BurstResult, at_next, after_end, settle_by, settle, one_step_at, one_step, spent, after_step, burst}
 use Rattle.wasm_values.specs.Values.{types_of_values}
 use Rattle.wasm_store.specs.Suits.{Suits}
 use Rattle.wasm_step.specs.Fits.{Leaves, Fits, HaltFits, AfterFits, BurstFits, StandsFit}
-use Rattle.wasm_step.specs.Reduce.{Both, Halt, Traps, After, Goes, Stops, instr_row, reduce, limited, ended, at_trap}
+use Rattle.wasm_step.specs.Reduce.{Both, instr_row, reduce}
+use Rattle.wasm_stack.specs.After.{Halt, Traps, After, Goes, Stops, limited, at_trap}
+use Rattle.wasm_stack.specs.Control.{ended}
 use Rattle.wasm_store.specs.Store.{Store}
-use Rattle.wasm_step.specs.Thread.{Thread, with_operand, fits_limits, depth}
+use Rattle.wasm_stack.specs.Thread.{Thread, with_operand, fits_limits, depth}
 use Rattle.wasm_step.proofs.BranchesFit.{block_fits, loop_fits, choose_fits, br_fits, br_if_fits, br_table_fits, return_row_fits}
 use Rattle.wasm_step.proofs.CallsFit.{call_row_fits, call_indirect_fits}
 use Rattle.wasm_step.proofs.ThreadsFit.{never_none, RestOf, labels_at, goes, rest_of, ended_fits}

@@ -18,18 +18,19 @@ use Rattle.wasm_types.specs.Stack.{BlockStack, is_same, pop_type, pop_each, pop_
 use Rattle.wasm_types.specs.Typing.{IsWellTyped}
 use Rattle.wasm_types.specs.Valid.{IsValid}
 use Rattle.wasm_types.specs.declared.traps.Trap.TheVariants as traps
-use Rattle.wasm_step.specs.Call.{site_of}
+use Rattle.wasm_stack.specs.Call.{site_of}
 use Rattle.wasm_types.specs.Locals.{zero_of, zeros}
 use Rattle.wasm_values.specs.Values.{type_of_value, types_of_values}
 use Rattle.wasm_store.specs.Suits.{Suits}
 use Rattle.wasm_step.specs.Fits.{known, put_type, label_of, Leaves, FramesFit, Fits, AfterFits, CallFits}
 use Rattle.wasm_step.specs.Reduce as Reduce
 use Rattle.wasm_types.specs.Functions.{TypesAgree, imported_type, own_type, type_of, same_types, same_type, own_func}
-use Rattle.wasm_step.specs.Reduce.{After, Goes, Stops, Calls, Sticks, with_result}
+use Rattle.wasm_stack.specs.After.{After, Goes, Stops, Calls, Sticks}
+use Rattle.wasm_stack.specs.Control.{with_result}
 use Rattle.wasm_store.specs.Store.{Store}
 use Rattle.wasm_step.specs.Strand.{IsResult, library_result, first_result}
 use Rattle.wasm_step.specs.Thread as Thread'
-use Rattle.wasm_step.specs.Thread.{Thread, Frame, without, arguments, waiting_frame, has_room}
+use Rattle.wasm_stack.specs.Thread.{Thread, Frame, without, arguments, waiting_frame, has_room}
 use Rattle.wasm_step.proofs.ThreadsFit.{never_none, is_same_equal, pops_type, RestOf, LeavesAt, with_result_fits}
 use Rattle.wasm_step.proofs.PlainRowsFit.{neither, step, After', End', Before, on_top_fits, on_i32_fits}
 

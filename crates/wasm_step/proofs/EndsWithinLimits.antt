@@ -4,9 +4,10 @@ use Rattle.std.specs.Prelude.{slice_get}
 use Rattle.wasm_types.specs.declared.code.Value.{Value}
 use Rattle.wasm_types.specs.declared.code.Value.TheVariants.{I32, I64}
 use Rattle.wasm_types.specs.Code.{Trees}
-use Rattle.wasm_step.specs.Limits.{Within}
-use Rattle.wasm_step.specs.Reduce.{After, Goes, Stops, at_end, branch, branch_if, branch_table, carried, ended, jump_by, label_at, landed, past, resumed, leave_frame, with_carried}
-use Rattle.wasm_step.specs.Thread.{Level, Frame, Thread, closed, closed_to, left, left_to, size_of_frames, size_of_levels}
+use Rattle.wasm_stack.specs.Limits.{Within}
+use Rattle.wasm_stack.specs.After.{After, Goes, Stops}
+use Rattle.wasm_stack.specs.Control.{at_end, branch, branch_if, branch_table, carried, ended, jump_by, label_at, landed, past, resumed, leave_frame, with_carried}
+use Rattle.wasm_stack.specs.Thread.{Level, Frame, Thread, closed, closed_to, left, left_to, size_of_frames, size_of_levels}
 use Rattle.wasm_step.proofs.LevelEnds.{within_closed}
 
 abbrev pub StaysWithin : After → Type 0

@@ -11,8 +11,9 @@ use Rattle.wasm_values.specs.Values.{bits_of}
 use Rattle.wasm_store.specs.Marks.{GrowthMarks, Marked, MarksFollow, NothingMarks, SetMarks, WritesMark}
 use Rattle.wasm_store.specs.Store.{Store}
 use Rattle.wasm_step.specs.Burst.{BurstResult, Settled, At, Done, after_step, burst, one_step, one_step_at, settle}
-use Rattle.wasm_step.specs.Reduce.{After, Both, Goes, Stops, reduce, set_global, write_at, write_value, write_top, grow_top}
-use Rattle.wasm_step.specs.Thread.{Thread}
+use Rattle.wasm_stack.specs.After.{After, Goes, Stops}
+use Rattle.wasm_step.specs.Reduce.{Both, reduce, set_global, write_at, write_value, write_top, grow_top}
+use Rattle.wasm_stack.specs.Thread.{Thread}
 
 choice : (g : Store) (b : Bool) (p q : Both) → Marked g p.store → Marked g q.store → Marked g (if b then p else q).store
 choice g true p q hp hq = hp

@@ -1,8 +1,5 @@
 -- Levels that open and end, of threads within their limits.
-use Rattle.std.proofs.Common.{◌≡◌, ℕ, zero, suc, ◌+◌, ◌-◌, ◌*◌, ◌<◌, ◌≤◌, Bool, true, List, [], ◌∷◌, ◌++◌, length, Option, Some, refl, sym, ap, subst, arith, length-append, ◌⊎◌, inl, inr, None, ◌∙◌}
-use Rattle.std.specs.Prelude.{is_some, nat_lt}
-use Rattle.std.proofs.lemmas.Bool.{lt-ltb}
-use Rattle.wasm_types.specs.declared.code.Value.{Value}
+use Rattle.std.proofs.Common.{◌≡◌, ℕ, zero, suc, ◌+◌, ◌-◌, ◌*◌, ◌<◌, ◌≤◌, true, List, [], ◌∷◌, ◌++◌, length, Option, Some, refl, sym, ap, subst, arith, length-append, ◌⊎◌, inl, inr, ◌∙◌}
 use Rattle.wasm_types.specs.declared.code.ValType.{ValType}
 use Rattle.std.specs.Global.{Vec}
 use Rattle.wasm_types.specs.declared.code.Instr.{Instr}
@@ -10,24 +7,18 @@ use Rattle.wasm_types.specs.declared.code.Instr.TheVariants as instr
 use Rattle.wasm_types.specs.Code.{Tree, Trees, Block, Loop, If, tree, trees}
 use Rattle.wasm_types.specs.CodeLaws.{tree-block, tree-if, tree-loop}
 use Rattle.wasm_store.specs.Store.{Store}
-use Rattle.wasm_step.specs.declared.stack.StackLevel.{StackLevel}
 use Rattle.wasm_step.specs.Burst.{after_both, one_step_at, settle, spent, burst}
-use Rattle.wasm_step.specs.Limits.{Within}
-use Rattle.wasm_step.specs.View.{and_close, closed_by, entered_by, levels_of}
-use Rattle.wasm_step.specs.Reduce.{Goes, ended, branch, jump, keep, on_test, past, instr_row, with_top}
-use Rattle.wasm_step.specs.Thread.{Level, Frame, Thread, is_end, closed, closed_to, depth, opened, size_of_thread, size_of_frames, size_of_levels, waiting}
+use Rattle.wasm_stack.specs.Limits.{Within}
+use Rattle.wasm_stack.specs.View.{entered_by}
+use Rattle.wasm_stack.specs.After.{Goes, with_top}
+use Rattle.wasm_stack.specs.Control.{ended, on_test}
+use Rattle.wasm_step.specs.Reduce.{keep, instr_row}
+use Rattle.wasm_stack.specs.Thread.{Level, Frame, Thread, is_end, closed, closed_to, depth, size_of_frames, size_of_levels, waiting}
 use Rattle.wasm_step.proofs.LevelRuns.{none_left, settle_end}
-
-pub outer_is : (gives : Option ValType) (ls : List StackLevel) (ops : List Value) (t : Thread) → is_some (closed_to (levels_of gives ls ops) t) ≡ nat_lt 0 (length ls)
-outer_is gives [] ops t = refl
-outer_is gives (l ∷ ls) ops t = sym (lt-ltb 0 (suc (length ls)) (omega arith))
 
 -- whatever is left to do
 pub within_elsewhere : (t : Thread) (rest : Trees) → Within t → Within (record t { todo = rest })
 within_elsewhere t rest h = record { frames = h.frames; size = h.size }
-
-pub within_opened : (t : Thread) (gives : Option ValType) (body target : Trees) (carries loops : Bool) → Within t → size_of_thread t < 16384 → Within (opened t gives body target carries loops)
-within_opened t gives body target carries loops h lt = record { frames = h.frames; size = omega (arith, lt) }
 
 within_closed_to : (outer : List Level) (t u : Thread) → t.outer ≡ outer → closed_to outer t ≡ Some u → Within t → Within u
 within_closed_to [] t u q e h = cc
@@ -64,18 +55,6 @@ depth_within t h = omega (arith, h.frames, h.size, levels_count t.outer, frames_
 -- an instruction less is worth more than the ends that it may add
 pub fewer_left : (left more less : ℕ) → 0 < left → more < 17000 → (left - 1) * 17000 + more < left * 17000 + less
 fewer_left left more less some lt = omega (arith, some, lt)
-
--- a branch past n levels is one to the level n levels around
-one_further : (o : Option Thread) (n : ℕ) → past o (branch (suc n)) ≡ past (and_close o) (branch n)
-one_further None n = refl
-one_further (Some t) n = refl
-
-further : (m n k : ℕ) (t : Thread) → m ≡ n + k → past (closed_by k t) (branch n) ≡ past (closed_by m t) (branch 0)
-further m zero k t e = let same : k ≡ m = omega arith in ap (λ j. past (closed_by j t) (branch 0)) same
-further m (suc n) k t e = one_further (closed_by k t) n ∙ further m n (suc k) t (omega arith)
-
-pub branch_by : (n : ℕ) (t : Thread) (o : Option Thread) → closed_by n t ≡ o → branch n t ≡ past o jump
-branch_by n t o e = further n n 0 t (omega arith) ∙ ap (λ (o : Option Thread). past o jump) e
 
 -- a block and a loop open a level with their body
 enters : (i j : Tree) (b b' : Trees) (t : Thread) (g : Store) → i ≡ j → b ≡ b' → instr_row j t g ≡ keep g (Goes (entered_by j b' t)) → instr_row i t g ≡ keep g (Goes (entered_by i b t))

@@ -2,15 +2,17 @@
 use Rattle.std.proofs.Common.{◌≡◌, ℕ, zero, suc, Bool, true, false, List, [], ◌∷◌, length, Option, Some, None, refl, sym, ap, ◌∙◌, arith}
 use Rattle.wasm_types.specs.declared.code.Value.{Value}
 use Rattle.wasm_types.specs.Code.{Tree, Trees, End, Then}
-use Rattle.wasm_step.specs.Paused.{settled_of}
-use Rattle.wasm_step.specs.Answer.{after_of, halt_of, way_of}
-use Rattle.wasm_step.specs.declared.halt.Next.{Next}
-use Rattle.wasm_step.specs.declared.halt.Way.{Way}
-use Rattle.wasm_step.specs.declared.halt.Way.TheVariants as way
-use Rattle.wasm_step.specs.declared.halt.Next.TheVariants.{Going, Calling, Ended, Trapped, Stuck}
+use Rattle.wasm_step.specs.Paused.{settled_of, halt_of}
+use Rattle.wasm_stack.specs.Answer.{after_of, way_of}
+use Rattle.wasm_stack.specs.declared.halt.Next.{Next}
+use Rattle.wasm_stack.specs.declared.halt.Way.{Way}
+use Rattle.wasm_stack.specs.declared.halt.Way.TheVariants as way
+use Rattle.wasm_stack.specs.declared.halt.Next.TheVariants.{Going, Calling, Ended, Trapped, Stuck}
 use Rattle.wasm_store.specs.Store.{Store}
-use Rattle.wasm_step.specs.Thread.{Level, Frame, Thread, is_end, closed_to, left, left_to, waiting, depth}
-use Rattle.wasm_step.specs.Reduce.{Halt, Sticks, After, Goes, Stops, carried, with_carried, resumed, reduce, at_end, ended}
+use Rattle.wasm_stack.specs.Thread.{Level, Frame, Thread, is_end, closed_to, left, left_to, waiting, depth}
+use Rattle.wasm_stack.specs.After.{Halt, Sticks, After, Goes, Stops}
+use Rattle.wasm_stack.specs.Control.{carried, with_carried, resumed, at_end, ended}
+use Rattle.wasm_step.specs.Reduce.{reduce}
 use Rattle.wasm_step.specs.Burst.{Settled, At, Done, at_next, after_end, settle_by, settle, after_step, after_both, one_step_at, spent, burst}
 
 -- each end leaves one less to end

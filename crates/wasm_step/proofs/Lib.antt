@@ -5,7 +5,6 @@ pub mod BurstsFit
 pub mod CallsFit
 pub mod EndsWithinLimits
 pub mod ThreadsFit
-pub mod EnteredFrames
 pub mod InPlace
 pub mod LevelEnds
 pub mod InstructionMarks
@@ -15,4 +14,3 @@ pub mod LevelRuns
 pub mod SameModule
 pub mod StoreRowsFit
 pub mod BurstTodo
-pub mod StackViews

@@ -9,7 +9,7 @@ use Rattle.wasm_values.specs.Access.{store_width}
 use Rattle.wasm_values.specs.Values.{bits_of}
 use Rattle.wasm_step.specs.Reduce.{Both, reduce, set_global, write_at, write_value, write_top, grow_top}
 use Rattle.wasm_store.specs.Store.{Store}
-use Rattle.wasm_step.specs.Thread.{Thread}
+use Rattle.wasm_stack.specs.Thread.{Thread}
 
 choice_module : (b : Bool) (p q : Both) (m : Module) → p.store.«module» ≡ m → q.store.«module» ≡ m → (if b then p else q).store.«module» ≡ m
 choice_module true p q m hp hq = hp

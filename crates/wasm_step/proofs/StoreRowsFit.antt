@@ -21,9 +21,10 @@ use Rattle.wasm_values.specs.Values.{bits_of, type_of_value, types_of_values}
 use Rattle.wasm_store.specs.Suits.{Suits}
 use Rattle.wasm_step.specs.Fits.{known, IsContext, Fits, AfterFits}
 use Rattle.wasm_step.specs.Reduce as Reduce
-use Rattle.wasm_step.specs.Reduce.{Both, After, Goes, Stops, Sticks, keep, at_trap}
+use Rattle.wasm_step.specs.Reduce.{Both, keep}
+use Rattle.wasm_stack.specs.After.{After, Goes, Stops, Sticks, at_trap}
 use Rattle.wasm_store.specs.Store.{Store, with_global, with_growth}
-use Rattle.wasm_step.specs.Thread.{Thread, with_operand}
+use Rattle.wasm_stack.specs.Thread.{Thread, with_operand}
 use Rattle.wasm_step.proofs.ThreadsFit.{never_none, pops_type, RestOf, LeavesAt, goes}
 use Rattle.wasm_step.proofs.Opcodes.{LoadFitsOf, LoadFits, StoreFitsOf, StoreFits, load_fits, store_fits}
 use Rattle.wasm_step.proofs.PlainRowsFit.{neither, step, last, read_value_type, written_value_types, written_within, After', End', Before, on_top_fits, on_i32_fits, got_fits}

@@ -14,9 +14,10 @@ use Rattle.wasm_types.specs.Modules.{Module}
 use Rattle.wasm_types.specs.Stack.{BlockStack, is_same, is_exactly, pop_type, pop_result}
 use Rattle.wasm_values.specs.Values.{type_of_value, types_of_values}
 use Rattle.wasm_step.specs.Fits.{TargetFits, known, put_type, label_of, labels_of, Leaves, LevelsFit, IsContext, FramesFit, Fits, AfterFits}
-use Rattle.wasm_step.specs.Reduce.{jump_by, After, carried, carry_top, with_carried, with_result, resumed, leave_frame, landed, jump, branch, at_end, ended}
+use Rattle.wasm_stack.specs.Control.{jump_by, carried, carry_top, with_carried, with_result, resumed, leave_frame, landed, jump, branch, at_end, ended}
+use Rattle.wasm_stack.specs.After.{After}
 use Rattle.wasm_step.specs.Strand.{IsResult}
-use Rattle.wasm_step.specs.Thread.{Level, Frame, Thread, with_operand, closed, closed_to, left, left_to}
+use Rattle.wasm_stack.specs.Thread.{Level, Frame, Thread, with_operand, closed, closed_to, left, left_to}
 
 -- ---- steps that have a result
 

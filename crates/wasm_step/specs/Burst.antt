@@ -3,8 +3,10 @@ use Rattle.std.specs.Prelude.{ℕ, zero, suc}
 use Rattle.wasm_types.specs.declared.traps.Trap.TheVariants.{Spent}
 use Rattle.wasm_types.specs.Code.{Tree, Trees, End, Then}
 use Rattle.wasm_store.specs.Store.{Store}
-use Rattle.wasm_step.specs.Thread.{Thread, depth}
-use Rattle.wasm_step.specs.Reduce.{Both, Halt, Traps, Sticks, After, Goes, Stops, keep, reduce, ended}
+use Rattle.wasm_stack.specs.After.{Halt, Traps, Sticks, After, Goes, Stops}
+use Rattle.wasm_stack.specs.Control.{ended}
+use Rattle.wasm_stack.specs.Thread.{Thread, depth}
+use Rattle.wasm_step.specs.Reduce.{Both, keep, reduce}
 
 -- a thread at its next instruction, with those after it, or at a stop
 pub data Settled : Type 0 where
@@ -52,6 +54,10 @@ one_step t g = one_step_at (settle t) g
 abbrev pub spent : Settled → Halt
 spent (At i t) = Traps Spent
 spent (Done s) = s
+
+-- a burst has at most so many instructions
+abbrev pub most_instructions : ℕ
+most_instructions = 10000000
 
 -- at most n instructions, and `Spent` where there is one more
 unfoldable pub burst : ℕ → Thread → Store → BurstResult

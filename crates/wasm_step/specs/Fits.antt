@@ -15,9 +15,10 @@ use Rattle.wasm_types.specs.Typing.{typed_instrs}
 use Rattle.wasm_store.specs.Suits.{Suits}
 use Rattle.wasm_values.specs.Values.{types_of_values}
 use Rattle.wasm_step.specs.Burst.{BurstResult}
-use Rattle.wasm_step.specs.Reduce.{Halt, Calls, Ends, Traps, Sticks, After, Goes, Stops, with_result}
+use Rattle.wasm_stack.specs.After.{Halt, Calls, Ends, Traps, Sticks, After, Goes, Stops}
+use Rattle.wasm_stack.specs.Control.{with_result}
 use Rattle.wasm_step.specs.Strand.{IsResult, library_result}
-use Rattle.wasm_step.specs.Thread.{Level, Frame, Thread, here}
+use Rattle.wasm_stack.specs.Thread.{Level, Frame, Thread, here}
 
 -- operands of these types and no others, in code that is reached
 abbrev pub known : List ValType → BlockStack

@@ -7,7 +7,7 @@ use Rattle.wasm_store.specs.Store.{Store}
 use Rattle.wasm_store.specs.Suits.{Suits}
 use Rattle.wasm_step.specs.Burst.{burst}
 use Rattle.wasm_step.specs.Fits.{BurstFits, Fits}
-use Rattle.wasm_step.specs.Thread.{Thread}
+use Rattle.wasm_stack.specs.Thread.{Thread}
 
 -- A burst of a valid module, from a thread that fits it and a store that suits it, never sticks: it stops at
 -- a call of an imported function, at the thread's end or by a trap. The store then still suits.

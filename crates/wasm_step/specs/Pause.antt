@@ -4,7 +4,7 @@ use Rattle.wasm_types.specs.Modules.{Module}
 use Rattle.wasm_step.specs.declared.strand.Pause.{Pause}
 use Rattle.wasm_step.specs.declared.strand.Pause.TheVariants.{AtCall, Ended, Trapped}
 use Rattle.wasm_step.specs.Burst.{BurstResult}
-use Rattle.wasm_step.specs.Reduce.{Halt, Calls, Ends, Traps}
+use Rattle.wasm_stack.specs.After.{Halt, Calls, Ends, Traps}
 use Rattle.wasm_store.specs.Store.{Store}
 
 abbrev pub pause_halt : Pause → Halt

@@ -1,15 +1,26 @@
 -- What a burst answers, as the definitions have it.
-use Rattle.wasm_step.specs.declared.halt.Stopped.{Stopped}
-use Rattle.wasm_step.specs.Answer.{stopped_of}
+use Rattle.wasm_step.specs.declared.run.Stopped.{Stopped}
+use Rattle.wasm_step.specs.declared.run.Stopped.TheVariants as stopped
 use Rattle.wasm_step.specs.Burst.{Settled, Done, BurstResult, at_next}
-use Rattle.wasm_step.specs.Reduce.{After, Goes, Stops, Sticks}
+use Rattle.wasm_stack.specs.After.{After, Halt, Calls, Ends, Traps, Goes, Stops, Sticks}
 use Rattle.wasm_store.specs.Store.{Store}
-use Rattle.wasm_step.specs.Thread.{Thread}
+use Rattle.wasm_stack.specs.Thread.{Thread}
 
 -- a thread that goes on is at its next instruction
 abbrev pub settled_of : After → Settled
 settled_of (Goes t) = at_next t.todo t (Done Sticks)
 settled_of (Stops s) = Done s
+
+-- how a thread stops that does not go on
+abbrev pub halt_of : After → Halt
+halt_of (Goes t) = Sticks
+halt_of (Stops s) = s
+
+abbrev pub stopped_of : Stopped → Thread → Halt
+stopped_of (stopped.Calling site) t = Calls t site
+stopped_of stopped.Ended t = Ends
+stopped_of (stopped.Trapped trap) t = Traps trap
+stopped_of stopped.Stuck t = Sticks
 
 abbrev pub stopped_result : Stopped → Thread → Store → BurstResult
 stopped_result s t g = record { stop = stopped_of s t; store = g }

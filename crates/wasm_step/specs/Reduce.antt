@@ -1,36 +1,22 @@
--- What one instruction does to a thread and to the store, and what the end of a level or of a frame does
--- to a thread (WebAssembly 1.0, section 4.4).
-use Rattle.std.specs.Prelude.{ℕ, zero, suc, ◌+◌, ◌-◌, ◌^◌, Bool, true, false, List, [], ◌∷◌, Option, Some, None, is_some, slice_get, slice_set, length, nat_lt, if◌then◌else◌}
+-- What one instruction does to a thread and to the store (WebAssembly 1.0, section 4.4).
+use Rattle.std.specs.Prelude.{ℕ, ◌+◌, ◌-◌, ◌^◌, false, true, List, [], ◌∷◌, Option, Some, None, is_some, slice_get, length, nat_lt, if◌then◌else◌}
 use Rattle.guest_memory.specs.Memory.{Memory, size_of, loaded, is_inside, after_store, growth}
 use Rattle.wasm_types.specs.declared.code.Value.{Value}
 use Rattle.wasm_types.specs.declared.code.Value.TheVariants.{I32, I64}
-use Rattle.wasm_types.specs.declared.code.ValType.{ValType}
-use Rattle.wasm_types.specs.declared.traps.Trap.{Trap}
 use Rattle.wasm_types.specs.declared.traps.Trap.TheVariants as traps
-use Rattle.wasm_types.specs.Code.{Tree, Unreachable, Nop, Block, Loop, If, Br, BrIf, BrTable, Return, CallFunc, CallIndirect, DropTop, Select, LocalGet, LocalSet, LocalTee, GlobalGet, GlobalSet, Load, Store as StoreIn, MemorySize, MemoryGrow, ConstI32, ConstI64, ConstF32, ConstF64, Op, Trees}
+use Rattle.wasm_types.specs.Code.{Tree, Unreachable, Nop, Block, Loop, If, Br, BrIf, BrTable, Return, CallFunc, CallIndirect, DropTop, Select, LocalGet, LocalSet, LocalTee, GlobalGet, GlobalSet, Load, Store as StoreIn, MemorySize, MemoryGrow, ConstI32, ConstI64, ConstF32, ConstF64, Op}
 use Rattle.wasm_types.specs.Functions.{imported_type, type_of, same_type}
 use Rattle.wasm_types.specs.Modules.{Module, Func, FuncType}
-use Rattle.wasm_step.specs.declared.call.CallSite.{CallSite}
-use Rattle.wasm_values.specs.Values.{bits_of}
-use Rattle.wasm_step.specs.Call.{site_of}
-use Rattle.wasm_values.specs.Numeric.{Computed, Gives, Fails, IsNone, is_unary, unary, binary}
 use Rattle.wasm_values.specs.Access.{load_width, load_value, store_width}
+use Rattle.wasm_values.specs.Values.{bits_of}
+use Rattle.wasm_stack.specs.After.{After, Goes, Stops, Sticks, at_trap, limited, on_i32, with_top}
+use Rattle.wasm_stack.specs.Calling.{call_library, call_typed}
+use Rattle.wasm_stack.specs.Control.{branch, branch_if, branch_table, choose, leave_frame}
+use Rattle.wasm_stack.specs.Rows.{drop_top, got, local_get, local_set, local_tee, numeric, select}
+use Rattle.wasm_stack.specs.Thread.{Thread, opened, with_operand}
 use Rattle.wasm_store.specs.Store.{Store, with_global, with_growth}
-use Rattle.wasm_step.specs.Thread.{Thread, with_operand, opened, closed, left, called, arguments, without, fits_limits, has_room}
 
--- how a thread stops: at a call of the library, at its end, by a trap, or where no row is for it
-pub data Halt : Type 0 where
-  Calls : Thread → CallSite → Halt
-  Ends : Halt
-  Traps : Trap → Halt
-  Sticks : Halt
-
--- what comes after a step
-pub data After : Type 0 where
-  Goes : Thread → After
-  Stops : Halt → After
-
--- the same with the store
+-- what comes after an instruction, with the store
 pub record Both : Type 0 where
   pub after : After
   pub store : Store
@@ -38,69 +24,6 @@ pub record Both : Type 0 where
 -- the store stays
 abbrev pub keep : Store → After → Both
 keep g a = record { after = a; store = g }
-
-abbrev pub go_on : Option Thread → After
-go_on None = Stops Sticks
-go_on (Some t) = Goes t
-
-abbrev pub at_trap : Trap → After
-at_trap trap = Stops (Traps trap)
-
--- the topmost operand
-abbrev pub on_top : List Value → Thread → (Value → Thread → After) → After
-on_top [] t go = Stops Sticks
-on_top (v ∷ rest) t go = go v (record t { stack = rest })
-
-abbrev pub with_top : Thread → (Value → Thread → After) → After
-with_top t go = on_top t.stack t go
-
--- the number of an operand of 32 bits
-abbrev pub on_i32 : Value → (ℕ → After) → After
-on_i32 (I32 x) go = go x
-on_i32 (I64 x) go = Stops Sticks
-
--- ---- numbers
-
-abbrev pub put_computed : Computed → Thread → After
-put_computed (Gives v) t = Goes (with_operand t v)
-put_computed (Fails trap) t = at_trap trap
-put_computed IsNone t = Stops Sticks
-
-abbrev pub numeric : ℕ → Thread → After
-numeric op t =
-    if is_unary op
-    then with_top t (λ x t'. put_computed (unary op x) t')
-    else with_top t (λ y t'. with_top t' (λ x t''. put_computed (binary op x y) t''))
-
--- ---- operands and locals
-
-abbrev pub drop_top : Thread → After
-drop_top t = with_top t (λ v t'. Goes t')
-
--- the second operand where the condition is 0, and else the first
-abbrev pub chosen : Value → Value → ℕ → Value
-chosen first second zero = second
-chosen first second (suc n) = first
-
-abbrev pub select : Thread → After
-select t =
-    with_top t (λ v t'. with_top t' (λ second t''. with_top t'' (λ first t'''. on_i32 v (λ n. Goes (with_operand t''' (chosen first second n))))))
-
-abbrev pub got : Option Value → Thread → After
-got None t = Stops Sticks
-got (Some v) t = Goes (with_operand t v)
-
-abbrev pub local_get : ℕ → Thread → After
-local_get x t = got (slice_get t.locals x) t
-
-abbrev pub local_put : ℕ → Value → Thread → After
-local_put x v t = if nat_lt x (length t.locals) then Goes (record t { locals = slice_set t.locals x v }) else Stops Sticks
-
-abbrev pub local_set : ℕ → Thread → After
-local_set x t = with_top t (λ v t'. local_put x v t')
-
-abbrev pub local_tee : ℕ → Thread → After
-local_tee x t = with_top t (λ v t'. local_put x v (with_operand t' v))
 
 -- ---- globals
 
@@ -170,105 +93,7 @@ grow_top (I32 pages ∷ rest) g t = record {
 abbrev pub memory_grow : Store → Thread → Both
 memory_grow g t = grow_top t.stack g t
 
--- ---- control
-
--- what a branch or an end carries: the topmost operand where there is to be one
-pub data Carried : Type 0 where
-  Takes : Option Value → Thread → Carried
-  Lacks : Carried
-
-abbrev pub carry_top : List Value → Thread → Carried
-carry_top [] t = Lacks
-carry_top (v ∷ rest) t = Takes (Some v) (record t { stack = rest })
-
-abbrev pub carried : Bool → Thread → Carried
-carried false t = Takes None t
-carried true t = carry_top t.stack t
-
-abbrev pub with_carried : Carried → (Option Value → Thread → After) → After
-with_carried Lacks go = Stops Sticks
-with_carried (Takes o t) go = go o t
-
-abbrev pub with_result : Option Value → Thread → Thread
-with_result None t = t
-with_result (Some v) t = with_operand t v
-
--- the caller goes on with what the frame carries; the thread ends with its outermost frame
-abbrev pub resumed : Option Thread → Option Value → After
-resumed None o = Stops Ends
-resumed (Some t) o = Goes (with_result o t)
-
--- the end of the innermost frame, from any of its levels
-abbrev pub leave_frame : Thread → After
-leave_frame t = with_carried (carried t.returns t) (λ o t'. resumed (left t') o)
-
--- a branch out of the innermost level goes on in the level around it, and the frame's outermost level returns
-abbrev pub landed : Option Thread → Thread → Trees → Option Value → After
-landed None t target o = resumed (left t) o
-landed (Some t') t target o = Goes (with_result o (record t' { todo = target }))
-
-abbrev pub jump_out : Thread → After
-jump_out t =
-    with_carried (carried t.carries t) (λ o t'. landed (closed (record t' { stack = [] })) (record t' { stack = [] }) t.target o)
-
--- a loop begins again; that is not a further instruction
-abbrev pub jump_by : Bool → Thread → After
-jump_by true t = Goes (record t { todo = t.target; stack = [] })
-jump_by false t = jump_out t
-
--- a branch to the innermost level
-abbrev pub jump : Thread → After
-jump t = jump_by t.loops t
-
--- a branch past n levels, whose operands the branch's own level takes over
-abbrev pub past : Option Thread → (Thread → After) → After
-past None go = Stops Sticks
-past (Some t) go = go t
-
-abbrev pub branch : ℕ → Thread → After
-branch zero t = jump t
-branch (suc n) t = past (closed t) (branch n)
-
--- the first at 0, and else the second
-abbrev pub on_test : Value → After → After → After
-on_test (I64 x) a b = Stops Sticks
-on_test (I32 zero) a b = a
-on_test (I32 (suc x)) a b = b
-
-abbrev pub branch_if : ℕ → Thread → After
-branch_if n t = with_top t (λ v t'. on_test v (Goes t') (branch n t'))
-
--- the label at an index, and past the labels the default
-abbrev pub label_at : Option ℕ → ℕ → ℕ
-label_at None default = default
-label_at (Some label) default = label
-
-abbrev pub branch_table : List ℕ → ℕ → Thread → After
-branch_table labels default t = with_top t (λ v t'. on_i32 v (λ i. branch (label_at (slice_get labels i) default) t'))
-
-abbrev pub choose : Option ValType → Trees → Trees → Thread → After
-choose gives on_true on_false t =
-    with_top t (λ v t'. on_test v
-    (Goes (opened t' gives on_false t'.todo (is_some gives) false))
-    (Goes (opened t' gives on_true t'.todo (is_some gives) false)))
-
 -- ---- calls
-
--- a call of the library is counted with its results among the operands
-abbrev pub at_call : Option (List Value) → ℕ → FuncType → Thread → After
-at_call None f type t = Stops Sticks
-at_call (Some args) f type t =
-    if has_room (length type.results) (without (length type.params) t)
-    then Stops (Calls (without (length type.params) t) (site_of f args))
-    else at_trap traps.Exhausted
-
-abbrev pub call_library : ℕ → Option FuncType → Thread → After
-call_library f None t = Stops Sticks
-call_library f (Some type) t = at_call (arguments (length type.params) t) f type t
-
-abbrev pub call_typed : ℕ → Func → Option FuncType → Thread → After
-call_typed f func None t = Stops Sticks
-call_typed f func (Some type) t = go_on (called t f func type)
 
 abbrev pub call_own : Module → ℕ → Option Func → Thread → After
 call_own m f None t = Stops Sticks
@@ -326,19 +151,6 @@ instr_row (ConstF32 bits) t g = keep g (Stops Sticks)
 instr_row (ConstF64 bits) t g = keep g (Stops Sticks)
 instr_row (Op op) t g = keep g (numeric op t)
 
--- a thread past its limits traps
-abbrev pub limited : After → After
-limited (Stops s) = Stops s
-limited (Goes t) = if fits_limits t then Goes t else at_trap traps.Exhausted
-
 -- one instruction; its own trap comes before the limits
 abbrev pub reduce : Tree → Thread → Store → Both
 reduce i t g = let r = instr_row i t g in record { after = limited r.after; store = r.store }
-
--- the end of a level, or of a frame with its outermost level
-abbrev pub at_end : Option Thread → Thread → After
-at_end None t = leave_frame t
-at_end (Some t') t = Goes t'
-
-abbrev pub ended : Thread → After
-ended t = at_end (closed t) t

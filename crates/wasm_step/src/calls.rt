@@ -1,244 +1,162 @@
 // Calls: of the library, of the module's own functions, and through the table.
-ghost use Rattle.std.specs.Prelude.{◌≡◌, ℕ, ◌+◌, ◌≤◌, [], ◌∷◌, IfOk, IfSome, IsTrue, OnOk, Some, false, length, slice_get};
+ghost use Rattle.std.specs.Prelude.{◌≡◌, ℕ, ◌≤◌, IfOk, IfSome, IsTrue, Some, false, length, slice_get};
 ghost use Rattle.wasm_types.specs.Functions.{type_of};
-ghost use Rattle.wasm_types.specs.Locals.{zeros};
 ghost use Rattle.wasm_types.specs.Modules.{func_type, module_of};
-ghost use Rattle.wasm_step.specs.Answer.{after_of};
-ghost use Rattle.wasm_step.specs.Limits.{Within};
-ghost use Rattle.wasm_step.specs.Reduce.{Goes, call, call_element, call_if_same, call_indirect, call_library, call_own, go_on, limited};
-ghost use Rattle.wasm_step.specs.Strand.{started_above};
-ghost use Rattle.wasm_step.specs.Thread.{Thread, called, has_frame_room, waiting_frame, without};
+ghost use Rattle.wasm_stack.specs.Answer.{after_of};
+ghost use Rattle.wasm_stack.specs.Limits.{Within};
+ghost use Rattle.wasm_stack.specs.After.{Goes, go_on, limited};
+ghost use Rattle.wasm_step.specs.Reduce.{call, call_element, call_if_same, call_indirect, call_own};
+ghost use Rattle.wasm_stack.specs.Thread.{Thread, called, without};
 
-use crate::halt::Next;
-use crate::stack::Stack;
 use std::alloc::AllocError;
+use wasm_stack::{Next, Stack};
 use wasm_store::Store;
 use wasm_types::{
-    Callee, Declared, FuncType, Module, Trap, ValidModule, Value, callee_at, imported_type,
-    is_same_type, result_of, type_at, type_of,
+    Callee, FuncType, Module, Trap, ValidModule, Value, callee_at, imported_type, is_same_type,
+    type_at, type_of,
 };
 
-impl<'m> Stack<'m> {
-    fn call_library(&mut self, typing: &FuncType, index: u32) -> Next
-        ensures { after_of result self.new ≡ call_library index (Some (func_type typing.now)) self.old }
-    {
-        let n = typing.params.len();
-        if !self.has_arguments(n) {
-            return Next::Stuck;
-        }
-        if self.has_room_without(n, typing.results.len()) {
-            Next::Calling(index, n)
-        } else {
-            Next::Trapped(Trap::Exhausted)
-        }
+/// A call of the module's own function in place, where memory and the limits allow its frame. It is kept out of the
+/// burst, whose other instructions would find fewer registers.
+#[inline(never)]
+pub fn call_in_place<'m>(thread: &mut Stack<'m>, module: &'m ValidModule, index: u32) -> bool
+    requires { Within thread.old }
+    ensures goes { IsTrue result → call (module_of «module».now) index thread.old ≡ Goes thread.new }
+    ensures within { Within thread.new }
+    ensures same { result ≡ false → thread.new ≡ thread.old }
+{
+    let Some((callee, typing)) = own_typed(module, index) else {
+        return false;
+    };
+    if has_few(&callee, typing) {
+        thread.enter_within(index, callee, typing, 0, true)
+    } else {
+        call_many_in_place(thread, module, index, 0)
     }
+}
 
-    /// A call of the module's own function, whose limits are tested before its frame is made.
-    #[inline(always)]
-    fn call_typed(
-        &mut self,
-        index: u32,
-        callee: Callee<'m>,
-        typing: &FuncType,
-    ) -> Result<Next, AllocError>
-        ensures { IfOk result (λ a. after_of a self.new ≡ limited (go_on (called self.old index callee.entry (func_type typing.now)))) }
-    {
-        let n = typing.params.len();
-        if !self.has_arguments(n) {
-            return Ok(Next::Stuck);
-        }
-        if !self.can_enter(callee.declared()) {
-            return Ok(Next::Trapped(Trap::Exhausted));
-        }
-        if self.enter(index, callee, n, result_of(typing))? {
-            Ok(Next::Going)
-        } else {
-            Ok(Next::Stuck)
-        }
+// The same below so many operands that go, with values that are copied together.
+#[inline(never)]
+fn call_many_in_place<'m>(thread: &mut Stack<'m>, module: &'m ValidModule, index: u32, above: usize) -> bool
+    requires within { Within thread.old }
+    requires above { above ≤ length thread.old.stack }
+    ensures goes { IsTrue result → call (module_of «module».now) index (without above thread.old) ≡ Goes thread.new }
+    ensures within { Within thread.new }
+    ensures same { result ≡ false → thread.new ≡ thread.old }
+{
+    let Some((callee, typing)) = own_typed(module, index) else {
+        return false;
+    };
+    thread.enter_within(index, callee, typing, above, false)
+}
+
+/// A call through the table in place, where it is one of the module's own functions.
+#[inline(never)]
+pub fn call_indirect_in_place<'m>(
+    thread: &mut Stack<'m>,
+    module: &'m ValidModule,
+    store: &Store<'m>,
+    type_index: u32,
+) -> bool
+    requires same_module { module_of «module».now ≡ store.now.«module» }
+    requires within { Within thread.old }
+    ensures goes { IsTrue result → call_indirect type_index store.now thread.old ≡ Goes thread.new }
+    ensures within { Within thread.new }
+    ensures same { result ≡ false → thread.new ≡ thread.old }
+{
+    let Some(Value::I32(i)) = thread.top() else {
+        return false;
+    };
+    let Some(Some(index)) = store.element(i) else {
+        return false;
+    };
+    let Some((callee, typing)) = own_typed(module, index) else {
+        return false;
+    };
+    if !has_type(module.module(), &callee, typing, type_index) {
+        return false;
     }
-
-    /// A call of the module's own function in place, where memory and the limits allow its frame. It is kept out of the
-    /// burst, whose other instructions would find fewer registers.
-    #[inline(never)]
-    pub fn call_in_place(&mut self, module: &'m ValidModule, index: u32) -> bool
-        requires { Within self.old }
-        ensures goes { IsTrue result → call (module_of «module».now) index self.old ≡ Goes self.new }
-        ensures within { Within self.new }
-        ensures same { result ≡ false → self.new ≡ self.old }
-    {
-        let Some((callee, typing)) = own_typed(module, index) else {
-            return false;
-        };
-        if has_few(&callee, typing) {
-            self.enter_within(index, callee, typing, 0, true)
-        } else {
-            self.call_many_in_place(module, index, 0)
-        }
+    if has_few(&callee, typing) {
+        thread.enter_within(index, callee, typing, 1, true)
+    } else {
+        call_many_in_place(thread, module, index, 1)
     }
+}
 
-    // The same below so many operands that go, with values that are copied together.
-    #[inline(never)]
-    fn call_many_in_place(&mut self, module: &'m ValidModule, index: u32, above: usize) -> bool
-        requires within { Within self.old }
-        requires above { above ≤ length self.old.stack }
-        ensures goes { IsTrue result → call (module_of «module».now) index (without above self.old) ≡ Goes self.new }
-        ensures within { Within self.new }
-        ensures same { result ≡ false → self.new ≡ self.old }
-    {
-        let Some((callee, typing)) = own_typed(module, index) else {
-            return false;
-        };
-        self.enter_within(index, callee, typing, above, false)
+#[inline(always)]
+fn call_own<'m>(
+    thread: &mut Stack<'m>,
+    module: &'m ValidModule,
+    index: u32,
+    place: usize,
+) -> Result<Next, AllocError>
+    ensures { IfOk result (λ a. after_of a thread.new
+        ≡ limited (call_own (module_of «module».now) index (slice_get (module_of «module».now).funcs place) thread.old)) }
+{
+    let Some(callee) = callee_at(module, place) else {
+        return Ok(Next::Stuck);
+    };
+    let Some(typing) = type_at(module.module(), callee.type_index()) else {
+        return Ok(Next::Stuck);
+    };
+    thread.call_typed(index, callee, typing)
+}
+
+#[inline(never)]
+pub fn call<'m>(thread: &mut Stack<'m>, module: &'m ValidModule, index: u32) -> Result<Next, AllocError>
+    ensures { IfOk result (λ a. after_of a thread.new ≡ limited (call (module_of «module».now) index thread.old)) }
+{
+    let inner = module.module();
+    let place = index as usize;
+    if place >= inner.imports.len() {
+        return call_own(thread, module, index, place - inner.imports.len());
     }
-
-    /// A call through the table in place, where it is one of the module's own functions.
-    #[inline(never)]
-    pub fn call_indirect_in_place(
-        &mut self,
-        module: &'m ValidModule,
-        store: &Store<'m>,
-        type_index: u32,
-    ) -> bool
-        requires same_module { module_of «module».now ≡ store.now.«module» }
-        requires within { Within self.old }
-        ensures goes { IsTrue result → call_indirect type_index store.now self.old ≡ Goes self.new }
-        ensures within { Within self.new }
-        ensures same { result ≡ false → self.new ≡ self.old }
-    {
-        let Some(Value::I32(i)) = self.top() else {
-            return false;
-        };
-        let Some(Some(index)) = store.element(i) else {
-            return false;
-        };
-        let Some((callee, typing)) = own_typed(module, index) else {
-            return false;
-        };
-        if !has_type(module.module(), &callee, typing, type_index) {
-            return false;
-        }
-        if has_few(&callee, typing) {
-            self.enter_within(index, callee, typing, 1, true)
-        } else {
-            self.call_many_in_place(module, index, 1)
-        }
+    match imported_type(inner, place) {
+        Some(typing) => Ok(thread.call_library(typing, index)),
+        None => Ok(Next::Stuck),
     }
+}
 
-    // Whether a frame with these declared locals keeps to the limits.
-    #[inline(always)]
-    fn can_enter(&self, declared: &Declared) -> bool
-        ensures { result ≡ has_frame_room (length (zeros declared.now)) self.now }
-    {
-        match declared.count() {
-            Some(count) => self.has_frame_place(count) || self.has_frame_room(count),
-            None => false,
-        }
+fn call_element<'m>(
+    thread: &mut Stack<'m>,
+    module: &'m ValidModule,
+    type_index: u32,
+    element: Option<Option<u32>>,
+) -> Result<Next, AllocError>
+    ensures { IfOk result (λ a. after_of a thread.new ≡ limited (call_element (module_of «module».now) type_index element thread.old)) }
+{
+    let Some(place) = element else {
+        return Ok(Next::Trapped(Trap::TableRange));
+    };
+    let Some(index) = place else {
+        return Ok(Next::Trapped(Trap::EmptyElement));
+    };
+    let inner = module.module();
+    let Some(found) = type_of(inner, index) else {
+        return Ok(Next::Stuck);
+    };
+    let Some(wanted) = type_at(inner, type_index) else {
+        return Ok(Next::Stuck);
+    };
+    if !is_same_type(found, wanted) {
+        return Ok(Next::Trapped(Trap::TypeDiffers));
     }
+    call(thread, module, index)
+}
 
-    /// Whether a handler with these declared locals, and one parameter, keeps to the limits.
-    pub fn can_handle(&self, declared: &Declared) -> bool
-        ensures { result ≡ has_frame_room (length (zeros declared.now) + 1) self.now }
-    {
-        match declared.count() {
-            Some(count) => self.has_frame_room(count + 1),
-            None => false,
-        }
-    }
-
-    /// A new innermost frame of a handler, which has the signal as its argument.
-    pub fn handle(&mut self, index: u32, callee: Callee<'m>, signal: u32) -> Result<(), AllocError>
-        ensures { OnOk result (started_above (Some callee.entry) (waiting_frame self.old ∷ self.old.callers) index (Value.I32 signal ∷ []) ≡ Some self.new) }
-    {
-        self.push(Value::I32(signal))?;
-        let is_in = self.enter(index, callee, 1, None)?;
-        prove!(is_in);
-        Ok(())
-    }
-
-    /// A new innermost frame of a function without parameters or a result.
-    pub fn call_start(&mut self, index: u32, callee: Callee<'m>) -> Result<(), AllocError>
-        ensures { OnOk result (started_above (Some callee.entry) (waiting_frame self.old ∷ self.old.callers) index [] ≡ Some self.new) }
-    {
-        let is_in = self.enter(index, callee, 0, None)?;
-        prove!(is_in);
-        Ok(())
-    }
-
-    #[inline(always)]
-    fn call_own(
-        &mut self,
-        module: &'m ValidModule,
-        index: u32,
-        place: usize,
-    ) -> Result<Next, AllocError>
-        ensures { IfOk result (λ a. after_of a self.new
-            ≡ limited (call_own (module_of «module».now) index (slice_get (module_of «module».now).funcs place) self.old)) }
-    {
-        let Some(callee) = callee_at(module, place) else {
-            return Ok(Next::Stuck);
-        };
-        let Some(typing) = type_at(module.module(), callee.type_index()) else {
-            return Ok(Next::Stuck);
-        };
-        self.call_typed(index, callee, typing)
-    }
-
-    #[inline(never)]
-    pub fn call(&mut self, module: &'m ValidModule, index: u32) -> Result<Next, AllocError>
-        ensures { IfOk result (λ a. after_of a self.new ≡ limited (call (module_of «module».now) index self.old)) }
-    {
-        let inner = module.module();
-        let place = index as usize;
-        if place >= inner.imports.len() {
-            return self.call_own(module, index, place - inner.imports.len());
-        }
-        match imported_type(inner, place) {
-            Some(typing) => Ok(self.call_library(typing, index)),
-            None => Ok(Next::Stuck),
-        }
-    }
-
-    fn call_element(
-        &mut self,
-        module: &'m ValidModule,
-        type_index: u32,
-        element: Option<Option<u32>>,
-    ) -> Result<Next, AllocError>
-        ensures { IfOk result (λ a. after_of a self.new ≡ limited (call_element (module_of «module».now) type_index element self.old)) }
-    {
-        let Some(place) = element else {
-            return Ok(Next::Trapped(Trap::TableRange));
-        };
-        let Some(index) = place else {
-            return Ok(Next::Trapped(Trap::EmptyElement));
-        };
-        let inner = module.module();
-        let Some(found) = type_of(inner, index) else {
-            return Ok(Next::Stuck);
-        };
-        let Some(wanted) = type_at(inner, type_index) else {
-            return Ok(Next::Stuck);
-        };
-        if !is_same_type(found, wanted) {
-            return Ok(Next::Trapped(Trap::TypeDiffers));
-        }
-        self.call(module, index)
-    }
-
-    #[inline(never)]
-    pub fn call_indirect(
-        &mut self,
-        module: &'m ValidModule,
-        store: &Store<'m>,
-        type_index: u32,
-    ) -> Result<Next, AllocError>
-        requires { module_of «module».now ≡ store.now.«module» }
-        ensures { IfOk result (λ a. after_of a self.new ≡ limited (call_indirect type_index store.now self.old)) }
-    {
-        match self.pop() {
-            Some(Value::I32(i)) => self.call_element(module, type_index, store.element(i)),
-            _ => Ok(Next::Stuck),
-        }
+#[inline(never)]
+pub fn call_indirect<'m>(
+    thread: &mut Stack<'m>,
+    module: &'m ValidModule,
+    store: &Store<'m>,
+    type_index: u32,
+) -> Result<Next, AllocError>
+    requires { module_of «module».now ≡ store.now.«module» }
+    ensures { IfOk result (λ a. after_of a thread.new ≡ limited (call_indirect type_index store.now thread.old)) }
+{
+    match thread.pop() {
+        Some(Value::I32(i)) => call_element(thread, module, type_index, store.element(i)),
+        _ => Ok(Next::Stuck),
     }
 }
 

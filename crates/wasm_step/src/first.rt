@@ -6,8 +6,8 @@ ghost use Rattle.wasm_types.specs.Functions.{own_func};
 ghost use Rattle.wasm_types.specs.Start.{IsOwnPlain, entry_from};
 ghost use Rattle.wasm_step.specs.Strand.{first_thread};
 
-use crate::stack::Stack;
 use std::alloc::{AllocError, Global};
+use wasm_stack::Stack;
 use wasm_types::{Callee, ValidModule, callee_at};
 
 /// The module's own function with this index.

@@ -10,21 +10,15 @@
 //! done in place, without a call that could want memory. `specs/Answer`, `specs/Paused` and `specs/Target` are inside too.
 #![tactic(auto)]
 
-mod call;
 mod calls;
-mod control;
 mod first;
-mod halt;
 mod in_place;
 pub mod laws;
-mod levels;
 mod memory;
-mod rows;
 mod run;
-mod stack;
 mod step;
 mod strand;
 
-pub use call::CallSite;
 pub use strand::{HandlerError, Pause, Strand};
+pub use wasm_stack::CallSite;
 pub use wasm_store::{StartError, Store};

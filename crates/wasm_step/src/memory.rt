@@ -1,170 +1,168 @@
 // Instructions on globals and on the memory.
 ghost use Rattle.std.specs.Prelude.{◌≡◌, ◌+◌, IfOk, IfSome, IsTrue, OnOk, Some, false, if◌then◌else◌};
 ghost use Rattle.guest_memory.specs.LittleEndian.{IsWidth};
-ghost use Rattle.wasm_step.specs.Answer.{after_of};
-ghost use Rattle.wasm_step.specs.Limits.{Within};
-ghost use Rattle.wasm_step.specs.Reduce.{Goes, Sticks, Stops, global_get, global_set, grow_answer, keep, load, memory_grow, memory_size, write, write_at};
+ghost use Rattle.wasm_stack.specs.Answer.{after_of};
+ghost use Rattle.wasm_stack.specs.Limits.{Within};
+ghost use Rattle.wasm_stack.specs.After.{Goes, Sticks, Stops};
+ghost use Rattle.wasm_step.specs.Reduce.{global_get, global_set, grow_answer, keep, load, memory_grow, memory_size, write, write_at};
 
-use crate::halt::Next;
-use crate::stack::Stack;
 use std::alloc::AllocError;
+use wasm_stack::{Next, Stack};
 use wasm_store::Store;
 use wasm_types::{Slot, Trap, Value};
 use wasm_values::{bits, load_value, load_width, store_width};
 
-impl<'m> Stack<'m> {
-    pub fn global_get(&mut self, store: &Store<'m>, x: u32) -> Result<Next, AllocError>
-        ensures { IfOk result (λ n. after_of n self.new ≡ global_get x store.now self.old) }
-    {
-        let value = store.global(x);
-        self.got(value)
-    }
+pub fn global_get(thread: &mut Stack<'_>, store: &Store<'_>, x: u32) -> Result<Next, AllocError>
+    ensures { IfOk result (λ n. after_of n thread.new ≡ global_get x store.now thread.old) }
+{
+    let value = store.global(x);
+    thread.got(value)
+}
 
-    #[inline(always)]
-    pub fn global_set(&mut self, store: &mut Store<'m>, x: u32) -> bool
-        ensures after { keep store.new (if result then Goes self.new else Stops Sticks) ≡ global_set x store.old self.old }
-        ensures within { Within self.old → Within self.new }
-        ensures same { result ≡ false → self.new ≡ self.old }
-        ensures store { result ≡ false → store.new ≡ store.old }
-    {
-        let Some(v) = self.top() else {
-            return false;
-        };
-        if !store.set_global(x as usize, v) {
-            return false;
-        }
-        self.drop_one();
-        true
+#[inline(always)]
+pub fn global_set(thread: &mut Stack<'_>, store: &mut Store<'_>, x: u32) -> bool
+    ensures after { keep store.new (if result then Goes thread.new else Stops Sticks) ≡ global_set x store.old thread.old }
+    ensures within { Within thread.old → Within thread.new }
+    ensures same { result ≡ false → thread.new ≡ thread.old }
+    ensures store { result ≡ false → store.new ≡ store.old }
+{
+    let Some(v) = thread.top() else {
+        return false;
+    };
+    if !store.set_global(x as usize, v) {
+        return false;
     }
+    thread.drop_one();
+    true
+}
 
-    #[inline(never)]
-    pub fn load(&mut self, store: &Store<'m>, op: u8, offset: u32) -> Next
-        ensures { after_of result self.new ≡ load op offset store.now.memory self.old }
-    {
-        let Some(Value::I32(base)) = self.top() else {
-            return Next::Stuck;
-        };
-        let Some(width) = load_width(op) else {
-            return Next::Stuck;
-        };
-        let Some(n) = store.memory().load(address(base, offset), width) else {
-            return Next::Trapped(Trap::MemoryRange);
-        };
-        let Some(v) = load_value(op, n) else {
-            return Next::Stuck;
-        };
-        let is_put = self.put_one(v);
-        prove!(is_put);
-        Next::Going
+#[inline(never)]
+pub fn load(thread: &mut Stack<'_>, store: &Store<'_>, op: u8, offset: u32) -> Next
+    ensures { after_of result thread.new ≡ load op offset store.now.memory thread.old }
+{
+    let Some(Value::I32(base)) = thread.top() else {
+        return Next::Stuck;
+    };
+    let Some(width) = load_width(op) else {
+        return Next::Stuck;
+    };
+    let Some(n) = store.memory().load(address(base, offset), width) else {
+        return Next::Trapped(Trap::MemoryRange);
+    };
+    let Some(v) = load_value(op, n) else {
+        return Next::Stuck;
+    };
+    let is_put = thread.put_one(v);
+    prove!(is_put);
+    Next::Going
+}
+
+#[tactic(auto, using(crate::proofs::Accesses::load_by, crate::proofs::InPlace::within_one))]
+#[inline(always)]
+pub fn load_in_place(thread: &mut Stack<'_>, store: &Store<'_>, op: u8, offset: u32) -> bool
+    requires { Within thread.old }
+    ensures goes { IsTrue result → Goes thread.new ≡ load op offset store.now.memory thread.old }
+    ensures within { Within thread.new }
+    ensures same { result ≡ false → thread.new ≡ thread.old }
+{
+    let Some(Value::I32(base)) = thread.top() else {
+        return false;
+    };
+    let Some(width) = load_width(op) else {
+        return false;
+    };
+    let Some(n) = store.memory().load(address(base, offset), width) else {
+        return false;
+    };
+    match load_value(op, n) {
+        Some(v) => thread.put_one(v),
+        None => false,
     }
+}
 
-    #[tactic(auto, using(crate::proofs::Accesses::load_by, crate::proofs::InPlace::within_one))]
-    #[inline(always)]
-    pub fn load_in_place(&mut self, store: &Store<'m>, op: u8, offset: u32) -> bool
-        requires { Within self.old }
-        ensures goes { IsTrue result → Goes self.new ≡ load op offset store.now.memory self.old }
-        ensures within { Within self.new }
-        ensures same { result ≡ false → self.new ≡ self.old }
-    {
-        let Some(Value::I32(base)) = self.top() else {
-            return false;
-        };
-        let Some(width) = load_width(op) else {
-            return false;
-        };
-        let Some(n) = store.memory().load(address(base, offset), width) else {
-            return false;
-        };
-        match load_value(op, n) {
-            Some(v) => self.put_one(v),
-            None => false,
-        }
+#[inline(always)]
+pub fn write_in_place(
+    thread: &mut Stack<'_>,
+    store: &mut Store<'_>,
+    op: u8,
+    offset: u32,
+) -> Result<bool, AllocError>
+    requires { Within thread.old }
+    ensures goes { IfOk result (λ went. IsTrue went → write op offset store.old thread.old ≡ keep store.new (Goes thread.new)) }
+    ensures within { OnOk result (Within thread.new) }
+    ensures same { IfOk result (λ went. went ≡ false → thread.new ≡ thread.old) }
+    ensures store { IfOk result (λ went. went ≡ false → store.new ≡ store.old) }
+{
+    let Some((Value::I32(base), v)) = thread.two() else {
+        return Ok(false);
+    };
+    let Some(width) = store_width(op, v) else {
+        return Ok(false);
+    };
+    if !store.write(address(base, offset), width, bits(Some(v)))? {
+        return Ok(false);
     }
+    thread.drop_last(2);
+    Ok(true)
+}
 
-    #[inline(always)]
-    pub fn write_in_place(
-        &mut self,
-        store: &mut Store<'m>,
-        op: u8,
-        offset: u32,
-    ) -> Result<bool, AllocError>
-        requires { Within self.old }
-        ensures goes { IfOk result (λ went. IsTrue went → write op offset store.old self.old ≡ keep store.new (Goes self.new)) }
-        ensures within { OnOk result (Within self.new) }
-        ensures same { IfOk result (λ went. went ≡ false → self.new ≡ self.old) }
-        ensures store { IfOk result (λ went. went ≡ false → store.new ≡ store.old) }
-    {
-        let Some((Value::I32(base), v)) = self.two() else {
-            return Ok(false);
-        };
-        let Some(width) = store_width(op, v) else {
-            return Ok(false);
-        };
-        if !store.write(address(base, offset), width, bits(Some(v)))? {
-            return Ok(false);
-        }
-        self.drop_last(2);
-        Ok(true)
-    }
-
-    fn write_at(
-        &mut self,
-        store: &mut Store<'m>,
-        width: Option<u32>,
-        addr: u64,
-        bits: u64,
-    ) -> Result<Next, AllocError>
-        requires { IfSome width (λ w. IsWidth w) }
-        ensures after { IfOk result (λ n. after_of n self.new ≡ (write_at width addr bits store.old self.old).after) }
-        ensures store { OnOk result (store.new ≡ (write_at width addr bits store.old self.old).store) }
-    {
-        let Some(width) = width else {
-            return Ok(Next::Stuck);
-        };
-        if store.write(addr, width, bits)? {
-            Ok(Next::Going)
-        } else {
-            Ok(Next::Trapped(Trap::MemoryRange))
-        }
-    }
-
-    pub fn write(&mut self, store: &mut Store<'m>, op: u8, offset: u32) -> Result<Next, AllocError>
-        ensures after { IfOk result (λ n. after_of n self.new ≡ (write op offset store.old self.old).after) }
-        ensures store { OnOk result (store.new ≡ (write op offset store.old self.old).store) }
-    {
-        let Some(v) = self.pop() else {
-            return Ok(Next::Stuck);
-        };
-        let Some(Value::I32(base)) = self.pop() else {
-            return Ok(Next::Stuck);
-        };
-        self.write_at(
-            store,
-            store_width(op, v),
-            address(base, offset),
-            bits(Some(v)),
-        )
-    }
-
-    pub fn memory_size(&mut self, store: &Store<'m>) -> Result<Next, AllocError>
-        ensures { IfOk result (λ n. after_of n self.new ≡ memory_size store.now.memory self.old) }
-    {
-        self.push(Value::I32(store.memory().size()))?;
+fn write_at(
+    thread: &mut Stack<'_>,
+    store: &mut Store<'_>,
+    width: Option<u32>,
+    addr: u64,
+    bits: u64,
+) -> Result<Next, AllocError>
+    requires { IfSome width (λ w. IsWidth w) }
+    ensures after { IfOk result (λ n. after_of n thread.new ≡ (write_at width addr bits store.old thread.old).after) }
+    ensures store { OnOk result (store.new ≡ (write_at width addr bits store.old thread.old).store) }
+{
+    let Some(width) = width else {
+        return Ok(Next::Stuck);
+    };
+    if store.write(addr, width, bits)? {
         Ok(Next::Going)
+    } else {
+        Ok(Next::Trapped(Trap::MemoryRange))
     }
+}
 
-    pub fn memory_grow(&mut self, store: &mut Store<'m>) -> Result<Next, AllocError>
-        ensures after { IfOk result (λ n. after_of n self.new ≡ (memory_grow store.old self.old).after) }
-        ensures store { OnOk result (store.new ≡ (memory_grow store.old self.old).store) }
-    {
-        let Some(Value::I32(pages)) = self.top() else {
-            return Ok(Next::Stuck);
-        };
-        let before = store.grow(pages)?;
-        let is_put = self.put_one(Slot::of(grow_answer(before)));
-        prove!(is_put);
-        Ok(Next::Going)
-    }
+pub fn write(thread: &mut Stack<'_>, store: &mut Store<'_>, op: u8, offset: u32) -> Result<Next, AllocError>
+    ensures after { IfOk result (λ n. after_of n thread.new ≡ (write op offset store.old thread.old).after) }
+    ensures store { OnOk result (store.new ≡ (write op offset store.old thread.old).store) }
+{
+    let Some(v) = thread.pop() else {
+        return Ok(Next::Stuck);
+    };
+    let Some(Value::I32(base)) = thread.pop() else {
+        return Ok(Next::Stuck);
+    };
+    write_at(thread, 
+        store,
+        store_width(op, v),
+        address(base, offset),
+        bits(Some(v)),
+    )
+}
+
+pub fn memory_size(thread: &mut Stack<'_>, store: &Store<'_>) -> Result<Next, AllocError>
+    ensures { IfOk result (λ n. after_of n thread.new ≡ memory_size store.now.memory thread.old) }
+{
+    thread.push(Value::I32(store.memory().size()))?;
+    Ok(Next::Going)
+}
+
+pub fn memory_grow(thread: &mut Stack<'_>, store: &mut Store<'_>) -> Result<Next, AllocError>
+    ensures after { IfOk result (λ n. after_of n thread.new ≡ (memory_grow store.old thread.old).after) }
+    ensures store { OnOk result (store.new ≡ (memory_grow store.old thread.old).store) }
+{
+    let Some(Value::I32(pages)) = thread.top() else {
+        return Ok(Next::Stuck);
+    };
+    let before = store.grow(pages)?;
+    let is_put = thread.put_one(Slot::of(grow_answer(before)));
+    prove!(is_put);
+    Ok(Next::Going)
 }
 
 // The address, which doesn't wrap.

@@ -1,18 +1,16 @@
 // A thread as its owner has it.
 ghost use Rattle.std.specs.Prelude.{◌≡◌, ◌↔◌, IfOk, None, OnOk, Some, Err, false};
 ghost use Rattle.wasm_types.specs.Modules.{module_of};
-ghost use Rattle.wasm_step.specs.Burst.{burst};
-ghost use Rattle.wasm_step.specs.Limits.{most_instructions};
+ghost use Rattle.wasm_step.specs.Burst.{burst, most_instructions};
 ghost use Rattle.wasm_store.specs.Suits.{Suits};
 ghost use Rattle.wasm_step.specs.Pause.{StandsAt, pause_result};
 ghost use Rattle.wasm_step.specs.Strand.{IsAnswer, IsHandler, answered, handling, first_thread, is_in, new_thread};
 
-use crate::call::CallSite;
 use crate::first::{first, own};
-use crate::halt::Stopped;
-use crate::stack::Stack;
+use crate::run::{Stopped, run};
 use std::alloc::{AllocError, Global};
 use std::marker::Model;
+use wasm_stack::{CallSite, Stack};
 use wasm_store::Store;
 use wasm_types::{Slot, Trap, ValidModule, Value};
 
@@ -164,7 +162,7 @@ impl<'m> Strand<'m> {
         // Its `ensures` tells the proof that the module is valid.
         let _ = module.module();
         wasm_types::laws::types_agree();
-        match stack.run(module, store)? {
+        match run(&mut stack, module, store)? {
             Stopped::Calling(site) => {
                 let strand = Strand {
                     module,

@@ -2,7 +2,8 @@ use Rattle.std.proofs.Common.{◌≡◌, Option, Some, slice_get, sym, ap, ◌�
 use Rattle.std.specs.Prelude.{if◌then◌else◌}
 use Rattle.wasm_types.specs.declared.traps.Trap.TheVariants.{TypeDiffers}
 use Rattle.wasm_types.specs.Modules.{FuncType, func_type, module_of}
-use Rattle.wasm_step.specs.Reduce.{at_trap, call, call_if_same}
+use Rattle.wasm_stack.specs.After.{at_trap}
+use Rattle.wasm_step.specs.Reduce.{call, call_if_same}
 use Rattle.wasm_step.proofs.InPlace.{same_as_itself}
 use Rattle.wasm_step.proofs.calls.has_type.Goals as goal
 

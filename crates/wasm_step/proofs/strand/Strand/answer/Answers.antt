@@ -1,9 +1,9 @@
 use Rattle.std.proofs.Common.{◌≡◌, ℕ, Option, Some, sym, ap, ◌∙◌, subst}
 use Rattle.wasm_types.specs.Modules.{Module, module_of}
 use Rattle.wasm_step.specs.Fits.{StandsFit, Fits}
-use Rattle.wasm_step.specs.Reduce.{with_result}
+use Rattle.wasm_stack.specs.Control.{with_result}
 use Rattle.wasm_step.specs.Strand.{Strand, IsResult, library_result}
-use Rattle.wasm_step.specs.Thread.{Thread}
+use Rattle.wasm_stack.specs.Thread.{Thread}
 use Rattle.wasm_step.proofs.strand.Strand.answer.Goals as goal
 
 pub invariant_of-result : goal.invariant_of-result

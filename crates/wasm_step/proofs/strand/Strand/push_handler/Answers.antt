@@ -2,8 +2,9 @@ use Rattle.std.proofs.Common.{◌≡◌, ℕ, [], ◌∷◌, Option, Some, None,
 use Rattle.wasm_types.specs.declared.code.Value.TheVariants.{I32}
 use Rattle.wasm_types.specs.Modules.{Func, Module, module_of}
 use Rattle.wasm_step.specs.Fits.{StandsFit}
-use Rattle.wasm_step.specs.Strand.{Strand, IsHandler, started_above, handling}
-use Rattle.wasm_step.specs.Thread.{Thread, waiting_frame}
+use Rattle.wasm_step.specs.Strand.{Strand, IsHandler, handling}
+use Rattle.wasm_stack.specs.Calling.{started_above}
+use Rattle.wasm_stack.specs.Thread.{Thread, waiting_frame}
 use Rattle.wasm_step.proofs.FirstThreads.{handler_fits}
 use Rattle.wasm_step.proofs.strand.Strand.push_handler.Goals as goal
 

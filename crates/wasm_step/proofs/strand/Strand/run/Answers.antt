@@ -2,11 +2,11 @@ use Rattle.std.proofs.Common.{ap, sym, ◌∙◌, subst}
 use Rattle.wasm_types.specs.declared.modules.Module.{Module as RustModule}
 use Rattle.wasm_types.specs.Modules.{module_of}
 use Rattle.wasm_types.specs.Valid.{IsValid}
-use Rattle.wasm_step.specs.declared.halt.Stopped.{Stopped}
-use Rattle.wasm_step.specs.Answer.{stopped_of}
+use Rattle.wasm_step.specs.declared.run.Stopped.{Stopped}
+use Rattle.wasm_step.specs.Paused.{stopped_of}
 use Rattle.wasm_step.specs.Fits.{HaltFits, StandsFit}
 use Rattle.wasm_step.specs.Strand.{Strand}
-use Rattle.wasm_step.specs.Thread.{Thread}
+use Rattle.wasm_stack.specs.Thread.{Thread}
 use Rattle.wasm_step.proofs.BurstsFit.{leaving}
 use Rattle.wasm_step.proofs.strand.Strand.run.Goals as goal
 

@@ -1,0 +1,5 @@
+pub mod EnteredFrames
+pub mod InPlace
+pub mod LevelEnds
+pub mod StackViews
+pub mod WithinLimits

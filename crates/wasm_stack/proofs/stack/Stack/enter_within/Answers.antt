@@ -1,0 +1,113 @@
+use Rattle.std.proofs.Common.{◌≡◌, ℕ, ◌+◌, ◌-◌, ◌≤◌, length, drop, refl, sym, ap, ◌∙◌, arith, length-drop}
+use Rattle.std.proofs.lemmas.List.{length-reverse}
+use Rattle.wasm_types.specs.declared.code.ValType.{ValType}
+use Rattle.std.specs.Prelude.{Option}
+use Rattle.wasm_types.specs.Calls.{result_of}
+use Rattle.wasm_types.specs.Locals.{zeros}
+use Rattle.wasm_types.specs.Modules.{func_type}
+use Rattle.wasm_stack.specs.View.{thread_of}
+use Rattle.wasm_stack.specs.Thread.{Thread, arguments, called, called_with, without}
+use Rattle.wasm_stack.specs.declared.stack.StackFrame.{StackFrame}
+use Rattle.wasm_stack.proofs.EnteredFrames.{IsEntered, grown, height as height_of, entered_sound, entered_view, size_within, within_of}
+use Rattle.wasm_stack.proofs.stack.Stack.enter_within.Goals as goal
+use Rattle.wasm_stack.proofs.stack.Stack.enter_within.Goals.{After-len-2, After-truncate}
+
+module _ (c : After-len-2) where
+  labels : c.len-2.result ≡ length c.self.inside.labels.items
+  labels = c.len-2.ensures ∙ c.self.inside.labels.ok.0
+
+  locals : c.len-locals_from.result ≡ length c.self.inside.locals.items
+  locals = c.len-locals_from.ensures ∙ c.self.inside.locals.ok.0
+
+  before : c.len-2.result + c.len-locals_from.result ≤ 16384
+  before = omega (arith, size_within c.self.inside c.args.self.now c.self.invariant c.self.view_is c.requires.within, labels, locals)
+
+pub overflow_sub-left : goal.overflow_sub-left
+overflow_sub-left c = omega (arith, before c)
+
+pub overflow_sub-left-2 : goal.overflow_sub-left-2
+overflow_sub-left-2 c = omega (arith, before c)
+
+module _ (c : After-truncate) where
+  abbrev first : ℕ
+  first = c.len.result - c.args.above - c.len-n.result
+
+  abbrev here : StackFrame
+  here = record {
+    todo = c.body-self-inside.result;
+    floor = first;
+    labels_from = c.len-self-inside.result;
+    locals_from = c.len-locals_from.result;
+    bottom = first;
+    func = c.args.index;
+    gives = c.result_of-self-inside.result;
+  }
+
+  height : c.len.result ≡ length c.self.inside.operands.items
+  height = c.len.ensures ∙ c.self.inside.operands.ok.0
+
+  above : c.args.above ≤ length c.self.inside.operands.items - c.self.inside.here.floor
+  above =
+      let s = c.self.inside in
+      omega (arith, ap (λ (t : Thread). length t.stack) c.self.view_is, length-reverse (drop s.here.floor s.operands.items), length-drop s.here.floor s.operands.items, c.requires.above)
+
+  split : first + c.len-n.result + c.args.above ≡ c.len.result
+  split = omega (arith, height, above, c.if-height-self.false, c.self.invariant.part.top)
+
+  frame : IsEntered c.self.inside c.args.callee c.args.above c.len-n.result first here c.truncate.new.self c.append_reserved-2.new.items c.push_reserved.new.self
+  frame =
+      let s = c.self.inside in
+      let passed = c.append_reserved.ensures.items in
+      let appended = c.append_reserved-2.ensures.items in
+      let starts = c.in-Some.ensures ∙ c.declared.ensures in
+      let read = c.deref.ensures.value in
+      let many : c.len.result - c.args.above - first ≡ c.len-n.result = omega (arith, split) in
+      record {
+        split = split ∙ height;
+        enough = omega (arith, height, above, c.if-height-self.false, c.self.invariant.part.top);
+        operands_are = c.truncate.ensures.items;
+        capacity = omega (arith, c.truncate.ensures.capacity);
+        body = c.body-self-inside.ensures;
+        floor = refl;
+        bottom = refl;
+        labels_from = c.len-self-inside.ensures ∙ s.labels.ok.0;
+        locals_from = c.len-locals_from.ensures ∙ s.locals.ok.0;
+        locals_are = cc;
+        callers_are = c.push_reserved.ensures.items;
+      }
+
+  starts : length c.in-Some.starts.now ≡ length (zeros c.args.callee.locals)
+  starts = ap length (c.in-Some.ensures ∙ c.declared.ensures)
+
+  abbrev early : After-len-2
+  early = (goal.at.invariant_of-self c).After-len-2
+
+  grown_now : length c.append_reserved-2.new.items.items ≡ length c.self.inside.locals.items + c.len-n.result + length (zeros c.args.callee.locals)
+  grown_now = grown _ _ _ _ _ _ _ _ _ 0 c.self.invariant frame
+
+  size : length c.truncate.new.self.items + length c.self.inside.labels.items + length c.append_reserved-2.new.items.items ≤ 16384
+  size =
+      omega (arith, height_of _ _ _ _ _ _ _ _ _ 0 c.self.invariant frame, grown_now, starts, labels early, locals early, before early, c.if-starts-left.false, c.if-height-left.false, split)
+
+pub invariant_of-self : goal.invariant_of-self
+invariant_of-self c =
+    entered_sound _ _ _ _ _ _ _ _ _ c.min-self-inside.result c.self.invariant (frame c)
+    (omega (arith, c.min-self-inside.ensures, c.capacity-2.ensures, c.truncate.ensures.capacity))
+    (omega (arith, c.min-self-inside.ensures, grown_now c, starts c, labels (early c), locals (early c)))
+
+pub returns-clause-entered : goal.returns-clause-entered
+returns-clause-entered c =
+    let type = func_type c.args.typing.now in
+    let n : c.len-n.result ≡ length type.params = c.len-n.ensures ∙ c.args.typing.now.params.ok.0 in
+    let called_by = λ (k : ℕ) (t : Thread) (gives : Option ValType). called_with (arguments k (without c.args.above t)) k (without c.args.above t) c.args.index c.args.callee gives in
+    λ _.
+    ap (λ (t : Thread). called (without c.args.above t) c.args.index c.args.callee type) (sym c.self.view_is)
+    ∙ ap (λ k. called_by k (thread_of c.self.inside) (result_of type)) (sym n)
+    ∙ ap (λ g. called_by c.len-n.result (thread_of c.self.inside) g) (sym c.result_of-self-inside.ensures)
+    ∙ entered_view _ _ _ _ _ _ _ _ _ c.min-self-inside.result c.self.invariant (frame c)
+
+pub returns-clause-within : goal.returns-clause-within
+returns-clause-within c =
+    within_of _ (invariant_of-self c)
+    (omega (arith, c.push_reserved.ensures.len, c.push_reserved.new.self.ok.0, c.len-else-capacity-locals_from.ensures, c.if-len-ge-FRAME_LIMIT.false))
+    (size c)

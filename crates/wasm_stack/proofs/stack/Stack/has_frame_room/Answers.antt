@@ -1,0 +1,19 @@
+use Rattle.std.proofs.Common.{◌≡◌, ◌+◌, length, ap, ◌∙◌}
+use Rattle.std.specs.Prelude.{nat_lt, nat_le, ◌&&◌}
+use Rattle.wasm_stack.specs.Thread.{has_frame_room}
+use Rattle.wasm_stack.proofs.StackViews.{frame_room_view}
+use Rattle.wasm_stack.proofs.stack.Stack.has_frame_room.Goals as goal
+
+pub returns : goal.returns
+returns c =
+    let s = c.self.inside in
+    let frames = c.len.ensures ∙ s.callers.ok.0 in
+    let operands = c.len-2.ensures ∙ s.operands.ok.0 in
+    let labels = c.len-3.ensures ∙ s.labels.ok.0 in
+    let locals = c.len-4.ensures ∙ s.locals.ok.0 in
+    let all : c.len-2.result + c.len-3.result + c.len-4.result ≡ length s.operands.items + length s.labels.items + length s.locals.items = cc in
+    c.keeps_limits.ensures
+    ∙ ap (λ k. nat_lt (k + 1) 512 && nat_le (c.len-2.result + c.len-3.result + c.len-4.result + c.args.more) 16384) frames
+    ∙ ap (λ k. nat_lt (length s.callers.items + 1) 512 && nat_le (k + c.args.more) 16384) all
+    ∙ frame_room_view c.args.more s c.self.invariant
+    ∙ ap (has_frame_room c.args.more) c.self.view_is

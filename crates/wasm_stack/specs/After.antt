@@ -1,0 +1,45 @@
+-- What comes after an instruction of a thread, and how a thread stops (WebAssembly 1.0, section 4.4).
+use Rattle.std.specs.Prelude.{ℕ, List, [], ◌∷◌, Option, Some, None, if◌then◌else◌}
+use Rattle.wasm_types.specs.declared.code.Value.{Value}
+use Rattle.wasm_types.specs.declared.code.Value.TheVariants.{I32, I64}
+use Rattle.wasm_types.specs.declared.traps.Trap.{Trap}
+use Rattle.wasm_types.specs.declared.traps.Trap.TheVariants.{Exhausted}
+use Rattle.wasm_stack.specs.declared.call.CallSite.{CallSite}
+use Rattle.wasm_stack.specs.Thread.{Thread, fits_limits}
+
+-- how a thread stops: at a call of the library, at its end, by a trap, or where no row is for it
+pub data Halt : Type 0 where
+  Calls : Thread → CallSite → Halt
+  Ends : Halt
+  Traps : Trap → Halt
+  Sticks : Halt
+
+-- what comes after a step
+pub data After : Type 0 where
+  Goes : Thread → After
+  Stops : Halt → After
+
+abbrev pub go_on : Option Thread → After
+go_on None = Stops Sticks
+go_on (Some t) = Goes t
+
+abbrev pub at_trap : Trap → After
+at_trap trap = Stops (Traps trap)
+
+-- the topmost operand
+abbrev pub on_top : List Value → Thread → (Value → Thread → After) → After
+on_top [] t go = Stops Sticks
+on_top (v ∷ rest) t go = go v (record t { stack = rest })
+
+abbrev pub with_top : Thread → (Value → Thread → After) → After
+with_top t go = on_top t.stack t go
+
+-- the number of an operand of 32 bits
+abbrev pub on_i32 : Value → (ℕ → After) → After
+on_i32 (I32 x) go = go x
+on_i32 (I64 x) go = Stops Sticks
+
+-- a thread past its limits traps
+abbrev pub limited : After → After
+limited (Stops s) = Stops s
+limited (Goes t) = if fits_limits t then Goes t else at_trap Exhausted

@@ -1,0 +1,10 @@
+pub mod After
+pub mod Answer
+pub mod Call
+pub mod Calling
+pub mod Control
+pub mod Limits
+pub mod Rows
+pub mod Target
+pub mod Thread
+pub mod View

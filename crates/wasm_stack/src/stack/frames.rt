@@ -1,0 +1,220 @@
+// Frames: a thread's start, calls of its functions, and the ends of these.
+ghost use Rattle.std.specs.Prelude.{◌≡◌, ◌+◌, ◌≤◌, [], ◌++◌, length, IfOk, OnOk, Some, None, if◌then◌else◌, IsTrue, false, take};
+ghost use Rattle.wasm_stack.specs.Thread.{arguments, at_start, called, called_with, left, without};
+ghost use Rattle.wasm_types.specs.Locals.{zeros};
+ghost use Rattle.wasm_types.specs.Modules.{func_type};
+ghost use Rattle.std.specs.Vec.{vec_capacity};
+ghost use Rattle.wasm_stack.specs.Limits.{Within};
+ghost use Rattle.wasm_stack.specs.After.{Ends, Goes, Stops, on_top};
+ghost use Rattle.wasm_stack.specs.Control.{resumed};
+
+use super::{FRAME_LIMIT, SIZE_LIMIT, Stack, StackFrame, push_to};
+use std::alloc::AllocError;
+use wasm_types::{Callee, FuncType, Slot, ValType, result_of};
+
+impl<'m> Stack<'m> {
+    /// A function at its start, with these arguments.
+    pub fn start(
+        index: u32,
+        callee: Callee<'m>,
+        arguments: Vec<Slot>,
+        gives: Option<ValType>,
+    ) -> Result<Stack<'m>, AllocError>
+        ensures { IfOk result (λ s. s ≡ at_start [] index callee.entry.body (arguments.items ++ zeros callee.entry.locals) gives) }
+    {
+        let alloc = *arguments.allocator();
+        let mut locals = arguments;
+        callee.declared().append(&mut locals)?;
+        Ok(Stack {
+            here: StackFrame {
+                todo: callee.body(),
+                floor: 0,
+                labels_from: 0,
+                locals_from: 0,
+                bottom: 0,
+                func: index,
+                gives,
+            },
+            operands: Vec::new(alloc),
+            labels: Vec::new(alloc),
+            locals,
+            callers: Vec::new(alloc),
+            room: 0,
+        })
+    }
+
+    /// A new innermost frame of this function, whose locals begin with the n topmost operands, if there
+    /// are as many.
+    #[inline(always)]
+    pub fn enter(
+        &mut self,
+        index: u32,
+        callee: Callee<'m>,
+        n: usize,
+        gives: Option<ValType>,
+    ) -> Result<bool, AllocError>
+        ensures { IfOk result (λ is_in. called_with (arguments n self.old) n self.old index callee.entry gives ≡ (if is_in then Some self.new else None)) }
+    {
+        let height = self.operands.len();
+        if height - self.here.floor < n {
+            return Ok(false);
+        }
+        let first = height - n;
+        let locals_from = self.locals.len();
+        self.room = 0;
+        append_all(&mut self.locals, &self.operands[first..])?;
+        callee.declared().append(&mut self.locals)?;
+        push_to(&mut self.callers, self.here)?;
+        self.operands.truncate(first);
+        self.here.todo = callee.body();
+        self.here.floor = first;
+        self.here.labels_from = self.labels.len();
+        self.here.locals_from = locals_from;
+        self.here.bottom = first;
+        self.here.func = index;
+        self.here.gives = gives;
+        self.find_room();
+        Ok(true)
+    }
+
+    /// The same where memory is reserved for the frame and the limits allow it, below so many operands that go. With
+    /// `few`, values are copied one by one.
+    #[inline(always)]
+    pub fn enter_within(
+        &mut self,
+        index: u32,
+        callee: Callee<'m>,
+        typing: &FuncType,
+        above: usize,
+        few: bool,
+    ) -> bool
+        requires within { Within self.old }
+        requires above { above ≤ length self.old.stack }
+        ensures entered { IsTrue result → called (without above self.old) index callee.entry (func_type typing.now) ≡ Some self.new }
+        ensures within { Within self.new }
+        ensures same { result ≡ false → self.new ≡ self.old }
+    {
+        let n = typing.params.len();
+        let Some(starts) = callee.declared().starts() else {
+            return false;
+        };
+        let height = self.operands.len() - above;
+        let locals_from = self.locals.len();
+        let left = SIZE_LIMIT - self.labels.len() - locals_from;
+        if height - self.here.floor < n
+            || starts.len() > left
+            || height > left - starts.len()
+            || self.locals.capacity() - locals_from < n + starts.len()
+            || self.callers.len() + 1 >= FRAME_LIMIT
+            || self.callers.len() >= self.callers.capacity()
+        {
+            return false;
+        }
+        let first = height - n;
+        self.callers.push_reserved(self.here);
+        self.here.todo = callee.body();
+        self.here.floor = first;
+        self.here.labels_from = self.labels.len();
+        self.here.locals_from = locals_from;
+        self.here.bottom = first;
+        self.here.func = index;
+        self.here.gives = result_of(typing);
+        self.room = (left - starts.len() - n).min(self.operands.capacity());
+        append_reserved(&mut self.locals, &self.operands[first..height], few);
+        append_reserved(&mut self.locals, starts, few);
+        self.operands.truncate(first);
+        true
+    }
+
+    /// The frame that waits for the innermost, if there is one.
+    #[inline(always)]
+    pub fn leave(&mut self) -> bool
+        ensures left { left self.old ≡ (if result then Some self.new else None) }
+        ensures same { result ≡ false → self.new ≡ self.old }
+    {
+        match self.callers.pop() {
+            Some(held) => {
+                let left = self.here;
+                self.here = held;
+                self.operands.truncate(left.bottom);
+                self.labels.truncate(left.labels_from);
+                self.locals.truncate(left.locals_from);
+                true
+            }
+            None => false,
+        }
+    }
+
+    /// The same with the topmost operand of the level, which has one.
+    #[inline(always)]
+    pub fn leave_with_top(&mut self) -> bool
+        requires { 1 ≤ length self.old.stack }
+        ensures left { on_top self.old.stack self.old (λ v t. resumed (left t) (Some v)) ≡ (if result then Goes self.new else Stops Ends) }
+        ensures same { result ≡ false → self.new ≡ self.old }
+    {
+        let v = self.operands[self.operands.len() - 1];
+        match self.callers.pop() {
+            Some(held) => {
+                let left = self.here;
+                self.here = held;
+                self.operands.truncate(left.bottom);
+                self.operands.push_reserved(v);
+                self.labels.truncate(left.labels_from);
+                self.locals.truncate(left.locals_from);
+                true
+            }
+            None => false,
+        }
+    }
+}
+
+#[inline(always)]
+fn append_all(items: &mut Vec<Slot>, more: &[Slot]) -> Result<(), AllocError>
+    ensures ok { OnOk result (items.new.items ≡ items.old.items ++ more.now) }
+    ensures kept { take (length items.old.items) items.new.items ≡ items.old.items }
+{
+    if items.capacity() - items.len() < more.len() {
+        items.extend_from_slice(more)?;
+        return Ok(());
+    }
+    for item in more {
+        items.push_reserved(*item);
+    }
+    Ok(())
+}
+
+/// A copy is made in pieces of so many values: what is far larger the C library copies by a string instruction, which is
+/// no faster, and which valgrind counts for each byte.
+const PIECE: usize = 64;
+
+// These values after the others, for which there is room.
+#[inline(always)]
+fn append_reserved(items: &mut Vec<Slot>, more: &[Slot], few: bool)
+    requires { length items.old.items + length more.now ≤ vec_capacity items.old }
+    ensures items { items.new.items ≡ items.old.items ++ more.now }
+    ensures capacity { vec_capacity items.old ≤ vec_capacity items.new }
+{
+    if few {
+        for item in more {
+            items.push_reserved(*item);
+        }
+    } else {
+        append_pieces(items, more);
+    }
+}
+
+#[inline(never)]
+fn append_pieces(items: &mut Vec<Slot>, more: &[Slot])
+    requires { length items.old.items + length more.now ≤ vec_capacity items.old }
+    ensures items { items.new.items ≡ items.old.items ++ more.now }
+    ensures capacity { vec_capacity items.old ≤ vec_capacity items.new }
+{
+    let mut rest = more;
+    while rest.len() > 0 {
+        let n = rest.len().min(PIECE);
+        let copied = items.extend_from_slice(&rest[..n]);
+        let is_ok = copied.is_ok();
+        prove!(is_ok);
+        rest = &rest[n..];
+    }
+}
