@@ -21,13 +21,13 @@ use Rattle.wasm_types.specs.declared.code.Value.{Value}
 use Rattle.wasm_step.specs.Burst.{burst}
 use Rattle.wasm_step.specs.Laws.{KeepsStamps, TellsMarks}
 use Rattle.wasm_step.specs.Marks.{Marked, MarksFollow, StoreMarksTell, MarksWithin, NothingMarks, WritesMark}
-use Rattle.wasm_step.specs.Reduce.{Halt, Calls, Ends, Traps, Sticks}
+use Rattle.wasm_step.specs.After.{Halt, Calls, Ends, Traps, Sticks}
 use Rattle.wasm_step.specs.Start.{memory_before_segments, first_min, first_most, first_store, initial, initial_globals, offset_in, put_segments, segments_fit, unset}
 use Rattle.wasm_step.specs.Store.{Store}
 use Rattle.wasm_step.specs.Strand.{answered}
 use Rattle.wasm_step.specs.Suits.{Suits}
 use Rattle.wasm_step.specs.Thread.{Thread}
-use Rattle.wasm_step.specs.declared.call.CallSite.{CallSite}
+use Rattle.wasm_stack.specs.declared.call.CallSite.{CallSite}
 use Rattle.guest_process.specs.declared.end.End.TheVariants.{Finished}
 use Rattle.guest_process.specs.declared.waiting.Waiting.{Waiting}
 use Rattle.guest_process.specs.Answers.{effects}

@@ -18,7 +18,7 @@ use Rattle.wasm_types.specs.Functions.{described, imported_type}
 use Rattle.wasm_step.specs.Laws.{KeepsModule}
 use Rattle.wasm_step.specs.Strand.{IsHandler, IsResult, first_result, library_result}
 use Rattle.wasm_step.specs.Thread.{Thread}
-use Rattle.wasm_step.specs.declared.call.CallSite.{CallSite}
+use Rattle.wasm_stack.specs.declared.call.CallSite.{CallSite}
 use Rattle.guest_process.specs.declared.waiting.Waiting.{Waiting}
 use Rattle.guest_process.specs.Answers.{effects, narrow}
 use Rattle.guest_process.specs.Fits.{Each}

@@ -10,12 +10,11 @@ use Rattle.wasm_types.specs.declared.traps.Trap.{Trap}
 use Rattle.wasm_types.specs.declared.traps.Trap.TheVariants.{Exhausted, Unreachable}
 use Rattle.wasm_types.specs.Library.{kind_at}
 use Rattle.wasm_types.specs.Modules.{Module}
-use Rattle.wasm_step.specs.Burst.{BurstResult, burst}
-use Rattle.wasm_step.specs.Reduce.{Halt, Calls, Ends, Traps, Sticks}
-use Rattle.wasm_step.specs.Limits.{most_instructions}
+use Rattle.wasm_step.specs.Burst.{BurstResult, burst, most_instructions}
+use Rattle.wasm_step.specs.After.{Halt, Calls, Ends, Traps, Sticks}
 use Rattle.wasm_step.specs.Strand.{Strand, answered, handling, is_in}
 use Rattle.wasm_step.specs.Thread.{Thread}
-use Rattle.wasm_step.specs.declared.call.CallSite.{CallSite}
+use Rattle.wasm_stack.specs.declared.call.CallSite.{CallSite}
 use Rattle.guest_process.specs.declared.end.End.TheVariants.{Finished, Trapped}
 use Rattle.guest_process.specs.declared.waiting.Waiting.{Waiting}
 use Rattle.guest_process.specs.Kinds.{ends_process, reply_value}

@@ -14,7 +14,7 @@ use Rattle.wasm_types.specs.Stack.{BlockStack, empty_stack, jumped, is_exactly, 
 use Rattle.wasm_types.specs.Typing.{typed_instrs}
 use Rattle.wasm_values.specs.Values.{types_of_values}
 use Rattle.wasm_step.specs.Fits.{TargetFits, known, put_type, label_of, Leaves, Fits, AfterFits}
-use Rattle.wasm_step.specs.Reduce as Reduce
+use Rattle.wasm_stack.specs.Control as Control
 use Rattle.wasm_stack.specs.After.{After, Goes, Stops}
 use Rattle.wasm_stack.specs.Control.{branch, label_at}
 use Rattle.wasm_stack.specs.Thread.{Thread, opened, here}
@@ -128,7 +128,7 @@ module _ (m : Module) (c : Context) where
       let after : LeavesAt m c t (put_type gives ks) = record { typed = subst (λ s. IsSome (After' m c t s >>= End' m c t)) (put_push gives ks) i.rest; no_float = nf.1 } in
       open_fits t gives body body false true r refl (record { typed = i.within; no_float = nf'.1 }) (record { typed = i.within; no_float = nf'.1 }) after
 
-  pub choose_fits : (gives : Option ValType) (yes' no' : Trees) (t : Thread) → RestOf m c t → Before m c (If gives yes' no') t (types_of_values t.stack) → AfterFits m (Reduce.choose gives yes' no' t)
+  pub choose_fits : (gives : Option ValType) (yes' no' : Trees) (t : Thread) → RestOf m c t → Before m c (If gives yes' no') t (types_of_values t.stack) → AfterFits m (Control.choose gives yes' no' t)
   choose_fits gives yes' no' t r h =
       let ks = types_of_values t.stack in
       let F = After' m c t in
@@ -159,7 +159,7 @@ module _ (m : Module) (c : Context) where
       let p = pops_result a.value ks b.value b.is in
       branch_fits m c n t.outer t a.value p.more r a.is p.there
 
-  pub br_if_fits : (n : ℕ) (t : Thread) → RestOf m c t → Before m c (BrIf n) t (types_of_values t.stack) → AfterFits m (Reduce.branch_if n t)
+  pub br_if_fits : (n : ℕ) (t : Thread) → RestOf m c t → Before m c (BrIf n) t (types_of_values t.stack) → AfterFits m (Control.branch_if n t)
   br_if_fits n t r h =
       let ks = types_of_values t.stack in
       let F = After' m c t in
@@ -177,7 +177,7 @@ module _ (m : Module) (c : Context) where
       (goes m c t' r (subst (λ ks. LeavesAt m c t ks) (sym kr) after))
       (branch_fits m c n t.outer t' a.value q.more r a.is (kr ∙ q.there)))
 
-  pub br_table_fits : (ns : List ℕ) (default : ℕ) (t : Thread) → RestOf m c t → Before m c (BrTable ns default) t (types_of_values t.stack) → AfterFits m (Reduce.branch_table ns default t)
+  pub br_table_fits : (ns : List ℕ) (default : ℕ) (t : Thread) → RestOf m c t → Before m c (BrTable ns default) t (types_of_values t.stack) → AfterFits m (Control.branch_table ns default t)
   br_table_fits ns default t r h =
       let ks = types_of_values t.stack in
       let F = After' m c t in
@@ -192,7 +192,7 @@ module _ (m : Module) (c : Context) where
       on_i32_fits m c v _ kv (λ i.
       branch_fits m c (label_at (slice_get ns i) default) t.outer (record t { stack = rest }) a.value q.more r (table_at (labels_at m t) ns default i a.value a.is) (kr ∙ q.there)))
 
-  pub return_row_fits : (t : Thread) → RestOf m c t → Before m c Return t (types_of_values t.stack) → AfterFits m (Reduce.leave_frame t)
+  pub return_row_fits : (t : Thread) → RestOf m c t → Before m c Return t (types_of_values t.stack) → AfterFits m (Control.leave_frame t)
   return_row_fits t r h =
       let ks = types_of_values t.stack in
       let b = step (pop_result c.gives (known ks)) (λ rest. Some jumped) (After' m c t) (End' m c t) h.typed in

@@ -19,9 +19,9 @@ use Rattle.wasm_types.specs.Typing.{typed_instrs}
 use Rattle.wasm_values.specs.Values.{type_of_value, types_of_values}
 use Rattle.wasm_step.specs.Fits.{known, Leaves, AfterFits}
 use Rattle.wasm_values.specs.Numeric.{Computed, Gives, Fails, IsNone, is_unary, unary, binary}
-use Rattle.wasm_step.specs.Reduce as Reduce
+use Rattle.wasm_stack.specs.Rows as Rows
 use Rattle.wasm_step.specs.Reduce.{Both, keep}
-use Rattle.wasm_stack.specs.After.{Halt, Sticks, Traps, After, Goes, Stops, on_top, with_top}
+use Rattle.wasm_stack.specs.After.{Halt, Sticks, Traps, After, Goes, Stops, on_i32, on_top, with_top}
 use Rattle.wasm_stack.specs.Rows.{put_computed, numeric, chosen, got}
 use Rattle.wasm_stack.specs.Control.{branch, on_test, label_at}
 use Rattle.wasm_stack.specs.Thread.{Thread, with_operand}
@@ -92,7 +92,7 @@ module _ (m : Module) (c : Context) where
   on_test_fits (I32 zero) a b e p q = p
   on_test_fits (I32 (suc x)) a b e p q = q
 
-  pub on_i32_fits : (v : Value) (go : ℕ → After) → type_of_value v ≡ types.I32 → ((x : ℕ) → AfterFits m (go x)) → AfterFits m (Reduce.on_i32 v go)
+  pub on_i32_fits : (v : Value) (go : ℕ → After) → type_of_value v ≡ types.I32 → ((x : ℕ) → AfterFits m (go x)) → AfterFits m (on_i32 v go)
   on_i32_fits (I32 x) go e h = h x
   on_i32_fits (I64 x) go e h = cc
 
@@ -104,19 +104,19 @@ module _ (m : Module) (c : Context) where
       let same : type_of_value v ≡ k = cc in
       goes m c (with_operand t v) r (subst (λ k'. LeavesAt m c t (k' ∷ types_of_values t.stack)) (sym same) l)
 
-  pub local_get_fits : (x : ℕ) (t : Thread) → RestOf m c t → Before (LocalGet x) t (types_of_values t.stack) → AfterFits m (Reduce.local_get x t)
+  pub local_get_fits : (x : ℕ) (t : Thread) → RestOf m c t → Before (LocalGet x) t (types_of_values t.stack) → AfterFits m (Rows.local_get x t)
   local_get_fits x t r h =
       let ks = types_of_values t.stack in
       let a = step (slice_get c.locals x) (λ k. Some (push (Some k) (known ks))) (After' t) (End' t) h.typed in
       got_fits t (slice_get t.locals x) a.value r (read_value_type t.locals c.locals x a.value r.1 a.is) (record { typed = a.rest; no_float = h.no_float })
 
-  local_put_fits : (x : ℕ) (v : Value) (t : Thread) (k : ValType) → RestOf m c t → slice_get c.locals x ≡ Some k → type_of_value v ≡ k → LeavesAt m c t (types_of_values t.stack) → AfterFits m (Reduce.local_put x v t)
+  local_put_fits : (x : ℕ) (v : Value) (t : Thread) (k : ValType) → RestOf m c t → slice_get c.locals x ≡ Some k → type_of_value v ≡ k → LeavesAt m c t (types_of_values t.stack) → AfterFits m (Rows.local_put x v t)
   local_put_fits x v t k r at e l =
       let at' : slice_get c.locals x ≡ Some (type_of_value v) = at ∙ ap Some (sym e) in
       subst (λ b. AfterFits m (if b then Goes (record t { locals = slice_set t.locals x v }) else Stops Sticks)) (sym (written_within t.locals c.locals x k r.1 at))
       (goes m c (record t { locals = slice_set t.locals x v }) (r.0, written_value_types t.locals c.locals x v r.1 at', r.2, r.3, r.4) l)
 
-  pub local_set_fits : (x : ℕ) (t : Thread) → RestOf m c t → Before (LocalSet x) t (types_of_values t.stack) → AfterFits m (Reduce.local_set x t)
+  pub local_set_fits : (x : ℕ) (t : Thread) → RestOf m c t → Before (LocalSet x) t (types_of_values t.stack) → AfterFits m (Rows.local_set x t)
   local_set_fits x t r h =
       let ks = types_of_values t.stack in
       let a = step (slice_get c.locals x) (λ k. pop_type k (known ks)) (After' t) (End' t) h.typed in
@@ -126,7 +126,7 @@ module _ (m : Module) (c : Context) where
       on_top_fits t _ t.stack a.value p.more p.there (λ v rest kv kr.
       local_put_fits x v (record t { stack = rest }) a.value r a.is kv (subst (λ ks. LeavesAt m c t ks) (sym kr) left))
 
-  pub local_tee_fits : (x : ℕ) (t : Thread) → RestOf m c t → Before (LocalTee x) t (types_of_values t.stack) → AfterFits m (Reduce.local_tee x t)
+  pub local_tee_fits : (x : ℕ) (t : Thread) → RestOf m c t → Before (LocalTee x) t (types_of_values t.stack) → AfterFits m (Rows.local_tee x t)
   local_tee_fits x t r h =
       let ks = types_of_values t.stack in
       let a = step (slice_get c.locals x) (λ k. pop_type k (known ks) >>= (λ rest. Some (push (Some k) rest))) (After' t) (End' t) h.typed in
@@ -141,7 +141,7 @@ module _ (m : Module) (c : Context) where
   drop_fits [] t r h = never_none h.typed
   drop_fits (v ∷ rest) t r h = goes m c (record t { stack = rest }) r (record { typed = h.typed; no_float = h.no_float })
 
-  pub select_fits : (stack : List Value) (t : Thread) → RestOf m c t → Before Select t (types_of_values stack) → AfterFits m (Reduce.select (record t { stack = stack }))
+  pub select_fits : (stack : List Value) (t : Thread) → RestOf m c t → Before Select t (types_of_values stack) → AfterFits m (Rows.select (record t { stack = stack }))
   select_fits [] t r h = never_none h.typed
   select_fits (I64 n ∷ more) t r h = never_none h.typed
   select_fits (I32 n ∷ []) t r h = never_none h.typed

@@ -37,7 +37,12 @@ pub fn call_in_place<'m>(thread: &mut Stack<'m>, module: &'m ValidModule, index:
 
 // The same below so many operands that go, with values that are copied together.
 #[inline(never)]
-fn call_many_in_place<'m>(thread: &mut Stack<'m>, module: &'m ValidModule, index: u32, above: usize) -> bool
+fn call_many_in_place<'m>(
+    thread: &mut Stack<'m>,
+    module: &'m ValidModule,
+    index: u32,
+    above: usize,
+) -> bool
     requires within { Within thread.old }
     requires above { above ≤ length thread.old.stack }
     ensures goes { IsTrue result → call (module_of «module».now) index (without above thread.old) ≡ Goes thread.new }
@@ -103,7 +108,11 @@ fn call_own<'m>(
 }
 
 #[inline(never)]
-pub fn call<'m>(thread: &mut Stack<'m>, module: &'m ValidModule, index: u32) -> Result<Next, AllocError>
+pub fn call<'m>(
+    thread: &mut Stack<'m>,
+    module: &'m ValidModule,
+    index: u32,
+) -> Result<Next, AllocError>
     ensures { IfOk result (λ a. after_of a thread.new ≡ limited (call (module_of «module».now) index thread.old)) }
 {
     let inner = module.module();

@@ -44,11 +44,11 @@ pub fn row<'m>(
         Instr::Select => return Ok(went(thread.select())),
         Instr::GlobalGet(x) => return Ok(went(thread.got_in_place(store.global(*x)))),
         Instr::GlobalSet(x) => return Ok(went(global_set(thread, store, *x))),
-        Instr::Load { opcode, offset, .. } => return Ok(went(load_in_place(thread, 
-            store, *opcode, *offset,
+        Instr::Load { opcode, offset, .. } => return Ok(went(load_in_place(
+            thread, store, *opcode, *offset,
         ))),
-        Instr::Store { opcode, offset, .. } => return Ok(went(write_in_place(thread, 
-            store, *opcode, *offset,
+        Instr::Store { opcode, offset, .. } => return Ok(went(write_in_place(
+            thread, store, *opcode, *offset,
         )?)),
         Instr::Block(_, body) | Instr::Loop(_, body) => {
             if !thread.open_within(instr, body, *todo) {

@@ -6,8 +6,8 @@
 //! instruction after the other by `specs/Reduce`, or wants memory. `answer` gives the result of its call, and `push_handler`
 //! puts a handler's frame on top. The law `never_stuck` says that a burst of a valid module always ends in one of these ways,
 //! and what it does to the marks of the store.
-//! Inside, a thread is stacks that lie end to end (`specs/View` says what thread they stand for), and most instructions are
-//! done in place, without a call that could want memory. `specs/Answer`, `specs/Paused` and `specs/Target` are inside too.
+//! Inside, a thread is a `Stack` of `wasm_stack`, which does what needs no module and no store, and most instructions are done
+//! in place, without a call that could want memory. `specs/Paused` is inside too.
 #![tactic(auto)]
 
 mod calls;

@@ -127,7 +127,12 @@ fn write_at(
     }
 }
 
-pub fn write(thread: &mut Stack<'_>, store: &mut Store<'_>, op: u8, offset: u32) -> Result<Next, AllocError>
+pub fn write(
+    thread: &mut Stack<'_>,
+    store: &mut Store<'_>,
+    op: u8,
+    offset: u32,
+) -> Result<Next, AllocError>
     ensures after { IfOk result (λ n. after_of n thread.new ≡ (write op offset store.old thread.old).after) }
     ensures store { OnOk result (store.new ≡ (write op offset store.old thread.old).store) }
 {
@@ -137,7 +142,8 @@ pub fn write(thread: &mut Stack<'_>, store: &mut Store<'_>, op: u8, offset: u32)
     let Some(Value::I32(base)) = thread.pop() else {
         return Ok(Next::Stuck);
     };
-    write_at(thread, 
+    write_at(
+        thread,
         store,
         store_width(op, v),
         address(base, offset),

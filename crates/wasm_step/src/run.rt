@@ -78,7 +78,11 @@ fn first_step<'m>(
 
 /// A burst, at whose stop a call of the library has its arguments among the operands.
 #[inline(never)]
-fn burst<'m>(thread: &mut Stack<'m>, module: &'m ValidModule, store: &mut Store<'m>) -> Result<Next, AllocError>
+fn burst<'m>(
+    thread: &mut Stack<'m>,
+    module: &'m ValidModule,
+    store: &mut Store<'m>,
+) -> Result<Next, AllocError>
     requires { module_of «module».now ≡ store.old.«module» }
     ensures { IfOk result (λ n. record { stop = halt_of (after_of n thread.new); store = store.new } ≡ burst most_instructions thread.old store.old) }
 {
@@ -125,7 +129,7 @@ fn burst<'m>(thread: &mut Stack<'m>, module: &'m ValidModule, store: &mut Store<
 }
 
 // A call of the library takes its arguments.
-fn stopped(thread: &mut Stack<'_>, halted: Next) -> Stopped
+fn stop_of(thread: &mut Stack<'_>, halted: Next) -> Stopped
     ensures { stopped_of result thread.new ≡ halt_of (after_of halted thread.old) }
 {
     match halted {
@@ -149,5 +153,5 @@ pub fn run<'m>(
     ensures { IfOk result (λ stopped. stopped_result stopped thread.new store.new ≡ burst most_instructions thread.old store.old) }
 {
     let halted = burst(thread, module, store)?;
-    Ok(stopped(thread, halted))
+    Ok(stop_of(thread, halted))
 }

@@ -69,11 +69,11 @@ returns-clause-done c =
       | in-Br w ↦ by_way c _ _ _ _ w.in-Br.is w.go_to.ensures w.thread-is w.way'-is (ap (keep g) (sym w.branch-thread.ensures))
       | in-BrIf w ↦ by_way c _ _ _ _ w.in-BrIf.is w.go_to-in-BrIf.ensures w.thread-is w.way'-is (ap (keep g) (sym w.branch_if_or_pass.ensures))
       | in-BrTable w ↦
-          let same = ap (λ labels. branch_table labels w.in-BrTable.default w.go_to-in-BrTable.new.thread) w.deref-in-BrTable.ensures.value in
+          let same = ap (λ labels. branch_table labels w.in-BrTable.default w.go_to-in-BrTable.new.self) w.deref-in-BrTable.ensures.value in
           by_way c _ _ _ _ w.in-BrTable.is w.go_to-in-BrTable.ensures w.thread-is w.way'-is (ap (keep g) (sym (w.branch_table.ensures ∙ same)))
       | in-Return w ↦ by_way c _ _ _ _ w.in-Return.is w.go_to-in-Return.ensures w.thread-is w.way'-is (ap (keep g) (sym w.return_out.ensures))
       | in-CallFunc w ↦ by_went c _ _ _ _ w.in-CallFunc.is w.go_to-in-CallFunc.ensures w.thread-is (w.way'-is ∙ w.went-way.ensures) (λ yes.
-          ap (λ (m : Module). keep g (call m w.in-CallFunc.index w.go_to-in-CallFunc.new.thread)) (sym c.requires.same_module)
+          ap (λ (m : Module). keep g (call m w.in-CallFunc.index w.go_to-in-CallFunc.new.self)) (sym c.requires.same_module)
           ∙ ap (keep g) (w.call_in_place.ensures.goes yes))
       | in-CallIndirect w ↦ by_went c _ _ _ _ w.in-CallIndirect.is w.go_to-in-CallIndirect.ensures w.thread-is (w.way'-is ∙ w.went-way-in-CallIndirect.ensures) (λ yes.
           ap (keep g) (w.call_indirect_in_place.ensures.goes yes))
@@ -83,8 +83,8 @@ pub returns-clause-within : goal.returns-clause-within
 returns-clause-within c =
     elim c.match-instr.branch [
       | in-Br w ↦ way_in c _ _ _ _ w.go_to.ensures w.thread-is w.way'-is w.branch-thread.ensures (branch_within w.in-Br.n _)
-      | in-BrIf w ↦ way_in c _ _ _ _ w.go_to-in-BrIf.ensures w.thread-is w.way'-is w.branch_if_or_pass.ensures (branch_if_within w.in-BrIf.n _ w.go_to-in-BrIf.new.thread refl)
-      | in-BrTable w ↦ way_in c _ _ _ _ w.go_to-in-BrTable.ensures w.thread-is w.way'-is w.branch_table.ensures (branch_table_within w.deref-in-BrTable.result.now w.in-BrTable.default _ w.go_to-in-BrTable.new.thread refl)
+      | in-BrIf w ↦ way_in c _ _ _ _ w.go_to-in-BrIf.ensures w.thread-is w.way'-is w.branch_if_or_pass.ensures (branch_if_within w.in-BrIf.n _ w.go_to-in-BrIf.new.self refl)
+      | in-BrTable w ↦ way_in c _ _ _ _ w.go_to-in-BrTable.ensures w.thread-is w.way'-is w.branch_table.ensures (branch_table_within w.deref-in-BrTable.result.now w.in-BrTable.default _ w.go_to-in-BrTable.new.self refl)
       | in-Return w ↦ way_in c _ _ _ _ w.go_to-in-Return.ensures w.thread-is w.way'-is w.return_out.ensures (return_within _)
       | in-CallFunc w ↦ went_in c _ w.thread-is w.call_in_place.ensures.within
       | in-CallIndirect w ↦ went_in c _ w.thread-is w.call_indirect_in_place.ensures.within
@@ -104,4 +104,4 @@ returns-in-If-clause-done c =
     let g = c.args.store.now in
     row_chooses c.args.instr.now c.in-If.field-0 c.in-If.on_true c.in-If.on_false c.deref.result.now c.deref-in-If.result.now t g c.in-If.is c.deref.ensures.value c.deref-in-If.ensures.value
     ∙ ap (keep g) (sym (c.choose_in_place.ensures.goes c.if-not-choose_in_place.false))
-    ∙ ap (λ (rest : Trees). keep g (Goes (record c.choose_in_place.new.thread { todo = rest }))) (sym c.todo.ensures)
+    ∙ ap (λ (rest : Trees). keep g (Goes (record c.choose_in_place.new.self { todo = rest }))) (sym c.todo.ensures)

@@ -19,7 +19,7 @@ use Rattle.wasm_step.proofs.run.burst.Goals as goal
 pub steps-preserved-then-close : goal.steps-preserved-then-close
 steps-preserved-then-close c =
     let t = c.steps.thread in
-    let u = c.close.new.thread in
+    let u = c.close.new.self in
     let goes = closing t u c.if-close.ensures.closed in record {
       same = sym (ends c.steps.todo.now t c.in_default-todo.len_below c.todo-todo-then-close.result.now u goes c.todo-todo-then-close.ensures c.steps.left c.steps.store) ∙ c.steps.invariant.same;
       within = ended_within t c.steps.invariant.within u (sym goes);
@@ -29,7 +29,7 @@ steps-preserved-then-close c =
 pub steps-preserved-in-Goes : goal.steps-preserved-in-Goes
 steps-preserved-in-Goes c =
     let t = c.steps.thread in
-    let u = c.return_from.new.thread in
+    let u = c.return_from.new.self in
     let goes = returning t (Goes u) c.if-close.ensures.closed (c.in-Goes.ensures ∙ ap leave_frame (c.if-close.ensures.same refl)) in record {
       same = sym (ends c.steps.todo.now t c.in_default-todo.len_below c.todo-todo-in-Goes.result.now u goes c.todo-todo-in-Goes.ensures c.steps.left c.steps.store) ∙ c.steps.invariant.same;
       within = ended_within t c.steps.invariant.within u (sym goes);
@@ -39,7 +39,7 @@ steps-preserved-in-Goes c =
 pub returns-in_default-return_from : goal.returns-in_default-return_from
 returns-in_default-return_from c =
     let t = c.steps.thread in
-    let u = c.return_from.new.thread in
+    let u = c.return_from.new.self in
     let goes = returning t (way_of c.return_from.result u) c.if-close.ensures.closed (c.return_from.ensures ∙ ap leave_frame (c.if-close.ensures.same refl)) in
     let stops = sym goes ∙ way_halts c.return_from.result c.next.result u u (c.next.ensures u) c.in_default-return_from.not-Goes in
     sym (ends_here c.steps.todo.now t c.in_default-todo.len_below c.steps.left c.steps.store _ stops) ∙ c.steps.invariant.same
@@ -66,15 +66,15 @@ returns-in_default-way c =
 
 pub returns-in_default-3 : goal.returns-in_default-3
 returns-in_default-3 c =
-    sym (full_stops c.steps.todo.now c.instr-item.result c.steps.thread c.in-len1-up.len_at_least c.instr-item.is c.steps.left c.steps-test.true c.steps.store c.in_ok-way.field-0 c.row.new.thread c.go_to.new.thread c.step.new.thread (trees c.row.new.todo.now) c.row.new.store c.step.new.store c.in_default-2.is c.in_ok-way.ensures.same c.in_ok-way.ensures.store c.go_to.ensures c.in_ok-halted-2.ensures.store c.in_ok-halted-2.halted c.in_ok-halted-2.ensures.after c.in_default-3.not-Going)
+    sym (full_stops c.steps.todo.now c.instr-item.result c.steps.thread c.in-len1-up.len_at_least c.instr-item.is c.steps.left c.steps-test.true c.steps.store c.in_ok-way.field-0 c.row.new.thread c.go_to.new.self c.step.new.thread (trees c.row.new.todo.now) c.row.new.store c.step.new.store c.in_default-2.is c.in_ok-way.ensures.same c.in_ok-way.ensures.store c.go_to.ensures c.in_ok-halted-2.ensures.store c.in_ok-halted-2.halted c.in_ok-halted-2.ensures.after c.in_default-3.not-Going)
     ∙ c.steps.invariant.same
 
 module _ (c : goal.After-todo-todo-in-steps) where
-  goes : Goes c.step.new.thread ≡ (reduce (tree c.instr-item.result) c.go_to.new.thread c.row.new.store).after
+  goes : Goes c.step.new.thread ≡ (reduce (tree c.instr-item.result) c.go_to.new.self c.row.new.store).after
   goes = ap (λ n. after_of n c.step.new.thread) (sym c.in-Going-2.is) ∙ c.in_ok-halted-2.ensures.after
 
   within : Within c.step.new.thread
-  within = limited_within (instr_row (tree c.instr-item.result) c.go_to.new.thread c.row.new.store).after c.step.new.thread (sym goes)
+  within = limited_within (instr_row (tree c.instr-item.result) c.go_to.new.self c.row.new.store).after c.step.new.thread (sym goes)
 
 pub steps-smaller : goal.steps-smaller
 steps-smaller c =
@@ -83,7 +83,7 @@ steps-smaller c =
 pub steps-preserved : goal.steps-preserved
 steps-preserved c =
     let todo = c.todo-todo-in-steps in
-    let on = full_goes c.steps.todo.now c.instr-item.result c.steps.thread c.in-len1-up.len_at_least c.instr-item.is c.steps.left c.steps-test.true c.steps.store c.in_ok-way.field-0 c.row.new.thread c.go_to.new.thread c.step.new.thread (trees c.row.new.todo.now) c.row.new.store c.step.new.store c.in_default-2.is c.in_ok-way.ensures.same c.in_ok-way.ensures.store c.go_to.ensures c.in_ok-halted-2.ensures.store (trees todo.result.now) todo.ensures (goes c) in record {
+    let on = full_goes c.steps.todo.now c.instr-item.result c.steps.thread c.in-len1-up.len_at_least c.instr-item.is c.steps.left c.steps-test.true c.steps.store c.in_ok-way.field-0 c.row.new.thread c.go_to.new.self c.step.new.thread (trees c.row.new.todo.now) c.row.new.store c.step.new.store c.in_default-2.is c.in_ok-way.ensures.same c.in_ok-way.ensures.store c.go_to.ensures c.in_ok-halted-2.ensures.store (trees todo.result.now) todo.ensures (goes c) in record {
       same = sym on.0 ∙ c.steps.invariant.same;
       within = within c;
       same_module = c.steps.invariant.same_module ∙ on.1;

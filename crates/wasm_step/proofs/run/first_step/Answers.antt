@@ -30,5 +30,5 @@ returns-clause-ran c = λ k.
     let t = c.args.thread.now in
     let u = c.settle.new.thread in
     let ready = subst (λ (n : Next). settled_of (after_of n u) ≡ settle t) c.in-Going.is c.settle.ensures in
-    let at = standing t u c.fetch.new.thread (tree c.in-Some.instr.now) ready c.in-Some.ensures.some in
-    first_on k t c.fetch.new.thread c.step.new.thread c.args.store.now c.step.new.store (tree c.in-Some.instr.now) c.in_ok-next.next at c.in_ok-next.ensures.after c.in_ok-next.ensures.store
+    let at = standing t u c.fetch.new.self (tree c.in-Some.instr.now) ready c.in-Some.ensures.some in
+    first_on k t c.fetch.new.self c.step.new.thread c.args.store.now c.step.new.store (tree c.in-Some.instr.now) c.in_ok-next.next at c.in_ok-next.ensures.after c.in_ok-next.ensures.store

@@ -7,4 +7,4 @@ pub ends-preserved : goal.ends-preserved
 ends-preserved c =
     let ended : c.is_at_end.result ≡ true = search rules in
     let none = none_left c.ends.thread.todo (sym c.is_at_end.ensures ∙ ended) in
-    settle_end c.ends.thread c.end.new.thread none (sym c.end.ensures ∙ ap (λ w. way_of w c.end.new.thread) c.in-Goes.is) ∙ c.ends.invariant
+    settle_end c.ends.thread c.end.new.self none (sym c.end.ensures ∙ ap (λ w. way_of w c.end.new.self) c.in-Goes.is) ∙ c.ends.invariant
