@@ -6,8 +6,7 @@ use Rattle.coop_threads.specs.Crew.{most_threads}
 use Rattle.wasm_types.specs.Functions.{imported_type, own_func, own_type}
 use Rattle.wasm_types.specs.Modules.{Func, FuncType, Module}
 use Rattle.wasm_step.specs.Store.{handler_at}
-use Rattle.wasm_step.specs.Calling.{started_above}
-use Rattle.wasm_step.specs.Strand.{IsHandler, Strand, new_thread}
+use Rattle.wasm_step.specs.Strand.{IsHandler, Strand, new_thread, started_above}
 use Rattle.wasm_step.specs.Thread.{Thread}
 use Rattle.wasm_types.specs.declared.code.ValType.TheVariants as types
 use Rattle.wasm_types.specs.declared.code.Value.TheVariants.{I32}

@@ -1,7 +1,6 @@
 pub mod After
 pub mod Answer
 pub mod Call
-pub mod Calling
 pub mod Control
 pub mod Limits
 pub mod Rows

@@ -24,7 +24,6 @@ use Rattle.wasm_values.specs.Values.{type_of_value, types_of_values}
 use Rattle.wasm_store.specs.Suits.{Suits}
 use Rattle.wasm_step.specs.Fits.{known, put_type, label_of, Leaves, FramesFit, Fits, AfterFits, CallFits}
 use Rattle.wasm_step.specs.Reduce as Reduce
-use Rattle.wasm_stack.specs.Calling as Calling
 use Rattle.wasm_types.specs.Functions.{TypesAgree, imported_type, own_type, type_of, same_types, same_type, own_func}
 use Rattle.wasm_stack.specs.After.{After, Goes, Stops, Calls, Sticks, at_trap, go_on}
 use Rattle.wasm_stack.specs.Control.{with_result}
@@ -164,13 +163,13 @@ module _ (m : Module) (c : Context) where
     r.4,
   )
 
-  library_fits : (t : Thread) (f : ℕ) (type : FuncType) (more : List ValType) → RestOf m c t → imported_type m (slice_get m.imports f) ≡ Some type → types_of_values t.stack ≡ reverse type.params ++ more → LeavesAt m c t (put_type (result_of type) more) → AfterFits m (Calling.call_library f (Some type) t)
+  library_fits : (t : Thread) (f : ℕ) (type : FuncType) (more : List ValType) → RestOf m c t → imported_type m (slice_get m.imports f) ≡ Some type → types_of_values t.stack ≡ reverse type.params ++ more → LeavesAt m c t (put_type (result_of type) more) → AfterFits m (Reduce.call_library f (Some type) t)
   library_fits t f type more r is h l =
       let n = length type.params in
       let left = subst (λ ks. LeavesAt m c t (put_type (result_of type) ks)) (sym (rest_value_types t type.params more h)) l in
       let gives : library_result m f ≡ result_of type = ap first_result is in
       let fits : CallFits m (without n t) f = λ o k. with_result_fits m c (result_of type) o (without n t) r left (subst (λ g. IsResult g o) gives k) in
-      subst (λ o. AfterFits m (Calling.at_call o f type t)) (sym (args_are t type.params more h)) (by_room (has_room (length type.results) (without n t)) fits)
+      subst (λ o. AfterFits m (Reduce.at_call o f type t)) (sym (args_are t type.params more h)) (by_room (has_room (length type.results) (without n t)) fits)
     where
       by_room : (b : Bool) → CallFits m (without (length type.params) t) f → AfterFits m (if b then Stops (Calls (without (length type.params) t) (site_of f (reverse (take (length type.params) t.stack)))) else at_trap traps.Exhausted)
       by_room true k = (subst (λ o. IsSome o) (sym is) refl, k)
@@ -181,18 +180,18 @@ module _ (m : Module) (c : Context) where
       let n = length type.params in
       let args = reverse (take n t.stack) in
       let inner = enter_fits m (waiting_frame (without n t) ∷ t.callers) f func type args v own at (args_value_types t type.params more h) (caller_fits t type more r h l) in
-      subst (λ o. AfterFits m (Calling.call_typed f func o t)) (sym at)
+      subst (λ o. AfterFits m (Reduce.call_typed f func o t)) (sym at)
       (subst (λ o. AfterFits m (go_on (Thread'.called_with o n t f func (result_of type)))) (sym (args_are t type.params more h)) inner)
 
   call_fits : (t : Thread) (f : ℕ) (type : FuncType) (more : List ValType) → IsValid m → RestOf m c t → type_of m f ≡ Some type → types_of_values t.stack ≡ reverse type.params ++ more → LeavesAt m c t (put_type (result_of type) more) → AfterFits m (Reduce.call m f t)
   call_fits t f type more v r is h l =
       by_place (nat_lt f (length m.imports)) (imported_type m (slice_get m.imports f)) (own_func m f) refl refl is
     where
-      by_place : (b : Bool) (i : Option FuncType) (o : Option Func) → imported_type m (slice_get m.imports f) ≡ i → own_func m f ≡ o → (if b then i else own_type m o) ≡ Some type → AfterFits m (if b then Calling.call_library f i t else Reduce.call_own m f o t)
+      by_place : (b : Bool) (i : Option FuncType) (o : Option Func) → imported_type m (slice_get m.imports f) ≡ i → own_func m f ≡ o → (if b then i else own_type m o) ≡ Some type → AfterFits m (if b then Reduce.call_library f i t else Reduce.call_own m f o t)
       by_place true None o ei eo e = cc
       by_place true (Some type') o ei eo e =
           let same : type ≡ type' = cc in
-          subst (λ x. AfterFits m (Calling.call_library f (Some x) t)) same (library_fits t f type more r (ei ∙ ap Some (sym same)) h l)
+          subst (λ x. AfterFits m (Reduce.call_library f (Some x) t)) same (library_fits t f type more r (ei ∙ ap Some (sym same)) h l)
       by_place false i None ei eo e = cc
       by_place false i (Some func) ei eo e = own_fits t f func type more v r eo e h l
 

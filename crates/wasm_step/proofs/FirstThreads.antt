@@ -12,8 +12,7 @@ use Rattle.wasm_types.specs.Valid.{IsValid}
 use Rattle.wasm_values.specs.Values.{types_of_values}
 use Rattle.wasm_step.specs.Fits.{FramesFit, Fits}
 use Rattle.wasm_types.specs.Functions.{imported_type, own_type, type_of, own_func}
-use Rattle.wasm_step.specs.Strand.{IsHandler, new_thread, handling, entry_thread, with_start, first_thread}
-use Rattle.wasm_stack.specs.Calling.{started_above}
+use Rattle.wasm_step.specs.Strand.{IsHandler, new_thread, handling, entry_thread, with_start, first_thread, started_above}
 use Rattle.wasm_stack.specs.Thread.{Thread, Frame, waiting_frame}
 use Rattle.wasm_step.proofs.CallsFit.{enter_fits}
 

@@ -6,7 +6,6 @@ pub mod Paused
 pub mod Reduce
 pub mod Strand
 pub use Rattle.wasm_stack.specs.After
-pub use Rattle.wasm_stack.specs.Calling
 pub use Rattle.wasm_stack.specs.Thread
 pub use Rattle.wasm_store.specs.Marks
 pub use Rattle.wasm_store.specs.Start

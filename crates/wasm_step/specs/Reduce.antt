@@ -9,11 +9,11 @@ use Rattle.wasm_types.specs.Functions.{imported_type, type_of, same_type}
 use Rattle.wasm_types.specs.Modules.{Module, Func, FuncType}
 use Rattle.wasm_values.specs.Access.{load_width, load_value, store_width}
 use Rattle.wasm_values.specs.Values.{bits_of}
-use Rattle.wasm_stack.specs.After.{After, Goes, Stops, Sticks, at_trap, limited, on_i32, with_top}
-use Rattle.wasm_stack.specs.Calling.{call_library, call_typed}
+use Rattle.wasm_stack.specs.After.{After, Goes, Stops, Calls, Sticks, at_trap, go_on, limited, on_i32, with_top}
+use Rattle.wasm_stack.specs.Call.{site_of}
 use Rattle.wasm_stack.specs.Control.{branch, branch_if, branch_table, choose, leave_frame}
 use Rattle.wasm_stack.specs.Rows.{drop_top, got, local_get, local_set, local_tee, numeric, select}
-use Rattle.wasm_stack.specs.Thread.{Thread, opened, with_operand}
+use Rattle.wasm_stack.specs.Thread.{Thread, arguments, called, has_room, opened, with_operand, without}
 use Rattle.wasm_store.specs.Store.{Store, with_global, with_growth}
 
 -- what comes after an instruction, with the store
@@ -94,6 +94,22 @@ abbrev pub memory_grow : Store → Thread → Both
 memory_grow g t = grow_top t.stack g t
 
 -- ---- calls
+
+-- a call of the library is counted with its results among the operands
+abbrev pub at_call : Option (List Value) → ℕ → FuncType → Thread → After
+at_call None f type t = Stops Sticks
+at_call (Some args) f type t =
+    if has_room (length type.results) (without (length type.params) t)
+    then Stops (Calls (without (length type.params) t) (site_of f args))
+    else at_trap traps.Exhausted
+
+abbrev pub call_library : ℕ → Option FuncType → Thread → After
+call_library f None t = Stops Sticks
+call_library f (Some type) t = at_call (arguments (length type.params) t) f type t
+
+abbrev pub call_typed : ℕ → Func → Option FuncType → Thread → After
+call_typed f func None t = Stops Sticks
+call_typed f func (Some type) t = go_on (called t f func type)
 
 abbrev pub call_own : Module → ℕ → Option Func → Thread → After
 call_own m f None t = Stops Sticks

@@ -1,15 +1,15 @@
 -- Threads as their owner sees them: how they begin, what they answer, and what is above them.
-use Rattle.std.specs.Prelude.{◌≡◌, ℕ, ◌≤◌, Bool, false, [], ◌∷◌, Option, Some, None, length, slice_get}
+use Rattle.std.specs.Prelude.{◌≡◌, ℕ, ◌≤◌, Bool, false, [], ◌∷◌, ◌++◌, Option, Some, None, length, slice_get}
 use Rattle.wasm_types.specs.declared.code.Value.{Value}
 use Rattle.wasm_types.specs.declared.code.Value.TheVariants.{I32, I64}
 use Rattle.wasm_types.specs.declared.code.ValType.{ValType}
 use Rattle.wasm_types.specs.declared.code.ValType.TheVariants as types
-use Rattle.wasm_types.specs.Modules.{Module, FuncType}
+use Rattle.wasm_types.specs.Locals.{zeros}
+use Rattle.wasm_types.specs.Modules.{Module, Func, FuncType}
 use Rattle.wasm_types.specs.Start.{entry_from}
 use Rattle.wasm_types.specs.Functions.{own_func, type_of, imported_type}
-use Rattle.wasm_stack.specs.Calling.{started_above}
 use Rattle.wasm_stack.specs.Control.{with_result}
-use Rattle.wasm_stack.specs.Thread.{Thread, waiting_frame, fits_limits}
+use Rattle.wasm_stack.specs.Thread.{Thread, Frame, at_start, waiting_frame, fits_limits}
 
 -- a thread with its module, and the function of the library at whose call it is, if it is at one
 pub record Strand : Type 0 where
@@ -21,6 +21,11 @@ pub record Strand : Type 0 where
 pub record IsHandler (m : Module) (f : ℕ) : Type 0 where
   pub own : length m.imports ≤ f
   pub type : type_of m f ≡ Some (record { params = types.I32 ∷ []; results = [] })
+
+-- a function without a result at its start, above these frames
+abbrev pub started_above : Option Func → List Frame → ℕ → List Value → Option Thread
+started_above None callers f args = None
+started_above (Some func) callers f args = Some (at_start callers f func.body (args ++ zeros func.locals) None)
 
 -- a thread of the module that is at the start of this function, which has one argument
 abbrev pub new_thread : Module → ℕ → ℕ → Option Thread

@@ -1,20 +1,61 @@
 // Calls: of the library, of the module's own functions, and through the table.
-ghost use Rattle.std.specs.Prelude.{◌≡◌, ℕ, ◌≤◌, IfOk, IfSome, IsTrue, Some, false, length, slice_get};
+ghost use Rattle.std.specs.Prelude.{◌≡◌, ℕ, ◌+◌, ◌≤◌, [], ◌∷◌, IfOk, IfSome, IsTrue, OnOk, Some, false, length, slice_get};
 ghost use Rattle.wasm_types.specs.Functions.{type_of};
+ghost use Rattle.wasm_types.specs.Locals.{zeros};
 ghost use Rattle.wasm_types.specs.Modules.{func_type, module_of};
 ghost use Rattle.wasm_stack.specs.Answer.{after_of};
 ghost use Rattle.wasm_stack.specs.Limits.{Within};
 ghost use Rattle.wasm_stack.specs.After.{Goes, go_on, limited};
-ghost use Rattle.wasm_step.specs.Reduce.{call, call_element, call_if_same, call_indirect, call_own};
-ghost use Rattle.wasm_stack.specs.Thread.{Thread, called, without};
+ghost use Rattle.wasm_step.specs.Reduce.{call, call_element, call_if_same, call_indirect, call_library, call_own};
+ghost use Rattle.wasm_step.specs.Strand.{started_above};
+ghost use Rattle.wasm_stack.specs.Thread.{Thread, called, has_frame_room, waiting_frame, without};
 
 use std::alloc::AllocError;
 use wasm_stack::{Next, Stack};
 use wasm_store::Store;
 use wasm_types::{
-    Callee, FuncType, Module, Trap, ValidModule, Value, callee_at, imported_type, is_same_type,
-    type_at, type_of,
+    Callee, Declared, FuncType, Module, Trap, ValidModule, Value, callee_at, imported_type,
+    is_same_type, result_of, type_at, type_of,
 };
+
+// A call of a function of the library of this type.
+fn call_library(thread: &mut Stack<'_>, typing: &FuncType, index: u32) -> Next
+    ensures { after_of result thread.new ≡ call_library index (Some (func_type typing.now)) thread.old }
+{
+    let n = typing.params.len();
+    if !thread.has_arguments(n) {
+        return Next::Stuck;
+    }
+    if thread.has_room_without(n, typing.results.len()) {
+        Next::Calling(index, n)
+    } else {
+        Next::Trapped(Trap::Exhausted)
+    }
+}
+
+// A call of this function, whose limits are tested before its frame is made.
+#[inline(always)]
+fn call_typed<'m>(
+    thread: &mut Stack<'m>,
+    index: u32,
+    callee: Callee<'m>,
+    typing: &FuncType,
+) -> Result<Next, AllocError>
+    ensures { IfOk result (λ a. after_of a thread.new ≡ limited (go_on (called thread.old index callee.entry (func_type typing.now)))) }
+{
+    let n = typing.params.len();
+    if !thread.has_arguments(n) {
+        return Ok(Next::Stuck);
+    }
+    if !can_enter(thread, callee.declared()) {
+        return Ok(Next::Trapped(Trap::Exhausted));
+    }
+    if thread.enter(index, callee, n, result_of(typing))? {
+        Ok(Next::Going)
+    } else {
+        Ok(Next::Stuck)
+    }
+}
 
 /// A call of the module's own function in place, where memory and the limits allow its frame. It is kept out of the
 /// burst, whose other instructions would find fewer registers.
@@ -88,6 +129,55 @@ pub fn call_indirect_in_place<'m>(
     }
 }
 
+// Whether a frame with these declared locals keeps to the limits.
+#[inline(always)]
+fn can_enter(thread: &Stack<'_>, declared: &Declared) -> bool
+    ensures { result ≡ has_frame_room (length (zeros declared.now)) thread.now }
+{
+    match declared.count() {
+        Some(count) => thread.has_frame_place(count) || thread.has_frame_room(count),
+        None => false,
+    }
+}
+
+/// Whether a handler with these declared locals, and one parameter, keeps to the limits.
+pub fn can_handle(thread: &Stack<'_>, declared: &Declared) -> bool
+    ensures { result ≡ has_frame_room (length (zeros declared.now) + 1) thread.now }
+{
+    match declared.count() {
+        Some(count) => thread.has_frame_room(count + 1),
+        None => false,
+    }
+}
+
+/// A new innermost frame of a handler, which has the signal as its argument.
+pub fn handle<'m>(
+    thread: &mut Stack<'m>,
+    index: u32,
+    callee: Callee<'m>,
+    signal: u32,
+) -> Result<(), AllocError>
+    ensures { OnOk result (started_above (Some callee.entry) (waiting_frame thread.old ∷ thread.old.callers) index (Value.I32 signal ∷ []) ≡ Some thread.new) }
+{
+    thread.push(Value::I32(signal))?;
+    let is_in = thread.enter(index, callee, 1, None)?;
+    prove!(is_in);
+    Ok(())
+}
+
+/// A new innermost frame of a function without parameters or a result.
+pub fn call_start<'m>(
+    thread: &mut Stack<'m>,
+    index: u32,
+    callee: Callee<'m>,
+) -> Result<(), AllocError>
+    ensures { OnOk result (started_above (Some callee.entry) (waiting_frame thread.old ∷ thread.old.callers) index [] ≡ Some thread.new) }
+{
+    let is_in = thread.enter(index, callee, 0, None)?;
+    prove!(is_in);
+    Ok(())
+}
+
 #[inline(always)]
 fn call_own<'m>(
     thread: &mut Stack<'m>,
@@ -104,7 +194,7 @@ fn call_own<'m>(
     let Some(typing) = type_at(module.module(), callee.type_index()) else {
         return Ok(Next::Stuck);
     };
-    thread.call_typed(index, callee, typing)
+    call_typed(thread, index, callee, typing)
 }
 
 #[inline(never)]
@@ -121,7 +211,7 @@ pub fn call<'m>(
         return call_own(thread, module, index, place - inner.imports.len());
     }
     match imported_type(inner, place) {
-        Some(typing) => Ok(thread.call_library(typing, index)),
+        Some(typing) => Ok(call_library(thread, typing, index)),
         None => Ok(Next::Stuck),
     }
 }

@@ -6,6 +6,7 @@ ghost use Rattle.wasm_types.specs.Functions.{own_func};
 ghost use Rattle.wasm_types.specs.Start.{IsOwnPlain, entry_from};
 ghost use Rattle.wasm_step.specs.Strand.{first_thread};
 
+use crate::calls::call_start;
 use std::alloc::{AllocError, Global};
 use wasm_stack::Stack;
 use wasm_types::{Callee, ValidModule, callee_at};
@@ -34,7 +35,7 @@ pub(crate) fn first(alloc: Global, module: &ValidModule) -> Result<Stack<'_>, Al
     let mut stack = Stack::start(entry, own(module, entry), Vec::new(alloc), None)?;
     let found = module.start();
     if let Some(start) = found {
-        stack.call_start(start, own(module, start))?;
+        call_start(&mut stack, start, own(module, start))?;
     }
     Ok(stack)
 }

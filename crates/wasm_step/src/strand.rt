@@ -6,6 +6,7 @@ ghost use Rattle.wasm_store.specs.Suits.{Suits};
 ghost use Rattle.wasm_step.specs.Pause.{StandsAt, pause_result};
 ghost use Rattle.wasm_step.specs.Strand.{IsAnswer, IsHandler, answered, handling, first_thread, is_in, new_thread};
 
+use crate::calls::{can_handle, handle};
 use crate::first::{first, own};
 use crate::run::{Stopped, run};
 use std::alloc::{AllocError, Global};
@@ -126,7 +127,7 @@ impl<'m> Strand<'m> {
         ensures call { IfOk result (λ s. s.call ≡ None) }
     {
         let callee = own(self.module, func);
-        if !self.stack.can_handle(callee.declared()) {
+        if !can_handle(&self.stack, callee.declared()) {
             return Err(HandlerError::Exhausted);
         }
         let Strand {
@@ -134,7 +135,7 @@ impl<'m> Strand<'m> {
             mut stack,
             call: _,
         } = self;
-        match stack.handle(func, callee, signal) {
+        match handle(&mut stack, func, callee, signal) {
             Ok(()) => Ok(Strand {
                 module,
                 stack,

@@ -2,8 +2,7 @@ use Rattle.std.proofs.Common.{◌≡◌, List, [], ◌∷◌, Option, Some, None
 use Rattle.wasm_types.specs.declared.code.Value.{Value}
 use Rattle.wasm_types.specs.declared.code.Value.TheVariants.{I32}
 use Rattle.wasm_types.specs.Modules.{Func, module_of}
-use Rattle.wasm_step.specs.Strand.{new_thread}
-use Rattle.wasm_stack.specs.Calling.{started_above}
+use Rattle.wasm_step.specs.Strand.{new_thread, started_above}
 use Rattle.wasm_types.specs.Locals.{zeros}
 use Rattle.wasm_stack.specs.Thread.{at_start}
 use Rattle.wasm_step.proofs.FirstThreads.{new_fits}
