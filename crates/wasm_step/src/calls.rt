@@ -60,7 +60,7 @@ fn call_typed<'m>(
 /// A call of the module's own function in place, where memory and the limits allow its frame. It is kept out of the
 /// burst, whose other instructions would find fewer registers.
 #[inline(never)]
-pub fn call_in_place<'m>(thread: &mut Stack<'m>, module: &'m ValidModule, index: u32) -> bool
+pub(crate) fn call_in_place<'m>(thread: &mut Stack<'m>, module: &'m ValidModule, index: u32) -> bool
     requires { Within thread.old }
     ensures goes { IsTrue result → call (module_of «module».now) index thread.old ≡ Goes thread.new }
     ensures within { Within thread.new }
@@ -98,7 +98,7 @@ fn call_many_in_place<'m>(
 
 /// A call through the table in place, where it is one of the module's own functions.
 #[inline(never)]
-pub fn call_indirect_in_place<'m>(
+pub(crate) fn call_indirect_in_place<'m>(
     thread: &mut Stack<'m>,
     module: &'m ValidModule,
     store: &Store<'m>,
@@ -141,7 +141,7 @@ fn can_enter(thread: &Stack<'_>, declared: &Declared) -> bool
 }
 
 /// Whether a handler with these declared locals, and one parameter, keeps to the limits.
-pub fn can_handle(thread: &Stack<'_>, declared: &Declared) -> bool
+pub(crate) fn can_handle(thread: &Stack<'_>, declared: &Declared) -> bool
     ensures { result ≡ has_frame_room (length (zeros declared.now) + 1) thread.now }
 {
     match declared.count() {
@@ -151,7 +151,7 @@ pub fn can_handle(thread: &Stack<'_>, declared: &Declared) -> bool
 }
 
 /// A new innermost frame of a handler, which has the signal as its argument.
-pub fn handle<'m>(
+pub(crate) fn handle<'m>(
     thread: &mut Stack<'m>,
     index: u32,
     callee: Callee<'m>,
@@ -166,7 +166,7 @@ pub fn handle<'m>(
 }
 
 /// A new innermost frame of a function without parameters or a result.
-pub fn call_start<'m>(
+pub(crate) fn call_start<'m>(
     thread: &mut Stack<'m>,
     index: u32,
     callee: Callee<'m>,
@@ -198,7 +198,7 @@ fn call_own<'m>(
 }
 
 #[inline(never)]
-pub fn call<'m>(
+pub(crate) fn call<'m>(
     thread: &mut Stack<'m>,
     module: &'m ValidModule,
     index: u32,
@@ -244,7 +244,7 @@ fn call_element<'m>(
 }
 
 #[inline(never)]
-pub fn call_indirect<'m>(
+pub(crate) fn call_indirect<'m>(
     thread: &mut Stack<'m>,
     module: &'m ValidModule,
     store: &Store<'m>,

@@ -18,7 +18,7 @@ use wasm_types::{Instr, Slot, ValidModule};
 /// One instruction of a thread that is left these, and what comes after it, unless it is none of these or is left
 /// to its full case. What `thread` itself is left is another, so that the burst can keep its own at hand.
 #[inline(always)]
-pub fn row<'m>(
+pub(crate) fn row<'m>(
     thread: &mut Stack<'m>,
     module: &'m ValidModule,
     store: &mut Store<'m>,

@@ -12,7 +12,11 @@ use wasm_store::Store;
 use wasm_types::{Slot, Trap, Value};
 use wasm_values::{bits, load_value, load_width, store_width};
 
-pub fn global_get(thread: &mut Stack<'_>, store: &Store<'_>, x: u32) -> Result<Next, AllocError>
+pub(crate) fn global_get(
+    thread: &mut Stack<'_>,
+    store: &Store<'_>,
+    x: u32,
+) -> Result<Next, AllocError>
     ensures { IfOk result (λ n. after_of n thread.new ≡ global_get x store.now thread.old) }
 {
     let value = store.global(x);
@@ -20,7 +24,7 @@ pub fn global_get(thread: &mut Stack<'_>, store: &Store<'_>, x: u32) -> Result<N
 }
 
 #[inline(always)]
-pub fn global_set(thread: &mut Stack<'_>, store: &mut Store<'_>, x: u32) -> bool
+pub(crate) fn global_set(thread: &mut Stack<'_>, store: &mut Store<'_>, x: u32) -> bool
     ensures after { keep store.new (if result then Goes thread.new else Stops Sticks) ≡ global_set x store.old thread.old }
     ensures within { Within thread.old → Within thread.new }
     ensures same { result ≡ false → thread.new ≡ thread.old }
@@ -37,7 +41,7 @@ pub fn global_set(thread: &mut Stack<'_>, store: &mut Store<'_>, x: u32) -> bool
 }
 
 #[inline(never)]
-pub fn load(thread: &mut Stack<'_>, store: &Store<'_>, op: u8, offset: u32) -> Next
+pub(crate) fn load(thread: &mut Stack<'_>, store: &Store<'_>, op: u8, offset: u32) -> Next
     ensures { after_of result thread.new ≡ load op offset store.now.memory thread.old }
 {
     let Some(Value::I32(base)) = thread.top() else {
@@ -59,7 +63,7 @@ pub fn load(thread: &mut Stack<'_>, store: &Store<'_>, op: u8, offset: u32) -> N
 
 #[tactic(auto, using(crate::proofs::Accesses::load_by, crate::proofs::InPlace::within_one))]
 #[inline(always)]
-pub fn load_in_place(thread: &mut Stack<'_>, store: &Store<'_>, op: u8, offset: u32) -> bool
+pub(crate) fn load_in_place(thread: &mut Stack<'_>, store: &Store<'_>, op: u8, offset: u32) -> bool
     requires { Within thread.old }
     ensures goes { IsTrue result → Goes thread.new ≡ load op offset store.now.memory thread.old }
     ensures within { Within thread.new }
@@ -81,7 +85,7 @@ pub fn load_in_place(thread: &mut Stack<'_>, store: &Store<'_>, op: u8, offset: 
 }
 
 #[inline(always)]
-pub fn write_in_place(
+pub(crate) fn write_in_place(
     thread: &mut Stack<'_>,
     store: &mut Store<'_>,
     op: u8,
@@ -127,7 +131,7 @@ fn write_at(
     }
 }
 
-pub fn write(
+pub(crate) fn write(
     thread: &mut Stack<'_>,
     store: &mut Store<'_>,
     op: u8,
@@ -151,14 +155,14 @@ pub fn write(
     )
 }
 
-pub fn memory_size(thread: &mut Stack<'_>, store: &Store<'_>) -> Result<Next, AllocError>
+pub(crate) fn memory_size(thread: &mut Stack<'_>, store: &Store<'_>) -> Result<Next, AllocError>
     ensures { IfOk result (λ n. after_of n thread.new ≡ memory_size store.now.memory thread.old) }
 {
     thread.push(Value::I32(store.memory().size()))?;
     Ok(Next::Going)
 }
 
-pub fn memory_grow(thread: &mut Stack<'_>, store: &mut Store<'_>) -> Result<Next, AllocError>
+pub(crate) fn memory_grow(thread: &mut Stack<'_>, store: &mut Store<'_>) -> Result<Next, AllocError>
     ensures after { IfOk result (λ n. after_of n thread.new ≡ (memory_grow store.old thread.old).after) }
     ensures store { OnOk result (store.new ≡ (memory_grow store.old thread.old).store) }
 {

@@ -144,7 +144,7 @@ fn stop_of(thread: &mut Stack<'_>, halted: Next) -> Stopped
 }
 
 /// A burst: instructions until a call of the library, the thread's end or a trap.
-pub fn run<'m>(
+pub(crate) fn run<'m>(
     thread: &mut Stack<'m>,
     module: &'m ValidModule,
     store: &mut Store<'m>,

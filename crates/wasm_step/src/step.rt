@@ -64,7 +64,7 @@ fn instr_row<'m>(
 
 /// One instruction, which the thread has passed. Room for further operands is found.
 #[inline(never)]
-pub fn step<'m>(
+pub(crate) fn step<'m>(
     thread: &mut Stack<'m>,
     module: &'m ValidModule,
     store: &mut Store<'m>,
